@@ -1,0 +1,306 @@
+-- A day number and its date name each other.
+use Rattle.std.proofs.Common.{◌≡◌, All, ℕ, zero, suc, ◌+◌, ◌-◌, ◌*◌, ◌/◌, ◌%◌, ◌<◌, ◌≤◌, inl, inr, Option, Some, nat_lt, cond, true, false, List, [], ◌∷◌, ◌++◌, length, take, drop, append_assoc, length-append, refl, sym, ap, ◌∙◌, arith, ℤ, pos, negsuc, ◌+ℤ◌}
+use Rattle.std.specs.List.{AllByRecursion}
+use Rattle.std.proofs.lemmas.List.Elements.{All-same, All-append, All-from_recursion}
+use Rattle.std.proofs.lemmas.List.{take_at, drop_at, take-append-drop}
+use Rattle.std.proofs.lemmas.Bool.{cases_lt, cases_order}
+use Rattle.jiff_core.specs.Calendar.{IsCivilDate, day_count, day_of_year, days_of_months, days_from_civil, days_in_year, days_in_month}
+use Rattle.jiff_core.proofs.SignedLemmas.{signed_arith}
+use Rattle.jiff_core.proofs.MarchLemmas.{day_count-early}
+use Rattle.jiff_core.proofs.CalendarLemmas.{days_from_civil-day_count, day_count-day_of_year, day_count-next_year, day_count-later_year, days_of_months_more, days_of_months_all, days_of_months-zero, days_of_months_mono, day_of_year_bound, days_in_month_bounds}
+use Rattle.jiff_core.specs.declared.civil.date.Date.{Date}
+use Rattle.jiff_core.specs.Date.{epoch_day}
+use Rattle.jiff_core.proofs.DateLemmas.{civil, epoch_day_injective}
+use Rattle.kcr_base.specs.Day.{IsDayOf, IsDay, year_from, month_from, year_of, month_of, day_of_month, day_text, date_text, two_digits, IsDateParts}
+use Rattle.kcr_base.specs.Moment.{clock_text, moment_text, IsMoment}
+use Rattle.std.proofs.lemmas.Bool.Decides.{nat_tests}
+
+day_count-2000 : day_count (pos 2000) 1 1 ≡ 4_382_910
+day_count-2000 = day_count-early (pos 2000) 11999 1 1 refl (omega arith) (omega arith) (omega arith)
+
+day_count-2100 : day_count (pos 2100) 1 1 ≡ 4_419_435
+day_count-2100 = day_count-early (pos 2100) 12099 1 1 refl (omega arith) (omega arith) (omega arith)
+
+-- the count of a date's day number
+pub count_of_number : (y m d n : ℕ) → days_from_civil (pos y) m d ≡ pos n → n + 4_371_953 ≡ day_count (pos y) m d
+count_of_number y m d n e = omega (arith, signed_arith, days_from_civil-day_count (pos y) m d, e)
+
+pub number_of_count : (y m d n : ℕ) → n + 4_371_953 ≡ day_count (pos y) m d → days_from_civil (pos y) m d ≡ pos n
+number_of_count y m d n e = omega (arith, signed_arith, days_from_civil-day_count (pos y) m d, e)
+
+next_year : (y : ℕ) → day_count (pos (y + 1)) 1 1 ≡ day_count (pos y) 1 1 + days_in_year (pos y)
+next_year y = day_count-next_year (pos y) (pos (y + 1)) (omega (arith, signed_arith)) (omega (arith, signed_arith))
+
+later_year : (y later : ℕ) → y < later → day_count (pos y) 1 1 + days_in_year (pos y) ≤ day_count (pos later) 1 1
+later_year y later h = day_count-later_year (pos y) (pos later) (omega (arith, signed_arith)) (omega (arith, signed_arith))
+
+module _ {X : Type 0} (a b : X) where
+  pick_first : (n d : ℕ) → n < d → cond (nat_lt n d) a b ≡ a
+  pick_first n d h = let e : nat_lt n d ≡ true = grind (arith, nat_tests) in rw e
+
+  pick_second : (n d : ℕ) → d ≤ n → cond (nat_lt n d) a b ≡ b
+  pick_second n d h = let e : nat_lt n d ≡ false = grind (arith, nat_tests) in rw e
+
+-- ---- the year
+
+-- r is the year in which day n after 1 January of year y lies, and how many days of it are gone
+record IsYearFrom (k y n : ℕ) (r : ℕ × ℕ) : Type 0 where
+  from : y ≤ r.0
+  until : r.0 ≤ y + k
+  within : r.1 < days_in_year (pos r.0)
+  same_day : r.1 + day_count (pos r.0) 1 1 ≡ n + day_count (pos y) 1 1
+
+year_from_is : (k y n : ℕ) → n + day_count (pos y) 1 1 < day_count (pos (y + k + 1)) 1 1 → IsYearFrom k y n (year_from k y n)
+unfolding year_from
+year_from_is zero y n h =
+    let e : y + 0 + 1 ≡ y + 1 = omega arith in
+    let h' = rw e at h in
+    record { from = omega arith; until = omega arith; within = omega (arith, next_year y); same_day = refl }
+year_from_is (suc k) y n h =
+    let days = days_in_year (pos y) in
+    elim (cases_lt n (days_in_year (pos y))) [
+      | inl lt ↦ rw (pick_first (y, n) (year_from k (y + 1) (n - days)) n days lt) (record { from = omega arith; until = omega arith; within = lt; same_day = refl })
+      | inr le ↦
+          let e : y + suc k + 1 ≡ y + 1 + k + 1 = omega arith in
+          let h' = rw e at h in
+          let r = year_from_is k (y + 1) (n - days) (omega (arith, next_year y)) in
+          rw (pick_second (y, n) (year_from k (y + 1) (n - days)) n days le) (record { from = omega (arith, r.from); until = omega (arith, r.until); within = r.within; same_day = omega (arith, r.same_day, next_year y) })
+    ]
+
+-- and no other
+year_from_only : (k y n year rest : ℕ) → y ≤ year → year ≤ y + k → rest < days_in_year (pos year) → n + day_count (pos y) 1 1 ≡ day_count (pos year) 1 1 + rest → year_from k y n ≡ (year, rest)
+unfolding year_from
+year_from_only zero y n year rest low high within e =
+    let same : y ≡ year = omega arith in
+    let gone : n ≡ rest = omega (arith, rw same at e) in
+    λ i. (same i, gone i)
+year_from_only (suc k) y n year rest low high within e =
+    let days = days_in_year (pos y) in
+    elim (cases_order y year) [
+      | inl same ↦
+          let gone : n ≡ rest = omega (arith, rw same at e) in
+          let lt : n < days_in_year (pos y) = rw (same, gone) within in
+          pick_first (y, n) (year_from k (y + 1) (n - days)) n days lt ∙ (λ i. (same i, gone i))
+      | inr (inl lt) ↦
+          let le : days_in_year (pos y) ≤ n = omega (arith, later_year y year lt) in
+          pick_second (y, n) (year_from k (y + 1) (n - days)) n days le ∙ year_from_only k (y + 1) (n - days) year rest (omega arith) (omega arith) within (omega (arith, next_year y, e))
+      | inr (inr gt) ↦ absurd (omega arith)
+    ]
+
+-- ---- the month
+
+record IsMonthFrom (k y m n : ℕ) (r : ℕ × ℕ) : Type 0 where
+  from : m ≤ r.0
+  until : r.0 ≤ m + k
+  within : r.1 < days_in_month (pos y) r.0
+  same_day : r.1 + days_of_months (pos y) (r.0 - 1) ≡ n + days_of_months (pos y) (m - 1)
+
+month_from_is : (k y m n : ℕ) → 1 ≤ m → n + days_of_months (pos y) (m - 1) < days_of_months (pos y) (m + k) → IsMonthFrom k y m n (month_from k y m n)
+unfolding month_from
+month_from_is zero y m n low h =
+    let e : m + 0 ≡ m = omega arith in
+    let h' = rw e at h in
+    record { from = omega arith; until = omega arith; within = omega (arith, days_of_months_more (pos y) m low); same_day = refl }
+month_from_is (suc k) y m n low h =
+    let days = days_in_month (pos y) m in
+    elim (cases_lt n (days_in_month (pos y) m)) [
+      | inl lt ↦ rw (pick_first (m, n) (month_from k y (m + 1) (n - days)) n days lt) (record { from = omega arith; until = omega arith; within = lt; same_day = refl })
+      | inr le ↦
+          let e : m + suc k ≡ m + 1 + k = omega arith in
+          let h' = rw e at h in
+          let back : m + 1 - 1 ≡ m = omega arith in
+          let r = month_from_is k y (m + 1) (n - days) (omega arith) (rw back (omega (arith, days_of_months_more (pos y) m low))) in
+          let same = rw back at r.same_day in
+          rw (pick_second (m, n) (month_from k y (m + 1) (n - days)) n days le) (record { from = omega (arith, r.from); until = omega (arith, r.until); within = r.within; same_day = omega (arith, same, days_of_months_more (pos y) m low) })
+    ]
+
+month_from_only : (k y m n month rest : ℕ) → 1 ≤ m → m ≤ month → month ≤ m + k → rest < days_in_month (pos y) month → n + days_of_months (pos y) (m - 1) ≡ days_of_months (pos y) (month - 1) + rest → month_from k y m n ≡ (month, rest)
+unfolding month_from
+month_from_only zero y m n month rest one low high within e =
+    let same : m ≡ month = omega arith in
+    let gone : n ≡ rest = omega (arith, rw same at e) in
+    λ i. (same i, gone i)
+month_from_only (suc k) y m n month rest one low high within e =
+    let days = days_in_month (pos y) m in
+    elim (cases_order m month) [
+      | inl same ↦
+          let gone : n ≡ rest = omega (arith, rw same at e) in
+          let lt : n < days_in_month (pos y) m = rw (same, gone) within in
+          pick_first (m, n) (month_from k y (m + 1) (n - days)) n days lt ∙ (λ i. (same i, gone i))
+      | inr (inl lt) ↦
+          let back : m + 1 - 1 ≡ m = omega arith in
+          let more = days_of_months_more (pos y) m one in
+          let later = days_of_months_mono (pos y) m (month - 1) (omega arith) in
+          let le : days_in_month (pos y) m ≤ n = omega (arith, more, later, e) in
+          pick_second (m, n) (month_from k y (m + 1) (n - days)) n days le ∙ month_from_only k y (m + 1) (n - days) month rest (omega arith) (omega arith) (omega arith) within (rw back (omega (arith, more, later, e)))
+      | inr (inr gt) ↦ absurd (omega arith)
+    ]
+
+-- ---- the date
+
+-- the date of a day number is a date with that number
+pub date_of_number : (n : ℕ) → IsDay n → IsDayOf (year_of n) (month_of n) (day_of_month n) n
+unfolding year_of month_of day_of_month
+date_of_number n h =
+    let year = year_from_is 99 2000 (n - 10957) (omega (arith, h.from, h.until, day_count-2000, day_count-2100)) in
+    let y = year_of n in
+    let gone = (year_from 99 2000 (n - 10957)).1 in
+    let month = month_from_is 11 y 1 gone (omega arith) (omega (arith, year.within, days_of_months_all (pos y), days_of_months-zero (pos y))) in
+    let m = month_of n in
+    record {
+      civil = ((omega (arith, signed_arith, year.until), omega (arith, signed_arith, year.until)), (month.from, omega (arith, month.until)), (omega arith, omega (arith, month.within)));
+      from = year.from;
+      until = omega (arith, year.until);
+      number = number_of_count y m (day_of_month n) n (omega (arith, h.from, year.same_day, month.same_day, day_count-2000, days_of_months-zero (pos y), day_count-day_of_year (pos y) m (day_of_month n) (omega arith)));
+    }
+
+from_2000 : (y : ℕ) → 2000 ≤ y → day_count (pos 2000) 1 1 ≤ day_count (pos y) 1 1
+from_2000 y h = elim (cases_order 2000 y) [
+  | inl e ↦ rw e (omega arith)
+  | inr (inl lt) ↦ omega (arith, later_year 2000 y lt)
+  | inr (inr gt) ↦ absurd (omega arith)
+]
+
+-- the first and the last day of a date's hundred years
+pub number_in_range : (y m d n : ℕ) → IsDayOf y m d n → IsDay n
+number_in_range y m d n h =
+    let count = count_of_number y m d n h.number in
+    let place = day_count-day_of_year (pos y) m d h.civil.2.0 in
+    let within = day_of_year_bound (pos y) m d h.civil in
+    let low = from_2000 y h.from in
+    let high = later_year y 2100 (omega (arith, h.until)) in
+    record { from = omega (arith, count, place, low, h.civil.2.0, day_count-2000); until = omega (arith, count, place, within, high, day_count-2100) }
+
+-- no other date has its number
+pub number_of_date : (y m d n : ℕ) → IsDayOf y m d n → (year_of n ≡ y) × (month_of n ≡ m) × (day_of_month n ≡ d)
+unfolding year_of month_of day_of_month
+number_of_date y m d n h =
+    let count = count_of_number y m d n h.number in
+    let place = day_count-day_of_year (pos y) m d h.civil.2.0 in
+    let range = number_in_range y m d n h in
+    let bound = day_of_year_bound (pos y) m d h.civil in
+    let year : year_from 99 2000 (n - 10957) ≡ (y, day_of_year (pos y) m d - 1) =
+    year_from_only 99 2000 (n - 10957) y (day_of_year (pos y) m d - 1) h.from (omega (arith, h.until)) (omega (arith, h.civil.2.0, bound)) (omega (arith, count, place, range.from, day_count-2000, h.civil.2.0)) in
+    let month : month_from 11 y 1 (day_of_year (pos y) m d - 1) ≡ (m, d - 1) =
+    month_from_only 11 y 1 (day_of_year (pos y) m d - 1) m (d - 1) (omega arith) h.civil.1.0 (omega (arith, h.civil.1.1)) (omega (arith, h.civil.2.0, h.civil.2.1)) (omega (arith, h.civil.2.0, days_of_months-zero (pos y))) in
+    let both : month_from 11 (year_of n) 1 (year_from 99 2000 (n - 10957)).1 ≡ (m, d - 1) = ap (λ (r : ℕ × ℕ). month_from 11 r.0 1 r.1) year ∙ month in
+    (ap (λ (r : ℕ × ℕ). r.0) year, ap (λ (r : ℕ × ℕ). r.0) both, ap (λ (r : ℕ × ℕ). r.1 + 1) both ∙ omega (arith, h.civil.2.0))
+
+-- ---- the calendar's answer
+
+-- the date that was found has the day's number
+pub date_found : (y m d : ℕ) (date : Date) (z : ℤ) → 2000 ≤ y → y ≤ 2099 → date.year ≡ pos y → pos date.month ≡ pos m → pos date.day ≡ pos d → z ≡ epoch_day date → (n : ℕ) × (z ≡ pos n) × IsDayOf y m d n
+date_found y m d date (negsuc n) from until year month day e =
+    let month' : date.month ≡ m = cc in
+    let day' : date.day ≡ d = cc in
+    let civil' : IsCivilDate (pos y) m d = rw (year, month', day') at (civil date) in
+    let e' : negsuc n ≡ days_from_civil (pos y) m d = rw (year, month', day') at e in
+    let low : day_count (pos 2000) 1 1 ≤ day_count (pos y) 1 1 = from_2000 y from in
+    absurd (omega (arith, signed_arith, days_from_civil-day_count (pos y) m d, e', low, day_count-2000, day_count-day_of_year (pos y) m d civil'.2.0, civil'.2.0))
+date_found y m d date (pos n) from until year month day e =
+    let month' : date.month ≡ m = cc in
+    let day' : date.day ≡ d = cc in (
+      n,
+      refl,
+      record {
+        civil = rw (year, month', day') at (civil date);
+        from = from;
+        until = until;
+        number = sym (rw (year, month', day') at e);
+      },
+    )
+
+-- ---- the text
+
+pub day_text_of_date : (y m d n : ℕ) → IsDayOf y m d n → day_text n ≡ date_text y m d
+unfolding day_text
+day_text_of_date y m d n h =
+    let e = number_of_date y m d n h in
+    λ i. date_text (e.0 i) (e.1 i) (e.2 i)
+
+-- a day's text is that of a date
+pub parts_of_day : (n : ℕ) → IsDay n → IsDateParts (year_of n) (month_of n) (day_of_month n) × (date_text (year_of n) (month_of n) (day_of_month n) ≡ day_text n)
+parts_of_day n h =
+    let date = date_of_number n h in
+    let bounds = days_in_month_bounds (pos (year_of n)) (month_of n) in
+    (record { year = omega (arith, date.until); month = omega (arith, date.civil.1.1); day = omega (arith, date.civil.2.1, bounds) }, sym (day_text_of_date _ _ _ n date))
+
+pub same_date : (a b c a' b' c' n : ℕ) → ◌≡◌ {A = Option (ℕ × ℕ × ℕ)} (Some (a, b, c)) (Some (a', b', c')) → IsDayOf a' b' c' n → IsDayOf a b c n
+same_date a b c a' b' c' n e h =
+    let t : ◌≡◌ {A = ℕ × ℕ × ℕ} (a, b, c) (a', b', c') = cc in
+    let x : a' ≡ a = sym (ap (λ (p : ℕ × ℕ × ℕ). p.0) t) in
+    let y : b' ≡ b = sym (ap (λ (p : ℕ × ℕ × ℕ). p.1) t) in
+    let z : c' ≡ c = sym (ap (λ (p : ℕ × ℕ × ℕ). p.2) t) in
+    rw (x, y, z) at h
+
+-- the date of a day's number
+date_at : (n : ℕ) → IsDay n → Date
+date_at n h =
+    let d = date_of_number n h in
+    record { year = pos (year_of n); month = month_of n; day = day_of_month n; year_in = d.civil.0; month_in = d.civil.1; day_in = d.civil.2 }
+
+pub date_is : (n : ℕ) (date : Date) → IsDay n → epoch_day date +ℤ pos 4_371_587 ≡ pos (n + 4_371_587) → (date.year ≡ pos (year_of n)) × (date.month ≡ month_of n) × (date.day ≡ day_of_month n)
+unfolding date_at
+date_is n date h e =
+    let d = date_of_number n h in
+    let same : epoch_day date ≡ pos n = omega (arith, signed_arith, e) in
+    epoch_day_injective date (date_at n h) (same ∙ sym d.number)
+
+-- ---- moments
+
+pub length-day_text : (n : ℕ) → length (day_text n) ≡ 10
+unfolding day_text
+length-day_text n = refl
+
+-- the two parts of a moment's text
+pub moment_parts : (t : ℕ) (bytes : List ℕ) → moment_text t ≡ bytes → (length bytes ≡ 20) × (day_text (t / 86400) ≡ take 10 bytes) × (84 ∷ clock_text (t % 86400) ++ 90 ∷ [] ≡ drop 10 bytes)
+unfolding moment_text day_text
+moment_parts t bytes e =
+    let clock = 84 ∷ clock_text (t % 86400) ++ 90 ∷ [] in
+    let whole : day_text (t / 86400) ++ clock ≡ bytes = append_assoc (day_text (t / 86400)) (84 ∷ clock_text (t % 86400)) (90 ∷ []) ∙ e in (
+      ap length (sym whole) ∙ length-append (day_text (t / 86400)) clock ∙ ap (λ (k : ℕ). k + 10) (length-day_text (t / 86400)),
+      sym (take_at (day_text (t / 86400)) clock 10 (length-day_text (t / 86400))) ∙ ap (λ (xs : List ℕ). take 10 xs) whole,
+      sym (drop_at (day_text (t / 86400)) clock 10 (length-day_text (t / 86400))) ∙ ap (λ (xs : List ℕ). drop 10 xs) whole,
+    )
+
+pub moment_whole : (day second : ℕ) (bytes : List ℕ) → second < 86400 → day_text day ≡ take 10 bytes → 84 ∷ clock_text second ++ 90 ∷ [] ≡ drop 10 bytes → moment_text (day * 86400 + second) ≡ bytes
+unfolding moment_text day_text
+moment_whole day second bytes h date clock =
+    let d : (day * 86400 + second) / 86400 ≡ day = omega arith in
+    let s : (day * 86400 + second) % 86400 ≡ second = omega arith in
+    (λ i. day_text (d i) ++ (84 ∷ clock_text (s i)) ++ 90 ∷ []) ∙ append_assoc (day_text day) (84 ∷ clock_text second) (90 ∷ []) ∙ (λ i. date i ++ clock i) ∙ take-append-drop 10 bytes
+
+pub day_of_moment : (t : ℕ) → IsMoment t → IsDay (t / 86400)
+day_of_moment t h = record { from = omega (arith, h.from); until = omega (arith, h.until) }
+
+-- ---- the bytes are ASCII
+
+two_ascii : (n : ℕ) → n < 100 → AllByRecursion (λ b. b < 128) (two_digits n)
+two_ascii n h = (omega arith, (omega arith, tt))
+
+date_ascii : (y m d : ℕ) → IsDateParts y m d → AllByRecursion (λ b. b < 128) (date_text y m d)
+date_ascii y m d h =
+    let a = two_ascii (y / 100) (omega (arith, h.year)) in
+    let b = two_ascii (y % 100) (omega arith) in
+    let c = two_ascii m h.month in
+    let e = two_ascii d h.day in
+    (a.0, (a.1.0, (b.0, (b.1.0, (omega arith, (c.0, (c.1.0, (omega arith, (e.0, (e.1.0, tt))))))))))
+
+pub day_ascii : (n : ℕ) → IsDay n → All (λ b. b < 128) (day_text n)
+day_ascii n h =
+    let p = parts_of_day n h in
+    All-same (λ b. b < 128) (day_text n) (date_text (year_of n) (month_of n) (day_of_month n)) (sym p.1) (All-from_recursion (λ b. b < 128) (date_text (year_of n) (month_of n) (day_of_month n)) (date_ascii (year_of n) (month_of n) (day_of_month n) p.0))
+
+clock_ascii : (s : ℕ) → s < 86400 → AllByRecursion (λ b. b < 128) (84 ∷ clock_text s ++ 90 ∷ [])
+clock_ascii s h =
+    let a = two_ascii (s / 3600) (omega arith) in
+    let b = two_ascii (s / 60 % 60) (omega arith) in
+    let c = two_ascii (s % 60) (omega arith) in
+    (omega arith, (a.0, (a.1.0, (omega arith, (b.0, (b.1.0, (omega arith, (c.0, (c.1.0, (omega arith, tt))))))))))
+
+pub moment_ascii : (t : ℕ) → IsMoment t → All (λ b. b < 128) (moment_text t)
+unfolding moment_text day_text
+moment_ascii t h =
+    let front = day_ascii (t / 86400) (day_of_moment t h) in
+    let back = All-from_recursion (λ b. b < 128) (84 ∷ clock_text (t % 86400) ++ 90 ∷ []) (clock_ascii (t % 86400) (omega arith)) in
+    All-same (λ b. b < 128) (moment_text t) (day_text (t / 86400) ++ (84 ∷ clock_text (t % 86400) ++ 90 ∷ [])) (append_assoc (day_text (t / 86400)) (84 ∷ clock_text (t % 86400)) (90 ∷ [])) (All-append (λ b. b < 128) (day_text (t / 86400)) (84 ∷ clock_text (t % 86400) ++ 90 ∷ []) front back)

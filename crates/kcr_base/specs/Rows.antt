@@ -1,0 +1,17 @@
+-- Lists of rows, and values that may be there.
+use Rattle.std.specs.Prelude.{Bool, List, [], ◌∷◌, map, Option, Some, None, if◌then◌else◌}
+use Rattle.std.specs.List.{list_any}
+
+-- the row under its key, new or in place of the old; `same` tells whether two rows have one key
+abbrev pub put : {X : Type 0} → (X → X → Bool) → X → List X → List X
+put same row rows = if list_any (same row) rows then map (λ old. if same row old then row else old) rows else row ∷ rows
+
+-- the rows, one after the other
+abbrev pub put_all : {X : Type 0} → (X → X → Bool) → List X → List X → List X
+put_all same [] rows = rows
+put_all same (row ∷ changes) rows = put_all same changes (put same row rows)
+
+-- the first, or else the second
+abbrev pub or_else : {X : Type 0} → Option X → Option X → Option X
+or_else (Some x) other = Some x
+or_else None other = other

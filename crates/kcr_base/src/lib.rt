@@ -1,0 +1,42 @@
+//! The values of the register of root zone key ceremonies: short codes, lines of text, numbers,
+//! days and moments, places, and why a request is refused.
+#![tactic(auto)]
+
+pub mod code;
+pub mod counted;
+pub mod day;
+mod digits;
+pub mod initials;
+pub mod key;
+pub mod line;
+pub mod moment;
+pub mod number;
+pub mod place;
+pub mod positions;
+pub mod refusal;
+pub mod same;
+pub mod serial;
+pub mod tally;
+pub mod text;
+
+pub use code::Code;
+pub use counted::Counted;
+pub use day::Day;
+pub use initials::Initials;
+pub use key::Key;
+pub use line::{Activity, Line, Name, Remark};
+pub use moment::Moment;
+pub use number::read_number;
+pub use place::{Facility, Place, PlaceNumber, Role, after};
+pub use positions::Positions;
+pub use refusal::{Absentee, Member, Part, Refusal, Thing};
+pub use same::{
+    before, is_before, is_earlier, not_later, same_day, same_facility, same_moment, same_person,
+    same_place, same_role, same_text,
+};
+pub use serial::{ItemCode, Serial};
+pub use tally::Tally;
+pub use text::Text;
+
+#[cfg(test)]
+mod tests;

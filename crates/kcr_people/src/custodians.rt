@@ -1,0 +1,146 @@
+//! The custodians of places: the new rows, or the first refusal.
+ghost use Rattle.std.specs.Prelude.{◌≡◌, Some, None};
+ghost use Rattle.kcr_base.specs.Refuse.{unless};
+ghost use Rattle.kcr_people.specs.People;
+ghost use Rattle.kcr_people.specs.declared.Appointment.{Appointment};
+
+use crate::{Appointment, Person, Training, rows};
+use kcr_base::{Day, Initials, Place, Refusal, Thing};
+
+/// The row of a person who is put in a place from a day on. The first refusal that holds, of:
+/// `Unknown`, the person is not in the register; `Apart`, the person was once trained; `Held`, on
+/// the day or a later one the place has a holder or the person holds a place; `Settled`, the day is
+/// not after the settled day, the day of the greatest mark of all ceremonies; `Full`, the register
+/// takes no more commands.
+pub fn appoint(
+    people: &[Person],
+    trainings: &[Training],
+    appointments: &[Appointment],
+    settled: Option<Day>,
+    full: bool,
+    place: Place,
+    who: Initials,
+    day: Day,
+) -> Result<Appointment, Refusal>
+    ensures { result ≡ unless
+        (People.appoint_refusal
+        people.now trainings.now appointments.now settled full place who day)
+        (record { place = place; who = who; since = day; until = None }) }
+{
+    let row = Appointment::new(place, who, day);
+    if !rows::is_person(people, row.who) {
+        return Err(Refusal::Unknown {
+            thing: Thing::Person(row.who),
+        });
+    }
+    if rows::ever_trained(trainings, row.who) {
+        return Err(Refusal::Apart);
+    }
+    if rows::place_held_from(appointments, row.place, row.since)
+        || rows::person_holds_from(appointments, row.who, row.since)
+    {
+        return Err(Refusal::Held);
+    }
+    if let Some(last) = settled
+        && row.since <= last
+    {
+        return Err(Refusal::Settled { day: last });
+    }
+    if full {
+        return Err(Refusal::Full);
+    }
+    Ok(row)
+}
+
+/// The rows of a person who is put in a place from a day on instead of its holder: the old one with
+/// its end on that day, and the new one. The first refusal that holds, of: `Unknown`, the person is
+/// not in the register; `Range`, the row of the place that has no end begins on the day or later;
+/// `Apart`, the person was once trained; `Held`, on the day or a later one the person holds a
+/// place; `Vacant`, each row of the place has an end, or there is none; `Settled` and `Full` as for
+/// an appointment.
+pub fn replace(
+    people: &[Person],
+    trainings: &[Training],
+    appointments: &[Appointment],
+    settled: Option<Day>,
+    full: bool,
+    place: Place,
+    who: Initials,
+    day: Day,
+) -> Result<(Appointment, Appointment), Refusal>
+    ensures { let new : Appointment =
+        record { place = place; who = who; since = day; until = None } in
+        result ≡ unless
+        (People.replace_refusal
+        people.now trainings.now appointments.now settled full place who day)
+        (People.end_of (People.open_row_by appointments.now place) day new, new) }
+{
+    let new = Appointment::new(place, who, day);
+    if !rows::is_person(people, new.who) {
+        return Err(Refusal::Unknown {
+            thing: Thing::Person(new.who),
+        });
+    }
+    let standing = rows::open_row(appointments, new.place);
+    if rows::begins_too_late(&standing, new.since) {
+        return Err(Refusal::Range);
+    }
+    if rows::ever_trained(trainings, new.who) {
+        return Err(Refusal::Apart);
+    }
+    if rows::person_holds_from(appointments, new.who, new.since) {
+        return Err(Refusal::Held);
+    }
+    let Some(old) = &standing else {
+        return Err(Refusal::Vacant);
+    };
+    if let Some(last) = settled
+        && new.since <= last
+    {
+        return Err(Refusal::Settled { day: last });
+    }
+    if full {
+        return Err(Refusal::Full);
+    }
+    let ended = Appointment {
+        until: Some(new.since),
+        ..*old
+    };
+    Ok((ended, new))
+}
+
+/// The row of a place that is vacant from a day on, with that day as its end. The first refusal
+/// that holds, of: `Range`, the row of the place that has no end begins on the day or later;
+/// `Vacant`, each row of the place has an end, or there is none; `Settled` and `Full` as for an
+/// appointment.
+pub fn release(
+    appointments: &[Appointment],
+    settled: Option<Day>,
+    full: bool,
+    place: Place,
+    day: Day,
+) -> Result<Appointment, Refusal>
+    ensures { result ≡ unless
+        (People.release_refusal appointments.now settled full place day)
+        (People.end_of (People.open_row_by appointments.now place) day (People.nobody place day)) }
+{
+    let standing = rows::open_row(appointments, place);
+    if rows::begins_too_late(&standing, day) {
+        return Err(Refusal::Range);
+    }
+    let Some(old) = &standing else {
+        return Err(Refusal::Vacant);
+    };
+    if let Some(last) = settled
+        && day <= last
+    {
+        return Err(Refusal::Settled { day: last });
+    }
+    if full {
+        return Err(Refusal::Full);
+    }
+    Ok(Appointment {
+        until: Some(day),
+        ..*old
+    })
+}

@@ -1,0 +1,130 @@
+//! People and their training: the new rows, or the first refusal.
+ghost use Rattle.std.specs.Prelude.{◌≡◌, IfSome, Err};
+ghost use Rattle.kcr_base.specs.Refuse.{unless, Decides};
+ghost use Rattle.kcr_people.specs.People;
+
+use crate::{Appointment, Person, Training, Withdrawal, WithdrawalRows, rows};
+use kcr_base::{Day, Initials, Refusal, Role, Thing};
+use std::alloc::Global;
+
+/// The row of a person who is entered. The first refusal that holds, of: `Taken`, the initials are
+/// in the register; `Full`. As with every act here, `full` tells that the register takes no more
+/// commands, the rows may come in any order, and a refusal leaves them as they are.
+pub fn enter(people: &[Person], full: bool, person: Person) -> Result<Person, Refusal>
+    ensures { result ≡ unless (People.enter_refusal people.now full person.who) person }
+{
+    if rows::is_person(people, person.who) {
+        return Err(Refusal::Taken);
+    }
+    if full {
+        return Err(Refusal::Full);
+    }
+    Ok(person)
+}
+
+/// The row of a training that is entered. The first refusal that holds, of: `Unknown`, the person
+/// is not in the register; `Taken`, the very same training is there, withdrawn or not; `Range`, it
+/// ends before it begins; `Apart`, the person was once put in a place; `Full`.
+pub fn train(
+    people: &[Person],
+    trainings: &[Training],
+    appointments: &[Appointment],
+    full: bool,
+    row: Training,
+) -> Result<Training, Refusal>
+    ensures { result ≡
+        unless (People.train_refusal people.now trainings.now appointments.now full row) row }
+{
+    if !rows::is_person(people, row.who) {
+        return Err(Refusal::Unknown {
+            thing: Thing::Person(row.who),
+        });
+    }
+    if rows::has_training(trainings, row) {
+        return Err(Refusal::Taken);
+    }
+    if row.until < row.since {
+        return Err(Refusal::Range);
+    }
+    if rows::ever_put(appointments, row.who) {
+        return Err(Refusal::Apart);
+    }
+    if full {
+        return Err(Refusal::Full);
+    }
+    Ok(row)
+}
+
+/// The first reason why no training is withdrawn.
+fn withdraw_refusal(
+    people: &[Person],
+    trainings: &[Training],
+    withdrawals: &[Withdrawal],
+    settled: Option<Day>,
+    full: bool,
+    who: Initials,
+    role: Role,
+    day: Day,
+) -> Option<Refusal>
+    ensures { result ≡ People.withdraw_refusal
+        people.now trainings.now withdrawals.now settled full who role day }
+{
+    if !rows::is_person(people, who) {
+        return Some(Refusal::Unknown {
+            thing: Thing::Person(who),
+        });
+    }
+    if !rows::trained_from(trainings, withdrawals, who, role, day) {
+        return Some(Refusal::Vacant);
+    }
+    if let Some(last) = settled
+        && day <= last
+    {
+        return Some(Refusal::Settled { day: last });
+    }
+    if full {
+        return Some(Refusal::Full);
+    }
+    None
+}
+
+/// The rows that withdraw every training of a person for a role from a day on: one for each that
+/// ends on the day or later, also for one that begins later, with the least day from which it is
+/// withdrawn; the day of an earlier withdrawal stays where it is less. Trainings that are entered
+/// afterwards are not withdrawn. The first refusal that holds, of: `Unknown`, the person is not in
+/// the register; `Vacant`, the person is trained for the role neither on the day nor on a later
+/// one; `Settled`, the day is not after the settled day, the day of the greatest mark of all
+/// ceremonies; `Full`. `Memory` comes only where none of these holds.
+pub fn withdraw(
+    alloc: Global,
+    people: &[Person],
+    trainings: &[Training],
+    withdrawals: &[Withdrawal],
+    settled: Option<Day>,
+    full: bool,
+    who: Initials,
+    role: Role,
+    day: Day,
+) -> Result<WithdrawalRows, Refusal>
+    ensures decides { Decides
+        (People.withdraw_refusal people.now trainings.now withdrawals.now settled full who role day)
+        (People.withdrawn_rows trainings.now withdrawals.now who role day) result }
+    ensures refused { IfSome
+        (People.withdraw_refusal people.now trainings.now withdrawals.now settled full who role day)
+        (λ refusal. result ≡ Err refusal) }
+{
+    if let Some(refusal) = withdraw_refusal(
+        people,
+        trainings,
+        withdrawals,
+        settled,
+        full,
+        who,
+        role,
+        day,
+    ) {
+        return Err(refusal);
+    }
+    let rows = rows::withdrawn_rows(alloc, trainings, withdrawals, who, role, day)?;
+    Ok(WithdrawalRows::new(rows))
+}

@@ -1,0 +1,104 @@
+-- One more row of a script.
+use Rattle.std.proofs.Common.{◌≡◌, ℕ, ◌+◌, ◌≤◌, inl, inr, List, [], ◌∷◌, ◌++◌, length, Option, Some, None, refl, sym, ap, subst, ◌∙◌, arith, append_assoc}
+use Rattle.kcr_script.specs.declared.script.Step.{Step}
+use Rattle.csv.specs.Machine.{Read, next_record}
+use Rattle.csv.specs.Reading.{Reached}
+use Rattle.csv.specs.declared.parser.Config.{Config}
+use Rattle.csv.specs.declared.parser.State.{State}
+use Rattle.kcr_script.specs.Script.{Fields, IsRow, AreSteps, BreaksFrom, AreRows}
+use Rattle.kcr_script.specs.Steps.{HasSteps}
+
+-- what a reader of a row answers
+abbrev pub Reads : ℕ → Fields → Option Step → Type 0
+Reads k row found = (step : Step) → IsRow k row step → found ≡ Some step
+
+pub faulty_row : (k : ℕ) (row : Fields) (rows rest : List Fields) (found : Option Step) → rest ≡ row ∷ rows → found ≡ None → Reads k row found → BreaksFrom k rest (k + 1)
+faulty_row k row rows rest found e none only =
+    let clash : (step : Step) → IsRow k row step → ⊥ = λ step h. (let g = only step h in cc) in
+    let P : List Fields → Type 0 = λ (xs : List Fields). BreaksFrom k xs (k + 1) in
+    rw e (inl (inr clash, refl))
+
+pub no_steps : (k : ℕ) (row : Fields) (rows rest : List Fields) (found : Option Step) → rest ≡ row ∷ rows → found ≡ None → Reads k row found → (tail : List Step) → AreSteps k rest tail → ⊥
+no_steps k row rows rest found e none only tail h = by tail (rw e at h)
+  where
+    by : (tail : List Step) → AreSteps k (row ∷ rows) tail → ⊥
+    by [] h = h
+    by (step ∷ steps) h = let g = only step h.1 in cc
+
+-- the first of the steps is that of the row
+pub back_row : (k : ℕ) (row : Fields) (rows rest : List Fields) (step : Step) → rest ≡ row ∷ rows → Reads k row (Some step) → (all : List Step) → AreSteps k rest all → (tail : List Step) × AreSteps (k + 1) rows tail × (all ≡ step ∷ tail)
+back_row k row rows rest step e only all h = by all (rw e at h)
+  where
+    by : (all : List Step) → AreSteps k (row ∷ rows) all → (tail : List Step) × AreSteps (k + 1) rows tail × (all ≡ step ∷ tail)
+    by [] h = absurd h
+    by (s ∷ steps) h =
+        let g = only s h.1 in
+        let same : s ≡ step = cc in
+        (steps, h.2, ap (λ (x : Step). x ∷ steps) same)
+
+pub on_row : (k : ℕ) (row : Fields) (rows rest : List Fields) (step : Step) → rest ≡ row ∷ rows → k ≤ 400 → IsRow k row step → (tail : List Step) → AreSteps (k + 1) rows tail → AreSteps k rest (step ∷ tail)
+on_row k row rows rest step e low is tail h = rw e (low, is, h)
+
+pub breaks_row : (k : ℕ) (row : Fields) (rows rest : List Fields) (step : Step) → rest ≡ row ∷ rows → k ≤ 400 → IsRow k row step → (r : ℕ) → BreaksFrom (k + 1) rows r → BreaksFrom k rest r
+breaks_row k row rows rest step e low is r h = rw e (inr (low, step, is, h))
+
+-- pushed at the end, or put before the rest
+pub push_before : (done new tail : List Step) (step : Step) → new ≡ done ++ step ∷ [] → new ++ tail ≡ done ++ step ∷ tail
+push_before done new tail step e = ap (λ (xs : List Step). xs ++ tail) e ∙ append_assoc done (step ∷ []) tail
+
+pub none_left : (rest : List Fields) (k : ℕ) → rest ≡ [] → AreSteps k rest []
+none_left rest k e = rw e tt
+
+pub last_steps : (rest : List Fields) (k : ℕ) (tail : List Step) → rest ≡ [] → AreSteps k rest tail → tail ≡ []
+last_steps rest k tail e h = by tail (rw e at h)
+  where
+    by : (tail : List Step) → AreSteps k [] tail → tail ≡ []
+    by [] h = refl
+    by (s ∷ steps) h = absurd h
+
+-- ---- a text has one list of rows
+
+some_read : {A : Type 0} (o : Option A) (p q : A) → o ≡ Some p → o ≡ Some q → p ≡ q
+some_read o p q e f = cc
+
+rows_same : (cfg : Config) (s : State) (xs : List ℕ) (r₁ r₂ : List Fields) (s₁ s₂ : State) (y₁ y₂ : List ℕ) → Reached cfg s xs r₁ s₁ y₁ → next_record cfg s₁ [] [] y₁ ≡ None → Reached cfg s xs r₂ s₂ y₂ → next_record cfg s₂ [] [] y₂ ≡ None → r₁ ≡ r₂
+unfolding Reached
+rows_same cfg s xs [] [] s₁ s₂ y₁ y₂ h₁ e₁ h₂ e₂ = refl
+rows_same cfg s xs [] (r ∷ rows) s₁ s₂ y₁ y₂ h₁ e₁ h₂ e₂ =
+    let none : next_record cfg s [] [] xs ≡ None = rw (h₁.0, h₁.1) e₁ in
+    let some = h₂.1 in
+    cc
+rows_same cfg s xs (r ∷ rows) [] s₁ s₂ y₁ y₂ h₁ e₁ h₂ e₂ =
+    let none : next_record cfg s [] [] xs ≡ None = rw (h₂.0, h₂.1) e₂ in
+    let some = h₁.1 in
+    cc
+rows_same cfg s xs (r ∷ rows) (q ∷ others) s₁ s₂ y₁ y₂ h₁ e₁ h₂ e₂ =
+    let same : h₁.0 ≡ h₂.0 = some_read (next_record cfg s [] [] xs) h₁.0 h₂.0 h₁.1 h₂.1 in
+    let head : r ≡ q = h₁.2 ∙ ap (λ (p : Read). p.0) same ∙ sym h₂.2 in
+    let P : Read → Type 0 = λ (p : Read). Reached cfg p.1 p.2 others s₂ y₂ in
+    let h₂' : Reached cfg h₁.0.1 h₁.0.2 others s₂ y₂ = subst P (sym same) h₂.3 in
+    let tail : rows ≡ others = rows_same cfg h₁.0.1 h₁.0.2 rows others s₁ s₂ y₁ y₂ h₁.3 e₁ h₂' e₂ in
+    λ i. head i ∷ tail i
+
+pub are_rows_same : (text : List ℕ) (r₁ r₂ : List Fields) → AreRows text r₁ → AreRows text r₂ → r₁ ≡ r₂
+are_rows_same text r₁ r₂ a b = rows_same _ _ _ r₁ r₂ _ _ _ _ a.2 a.3 b.2 b.3
+
+few_steps : (k : ℕ) (rows : List Fields) (steps : List Step) → AreSteps k rows steps → k ≤ 401 → length steps + k ≤ 401
+few_steps k [] [] h low = omega arith
+few_steps k [] (step ∷ steps) h low = absurd h
+few_steps k (row ∷ rows) [] h low = absurd h
+few_steps k (row ∷ rows) (step ∷ steps) h low =
+    let next : k + 1 ≤ 401 = omega (arith, h.0) in
+    let rest = few_steps (k + 1) rows steps h.2 next in omega (arith, rest)
+
+some_steps : (k : ℕ) (rows : List Fields) (steps : List Step) → AreSteps k rows steps → 1 ≤ length rows → 1 ≤ length steps
+some_steps k [] steps h low = absurd (omega (arith, low))
+some_steps k (row ∷ rows) [] h low = absurd h
+some_steps k (row ∷ rows) (step ∷ steps) h low = omega arith
+
+-- the steps of one row or more are 1 to 400
+pub has_steps : (rows : List Fields) (steps : List Step) → AreSteps 1 rows steps → 1 ≤ length rows → HasSteps steps
+has_steps rows steps h low = record {
+  some_step = some_steps 1 rows steps h low;
+  few = let all = few_steps 1 rows steps h (omega arith) in omega (arith, all);
+}

@@ -1,0 +1,6 @@
+pub mod Seat
+pub mod Seats
+pub mod Script
+pub mod Fault
+pub mod RowsFault
+pub mod Steps

@@ -1,0 +1,9 @@
+pub mod Agree
+pub mod Counting
+pub mod First
+pub mod HallLemmas
+pub mod Least
+pub mod PeopleBits
+pub mod SearchLemmas
+pub mod TableLemmas
+pub mod Turns

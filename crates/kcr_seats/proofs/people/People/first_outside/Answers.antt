@@ -1,0 +1,16 @@
+use Rattle.std.proofs.Common.{arith, eq-eqb}
+use Rattle.kcr_seats.specs.People.{contains}
+use Rattle.kcr_seats.proofs.PeopleBits.{one_from, not_one, in_neither, lowest}
+use Rattle.kcr_seats.proofs.people.People.first_outside.Goals as goal
+
+pub returns-then-left-eq0-clause-none : goal.returns-then-left-eq0-clause-none
+unfolding contains
+returns-then-left-eq0-clause-none c = λ person h. eq-eqb _ 1 (in_neither c.args.self.mask c.args.others.mask person (omega arith) (omega arith) c.if-left-eq0.true (one_from _ h))
+
+pub returns-clause-inside : goal.returns-clause-inside
+unfolding contains
+returns-clause-inside c = eq-eqb _ 1 (lowest c.args.self.mask c.args.others.mask (omega arith) (omega arith) c.if-left-eq0.false).0
+
+pub returns-clause-outside : goal.returns-clause-outside
+unfolding contains
+returns-clause-outside c = not_one _ (lowest c.args.self.mask c.args.others.mask (omega arith) (omega arith) c.if-left-eq0.false).1

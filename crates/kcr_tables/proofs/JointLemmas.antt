@@ -1,0 +1,169 @@
+-- How the rows in the order of their keys meet the machine's rows, which stand in any order.
+use Rattle.std.proofs.Common.{◌≡◌, ◌≢◌, ◌⊎◌, inl, inr, ◌||◌, ◌≤◌, Bool, true, false, cond, ℕ, zero, List, [], ◌∷◌, ◌++◌, map, drop, filter, find, fold, max, Option, Some, None, refl, sym, ap, subst, ◌∙◌, true≢false, arith, IsPermutation, Ordering, Less, Equal, Greater}
+use Rattle.std.specs.Prelude.{bytes_eq}
+use Rattle.std.specs.List.{list_any, AllByRecursion}
+use Rattle.std.specs.Ordering.{match_ordering, is_eq, ordering_reverse}
+use Rattle.std.specs.Cmp.{IsTotalOrder}
+use Rattle.std.proofs.lemmas.Cmp.{on_total, tied_back}
+use Rattle.std.proofs.lemmas.Bool.{or_parts, cases_Bool}
+use Rattle.std.proofs.lemmas.Map.Text.{is_eq-slice_cmp}
+use Rattle.std.proofs.lemmas.List.Sorted.{IsPermutation-cons, IsPermutation-map, IsPermutation-refl, IsPermutation-sym, IsPermutation-trans, IsPermutation-middle, list_any-IsPermutation}
+use Rattle.sqlite.specs.declared.types.Value.TheVariants.{Text}
+use Rattle.sqlite.specs.Order.{Row, value_cmp}
+use Rattle.sqlite.specs.Tree.{Trees, IsAscending}
+use Rattle.sqlite.specs.Effect.{Database}
+use Rattle.sqlite_value.specs.Keys.{rising}
+use Rattle.sqlite_value.proofs.OrderLemmas.{value_cmp-Text, then-Equal}
+use Rattle.sqlite_sql.proofs.QueryLemmas.{key_cmp_total}
+use Rattle.sqlite_rules.specs.Lists.{Has}
+use Rattle.sqlite_rules.proofs.ListLemmas.{all_has, all_from}
+use Rattle.sqlite_trees.proofs.ListLemmas.{all_from_map, ascending-map, filter_all, IsPermutation-filter}
+use Rattle.kcr_people.specs.declared.Person.{Person}
+use Rattle.kcr_machine.specs.declared.views.KeyRow.{KeyRow}
+use Rattle.kcr_machine.specs.declared.views.Change.{Change}
+use Rattle.kcr_machine.specs.declared.views.Change.TheVariants.{PutPerson, PutKey}
+use Rattle.kcr_machine.specs.Tables as machine
+use Rattle.kcr_tables.specs.Schema.{register_schema}
+use Rattle.kcr_tables.specs.Keyed.{by_key, put, put_in, Place, Keeps}
+use Rattle.kcr_tables.specs.Rows.{person_row, key_row}
+use Rattle.kcr_tables.specs.Held.{Tables, Kept, Holds}
+use Rattle.kcr_tables.specs.First.{first_tables}
+use Rattle.kcr_tables.specs.Changed.{changed, changed_all}
+use Rattle.kcr_tables.specs.Joint.{Stands, KeepsTables, HoldsTables}
+use Rattle.kcr_tables.proofs.PutLemmas.{put_rising, has_same}
+use Rattle.kcr_tables.proofs.TableLemmas.{put_in_rows}
+
+-- ---- a row put in its place is the row put anywhere, up to order
+
+pub key_total : (keys : ℕ) → IsTotalOrder (by_key keys)
+key_total keys = on_total _ (key_cmp_total (rising keys []) 0)
+
+pub from_map : {X : Type 0} (R : Row → Row → Type 0) (f : X → Row) (xs : List X) → IsAscending R (map f xs) → IsAscending (λ a b. R (f a) (f b)) xs
+from_map R f [] up = tt
+from_map R f (x ∷ xs) up = (all_from_map (R (f x)) f xs up.0, from_map R f xs up.1)
+
+or_none : (x y : Bool) → x ≡ false → y ≡ false → (x || y) ≡ false
+or_none x y p q = rw (p, q)
+
+other_key : (o : Ordering) → o ≢ Equal → is_eq o ≡ false
+other_key Less n = refl
+other_key Equal n = absurd (n refl)
+other_key Greater n = refl
+
+module _ {X : Type 0} (keys : ℕ) (row_of : X → Row) (new : X) where
+  abbrev cmp : X → X → Ordering
+  cmp x y = by_key keys (row_of x) (row_of y)
+
+  -- two rows have one key
+  abbrev pub same : X → X → Bool
+  same row old = is_eq (cmp old row)
+
+  no_key-map : (rows : List X) → list_any (same new) rows ≡ false → map (λ old. cond (same new old) new old) rows ≡ rows
+  no_key-map [] h = refl
+  no_key-map (row ∷ rows) h = by_test (same new row) h (no_key-map rows)
+    where
+      by_test : (b : Bool) → (b || list_any (same new) rows) ≡ false → (list_any (same new) rows ≡ false → map (λ old. cond (same new old) new old) rows ≡ rows)
+          → cond b new row ∷ map (λ old. cond (same new old) new old) rows ≡ row ∷ rows
+      by_test true g ih = absurd (true≢false g)
+      by_test false g ih = ap (λ rest. row ∷ rest) (ih g)
+
+  past : (x y : X) → cmp x new ≢ Less → cmp x y ≡ Less → is_eq (cmp y new) ≡ false
+  past x y n less =
+      let total = key_total keys in
+      other_key (cmp y new) (λ tie.
+      let turned : by_key keys (row_of new) (row_of x) ≡ Greater = sym (total.congr (row_of y) (row_of new) (row_of x) tie) ∙ total.antisymm (row_of y) (row_of x) ∙ ap ordering_reverse less in
+      n (total.antisymm (row_of x) (row_of new) ∙ ap ordering_reverse turned))
+
+  none_behind : (x : X) → cmp x new ≢ Less → (xs : List X) → AllByRecursion (λ y. cmp x y ≡ Less) xs → list_any (same new) xs ≡ false
+  none_behind x n [] a = refl
+  none_behind x n (y ∷ ys) a = or_none (is_eq (cmp y new)) _ (past x y n a.0) (none_behind x n ys a.1)
+
+  pub put-in : (xs : List X) → IsAscending (λ a b. cmp a b ≡ Less) xs → IsPermutation (machine.put same new xs) (put_in keys row_of new xs)
+  put-in [] r = IsPermutation-refl (new ∷ [])
+  put-in (x ∷ xs) r = by_order (cmp x new) refl (put-in xs r.1)
+    where
+      less : (b : Bool) → IsPermutation (cond b (map (λ old. cond (same new old) new old) xs) (new ∷ xs)) (put_in keys row_of new xs)
+          → IsPermutation (cond b (x ∷ map (λ old. cond (same new old) new old) xs) (new ∷ x ∷ xs)) (x ∷ put_in keys row_of new xs)
+      less true ih = IsPermutation-cons x _ _ ih
+      less false ih = IsPermutation-trans _ _ _ (IsPermutation-sym _ _ (IsPermutation-middle (x ∷ []) new xs)) (IsPermutation-cons x _ _ ih)
+      by_order : (o : Ordering) → cmp x new ≡ o → IsPermutation (machine.put same new xs) (put_in keys row_of new xs)
+          → IsPermutation (cond (is_eq o || list_any (same new) xs) (cond (is_eq o) new x ∷ map (λ old. cond (same new old) new old) xs) (new ∷ x ∷ xs))
+          (match_ordering o (x ∷ put_in keys row_of new xs) (new ∷ xs) (new ∷ x ∷ xs))
+      by_order Less e ih = less (list_any (same new) xs) ih
+      by_order Equal e ih =
+          let none = none_behind x (λ l. let f : Equal ≡ Less = sym e ∙ l in cc) xs r.0 in
+          rw (no_key-map xs none) (IsPermutation-refl (new ∷ xs))
+      by_order Greater e ih =
+          let none = none_behind x (λ l. let f : Greater ≡ Less = sym e ∙ l in cc) xs r.0 in
+          rw none (IsPermutation-refl (new ∷ x ∷ xs))
+
+pub put-order : {X : Type 0} (same : X → X → Bool) (row : X) (xs ys : List X) → IsPermutation xs ys → IsPermutation (machine.put same row xs) (machine.put same row ys)
+put-order same row xs ys p =
+    rw (← list_any-IsPermutation (same row) xs ys p) (by_test (list_any (same row) xs))
+  where
+    by_test : (b : Bool) → IsPermutation (cond b (map (λ old. cond (same row old) row old) xs) (row ∷ xs)) (cond b (map (λ old. cond (same row old) row old) ys) (row ∷ ys))
+    by_test true = IsPermutation-map (λ old. cond (same row old) row old) xs ys p
+    by_test false = IsPermutation-cons row xs ys p
+
+-- the machine's rows after a change of its own, and the database's after the same change
+pub put-stands : {X : Type 0} (keys : ℕ) (row_of : X → Row) (test : X → X → Bool) → ((row old : X) → test row old ≡ is_eq (by_key keys (row_of old) (row_of row)))
+    → (new : X) (xs ys : List X) → IsAscending (λ a b. by_key keys a b ≡ Less) (map row_of ys) → IsPermutation xs ys → IsPermutation (machine.put test new xs) (put_in keys row_of new ys)
+put-stands {X = X} keys row_of test is new xs ys up p =
+    IsPermutation-trans _ _ _ (put-order test new xs ys p)
+    (subst (λ (s : X → X → Bool). IsPermutation (machine.put s new ys) (put_in keys row_of new ys)) (λ i row old. sym (is row old) i) (put-in keys row_of new ys (from_map (λ a b. by_key keys a b ≡ Less) row_of ys up)))
+
+-- the rows still rise
+pub put_in_rising : {X : Type 0} (keys : ℕ) (row_of : X → Row) (new : X) (xs : List X) → IsAscending (λ a b. by_key keys a b ≡ Less) (map row_of xs)
+    → IsAscending (λ a b. by_key keys a b ≡ Less) (map row_of (put_in keys row_of new xs))
+put_in_rising keys row_of new xs up = subst (IsAscending (λ a b. by_key keys a b ≡ Less)) (sym (put_in_rows keys row_of new xs)) (put_rising keys (row_of new) (map row_of xs) up)
+
+-- ---- tables
+
+-- a key that is one text
+pub text_key : (s t : List ℕ) (a b : Row) → bytes_eq s t ≡ is_eq (by_key 1 (Text s ∷ a) (Text t ∷ b))
+text_key s t a b = sym (ap is_eq (then-Equal (value_cmp (Text s) (Text t)) ∙ value_cmp-Text s t) ∙ is_eq-slice_cmp s t)
+
+-- the rows of each table rise by their keys
+pub record Rises (t : Tables) : Type 0 where
+  pub people : IsAscending (λ a b. by_key 1 a b ≡ Less) (map person_row t.people)
+  pub keys : IsAscending (λ a b. by_key 1 a b ≡ Less) (map key_row t.keys)
+
+pub kept_rises : (db : Trees) (t : Tables) → Kept db t → Rises t
+kept_rises db t k = record { people = k.people.rising; keys = k.keys.rising }
+
+pub changed_rises : (c : Change) (t : Tables) → Rises t → Rises (changed c t)
+changed_rises (PutPerson row) t r = record { people = put_in_rising 1 person_row row t.people r.people; keys = r.keys }
+changed_rises (PutKey row) t r = record { people = r.people; keys = put_in_rising 1 key_row row t.keys r.keys }
+
+-- one change: a line for each table
+pub changed_stands : (c : Change) (m : machine.Tables) (t : Tables) → Rises t → Stands m t → Stands (machine.changed c m) (changed c t)
+changed_stands (PutPerson row) m t r s = record {
+  people = put-stands 1 person_row (λ new. machine.is_of_person new.who) (λ new old. text_key old.who new.who (Text old.name ∷ []) (Text new.name ∷ [])) row m.people t.people r.people s.people;
+  versions = s.versions;
+  keys = s.keys;
+}
+changed_stands (PutKey row) m t r s = record {
+  people = s.people;
+  versions = s.versions;
+  keys = put-stands 1 key_row (λ new. machine.is_of_key new.key) (λ new old. text_key old.key new.key (drop 1 (key_row old)) (drop 1 (key_row new))) row m.keys t.keys r.keys s.keys;
+}
+
+-- the changes one after the other
+pub all_stand : (changes : List Change) (m : machine.Tables) (t : Tables) → Rises t → Stands m t → Stands (machine.changed_by changes m) (changed_all changes t)
+all_stand [] m t r s = s
+all_stand (c ∷ more) m t r s = all_stand more (machine.changed c m) (changed c t) (changed_rises c t r) (changed_stands c m t r s)
+
+-- ---- what the store holds
+
+pub held_of : (m : machine.Tables) (db : Database) (h : HoldsTables m db) → Holds db h.tables.t
+held_of m db h = record { schema = h.schema; kept = h.tables.kept }
+
+pub tables_of : (m : machine.Tables) (db : Database) (t : Tables) → Stands m t → Holds db t → HoldsTables m db
+tables_of m db t stands held = record { schema = held.schema; tables = record { t = t; kept = held.kept; stands = stands } }
+
+pub changes_hold : (changes : List Change) (m : machine.Tables) (old new : Database) (h : HoldsTables m old) → Holds new (changed_all changes h.tables.t) → HoldsTables (machine.changed_by changes m) new
+changes_hold changes m old new h held =
+    tables_of (machine.changed_by changes m) new (changed_all changes h.tables.t) (all_stand changes m h.tables.t (kept_rises old.trees h.tables.t h.tables.kept) h.tables.stands) held
+
+pub first_holds : (db : Database) → Holds db first_tables → HoldsTables (machine.tables []) db
+first_holds db held = tables_of (machine.tables []) db first_tables (record { people = IsPermutation-refl []; versions = refl; keys = IsPermutation-refl [] }) held

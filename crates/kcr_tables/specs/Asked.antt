@@ -1,0 +1,9 @@
+-- The rows of a table that are asked for.
+use Rattle.std.specs.Prelude.{Bool, List, [], filter}
+use Rattle.kcr_machine.specs.declared.views.Rows.{Rows}
+use Rattle.kcr_machine.specs.declared.views.Rows.TheVariants.{Nothing, Under, All}
+
+abbrev pub asked_of : {X K : Type 0} → (K → X → Bool) → Rows K → List X → List X
+asked_of is_under Nothing rows = []
+asked_of is_under (Under key) rows = filter (is_under key) rows
+asked_of is_under All rows = rows

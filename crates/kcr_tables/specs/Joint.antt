@@ -1,0 +1,25 @@
+-- The database holds the tables of the machine. The machine has the rows of a table in any order, the database in the order of their keys.
+use Rattle.std.specs.Prelude.{◌≡◌, IsPermutation}
+use Rattle.sqlite.specs.Tree.{Trees}
+use Rattle.sqlite.specs.Effect.{Database}
+use Rattle.kcr_machine.specs.Tables as machine
+use Rattle.kcr_tables.specs.Schema.{register_schema}
+use Rattle.kcr_tables.specs.Held.{Tables, Kept}
+use Rattle.kcr_tables.specs.First.{first_tables}
+
+-- the same rows, in any order; the version is that of a new register
+pub record Stands (m : machine.Tables) (t : Tables) : Type 0 where
+  pub people : IsPermutation m.people t.people
+  pub versions : t.versions ≡ first_tables.versions
+  pub keys : IsPermutation m.keys t.keys
+
+-- the trees of a file hold these tables
+pub record KeepsTables (m : machine.Tables) (db : Trees) : Type 0 where
+  pub t : Tables
+  pub kept : Kept db t
+  pub stands : Stands m t
+
+-- the database has the register's schema and holds these tables
+pub record HoldsTables (m : machine.Tables) (db : Database) : Type 0 where
+  pub schema : db.schema ≡ register_schema
+  pub tables : KeepsTables m db.trees

@@ -1,0 +1,11 @@
+pub mod Schema
+pub mod Keyed
+pub mod Rows
+pub mod Refusals
+pub mod Held
+pub mod Made
+pub mod First
+pub mod Greatest
+pub mod Changed
+pub mod Joint
+pub mod Asked

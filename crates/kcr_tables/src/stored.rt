@@ -1,0 +1,21 @@
+//! Values that stand in rows.
+
+ghost use Rattle.std.specs.Prelude.{◌≡◌, IfOk, IfErr};
+ghost use Rattle.kcr_tables.specs.Refusals.{IsFault};
+
+use kcr_base::Refusal;
+use sqlite::Row;
+use std::alloc::Global;
+
+/// A value that a row of a table stands for.
+pub trait Stored: Drop {
+    ghost use Rattle.sqlite.specs.Order.{Row as Values};
+
+    /// The row of a value.
+    ghost row_of: { Self → Values };
+
+    /// The value of a row; the error is `Disk` where the row is no value's, and `Memory` for want of memory.
+    fn decode(alloc: Global, row: &Row) -> Result<Self, Refusal>
+        ensures row { IfOk result (λ x. row.now ≡ row_of x) }
+        ensures cause { IfErr result IsFault };
+}
