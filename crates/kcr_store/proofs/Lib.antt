@@ -1,0 +1,3 @@
+pub mod WholeLemmas
+pub mod StoreLemmas
+pub mod OpenLemmas

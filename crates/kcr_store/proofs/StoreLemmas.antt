@@ -1,0 +1,89 @@
+-- What a decision makes of the tables, and what a reading of them shows.
+use Rattle.std.proofs.Common.{◌≡◌, ◌≢◌, ◌⊎◌, inl, inr, ◌<◌, ◌+◌, List, [], ◌∷◌, map, length, Option, Some, None, Result, Ok, Err, Ordering, Less, IfOk, IsTrue, refl, sym, ap, subst, ◌∙◌, arith}
+use Rattle.std.specs.Prelude.{MatchOption, All, AllPairs}
+use Rattle.std.specs.List.{AllByRecursion}
+use Rattle.std.specs.Ordering.{is_lt}
+use Rattle.std.proofs.lemmas.List.Elements.{All-nil, All-cons}
+use Rattle.std.proofs.lemmas.List.Kept.{AllPairs-cons}
+use Rattle.sqlite.specs.declared.types.Value.TheVariants.{Text}
+use Rattle.sqlite.specs.Effect.{Database}
+use Rattle.sqlite.specs.Order.{Row, value_cmp}
+use Rattle.sqlite.specs.Tree.{IsAscending}
+use Rattle.sqlite_value.proofs.OrderLemmas.{value_cmp-Text, then-Equal}
+use Rattle.kcr_base.specs.Same.{is_before}
+use Rattle.kcr_base.specs.declared.refusal.Refusal.{Refusal}
+use Rattle.kcr_people.specs.declared.Person.{Person}
+use Rattle.kcr_machine.specs.declared.commands.Answer.{Answer}
+use Rattle.kcr_machine.specs.declared.commands.Command.{Command}
+use Rattle.kcr_machine.specs.declared.commands.Entry.{Entry}
+use Rattle.kcr_machine.specs.declared.commands.Reply.{Reply}
+use Rattle.kcr_machine.specs.declared.views.Change.{Change}
+use Rattle.kcr_machine.specs.declared.views.Verdict.{Verdict}
+use Rattle.kcr_machine.specs.History.{History}
+use Rattle.kcr_machine.specs.Tables.{tables, changed_by}
+use Rattle.kcr_machine.specs.Tables as Machine
+use Rattle.kcr_machine.specs.Machine.{IsRegister, IsAcceptance, IsRepeat, machine, Accepts}
+use Rattle.kcr_tables.specs.Keyed.{by_key}
+use Rattle.kcr_tables.specs.Rows.{person_row}
+use Rattle.kcr_tables.specs.Held.{Holds}
+use Rattle.kcr_tables.specs.Joint.{HoldsTables}
+use Rattle.kcr_tables.specs.Refusals.{IsFault}
+use Rattle.kcr_store.specs.Steps.{Steps, IsNext, IsByInitials, with_answer}
+use Rattle.kcr_store.specs.Stored.{IsTables, Stores}
+
+pub held_in : (A : History) (db : Database) → Stores A db → HoldsTables (tables A) db
+held_in A db s = record { schema = s.schema; tables = s.tables.kept }
+
+-- a decision that answers, by its answer
+abbrev Decides : History → Command → Verdict → Option Answer → Type 0
+Decides A x v answer = MatchOption answer ((kept : Entry) × IsRepeat A x v kept) (IsAcceptance A x v)
+
+module _ (A : History) (x : Command) (v : Verdict) where
+  pub steps : (answer : Option Answer) → Decides A x v answer → Steps A x (Ok v.reply) (with_answer A x answer)
+  steps (Some a) d = (a, d.step, d.reply)
+  steps None d = (d.0.answer, d.1.step, d.1.reply)
+
+  next_register : (answer : Option Answer) → Decides A x v answer → IsRegister A → IsRegister (with_answer A x answer)
+  next_register (Some a) d r = (d.step, r)
+  next_register None d r = r
+
+  next_tables : (answer : Option Answer) → Decides A x v answer → changed_by v.changes.items (tables A) ≡ tables (with_answer A x answer)
+  next_tables (Some a) d = d.tables
+  next_tables None d = ap (λ (l : List Change). changed_by l (tables A)) d.1.changes
+
+  -- the tables with the changes are those of the history after the command
+  pub next_stores : (answer : Option Answer) (old new : Database) → Stores A old → Decides A x v answer → HoldsTables (changed_by v.changes.items (tables A)) new → Stores (with_answer A x answer) new
+  next_stores answer old new s d h =
+      let held = subst (λ (m : Machine.Tables). HoldsTables m new) (next_tables answer d) h in
+      record { schema = held.schema; tables = record { register = next_register answer d s.tables.register; kept = held.tables } }
+
+-- want of memory and a fault of the device leave the history
+pub fault_steps : (A : History) (x : Command) (e : Refusal) → IsFault e → Steps A x (Err e) A
+fault_steps A x e (inl memory) = (refl, λ no_memory no_disk. absurd (no_memory memory))
+fault_steps A x e (inr disk) = (refl, λ no_memory no_disk. absurd (no_disk disk))
+
+-- a new register's tables
+pub first_stores : (db : Database) → HoldsTables (tables []) db → Stores [] db
+first_stores db h = record { schema = h.schema; tables = record { register = tt; kept = h.tables } }
+
+-- ---- rows in the order of their keys
+
+before : (a b : Person) → by_key 1 (person_row a) (person_row b) ≡ Less → IsTrue (is_before a.who b.who)
+before a b e = ap is_lt (sym (value_cmp-Text a.who b.who) ∙ sym (then-Equal (value_cmp (Text a.who) (Text b.who))) ∙ e)
+
+all_before : (x : Person) (xs : List Person) → AllByRecursion (λ row. by_key 1 (person_row x) row ≡ Less) (map person_row xs) → All (λ p. IsTrue (is_before x.who p.who)) xs
+all_before x [] up = All-nil (λ (p : Person). IsTrue (is_before x.who p.who))
+all_before x (p ∷ xs) up = All-cons (λ (p : Person). IsTrue (is_before x.who p.who)) p xs (before x p up.0) (all_before x xs up.1)
+
+pub by_initials : (xs : List Person) → IsAscending (λ a b. by_key 1 a b ≡ Less) (map person_row xs) → IsByInitials xs
+by_initials [] up = λ i j d lt below. absurd (omega arith)
+by_initials (x ∷ xs) up = AllPairs-cons (λ (a b : Person). IsTrue (is_before a.who b.who)) x xs (all_before x xs up.0) (by_initials xs up.1)
+
+-- what is said of a value under a premise that the call's success gives
+pub if_ok_then : {T E : Type 0} (P Q : T → Type 0) (r : Result T E) → ((x : T) → P x → Q x) → IfOk r P → IfOk r Q
+if_ok_then P Q (Ok x) f h = f x h
+if_ok_then P Q (Err e) f h = tt
+
+-- the history that a commit would make
+pub candidate_of : (A : History) (x : Command) (r : Reply) (A' A'' : History) → Steps A x (Ok r) A' → A'' ≡ A' → IsNext A x A''
+candidate_of A x r A' A'' step is = inr (step.0, subst (λ h. machine A x (Accepts step.0) h) (sym is) step.1)

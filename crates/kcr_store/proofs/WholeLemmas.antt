@@ -1,0 +1,108 @@
+-- What one transaction leaves of a register.
+use Rattle.std.proofs.Common.{◌≡◌, ◌≢◌, ◌⊎◌, inl, inr, ℕ, ◌≤◌, Bool, true, false, List, Option, None, Result, Ok, Err, IfOk, OnOk, IsTrue, refl, sym, ap, subst, ◌∙◌, arith, rules}
+use Rattle.sqlite.specs.declared.error.ErrorCode.TheVariants.{OutOfMemory, TransactionState}
+use Rattle.sqlite.specs.declared.error.Error.{Error}
+use Rattle.sqlite.specs.declared.error.Error.TheVariants.{SqliteFailure}
+use Rattle.sqlite.specs.Store.{Ghosts}
+use Rattle.sqlite.specs.Tree.{Trees}
+use Rattle.sqlite.specs.Effect.{Database}
+use Rattle.sqlite.specs.State.{State, HasCleanDisk, KeepsCommit, IsRolledBack, IsUnchanged, Survives, Shows}
+use Rattle.sqlite.proofs.StateLemmas.{survives_then}
+use Rattle.sqlite.specs.Steps.{FailsToCommit}
+use Rattle.sqlite.specs.Held.{Held, state}
+use Rattle.kcr_store.specs.Stored.{IsTables, Stores}
+use Rattle.kcr_machine.specs.History.{History}
+use Rattle.kcr_store.specs.Register.{IsWhole, Leaves, LeavesEither}
+use Rattle.kcr_store.specs.Register as register
+
+-- within the transaction
+pub record Began (accepted : History) (s : State) : Type 0 where
+  pub inside : IsTrue s.in_transaction
+  pub shows : HasCleanDisk s → IsTrue s.is_open → register.Shows accepted s
+  pub crash : Leaves accepted s
+
+pub begins : {S : Type 0} (g : Ghosts S) (accepted : History) (old begun : Held S) → begun ≡ record old { in_transaction = true } → IsWhole accepted (state g old) → Began accepted (state g begun)
+begins g accepted old begun is w = rw is (record { inside = refl; shows = λ clean live. let s = w.shows clean live in record { now = s.now; committed = s.committed }; crash = w.crash })
+
+pub was_clean : (old new : State) (P : Trees → Type 0) → Survives old new P → HasCleanDisk new → HasCleanDisk old
+was_clean old new P s clean = omega (arith, s.clean)
+
+pub leaves : (accepted : History) (old new : State) → Leaves accepted old → Survives old new (λ _. ⊥) → Leaves accepted new
+leaves accepted old new had s clean db may = elim (s.crash clean db may) [ inl before ↦ had (was_clean old new _ s clean) db before | inr none ↦ absurd none ]
+
+module _ (accepted after : History) (begun mid : State) (b : Began accepted begun) (kept : Survives begun mid (λ _. ⊥)) (keeps : HasCleanDisk mid → IsTrue begun.in_transaction → KeepsCommit begun mid) where
+  -- what a rollback goes back to
+  stored : HasCleanDisk mid → IsTrue mid.is_open → Stores accepted mid.committed
+  stored clean live =
+      let k = keeps clean b.inside in
+      subst (Stores accepted) (sym (k.committed live)) (b.shows (was_clean begun mid _ kept clean) (k.was_open live)).committed
+
+  undone : (end : State) → HasCleanDisk mid → IsRolledBack mid end → IsTrue end.is_open → register.Shows accepted end
+  undone end clean r live =
+      let was = stored clean (r.was_open live) in
+      let is = r.undone live in
+      record { now = subst (Stores accepted) (sym is.0) was; committed = subst (Stores accepted) (sym is.1) was }
+
+  pub whole_undone : (end : State) → Survives mid end (λ _. ⊥) → (HasCleanDisk end → IsRolledBack mid end) → IsWhole accepted end
+  whole_undone end then back = record {
+    shows = λ clean live. undone end (was_clean mid end _ then clean) (back clean) live;
+    crash = leaves accepted mid end (leaves accepted begun mid b.crash kept) then;
+  }
+
+  module _ (end : State) (then : Survives mid end (λ db. db ≡ mid.now.trees)) where
+    pub either : (HasCleanDisk mid → Stores after mid.now) → LeavesEither accepted after end
+    either done clean db may =
+        let before = was_clean mid end _ then clean in
+        elim (then.crash clean db may) [
+          | inl had ↦ inl (leaves accepted begun mid b.crash kept before db had)
+          | inr is ↦ inr (subst (IsTables after) (sym is) (done before).tables)
+        ]
+
+    -- the store says that it stands
+    module _ (settled : (db : Trees) → IsTrue end.is_open → end.may_leave db → db ≡ end.committed.trees) where
+      pub whole_done : (HasCleanDisk mid → Stores after mid.now) → (HasCleanDisk end → Shows mid end mid.now mid.now false) → IsWhole after end
+      whole_done done shown = record {
+        shows = λ clean live.
+            let is = done (was_clean mid end _ then clean) in let s = shown clean in record { now = subst (Stores after) (sym s.now_is) is; committed = subst (Stores after) (sym s.committed_is) is };
+        crash = λ clean db may.
+            let is = done (was_clean mid end _ then clean) in let s = shown clean in
+            subst (IsTables after) (sym (settled db s.is_open may)) (subst (Stores after) (sym s.committed_is) is).tables;
+      }
+
+    module _ (last : State) (probed : Survives end last (λ _. ⊥)) where
+      pub either_last : (HasCleanDisk mid → Stores after mid.now) → LeavesEither accepted after last
+      either_last done clean db may = elim (probed.crash clean db may) [ inl before ↦ either done (was_clean end last _ probed clean) db before | inr none ↦ absurd none ]
+
+      module _ (settled : (db : Trees) → IsTrue last.is_open → last.may_leave db → db ≡ last.committed.trees) where
+        pub whole_stands : (e : Error) → e ≡ SqliteFailure OutOfMemory → (HasCleanDisk end → FailsToCommit mid end e) → (HasCleanDisk last → IsUnchanged end last) → IsWhole accepted last
+        whole_stands e is failed same =
+            let shown : HasCleanDisk last → IsTrue last.is_open × register.Shows accepted last =
+            λ clean. let mine = was_clean end last _ probed clean in let u = same clean in
+            elim (failed mine) [
+              | inl f ↦ (let s = undone end (was_clean mid end _ then mine) f.3 u.0.was_open in
+                  (u.0.is_open, record { now = subst (Stores accepted) (sym u.0.now_is) s.now; committed = subst (Stores accepted) (sym u.0.committed_is) s.committed }))
+              | inr other ↦ absurd (let apart = sym is ∙ other.0 in cc)
+            ] in
+            record {
+              shows = λ clean live. (shown clean).1;
+              crash = λ clean db may. let s = shown clean in subst (IsTables accepted) (sym (settled db s.0 may)) s.1.committed.tables;
+            }
+
+-- what is said of a value under a premise that the call's success gives
+pub if_ok : {T E : Type 0} (P : Type 0) (Q : T → Type 0) (r : Result T E) → OnOk r P → (P → IfOk r Q) → IfOk r Q
+if_ok P Q (Ok x) p f = f p
+if_ok P Q (Err e) p f = tt
+
+pub keeps_then : (a b c : State) → KeepsCommit a b → KeepsCommit b c → KeepsCommit a c
+keeps_then a b c p q = record { was_open = λ live. p.was_open (q.was_open live); committed = λ live. q.committed live ∙ p.committed (q.was_open live) }
+
+-- a transaction that was committed, or may have been, over an empty database
+module _ {S : Type 0} (g : Ghosts S) (old begun : Held S) (is : begun ≡ record old { in_transaction = true }) (mid end : State) (kept : Survives (state g begun) mid (λ _. ⊥)) (then : Survives mid end (λ db. db ≡ mid.now.trees)) where
+  within : Survives (state g old) mid (λ _. ⊥)
+  within =
+      let s = subst (λ (h : Held S). Survives (state g h) mid (λ _. ⊥)) is kept in
+      record { clean = s.clean; shield = s.shield; counts = s.counts; limit = s.limit; closes = s.closes; crash = s.crash }
+
+  pub made_survives : (P : Trees → Type 0) → (HasCleanDisk mid → P mid.now.trees) → Survives (state g old) end P
+  made_survives P done =
+      survives_then (state g old) mid end _ _ P (λ _ db none. absurd none) (λ clean db same. subst P (sym same) (done (was_clean mid end _ then clean))) within then

@@ -1,0 +1,33 @@
+-- What the end of a command says.
+use Rattle.std.specs.Prelude.{Bool, true, false, Result, Ok, Err}
+use Rattle.kcr_base.specs.declared.refusal.Refusal.{Refusal}
+use Rattle.kcr_base.specs.declared.refusal.Refusal.TheVariants.{Disk}
+use Rattle.kcr_machine.specs.declared.commands.Reply.{Reply}
+use Rattle.kcr_machine.specs.History.{History}
+use Rattle.kcr_store.specs.declared.perform.Performed.{Performed}
+use Rattle.kcr_store.specs.declared.perform.Performed.TheVariants.{Accepted, Refused, Torn}
+
+abbrev pub answer_of : Performed → Result Reply Refusal
+answer_of (Accepted r p) = Ok r
+answer_of (Refused e) = Err e
+answer_of (Torn p) = Err Disk
+
+abbrev pub history_after : History → Performed → History
+history_after old (Accepted r p) = p.entries
+history_after old (Refused e) = old
+history_after old (Torn p) = old
+
+abbrev pub tried_after : History → Performed → History
+tried_after old (Accepted r p) = p.entries
+tried_after old (Refused e) = old
+tried_after old (Torn p) = p.entries
+
+abbrev pub is_torn : Performed → Bool
+is_torn (Accepted r p) = false
+is_torn (Refused e) = false
+is_torn (Torn p) = true
+
+abbrev pub is_founded_after : Bool → Performed → Bool
+is_founded_after old (Accepted r p) = p.is_founded
+is_founded_after old (Refused e) = old
+is_founded_after old (Torn p) = p.is_founded

@@ -1,0 +1,24 @@
+-- What a file holds of a history.
+use Rattle.std.specs.Prelude.{◌≡◌, []}
+use Rattle.sqlite.specs.Schema.{Schema}
+use Rattle.sqlite.specs.Tree.{Trees}
+use Rattle.sqlite.specs.Effect.{Database}
+use Rattle.kcr_machine.specs.History.{History}
+use Rattle.kcr_machine.specs.Tables.{tables}
+use Rattle.kcr_machine.specs.Machine.{IsRegister}
+use Rattle.kcr_tables.specs.Schema.{register_schema}
+use Rattle.kcr_tables.specs.Joint.{KeepsTables}
+
+-- the machine leads to the history, and the file holds the machine's tables of it
+pub record IsTables (accepted : History) (db : Trees) : Type 0 where
+  pub register : IsRegister accepted
+  pub kept : KeepsTables (tables accepted) db
+
+-- so does a database, whose schema is then the register's
+pub record Stores (accepted : History) (db : Database) : Type 0 where
+  pub schema : db.schema ≡ register_schema
+  pub tables : IsTables accepted db.trees
+
+-- the schema of an empty database
+abbrev pub no_schema : Schema
+no_schema = record { tables = []; indexes = []; views = [] }

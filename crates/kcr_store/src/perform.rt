@@ -1,0 +1,139 @@
+//! One command as one transaction, and one question as one that changes nothing.
+ghost use Rattle.std.specs.Prelude.{◌≡◌, false, Ok, Err, IsTrue, IfOk, IfErr, OnOk};
+ghost use Rattle.sqlite.specs.State.{HasCleanDisk, KeepsCommit, Survives};
+ghost use Rattle.sqlite.specs.Held.{state};
+ghost use Rattle.kcr_machine.specs.History.{History};
+ghost use Rattle.kcr_tables.specs.Refusals.{IsFault};
+ghost use Rattle.kcr_store.specs.Stored.{Stores};
+ghost use Rattle.kcr_store.specs.Steps.{Steps, with_answer, IsNext, IsAsked};
+ghost use Rattle.kcr_store.specs.Register.{IsWhole, LeavesEither};
+ghost use Rattle.kcr_store.specs.Performed.{history_after, tried_after, answer_of, is_torn, is_founded_after};
+
+use crate::past::Past;
+use crate::question::{Question, Shown};
+use kcr_base::Refusal;
+use kcr_machine::{Answer, Command, Reply, asks, decide};
+use kcr_tables::{all_people, make_changes, view_of};
+use sqlite::{Alter, Connection, Error, ErrorCode, Transaction};
+use std::alloc::Global;
+
+/// The reply to a command that is not refused, and its answer as data where it is accepted now; a repeat has none.
+#[derive(Drop)]
+pub(crate) struct Prepared {
+    pub reply: Reply,
+    pub answer: Option<Answer>,
+}
+
+/// Reads the rows that the command asks for, decides it and puts the rows that the decision gives. Nothing is
+/// committed, and of a repeat nothing is written.
+pub(crate) fn prepare<S: Alter>(
+    alloc: Global,
+    tx: &mut Transaction<'_, S>,
+    command: &Command,
+) -> Result<Prepared, Refusal>
+    ensures same_reference { tx.new.conn.ghost_name ≡ tx.old.conn.ghost_name }
+
+    // Over the tables of a history, an answer is the machine's, and the transaction then holds the tables after it.
+    ensures done { HasCleanDisk (state S.Store tx.new.conn.now) → IsTrue (state S.Store tx.old.conn.now).in_transaction
+        → (A : History) → (IsTrue (state S.Store tx.old.conn.now).is_open → Stores A (state S.Store tx.old.conn.now).now)
+        → IfOk result (λ p. Steps A command.now (Ok p.reply) (with_answer A command.now p.answer)
+        × Stores (with_answer A command.now p.answer) (state S.Store tx.new.conn.now).now
+        × IsTrue (state S.Store tx.new.conn.now).in_transaction) }
+    ensures denied { HasCleanDisk (state S.Store tx.new.conn.now)
+        → (A : History) → (IsTrue (state S.Store tx.old.conn.now).is_open → Stores A (state S.Store tx.old.conn.now).now)
+        → IfErr result (λ e. Steps A command.now (Err e) A) }
+    ensures kept { HasCleanDisk (state S.Store tx.new.conn.now) → IsTrue (state S.Store tx.old.conn.now).in_transaction → KeepsCommit (state S.Store tx.old.conn.now) (state S.Store tx.new.conn.now) }
+    ensures survives { Survives (state S.Store tx.old.conn.now) (state S.Store tx.new.conn.now) (λ _. ⊥) }
+{
+    let asked = asks(command);
+    let view = view_of(alloc, tx, &asked)?;
+    let verdict = decide(alloc, &view, command)?;
+    make_changes(tx, verdict.changes.as_slice())?;
+    Ok(Prepared {
+        reply: verdict.reply,
+        answer: verdict.answer,
+    })
+}
+
+/// How one command ended, with the history that stands now.
+#[derive(Drop)]
+pub(crate) enum Performed {
+    Accepted(Reply, Past),
+    /// Nothing was changed.
+    Refused(Refusal),
+    /// The commit failed, and a crash may leave what it would have made.
+    Torn(Past),
+}
+
+/// One command as one transaction, which is gone at the return. A repeat is committed as well: nothing was written,
+/// and the commit says that the store still serves.
+pub(crate) fn perform<S: Alter>(
+    alloc: Global,
+    conn: &mut Connection<S>,
+    past: &Past,
+    command: &Command,
+) -> Performed
+    requires autocommit { conn.old.in_transaction ≡ false }
+    ensures autocommit { conn.new.in_transaction ≡ false }
+    ensures clean { HasCleanDisk (state S.Store conn.new) → HasCleanDisk (state S.Store conn.old) }
+    ensures founded { is_founded_after past.now.is_founded result ≡ past.now.is_founded }
+    ensures step { IsWhole past.now.entries (state S.Store conn.old) → HasCleanDisk (state S.Store conn.new) → Steps past.now.entries command.now (answer_of result) (history_after past.now.entries result) }
+    ensures served { HasCleanDisk (state S.Store conn.new) → OnOk (answer_of result) (IsTrue (state S.Store conn.new).is_open) }
+    ensures candidate { IsWhole past.now.entries (state S.Store conn.old) → HasCleanDisk (state S.Store conn.new) → IsNext past.now.entries command.now (tried_after past.now.entries result) }
+    ensures whole { IsWhole past.now.entries (state S.Store conn.old) → is_torn result ≡ false → IsWhole (history_after past.now.entries result) (state S.Store conn.new) }
+    ensures tried { IsWhole past.now.entries (state S.Store conn.old) → LeavesEither past.now.entries (tried_after past.now.entries result) (state S.Store conn.new) }
+{
+    let mut tx = conn.transaction();
+    let prepared = match prepare(alloc, &mut tx, command) {
+        Ok(prepared) => prepared,
+        Err(refusal) => return Performed::Refused(refusal),
+    };
+    let after = Past::after(past, command, &prepared.answer);
+    match tx.commit() {
+        Ok(()) => Performed::Accepted(prepared.reply, after),
+        Err(Error::SqliteFailure(ErrorCode::OutOfMemory)) => {
+            // The store may be shut, and then the commit may stand.
+            match conn.prepare("COMMIT") {
+                Ok(_) => Performed::Refused(Refusal::Memory),
+                Err(_) => Performed::Torn(after),
+            }
+        }
+        Err(_) => Performed::Torn(after),
+    }
+}
+
+/// One question, in a transaction that is rolled back.
+pub(crate) fn ask<S: Alter>(
+    alloc: Global,
+    conn: &mut Connection<S>,
+    question: &Question,
+) -> Result<Shown, Refusal>
+    requires autocommit { conn.old.in_transaction ≡ false }
+    ensures autocommit { conn.new.in_transaction ≡ false }
+    ensures clean { HasCleanDisk (state S.Store conn.new) → HasCleanDisk (state S.Store conn.old) }
+    ensures shown { (A : History) → IsWhole A (state S.Store conn.old) → HasCleanDisk (state S.Store conn.new) → IsAsked A question.now result }
+    ensures whole { (A : History) → IsWhole A (state S.Store conn.old) → IsWhole A (state S.Store conn.new) }
+    ensures cause { IfErr result IsFault }
+{
+    let mut tx = conn.transaction();
+    let shown = read(alloc, &mut tx, question);
+    tx.rollback();
+    shown
+}
+
+/// The rows that answer a question.
+fn read<S: Alter>(
+    alloc: Global,
+    tx: &mut Transaction<'_, S>,
+    question: &Question,
+) -> Result<Shown, Refusal>
+    ensures same_reference { tx.new.conn.ghost_name ≡ tx.old.conn.ghost_name }
+    ensures shown { HasCleanDisk (state S.Store tx.new.conn.now) → (A : History) → (IsTrue (state S.Store tx.old.conn.now).is_open → Stores A (state S.Store tx.old.conn.now).now) → IsAsked A question.now result }
+    ensures kept { HasCleanDisk (state S.Store tx.new.conn.now) → IsTrue (state S.Store tx.old.conn.now).in_transaction → KeepsCommit (state S.Store tx.old.conn.now) (state S.Store tx.new.conn.now) }
+    ensures survives { Survives (state S.Store tx.old.conn.now) (state S.Store tx.new.conn.now) (λ _. ⊥) }
+    ensures cause { IfErr result IsFault }
+{
+    match question {
+        Question::People => Ok(Shown::People(all_people(alloc, tx)?)),
+    }
+}

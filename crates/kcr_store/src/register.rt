@@ -1,0 +1,241 @@
+//! The register itself.
+ghost use Rattle.std.specs.Prelude.{[], false, true, ◌≡◌, ◌↔◌, IsTrue, IsSome, IfOk, IfErr, OnOk, Ok, Err, Some, None, unwrap_or};
+ghost use Rattle.sqlite.specs.State.{HasCleanDisk};
+ghost use Rattle.sqlite.specs.Held.{state};
+ghost use Rattle.kcr_tables.specs.Refusals.{IsFault};
+ghost use Rattle.kcr_store.specs.Steps.{Steps, IsNext, IsAsked};
+
+use crate::open::{OpenFault, settle};
+use crate::past::Past;
+use crate::perform::{Performed, ask, perform};
+use crate::question::{Question, Shown};
+use kcr_base::Refusal;
+use kcr_machine::{Command, Reply};
+use sqlite::{Alter, Connection, MemStore};
+use std::alloc::Global;
+use std::marker::Model;
+
+/// The commands that were accepted, kept in a database. Clauses see its connection, the history of what it accepted,
+/// and, once it is broken, the history that a crash may leave in place of that one.
+pub struct Register<S: Alter> {
+    conn: Connection<S>,
+    broken: bool,
+    past: Past,
+    tried: Past,
+    alloc: Global,
+}
+
+impl<S: Alter + Drop> Drop for Register<S> {
+    fn drop(self) {
+        let Register {
+            conn: _,
+            broken: _,
+            past: _,
+            tried: _,
+            alloc: _,
+        } = self;
+    }
+}
+
+impl<S: Alter> Model for Register<S> {
+    ghost use Rattle.std.specs.Prelude.{Some, None, if◌then◌else◌};
+    ghost use Rattle.kcr_store.specs.Register.{Seen, seen_code, IsKept};
+
+    ghost Value = { Seen S };
+
+    ghost coded = { seen_code S.code };
+
+    ghost view = { λ r. record { conn = r.conn; is_founded = r.past.is_founded; accepted = r.past.entries; torn = if r.broken then Some r.tried.entries else None } };
+
+    ghost invariant = { λ r. IsKept S.Store (record { conn = r.conn; is_founded = r.past.is_founded; accepted = r.past.entries; torn = if r.broken then Some r.tried.entries else None }) };
+}
+
+impl<S: Alter + Drop> Register<S> {
+    ghost use Rattle.std.specs.Prelude.{Bool, MatchResult, ◌⊎◌, ◌≢◌};
+    ghost use Rattle.sqlite.specs.State.{Survives};
+    ghost use Rattle.kcr_machine.specs.History.{History};
+    ghost use Rattle.kcr_tables.specs.First.{first_tables};
+    ghost use Rattle.kcr_tables.specs.Held.{Tables, Holds};
+    ghost use Rattle.kcr_store.specs.Stored.{IsTables, no_schema};
+    ghost use Rattle.kcr_store.specs.Register.{IsKept};
+    ghost use Rattle.kcr_store.specs.Opening.{IsForeign, IsFounded};
+
+    /// As `adopt`, for the history that `past` stands for.
+    fn adopt_as(
+        alloc: Global,
+        connection: Connection<S>,
+        past: Past,
+    ) -> Result<Register<S>, (OpenFault, Connection<S>)>
+        requires autocommit { connection.in_transaction ≡ false }
+        requires founded { IsTrue past.is_founded → IsFounded past.entries (state S.Store connection) }
+        ensures adopted { IfOk result (λ r. (r.is_founded ≡ past.is_founded) × (r.accepted ≡ past.entries) × (r.torn ≡ None)) }
+        ensures kept { IfOk result (IsKept S.Store) }
+        ensures taken { IfErr result (λ e. IsTrue past.is_founded → IsTrue (state S.Store connection).is_open → HasCleanDisk (state S.Store e.1) → (e.0 ≡ OpenFault.Memory) ⊎ (e.0 ≡ OpenFault.Disk)) }
+        ensures version { MatchResult result
+            (λ r. HasCleanDisk (state S.Store r.conn) → (t : Tables) → Holds (state S.Store connection).now t → t.versions ≡ first_tables.versions)
+            (λ e. HasCleanDisk (state S.Store e.1) → (t : Tables) → Holds (state S.Store connection).now t → e.0 ≡ OpenFault.Version → t.versions ≢ first_tables.versions) }
+        ensures foreign { IfErr result (λ e. e.0 ≡ OpenFault.Foreign → IsForeign (state S.Store connection).now.schema) }
+        ensures crash { MatchResult result
+            (λ r. Survives (state S.Store connection) (state S.Store r.conn) (λ db. ((state S.Store connection).now.schema ≡ no_schema) × IsTables [] db))
+            (λ e. Survives (state S.Store connection) (state S.Store e.1) (λ db. ((state S.Store connection).now.schema ≡ no_schema) × IsTables [] db)) }
+    {
+        let mut conn = connection;
+        match settle(alloc, &mut conn) {
+            Ok(()) => {
+                let tried = Past::same(&past);
+                Ok(Register {
+                    conn,
+                    broken: false,
+                    past,
+                    tried,
+                    alloc,
+                })
+            }
+            Err(fault) => Err((fault, conn)),
+        }
+    }
+
+    /// Takes a database that is empty or a register's, and makes the tables of an empty one. The history that it begins
+    /// with is the one that the caller's proof names, where it is true of the database. A database with something
+    /// else is refused as foreign, one of another version as that; both are left as they are.
+    pub fn adopt(
+        alloc: Global,
+        connection: Connection<S>,
+    ) -> Result<Register<S>, (OpenFault, Connection<S>)>
+        ghost past: { Bool × History }
+        requires autocommit { connection.in_transaction ≡ false }
+        requires founded { IsTrue past.0 → IsFounded past.1 (state S.Store connection) }
+        ensures adopted { IfOk result (λ r. (r.is_founded ≡ past.0) × (r.accepted ≡ past.1) × (r.torn ≡ None)) }
+        ensures kept { IfOk result (IsKept S.Store) }
+        ensures taken { IfErr result (λ e. IsTrue past.0 → IsTrue (state S.Store connection).is_open → HasCleanDisk (state S.Store e.1) → (e.0 ≡ OpenFault.Memory) ⊎ (e.0 ≡ OpenFault.Disk)) }
+        ensures version { MatchResult result
+            (λ r. HasCleanDisk (state S.Store r.conn) → (t : Tables) → Holds (state S.Store connection).now t → t.versions ≡ first_tables.versions)
+            (λ e. HasCleanDisk (state S.Store e.1) → (t : Tables) → Holds (state S.Store connection).now t → e.0 ≡ OpenFault.Version → t.versions ≢ first_tables.versions) }
+        ensures foreign { IfErr result (λ e. e.0 ≡ OpenFault.Foreign → IsForeign (state S.Store connection).now.schema) }
+        ensures crash { MatchResult result
+            (λ r. Survives (state S.Store connection) (state S.Store r.conn) (λ db. ((state S.Store connection).now.schema ≡ no_schema) × IsTables [] db))
+            (λ e. Survives (state S.Store connection) (state S.Store e.1) (λ db. ((state S.Store connection).now.schema ≡ no_schema) × IsTables [] db)) }
+    {
+        Register::adopt_as(alloc, connection, Past::of())
+    }
+}
+
+impl Register<MemStore> {
+    ghost use Rattle.sqlite.specs.Steps.{over_memory};
+    ghost use Rattle.kcr_store.specs.Register.{IsKept};
+
+    /// A new register in memory, with no command. It is lost with the process. Only want of memory stops it.
+    pub fn in_memory(alloc: Global) -> Result<Register<MemStore>, OpenFault>
+        ensures { IfOk result (λ r. (r.is_founded ≡ true) × (r.accepted ≡ []) × (r.torn ≡ None) × IsKept over_memory r) }
+    {
+        let Ok(connection) = Connection::open_in_memory(alloc) else {
+            return Err(OpenFault::Memory);
+        };
+        match Register::adopt_as(alloc, connection, Past::of()) {
+            Ok(register) => Ok(register),
+            Err((fault, _)) => Err(fault),
+        }
+    }
+}
+
+impl<S: Alter> Register<S> {
+    ghost use Rattle.kcr_store.specs.Register.{IsKept, LeavesEither, Leaves};
+
+    /// Decides a command as one transaction. Where the machine accepts it, its reply comes only once it is durable.
+    /// A repeat gets the reply that was kept, and changes nothing. A refusal changes nothing; want of memory (33)
+    /// changes nothing either, wherever it comes. A fault of the device (34) breaks the register: a crash may then
+    /// leave the tables before the command or those after it, and every later call answers 35.
+    pub fn apply(&mut self, command: &Command) -> Result<Reply, Refusal>
+        ensures broken { IsSome self.old.torn → (result ≡ Err Refusal.Broken) × (self.new ≡ self.old) }
+        ensures step { IsTrue self.old.is_founded → self.old.torn ≡ None → HasCleanDisk (state S.Store self.new.conn) → Steps self.old.accepted command.now result self.new.accepted }
+        ensures breaks { self.old.torn ≡ None → IsSome self.new.torn ↔ (result ≡ Err Refusal.Disk) }
+        ensures tried { IsTrue self.old.is_founded → self.old.torn ≡ None → HasCleanDisk (state S.Store self.new.conn) → IsNext self.old.accepted command.now (unwrap_or self.new.torn self.new.accepted) }
+        ensures crash { IsTrue self.old.is_founded → self.old.torn ≡ None → LeavesEither self.old.accepted (unwrap_or self.new.torn self.new.accepted) (state S.Store self.new.conn) }
+        ensures served { HasCleanDisk (state S.Store self.new.conn) → OnOk result (IsTrue (state S.Store self.new.conn).is_open) }
+        ensures durable { IsTrue self.old.is_founded → OnOk result (Leaves self.new.accepted (state S.Store self.new.conn)) }
+        ensures clean { HasCleanDisk (state S.Store self.new.conn) → HasCleanDisk (state S.Store self.old.conn) }
+        ensures founded { self.new.is_founded ≡ self.old.is_founded }
+        ensures kept { IsKept S.Store self.new }
+    {
+        if self.broken {
+            return Err(Refusal::Broken);
+        }
+        match perform(self.alloc, &mut self.conn, &self.past, command) {
+            Performed::Accepted(reply, past) => {
+                self.past = past;
+                Ok(reply)
+            }
+            Performed::Refused(Refusal::Disk) => {
+                self.tried = Past::same(&self.past);
+                self.broken = true;
+                Err(Refusal::Disk)
+            }
+            Performed::Refused(refusal) => Err(refusal),
+            Performed::Torn(past) => {
+                self.tried = past;
+                self.broken = true;
+                Err(Refusal::Disk)
+            }
+        }
+    }
+
+    /// Answers a question, and changes nothing. Beside want of memory (33) it meets only a fault of the device (34),
+    /// which breaks the register; every later call then answers 35.
+    pub fn look(&mut self, question: &Question) -> Result<Shown, Refusal>
+        ensures broken { IsSome self.old.torn → (result ≡ Err Refusal.Broken) × (self.new ≡ self.old) }
+        ensures shown { IsTrue self.old.is_founded → self.old.torn ≡ None → HasCleanDisk (state S.Store self.new.conn) → IsAsked self.old.accepted question.now result }
+        ensures cause { self.old.torn ≡ None → IfErr result IsFault }
+        ensures breaks { self.old.torn ≡ None → IsSome self.new.torn ↔ (result ≡ Err Refusal.Disk) }
+        ensures same { self.new.accepted ≡ self.old.accepted }
+        ensures tried { self.old.torn ≡ None → unwrap_or self.new.torn self.new.accepted ≡ self.old.accepted }
+        ensures clean { HasCleanDisk (state S.Store self.new.conn) → HasCleanDisk (state S.Store self.old.conn) }
+        ensures founded { self.new.is_founded ≡ self.old.is_founded }
+        ensures kept { IsKept S.Store self.new }
+    {
+        if self.broken {
+            return Err(Refusal::Broken);
+        }
+        match ask(self.alloc, &mut self.conn, question) {
+            Ok(shown) => Ok(shown),
+            Err(Refusal::Disk) => {
+                self.tried = Past::same(&self.past);
+                self.broken = true;
+                Err(Refusal::Disk)
+            }
+            Err(refusal) => Err(refusal),
+        }
+    }
+
+    /// Whether a fault of the device has broken it.
+    pub fn is_broken(&self) -> bool
+        ensures value { IsTrue result ↔ IsSome self.now.torn }
+        ensures kept { IsKept S.Store self.now }
+    {
+        self.broken
+    }
+
+    /// Breaks it after a fault that a caller met, so that every later call answers 35.
+    pub fn mark_broken(&mut self)
+        ensures same { self.new ≡ record self.old { torn = Some (unwrap_or self.old.torn self.old.accepted) } }
+        ensures kept { IsKept S.Store self.new }
+    {
+        if !self.broken {
+            self.tried = Past::same(&self.past);
+            self.broken = true;
+        }
+    }
+
+    /// Gives the connection back.
+    pub fn close(self) -> Connection<S>
+        ensures { result ≡ self.conn }
+    {
+        let Register {
+            conn,
+            broken: _,
+            past: _,
+            tried: _,
+            alloc: _,
+        } = self;
+        conn
+    }
+}
