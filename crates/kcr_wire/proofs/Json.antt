@@ -1,0 +1,32 @@
+-- Bytes that are text, and a body as JSON.
+use Rattle.std.proofs.Common.{◌≡◌, ℕ, List, Bool, true, false, Some, None, option_and_then, refl, ap, ◌∙◌}
+use Rattle.std.specs.Str.{IsUtf8, is_utf8}
+use Rattle.std.proofs.lemmas.Str.{is_utf8-from_IsUtf8, IsUtf8-from_is_utf8}
+use Rattle.serde_json.specs.Data.{Data}
+use Rattle.serde_json.specs.Read.{read}
+use Rattle.kcr_wire.specs.Targets.{text_in}
+use Rattle.kcr_wire.specs.Members.{json_of}
+
+pub text_in-some : (bytes : List ℕ) → IsUtf8 bytes → text_in bytes ≡ Some bytes
+unfolding text_in
+text_in-some bytes h = rw (is_utf8-from_IsUtf8 bytes h) refl
+
+pub text_in-none : (bytes : List ℕ) → (IsUtf8 bytes → ⊥) → text_in bytes ≡ None
+unfolding text_in
+text_in-none bytes h = at (is_utf8 bytes) refl
+  where
+    at : (v : Bool) → is_utf8 bytes ≡ v → text_in bytes ≡ None
+    at true e = elim (h (IsUtf8-from_is_utf8 bytes e)) [ ]
+    at false e = rw e refl
+
+pub json-some : (body : List ℕ) (d : Data) → IsUtf8 body × (read body ≡ Some d) → json_of body ≡ Some d
+unfolding json_of
+json-some body d h = ap (option_and_then read) (text_in-some body h.0) ∙ h.1
+
+none_at : (body : List ℕ) (v : Bool) → is_utf8 body ≡ v → (IsUtf8 body → read body ≡ None) → option_and_then read (text_in body) ≡ None
+none_at body true e h = let text = IsUtf8-from_is_utf8 body e in ap (option_and_then read) (text_in-some body text) ∙ h text
+none_at body false e h = ap (option_and_then read) (text_in-none body (λ text. let bad = is_utf8-from_IsUtf8 body text in cc))
+
+pub json-none : (body : List ℕ) → (IsUtf8 body → read body ≡ None) → json_of body ≡ None
+unfolding json_of
+json-none body h = none_at body (is_utf8 body) refl h

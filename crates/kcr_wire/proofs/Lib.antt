@@ -1,0 +1,4 @@
+pub mod Tables
+pub mod Json
+pub mod ShowLemmas
+pub mod FormLemmas

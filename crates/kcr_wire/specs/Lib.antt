@@ -1,0 +1,8 @@
+pub mod OrMemory
+pub mod Forms
+pub mod Routes
+pub mod Targets
+pub mod Members
+pub mod Commands
+pub mod Questions
+pub mod Shows

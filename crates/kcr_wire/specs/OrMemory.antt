@@ -1,0 +1,13 @@
+-- Answers that may be want of memory, and one reading after another.
+use Rattle.std.specs.Prelude.{◌≡◌, ◌≢◌, Result, Ok, Err, MatchResult}
+use Rattle.kcr_base.specs.declared.refusal.Refusal.{Refusal}
+use Rattle.kcr_base.specs.declared.refusal.Refusal.TheVariants.{Memory}
+
+-- the answer that is expected, or want of memory
+abbrev pub OrMemory : {T : Type 0} → Result T Refusal → Result T Refusal → Type 0
+OrMemory result expected = MatchResult result (λ v. expected ≡ Ok v) (λ e. e ≢ Memory → expected ≡ Err e)
+
+-- goes on with what was read, or stops at the refusal
+abbrev pub after : {A B : Type 0} → Result A Refusal → (A → Result B Refusal) → Result B Refusal
+after (Ok a) go = go a
+after (Err e) go = Err e
