@@ -52,7 +52,9 @@ pub fn add_item(scene: &Scene, items: &[Item], code: ItemCode) -> Result<Item, R
     ensures { result ≡ unless (Custody.add_item_refusal scene.now items.now code) (record { code = code; rest = Loose scene.now.facility }) }
 {
     if !scene.is_known {
-        return Err(Refusal::Unknown { thing: Thing::Ceremony(scene.ceremony) });
+        return Err(Refusal::Unknown {
+            thing: Thing::Ceremony(scene.ceremony),
+        });
     }
     if rows::rest(items, code).is_some() {
         return Err(Refusal::Taken);
@@ -61,7 +63,9 @@ pub fn add_item(scene: &Scene, items: &[Item], code: ItemCode) -> Result<Item, R
         return Err(refusal);
     }
     if !scene.has_ca {
-        return Err(Refusal::Absent { who: Absentee::Role(Role::Ca) });
+        return Err(Refusal::Absent {
+            who: Absentee::Role(Role::Ca),
+        });
     }
     Ok(Item {
         code,
@@ -90,10 +94,14 @@ fn turn_safe(
     ensures { result ≡ unless (Custody.turn_refusal scene.now safes.now safe is_open by.now) (record { facility = scene.now.facility; safe = safe; is_open = is_open }) }
 {
     if !scene.is_known {
-        return Err(Refusal::Unknown { thing: Thing::Ceremony(scene.ceremony) });
+        return Err(Refusal::Unknown {
+            thing: Thing::Ceremony(scene.ceremony),
+        });
     }
     if !by.is_known {
-        return Err(Refusal::Unknown { thing: Thing::Person(by.who) });
+        return Err(Refusal::Unknown {
+            thing: Thing::Person(by.who),
+        });
     }
     if let Some(refusal) = not_ready(scene) {
         return Err(refusal);
@@ -102,7 +110,9 @@ fn turn_safe(
         return Err(Refusal::Safe);
     }
     if !may_turn(by, safe) {
-        return Err(Refusal::Absent { who: Absentee::Person(by.who) });
+        return Err(Refusal::Absent {
+            who: Absentee::Person(by.who),
+        });
     }
     Ok(SafeRow {
         facility: scene.facility,
@@ -151,11 +161,15 @@ pub fn take(
     ensures { result ≡ unless (Custody.take_refusal scene.now safes.now boxes.now bags.now serial has_holder) (record { serial = serial; spot = Table scene.now.facility }) }
 {
     if !scene.is_known {
-        return Err(Refusal::Unknown { thing: Thing::Ceremony(scene.ceremony) });
+        return Err(Refusal::Unknown {
+            thing: Thing::Ceremony(scene.ceremony),
+        });
     }
     let spot = rows::spot(bags, serial);
     if spot.is_none() {
-        return Err(Refusal::Unknown { thing: Thing::Bag(serial) });
+        return Err(Refusal::Unknown {
+            thing: Thing::Bag(serial),
+        });
     }
     if let Some(refusal) = not_ready(scene) {
         return Err(refusal);
@@ -170,12 +184,16 @@ pub fn take(
         return Err(Refusal::Elsewhere);
     }
     if !scene.has_ca {
-        return Err(Refusal::Absent { who: Absentee::Role(Role::Ca) });
+        return Err(Refusal::Absent {
+            who: Absentee::Role(Role::Ca),
+        });
     }
     if let Some(place) = rows::place_for_take(boxes, bags, scene.facility, serial)
         && !has_holder
     {
-        return Err(Refusal::Absent { who: Absentee::Place(place) });
+        return Err(Refusal::Absent {
+            who: Absentee::Place(place),
+        });
     }
     Ok(Bag {
         serial,
@@ -198,17 +216,23 @@ pub fn put(
     ensures { result ≡ unless (Custody.put_refusal scene.now safes.now boxes.now bags.now serial to has_holder) (record { serial = serial; spot = Custody.spot_of_store scene.now.facility to }) }
 {
     if !scene.is_known {
-        return Err(Refusal::Unknown { thing: Thing::Ceremony(scene.ceremony) });
+        return Err(Refusal::Unknown {
+            thing: Thing::Ceremony(scene.ceremony),
+        });
     }
     let spot = rows::spot(bags, serial);
     if spot.is_none() {
-        return Err(Refusal::Unknown { thing: Thing::Bag(serial) });
+        return Err(Refusal::Unknown {
+            thing: Thing::Bag(serial),
+        });
     }
     let place = rows::place_for_put(boxes, scene.facility, to);
     if let Some(number) = rows::box_of_store(to)
         && place.is_none()
     {
-        return Err(Refusal::Unknown { thing: Thing::Box(number) });
+        return Err(Refusal::Unknown {
+            thing: Thing::Box(number),
+        });
     }
     if let Some(refusal) = not_ready(scene) {
         return Err(refusal);
@@ -220,12 +244,16 @@ pub fn put(
         return Err(Refusal::Elsewhere);
     }
     if !scene.has_ca {
-        return Err(Refusal::Absent { who: Absentee::Role(Role::Ca) });
+        return Err(Refusal::Absent {
+            who: Absentee::Role(Role::Ca),
+        });
     }
     if let Some(place) = place
         && !has_holder
     {
-        return Err(Refusal::Absent { who: Absentee::Place(place) });
+        return Err(Refusal::Absent {
+            who: Absentee::Place(place),
+        });
     }
     Ok(Bag {
         serial,
@@ -238,11 +266,15 @@ fn cut_refusal(scene: &Scene, bags: &[Bag], serial: Serial) -> Option<Refusal>
     ensures { result ≡ Custody.cut_refusal scene.now bags.now serial }
 {
     if !scene.is_known {
-        return Some(Refusal::Unknown { thing: Thing::Ceremony(scene.ceremony) });
+        return Some(Refusal::Unknown {
+            thing: Thing::Ceremony(scene.ceremony),
+        });
     }
     let spot = rows::spot(bags, serial);
     if spot.is_none() {
-        return Some(Refusal::Unknown { thing: Thing::Bag(serial) });
+        return Some(Refusal::Unknown {
+            thing: Thing::Bag(serial),
+        });
     }
     if let Some(refusal) = not_ready(scene) {
         return Some(refusal);
@@ -251,7 +283,9 @@ fn cut_refusal(scene: &Scene, bags: &[Bag], serial: Serial) -> Option<Refusal>
         return Some(Refusal::Elsewhere);
     }
     if !scene.has_ca {
-        return Some(Refusal::Absent { who: Absentee::Role(Role::Ca) });
+        return Some(Refusal::Absent {
+            who: Absentee::Role(Role::Ca),
+        });
     }
     None
 }
@@ -293,10 +327,14 @@ fn seal_refusal(
     ensures { result ≡ Custody.seal_refusal scene.now bags.now items.now serial codes.now }
 {
     if !scene.is_known {
-        return Some(Refusal::Unknown { thing: Thing::Ceremony(scene.ceremony) });
+        return Some(Refusal::Unknown {
+            thing: Thing::Ceremony(scene.ceremony),
+        });
     }
     if let Some(code) = rows::first_missing(items, codes) {
-        return Some(Refusal::Unknown { thing: Thing::Item(code) });
+        return Some(Refusal::Unknown {
+            thing: Thing::Item(code),
+        });
     }
     if rows::spot(bags, serial).is_some() {
         return Some(Refusal::Taken);
@@ -308,7 +346,9 @@ fn seal_refusal(
         return Some(Refusal::Elsewhere);
     }
     if !scene.has_ca {
-        return Some(Refusal::Absent { who: Absentee::Role(Role::Ca) });
+        return Some(Refusal::Absent {
+            who: Absentee::Role(Role::Ca),
+        });
     }
     None
 }

@@ -13,10 +13,18 @@ const OPENING: u64 = 1_739_476_800;
 /// What is told of a refusal: its word, and whom or what it names.
 fn told(refusal: &Refusal) -> &'static str {
     match refusal {
-        Refusal::Unknown { thing: Thing::Box(_) } => "unknown box",
-        Refusal::Absent { who: Absentee::Person(_) } => "absent person",
-        Refusal::Absent { who: Absentee::Place(_) } => "absent place",
-        Refusal::Absent { who: Absentee::Role(_) } => "absent role",
+        Refusal::Unknown {
+            thing: Thing::Box(_),
+        } => "unknown box",
+        Refusal::Absent {
+            who: Absentee::Person(_),
+        } => "absent person",
+        Refusal::Absent {
+            who: Absentee::Place(_),
+        } => "absent place",
+        Refusal::Absent {
+            who: Absentee::Role(_),
+        } => "absent role",
         other => other.word(),
     }
 }

@@ -1,5 +1,5 @@
 -- A decision by the rows of a view is a step of the machine.
-use Rattle.std.proofs.Common.{◌≡◌, ◌≢◌, ℕ, ◌+◌, Bool, true, false, cond, ◌||◌, nat_le, List, [], ◌∷◌, ◌++◌, map, Option, Some, None, option_map, refl, sym, ap, ◌∙◌, Result, Ok, Err, MatchOption}
+use Rattle.std.proofs.Common.{◌≡◌, ℕ, ◌+◌, Bool, true, false, cond, ◌||◌, nat_le, List, [], ◌∷◌, ◌++◌, Option, Some, None, option_map, refl, sym, ap, ◌∙◌, Result, Ok, Err, MatchOption}
 use Rattle.std.specs.List.{list_any}
 use Rattle.kcr_base.specs.Same.{same_text}
 use Rattle.kcr_base.specs.declared.refusal.Refusal.{Refusal}
@@ -14,10 +14,10 @@ use Rattle.kcr_machine.specs.declared.views.KeyRow.{KeyRow}
 use Rattle.kcr_machine.specs.declared.views.Verdict.{Verdict}
 use Rattle.kcr_machine.specs.declared.views.View.{View}
 use Rattle.kcr_machine.specs.History.{History, entry_of, is_person}
-use Rattle.kcr_machine.specs.Texts.{answer_text, command_text, same_command}
+use Rattle.kcr_machine.specs.Texts.{command_text}
 use Rattle.kcr_machine.specs.Tables.{people, keys, key_row, put, tables, changed_by, is_of_person, is_of_key, row_of_key, greatest_number, asks_of, IsViewOf}
-use Rattle.kcr_machine.specs.Machine.{conditions, fault, is_full, Outcome, Accepts, Refuses, answer_to, with_command, acts, repeats, machine, IsRegister, IsAcceptance, IsRepeat, IsDecision}
-use Rattle.kcr_machine.specs.ByRows.{refusal_in, changes_by, new_key_row, next_answer, AcceptsNew, RepeatsRow, IsRowVerdict, IsRowDecision}
+use Rattle.kcr_machine.specs.Machine.{conditions, fault, is_full, Accepts, Refuses, answer_to, with_command, acts, repeats, IsRegister, IsAcceptance, IsRepeat, IsDecision}
+use Rattle.kcr_machine.specs.ByRows.{refusal_in, changes_by, new_key_row, AcceptsNew, RepeatsRow, IsRowVerdict, IsRowDecision}
 use Rattle.kcr_machine.proofs.Words.{is_person-people, row_of_key-keys}
 use Rattle.kcr_machine.proofs.Steps.{refusal-shown, greatest-keys, none_holds, unmet}
 
@@ -45,7 +45,7 @@ refusal-view A x view h v =
 
 -- the changes of an act that has no fault
 changes-of : (A : History) (key : List ℕ) (act : Act) (answer : Answer) → entry_of A key ≡ None → fault A act ≡ None
-  → changed_by (changes_by act ++ PutKey (new_key_row (record { key = key; act = act }) answer) ∷ []) (tables A) ≡ tables (with_command A (record { key = key; act = act }) answer)
+    → changed_by (changes_by act ++ PutKey (new_key_row (record { key = key; act = act }) answer) ∷ []) (tables A) ≡ tables (with_command A (record { key = key; act = act }) answer)
 changes-of A key (Enter who name) answer k f =
     let absent = is_person-people A who ∙ unmet (is_person A who) Taken (none_holds (conditions A (Enter who name)) f).0 in
     let p = put_new (λ new. is_of_person new.who) (record { who = who; name = name }) (people A) absent in
@@ -53,7 +53,7 @@ changes-of A key (Enter who name) answer k f =
     rw (p, q)
 
 accepted : (A : History) (x : Command) (view : View) (verdict : Verdict) (answer : Answer) → IsRegister A → IsViewOf (asks_of x) (tables A) view
-  → entry_of A x.key ≡ None → AcceptsNew view x verdict answer → IsAcceptance A x verdict answer
+    → entry_of A x.key ≡ None → AcceptsNew view x verdict answer → IsAcceptance A x verdict answer
 accepted A x view verdict answer h v k g =
     let next : answer ≡ answer_to A = g.next ∙ ap (λ n. record { accepted = n + 1 }) (v.greatest ∙ greatest-keys A h) in
     let none : fault A x.act ≡ None = sym (refusal-view A x view h v) ∙ g.fine in
@@ -73,16 +73,16 @@ repeated A x view verdict kept k g =
     }
 
 verdict-view : (A : History) (x : Command) (view : View) (verdict : Verdict) → IsRegister A → IsViewOf (asks_of x) (tables A) view
-  → (k : Option Entry) → entry_of A x.key ≡ k → (o : Option Answer) → IsRowVerdict view x verdict (option_map key_row k) o
-  → MatchOption o ((kept : Entry) × IsRepeat A x verdict kept) (IsAcceptance A x verdict)
+    → (k : Option Entry) → entry_of A x.key ≡ k → (o : Option Answer) → IsRowVerdict view x verdict (option_map key_row k) o
+    → MatchOption o ((kept : Entry) × IsRepeat A x verdict kept) (IsAcceptance A x verdict)
 verdict-view A x view verdict h v None e (Some answer) g = accepted A x view verdict answer h v e g
 verdict-view A x view verdict h v (Some kept) e None g = (kept, repeated A x view verdict kept e g)
 verdict-view A x view verdict h v None e None g = absurd g
 verdict-view A x view verdict h v (Some kept) e (Some answer) g = absurd g
 
 refused : (A : History) (x : Command) (view : View) (refusal : Refusal) → IsRegister A → IsViewOf (asks_of x) (tables A) view → (k : Option Entry)
-  → MatchOption (option_map key_row k) (refusal_in view x.act ≡ Some refusal) (λ row. (same_text row.command (command_text x.act) ≡ false) × (refusal ≡ Key))
-  → MatchOption k (acts A x (fault A x.act) (Refuses refusal) A) (λ kept. repeats A x kept (Refuses refusal) A)
+    → MatchOption (option_map key_row k) (refusal_in view x.act ≡ Some refusal) (λ row. (same_text row.command (command_text x.act) ≡ false) × (refusal ≡ Key))
+    → MatchOption k (acts A x (fault A x.act) (Refuses refusal) A) (λ kept. repeats A x kept (Refuses refusal) A)
 refused A x view refusal h v (Some kept) g = (rw (g.0, g.1), refl)
 refused A x view refusal h v None g = rw (sym (refusal-view A x view h v) ∙ g) (refl, refl)
 

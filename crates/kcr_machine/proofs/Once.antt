@@ -1,12 +1,12 @@
 -- No key stands twice in a register.
-use Rattle.std.proofs.Common.{◌≡◌, ℕ, Bool, true, false, cond, not, ◌||◌, ◌&&◌, List, [], ◌∷◌, map, Option, Some, None, find, refl}
+use Rattle.std.proofs.Common.{◌≡◌, ℕ, Bool, true, false, cond, not, ◌||◌, List, [], ◌∷◌, map, Some, None, refl}
 use Rattle.std.specs.List.{list_any}
 use Rattle.std.proofs.lemmas.Bool.{and_from}
 use Rattle.std.proofs.lemmas.Cmp.{nat_list_eq_equiv}
 use Rattle.kcr_base.specs.Same.{same_text}
 use Rattle.kcr_machine.specs.History.{History, entry_of}
 use Rattle.kcr_machine.specs.Machine.{IsRegister}
-use Rattle.kcr_machine.specs.Laws.{all_differ, IsOnce}
+use Rattle.kcr_machine.specs.Laws.{IsOnce}
 use Rattle.kcr_machine.proofs.Steps.{took}
 
 -- where no entry has the key, no key is the same

@@ -1,5 +1,5 @@
 -- The texts of refusals that carry something, in three pieces: before what is carried, what is carried, and behind it.
-use Rattle.std.proofs.Common.{◌≡◌, ℕ, zero, suc, ◌+◌, ◌<◌, Bool, true, false, List, [], ◌∷◌, ◌++◌, map, take, length, get_or, codes, refl, sym, ap, ◌∙◌, append_assoc, arith}
+use Rattle.std.proofs.Common.{◌≡◌, ℕ, zero, suc, ◌+◌, ◌<◌, List, [], ◌∷◌, ◌++◌, map, take, length, get_or, codes, refl, sym, ap, ◌∙◌, append_assoc, arith}
 use Rattle.std.specs.Prelude.{Result, Ok, Err, IfOk}
 use Rattle.std.specs.Fmt.{digits, decimal}
 use Rattle.std.specs.List.{join_with_byte}
@@ -63,7 +63,7 @@ pub script : (x : ℕ) (m : List ℕ) → m ≡ decimal x → codes "{\"number\"
 script x m e = rw (e, nineteen) (simp append_assoc)
 
 order_text : (m : List ℕ) → codes "{\"next\":" ++ (m ++ codes ",\"number\":23,\"refusal\":\"order\"}")
-  ≡ object (member (codes "next") m ∷ member (codes "number") (decimal 23) ∷ member (codes "refusal") (quoted (codes "order")) ∷ [])
+    ≡ object (member (codes "next") m ∷ member (codes "number") (decimal 23) ∷ member (codes "refusal") (quoted (codes "order")) ∷ [])
 unfolding digits
 order_text m = ap (λ rest. codes "{\"next\":" ++ rest) (sym (append_assoc m (codes ",\"number\":23,\"refusal\":\"order\"") (codes "}")))
 
@@ -100,4 +100,4 @@ pub next_position : (xs : List ℕ) (i : ℕ) → 0 < i → i < length xs → jo
 next_position xs i p h =
     let one = take_more xs i 0 h in
     rw (one, map-append decimal (take i xs) (get_or xs i 0 ∷ []))
-      (joined_more (map decimal (take i xs)) (decimal (get_or xs i 0)) ∙ ap (λ c. (join_with_byte 44 (map decimal (take i xs)) ++ c) ++ decimal (get_or xs i 0)) (comma_some xs i p h))
+    (joined_more (map decimal (take i xs)) (decimal (get_or xs i 0)) ∙ ap (λ c. (join_with_byte 44 (map decimal (take i xs)) ++ c) ++ decimal (get_or xs i 0)) (comma_some xs i p h))

@@ -1,5 +1,5 @@
 -- Steps of the machine.
-use Rattle.std.proofs.Common.{◌≡◌, ℕ, ◌+◌, Bool, true, false, List, [], ◌∷◌, map, length, Option, Some, None, max, refl, sym, ap, ◌∙◌, arith, MatchOption}
+use Rattle.std.proofs.Common.{◌≡◌, ◌+◌, Bool, true, false, List, [], ◌∷◌, length, Option, Some, None, refl, ap, arith, MatchOption}
 use Rattle.kcr_base.specs.Refuse.{when, first_of}
 use Rattle.kcr_base.specs.declared.refusal.Refusal.{Refusal}
 use Rattle.kcr_people.specs.declared.Person.{Person}
@@ -8,7 +8,7 @@ use Rattle.kcr_machine.specs.declared.commands.Act.TheVariants.{Enter}
 use Rattle.kcr_machine.specs.declared.commands.Entry.{Entry}
 use Rattle.kcr_machine.specs.History.{History, entry_of}
 use Rattle.kcr_machine.specs.Tables.{people, people_asked, keys, greatest_number, is_of_person, Shows}
-use Rattle.kcr_machine.specs.Machine.{conditions, fault, is_full, Outcome, Accepts, Refuses, answer_to, acts, repeats, machine, IsRegister}
+use Rattle.kcr_machine.specs.Machine.{fault, is_full, Accepts, answer_to, acts, repeats, machine, IsRegister}
 use Rattle.kcr_machine.specs.ByRows.{refusal_by}
 use Rattle.kcr_machine.proofs.Words.{is_person-shown}
 
@@ -26,8 +26,8 @@ longer : {X : Type 0} (x : X) (xs : List X) → x ∷ xs ≡ xs → ⊥
 longer x xs e = omega (arith, ap length e)
 
 took_by : (A : History) (entry : Entry) (k : Option Entry) (f : Option Refusal)
-  → MatchOption k (acts A entry.command f (Accepts entry.answer) (entry ∷ A)) (λ kept. repeats A entry.command kept (Accepts entry.answer) (entry ∷ A))
-  → (k ≡ None) × (f ≡ None) × (entry.answer ≡ answer_to A)
+    → MatchOption k (acts A entry.command f (Accepts entry.answer) (entry ∷ A)) (λ kept. repeats A entry.command kept (Accepts entry.answer) (entry ∷ A))
+    → (k ≡ None) × (f ≡ None) × (entry.answer ≡ answer_to A)
 took_by A entry (Some kept) f h = absurd (longer entry A h.1)
 took_by A entry None (Some refusal) h = absurd (longer entry A h.1)
 took_by A entry None None h = (refl, refl, let e : Accepts entry.answer ≡ Accepts (answer_to A) = h.0 in cc)

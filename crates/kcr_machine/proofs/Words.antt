@@ -1,14 +1,12 @@
 -- The words on the rows of a history's tables, and on the rows of a view, are the words on the history.
-use Rattle.std.proofs.Common.{◌≡◌, ℕ, Bool, true, false, cond, ◌||◌, ◌&&◌, List, [], ◌∷◌, map, filter, find, Option, Some, None, option_map, refl, sym, ap, ◌∙◌}
+use Rattle.std.proofs.Common.{◌≡◌, ℕ, Bool, true, false, cond, ◌||◌, List, [], ◌∷◌, filter, Some, option_map, refl, sym, ap, ◌∙◌}
 use Rattle.std.specs.List.{list_any, cons_option}
-use Rattle.std.specs.List.Sorted.{IsPermutation}
 use Rattle.std.proofs.lemmas.List.Sorted.{list_any-IsPermutation}
 use Rattle.kcr_base.specs.Same.{same_text}
 use Rattle.kcr_people.specs.declared.Person.{Person}
 use Rattle.kcr_people.specs.People.{is_person_by}
 use Rattle.kcr_machine.specs.declared.commands.Act.{Act}
 use Rattle.kcr_machine.specs.declared.commands.Act.TheVariants.{Enter}
-use Rattle.kcr_machine.specs.declared.views.KeyRow.{KeyRow}
 use Rattle.kcr_machine.specs.declared.views.Rows.TheVariants.{Under}
 use Rattle.kcr_machine.specs.History.{History, enters, is_person, entry_of}
 use Rattle.kcr_machine.specs.Tables.{people, person_row, keys, key_row, row_of_key, is_of_person, Shows}

@@ -1,5 +1,5 @@
 -- What a decision says, by the rows of a view.
-use Rattle.std.specs.Prelude.{◌≡◌, ◌≢◌, ℕ, ◌+◌, Bool, true, false, nat_le, List, [], ◌∷◌, ◌++◌, Option, Some, None, MatchOption, MatchResult, Result}
+use Rattle.std.specs.Prelude.{◌≡◌, ◌≢◌, ◌+◌, Bool, true, false, nat_le, List, [], ◌∷◌, ◌++◌, Option, Some, None, MatchOption, MatchResult, Result}
 use Rattle.kcr_base.specs.Same.{same_text}
 use Rattle.kcr_base.specs.declared.refusal.Refusal.{Refusal}
 use Rattle.kcr_base.specs.declared.refusal.Refusal.TheVariants.{Key, Memory}
@@ -65,7 +65,7 @@ IsRowVerdict view x verdict row answer = ⊥
 abbrev pub IsRowDecision : View → Command → Result Verdict Refusal → Type 0
 IsRowDecision view x result =
     MatchResult result
-      (λ verdict. IsRowVerdict view x verdict (row_of_key x.key view.keys.items) verdict.answer)
-      (λ refusal. refusal ≢ Memory → MatchOption (row_of_key x.key view.keys.items)
-        (refusal_in view x.act ≡ Some refusal)
-        (λ row. (same_text row.command (command_text x.act) ≡ false) × (refusal ≡ Key)))
+    (λ verdict. IsRowVerdict view x verdict (row_of_key x.key view.keys.items) verdict.answer)
+    (λ refusal. refusal ≢ Memory → MatchOption (row_of_key x.key view.keys.items)
+    (refusal_in view x.act ≡ Some refusal)
+    (λ row. (same_text row.command (command_text x.act) ≡ false) × (refusal ≡ Key)))

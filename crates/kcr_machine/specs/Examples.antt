@@ -1,5 +1,5 @@
 -- Commands and histories of the worked examples.
-use Rattle.std.specs.Prelude.{List, [], codes}
+use Rattle.std.specs.Prelude.{[], codes}
 use Rattle.kcr_machine.specs.declared.commands.Act.TheVariants.{Enter}
 use Rattle.kcr_machine.specs.declared.commands.Command.{Command}
 use Rattle.kcr_machine.specs.History.{History}

@@ -1,5 +1,5 @@
 -- JSON texts (RFC 8259), compact: no blanks, members and values parted by commas.
-use Rattle.std.specs.Prelude.{ℕ, List, ◌∷◌, ◌++◌, codes}
+use Rattle.std.specs.Prelude.{ℕ, List, ◌++◌, codes}
 use Rattle.std.specs.List.{join_with_byte}
 
 -- a text that needs no escape, in quotes: no register's code, day or moment has a quote, a backslash or a control character

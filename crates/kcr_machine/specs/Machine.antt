@@ -1,5 +1,5 @@
 -- What the register answers to a command, and what its history is afterwards.
-use Rattle.std.specs.Prelude.{◌≡◌, ◌≢◌, ℕ, ◌+◌, Bool, nat_le, List, [], ◌∷◌, length, Option, Some, None, MatchOption, MatchResult, Result, if◌then◌else◌}
+use Rattle.std.specs.Prelude.{◌≡◌, ◌≢◌, ◌+◌, Bool, nat_le, List, [], ◌∷◌, length, Option, Some, None, MatchOption, MatchResult, Result, if◌then◌else◌}
 use Rattle.kcr_base.specs.Refuse.{when, first_of}
 use Rattle.kcr_base.specs.declared.refusal.Refusal.{Refusal}
 use Rattle.kcr_base.specs.declared.refusal.Refusal.TheVariants.{Key, Taken, Full, Memory}
@@ -76,5 +76,5 @@ pub record IsRepeat (A : History) (x : Command) (verdict : Verdict) (kept : Entr
 abbrev pub IsDecision : History → Command → Result Verdict Refusal → Type 0
 IsDecision A x result =
     MatchResult result
-      (λ verdict. MatchOption verdict.answer ((kept : Entry) × IsRepeat A x verdict kept) (IsAcceptance A x verdict))
-      (λ refusal. refusal ≢ Memory → machine A x (Refuses refusal) A)
+    (λ verdict. MatchOption verdict.answer ((kept : Entry) × IsRepeat A x verdict kept) (IsAcceptance A x verdict))
+    (λ refusal. refusal ≢ Memory → machine A x (Refuses refusal) A)

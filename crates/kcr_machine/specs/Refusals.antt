@@ -27,9 +27,9 @@ carries refusal = false
 abbrev pub refused_with : List (List ℕ) → Refusal → List (List ℕ) → List (List ℕ) → List ℕ
 refused_with before refusal between after =
     object
-      (before
-      ++ (member (codes "number") (decimal (number_of refusal)) ∷ between)
-      ++ (member (codes "refusal") (quoted (word_of refusal)) ∷ after))
+    (before
+    ++ (member (codes "number") (decimal (number_of refusal)) ∷ between)
+    ++ (member (codes "refusal") (quoted (word_of refusal)) ∷ after))
 
 -- the JSON text of a refusal: its number, its word, and what it carries
 abbrev pub refusal_text : Refusal → List ℕ

@@ -1,5 +1,5 @@
 -- The tables of a history: for each table its rows, the newest first.
-use Rattle.std.specs.Prelude.{◌≡◌, ℕ, Bool, List, [], ◌∷◌, map, filter, find, Option, Some, None, if◌then◌else◌, max}
+use Rattle.std.specs.Prelude.{◌≡◌, ℕ, Bool, List, [], ◌∷◌, map, filter, find, Option, Some, if◌then◌else◌, max}
 use Rattle.std.specs.List.{list_any}
 use Rattle.std.specs.List.Sorted.{IsPermutation}
 use Rattle.kcr_base.specs.Same.{same_text}

@@ -18,13 +18,12 @@ pub use commands::{Act, Answer, Command, Entry, Reply};
 pub use decision::{asks, decide};
 pub use kcr_base::Text;
 pub use laws::{
-    first_command, keys_stand_once, numbers_count_commands, refusal_examples, refused_commands, repeated_command,
-    repeats_change_nothing, rows_of_a_person_are_enough,
+    first_command, keys_stand_once, numbers_count_commands, refusal_examples, refused_commands,
+    repeated_command, repeats_change_nothing, rows_of_a_person_are_enough,
 };
 pub use refusals::{fixed_text, refusal_text};
 pub use texts::{answer_text, command_text};
 pub use views::{Asks, Change, KeyRow, Rows, Verdict, View};
-
 
 #[cfg(test)]
 mod tests;

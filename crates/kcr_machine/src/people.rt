@@ -9,7 +9,13 @@ use kcr_people::Person;
 use std::alloc::Global;
 
 /// Enters a person: the row to put, or the first refusal.
-pub(crate) fn enter(alloc: Global, view: &View, full: bool, who: Initials, name: &Name) -> Result<Vec<Change>, Refusal>
+pub(crate) fn enter(
+    alloc: Global,
+    view: &View,
+    full: bool,
+    who: Initials,
+    name: &Name,
+) -> Result<Vec<Change>, Refusal>
     ensures { MatchResult result
         (λ changes. HasChanges view.now full (Enter who name.now) changes.items)
         (λ refusal. HasRefusal view.now full (Enter who name.now) refusal) }

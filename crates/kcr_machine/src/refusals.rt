@@ -71,22 +71,77 @@ fn carried_text(alloc: Global, refusal: &Refusal) -> Result<Text, AllocError>
     ensures { IfOk result (λ text. text ≡ Refusals.refusal_text refusal.now) }
 {
     match refusal {
-        Refusal::Form { member } => around(alloc, "{\"member\":\"", member.text(), "\",\"number\":10,\"refusal\":\"form\"}"),
+        Refusal::Form { member } => around(
+            alloc,
+            "{\"member\":\"",
+            member.text(),
+            "\",\"number\":10,\"refusal\":\"form\"}",
+        ),
         Refusal::Unknown { thing } => {
             let thing = thing.text(alloc)?;
-            around(alloc, "{\"number\":12,\"refusal\":\"unknown\",\"thing\":\"", thing.as_str(), "\"}")
+            around(
+                alloc,
+                "{\"number\":12,\"refusal\":\"unknown\",\"thing\":\"",
+                thing.as_str(),
+                "\"}",
+            )
         }
-        Refusal::Settled { day } => around(alloc, "{\"day\":\"", day.code().as_str(), "\",\"number\":18,\"refusal\":\"settled\"}"),
-        Refusal::Script { row } => around(alloc, "{\"number\":19,\"refusal\":\"script\",\"row\":", Buffer::new().format(*row), "}"),
-        Refusal::Late { mark } => around(alloc, "{\"mark\":\"", mark.code().as_str(), "\",\"number\":22,\"refusal\":\"late\"}"),
-        Refusal::Order { next } => around(alloc, "{\"next\":", Buffer::new().format(*next), ",\"number\":23,\"refusal\":\"order\"}"),
-        Refusal::Turn { who } => around(alloc, "{\"number\":24,\"refusal\":\"turn\",\"who\":\"", who.as_str(), "\"}"),
-        Refusal::Lone { moment } => around(alloc, "{\"moment\":\"", moment.code().as_str(), "\",\"number\":26,\"refusal\":\"lone\"}"),
-        Refusal::Absent { who } => around(alloc, "{\"number\":30,\"refusal\":\"absent\",\"who\":\"", who.text().as_str(), "\"}"),
-        Refusal::Unfinished { part } => around(alloc, "{\"number\":31,\"part\":\"", part.text(), "\",\"refusal\":\"unfinished\"}"),
+        Refusal::Settled { day } => around(
+            alloc,
+            "{\"day\":\"",
+            day.code().as_str(),
+            "\",\"number\":18,\"refusal\":\"settled\"}",
+        ),
+        Refusal::Script { row } => around(
+            alloc,
+            "{\"number\":19,\"refusal\":\"script\",\"row\":",
+            Buffer::new().format(*row),
+            "}",
+        ),
+        Refusal::Late { mark } => around(
+            alloc,
+            "{\"mark\":\"",
+            mark.code().as_str(),
+            "\",\"number\":22,\"refusal\":\"late\"}",
+        ),
+        Refusal::Order { next } => around(
+            alloc,
+            "{\"next\":",
+            Buffer::new().format(*next),
+            ",\"number\":23,\"refusal\":\"order\"}",
+        ),
+        Refusal::Turn { who } => around(
+            alloc,
+            "{\"number\":24,\"refusal\":\"turn\",\"who\":\"",
+            who.as_str(),
+            "\"}",
+        ),
+        Refusal::Lone { moment } => around(
+            alloc,
+            "{\"moment\":\"",
+            moment.code().as_str(),
+            "\",\"number\":26,\"refusal\":\"lone\"}",
+        ),
+        Refusal::Absent { who } => around(
+            alloc,
+            "{\"number\":30,\"refusal\":\"absent\",\"who\":\"",
+            who.text().as_str(),
+            "\"}",
+        ),
+        Refusal::Unfinished { part } => around(
+            alloc,
+            "{\"number\":31,\"part\":\"",
+            part.text(),
+            "\",\"refusal\":\"unfinished\"}",
+        ),
         Refusal::Short { seats } => {
             let seats = listed(alloc, *seats)?;
-            around(alloc, "{\"number\":32,\"refusal\":\"short\",\"seats\":[", seats.as_str(), "]}")
+            around(
+                alloc,
+                "{\"number\":32,\"refusal\":\"short\",\"seats\":[",
+                seats.as_str(),
+                "]}",
+            )
         }
         _ => unreachable!(),
     }

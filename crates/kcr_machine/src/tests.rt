@@ -1,6 +1,10 @@
 //! Decisions over views made by hand, and texts.
-use crate::{Act, Change, Command, KeyRow, Rows, Text, View, asks, decide, fixed_text, refusal_text};
-use kcr_base::{Absentee, Initials, Key, Member, Moment, Name, Part, Positions, Refusal, Role, Thing};
+use crate::{
+    Act, Change, Command, KeyRow, Rows, Text, View, asks, decide, fixed_text, refusal_text,
+};
+use kcr_base::{
+    Absentee, Initials, Key, Member, Moment, Name, Part, Positions, Refusal, Role, Thing,
+};
 use kcr_people::Person;
 use std::alloc::Global;
 use std::test::Fail;
@@ -97,7 +101,8 @@ fn a_repeat_gets_the_kept_reply(rt: HostRuntime) -> Result<(), Fail> {
 
 /// The number of the refusal, or 0.
 fn refused(alloc: Global, view: &View, command: &Command) -> u8 {
-    match decide(alloc, view, command) {
+    let decided = decide(alloc, view, command);
+    match &decided {
         Ok(_) => 0,
         Err(refusal) => refusal.number(),
     }
@@ -107,13 +112,31 @@ fn refused(alloc: Global, view: &View, command: &Command) -> u8 {
 fn what_is_refused(rt: HostRuntime) -> Result<(), Fail> {
     let alloc = rt.alloc();
     let view = with_ann(alloc, 1, "{\"accepted\":1}")?;
-    assert_eq!(rt; refused(alloc, &view, &enter(alloc, "k1", "AA", "Ann B")?), 11);
-    assert_eq!(rt; refused(alloc, &view, &enter(alloc, "k2", "AA", "Ann B")?), 13);
-    assert_eq!(rt; refused(alloc, &view, &enter(alloc, "k2", "BB", "Bob Berg")?), 0);
+    assert_eq!(rt;
+        refused(alloc, &view, &enter(alloc, "k1", "AA", "Ann B")?),
+        11
+    );
+    assert_eq!(rt;
+        refused(alloc, &view, &enter(alloc, "k2", "AA", "Ann B")?),
+        13
+    );
+    assert_eq!(rt;
+        refused(alloc, &view, &enter(alloc, "k2", "BB", "Bob Berg")?),
+        0
+    );
     let full = with_ann(alloc, 4_000_000_000, "{\"accepted\":4000000000}")?;
-    assert_eq!(rt; refused(alloc, &full, &enter(alloc, "k1", "AA", "Ann Abel")?), 0);
-    assert_eq!(rt; refused(alloc, &full, &enter(alloc, "k2", "AA", "Ann B")?), 13);
-    assert_eq!(rt; refused(alloc, &full, &enter(alloc, "k2", "BB", "Bob Berg")?), 27);
+    assert_eq!(rt;
+        refused(alloc, &full, &enter(alloc, "k1", "AA", "Ann Abel")?),
+        0
+    );
+    assert_eq!(rt;
+        refused(alloc, &full, &enter(alloc, "k2", "AA", "Ann B")?),
+        13
+    );
+    assert_eq!(rt;
+        refused(alloc, &full, &enter(alloc, "k2", "BB", "Bob Berg")?),
+        27
+    );
     let room_for_one = with_ann(alloc, 3_999_999_999, "{\"accepted\":3999999999}")?;
     let last = decide(alloc, &room_for_one, &enter(alloc, "k2", "BB", "Bob Berg")?)?;
     assert_eq!(rt; last.reply.text.as_str(), "{\"accepted\":4000000000}");
@@ -137,23 +160,71 @@ fn texts_of_refusals(rt: HostRuntime) -> Result<(), Fail> {
     for (refusal, text) in [
         (Refusal::Key, "{\"number\":11,\"refusal\":\"key\"}"),
         (Refusal::Elsewhere, "{\"number\":29,\"refusal\":\"where\"}"),
-        (Refusal::Form { member: Member::Who }, "{\"member\":\"who\",\"number\":10,\"refusal\":\"form\"}"),
-        (Refusal::Unknown { thing: Thing::Ceremony(61) }, "{\"number\":12,\"refusal\":\"unknown\",\"thing\":\"ceremony 61\"}"),
-        (Refusal::Settled { day: at.day() }, "{\"day\":\"2025-02-13\",\"number\":18,\"refusal\":\"settled\"}"),
-        (Refusal::Script { row: 2 }, "{\"number\":19,\"refusal\":\"script\",\"row\":2}"),
-        (Refusal::Late { mark: at }, "{\"mark\":\"2025-02-13T20:10:00Z\",\"number\":22,\"refusal\":\"late\"}"),
-        (Refusal::Order { next: 2 }, "{\"next\":2,\"number\":23,\"refusal\":\"order\"}"),
-        (Refusal::Turn { who }, "{\"number\":24,\"refusal\":\"turn\",\"who\":\"CC\"}"),
-        (Refusal::Lone { moment: at }, "{\"moment\":\"2025-02-13T20:10:00Z\",\"number\":26,\"refusal\":\"lone\"}"),
-        (Refusal::Absent { who: Absentee::Role(Role::Ca) }, "{\"number\":30,\"refusal\":\"absent\",\"who\":\"CA\"}"),
-        (Refusal::Unfinished { part: Part::Table }, "{\"number\":31,\"part\":\"table\",\"refusal\":\"unfinished\"}"),
-        (Refusal::Short { seats }, "{\"number\":32,\"refusal\":\"short\",\"seats\":[1,2]}"),
+        (
+            Refusal::Form {
+                member: Member::Who,
+            },
+            "{\"member\":\"who\",\"number\":10,\"refusal\":\"form\"}",
+        ),
+        (
+            Refusal::Unknown {
+                thing: Thing::Ceremony(61),
+            },
+            "{\"number\":12,\"refusal\":\"unknown\",\"thing\":\"ceremony 61\"}",
+        ),
+        (
+            Refusal::Settled { day: at.day() },
+            "{\"day\":\"2025-02-13\",\"number\":18,\"refusal\":\"settled\"}",
+        ),
+        (
+            Refusal::Script { row: 2 },
+            "{\"number\":19,\"refusal\":\"script\",\"row\":2}",
+        ),
+        (
+            Refusal::Late { mark: at },
+            "{\"mark\":\"2025-02-13T20:10:00Z\",\"number\":22,\"refusal\":\"late\"}",
+        ),
+        (
+            Refusal::Order { next: 2 },
+            "{\"next\":2,\"number\":23,\"refusal\":\"order\"}",
+        ),
+        (
+            Refusal::Turn { who },
+            "{\"number\":24,\"refusal\":\"turn\",\"who\":\"CC\"}",
+        ),
+        (
+            Refusal::Lone { moment: at },
+            "{\"moment\":\"2025-02-13T20:10:00Z\",\"number\":26,\"refusal\":\"lone\"}",
+        ),
+        (
+            Refusal::Absent {
+                who: Absentee::Role(Role::Ca),
+            },
+            "{\"number\":30,\"refusal\":\"absent\",\"who\":\"CA\"}",
+        ),
+        (
+            Refusal::Unfinished { part: Part::Table },
+            "{\"number\":31,\"part\":\"table\",\"refusal\":\"unfinished\"}",
+        ),
+        (
+            Refusal::Short { seats },
+            "{\"number\":32,\"refusal\":\"short\",\"seats\":[1,2]}",
+        ),
     ] {
         assert_eq!(rt; refusal_text(alloc, &refusal)?.as_str(), text);
     }
-    assert_eq!(rt; fixed_text(&Refusal::Memory).ok_or("33")?, "{\"number\":33,\"refusal\":\"memory\"}");
-    assert_eq!(rt; fixed_text(&Refusal::Disk).ok_or("34")?, "{\"number\":34,\"refusal\":\"disk\"}");
-    assert_eq!(rt; fixed_text(&Refusal::Broken).ok_or("35")?, "{\"number\":35,\"refusal\":\"broken\"}");
+    assert_eq!(rt;
+        fixed_text(&Refusal::Memory).ok_or("33")?,
+        "{\"number\":33,\"refusal\":\"memory\"}"
+    );
+    assert_eq!(rt;
+        fixed_text(&Refusal::Disk).ok_or("34")?,
+        "{\"number\":34,\"refusal\":\"disk\"}"
+    );
+    assert_eq!(rt;
+        fixed_text(&Refusal::Broken).ok_or("35")?,
+        "{\"number\":35,\"refusal\":\"broken\"}"
+    );
     assert!(rt; fixed_text(&Refusal::Turn { who }).is_none());
     Ok(())
 }

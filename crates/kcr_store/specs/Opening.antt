@@ -2,9 +2,6 @@
 use Rattle.std.specs.Prelude.{◌≡◌, ◌⊎◌, ◌≢◌, [], None, IsSome, IsTrue, codes, Bool, true, false, Result, MatchResult}
 use Rattle.sqlite.specs.Schema.{Schema}
 use Rattle.sqlite.specs.State.{State, HasCleanDisk}
-use Rattle.sqlite.specs.Tree.{Trees}
-use Rattle.sqlite.specs.Recovery.{Image}
-use Rattle.sqlite.specs.Files.{AreFoundIn, IsEmpty}
 use Rattle.sqlite_schema.specs.Names.{table_named}
 use Rattle.kcr_machine.specs.History.{History}
 use Rattle.kcr_tables.specs.First.{first_tables}
@@ -15,10 +12,11 @@ use Rattle.kcr_store.specs.declared.«open».Standing.{Standing}
 use Rattle.kcr_store.specs.declared.«open».Standing.TheVariants as standing
 use Rattle.kcr_store.specs.Stored.{IsTables, no_schema}
 
--- it has something, and no table of a register's version
+-- it has something, and no table that tells a register's version
 abbrev pub IsForeign : Schema → Type 0
 IsForeign schema = (schema ≢ no_schema) × (table_named schema (codes "versions") ≡ None)
 
+-- what a database is, by its schema
 abbrev pub StandsAs : Schema → Standing → Type 0
 StandsAs schema standing.Empty = schema ≡ no_schema
 StandsAs schema standing.Ours = IsSome (table_named schema (codes "versions"))
@@ -32,14 +30,10 @@ IsVersionAnswer t result = MatchResult result (λ _. t.versions ≡ first_tables
 abbrev pub IsFounded : History → State → Type 0
 IsFounded accepted s = HasCleanDisk s → IsTrue s.is_open → ((s.now.schema ≡ no_schema) × (accepted ≡ [])) ⊎ IsTables accepted s.committed.trees
 
--- of an empty database
+-- what is known of an empty database: it has no history
 abbrev pub fresh : Bool × History
 fresh = (true, [])
 
--- of a database of which nothing is known
+-- and of one of which nothing is known
 abbrev pub unknown : Bool × History
 unknown = (false, [])
-
--- whatever database the files hold, it is empty, or has the tables of the history
-abbrev pub IsFoundedIn : History → Image → Type 0
-IsFoundedIn accepted image = (db : Trees) → AreFoundIn image db → (IsEmpty db × (accepted ≡ [])) ⊎ IsTables accepted db

@@ -7,26 +7,31 @@ use Rattle.kcr_machine.specs.History.{History}
 use Rattle.kcr_store.specs.declared.perform.Performed.{Performed}
 use Rattle.kcr_store.specs.declared.perform.Performed.TheVariants.{Accepted, Refused, Torn}
 
+-- what the caller is answered
 abbrev pub answer_of : Performed → Result Reply Refusal
 answer_of (Accepted r p) = Ok r
 answer_of (Refused e) = Err e
 answer_of (Torn p) = Err Disk
 
+-- the history that stands, after the old one
 abbrev pub history_after : History → Performed → History
 history_after old (Accepted r p) = p.entries
 history_after old (Refused e) = old
 history_after old (Torn p) = old
 
+-- the history that a crash may leave in place of the old one
 abbrev pub tried_after : History → Performed → History
 tried_after old (Accepted r p) = p.entries
 tried_after old (Refused e) = old
 tried_after old (Torn p) = p.entries
 
+-- the commit may stand or not
 abbrev pub is_torn : Performed → Bool
 is_torn (Accepted r p) = false
 is_torn (Refused e) = false
 is_torn (Torn p) = true
 
+-- the flag that goes with the history
 abbrev pub is_founded_after : Bool → Performed → Bool
 is_founded_after old (Accepted r p) = p.is_founded
 is_founded_after old (Refused e) = old

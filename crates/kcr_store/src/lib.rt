@@ -1,4 +1,11 @@
-//! The register kept in a database: its accepted commands as the rows of tables, one transaction for each command.
+//! The register kept in a database, in memory or in files: its accepted commands as the rows of tables.
+//!
+//! `Register::apply` takes a command through one transaction: the rows that the command asks for are read, the machine
+//! decides over them, and the rows that it gives are put and committed before the reply is given. `Register::look`
+//! answers a question in a transaction that is rolled back. A crash at any moment leaves the tables of the commands
+//! that were accepted, or those with the command in hand.
+//!
+//! The history of accepted commands, of which the clauses speak, is ghost data: nothing in memory holds it.
 #![tactic(auto)]
 
 mod open;

@@ -30,8 +30,9 @@ pub enum OpenFault {
 /// The version of the tables.
 const VERSION: u32 = 3;
 
-pub(crate) fn fault_of(refusal: Refusal) -> OpenFault
-    ensures { (result ≡ OpenFault.Memory) ⊎ (result ≡ OpenFault.Disk) }
+fn fault_of(refusal: Refusal) -> OpenFault
+    ensures kind { (result ≡ OpenFault.Memory) ⊎ (result ≡ OpenFault.Disk) }
+    ensures memory { (result ≡ OpenFault.Memory) ↔ (refusal ≡ Refusal.Memory) }
 {
     match refusal {
         Refusal::Memory => OpenFault::Memory,
@@ -39,10 +40,13 @@ pub(crate) fn fault_of(refusal: Refusal) -> OpenFault
     }
 }
 
-pub(crate) fn refusal_of(error: Error) -> Refusal {
+fn fault_of_error(error: Error) -> OpenFault
+    ensures kind { (result ≡ OpenFault.Memory) ⊎ (result ≡ OpenFault.Disk) }
+    ensures memory { (result ≡ OpenFault.Memory) ↔ (error ≡ Error.SqliteFailure ErrorCode.OutOfMemory) }
+{
     match error {
-        Error::SqliteFailure(ErrorCode::OutOfMemory) => Refusal::Memory,
-        _ => Refusal::Disk,
+        Error::SqliteFailure(ErrorCode::OutOfMemory) => OpenFault::Memory,
+        _ => OpenFault::Disk,
     }
 }
 
@@ -84,7 +88,7 @@ fn found<S: Alter>(conn: &mut Connection<S>) -> Result<(), OpenFault>
     }
     match tx.commit() {
         Ok(()) => Ok(()),
-        Err(error) => Err(fault_of(refusal_of(error))),
+        Err(error) => Err(fault_of_error(error)),
     }
 }
 
@@ -98,15 +102,12 @@ fn probe<S: Alter>(conn: &mut Connection<S>) -> Result<(), OpenFault>
 {
     match conn.prepare("SELECT number FROM versions") {
         Ok(_) => Ok(()),
-        Err(error) => Err(fault_of(refusal_of(error))),
+        Err(error) => Err(fault_of_error(error)),
     }
 }
 
 /// The rows of the table of versions, read in a transaction that is rolled back.
-fn read_versions<S: Alter>(
-    alloc: Global,
-    conn: &mut Connection<S>,
-) -> Result<Vec<Version>, Refusal>
+fn read_versions<S: Alter>(alloc: Global, conn: &mut Connection<S>) -> Result<Vec<Version>, Refusal>
     requires autocommit { conn.old.in_transaction ≡ false }
     ensures autocommit { conn.new.in_transaction ≡ false }
     ensures rows { HasCleanDisk (state S.Store conn.new) → (A : History) → (IsTrue (state S.Store conn.old).is_open → Shows A (state S.Store conn.old)) → IfOk result (λ rows. rows.items ≡ first_tables.versions) }

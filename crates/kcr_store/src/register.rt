@@ -124,7 +124,7 @@ impl Register<MemStore> {
     ghost use Rattle.sqlite.specs.Steps.{over_memory};
     ghost use Rattle.kcr_store.specs.Register.{IsKept};
 
-    /// A new register in memory, with no command. It is lost with the process. Only want of memory stops it.
+    /// A new register in memory, with no command. It is lost with the process. Where memory is wanting there is none.
     pub fn in_memory(alloc: Global) -> Result<Register<MemStore>, OpenFault>
         ensures { IfOk result (λ r. (r.is_founded ≡ true) × (r.accepted ≡ []) × (r.torn ≡ None) × IsKept over_memory r) }
     {
@@ -146,13 +146,23 @@ impl<S: Alter> Register<S> {
     /// changes nothing either, wherever it comes. A fault of the device (34) breaks the register: a crash may then
     /// leave the tables before the command or those after it, and every later call answers 35.
     pub fn apply(&mut self, command: &Command) -> Result<Reply, Refusal>
+        // A broken register answers 35 and stays as it is.
         ensures broken { IsSome self.old.torn → (result ≡ Err Refusal.Broken) × (self.new ≡ self.old) }
+
+        // As long as the disk returns what was written, the command is a step of the machine.
         ensures step { IsTrue self.old.is_founded → self.old.torn ≡ None → HasCleanDisk (state S.Store self.new.conn) → Steps self.old.accepted command.now result self.new.accepted }
+
+        // A fault of the device breaks it, and nothing else does. Broken or not, a crash then leaves the tables of the
+        // history, or of the one that was tried.
         ensures breaks { self.old.torn ≡ None → IsSome self.new.torn ↔ (result ≡ Err Refusal.Disk) }
         ensures tried { IsTrue self.old.is_founded → self.old.torn ≡ None → HasCleanDisk (state S.Store self.new.conn) → IsNext self.old.accepted command.now (unwrap_or self.new.torn self.new.accepted) }
         ensures crash { IsTrue self.old.is_founded → self.old.torn ≡ None → LeavesEither self.old.accepted (unwrap_or self.new.torn self.new.accepted) (state S.Store self.new.conn) }
+
+        // After a reply the store serves, and a crash leaves the tables with the command.
         ensures served { HasCleanDisk (state S.Store self.new.conn) → OnOk result (IsTrue (state S.Store self.new.conn).is_open) }
         ensures durable { IsTrue self.old.is_founded → OnOk result (Leaves self.new.accepted (state S.Store self.new.conn)) }
+
+        // A disk that is honest at the end was so at the beginning.
         ensures clean { HasCleanDisk (state S.Store self.new.conn) → HasCleanDisk (state S.Store self.old.conn) }
         ensures founded { self.new.is_founded ≡ self.old.is_founded }
         ensures kept { IsKept S.Store self.new }

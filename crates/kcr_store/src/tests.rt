@@ -20,8 +20,8 @@ fn enter(alloc: Global, key: &str, who: &str, name: &str) -> Result<Command, Fai
 }
 
 /// The reply's text, or the number of the refusal.
-fn told(result: &Result<kcr_machine::Reply, Refusal>) -> (&str, u8) {
-    match result {
+fn told(outcome: &Result<kcr_machine::Reply, Refusal>) -> (&str, u8) {
+    match outcome {
         Ok(reply) => (reply.text.as_str(), 0),
         Err(refusal) => ("", refusal.number()),
     }
@@ -53,7 +53,13 @@ fn first_commands(rt: HostRuntime) -> Result<(), Fail> {
     register.mark_broken();
     assert!(rt; register.is_broken());
     assert_eq!(rt; told(&register.apply(&ann)), ("", 35));
-    assert_eq!(rt; register.look(&Question::People).err().map(|refusal| refusal.number()), Some(35));
+    assert_eq!(rt;
+        register
+            .look(&Question::People)
+            .err()
+            .map(|refusal| refusal.number()),
+        Some(35)
+    );
     Ok(())
 }
 
@@ -84,9 +90,15 @@ fn fault_over(alloc: Global, made: &str) -> Result<Option<OpenFault>, Fail> {
 #[test]
 fn other_databases(rt: HostRuntime) -> Result<(), Fail> {
     let alloc = rt.alloc();
-    assert_eq!(rt; fault_over(alloc, "CREATE TABLE t (a INT)")?, Some(OpenFault::Foreign));
     assert_eq!(rt;
-        fault_over(alloc, "CREATE TABLE versions (number INT NOT NULL, PRIMARY KEY (number)) STRICT; INSERT INTO versions VALUES (9)")?,
+        fault_over(alloc, "CREATE TABLE t (a INT)")?,
+        Some(OpenFault::Foreign)
+    );
+    assert_eq!(rt;
+        fault_over(
+            alloc,
+            "CREATE TABLE versions (number INT NOT NULL, PRIMARY KEY (number)) STRICT; INSERT INTO versions VALUES (9)"
+        )?,
         Some(OpenFault::Version)
     );
     Ok(())

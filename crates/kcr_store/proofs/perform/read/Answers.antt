@@ -15,5 +15,5 @@ returns-clause-shown g c clean accepted had =
     let held : Holds (state g.S.Store c.args.tx.now.conn.now).now t = record { schema = was.schema; kept = was.tables.kept.kept } in
     let rows = c.in_ok-all_people.ensures.rows clean t held in
     elim c.args.question.now as (λ q. IsAsked accepted q (Ok (shown.People c.in_ok-all_people.field-0))) [
-      asked.People ↦ (c.in_ok-all_people.ensures.people clean (tables accepted) (held_in _ _ was), subst IsByInitials (sym rows) (by_initials t.people was.tables.kept.kept.people.rising))
+      | asked.People ↦ (c.in_ok-all_people.ensures.people clean (tables accepted) (held_in _ _ was), subst IsByInitials (sym rows) (by_initials t.people was.tables.kept.kept.people.rising))
     ]
