@@ -1,5 +1,5 @@
 -- What a statement leaves, whatever its text is.
-use Rattle.std.proofs.Common.{◌≡◌, ◌⊎◌, inl, inr, true, ℕ, List, Some, None, Option, Ok, Err, Result, OnOk, OnErr, IfOk, IsTrue, sym, subst, ap, ◌∙◌, rules}
+use Rattle.std.proofs.Common.{◌≡◌, ◌⊎◌, inl, inr, true, ℕ, List, Some, None, Option, Ok, Err, Result, OnOk, IfOk, IsTrue, sym, subst, rules}
 use Rattle.sqlite.specs.Order.{Row}
 use Rattle.sqlite.specs.Effect.{Database}
 use Rattle.sqlite.specs.Clock.{timed}

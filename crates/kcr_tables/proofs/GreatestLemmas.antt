@@ -1,42 +1,36 @@
 -- The row with the greatest number.
 use Rattle.std.proofs.Common.{◌≡◌, ◌⊎◌, inl, inr, ℕ, zero, suc, ◌+◌, ◌<◌, ◌≤◌, ◌^◌, pos, negsuc, length, List, [], ◌∷◌, ◌++◌, map, filter, take, flat_map, cond, codes, true, false, Bool, not, Ok, Some, None, Ordering, Less, Equal, Greater, is_lt, IsSorted, refl, sym, ap, subst, ◌∙◌, arith, true≢false}
-use Rattle.std.specs.List.{AllByRecursion, list_all}
+use Rattle.std.specs.List.{AllByRecursion}
 use Rattle.std.specs.List.Sorted.{IsPermutation}
-use Rattle.std.specs.Ordering.{is_gt, int_cmp, nat_cmp, ordering_reverse}
+use Rattle.std.specs.Ordering.{is_gt, int_cmp, ordering_reverse}
 use Rattle.std.specs.Cmp.{IsTotalOrder}
 use Rattle.std.proofs.lemmas.Cmp.{upto}
 use Rattle.std.proofs.lemmas.Bool.Decides.{nat_tests}
 use Rattle.std.proofs.lemmas.List.Sorted.{IsPermutation-map, IsPermutation-sym, IsPermutation-trans, length_permutation}
-use Rattle.sqlite.specs.declared.types.Value.TheVariants.{Null, Int, Text}
+use Rattle.sqlite.specs.declared.types.Value.TheVariants.{Null, Int}
 use Rattle.sqlite.specs.Order.{Row, column, value_cmp}
-use Rattle.sqlite.specs.Term.{Term, lit, col, op2}
-use Rattle.sqlite.specs.Query.{Query, inner, end, IsAnswer, Output, output, output_cmp, page}
+use Rattle.sqlite.specs.Term.{lit, col}
+use Rattle.sqlite.specs.Query.{Query, inner, end, IsAnswer, Output, output, output_cmp}
 use Rattle.sqlite.specs.Program.{overlay}
 use Rattle.sqlite.specs.Collation.TheVariants.{Binary}
 use Rattle.sqlite.specs.Command.TheVariants.{Select}
-use Rattle.sqlite.specs.Tree.{Trees}
 use Rattle.sqlite.specs.State.{State, Shown}
 use Rattle.sqlite.specs.Listing.{understood, reads_listing}
 use Rattle.sqlite.proofs.Callers.{IsPlain, command_of, reads_as}
-use Rattle.sqlite_sql.specs.declared.ops.BinaryOp.TheVariants.{Compare}
-use Rattle.sqlite_sql.specs.declared.ops.CompareOp.TheVariants.{Eq}
 use Rattle.sqlite_sql.proofs.QueryLemmas.{output_cmp_total}
-use Rattle.sqlite_value.specs.declared.keys.Key.{Key}
-use Rattle.sqlite_value.specs.Keys.{ascending}
 use Rattle.sqlite_value.proofs.OrderLemmas.{value_cmp-Int, then-Equal}
-use Rattle.sqlite_rules.specs.Lists.{Has}
 use Rattle.sqlite_rules.proofs.ListLemmas.{all_has, all_from}
 use Rattle.sqlite_rules.proofs.ProbeLemmas.{mapped_has}
 use Rattle.sqlite_trees.proofs.ListLemmas.{map-map}
 use Rattle.sqlite_tied.specs.Compute.{everything}
 use Rattle.kcr_tables.specs.Schema.{register_schema}
-use Rattle.kcr_tables.specs.Keyed.{cells, Keeps}
+use Rattle.kcr_tables.specs.Keyed.{cells}
 use Rattle.kcr_tables.specs.Rows.{key_row}
 use Rattle.kcr_tables.specs.Greatest.{IsGreatest}
 use Rattle.kcr_machine.specs.declared.views.KeyRow.{KeyRow}
-use Rattle.kcr_tables.specs.Held.{Tables, Holds, keys_place}
-use Rattle.kcr_tables.proofs.ReadLemmas.{reading, matched}
-use Rattle.kcr_tables.proofs.KeysLemmas.{project, order, names, one}
+use Rattle.kcr_tables.specs.Held.{Tables, Holds}
+use Rattle.kcr_tables.proofs.ReadLemmas.{matched}
+use Rattle.kcr_tables.proofs.KeysLemmas.{project, names, one}
 use Rattle.kcr_tables.proofs.TableLemmas.{same_values, filter_every}
 use Rattle.kcr_tables.proofs.PutLemmas.{mapped_from, has_same}
 

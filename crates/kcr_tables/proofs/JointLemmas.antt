@@ -1,11 +1,10 @@
 -- How the rows in the order of their keys meet the machine's rows, which stand in any order.
-use Rattle.std.proofs.Common.{◌≡◌, ◌≢◌, ◌⊎◌, inl, inr, ◌||◌, ◌≤◌, Bool, true, false, cond, ℕ, zero, List, [], ◌∷◌, ◌++◌, map, drop, filter, find, fold, max, Option, Some, None, refl, sym, ap, subst, ◌∙◌, true≢false, arith, IsPermutation, Ordering, Less, Equal, Greater}
+use Rattle.std.proofs.Common.{◌≡◌, ◌≢◌, ◌||◌, Bool, true, false, cond, ℕ, List, [], ◌∷◌, map, drop, refl, sym, ap, subst, ◌∙◌, true≢false, IsPermutation, Ordering, Less, Equal, Greater}
 use Rattle.std.specs.Prelude.{bytes_eq}
 use Rattle.std.specs.List.{list_any, AllByRecursion}
 use Rattle.std.specs.Ordering.{match_ordering, is_eq, ordering_reverse}
 use Rattle.std.specs.Cmp.{IsTotalOrder}
-use Rattle.std.proofs.lemmas.Cmp.{on_total, tied_back}
-use Rattle.std.proofs.lemmas.Bool.{or_parts, cases_Bool}
+use Rattle.std.proofs.lemmas.Cmp.{on_total}
 use Rattle.std.proofs.lemmas.Map.Text.{is_eq-slice_cmp}
 use Rattle.std.proofs.lemmas.List.Sorted.{IsPermutation-cons, IsPermutation-map, IsPermutation-refl, IsPermutation-sym, IsPermutation-trans, IsPermutation-middle, list_any-IsPermutation}
 use Rattle.sqlite.specs.declared.types.Value.TheVariants.{Text}
@@ -15,22 +14,17 @@ use Rattle.sqlite.specs.Effect.{Database}
 use Rattle.sqlite_value.specs.Keys.{rising}
 use Rattle.sqlite_value.proofs.OrderLemmas.{value_cmp-Text, then-Equal}
 use Rattle.sqlite_sql.proofs.QueryLemmas.{key_cmp_total}
-use Rattle.sqlite_rules.specs.Lists.{Has}
-use Rattle.sqlite_rules.proofs.ListLemmas.{all_has, all_from}
-use Rattle.sqlite_trees.proofs.ListLemmas.{all_from_map, ascending-map, filter_all, IsPermutation-filter}
-use Rattle.kcr_people.specs.declared.Person.{Person}
-use Rattle.kcr_machine.specs.declared.views.KeyRow.{KeyRow}
+use Rattle.sqlite_trees.proofs.ListLemmas.{all_from_map}
 use Rattle.kcr_machine.specs.declared.views.Change.{Change}
 use Rattle.kcr_machine.specs.declared.views.Change.TheVariants.{PutPerson, PutKey}
 use Rattle.kcr_machine.specs.Tables as machine
-use Rattle.kcr_tables.specs.Schema.{register_schema}
-use Rattle.kcr_tables.specs.Keyed.{by_key, put, put_in, Place, Keeps}
+use Rattle.kcr_tables.specs.Keyed.{by_key, put_in}
 use Rattle.kcr_tables.specs.Rows.{person_row, key_row}
 use Rattle.kcr_tables.specs.Held.{Tables, Kept, Holds}
 use Rattle.kcr_tables.specs.First.{first_tables}
 use Rattle.kcr_tables.specs.Changed.{changed, changed_all}
-use Rattle.kcr_tables.specs.Joint.{Stands, KeepsTables, HoldsTables}
-use Rattle.kcr_tables.proofs.PutLemmas.{put_rising, has_same}
+use Rattle.kcr_tables.specs.Joint.{Stands, HoldsTables}
+use Rattle.kcr_tables.proofs.PutLemmas.{put_rising}
 use Rattle.kcr_tables.proofs.TableLemmas.{put_in_rows}
 
 -- ---- a row put in its place is the row put anywhere, up to order
@@ -86,6 +80,7 @@ module _ {X : Type 0} (keys : ℕ) (row_of : X → Row) (new : X) where
           → IsPermutation (cond b (x ∷ map (λ old. cond (same new old) new old) xs) (new ∷ x ∷ xs)) (x ∷ put_in keys row_of new xs)
       less true ih = IsPermutation-cons x _ _ ih
       less false ih = IsPermutation-trans _ _ _ (IsPermutation-sym _ _ (IsPermutation-middle (x ∷ []) new xs)) (IsPermutation-cons x _ _ ih)
+
       by_order : (o : Ordering) → cmp x new ≡ o → IsPermutation (machine.put same new xs) (put_in keys row_of new xs)
           → IsPermutation (cond (is_eq o || list_any (same new) xs) (cond (is_eq o) new x ∷ map (λ old. cond (same new old) new old) xs) (new ∷ x ∷ xs))
           (match_ordering o (x ∷ put_in keys row_of new xs) (new ∷ xs) (new ∷ x ∷ xs))

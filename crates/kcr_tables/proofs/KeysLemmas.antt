@@ -1,20 +1,18 @@
 -- The statements on the table keys.
-use Rattle.std.proofs.Common.{◌≡◌, ℕ, ◌&&◌, not, pos, List, [], ◌∷◌, map, filter, codes, true, false, Bool, Ok, refl, sym, subst, ◌∙◌}
+use Rattle.std.proofs.Common.{◌≡◌, ℕ, ◌&&◌, not, pos, List, [], ◌∷◌, map, filter, codes, true, false, Ok, refl, sym, subst, ◌∙◌}
 use Rattle.std.specs.Prelude.{bytes_eq}
 use Rattle.std.specs.List.Sorted.{IsPermutation}
-use Rattle.sqlite.specs.declared.types.Value.TheVariants.{Null, Int, Text}
-use Rattle.sqlite.specs.Order.{Row}
+use Rattle.sqlite.specs.declared.types.Value.TheVariants.{Null, Text}
 use Rattle.sqlite.specs.Term.{Term, lit, col, op2}
 use Rattle.sqlite.specs.Collation.TheVariants.{Binary}
 use Rattle.sqlite.specs.Source.TheVariants.{Values}
-use Rattle.sqlite.specs.Command.TheVariants.{Insert, InsertOr, Select}
+use Rattle.sqlite.specs.Command.TheVariants.{Insert, Select}
 use Rattle.sqlite.specs.Cast.{cast_all}
 use Rattle.sqlite.specs.Tree.{Trees}
 use Rattle.sqlite.specs.State.{State, Executes, Shown}
 use Rattle.sqlite.specs.Listing.{understood, reads_listing}
 use Rattle.sqlite.proofs.Callers.{IsPlain, command_of}
 use Rattle.sqlite_schema.specs.declared.schema.Column.{Column}
-use Rattle.sqlite_schema.specs.declared.command.Conflict.TheVariants.{Replace}
 use Rattle.sqlite_schema.specs.Rules.{clashes}
 use Rattle.sqlite_sql.specs.declared.ops.BinaryOp.TheVariants.{Compare}
 use Rattle.sqlite_sql.specs.declared.ops.CompareOp.TheVariants.{Eq}
@@ -29,7 +27,7 @@ use Rattle.kcr_tables.specs.Held.{Tables, Kept, Holds, people_place, versions_pl
 use Rattle.kcr_tables.proofs.ReadLemmas.{reading}
 use Rattle.kcr_tables.proofs.FilterLemmas.{has_text, has_text_is, filter_as}
 use Rattle.kcr_tables.proofs.WriteLemmas.{cast_int}
-use Rattle.kcr_tables.proofs.TableLemmas.{Changes, executes_put, executes_insert, keeps_still, put_in_rows, shown_values, shown_exact, filter_every}
+use Rattle.kcr_tables.proofs.TableLemmas.{Changes, executes_insert, keeps_still, put_in_rows, shown_values, shown_exact, filter_every}
 
 abbrev pub project : List Term
 project = col 1 1 ∷ col 1 2 ∷ col 1 3 ∷ col 1 4 ∷ []

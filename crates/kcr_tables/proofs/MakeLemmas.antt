@@ -1,6 +1,5 @@
 -- One CREATE TABLE after the other.
-use Rattle.std.proofs.Common.{◌≡◌, ◌⊎◌, inl, inr, ℕ, zero, suc, ◌+◌, ◌<◌, List, [], ◌∷◌, ◌++◌, take, map, length, false, Bool, slice_index_or, Some, None, Ok, Err, Result, refl, sym, ap, subst, ◌∙◌, arith}
-use Rattle.std.specs.List.{AllByRecursion}
+use Rattle.std.proofs.Common.{◌≡◌, ◌⊎◌, inl, inr, ℕ, zero, suc, ◌+◌, ◌<◌, List, [], ◌∷◌, ◌++◌, take, false, None, Ok, Err, Result, refl, sym, ap, subst, ◌∙◌, arith}
 use Rattle.sqlite.specs.Tree.{Trees}
 use Rattle.sqlite.specs.Schema.{Schema}
 use Rattle.sqlite.specs.Table.{Table}
@@ -18,7 +17,7 @@ use Rattle.sqlite.specs.Change.{KeepsRows}
 use Rattle.sqlite.specs.State.{Writes}
 use Rattle.sqlite_trees.proofs.ListLemmas.{all-append}
 use Rattle.kcr_tables.specs.Schema.{all_tables, people, versions, keys}
-use Rattle.kcr_tables.specs.Made.{texts, text_at, first, AreEmpty}
+use Rattle.kcr_tables.specs.Made.{text_at, first, AreEmpty}
 
 -- a part that gave a value did not stop on the way
 went : {B E R : Type 0} {b : B} {Stops : E → Type 0} → ((stop : E) × Stops stop × (◌≡◌ {A = Result B E} (Ok b) (Err stop))) ⊎ R → R

@@ -1,5 +1,5 @@
 -- The trees of a file tell its schema.
-use Rattle.std.proofs.Common.{refl, filter, pos, ◌+◌, arith, false, ◌≡◌, ℕ, ◌<◌, true, true≢false, subst₂, slice_get, ◌++◌, inl, inr, List, [], ◌∷◌, Some, Result, Ok, codes, sym, ap, subst, ◌∙◌}
+use Rattle.std.proofs.Common.{refl, filter, pos, ◌+◌, arith, false, ◌≡◌, ℕ, ◌<◌, true≢false, subst₂, slice_get, inl, inr, List, [], ◌∷◌, Some, Result, Ok, codes, sym, ap, subst, ◌∙◌}
 use Rattle.std.specs.List.{AllZip}
 use Rattle.std.specs.Fmt.{decimal}
 use Rattle.std.proofs.lemmas.Fmt.{decimal_injective}

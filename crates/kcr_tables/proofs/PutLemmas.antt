@@ -1,20 +1,19 @@
 -- A row that is put under its key, in the list and in the tree.
-use Rattle.std.proofs.Common.{◌≡◌, ◌⊎◌, inl, inr, ℕ, ℤ, zero, suc, ◌+◌, ◌&&◌, ◌||◌, not, Bool, true, false, cond, List, [], ◌∷◌, ◌++◌, map, filter, refl, sym, ap, subst, ◌∙◌, Ordering, Less, Equal, Greater, IsTrue, None, true≢false}
+use Rattle.std.proofs.Common.{◌≡◌, inl, inr, ℕ, ℤ, ◌&&◌, ◌||◌, not, Bool, true, false, List, [], ◌∷◌, map, filter, refl, sym, ap, subst, ◌∙◌, Ordering, Less, Equal, Greater, IsTrue, None, true≢false}
 use Rattle.std.specs.List.{AllByRecursion, list_any}
 use Rattle.std.specs.Ordering.{is_eq, match_ordering, ordering_reverse}
 use Rattle.std.specs.Cmp.{IsTotalOrder, both_ways}
 use Rattle.std.specs.List.Sorted.{IsPermutation}
 use Rattle.std.proofs.lemmas.Bool.{or_parts}
-use Rattle.std.proofs.lemmas.Cmp.{on_total, tied_itself, tied_back}
+use Rattle.std.proofs.lemmas.Cmp.{on_total, tied_itself}
 use Rattle.std.proofs.lemmas.List.Sorted.{IsPermutation-refl, IsPermutation-map, IsPermutation-sym, IsPermutation-trans, IsPermutation-cons, IsPermutation-middle}
-use Rattle.sqlite.specs.declared.types.Value.{Value}
-use Rattle.sqlite.specs.declared.types.Value.TheVariants.{Null, Int}
-use Rattle.sqlite.specs.Order.{Row, column, value_cmp}
+use Rattle.sqlite.specs.declared.types.Value.TheVariants.{Int}
+use Rattle.sqlite.specs.Order.{Row, value_cmp}
 use Rattle.sqlite.specs.Tree.{Trees, IsAscending, rowid, has_rowid, put_row, without_rowid}
 use Rattle.sqlite_trees.specs.View.{is_int, IsShaped}
 use Rattle.sqlite_trees.specs.declared.store.Shape.TheVariants as shape
 use Rattle.sqlite_trees.proofs.TreeLemmas.{above, IsShaped-put_row, IsShaped-filter}
-use Rattle.sqlite_trees.proofs.ListLemmas.{filter-map, filter_all, filter_same, all_weaker, all-permutation, IsPermutation-filter, IsPermutation-same}
+use Rattle.sqlite_trees.proofs.ListLemmas.{filter-map, filter_all, filter_same, all_weaker, all-permutation, IsPermutation-filter}
 use Rattle.sqlite_value.specs.Keys.{rising}
 use Rattle.sqlite_value.proofs.OrderLemmas.{value_cmp_total}
 use Rattle.sqlite_sql.proofs.QueryLemmas.{key_cmp_total}

@@ -1,14 +1,13 @@
 -- What one statement on a table with a key does to what the trees keep.
-use Rattle.std.proofs.Common.{◌≡◌, ◌≢◌, ◌⊎◌, inl, inr, ◌==◌, not, ℕ, ℤ, zero, suc, ◌+◌, ◌/◌, ◌^◌, nat_le, ◌||◌, ◌&&◌, Bool, true, false, cond, List, [], ◌∷◌, ◌++◌, map, filter, length, slice_get, Some, None, Ok, Ordering, Less, Equal, Greater, IsTrue, append-nil, eq-eqb, refl, sym, ap, subst, subst₂, ◌∙◌, true≢false}
+use Rattle.std.proofs.Common.{◌≡◌, ◌≢◌, inl, inr, ◌==◌, not, ℕ, ℤ, zero, suc, ◌/◌, ◌^◌, nat_le, ◌||◌, ◌&&◌, Bool, true, false, List, [], ◌∷◌, ◌++◌, map, filter, length, slice_get, Some, None, Ok, Less, Equal, Greater, IsTrue, eq-eqb, refl, sym, ap, subst, ◌∙◌, true≢false}
 use Rattle.std.specs.List.{AllByRecursion, list_any, list_all}
 use Rattle.std.specs.Ordering.{match_ordering, is_eq}
 use Rattle.std.specs.List.Sorted.{IsPermutation}
 use Rattle.std.proofs.lemmas.Bool.{and_parts, not-true}
-use Rattle.sqlite.specs.declared.types.Value.{Value}
 use Rattle.sqlite.specs.declared.types.Value.TheVariants.{Null, Int}
-use Rattle.sqlite.specs.Order.{Row, column}
-use Rattle.sqlite.specs.Term.{Term, eval_all, holds}
-use Rattle.sqlite.specs.Query.{Query, key_cmp, output, output_cmp}
+use Rattle.sqlite.specs.Order.{Row}
+use Rattle.sqlite.specs.Term.{Term, holds}
+use Rattle.sqlite.specs.Query.{key_cmp, output, output_cmp}
 use Rattle.sqlite.specs.Cast.{cast_all}
 use Rattle.sqlite.specs.Tree.{Trees, rowid, put_row}
 use Rattle.sqlite.specs.Table.{Table}
@@ -18,7 +17,7 @@ use Rattle.sqlite.specs.Source.TheVariants.{Values}
 use Rattle.sqlite.specs.Command.TheVariants.{Insert, InsertOr, Select}
 use Rattle.sqlite.specs.Edit.{id_in, next_rowid, without_all, IsNoIndex}
 use Rattle.sqlite.specs.Rowids.TheVariants.{Chosen}
-use Rattle.sqlite.specs.Effect.{Database, value_rows}
+use Rattle.sqlite.specs.Effect.{value_rows}
 use Rattle.sqlite.specs.Rows.{mended_from}
 use Rattle.sqlite.specs.Does.{Does}
 use Rattle.sqlite.specs.State.{State, mode_of, Executes, Shown}

@@ -1,13 +1,11 @@
 -- The statements on the table versions.
-use Rattle.std.proofs.Common.{◌≡◌, ℕ, ◌&&◌, not, pos, List, [], ◌∷◌, map, filter, codes, true, false, Bool, Ok, refl, sym, subst, ◌∙◌}
-use Rattle.std.specs.Prelude.{bytes_eq}
+use Rattle.std.proofs.Common.{◌≡◌, ℕ, pos, List, [], ◌∷◌, map, codes, true, false, Ok, refl, sym, subst, ◌∙◌}
 use Rattle.std.specs.List.Sorted.{IsPermutation}
-use Rattle.sqlite.specs.declared.types.Value.TheVariants.{Null, Int, Text}
-use Rattle.sqlite.specs.Order.{Row}
-use Rattle.sqlite.specs.Term.{Term, lit, col, op2}
+use Rattle.sqlite.specs.declared.types.Value.TheVariants.{Null}
+use Rattle.sqlite.specs.Term.{Term, lit, col}
 use Rattle.sqlite.specs.Collation.TheVariants.{Binary}
 use Rattle.sqlite.specs.Source.TheVariants.{Values}
-use Rattle.sqlite.specs.Command.TheVariants.{Insert, InsertOr, Select}
+use Rattle.sqlite.specs.Command.TheVariants.{InsertOr, Select}
 use Rattle.sqlite.specs.Cast.{cast_all}
 use Rattle.sqlite.specs.Tree.{Trees}
 use Rattle.sqlite.specs.State.{State, Executes, Shown}
@@ -15,21 +13,17 @@ use Rattle.sqlite.specs.Listing.{understood, reads_listing}
 use Rattle.sqlite.proofs.Callers.{IsPlain, command_of}
 use Rattle.sqlite_schema.specs.declared.schema.Column.{Column}
 use Rattle.sqlite_schema.specs.declared.command.Conflict.TheVariants.{Replace}
-use Rattle.sqlite_schema.specs.Rules.{clashes}
-use Rattle.sqlite_sql.specs.declared.ops.BinaryOp.TheVariants.{Compare}
-use Rattle.sqlite_sql.specs.declared.ops.CompareOp.TheVariants.{Eq}
 use Rattle.sqlite_value.specs.declared.keys.Key.{Key}
-use Rattle.sqlite_value.specs.Keys.{ascending, plain}
+use Rattle.sqlite_value.specs.Keys.{ascending}
 use Rattle.sqlite_tied.specs.Compute.{everything}
-use Rattle.kcr_tables.specs.Schema.{register_schema, words, number}
+use Rattle.kcr_tables.specs.Schema.{register_schema, number}
 use Rattle.kcr_tables.specs.Keyed.{cells, Keeps, put_in}
 use Rattle.kcr_tables.specs.Rows.{version_row}
 use Rattle.kcr_tables.specs.declared.versions.Version.{Version}
 use Rattle.kcr_tables.specs.Held.{Tables, Kept, Holds, people_place, versions_place, keys_place}
 use Rattle.kcr_tables.proofs.ReadLemmas.{reading}
-use Rattle.kcr_tables.proofs.FilterLemmas.{has_text, has_text_is, filter_as}
 use Rattle.kcr_tables.proofs.WriteLemmas.{cast_int}
-use Rattle.kcr_tables.proofs.TableLemmas.{Changes, executes_put, executes_insert, keeps_still, put_in_rows, shown_values, shown_exact, filter_every}
+use Rattle.kcr_tables.proofs.TableLemmas.{Changes, executes_put, keeps_still, put_in_rows, shown_values, shown_exact, filter_every}
 
 abbrev pub project : List Term
 project = col 1 1 ∷ []

@@ -1,19 +1,14 @@
 -- The rows that are read are those that a decision asks for.
-use Rattle.std.proofs.Common.{◌≡◌, ◌⊎◌, inl, inr, ◌||◌, ◌≤◌, Bool, true, false, cond, ℕ, zero, List, [], ◌∷◌, ◌++◌, filter, find, max, Option, Some, None, refl, sym, ap, subst, ◌∙◌, true≢false, arith, IsPermutation, Ordering, Less, Equal, Greater, map, drop}
+use Rattle.std.proofs.Common.{◌≡◌, ◌⊎◌, inl, inr, ◌≤◌, Bool, true, false, cond, ℕ, List, [], ◌∷◌, ◌++◌, filter, find, Option, Some, None, refl, sym, ap, subst, ◌∙◌, true≢false, arith, IsPermutation, Ordering, Less, Equal, Greater, drop}
 use Rattle.std.specs.Prelude.{bytes_eq}
 use Rattle.std.proofs.lemmas.Slice.Eq.{bytes_eq-Decides}
-use Rattle.std.specs.List.{AllByRecursion}
 use Rattle.std.specs.Ordering.{is_eq}
-use Rattle.std.specs.Cmp.{IsTotalOrder}
-use Rattle.std.proofs.lemmas.Cmp.{on_total, tied_back}
-use Rattle.std.proofs.lemmas.Bool.{cases_Bool}
+use Rattle.std.proofs.lemmas.Cmp.{tied_back}
 use Rattle.std.proofs.lemmas.List.Sorted.{IsPermutation-sym}
-use Rattle.sqlite.specs.Order.{Row}
 use Rattle.sqlite.specs.Tree.{IsAscending}
 use Rattle.sqlite_rules.specs.Lists.{Has}
-use Rattle.sqlite_rules.proofs.ListLemmas.{all_has, all_from}
-use Rattle.sqlite_trees.proofs.ListLemmas.{filter_all, IsPermutation-filter}
-use Rattle.kcr_people.specs.declared.Person.{Person}
+use Rattle.sqlite_rules.proofs.ListLemmas.{all_has}
+use Rattle.sqlite_trees.proofs.ListLemmas.{IsPermutation-filter}
 use Rattle.kcr_machine.specs.declared.views.KeyRow.{KeyRow}
 use Rattle.kcr_machine.specs.declared.views.Asks.{Asks}
 use Rattle.kcr_machine.specs.declared.views.View.{View}

@@ -1,20 +1,18 @@
 -- What INSERT and INSERT OR REPLACE of one row do to a table with a key.
-use Rattle.std.proofs.Common.{◌≡◌, ◌≢◌, ◌⊎◌, inl, inr, ℕ, ℤ, zero, suc, ◌+◌, ◌/◌, pos, ◌&&◌, ◌||◌, not, Bool, true, false, cond, List, [], ◌∷◌, ◌++◌, map, drop, length, slice_get, Option, Some, None, Result, Ok, Err, refl, sym, ap, subst, ◌∙◌}
+use Rattle.std.proofs.Common.{◌≡◌, ◌≢◌, ◌⊎◌, inl, inr, ℕ, ℤ, suc, ◌/◌, Bool, true, false, cond, List, [], ◌∷◌, ◌++◌, length, slice_get, Option, Some, None, Result, Ok, Err, refl, sym, ap, subst, ◌∙◌}
 use Rattle.std.proofs.lemmas.Bool.{and_parts, not-true}
-use Rattle.sqlite.specs.declared.types.Value.{Value}
-use Rattle.sqlite.specs.declared.types.Value.TheVariants.{Null, Int, Text}
-use Rattle.sqlite.specs.Order.{Row, column}
+use Rattle.sqlite.specs.declared.types.Value.TheVariants.{Null, Int}
+use Rattle.sqlite.specs.Order.{Row}
 use Rattle.sqlite.specs.Term.{Term}
 use Rattle.sqlite.specs.Ops.{unary}
 use Rattle.sqlite.specs.Cast.{cast, cast_all, cast_row}
-use Rattle.sqlite.specs.Tree.{Trees, put_row, rowid}
+use Rattle.sqlite.specs.Tree.{Trees, put_row}
 use Rattle.sqlite.specs.Table.{Table}
 use Rattle.sqlite.specs.Schema.{Schema}
-use Rattle.sqlite.specs.Kind.{Kind}
 use Rattle.sqlite.specs.Kind.TheVariants as kind
 use Rattle.sqlite.specs.Source.TheVariants.{Values}
 use Rattle.sqlite.specs.Command.TheVariants.{Insert, InsertOr}
-use Rattle.sqlite.specs.Edit.{Edit, edit_of, edited, with_rowid, next_rowid, without_all, is_taken, are_fresh, IsNoIndex, Applies, taken_by}
+use Rattle.sqlite.specs.Edit.{edit_of, with_rowid, next_rowid, without_all, is_taken, are_fresh, IsNoIndex, taken_by}
 use Rattle.sqlite.specs.Rowids.TheVariants.{Chosen, Given}
 use Rattle.sqlite_schema.specs.Rules.{Fits}
 use Rattle.sqlite_schema.specs.declared.schema.Column.{Column}
@@ -28,7 +26,6 @@ use Rattle.sqlite_rules.specs.Action.{works}
 use Rattle.sqlite.specs.Does.{Tally, Does}
 use Rattle.sqlite.specs.Effect.{Database, value_rows}
 use Rattle.sqlite.specs.Rows.{Written, Task, mended, mended_from, nothing, count_of, Puts, Clears, Judged, Tries, TriesEach}
-use Rattle.sqlite.specs.declared.run.Mode.{Mode}
 use Rattle.sqlite.proofs.Callers.{one_step}
 use Rattle.kcr_tables.specs.Schema.{keyed}
 
@@ -102,8 +99,7 @@ module _ (schema : Schema) (at : ℕ) (name : List ℕ) (tree : ℕ) (columns : 
       let applies = one_step schema Enforced trees edited_as.0 (edit wrote.0) (alone (taken_by trees (edit wrote.0)) (edit wrote.0).news) edited_as.1 in
       let free : is_taken (trees tree) (new trees) ≡ false = not-true _ (and_parts _ _ (subst (λ rows. are_fresh (trees tree) rows ≡ true) news_is applies.fresh)).0 in
       let row_is : edited_as.0 tree ≡ put_row (new trees) (trees tree) = applies.rows ∙ ap (put_all (trees tree)) news_is in
-      let trees_is : next.trees ≡ edited_as.0 = ap (λ (d : Database). d.trees) now ∙ ap (λ (w : Written). w.trees) (same_value last.2) ∙ same_value last.1 in
-      (
+      let trees_is : next.trees ≡ edited_as.0 = ap (λ (d : Database). d.trees) now ∙ ap (λ (w : Written). w.trees) (same_value last.2) ∙ same_value last.1 in (
         ap (λ (d : Database). d.schema) now,
         subst (λ t. IsInserted schema table trees t values) (sym trees_is) (record { free = free; is = row_is; fits = applies.fits; others = applies.others }),
       )

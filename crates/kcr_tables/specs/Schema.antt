@@ -1,6 +1,6 @@
 -- The schema: three tables, each with the index that its key gets, and the keys with a second one.
 use Rattle.sqlite.specs.Collation.TheVariants.{Binary}
-use Rattle.std.specs.Prelude.{true, false, Bool, [], ◌∷◌, ◌++◌, None, codes, List, ℕ, ◌+◌, map, flat_map}
+use Rattle.std.specs.Prelude.{true, false, Bool, [], ◌∷◌, None, codes, List, ℕ, ◌+◌, map, flat_map}
 use Rattle.sqlite.specs.declared.types.Value.TheVariants.{Null}
 use Rattle.sqlite.specs.Table.{Table}
 use Rattle.sqlite.specs.Schema.{Schema}

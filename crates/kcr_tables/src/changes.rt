@@ -15,7 +15,7 @@ use kcr_base::Refusal;
 use kcr_machine::Change;
 use sqlite::{Alter, Transaction};
 
-/// Puts the row under its key.
+/// Makes one change: the row goes into its table.
 pub fn make_change<S: Alter>(tx: &mut Transaction<'_, S>, change: &Change) -> Result<(), Refusal>
     ensures same_reference { tx.new.conn.ghost_name ≡ tx.old.conn.ghost_name }
     ensures holds { HasCleanDisk (state S.Store tx.new.conn.now) → (t : Tables) → Holds (state S.Store tx.old.conn.now).now t → OnOk result (Holds (state S.Store tx.new.conn.now).now (changed change.now t)) }
@@ -30,7 +30,9 @@ pub fn make_change<S: Alter>(tx: &mut Transaction<'_, S>, change: &Change) -> Re
     }
 }
 
-/// Each change in turn.
+/// Makes the changes, one after the other; every other row stays. The error is `Memory` for want of memory, and else
+/// `Disk`: the device failed, or a row of an accepted command has a key or a number that is taken. It leaves the
+/// changes before it in the transaction, which the caller rolls back; what was committed before stays.
 pub fn make_changes<S: Alter>(
     tx: &mut Transaction<'_, S>,
     changes: &[Change],

@@ -1,4 +1,4 @@
-//! The tables of an empty database.
+//! The tables of a new register.
 
 ghost use Rattle.std.specs.Prelude.{◌≡◌, ◌+◌, ◌<◌, [], take, IfErr, OnOk, IsTrue};
 ghost use Rattle.sqlite.specs.Held.{state};
@@ -20,9 +20,10 @@ use sqlite::{Alter, Transaction};
 /// How many tables there are.
 const COUNT: usize = 3;
 
-/// The number of the schema.
+/// The number of the schema, which the table versions holds.
 const VERSION: u32 = 3;
 
+/// The text that makes the table of this position, counted from 0.
 fn create_text(at: usize) -> &'static str
     requires { at < 3 }
     ensures { result.now ≡ text_at at }
@@ -36,7 +37,7 @@ fn create_text(at: usize) -> &'static str
     }
 }
 
-/// The next table.
+/// Makes the table of this position, counted from 0, after those before it.
 fn create_one<S: Alter>(tx: &mut Transaction<'_, S>, at: usize) -> Result<(), Refusal>
     requires { at < 3 }
     ensures same_reference { tx.new.conn.ghost_name ≡ tx.old.conn.ghost_name }
@@ -67,7 +68,9 @@ fn create_all<S: Alter>(tx: &mut Transaction<'_, S>) -> Result<(), Refusal>
     Ok(())
 }
 
-/// The tables of a new register, in the transaction that is given.
+/// Makes the tables of a new register in an empty database: nobody, no accepted command, and one row with the number
+/// of the schema. The error is `Memory` for want of memory, and else `Disk`. It leaves a part of the tables in the
+/// transaction, which the caller rolls back; what was committed before stays.
 pub fn make<S: Alter>(tx: &mut Transaction<'_, S>) -> Result<(), Refusal>
     ensures same_reference { tx.new.conn.ghost_name ≡ tx.old.conn.ghost_name }
     ensures holds { HasCleanDisk (state S.Store tx.new.conn.now) → (state S.Store tx.old.conn.now).now.schema ≡ first 0 → OnOk result (Holds (state S.Store tx.new.conn.now).now first_tables) }

@@ -30,11 +30,18 @@ impl Stored for KeyRow {
         let accepted = number_at(row, 1)?;
         let command = text_at(alloc, row, 2)?;
         let reply = text_at(alloc, row, 3)?;
-        Ok(KeyRow { key, accepted, command, reply })
+        Ok(KeyRow {
+            key,
+            accepted,
+            command,
+            reply,
+        })
     }
 }
 
-/// All rows, in the order of their keys.
+/// All accepted commands, in the order of their keys: each key is there once.
+/// Nothing is changed. The error is `Memory` for want of memory, and else `Disk`: the device failed, or a row is one
+/// that no register stores.
 pub fn all_keys<S: Alter>(
     alloc: Global,
     tx: &mut Transaction<'_, S>,
@@ -58,7 +65,9 @@ pub fn all_keys<S: Alter>(
     )
 }
 
-/// The row of this key, if there is one.
+/// The row of this key, alone, or none.
+/// Nothing is changed. The error is `Memory` for want of memory, and else `Disk`: the device failed, or a row is one
+/// that no register stores.
 pub fn key_row_of<S: Alter>(
     alloc: Global,
     tx: &mut Transaction<'_, S>,
@@ -82,7 +91,9 @@ pub fn key_row_of<S: Alter>(
     )
 }
 
-/// The row with the greatest number, if there is a row.
+/// The row with the greatest number, alone, or none where there is no row.
+/// Nothing is changed. The error is `Memory` for want of memory, and else `Disk`: the device failed, or a row is one
+/// that no register stores.
 pub fn last_key_row<S: Alter>(
     alloc: Global,
     tx: &mut Transaction<'_, S>,
@@ -104,7 +115,8 @@ pub fn last_key_row<S: Alter>(
     )
 }
 
-/// Enters the row. The error is `Disk` where a row has its key or its number already.
+/// Enters the row under its key; every other row stays. The error is `Memory`, or else `Disk`, as where a row has its
+/// key or its number already; what was committed before stays.
 pub fn put_key_row<S: Alter>(tx: &mut Transaction<'_, S>, row: &KeyRow) -> Result<(), Refusal>
     ensures same_reference { tx.new.conn.ghost_name ≡ tx.old.conn.ghost_name }
     ensures holds { HasCleanDisk (state S.Store tx.new.conn.now) → (t : Tables) → Holds (state S.Store tx.old.conn.now).now t → OnOk result (Holds (state S.Store tx.new.conn.now).now (record t { keys = put_in 1 key_row row.now t.keys })) }

@@ -13,6 +13,8 @@ mod keys;
 mod people;
 mod statements;
 mod stored;
+#[cfg(test)]
+mod tests;
 mod versions;
 mod view;
 

@@ -33,7 +33,9 @@ impl Stored for Person {
     }
 }
 
-/// All rows, in the order of their initials.
+/// All people, in the order of their initials: each is there once.
+/// Nothing is changed. The error is `Memory` for want of memory, and else `Disk`: the device failed, or a row is one
+/// that no register stores.
 pub fn all_people<S: Alter>(
     alloc: Global,
     tx: &mut Transaction<'_, S>,
@@ -54,7 +56,9 @@ pub fn all_people<S: Alter>(
     rows_of(alloc, tx, "SELECT who, name FROM people ORDER BY who", &[])
 }
 
-/// The row of these initials, if there is one.
+/// The person of these initials, alone, or nobody.
+/// Nothing is changed. The error is `Memory` for want of memory, and else `Disk`: the device failed, or a row is one
+/// that no register stores.
 pub fn person_of<S: Alter>(
     alloc: Global,
     tx: &mut Transaction<'_, S>,
@@ -78,7 +82,8 @@ pub fn person_of<S: Alter>(
     )
 }
 
-/// Puts the row under its initials, new or in place of the old.
+/// Puts the row under its initials, new or in place of the old; every other row stays.
+/// The error is `Memory` or `Disk`, and what was committed before stays.
 pub fn put_person<S: Alter>(tx: &mut Transaction<'_, S>, row: &Person) -> Result<(), Refusal>
     ensures same_reference { tx.new.conn.ghost_name ≡ tx.old.conn.ghost_name }
     ensures holds { HasCleanDisk (state S.Store tx.new.conn.now) → (t : Tables) → Holds (state S.Store tx.old.conn.now).now t → OnOk result (Holds (state S.Store tx.new.conn.now).now (record t { people = put_in 1 person_row row.now t.people })) }

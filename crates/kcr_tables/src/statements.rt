@@ -1,6 +1,8 @@
-//! One statement, with what it gave as values.
+//! One statement, with what it gave as values: the one module that calls the database.
 
-ghost use Rattle.std.specs.Prelude.{◌≡◌, ℕ, map, Ok, IsTrue, IfOk, IfErr, OnOk};
+ghost use Rattle.std.specs.Prelude.{◌≡◌, ◌≢◌, ℕ, map, Ok, IsTrue, IfOk, IfErr, OnOk};
+ghost use Rattle.sqlite.specs.declared.error.Error.TheVariants.{SqliteFailure};
+ghost use Rattle.sqlite.specs.declared.error.ErrorCode.TheVariants.{OutOfMemory};
 ghost use Rattle.sqlite.specs.Held.{state};
 ghost use Rattle.sqlite.specs.Values.{bound};
 ghost use Rattle.sqlite.specs.Listing.{understood};
@@ -16,7 +18,9 @@ use std::alloc::Global;
 
 /// Want of memory, or else a fault of the disk.
 fn refusal_of(error: Error) -> Refusal
-    ensures { IsFault result }
+    ensures memory { error ≡ SqliteFailure OutOfMemory → result ≡ Refusal.Memory }
+    ensures disk { error ≢ SqliteFailure OutOfMemory → result ≡ Refusal.Disk }
+    ensures cause { IsFault result }
 {
     match error {
         Error::SqliteFailure(ErrorCode::OutOfMemory) => Refusal::Memory,
@@ -24,21 +28,19 @@ fn refusal_of(error: Error) -> Refusal
     }
 }
 
+/// The values of rows that a query gave, in their order.
 fn decode_all<T: Stored>(alloc: Global, rows: &[Row]) -> Result<Vec<T>, Refusal>
     ensures rows { IfOk result (λ all. map T.row_of all.items ≡ rows.now) }
     ensures cause { IfErr result IsFault }
 {
     let mut all = Vec::new(alloc);
     for row in rows {
-        let value = T::decode(alloc, row)?;
-        if all.push(value).is_err() {
-            return Err(Refusal::Memory);
-        }
+        all.push(T::decode(alloc, row)?)?;
     }
     Ok(all)
 }
 
-/// The rows that a query shows.
+/// The rows that a query shows, as values. The error is `Disk` also where a row is no value's.
 pub fn rows_of<S: Alter, T: Stored>(
     alloc: Global,
     tx: &mut Transaction<'_, S>,
@@ -60,7 +62,7 @@ pub fn rows_of<S: Alter, T: Stored>(
     }
 }
 
-/// Runs a statement that writes.
+/// Runs a statement that writes. The error is `Disk` also where the statement is refused, as for a key that is taken.
 pub fn write<S: Alter>(
     tx: &mut Transaction<'_, S>,
     sql: &str,

@@ -16,7 +16,7 @@ use kcr_base::Refusal;
 use sqlite::{Alter, Row, Transaction};
 use std::alloc::Global;
 
-/// The number of a schema.
+/// The number of a schema, by which a later program knows which tables a file has.
 #[derive(Clone, Copy, Debug, PartialEq, Eq, Drop)]
 pub struct Version {
     pub number: u32,
@@ -34,7 +34,9 @@ impl Stored for Version {
     }
 }
 
-/// All rows, in the order of their numbers.
+/// All rows, in the order of their numbers: a register has one, with the number of its schema.
+/// Nothing is changed. The error is `Memory` for want of memory, and else `Disk`: the device failed, or a row is one
+/// that no register stores.
 pub fn all_versions<S: Alter>(
     alloc: Global,
     tx: &mut Transaction<'_, S>,
@@ -50,10 +52,16 @@ pub fn all_versions<S: Alter>(
     ensures survives { Survives (state S.Store tx.old.conn.now) (state S.Store tx.new.conn.now) (λ _. ⊥) }
     ensures cause { IfErr result IsFault }
 {
-    rows_of(alloc, tx, "SELECT number FROM versions ORDER BY number", &[])
+    rows_of(
+        alloc,
+        tx,
+        "SELECT number FROM versions ORDER BY number",
+        &[],
+    )
 }
 
-/// Puts the row under its number.
+/// Puts the row under its number; every other row stays.
+/// The error is `Memory` or `Disk`, and what was committed before stays.
 pub fn put_version<S: Alter>(tx: &mut Transaction<'_, S>, row: &Version) -> Result<(), Refusal>
     ensures same_reference { tx.new.conn.ghost_name ≡ tx.old.conn.ghost_name }
     ensures holds { HasCleanDisk (state S.Store tx.new.conn.now) → (t : Tables) → Holds (state S.Store tx.old.conn.now).now t → OnOk result (Holds (state S.Store tx.new.conn.now).now (record t { versions = put_in 1 version_row row.now t.versions })) }

@@ -1,4 +1,4 @@
-use Rattle.std.proofs.Common.{rules, ◌≡◌, ◌+◌, ◌<◌, ◌∙◌, take, subst, arith}
+use Rattle.std.proofs.Common.{rules, ◌≡◌, ◌<◌, ◌∙◌, take, subst, arith}
 use Rattle.sqlite.specs.Held.{state}
 use Rattle.sqlite_catalog.specs.Listing.{IsSound}
 use Rattle.kcr_tables.specs.Schema.{all_tables}

@@ -1,4 +1,4 @@
-use Rattle.std.proofs.Common.{◌≡◌, ℕ, [], Ok, OnOk, subst}
+use Rattle.std.proofs.Common.{ℕ, [], Ok, OnOk, subst}
 use Rattle.sqlite.specs.Held.{state}
 use Rattle.sqlite.specs.State.{Executes}
 use Rattle.kcr_tables.proofs.FailLemmas.{on_ok_then}

@@ -1,4 +1,3 @@
-use Rattle.std.proofs.Common.{[]}
 use Rattle.sqlite.specs.Held.{state}
 use Rattle.kcr_tables.proofs.FailLemmas.{if_ok, on_ok_then, plain_in, still_holds}
 use Rattle.kcr_tables.proofs.KeysLemmas.{all_text, all_plain, reads, reads_exact}

@@ -1,4 +1,4 @@
-use Rattle.std.proofs.Common.{rules, inl, inr, true, false, ◌≡◌}
+use Rattle.std.proofs.Common.{rules, inl, inr}
 use Rattle.std.proofs.lemmas.Bool.{cases_Bool}
 use Rattle.sqlite.specs.Held.{state}
 use Rattle.kcr_tables.proofs.statements.write.Goals as goal

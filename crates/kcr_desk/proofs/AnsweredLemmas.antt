@@ -1,0 +1,112 @@
+-- What the register answers to one message, from what its calls say.
+use Rattle.std.proofs.Common.{◌≡◌, ℕ, List, refl, sym, ap, subst, inl, inr}
+use Rattle.std.specs.Prelude.{◌⊎◌, ◌≢◌, ◌↔◌, Option, Some, None, Result, Ok, Err, MatchResult, IsSome, IsTrue, unwrap_or}
+use Rattle.sqlite.specs.Held.{state}
+use Rattle.sqlite.specs.State.{HasCleanDisk}
+use Rattle.sqlite.specs.Store.{Ghosts}
+use Rattle.kcr_base.specs.declared.refusal.Refusal.{Refusal}
+use Rattle.kcr_base.specs.declared.refusal.Refusal.TheVariants as Refusals
+use Rattle.kcr_machine.specs.declared.commands.Command.{Command}
+use Rattle.kcr_machine.specs.declared.commands.Reply.{Reply}
+use Rattle.kcr_store.specs.Register.{Seen}
+use Rattle.kcr_store.specs.Steps.{Steps, IsNext, IsAsked}
+use Rattle.kcr_store.specs.declared.question.Question.{Question}
+use Rattle.kcr_store.specs.declared.question.Shown.{Shown}
+use Rattle.kcr_wire.specs.Questions.{question_of}
+use Rattle.kcr_wire.specs.declared.method.Method.{Method}
+use Rattle.kcr_wire.specs.declared.method.Method.TheVariants.{Get, Head, Post, Other}
+use Rattle.kcr_desk.specs.Answers.{Standing, standing, told_refusal, IsRefused, TakesCommand, TakesQuestion, AnswersBy, Answered}
+use Rattle.kcr_desk.specs.Run.{Asked}
+use Rattle.kcr_desk.specs.Texts.{Told}
+use Rattle.kcr_desk.proofs.AnswerLemmas.{TellsRefusal, TellsReply, TellsShown, took_command, took_question, refused, taken}
+
+module _ {S : Type 0} (g : Ghosts S) (before after : Seen S) (target : List ℕ) (told : Told) where
+  abbrev ends_clean : Type 0
+  ends_clean = HasCleanDisk (state g after.conn)
+
+  pub command_answered : (x : Command) (result : Result Reply Refusal)
+      → (IsSome before.torn → (result ≡ Err Refusals.Broken) × (after ≡ before))
+      → (IsTrue before.is_founded → before.torn ≡ None → ends_clean → Steps before.accepted x result after.accepted)
+      → (before.torn ≡ None → IsSome after.torn ↔ (result ≡ Err Refusals.Disk))
+      → (IsTrue before.is_founded → before.torn ≡ None → ends_clean → IsNext before.accepted x (unwrap_or after.torn after.accepted))
+      → (ends_clean → HasCleanDisk (state g before.conn)) → after.is_founded ≡ before.is_founded
+      → TellsReply target result told
+      → Answered g before target told after (λ old new. TakesCommand old target told new x)
+  command_answered x result broken step breaks tried clean founded tells = record {
+    founded = founded;
+    clean = clean;
+    answer = λ is_founded is_clean.
+        took_command (standing before) (standing after) x target told before.torn refl result
+        (λ some. let b = broken some in (b.0, ap standing b.1))
+        (λ none. record {
+          step = step is_founded none is_clean;
+          breaks = breaks none;
+          tried = tried is_founded none is_clean;
+        })
+        tells;
+  }
+
+  pub question_answered : (question : Question) (result : Result Shown Refusal)
+      → (IsSome before.torn → (result ≡ Err Refusals.Broken) × (after ≡ before))
+      → (IsTrue before.is_founded → before.torn ≡ None → ends_clean → IsAsked before.accepted question result)
+      → (before.torn ≡ None → IsSome after.torn ↔ (result ≡ Err Refusals.Disk))
+      → after.accepted ≡ before.accepted
+      → (before.torn ≡ None → unwrap_or after.torn after.accepted ≡ before.accepted)
+      → (ends_clean → HasCleanDisk (state g before.conn)) → after.is_founded ≡ before.is_founded
+      → TellsShown target result told
+      → Answered g before target told after (λ old new. TakesQuestion old target told new question)
+  question_answered question result broken shown breaks same tried clean founded tells = record {
+    founded = founded;
+    clean = clean;
+    answer = λ is_founded is_clean.
+        took_question (standing before) (standing after) question target told before.torn refl result
+        (λ some. let b = broken some in (b.0, ap standing b.1))
+        (λ none. record {
+          shown = shown is_founded none is_clean;
+          same = same;
+          breaks = breaks none;
+          tried = tried none;
+        })
+        tells;
+  }
+
+  -- what was read is the request
+  pub taken_answered : {Request : Type 0} (Takes : Standing → Standing → Request → Type 0) (expected : Result Request Refusal) (request : Request)
+      → expected ≡ Ok request → Answered g before target told after (λ old new. Takes old new request)
+      → Answered g before target told after (λ old new. MatchResult expected (Takes old new) (IsRefused old target told new))
+  taken_answered Takes expected request reads answered = record {
+    founded = answered.founded;
+    clean = answered.clean;
+    answer = λ is_founded is_clean.
+        taken (standing before) (standing after) target told (Takes (standing before) (standing after)) expected request reads
+        (answered.answer is_founded is_clean);
+  }
+
+  -- a message by its method, where it is no POST
+  pub answered_by : (method : Method) (asked : Asked) → asked.target ≡ target → (method ≡ Post → ⊥)
+      → Answered g before target told after (λ old new. MatchResult (question_of method asked.target) (TakesQuestion old asked.target told new) (IsRefused old asked.target told new))
+      → Answered g before target told after (λ old new. AnswersBy method old asked told new)
+  answered_by Post asked same other answered = absurd (other refl)
+  answered_by Get asked same other answered = answered
+  answered_by Head asked same other answered = answered
+  answered_by Other asked same other answered = answered
+
+-- nothing was asked of the register
+module _ {S : Type 0} (g : Ghosts S) (before : Seen S) (target : List ℕ) (told : Told) where
+  pub refused_answered : {Request : Type 0} (Takes : Standing → Standing → Request → Type 0) (expected : Result Request Refusal) (r : Refusal)
+      → (r ≢ Refusals.Memory → expected ≡ Err r) → TellsRefusal target r told
+      → Answered g before target told before (λ old new. MatchResult expected (Takes old new) (IsRefused old target told new))
+  refused_answered Takes expected r reads tells = record {
+    founded = refl;
+    clean = λ is_clean. is_clean;
+    answer = λ is_founded is_clean.
+        refused (standing before) (standing before) target told (Takes (standing before) (standing before)) expected r reads tells refl;
+  }
+
+  pub memory_answered : (Answer : Standing → Standing → Type 0) → told ≡ told_refusal target Refusals.Memory
+      → Answered g before target told before Answer
+  memory_answered Answer tells = record {
+    founded = refl;
+    clean = λ is_clean. is_clean;
+    answer = λ is_founded is_clean. inl (tells, refl);
+  }

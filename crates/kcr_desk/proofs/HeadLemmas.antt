@@ -1,0 +1,145 @@
+-- What a try to read a head shows of all bytes that begin alike.
+use Rattle.std.proofs.Common.{◌≡◌, ℕ, ◌+◌, ◌-◌, ◌<◌, ◌≤◌, List, [], ◌∷◌, ◌++◌, length, take, drop, refl, sym, ap, ◌∙◌, subst, arith, append_assoc, length-append, length-drop}
+use Rattle.std.specs.Prelude.{codes, IsTrue}
+use Rattle.std.proofs.lemmas.List.{append-nil, take-append-le, drop-append-le, nil_from_length, length-map, length-take}
+use Rattle.std.proofs.lemmas.List.Elements.{All-nil, All-cons}
+use Rattle.std.proofs.Math.Seq.{take-append-add}
+use Rattle.httparse.specs.Grammar.{LineEnd, lf, print_blank, RequestHead, print_request, ReadsRequest, IsRequestHead, HasNoRequest, IsField, is_token_byte, is_uri_byte}
+use Rattle.httparse.specs.Spans.{RequestOverflows, span_bytes, name_and_value, header_bytes, IsRequestAt, IsRequestWithin}
+use Rattle.httparse.specs.declared.spans.RequestSpans.{RequestSpans}
+use Rattle.httparse.specs.declared.spans.HeaderSpan.{HeaderSpan}
+use Rattle.httparse.specs.declared.spans.Span.{Span}
+use Rattle.httparse.proofs.GrammarLemmas.{ReadsRequest-append, print_request-append}
+use Rattle.httparse.proofs.PieceLemmas.{Stops_token}
+use Rattle.kcr_desk.specs.Stream.{HasNoHead, IsQuiet}
+use Rattle.kcr_desk.specs.Heads.{IsWhole, IsHopeless}
+use Rattle.kcr_desk.proofs.QuietLemmas.{blank_not_more}
+
+-- ---- a head is no quiet rest
+
+pub head_not_quiet : (bytes : List ℕ) (h : RequestHead) (rest : List ℕ) → ReadsRequest bytes h rest → IsQuiet bytes → ⊥
+head_not_quiet bytes h rest reads quiet =
+    blank_not_more quiet.ends h.blank _ (Stops_token h.method _ reads.0.method.0 reads.0.method.1)
+    (sym quiet.is ∙ reads.1 ∙ print_request-append h rest)
+
+-- ---- an error of the parser
+
+abbrev small_text : List ℕ
+small_text = codes "A / HTTP/1.1" ++ 10 ∷ 10 ∷ []
+
+abbrev small : List LineEnd → RequestHead
+small ends = record {
+  blank = ends;
+  method = 65 ∷ [];
+  target = 47 ∷ [];
+  minor = 1;
+  line_end = lf;
+  fields = [];
+  last = lf;
+}
+
+is_small : (ends : List LineEnd) → IsRequestHead (small ends)
+unfolding is_token_byte lib.Utf8.encode
+is_small ends = record {
+  method = (omega arith, All-cons (λ b. IsTrue (is_token_byte b)) 65 [] refl (All-nil (λ b. IsTrue (is_token_byte b))));
+  target = (omega arith, All-cons (λ b. IsTrue (is_uri_byte b)) 47 [] refl (All-nil (λ b. IsTrue (is_uri_byte b))));
+  target_text = (47 ∷ [], (refl, refl));
+  minor = omega arith;
+  fields = All-nil IsField;
+}
+
+small_reads : (ends : List LineEnd) → ReadsRequest (print_blank ends ++ small_text) (small ends) []
+small_reads ends = (is_small ends, sym (print_request-append (small ends) []))
+
+pub overflow_hopeless : (front buf : List ℕ) (rest : List ℕ) → buf ≡ front ++ rest → RequestOverflows 64 front → IsHopeless buf
+overflow_hopeless front buf rest e over = record {
+  no_head = λ more h after has.
+      let many : 64 < length h.fields = over (rest ++ more) h after
+      (let P : List ℕ → Type 0 = λ t. ReadsRequest t h after in
+      subst P (ap (λ (t : List ℕ). t ++ more) e ∙ (simp append_assoc)) has.reads) in
+      let few : length h.fields ≤ 64 = has.few in absurd (omega arith);
+  not_quiet = λ more quiet.
+      let many : 64 < 0 = over (rest ++ (more ++ small_text)) (small quiet.ends) []
+      (let P : List ℕ → Type 0 = λ t. ReadsRequest t (small quiet.ends) [] in
+      subst P (ap (λ (t : List ℕ). t ++ small_text) (sym quiet.is ∙ ap (λ (t : List ℕ). t ++ more) e) ∙ simp append_assoc)
+      (small_reads quiet.ends)) in
+      absurd (omega arith);
+}
+
+-- ---- no whole head in 8,192 bytes
+
+-- a head that is short stands in the first bytes
+short_front : (bytes : List ℕ) (n : ℕ) (h : RequestHead) (rest : List ℕ) → ReadsRequest bytes h rest
+    → length (print_request h) ≤ n → ReadsRequest (take n bytes) h (take (n - length (print_request h)) rest)
+short_front bytes n h rest reads le =
+    let d : ℕ = n - length (print_request h) in
+    let e : n ≡ length (print_request h) + d = omega arith in
+    (reads.0, ap (λ m. take m bytes) e ∙ ap (take (length (print_request h) + d)) reads.1 ∙ take-append-add (print_request h) rest d)
+
+pub none_in_front : (buf : List ℕ) → HasNoRequest (take 8192 buf) → 8192 ≤ length buf → (more : List ℕ) → HasNoHead (buf ++ more)
+none_in_front buf none long more h rest has =
+    let e : take 8192 (buf ++ more) ≡ take 8192 buf = take-append-le 8192 buf more long in
+    let P : List ℕ → Type 0 = λ t. ReadsRequest t h (take (8192 - length (print_request h)) rest) in
+    none h _ (subst P e (short_front (buf ++ more) 8192 h rest has.reads has.short))
+
+quiet_alone : (buf more : List ℕ) → 8192 ≤ length buf → IsQuiet (buf ++ more) → IsQuiet buf
+quiet_alone buf more long quiet =
+    let short : length (buf ++ more) ≤ 8192 = quiet.short in
+    let none : length more ≡ 0 = omega (arith, length-append buf more, short) in
+    let e : buf ++ more ≡ buf = ap (λ (t : List ℕ). buf ++ t) (nil_from_length more none) ∙ append-nil buf in
+    subst IsQuiet e quiet
+
+pub full_hopeless : (buf : List ℕ) → HasNoRequest (take 8192 buf) → 8192 ≤ length buf → ¬ (IsQuiet buf) → IsHopeless buf
+full_hopeless buf none long loud = record {
+  no_head = none_in_front buf none long;
+  not_quiet = λ more quiet. loud (quiet_alone buf more long quiet);
+}
+
+pub none_is_no_head : (buf : List ℕ) → HasNoRequest (take 8192 buf) → HasNoHead buf
+none_is_no_head buf none h rest has = none h _ (short_front buf 8192 h rest has.reads has.short)
+
+-- ---- a whole head
+
+span_more : (buf more : List ℕ) (s : Span) → s.start ≤ s.end → s.end ≤ length buf → span_bytes (buf ++ more) s ≡ span_bytes buf s
+span_more buf more s ordered within =
+    let le : s.start ≤ length buf = omega arith in
+    let room : s.end - s.start ≤ length (drop s.start buf) = simp length-drop (omega arith) in
+    ap (take (s.end - s.start)) (drop-append-le s.start buf more le) ∙ take-append-le (s.end - s.start) (drop s.start buf) more room
+
+request_some : (h : RequestHead) → IsRequestHead h → 0 < length (print_request h)
+request_some h is =
+    let e = simp length-append at (ap length (print_request-append h [])) in
+    let m : 0 < length h.method = is.method.0 in
+    omega (arith, e, m)
+
+pub whole_head : (front buf rest : List ℕ) (headers : List HeaderSpan) (spans : RequestSpans) (h : RequestHead)
+    → buf ≡ front ++ rest → length front ≤ 8192 → length headers ≤ 64
+    → IsRequestWithin front headers spans → IsRequestAt front headers spans h → IsWhole buf spans h
+whole_head front buf rest headers spans h e short room within at =
+    let len : spans.len ≤ length front = within.section.len_fits in
+    let longer : length front ≤ length buf = simp (e, length-append) (omega arith) in
+    let count : length h.fields ≤ 64 =
+    let same : length (take spans.headers headers) ≡ length h.fields =
+    sym (length-map (take spans.headers headers) (header_bytes front)) ∙ ap length at.fields ∙ length-map h.fields name_and_value in
+    omega (arith, same, length-take spans.headers headers, room) in
+    let size : length (print_request h) ≤ 8192 = let l : spans.len ≡ length (print_request h) = at.len in omega arith in
+    record {
+      at = λ more.
+          let split : buf ++ more ≡ front ++ (rest ++ more) = ap (λ (t : List ℕ). t ++ more) e ∙ simp append_assoc in
+          let reads : ReadsRequest (front ++ (rest ++ more)) h (drop spans.len (front ++ (rest ++ more))) =
+          subst (ReadsRequest (front ++ (rest ++ more)) h) (sym (drop-append-le spans.len front (rest ++ more) len))
+          (ReadsRequest-append front h (drop spans.len front) (rest ++ more) at.reads) in
+          let P : List ℕ → Type 0 = λ t. ReadsRequest t h (drop spans.len t) in
+          record {
+            head = record { reads = subst P (sym split) reads; short = size; few = count };
+            method = ap (λ t. span_bytes t spans.method) split
+                ∙ span_more front (rest ++ more) spans.method within.method.0 (let a : spans.method.end ≤ spans.len = within.method.1 in omega arith) ∙ at.method;
+            path = ap (λ t. span_bytes t spans.path) split
+                ∙ span_more front (rest ++ more) spans.path within.path.0 (let a : spans.path.end ≤ spans.len = within.path.1 in omega arith) ∙ at.path;
+          };
+      len = omega arith;
+      some = let p : 0 < length (print_request h) = request_some h at.reads.0 in let l : spans.len ≡ length (print_request h) = at.len in omega arith;
+      short = omega arith;
+      method = (within.method.0, let a : spans.method.end ≤ spans.len = within.method.1 in omega arith);
+      path = (within.path.0, let a : spans.path.end ≤ spans.len = within.path.1 in omega arith);
+    }

@@ -1,0 +1,16 @@
+pub mod MembersLemmas
+pub mod NamedLemmas
+pub mod PlanLemmas
+pub mod QuietLemmas
+pub mod HeadLemmas
+pub mod WrittenLemmas
+pub mod FoundLemmas
+pub mod TurnLemmas
+pub mod ServeLemmas
+pub mod CutLemmas
+pub mod BeginsLemmas
+pub mod PhraseLemmas
+pub mod AnswerLemmas
+pub mod AnsweredLemmas
+pub mod StandingLemmas
+pub mod PlainLemmas

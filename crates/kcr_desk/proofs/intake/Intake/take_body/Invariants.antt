@@ -1,0 +1,17 @@
+use Rattle.std.proofs.Common.{◌≡◌, ◌≤◌, ◌-◌, ◌+◌, ◌*◌, ◌++◌, List, ℕ, vec_len}
+use Rattle.std.specs.Io.KnownBytes.{prepend_known}
+use Rattle.kcr_desk.specs.Intake.{Stays}
+use Rattle.kcr_desk.proofs.intake.Intake.take_body.Given as goal
+
+abbrev pub invariant-body : goal.invariant-body
+invariant-body g l = record {
+  kept : Stays (prepend_known l.initial.self.buffer.items (g.R.Read.remaining l.initial.reader.inner))
+      (prepend_known l.self.buffer.items (g.R.Read.remaining l.reader.inner));
+  grown : (bytes : List ℕ) × (l.self.buffer.items ≡ l.initial.self.buffer.items ++ bytes);
+  room : vec_len l.self.buffer + 4096 * l.initial.self.reads ≤ vec_len l.initial.self.buffer + 4096 * l.self.reads;
+  calm : l.reader.failed.count ≡ l.initial.reader.failed.count;
+  counted : l.reader.given.count + l.initial.self.reads ≡ l.initial.reader.given.count + l.self.reads;
+}
+
+abbrev pub decreases-body : goal.decreases-body
+decreases-body g l = 1000000 - l.self.reads

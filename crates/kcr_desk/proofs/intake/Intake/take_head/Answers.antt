@@ -1,0 +1,35 @@
+use Rattle.std.proofs.Common.{◌≡◌, ap, sym, ◌∙◌, subst}
+use Rattle.std.specs.Prelude.{true, false}
+use Rattle.httparse.specs.Spans.{span_bytes}
+use Rattle.kcr_desk.specs.Plans.{is_head}
+use Rattle.kcr_desk.specs.Heads.{IsWhole, IsHopeless}
+use Rattle.kcr_desk.specs.Stream.{HasNoHead, IsQuiet}
+use Rattle.kcr_desk.proofs.FoundLemmas.{hopeless_ends, failed_ends, quiet_ends, loud_ends}
+use Rattle.kcr_desk.proofs.intake.Intake.take_head.Goals as goal
+
+pub returns-in-Whole-default-Err-clause-found : goal.returns-in-Whole-default-Err-clause-found
+returns-in-Whole-default-Err-clause-found g c =
+    let spans = c.in-Whole-default-Err.spans in
+    let w = rw c.in-Whole-default-Err.field-1-is at c.in-Whole-default-Err.ensures in
+    failed_ends c.head.self.buffer.items (g.R.Read.remaining c.head.reader.inner) spans w.0 c.in-Whole-default-Err.refusal c.is_head_method-bare.result
+    (subst (λ t. IsWhole t spans w.0) c.deref.ensures.value w.1)
+    w.2
+    (c.is_head_method-bare.ensures ∙ ap is_head (c.of.ensures ∙ ap (λ t. span_bytes t spans.method) c.deref-in-Whole-default-Err.ensures.value))
+
+pub returns-in-Nothing-clause-found : goal.returns-in-Nothing-clause-found
+returns-in-Nothing-clause-found g c =
+    hopeless_ends c.head.self.buffer.items (g.R.Read.remaining c.head.reader.inner) (subst IsHopeless c.deref.ensures.value c.in-Nothing.ensures)
+
+pub returns-then-is_quiet-clause-found : goal.returns-then-is_quiet-clause-found
+returns-then-is_quiet-clause-found g c =
+    quiet_ends c.fill.new.self.buffer.items (g.R.Read.remaining c.fill.new.reader.inner) (c.in_ok-fill.ensures.ended c.if-not-branch.true).2
+    (subst IsQuiet c.deref-then-not-branch.ensures.value (c.is_quiet.ensures.0 c.if-is_quiet.true))
+
+pub returns-then-not-branch-clause-found : goal.returns-then-not-branch-clause-found
+returns-then-not-branch-clause-found g c =
+    let ended = c.in_ok-fill.ensures.ended c.if-not-branch.true in
+    loud_ends c.fill.new.self.buffer.items (g.R.Read.remaining c.fill.new.reader.inner) ended.2
+    (subst HasNoHead (c.deref.ensures.value ∙ sym ended.1) c.in-More.ensures)
+    (λ q.
+    let yes : c.is_quiet.result ≡ true = c.is_quiet.ensures.1 (subst IsQuiet (sym c.deref-then-not-branch.ensures.value) q) in
+    let no : c.is_quiet.result ≡ false = c.if-is_quiet.false in cc)

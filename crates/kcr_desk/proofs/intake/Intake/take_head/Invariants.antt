@@ -1,0 +1,16 @@
+use Rattle.std.proofs.Common.{◌≡◌, ◌≤◌, ◌-◌, ◌+◌, ◌*◌, vec_len}
+use Rattle.std.specs.Io.KnownBytes.{prepend_known}
+use Rattle.kcr_desk.specs.Intake.{Stays}
+use Rattle.kcr_desk.proofs.intake.Intake.take_head.Given as goal
+
+abbrev pub invariant-head : goal.invariant-head
+invariant-head g l = record {
+  kept : Stays (prepend_known l.initial.self.buffer.items (g.R.Read.remaining l.initial.reader.inner))
+      (prepend_known l.self.buffer.items (g.R.Read.remaining l.reader.inner));
+  room : vec_len l.self.buffer + 4096 * l.initial.self.reads ≤ vec_len l.initial.self.buffer + 4096 * l.self.reads;
+  calm : l.reader.failed.count ≡ l.initial.reader.failed.count;
+  counted : l.reader.given.count + l.initial.self.reads ≡ l.initial.reader.given.count + l.self.reads;
+}
+
+abbrev pub decreases-head : goal.decreases-head
+decreases-head g l = 1000000 - l.self.reads

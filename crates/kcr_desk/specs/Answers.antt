@@ -1,0 +1,126 @@
+-- What a message is told, and what it leaves of the register.
+use Rattle.std.specs.Prelude.{◌≡◌, ◌⊎◌, ◌↔◌, ℕ, Bool, List, Option, Some, None, Result, Ok, Err, MatchOption, MatchResult, IsSome, IsTrue, unwrap_or, codes, if◌then◌else◌}
+use Rattle.std.specs.Str.{bytes_eq}
+use Rattle.sqlite.specs.Held.{state}
+use Rattle.sqlite.specs.State.{HasCleanDisk}
+use Rattle.sqlite.specs.Store.{Ghosts}
+use Rattle.kcr_base.specs.Refusal.{status_of}
+use Rattle.kcr_base.specs.declared.refusal.Refusal.{Refusal}
+use Rattle.kcr_base.specs.declared.refusal.Refusal.TheVariants as Refusals
+use Rattle.kcr_machine.specs.History.{History}
+use Rattle.kcr_machine.specs.Refusals.{refusal_text}
+use Rattle.kcr_machine.specs.declared.commands.Command.{Command}
+use Rattle.kcr_machine.specs.declared.commands.Reply.{Reply}
+use Rattle.kcr_store.specs.Register.{Seen}
+use Rattle.kcr_store.specs.Steps.{Steps, IsNext, IsAsked}
+use Rattle.kcr_store.specs.declared.question.Question.{Question}
+use Rattle.kcr_store.specs.declared.question.Shown.{Shown}
+use Rattle.kcr_wire.specs.Commands.{command_of}
+use Rattle.kcr_wire.specs.Questions.{question_of}
+use Rattle.kcr_wire.specs.Shows.{shown_text}
+use Rattle.kcr_wire.specs.Targets.{allow_of}
+use Rattle.kcr_wire.specs.declared.allow.Allow.{Allow}
+use Rattle.kcr_wire.specs.declared.method.Method.{Method}
+use Rattle.kcr_wire.specs.declared.method.Method.TheVariants.{Get, Head, Post, Other}
+use Rattle.kcr_desk.specs.declared.reply.Kind.TheVariants.{Json}
+use Rattle.kcr_desk.specs.Run.{Asked}
+use Rattle.kcr_desk.specs.Texts.{Told}
+
+-- what the register is to the desk: the history of what it accepted and, once it is broken, the history that a crash may have left
+pub record Standing : Type 0 where
+  pub accepted : History
+  pub torn : Option History
+
+abbrev pub standing : {S : Type 0} → Seen S → Standing
+standing register = record { accepted = register.accepted; torn = register.torn }
+
+-- the method that a token names, in capitals
+unfoldable pub method_of : List ℕ → Method
+method_of token =
+    if bytes_eq token (codes "GET") then Get else
+    if bytes_eq token (codes "HEAD") then Head else
+    if bytes_eq token (codes "POST") then Post else Other
+
+-- 200 with a JSON text
+abbrev pub told_text : List ℕ → Told
+told_text text = record { heading = record { status = 200; kind = Json; allow = None }; body = text }
+
+-- the methods of a path, where the method of a message is not one of them
+abbrev pub allowed : List ℕ → Refusal → Option Allow
+allowed target Refusals.Method = allow_of target
+allowed target refusal = None
+
+-- a refusal of a message with this target
+abbrev pub told_refusal : List ℕ → Refusal → Told
+told_refusal target refusal = record {
+  heading = record { status = status_of refusal; kind = Json; allow = allowed target refusal };
+  body = refusal_text refusal;
+}
+
+-- what a command is told
+abbrev pub told_reply : List ℕ → Result Reply Refusal → Told
+told_reply target (Ok reply) = told_text reply.text
+told_reply target (Err refusal) = told_refusal target refusal
+
+-- what a question is told
+abbrev pub told_shown : List ℕ → Result Shown Refusal → Told
+told_shown target (Ok shown) = told_text (shown_text shown)
+told_shown target (Err refusal) = told_refusal target refusal
+
+-- a register that is not broken takes the command as the machine does. A fault of the device breaks it, and then a crash may have left the history with the command
+pub record Performs (A : History) (x : Command) (result : Result Reply Refusal) (after : Standing) : Type 0 where
+  pub step : Steps A x result after.accepted
+  pub breaks : IsSome after.torn ↔ (result ≡ Err Refusals.Disk)
+  pub tried : IsNext A x (unwrap_or after.torn after.accepted)
+
+-- it shows what the history says, and keeps the history
+pub record Inquires (A : History) (question : Question) (result : Result Shown Refusal) (after : Standing) : Type 0 where
+  pub shown : IsAsked A question result
+  pub same : after.accepted ≡ A
+  pub breaks : IsSome after.torn ↔ (result ≡ Err Refusals.Disk)
+  pub tried : unwrap_or after.torn after.accepted ≡ A
+
+-- the refusal is told, and the register stays as it was
+abbrev pub IsRefused : Standing → List ℕ → Told → Standing → Refusal → Type 0
+IsRefused before target told after refusal = (told ≡ told_refusal target refusal) × (after ≡ before)
+
+-- a command: a broken register says so, and stays as it was
+abbrev pub TakesCommand : Standing → List ℕ → Told → Standing → Command → Type 0
+TakesCommand before target told after x =
+    MatchOption before.torn
+      ((result : Result Reply Refusal) × (told ≡ told_reply target result) × Performs before.accepted x result after)
+      (λ _. IsRefused before target told after Refusals.Broken)
+
+-- a question likewise
+abbrev pub TakesQuestion : Standing → List ℕ → Told → Standing → Question → Type 0
+TakesQuestion before target told after question =
+    MatchOption before.torn
+      ((result : Result Shown Refusal) × (told ≡ told_shown target result) × Inquires before.accepted question result after)
+      (λ _. IsRefused before target told after Refusals.Broken)
+
+-- a POST is a command, and all else a question, or refused for its path, its method, its text or its form
+abbrev pub AnswersBy : Method → Standing → Asked → Told → Standing → Type 0
+AnswersBy Post before asked told after =
+    MatchResult (command_of Post asked.target asked.body)
+      (TakesCommand before asked.target told after) (IsRefused before asked.target told after)
+AnswersBy method before asked told after =
+    MatchResult (question_of method asked.target)
+      (TakesQuestion before asked.target told after) (IsRefused before asked.target told after)
+
+-- what a message is told, and what it leaves. Any message may be told that memory is wanting, and then the register stays as it was
+abbrev pub IsAnswer : Standing → Asked → Told → Standing → Type 0
+IsAnswer before asked told after =
+    IsRefused before asked.target told after Refusals.Memory ⊎ AnswersBy (method_of asked.method) before asked told after
+
+-- the same of a register over a database that was empty or a register's at first, as long as its disk is clean
+pub record Answered
+    {S : Type 0} (g : Ghosts S) (before : Seen S) (target : List ℕ) (told : Told) (after : Seen S)
+    (Answer : Standing → Standing → Type 0) : Type 0 where
+  pub founded : after.is_founded ≡ before.is_founded
+  pub clean : HasCleanDisk (state g after.conn) → HasCleanDisk (state g before.conn)
+  pub answer : IsTrue before.is_founded → HasCleanDisk (state g after.conn)
+      → IsRefused (standing before) target told (standing after) Refusals.Memory ⊎ Answer (standing before) (standing after)
+
+abbrev pub Answers : {S : Type 0} → Ghosts S → Seen S → Asked → Told → Seen S → Type 0
+Answers g before asked told after =
+    Answered g before asked.target told after (λ old new. AnswersBy (method_of asked.method) old asked told new)

@@ -1,0 +1,34 @@
+-- What a try to read a head says of the bytes, and of all bytes that begin with them.
+use Rattle.std.specs.Prelude.{◌≡◌, ℕ, ◌≤◌, ◌<◌, List, ◌++◌, length, drop, IfOk}
+use Rattle.httparse.specs.Grammar.{RequestHead}
+use Rattle.httparse.specs.Spans.{span_bytes, IsWithin}
+use Rattle.httparse.specs.declared.spans.RequestSpans.{RequestSpans}
+use Rattle.kcr_desk.specs.declared.head.Tried.{Tried}
+use Rattle.kcr_desk.specs.declared.head.Tried.TheVariants.{Whole, More, Nothing}
+use Rattle.kcr_desk.specs.Stream.{HasHead, HasNoHead, IsQuiet, plan_of}
+
+-- text begins with the head h, and the spans cover its parts
+pub record IsHeadAt (text : List ℕ) (spans : RequestSpans) (h : RequestHead) : Type 0 where
+  pub head : HasHead text h (drop spans.len text)
+  pub method : span_bytes text spans.method ≡ h.method
+  pub path : span_bytes text spans.path ≡ h.target
+
+-- so does each text that begins with buf
+pub record IsWhole (buf : List ℕ) (spans : RequestSpans) (h : RequestHead) : Type 0 where
+  pub at : (more : List ℕ) → IsHeadAt (buf ++ more) spans h
+  pub len : spans.len ≤ length buf
+  pub some : 0 < spans.len
+  pub short : spans.len ≤ 8192
+  pub method : IsWithin (length buf) spans.method
+  pub path : IsWithin (length buf) spans.path
+
+-- no text that begins with buf begins with a head, or is a rest of empty lines
+pub record IsHopeless (buf : List ℕ) : Type 0 where
+  pub no_head : (more : List ℕ) → HasNoHead (buf ++ more)
+  pub not_quiet : (more : List ℕ) → ¬ (IsQuiet (buf ++ more))
+
+abbrev pub IsTried : List ℕ → Tried → Type 0
+IsTried buf (Whole spans judged) = (h : RequestHead) × IsWhole buf spans h × (plan_of h ≡ judged)
+    × IfOk judged (λ plan. plan.length ≤ 131072)
+IsTried buf More = HasNoHead buf
+IsTried buf Nothing = IsHopeless buf

@@ -1,0 +1,13 @@
+pub mod Found
+pub mod Heads
+pub mod Intake
+pub mod Members
+pub mod Plans
+pub mod Stream
+pub mod Quiet
+pub mod Run
+pub mod Texts
+pub mod Told
+pub mod Turn
+pub mod Written
+pub mod Answers

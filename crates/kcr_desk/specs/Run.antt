@@ -1,0 +1,84 @@
+-- A run of the machine over the messages of a stream, and the bytes of its answers.
+use Rattle.std.specs.Prelude.{◌≡◌, ℕ, true, List, [], ◌∷◌, ◌++◌, length, map, Option, Some, Ok, MatchBool}
+use Rattle.std.specs.List.{flat_map}
+use Rattle.std.specs.Io.KnownBytes.{Appends}
+use Rattle.httparse.specs.Grammar.{RequestHead}
+use Rattle.kcr_desk.specs.declared.head.Plan.{Plan}
+use Rattle.kcr_base.specs.declared.refusal.Refusal.TheVariants.{Cut}
+use Rattle.kcr_desk.specs.Plans.{is_head}
+use Rattle.kcr_desk.specs.Stream.{Message, Ending, quiet, refused, cut_off, HasHead, IsMessage, IsEnd, IsCut, plan_of}
+use Rattle.kcr_desk.specs.Texts.{Told, answer_text, continue_text, told_of}
+use Rattle.kcr_desk.specs.Written.{WritesFront}
+
+-- what the register is asked
+pub record Asked : Type 0 where
+  pub method : List ℕ
+  pub target : List ℕ
+  pub body : List ℕ
+
+abbrev pub asked_of : Message → Asked
+asked_of m = record { method = m.head.method; target = m.head.target; body = m.body }
+
+-- a message, and what the register told
+pub record Exchange : Type 0 where
+  pub message : Message
+  pub reply : Told
+
+abbrev pub messages_of : List Exchange → List Message
+messages_of exchanges = map (λ x. x.message) exchanges
+
+-- the machine's steps over the messages lead from before to after
+abbrev pub Run : {S : Type 0} → (S → Asked → Told → S → Type 0) → S → List Exchange → S → Type 0
+Run step before [] after = before ≡ after
+Run {S} step before (x ∷ xs) after =
+    (next : S) × step before (asked_of x.message) x.reply next × Run step next xs after
+
+-- the bytes of one answer
+abbrev pub exchange_text : Exchange → List ℕ
+exchange_text x =
+    continue_text x.message.plan ++ answer_text (is_head x.message.head.method) x.message.plan.closes x.reply
+
+-- the bytes that a stream's end is answered by
+abbrev pub ending_text : Ending → List ℕ
+ending_text quiet = []
+ending_text (refused r bare) = answer_text bare true (told_of r)
+ending_text (cut_off plan bare) = continue_text plan ++ answer_text bare true (told_of Cut)
+
+-- all that is written
+abbrev pub output : List Exchange → Ending → List ℕ
+output exchanges ending = flat_map exchange_text exchanges ++ ending_text ending
+
+-- the whole input was answered. What was read is known where the reader says it
+pub record IsServed
+    {S : Type 0} (step : S → Asked → Told → S → Type 0) (input : Option (List ℕ))
+    (old_contents new_contents : Option (List ℕ)) (before after : S) (count : ℕ) : Type 0 where
+  pub exchanges : List Exchange
+  pub ending : Ending
+  pub cut : (bytes : List ℕ) → input ≡ Some bytes → IsCut bytes (messages_of exchanges) ending
+  pub run : Run step before exchanges after
+  pub written : Appends old_contents new_contents (output exchanges ending)
+  pub requests : count ≡ length exchanges
+
+-- what is written next, to the rest behind whole messages
+pub data IsNext : List ℕ → List ℕ → Type 0 where
+  nothing : {rest : List ℕ} → IsNext rest []
+  continues : {rest : List ℕ} {plan : Plan} (h : RequestHead) (after : List ℕ) → HasHead rest h after
+      → plan_of h ≡ Ok plan → IsNext rest (continue_text plan)
+  ends : {rest : List ℕ} (e : Ending) → IsEnd rest e → IsNext rest (ending_text e)
+
+-- bytes begins with these messages, and then next is what is written. Nothing is, after a message that closes
+abbrev pub Begins : List ℕ → List Message → List ℕ → Type 0
+Begins bytes [] next = IsNext bytes next
+Begins bytes (m ∷ ms) next =
+    (rest : List ℕ) × IsMessage bytes m rest
+    × MatchBool m.plan.closes ((ms ≡ []) × (next ≡ [])) (Begins rest ms next)
+
+-- a beginning was answered, and a beginning of its answer was written
+pub record IsBroken
+    {S : Type 0} (step : S → Asked → Told → S → Type 0) (input : Option (List ℕ))
+    (old_contents new_contents : Option (List ℕ)) (before after : S) : Type 0 where
+  pub exchanges : List Exchange
+  pub next : List ℕ
+  pub begins : (bytes : List ℕ) → input ≡ Some bytes → Begins bytes (messages_of exchanges) next
+  pub run : Run step before exchanges after
+  pub written : WritesFront old_contents new_contents (flat_map exchange_text exchanges ++ next)

@@ -1,0 +1,201 @@
+//! What the register is asked by a message, and what the message is told.
+ghost use Rattle.std.specs.Prelude.{◌≡◌, ◌⊎◌, ℕ, List, [], IsTrue, MatchResult};
+ghost use Rattle.sqlite.specs.Held.{state};
+ghost use Rattle.sqlite.specs.State.{HasCleanDisk};
+ghost use Rattle.kcr_wire.specs.Commands.{command_of};
+ghost use Rattle.kcr_wire.specs.Questions.{question_of};
+ghost use Rattle.kcr_wire.specs.declared.method.Method.TheVariants.{Post};
+ghost use Rattle.kcr_machine.specs.Refusals.{carries};
+ghost use Rattle.kcr_base.specs.declared.refusal.Refusal.TheVariants as Refusals;
+ghost use Rattle.kcr_desk.specs.Answers.{Answers, Answered, standing, method_of, told_text, told_refusal, allowed, IsRefused, TakesCommand, TakesQuestion, AnswersBy};
+ghost use Rattle.kcr_desk.specs.Told.{told};
+
+use crate::reply::{Body, Heading, Kind, Reply, refusal_heading};
+use crate::responder::Responder;
+use http::StatusCode;
+use kcr_base::{Refusal, Text};
+use kcr_machine::{Command, fixed_text};
+use kcr_store::{Question, Register};
+use kcr_wire::{Allow, Method, Paths, write_refusal, write_shown};
+use sqlite::Alter;
+use std::alloc::Global;
+
+/// The method that a token names, in capitals (RFC 9110, section 9.1).
+#[tactic(auto, unfolding(crate::specs::Answers::method_of))]
+fn method_of(token: &[u8]) -> Method
+    ensures { result ≡ method_of token.now }
+{
+    if token == b"GET".as_slice() {
+        Method::Get
+    } else if token == b"HEAD".as_slice() {
+        Method::Head
+    } else if token == b"POST".as_slice() {
+        Method::Post
+    } else {
+        Method::Other
+    }
+}
+
+/// 200 with this JSON text.
+fn text_reply(text: Text) -> Reply
+    ensures { told result ≡ told_text text }
+{
+    Reply {
+        heading: Heading {
+            status: StatusCode::OK,
+            kind: Kind::Json,
+            allow: None,
+        },
+        body: Body::Made(text),
+    }
+}
+
+/// The methods of a path, where the method of a message is not one of them.
+fn allowed(paths: &Paths, target: &[u8], refusal: &Refusal) -> Option<Allow>
+    ensures { result ≡ allowed target.now refusal.now }
+{
+    match refusal {
+        Refusal::Method => paths.allow(target),
+        _ => None,
+    }
+}
+
+/// Want of memory, which takes none.
+fn memory_reply() -> Reply
+    ensures { (target : List ℕ) → told result ≡ told_refusal target Refusals.Memory }
+{
+    Reply {
+        heading: refusal_heading(&Refusal::Memory, None),
+        body: Body::Fixed(fixed_text(&Refusal::Memory).unwrap_or("")),
+    }
+}
+
+/// A refusal of a message. Where it carries something, want of memory may be told in its place.
+fn refused_reply(alloc: Global, paths: &Paths, target: &[u8], refusal: &Refusal) -> Reply
+    ensures { (told result ≡ told_refusal target.now refusal.now) ⊎ (IsTrue (carries refusal.now) × (told result ≡ told_refusal target.now Refusals.Memory)) }
+{
+    let heading = refusal_heading(refusal, allowed(paths, target, refusal));
+    if let Some(text) = fixed_text(refusal) {
+        return Reply {
+            heading,
+            body: Body::Fixed(text),
+        };
+    }
+    match write_refusal(alloc, refusal) {
+        Ok(text) => {
+            Reply {
+                heading,
+                body: Body::Made(text),
+            }
+        }
+        Err(_) => memory_reply(),
+    }
+}
+
+/// Has the register take a command, and tells its reply.
+fn take_command<S: Alter>(
+    alloc: Global,
+    register: &mut Register<S>,
+    paths: &Paths,
+    target: &[u8],
+    command: &Command,
+) -> Reply
+    ensures { Answered S.Store register.old target.now (told result) register.new (λ before after. TakesCommand before target.now (told result) after command.now) }
+{
+    match register.apply(command) {
+        Ok(reply) => text_reply(reply.text),
+        Err(refusal) => refused_reply(alloc, paths, target, &refusal),
+    }
+}
+
+/// Asks the register a question, and tells what it shows.
+fn take_question<S: Alter>(
+    alloc: Global,
+    register: &mut Register<S>,
+    paths: &Paths,
+    target: &[u8],
+    question: &Question,
+) -> Reply
+    ensures { Answered S.Store register.old target.now (told result) register.new (λ before after. TakesQuestion before target.now (told result) after question.now) }
+{
+    match register.look(question) {
+        Ok(shown) => {
+            match write_shown(alloc, &shown) {
+                Ok(text) => text_reply(text),
+                Err(_) => memory_reply(),
+            }
+        }
+        Err(refusal) => refused_reply(alloc, paths, target, &refusal),
+    }
+}
+
+/// A POST is a command.
+fn answer_post<S: Alter>(
+    alloc: Global,
+    register: &mut Register<S>,
+    paths: &Paths,
+    target: &[u8],
+    body: &[u8],
+) -> Reply
+    ensures { Answered S.Store register.old target.now (told result) register.new (λ before after. AnswersBy Post before (record { method = []; target = target.now; body = body.now }) (told result) after) }
+{
+    match paths.read_command(alloc, Method::Post, target, body) {
+        Ok(command) => take_command(alloc, register, paths, target, &command),
+        Err(refusal) => refused_reply(alloc, paths, target, &refusal),
+    }
+}
+
+/// Any other message is a question, or refused for its path or its method.
+fn answer_question<S: Alter>(
+    alloc: Global,
+    register: &mut Register<S>,
+    paths: &Paths,
+    method: Method,
+    target: &[u8],
+) -> Reply
+    ensures { Answered S.Store register.old target.now (told result) register.new (λ before after.
+        MatchResult (question_of method target.now) (TakesQuestion before target.now (told result) after) (IsRefused before target.now (told result) after)) }
+{
+    match paths.read_question(method, target) {
+        Ok(question) => take_question(alloc, register, paths, target, &question),
+        Err(refusal) => refused_reply(alloc, paths, target, &refusal),
+    }
+}
+
+/// Answers a message by its method.
+fn answer_by<S: Alter>(
+    alloc: Global,
+    register: &mut Register<S>,
+    paths: &Paths,
+    method: &[u8],
+    target: &[u8],
+    body: &[u8],
+) -> Reply
+    ensures { Answers S.Store register.old (record { method = method.now; target = target.now; body = body.now }) (told result) register.new }
+{
+    match method_of(method) {
+        Method::Post => answer_post(alloc, register, paths, target, body),
+        other => answer_question(alloc, register, paths, other, target),
+    }
+}
+
+impl<S: Alter> Responder for Register<S> {
+    ghost step = { Answers S.Store };
+
+    fn respond(
+        &mut self,
+        alloc: Global,
+        paths: &mut Option<Paths>,
+        method: &[u8],
+        target: &[u8],
+        body: &[u8],
+    ) -> Reply {
+        if paths.is_none() {
+            *paths = Paths::new(alloc).ok();
+        }
+        match paths {
+            Some(paths) => answer_by(alloc, self, paths, method, target, body),
+            None => memory_reply(),
+        }
+    }
+}

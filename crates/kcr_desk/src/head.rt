@@ -1,0 +1,238 @@
+//! Heads: whether bytes begin with one, and what its fields ask for (RFC 9112 and RFC 9110, in the part that
+//! `specs/Stream` and `specs/Plans` state).
+ghost use Rattle.std.specs.Prelude.{◌≡◌, ◌≤◌, ◌↔◌, true, false, length, take, map, All, IfOk, IsTrue, codes, not, min, if◌then◌else◌};
+ghost use Rattle.httparse.specs.Spans.{header_bytes, IsHeaderWithin};
+ghost use Rattle.std.specs.Str.Parse.{digits_value};
+ghost use Rattle.kcr_desk.specs.Members.{some_has_member};
+ghost use Rattle.kcr_desk.specs.Plans.{planned, is_head, is_named, is_number, values_of, IsNamed, is_hosted, length_in, bounded_length, is_empty};
+ghost use Rattle.kcr_desk.specs.Stream.{IsQuiet};
+ghost use Rattle.kcr_desk.specs.Heads.{IsTried};
+ghost use Rattle.kcr_desk.specs.Quiet.{blank_from};
+
+use crate::members::has_member;
+use httparse::Status;
+use httparse::spans::{EMPTY_HEADER_SPAN, HeaderSpan, RequestSpans, Span, parse_request};
+use kcr_base::Refusal;
+
+/// What a head asks for.
+#[derive(Clone, Copy, Debug)]
+pub struct Plan {
+    /// The body's length in bytes (RFC 9112, section 6.2), at most 131,072.
+    pub length: usize,
+    /// Nothing more is answered after this message: it is HTTP/1.0, or Connection has the member `close` (RFC 9112,
+    /// section 9.6).
+    pub closes: bool,
+    /// `100 Continue` goes out before the body is read (RFC 9110, section 10.1.1).
+    pub waits: bool,
+}
+
+/// The values of the fields of one name.
+#[derive(Clone, Copy, Debug)]
+pub(crate) enum Named {
+    Absent,
+    One(Span),
+    Many,
+}
+
+/// Whether a field has this name, in any case.
+fn is_named(buf: &[u8], header: HeaderSpan, name: &[u8]) -> bool
+    requires { IsHeaderWithin (length buf.now) header }
+    ensures { result ≡ is_named name.now (header_bytes buf.now header) }
+{
+    header.name.of(buf).eq_ignore_ascii_case(name)
+}
+
+/// The values of the fields of this name.
+fn fields_named(buf: &[u8], headers: &[HeaderSpan], name: &[u8]) -> Named
+    requires { All (IsHeaderWithin (length buf.now)) headers.now }
+    ensures { IsNamed buf.now (values_of name.now (map (header_bytes buf.now) headers.now)) result }
+{
+    let mut found = Named::Absent;
+    for header in headers {
+        if is_named(buf, *header, name) {
+            match found {
+                Named::Absent => found = Named::One(header.value),
+                _ => return Named::Many,
+            }
+        }
+    }
+    found
+}
+
+/// The number that digits write, up to a bound, and nothing where they are none.
+fn number(digits: &[u8]) -> Option<usize>
+    ensures { result ≡ if is_number digits.now then Some (min (digits_value 10 digits.now) 131073) else None }
+{
+    if digits.is_empty() {
+        return None;
+    }
+    let mut number = 0usize;
+    for digit in digits {
+        if !digit.is_ascii_digit() {
+            return None;
+        }
+        number = (number * 10 + (*digit - b'0') as usize).min(MAX_BODY + 1);
+    }
+    Some(number)
+}
+
+/// Whether the Host fields are as many as the version wants: one in HTTP/1.1, at most one in HTTP/1.0 (RFC 9112,
+/// section 3.2).
+fn has_host(version: u8, buf: &[u8], headers: &[HeaderSpan]) -> bool
+    requires { All (IsHeaderWithin (length buf.now)) headers.now }
+    ensures { result ≡ is_hosted version (values_of (codes "host") (map (header_bytes buf.now) headers.now)) }
+{
+    match fields_named(buf, headers, b"host") {
+        Named::Absent => version == 0,
+        Named::One(_) => true,
+        Named::Many => false,
+    }
+}
+
+/// The body's length, up to a bound, and nothing where it is not stated in one number.
+fn body_length(buf: &[u8], headers: &[HeaderSpan]) -> Option<usize>
+    requires { All (IsHeaderWithin (length buf.now)) headers.now }
+    ensures { result ≡ bounded_length (length_in (values_of (codes "content-length") (map (header_bytes buf.now) headers.now))) }
+{
+    match fields_named(buf, headers, b"content-length") {
+        Named::Absent => Some(0),
+        Named::One(span) => number(span.of(buf)),
+        Named::Many => None,
+    }
+}
+
+/// Whether a coding is named.
+fn has_coding(buf: &[u8], headers: &[HeaderSpan]) -> bool
+    requires { All (IsHeaderWithin (length buf.now)) headers.now }
+    ensures { result ≡ not (is_empty (values_of (codes "transfer-encoding") (map (header_bytes buf.now) headers.now))) }
+{
+    match fields_named(buf, headers, b"transfer-encoding") {
+        Named::Absent => false,
+        Named::One(_) | Named::Many => true,
+    }
+}
+
+/// Whether a field of this name has this member.
+fn some_has_member(buf: &[u8], headers: &[HeaderSpan], name: &[u8], text: &[u8]) -> bool
+    requires { All (IsHeaderWithin (length buf.now)) headers.now }
+    ensures { result ≡ some_has_member text.now (values_of name.now (map (header_bytes buf.now) headers.now)) }
+{
+    for header in headers {
+        if is_named(buf, *header, name) && has_member(header.value.of(buf), text) {
+            return true;
+        }
+    }
+    false
+}
+
+/// What the fields ask for, or the refusal of the first test that fails: Host, Content-Length, Transfer-Encoding, and
+/// a body that is too long.
+pub(crate) fn judge(version: u8, buf: &[u8], headers: &[HeaderSpan]) -> Result<Plan, Refusal>
+    requires { All (IsHeaderWithin (length buf.now)) headers.now }
+    ensures value { result ≡ planned version (map (header_bytes buf.now) headers.now) }
+    ensures short { IfOk result (λ plan. plan.length ≤ MAX_BODY) }
+{
+    if !has_host(version, buf, headers) {
+        return Err(Refusal::Host);
+    }
+    let Some(length) = body_length(buf, headers) else {
+        return Err(Refusal::Length);
+    };
+    if has_coding(buf, headers) {
+        return Err(Refusal::Coding);
+    }
+    if length > MAX_BODY {
+        return Err(Refusal::Large);
+    }
+    let closing = some_has_member(buf, headers, b"connection", b"close");
+    let expecting = some_has_member(buf, headers, b"expect", b"100-continue");
+    Ok(Plan {
+        length,
+        closes: (version == 0) | closing,
+        waits: (version == 1) & (length > 0) & expecting,
+    })
+}
+
+/// The most bytes of a body.
+pub const MAX_BODY: usize = 131_072;
+
+/// The most bytes of a head, and of a rest of empty lines.
+pub const MAX_HEAD: usize = 8192;
+
+/// What the bytes at the front of a stream are.
+#[derive(Clone, Copy, Debug)]
+pub(crate) enum Tried {
+    /// A whole head, and what it asks for or the refusal of its first test that fails.
+    Whole(RequestSpans, Result<Plan, Refusal>),
+    /// No whole head.
+    More,
+    /// No whole head, whatever follows.
+    Nothing,
+}
+
+/// Whether the method is HEAD, to which an answer has no body.
+#[tactic(auto, unfolding(crate::specs::Plans::is_head))]
+pub(crate) fn is_head_method(method: &[u8]) -> bool
+    ensures { result ≡ is_head method.now }
+{
+    method == b"HEAD".as_slice()
+}
+
+/// Whether the bytes are whole empty lines.
+fn is_blank(bytes: &[u8]) -> bool
+    ensures { result ≡ blank_from false bytes.now }
+{
+    let mut after_cr = false;
+    for byte in bytes {
+        if *byte == b'\n' {
+            after_cr = false;
+        } else if *byte == b'\r' && !after_cr {
+            after_cr = true;
+        } else {
+            return false;
+        }
+    }
+    !after_cr
+}
+
+/// Whether this is a rest that gets no answer.
+pub(crate) fn is_quiet(bytes: &[u8]) -> bool
+    ensures { IsTrue result ↔ IsQuiet bytes.now }
+{
+    bytes.len() <= MAX_HEAD && is_blank(bytes)
+}
+
+/// The bytes that a head may have.
+fn front_of(buf: &[u8]) -> &[u8]
+    ensures { result.now ≡ take MAX_HEAD buf.now }
+{
+    if buf.len() < MAX_HEAD {
+        buf
+    } else {
+        &buf[..MAX_HEAD]
+    }
+}
+
+/// What the bytes at the front of a stream are. It does not depend on what follows them.
+pub(crate) fn try_head(buf: &[u8]) -> Tried
+    ensures { IsTried buf.now result }
+{
+    let front = front_of(buf);
+    let mut headers = [EMPTY_HEADER_SPAN; 64];
+    match parse_request(front, &mut headers) {
+        Ok(Status::Complete(spans)) => {
+            Tried::Whole(
+                spans,
+                judge(spans.version, front, &headers[..spans.headers]),
+            )
+        }
+        Err(_) => Tried::Nothing,
+        Ok(Status::Partial) => {
+            if is_quiet(buf) || buf.len() < MAX_HEAD {
+                Tried::More
+            } else {
+                Tried::Nothing
+            }
+        }
+    }
+}

@@ -1,0 +1,166 @@
+//! Streams of messages.
+ghost use Rattle.std.specs.Prelude.{◌≡◌, ℕ, List, ◌++◌, ◌+◌, ◌*◌, ◌<◌, ◌≤◌, ◌⊎◌, vec_len, IfOk, OnOk, OnErr, IsErrOf};
+ghost use Rattle.std.specs.Io.KnownBytes.{prepend_known};
+ghost use Rattle.kcr_base.specs.Counted.{inner_of, failures_of, gifts_of};
+ghost use Rattle.kcr_desk.specs.Intake.{Stays};
+ghost use Rattle.kcr_desk.specs.Found.{IsReady};
+ghost use Rattle.kcr_desk.specs.Plans.{is_head};
+ghost use Rattle.kcr_desk.specs.Texts.{Told, answer_text};
+ghost use Rattle.kcr_desk.specs.Written.{Writes};
+ghost use Rattle.kcr_desk.specs.Run.{IsServed, IsBroken, Exchange, Begins, messages_of, exchange_text, output};
+ghost use Rattle.std.specs.List.{flat_map};
+ghost use Rattle.kcr_desk.specs.Stream.{Message, Ending, IsCut};
+ghost use Rattle.kcr_desk.specs.Turn.{IsTurn, BreaksTurn, asked_by};
+
+use crate::fault::DeskFault;
+use crate::head::{Plan, is_head_method};
+use crate::intake::{Found, Intake};
+use crate::reply::{put_answer, put_continue, put_refusal};
+use crate::responder::Responder;
+use httparse::spans::RequestSpans;
+use kcr_base::{Counted, Refusal};
+use kcr_wire::Paths;
+use std::alloc::Global;
+use std::io::{Read, Write};
+
+/// A stream that was answered whole: to its end, or to a message or a faulty item that closes it.
+#[derive(Clone, Copy, Debug, PartialEq, Eq)]
+pub struct Served {
+    /// How many whole messages were answered. One that closes is counted, a faulty item is not.
+    pub requests: u64,
+}
+
+/// What stands next in a stream.
+#[derive(Clone, Copy, Debug)]
+pub(crate) enum Turn {
+    /// A whole message, which is to be answered.
+    Message(RequestSpans, Plan),
+    /// The end, which was answered.
+    Ended,
+}
+
+/// Takes in the next message, or answers the end of the stream.
+fn next_turn<R: Read, W: Write>(
+    intake: &mut Intake,
+    reader: &mut Counted<R>,
+    writer: &mut Counted<W>,
+) -> Result<Turn, DeskFault>
+    ensures turn { IfOk result (IsTurn
+        (prepend_known intake.old.buffer.items (R.remaining (inner_of reader.old)))
+        intake.new.buffer.items (W.contents (inner_of writer.old)) (W.contents (inner_of writer.new))) }
+    ensures kept { OnOk result (Stays
+        (prepend_known intake.old.buffer.items (R.remaining (inner_of reader.old)))
+        (prepend_known intake.new.buffer.items (R.remaining (inner_of reader.new)))) }
+    ensures breaks { OnErr result (BreaksTurn
+        (prepend_known intake.old.buffer.items (R.remaining (inner_of reader.old)))
+        (W.contents (inner_of writer.old)) (W.contents (inner_of writer.new))) }
+    ensures room { OnOk result (vec_len intake.new.buffer + 4096 * intake.old.reads ≤ vec_len intake.old.buffer + 4096 * intake.new.reads) }
+    ensures calm { OnOk result ((failures_of reader.new ≡ failures_of reader.old) × (failures_of writer.new ≡ failures_of writer.old)) }
+    ensures counted { gifts_of reader.new + intake.old.reads ≡ gifts_of reader.old + intake.new.reads }
+    ensures read_fault { IsErrOf result DeskFault.Read
+        → (failures_of reader.old < failures_of reader.new) ⊎ (intake.new.reads ≡ 1000000) }
+    ensures write_fault { IsErrOf result DeskFault.Write → failures_of writer.old < failures_of writer.new }
+{
+    let (spans, plan) = match intake.take_head(reader)? {
+        Found::Quiet => return Ok(Turn::Ended),
+        Found::Refused(refusal, bare) => {
+            put_refusal(writer, refusal, bare)?;
+            return Ok(Turn::Ended);
+        }
+        Found::Whole(spans, plan) => (spans, plan),
+    };
+    put_continue(writer, plan)?;
+    if intake.take_body(reader, spans.len + plan.length)? {
+        return Ok(Turn::Message(spans, plan));
+    }
+    let bare = is_head_method(spans.method.of(&intake.buffer));
+    put_refusal(writer, Refusal::Cut, bare)?;
+    Ok(Turn::Ended)
+}
+
+/// Has the message at the front answered.
+fn answer_front<W: Write, G: Responder>(
+    intake: &Intake,
+    writer: &mut Counted<W>,
+    responder: &mut G,
+    alloc: Global,
+    paths: &mut Option<Paths>,
+    spans: RequestSpans,
+    plan: Plan,
+) -> Result<(), DeskFault>
+    requires { IsReady intake.now.buffer.items spans plan }
+    ensures answered { (reply : Told)
+        × G.step responder.old (asked_by intake.now.buffer.items spans plan) reply responder.new
+        × Writes result (W.contents (inner_of writer.old)) (W.contents (inner_of writer.new))
+        (answer_text (is_head (asked_by intake.now.buffer.items spans plan).method) plan.closes reply) }
+    ensures calm { OnOk result (failures_of writer.new ≡ failures_of writer.old) }
+    ensures fault { OnErr result ((result ≡ Err DeskFault.Write) × (failures_of writer.old < failures_of writer.new)) }
+{
+    let buffer = intake.buffer.as_slice();
+    let method = spans.method.of(buffer);
+    let body = &buffer[spans.len..spans.len + plan.length];
+    let reply = responder.respond(alloc, paths, method, spans.path.of(buffer), body);
+    put_answer(writer, &reply, is_head_method(method), plan.closes)
+}
+
+/// Answers a stream of messages, until it ends, or a message or a faulty item closes it.
+pub(crate) fn serve_stream<R: Read, W: Write, G: Responder>(
+    alloc: Global,
+    reader: &mut Counted<R>,
+    writer: &mut Counted<W>,
+    responder: &mut G,
+) -> Result<Served, DeskFault>
+    // The bytes written are those that the messages of the bytes read ask for, by a run of the machine.
+    ensures served { IfOk result (λ served. IsServed G.step (R.remaining (inner_of reader.old))
+        (W.contents (inner_of writer.old)) (W.contents (inner_of writer.new)) responder.old responder.new served.requests) }
+
+    // After a fault they are a beginning of those, and the register stands after the commands that it took.
+    ensures broken { OnErr result (IsBroken G.step (R.remaining (inner_of reader.old))
+        (W.contents (inner_of writer.old)) (W.contents (inner_of writer.new)) responder.old responder.new) }
+    ensures read_fault { IsErrOf result DeskFault.Read
+        → (failures_of reader.old < failures_of reader.new) ⊎ (gifts_of reader.new ≡ gifts_of reader.old + 1000000) }
+    ensures write_fault { IsErrOf result DeskFault.Write → failures_of writer.old < failures_of writer.new }
+    ensures bound { gifts_of reader.new ≤ gifts_of reader.old + 1000000 }
+{
+    let mut intake = Intake {
+        buffer: Vec::new(alloc),
+        reads: 0,
+    };
+    let mut paths = None;
+    let mut requests = 0;
+    'messages: loop {
+        match next_turn(&mut intake, reader, writer)? {
+            Turn::Ended => return Ok(Served { requests }),
+            Turn::Message(spans, plan) => {
+                answer_front(
+                    &intake,
+                    writer,
+                    responder,
+                    alloc,
+                    &mut paths,
+                    spans,
+                    plan,
+                )?;
+                requests += 1;
+                if plan.closes {
+                    return Ok(Served { requests });
+                }
+                intake.drop_front(spans.len + plan.length);
+            }
+        }
+    }
+}
+
+/// However a stream is read, it has one cut into messages.
+#[tactic(auto, using(crate::proofs::CutLemmas::cut_unique))]
+pub fn one_cut()
+    ensures { (input : List ℕ) (ms ns : List Message) (e f : Ending) → IsCut input ms e → IsCut input ns f → (ms ≡ ns) × (e ≡ f) }
+{}
+
+/// What `IsBroken` says was written begins what the whole input asks for, whatever the later messages are told.
+#[tactic(auto, using(crate::proofs::BeginsLemmas::begins_output))]
+pub fn broken_begins_output()
+    ensures { (input next : List ℕ) (xs zs : List Exchange) (e : Ending) → Begins input (messages_of xs) next
+        → IsCut input (messages_of (xs ++ zs)) e
+        → (more : List ℕ) × ((flat_map exchange_text xs ++ next) ++ more ≡ output (xs ++ zs) e) }
+{}

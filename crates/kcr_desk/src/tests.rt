@@ -1,0 +1,7 @@
+//! What no clause says: that streams are answered so, by worked rows, over a small register of their own and over one in
+//! memory.
+mod desk;
+mod limits;
+mod register;
+mod rows;
+mod writing;

@@ -1,0 +1,143 @@
+-- What holds of every sheet that requests have made.
+use Rattle.std.proofs.Common.{◌≡◌, ℕ, Bool, true, false, cond, not, ◌||◌, ◌&&◌, nat_le, List, [], ◌∷◌, ◌++◌, map, Option, Some, None, refl, sym, ap, ◌∙◌, subst, append-nil, append_assoc}
+use Rattle.std.specs.List.{list_any, filter, find}
+use Rattle.std.proofs.lemmas.Bool.{both_ways, ltb-false, eq-eqb, and_parts, and_from, or_parts, not-true, not_from_false}
+use Rattle.std.proofs.Math.Bool.{and-true, and-false, or-false, or-true}
+use Rattle.std.proofs.lemmas.List.Elements.{filter-append}
+use Rattle.kcr_base.specs.Same.{same_text, is_before}
+use Rattle.kcr_base.specs.Refuse.{when, first_of}
+use Rattle.kcr_base.specs.declared.refusal.Refusal.{Refusal}
+use Rattle.kcr_base.specs.declared.refusal.Refusal.TheVariants.{Late, Turn, Crowd, Lone}
+use Rattle.kcr_room.specs.declared.Way.{Way}
+use Rattle.kcr_room.specs.declared.SheetRow.{SheetRow}
+use Rattle.kcr_room.specs.declared.Stay.{Stay}
+use Rattle.kcr_room.specs.Moments.{IsFirst, IsEver}
+use Rattle.kcr_room.specs.Room.{enters, last_row, last_enters, last_row_of, is_of, in_force, ascending_onto, put_person}
+use Rattle.kcr_room.specs.Stays.{crowd_in_by, is_lone_in_by, is_crowd_in_by, first_lone_in_by, is_crowded_in_by, stays_by}
+use Rattle.kcr_room.specs.Adding.{turn_refusal, lone_refusal, later_refusal, sheet_refusal, after, is_out_of_turn, is_out_of_turn_by, is_out_of_turn_in, new_row}
+use Rattle.kcr_room.specs.Laws.{IsAllowed, in_turn_onto, are_apart, RowsKeep, StaysKeep, TurnsKeep, PresentAreIn}
+use Rattle.kcr_room.proofs.Lists.{any-filter, any-same}
+use Rattle.kcr_room.proofs.Agreement.{same-crowd, same-turned, listed, of_person, force-last}
+use Rattle.kcr_room.proofs.Moments.{first_lone-is_first, crowded-is_ever}
+
+pub and-assoc : (a b c : Bool) → ((a && b) && c) ≡ (a && (b && c))
+and-assoc true b c = refl
+and-assoc false b c = refl
+
+and-comm : (a b : Bool) → (a && b) ≡ (b && a)
+and-comm true b = sym (and-true b)
+and-comm false b = sym (and-false b)
+
+or-swap : (a b c : Bool) → (a || (b || c)) ≡ (b || (a || c))
+or-swap true b c = sym (or-true b)
+or-swap false b c = refl
+
+or-turn : (a b c : Bool) → ((a || b) || c) ≡ (b || (a || c))
+or-turn true b c = sym (or-true b)
+or-turn false b c = refl
+
+-- where no crowd and nobody alone is found, each moment is allowed
+allowed : (stays : List Stay) (c : ℕ) (last : Option Refusal) → first_of (when (is_crowded_in_by stays c) Crowd ∷ lone_refusal (first_lone_in_by stays c) ∷ last ∷ []) ≡ None → (t : ℕ) → IsAllowed (crowd_in_by stays c t)
+allowed stays c last h = by_answers (is_crowded_in_by stays c) (crowded-is_ever stays c) (first_lone_in_by stays c) (first_lone-is_first stays c) h
+  where
+    by_answers : (b : Bool) → IsEver (is_crowd_in_by stays c) b → (o : Option ℕ) → IsFirst (is_lone_in_by stays c) o → first_of (when b Crowd ∷ lone_refusal o ∷ last ∷ []) ≡ None → (t : ℕ) → IsAllowed (crowd_in_by stays c t)
+    by_answers true e o f h t = absurd (let k : Some Crowd ≡ None = h in cc)
+    by_answers false e (Some m) f h t = absurd (let k : Some (Lone m) ≡ None = h in cc)
+    by_answers false e None f h t = (λ k. both_ways (is_lone_in_by stays c t) (f t) (eq-eqb (crowd_in_by stays c t) 1 k), ltb-false 128 (crowd_in_by stays c t) (e t))
+
+pub third : (a b c : Option Refusal) → first_of (a ∷ b ∷ c ∷ []) ≡ None → (b ≡ None) × (c ≡ None)
+third (Some r) b c h = absurd (let k : Some r ≡ None = h in cc)
+third None (Some r) c h = absurd (let k : Some r ≡ None = h in cc)
+third None None (Some r) h = absurd (let k : Some r ≡ None = h in cc)
+third None None None h = (refl, refl)
+
+pub stays_keep : StaysKeep
+stays_keep stays c mark full way people at h =
+    allowed (after stays c way people at) c _
+    (third (when (nat_le at mark) (Late mark)) (turn_refusal (find (is_out_of_turn_in stays c way at) people)) (later_refusal (after stays c way people at) c full way) h).1
+
+pub rows_keep : RowsKeep
+rows_keep rows c mark full way people at h t =
+    let all : List SheetRow = rows ++ map (new_row c way at) people in
+    let k = (third (when (nat_le at mark) (Late mark)) (turn_refusal (find (is_out_of_turn_by rows c way at) people)) (sheet_refusal (stays_by all) c full way) h).1 in
+    subst IsAllowed (same-crowd all c t) (allowed (stays_by all) c _ k t)
+
+-- nobody's turn is missed where no first such person is found
+pub none-found : (p : List ℕ → Bool) (who : List ℕ) (rest : List (List ℕ)) → turn_refusal (find p (who ∷ rest)) ≡ None → (p who ≡ false) × (turn_refusal (find p rest) ≡ None)
+none-found p who rest h = by_test (p who) refl h
+  where
+    by_test : (b : Bool) → p who ≡ b → turn_refusal (cond b (Some who) (find p rest)) ≡ None → (p who ≡ false) × (turn_refusal (find p rest) ≡ None)
+    by_test true e h = absurd (let k : Some (Turn who) ≡ None = h in cc)
+    by_test false e h = (e, h)
+
+-- another person's row changes nothing of this one's last row
+pub last-other : (rows : List SheetRow) (row : SheetRow) (who : List ℕ) → same_text row.who who ≡ false → last_row_of (rows ++ (row ∷ [])) who ≡ last_row_of rows who
+last-other rows row who h = ap last_row (filter-append (of_person who) rows (row ∷ []) ∙ by_end)
+  where
+    by_end : filter (of_person who) rows ++ filter (of_person who) (row ∷ []) ≡ filter (of_person who) rows
+    by_end = rw h (append-nil (filter (of_person who) rows))
+
+pub in_turn-append : (before rows more : List SheetRow) → in_turn_onto before (rows ++ more) ≡ (in_turn_onto before rows && in_turn_onto (before ++ rows) more)
+in_turn-append before [] more = rw (append-nil before) refl
+in_turn-append before (row ∷ rows) more =
+    ap (λ b. not (is_out_of_turn_by before row.ceremony row.way row.at row.who) && b) (in_turn-append (before ++ (row ∷ [])) rows more)
+    ∙ ap (λ all. not (is_out_of_turn_by before row.ceremony row.way row.at row.who) && (in_turn_onto (before ++ (row ∷ [])) rows && in_turn_onto all more)) (append_assoc before (row ∷ []) rows)
+    ∙ sym (and-assoc (not (is_out_of_turn_by before row.ceremony row.way row.at row.who)) (in_turn_onto (before ++ (row ∷ [])) rows) (in_turn_onto (before ++ (row ∷ rows)) more))
+
+-- people of whom each has the turn have it still where others of them came before
+pub turn-others : (rows : List SheetRow) (c : ℕ) (way : Way) (at : ℕ) (first : List ℕ) (people : List (List ℕ)) → list_any (same_text first) people ≡ false → turn_refusal (find (is_out_of_turn_by rows c way at) people) ≡ None → turn_refusal (find (is_out_of_turn_by (rows ++ (new_row c way at first ∷ [])) c way at) people) ≡ None
+turn-others rows c way at first [] a h = refl
+turn-others rows c way at first (who ∷ rest) a h =
+    let n = none-found (is_out_of_turn_by rows c way at) who rest h in
+    let d = or_parts (same_text first who) (list_any (same_text first) rest) a in
+    let e : is_out_of_turn_by (rows ++ (new_row c way at first ∷ [])) c way at who ≡ false = ap (λ last. is_out_of_turn way c at last) (last-other rows (new_row c way at first) who d.0) ∙ n.0 in
+    rw e (turn-others rows c way at first rest d.1 n.1)
+
+turns-more : (rows : List SheetRow) (c : ℕ) (way : Way) (at : ℕ) (people : List (List ℕ)) → are_apart people ≡ true → turn_refusal (find (is_out_of_turn_by rows c way at) people) ≡ None → in_turn_onto rows (map (new_row c way at) people) ≡ true
+turns-more rows c way at [] a h = refl
+turns-more rows c way at (who ∷ rest) a h =
+    let d = and_parts (not (list_any (same_text who) rest)) (are_apart rest) a in
+    let n = none-found (is_out_of_turn_by rows c way at) who rest h in
+    and_from (not (is_out_of_turn_by rows c way at who)) (in_turn_onto (rows ++ (new_row c way at who ∷ [])) (map (new_row c way at) rest))
+    (not_from_false (is_out_of_turn_by rows c way at who) n.0)
+    (turns-more (rows ++ (new_row c way at who ∷ [])) c way at rest d.1 (turn-others rows c way at who rest (not-true (list_any (same_text who) rest) d.0) n.1))
+
+pub turns_keep : TurnsKeep
+turns_keep rows c mark full way people at apart h s =
+    let k = (third (when (nat_le at mark) (Late mark)) (turn_refusal (find (is_out_of_turn_by rows c way at) people)) (sheet_refusal (stays_by (rows ++ map (new_row c way at) people)) c full way) h).0 in
+    in_turn-append [] rows (map (new_row c way at) people)
+    ∙ and_from (in_turn_onto [] rows) (in_turn_onto rows (map (new_row c way at) people)) s (turns-more rows c way at people apart k)
+
+-- a test finds in a list put in order what it finds in the list
+any-put : (p : List ℕ → Bool) (who : List ℕ) (people : List (List ℕ)) → list_any p (put_person who people) ≡ (p who || list_any p people)
+any-put p who [] = refl
+any-put p who (other ∷ rest) = by_order (is_before other who) (any-put p who rest)
+  where
+    by_order : (b : Bool) → list_any p (put_person who rest) ≡ (p who || list_any p rest) → list_any p (cond b (other ∷ put_person who rest) (who ∷ other ∷ rest)) ≡ (p who || (p other || list_any p rest))
+    by_order true ih = ap (λ b. p other || b) ih ∙ or-swap (p other) (p who) (list_any p rest)
+    by_order false ih = refl
+
+any-ascending : (p : List ℕ → Bool) (people done : List (List ℕ)) → list_any p (ascending_onto done people) ≡ (list_any p done || list_any p people)
+any-ascending p [] done = sym (or-false (list_any p done))
+any-ascending p (who ∷ rest) done =
+    any-ascending p rest (put_person who done)
+    ∙ ap (λ b. b || list_any p rest) (any-put p who done)
+    ∙ or-turn (p who) (list_any p done) (list_any p rest)
+
+any-map : (p : List ℕ → Bool) (rows : List SheetRow) → list_any p (map (λ row. row.who) rows) ≡ list_any (λ row. p row.who) rows
+any-map p [] = refl
+any-map p (row ∷ rows) = ap (λ b. p row.who || b) (any-map p rows)
+
+any-listed : (c : ℕ) (last : Option SheetRow) → list_any (enters c) (listed last) ≡ last_enters c last
+any-listed c None = refl
+any-listed c (Some row) = or-false (enters c row)
+
+pub present_are_in : PresentAreIn
+present_are_in rows who c t =
+    any-ascending (same_text who) (map (λ row. row.who) (filter (enters c) (in_force t rows))) []
+    ∙ any-map (same_text who) (filter (enters c) (in_force t rows))
+    ∙ any-filter (enters c) (λ row. same_text who row.who) (in_force t rows)
+    ∙ any-same (λ row. enters c row && same_text who row.who) (λ row. same_text row.who who && enters c row) (in_force t rows) (λ row. ap (λ b. enters c row && b) (same-turned who row.who) ∙ and-comm (enters c row) (same_text row.who who))
+    ∙ sym (any-filter (of_person who) (enters c) (in_force t rows))
+    ∙ ap (list_any (enters c)) (force-last who t rows [] None refl)
+    ∙ any-listed c (last_row (filter (is_of who t) rows))

@@ -1,0 +1,12 @@
+pub mod Lists
+pub mod Agreement
+pub mod Firsts
+pub mod Moments
+pub mod Keeping
+pub mod Sheets
+pub mod Refusals
+pub mod Others
+pub mod Rising
+pub mod Orders
+pub mod Listed
+pub mod Alone

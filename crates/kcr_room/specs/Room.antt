@@ -1,0 +1,100 @@
+-- Who is in a room, by the rows of the sheet.
+use Rattle.std.specs.Prelude.{ℕ, ◌==◌, Bool, true, false, not, ◌&&◌, nat_lt, nat_le, List, [], ◌∷◌, ◌++◌, map, filter, length, Option, Some, None, if◌then◌else◌, codes}
+use Rattle.std.specs.List.{list_any, count_by}
+use Rattle.kcr_base.specs.Same.{same_text, is_before}
+use Rattle.kcr_room.specs.declared.Way.{Way}
+use Rattle.kcr_room.specs.declared.Way.TheVariants.{Enter, Leave}
+use Rattle.kcr_room.specs.declared.SheetRow.{SheetRow}
+
+abbrev pub is_enter : Way → Bool
+is_enter Enter = true
+is_enter Leave = false
+
+abbrev pub way_text : Way → List ℕ
+way_text Enter = codes "in"
+way_text Leave = codes "out"
+
+-- the row is an `in` of the ceremony
+abbrev pub enters : ℕ → SheetRow → Bool
+enters ceremony row = is_enter row.way && row.ceremony == ceremony
+
+-- the later of two rows; of two with one moment the later listed
+abbrev pub later : Option SheetRow → SheetRow → Option SheetRow
+later None row = Some row
+later (Some other) row = if nat_lt row.at other.at then Some other else Some row
+
+-- the row is not earlier than the last one so far
+abbrev pub is_overtaken : Option SheetRow → SheetRow → Bool
+is_overtaken None row = true
+is_overtaken (Some other) row = nat_le other.at row.at
+
+-- the later of a row and the last of a list
+abbrev pub last_onto : Option SheetRow → List SheetRow → Option SheetRow
+last_onto last [] = last
+last_onto last (row ∷ rows) = last_onto (later last row) rows
+
+-- the row with the greatest moment; of two with one moment the later listed
+abbrev pub last_row : List SheetRow → Option SheetRow
+last_row rows = last_onto None rows
+
+-- the row is this person's and not later than t
+abbrev pub is_of : List ℕ → ℕ → SheetRow → Bool
+is_of who t row = same_text row.who who && nat_le row.at t
+
+-- the last row is there, and is `in` for the ceremony
+abbrev pub last_enters : ℕ → Option SheetRow → Bool
+last_enters ceremony None = false
+last_enters ceremony (Some row) = enters ceremony row
+
+-- in the room: of the person's rows with moments at most t, the greatest is `in` for the ceremony
+abbrev pub in_by : List SheetRow → List ℕ → ℕ → ℕ → Bool
+in_by rows who ceremony t = last_enters ceremony (last_row (filter (is_of who t) rows))
+
+-- the row is of the same person, and not later
+abbrev pub is_replaced : SheetRow → SheetRow → Bool
+is_replaced row other = same_text other.who row.who && nat_le other.at row.at
+
+-- the row is of the same person, and later
+abbrev pub is_ahead : SheetRow → SheetRow → Bool
+is_ahead row other = same_text other.who row.who && nat_lt row.at other.at
+
+-- a further row takes the place of its person's last row, unless that one is later
+abbrev pub force_next : List SheetRow → SheetRow → List SheetRow
+force_next lasts row = filter (λ other. not (is_replaced row other)) lasts ++ (if list_any (is_ahead row) lasts then [] else row ∷ [])
+
+-- each person's last row, of those with moments at most t
+abbrev pub force_onto : ℕ → List SheetRow → List SheetRow → List SheetRow
+force_onto t lasts [] = lasts
+force_onto t lasts (row ∷ rows) = force_onto t (if nat_le row.at t then force_next lasts row else lasts) rows
+
+abbrev pub in_force : ℕ → List SheetRow → List SheetRow
+in_force t rows = force_onto t [] rows
+
+-- a person put into a list in byte order
+abbrev pub put_person : List ℕ → List (List ℕ) → List (List ℕ)
+put_person who [] = who ∷ []
+put_person who (other ∷ rest) = if is_before other who then other ∷ put_person who rest else who ∷ other ∷ rest
+
+abbrev pub ascending_onto : List (List ℕ) → List (List ℕ) → List (List ℕ)
+ascending_onto done [] = done
+ascending_onto done (who ∷ rest) = ascending_onto (put_person who done) rest
+
+-- the people in byte order
+abbrev pub ascending : List (List ℕ) → List (List ℕ)
+ascending people = ascending_onto [] people
+
+-- those in the room at t, in byte order
+abbrev pub present_by : List SheetRow → ℕ → ℕ → List (List ℕ)
+present_by rows ceremony t = ascending (map (λ row. row.who) (filter (enters ceremony) (in_force t rows)))
+
+-- how many people are in the room at t
+abbrev pub crowd_by : List SheetRow → ℕ → ℕ → ℕ
+crowd_by rows ceremony t = length (present_by rows ceremony t)
+
+-- how many `in` rows the ceremony has
+abbrev pub entries_by : List SheetRow → ℕ → ℕ
+entries_by rows ceremony = count_by (enters ceremony) rows
+
+-- the person's last row
+abbrev pub last_row_of : List SheetRow → List ℕ → Option SheetRow
+last_row_of rows who = last_row (filter (λ row. same_text row.who who) rows)

@@ -1,0 +1,299 @@
+//! What a request of the sheet changes, by stays, or the first reason why it is refused.
+ghost use Rattle.std.specs.Prelude.{MatchResult, Some, ◌≢◌, ◌≡◌, IfOk, None, map};
+ghost use Rattle.std.specs.List.{find, filter, list_any};
+ghost use Rattle.kcr_base.specs.declared.refusal.Refusal.TheVariants.{Memory};
+ghost use Rattle.kcr_room.specs.Adding;
+ghost use Rattle.kcr_room.specs.declared.Way.TheVariants.{Enter, Leave};
+
+use crate::{Stay, Way, first_lone_in, is_crowded_in};
+use kcr_base::{Initials, Moment, Refusal, not_later, same_person};
+use std::alloc::{AllocError, Global};
+
+fn is_open(until: Option<Moment>) -> bool
+    ensures { result ≡ Adding.is_open until }
+{
+    match until {
+        None => true,
+        Some(_) => false,
+    }
+}
+
+fn ends_from(at: Moment, until: Option<Moment>) -> bool
+    ensures { result ≡ Adding.ends_from at until }
+{
+    match until {
+        None => false,
+        Some(until) => not_later(at, until),
+    }
+}
+
+fn reaches(who: Initials, at: Moment, stay: &Stay) -> bool
+    ensures { result ≡ Adding.reaches who at stay.now }
+{
+    same_person(stay.who, who) && (not_later(at, stay.since) || ends_from(at, stay.until))
+}
+
+fn is_inside(who: Initials, stay: &Stay) -> bool
+    ensures { result ≡ Adding.is_inside who stay.now }
+{
+    same_person(stay.who, who) && is_open(stay.until)
+}
+
+fn is_inside_of(ceremony: u32, who: Initials, stay: &Stay) -> bool
+    ensures { result ≡ Adding.is_inside_of ceremony who stay.now }
+{
+    is_inside(who, stay) && stay.ceremony == ceremony
+}
+
+fn has_reached(stays: &[Stay], who: Initials, at: Moment) -> bool
+    ensures { result ≡ list_any (Adding.reaches who at) stays.now }
+{
+    stays.iter().any(|stay| reaches(who, at, stay))
+}
+
+fn is_inside_some(stays: &[Stay], who: Initials) -> bool
+    ensures { result ≡ list_any (Adding.is_inside who) stays.now }
+{
+    stays.iter().any(|stay| is_inside(who, stay))
+}
+
+fn is_inside_this(stays: &[Stay], ceremony: u32, who: Initials) -> bool
+    ensures { result ≡ list_any (Adding.is_inside_of ceremony who) stays.now }
+{
+    stays.iter().any(|stay| is_inside_of(ceremony, who, stay))
+}
+
+/// Whether it is not the person's turn: a row of the person is at the moment or later, or for `in` the
+/// person is in some room, or for `out` not in the room of the ceremony.
+pub fn is_out_of_turn_in(stays: &[Stay], ceremony: u32, way: Way, at: Moment, who: Initials) -> bool
+    ensures { result ≡ Adding.is_out_of_turn_in stays.now ceremony way at who }
+{
+    match way {
+        Way::Enter => has_reached(stays, who, at) || is_inside_some(stays, who),
+        Way::Leave => has_reached(stays, who, at) || !is_inside_this(stays, ceremony, who),
+    }
+}
+
+// The first of the people whose turn it is not.
+fn first_out_of_turn(
+    stays: &[Stay],
+    ceremony: u32,
+    way: Way,
+    at: Moment,
+    people: &[Initials],
+) -> Option<Initials>
+    ensures { result ≡ find (Adding.is_out_of_turn_in stays.now ceremony way at) people.now }
+{
+    for who in people {
+        if is_out_of_turn_in(stays, ceremony, way, at, *who) {
+            return Some(*who);
+        }
+    }
+    None
+}
+
+fn is_among(people: &[Initials], who: Initials) -> bool
+    ensures { result ≡ Adding.is_among people.now who }
+{
+    people.iter().any(|other| same_person(who, *other))
+}
+
+fn closed(people: &[Initials], at: Moment, stay: &Stay) -> Stay
+    ensures { result ≡ Adding.closed people.now at stay.now }
+{
+    let until = if is_among(people, stay.who) && is_open(stay.until) {
+        Some(at)
+    } else {
+        stay.until
+    };
+    Stay {
+        ceremony: stay.ceremony,
+        who: stay.who,
+        since: stay.since,
+        until,
+    }
+}
+
+fn new_stay(ceremony: u32, at: Moment, who: Initials) -> Stay
+    ensures { result ≡ Adding.new_stay ceremony at who }
+{
+    Stay {
+        ceremony,
+        who,
+        since: at,
+        until: None,
+    }
+}
+
+fn ends_by(ceremony: u32, people: &[Initials], stay: &Stay) -> bool
+    ensures { result ≡ Adding.ends_by ceremony people.now stay.now }
+{
+    stay.ceremony == ceremony && is_among(people, stay.who) && is_open(stay.until)
+}
+
+// The ceremony's stays with those who come.
+fn after_enter(
+    alloc: Global,
+    stays: &[Stay],
+    ceremony: u32,
+    people: &[Initials],
+    at: Moment,
+) -> Result<Vec<Stay>, AllocError>
+    ensures { IfOk result (λ later. later.items ≡ Adding.after stays.now ceremony Enter people.now at) }
+{
+    let mut later = Vec::new(alloc);
+    for stay in stays {
+        if stay.ceremony == ceremony {
+            later.push(*stay)?;
+        }
+    }
+    for who in people {
+        later.push(new_stay(ceremony, at, *who))?;
+    }
+    Ok(later)
+}
+
+// The ceremony's stays where these people leave.
+fn after_leave(
+    alloc: Global,
+    stays: &[Stay],
+    ceremony: u32,
+    people: &[Initials],
+    at: Moment,
+) -> Result<Vec<Stay>, AllocError>
+    ensures { IfOk result (λ later. later.items ≡ Adding.after stays.now ceremony Leave people.now at) }
+{
+    let mut later = Vec::new(alloc);
+    for stay in stays {
+        if stay.ceremony == ceremony {
+            later.push(closed(people, at, stay))?;
+        }
+    }
+    Ok(later)
+}
+
+fn after(
+    alloc: Global,
+    stays: &[Stay],
+    ceremony: u32,
+    way: Way,
+    people: &[Initials],
+    at: Moment,
+) -> Result<Vec<Stay>, AllocError>
+    ensures { IfOk result (λ later. later.items ≡ Adding.after stays.now ceremony way people.now at) }
+{
+    match way {
+        Way::Enter => after_enter(alloc, stays, ceremony, people, at),
+        Way::Leave => after_leave(alloc, stays, ceremony, people, at),
+    }
+}
+
+fn new_stays(
+    alloc: Global,
+    ceremony: u32,
+    people: &[Initials],
+    at: Moment,
+) -> Result<Vec<Stay>, AllocError>
+    ensures { IfOk result (λ changed. changed.items ≡ map (Adding.new_stay ceremony at) people.now) }
+{
+    people
+        .iter()
+        .map(|who| new_stay(ceremony, at, *who))
+        .collect(alloc)
+}
+
+fn ended_stays(
+    alloc: Global,
+    stays: &[Stay],
+    ceremony: u32,
+    people: &[Initials],
+    at: Moment,
+) -> Result<Vec<Stay>, AllocError>
+    ensures { IfOk result (λ changed. changed.items ≡ map (Adding.closed people.now at) (filter (Adding.ends_by ceremony people.now) stays.now)) }
+{
+    stays
+        .iter()
+        .filter(|stay| ends_by(ceremony, people, *stay))
+        .map(|stay| closed(people, at, stay))
+        .collect(alloc)
+}
+
+fn changed_stays(
+    alloc: Global,
+    stays: &[Stay],
+    ceremony: u32,
+    way: Way,
+    people: &[Initials],
+    at: Moment,
+) -> Result<Vec<Stay>, AllocError>
+    ensures { IfOk result (λ changed. changed.items ≡ Adding.changed_stays stays.now ceremony way people.now at) }
+{
+    match way {
+        Way::Enter => new_stays(alloc, ceremony, people, at),
+        Way::Leave => ended_stays(alloc, stays, ceremony, people, at),
+    }
+}
+
+fn is_overfull(later: &[Stay], way: Way) -> bool
+    ensures { result ≡ Adding.is_overfull later.now way }
+{
+    match way {
+        Way::Enter => later.len() > 1000,
+        Way::Leave => false,
+    }
+}
+
+// What the ceremony's stays after the request are refused for.
+fn later_refusal(later: &[Stay], ceremony: u32, full: bool, way: Way) -> Option<Refusal>
+    ensures { result ≡ Adding.later_refusal later.now ceremony full way }
+{
+    if is_crowded_in(later, ceremony) {
+        return Some(Refusal::Crowd);
+    }
+    if let Some(moment) = first_lone_in(later, ceremony) {
+        return Some(Refusal::Lone { moment });
+    }
+    if full || is_overfull(later, way) {
+        return Some(Refusal::Full);
+    }
+    None
+}
+
+/// What a request of the sheet changes for a ceremony: for `in` a new stay for each person, for `out`
+/// the open stays of the people with their end. `stays` are all stays of the register, or at least
+/// those of the ceremony and of the people; `mark` is the ceremony's mark, and `full` says that the
+/// register takes no more commands. The first refusal that holds, of: `Late` with the mark, the
+/// moment is not later than the mark; `Turn` with the first of the people, in the order of the
+/// request, who has a row at the moment or later, or who for `in` is in some room, or for `out` is
+/// not in the room of this ceremony; then, of the ceremony's stays as they would be after the whole
+/// request, at every moment: `Crowd`, more than 128 people would be in the room; `Lone` with the first
+/// moment at which exactly one would be; `Full`, for `in` there would be more than 1,000 `in` rows,
+/// or the register is full. A refusal changes nothing. `Memory` comes where memory runs out.
+pub fn add_stays(
+    alloc: Global,
+    stays: &[Stay],
+    ceremony: u32,
+    mark: Moment,
+    full: bool,
+    way: Way,
+    people: &[Initials],
+    at: Moment,
+) -> Result<Vec<Stay>, Refusal>
+    ensures { MatchResult result
+        (λ changed. (Adding.stays_refusal stays.now ceremony mark full way people.now at ≡ None)
+        × (changed.items ≡ Adding.changed_stays stays.now ceremony way people.now at))
+        (λ refusal. refusal ≢ Memory → Adding.stays_refusal stays.now ceremony mark full way people.now at ≡ Some refusal) }
+{
+    if not_later(at, mark) {
+        return Err(Refusal::Late { mark });
+    }
+    if let Some(who) = first_out_of_turn(stays, ceremony, way, at, people) {
+        return Err(Refusal::Turn { who });
+    }
+    let later = after(alloc, stays, ceremony, way, people, at)?;
+    if let Some(refusal) = later_refusal(&later, ceremony, full, way) {
+        return Err(refusal);
+    }
+    let changed = changed_stays(alloc, stays, ceremony, way, people, at)?;
+    Ok(changed)
+}

@@ -1,0 +1,79 @@
+//! The rooms of ceremonies: their entry and exit sheet, the stays that its rows tell of, who is in a
+//! room at a moment, and what a request of the sheet adds, or the first reason why it is refused.
+#![tactic(auto)]
+
+pub mod adding;
+pub mod laws;
+pub mod listing;
+pub mod presence;
+pub mod sheet;
+pub mod stays;
+#[cfg(test)]
+mod tests;
+
+ghost use Rattle.std.specs.Prelude.{⊤, codes, ◌≡◌};
+ghost use Rattle.kcr_base.specs.Reads.{Found, Only};
+ghost use Rattle.kcr_room.specs.Room.{way_text};
+
+pub use adding::{add_stays, is_out_of_turn_in};
+pub use listing::{attendance, attendance_in};
+use kcr_base::{Initials, Moment};
+pub use presence::{
+    first_lone, first_lone_in, holds, is_crowded, is_crowded_in, present, present_in,
+};
+pub use sheet::{add_rows, last_row_of};
+pub use stays::stays_of;
+
+/// Whether people come into a room or go out of it.
+#[derive(Clone, Copy, Debug, PartialEq, Eq)]
+pub enum Way {
+    /// `in`
+    Enter,
+    /// `out`
+    Leave,
+}
+
+impl Way {
+    /// The way with this text, or None where there is none.
+    pub fn read(bytes: &[u8]) -> Option<Way>
+        ensures found { Found (λ _. ⊤) way_text bytes.now result }
+        ensures only { Only (λ _. ⊤) way_text bytes.now result }
+    {
+        match bytes {
+            b"in" => Some(Way::Enter),
+            b"out" => Some(Way::Leave),
+            _ => None,
+        }
+    }
+
+    /// Its text, `in` or `out`.
+    pub fn text(self) -> &'static str
+        ensures { result.now ≡ way_text self }
+    {
+        match self {
+            Way::Enter => "in",
+            Way::Leave => "out",
+        }
+    }
+}
+
+/// A row of the sheet: a person came into the room of a ceremony at a moment, or went out of it.
+#[derive(Clone, Copy, Debug, PartialEq, Eq)]
+pub struct SheetRow {
+    /// The ceremony's number.
+    pub ceremony: u32,
+    pub who: Initials,
+    pub way: Way,
+    pub at: Moment,
+}
+
+/// A person was in the room of a ceremony from `since` on.
+#[derive(Clone, Copy, Debug, PartialEq, Eq)]
+pub struct Stay {
+    /// The ceremony's number.
+    pub ceremony: u32,
+    pub who: Initials,
+    pub since: Moment,
+    /// The first moment at which the person is not there any more, or None while there is no end.
+    pub until: Option<Moment>,
+}
