@@ -146,6 +146,18 @@ fn fused(
     }
 }
 
+/// Whether the command is accepted. Where it is not, the device failed, and the register is broken.
+fn is_entered<S: Alter>(rt: &impl Abort, register: &mut Register<S>, command: &Command) -> bool {
+    let answer = register.apply(command);
+    if answer.is_ok() {
+        return true;
+    }
+    assert_eq!(rt; told(&answer), ("", 34));
+    assert!(rt; register.is_broken());
+    assert_eq!(rt; told(&register.apply(command)), ("", 35));
+    false
+}
+
 /// Whether the command met no stop. Afterwards the tables are those before it or after it, and sent again it gets
 /// the reply that it would have had.
 fn one_stop(rt: &impl Abort, alloc: Global, log: u64, db: u64) -> Result<Option<bool>, Fail> {
@@ -153,13 +165,7 @@ fn one_stop(rt: &impl Abort, alloc: Global, log: u64, db: u64) -> Result<Option<
         return Ok(None);
     };
     let bob = enter(alloc, "k2", "BB", "Bob Berg")?;
-    let answer = register.apply(&bob);
-    let is_accepted = answer.is_ok();
-    if let Err(refusal) = answer {
-        assert_eq!(rt; refusal.number(), 34);
-        assert!(rt; register.is_broken());
-        assert_eq!(rt; told(&register.apply(&bob)), ("", 35));
-    }
+    let is_accepted = is_entered(rt, &mut register, &bob);
     let mut again = reopen(alloc, files_of(register)).ok_or("the open after the crash")?;
     let Shown::People(there) = again.look(&Question::People)?;
     assert!(rt; there.len() == 1 || there.len() == 2);

@@ -33,21 +33,10 @@ returns-in-Ok-commit-clause-whole g c was _ =
     search rules
 
 pub returns-in-Ok-commit-clause-tried : goal.returns-in-Ok-commit-clause-tried
-returns-in-Ok-commit-clause-tried g c was =
-    let S = g.S.Store in
-    let accepted = c.args.past.now.entries in
-    let b = begins S accepted c.args.conn.now c.transaction-tx.result.conn.now c.transaction-tx.ensures.begun was in
-    let begun = state S c.transaction-tx.result.conn.now in
-    let mid = state S c.prepare.new.tx.conn.now in
-    let end = c.commit.new.self.0 in
-    let after = c.after-after.result.entries in
-    let done = λ (clean : HasCleanDisk mid). subst (λ l. Stores l mid.now) (sym c.after-after.ensures.entries) (c.in-Ok.ensures.done clean b.inside accepted (λ live. (b.shows (was_clean begun mid _ c.prepare.ensures.survives clean) live).now)).1 in
-    let left = either accepted after begun mid b c.prepare.ensures.survives c.prepare.ensures.kept (state S end) c.commit.ensures.survives done in
-    let same : end ≡ c.conn-2-1.given.0 = search rules in
-    subst (λ h. LeavesEither accepted after (state S h)) same left
+returns-in-Ok-commit-clause-tried g c was clean db may = inr ((returns-in-Ok-commit-clause-whole g c was refl).crash clean db may)
 
 pub returns-clause-tried : goal.returns-clause-tried
-returns-clause-tried g c was =
+returns-clause-tried g c was clean db may =
     let S = g.S.Store in
     let accepted = c.args.past.now.entries in
     let b = begins S accepted c.args.conn.now c.transaction-tx.result.conn.now c.transaction-tx.ensures.begun was in
@@ -57,8 +46,9 @@ returns-clause-tried g c was =
     let after = c.after-after.result.entries in
     let done = λ (clean : HasCleanDisk mid). subst (λ l. Stores l mid.now) (sym c.after-after.ensures.entries) (c.in-Ok.ensures.done clean b.inside accepted (λ live. (b.shows (was_clean begun mid _ c.prepare.ensures.survives clean) live).now)).1 in
     let left = either accepted after begun mid b c.prepare.ensures.survives c.prepare.ensures.kept (state S end) c.commit.ensures.survives done in
-    let same : end ≡ c.conn-2-1.given.0 = search rules in
-    subst (λ h. LeavesEither accepted after (state S h)) same left
+    let at : HasCleanDisk (state S end) = search rules in
+    let left_in : (state S end).may_leave db = search rules in
+    left at db left_in
 
 pub returns-in-Err-SqliteFailure-OutOfMemory-clause-tried : goal.returns-in-Err-SqliteFailure-OutOfMemory-clause-tried
 returns-in-Err-SqliteFailure-OutOfMemory-clause-tried g c was =

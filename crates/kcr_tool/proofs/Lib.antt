@@ -1,0 +1,3 @@
+pub mod Parses
+mod Examples
+pub mod Empty

@@ -1,0 +1,53 @@
+//! The program `kcr`: the register of root zone key ceremonies, answered over HTTP.
+//!
+//! `kcr run` answers the stream of requests on standard input on standard output, by a register in
+//! memory that is empty at first.
+#![tactic(auto)]
+
+mod act;
+#[cfg(test)]
+mod tests;
+mod words;
+
+use act::act;
+use kcr_base::Counted;
+use std::process::ExitCode;
+use std::{env, io};
+
+// The words of the command line, the first of which is the program's name.
+fn words_of(rt: &HostRuntime) -> io::Result<Vec<String>> {
+    let mut words = Vec::new(rt.alloc());
+    for word in env::args(rt)? {
+        words.push(word)?;
+    }
+    Ok(words)
+}
+
+// Does what the words say.
+fn act_on(rt: &HostRuntime, words: &[String]) -> u8 {
+    let mut input = Counted::new(rt.stdin());
+    let mut output = Counted::new(rt.stdout());
+    act(rt, words, &mut input, &mut output, &mut rt.stderr())
+}
+
+// The status where the words could not be read: a word is not UTF-8, or memory ran out.
+fn without_words(rt: &HostRuntime, error: io::Error) -> u8 {
+    match error.kind() {
+        io::ErrorKind::InvalidData => {
+            let _ = eprintln!(rt; "error: a word is not UTF-8");
+            2
+        }
+        _ => {
+            let _ = eprintln!(rt; "fault: memory");
+            1
+        }
+    }
+}
+
+fn main(rt: HostRuntime) -> ExitCode {
+    let status = match words_of(&rt) {
+        Ok(words) => act_on(&rt, &words),
+        Err(error) => without_words(&rt, error),
+    };
+    ExitCode::from(status)
+}
