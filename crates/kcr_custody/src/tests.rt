@@ -218,7 +218,8 @@ fn told_of_opening(
 }
 
 #[test]
-fn safes_are_turned(rt: HostRuntime) -> Result<(), Fail> {
+fn a_safe_wants_its_own_controller(rt: HostRuntime) -> Result<(), Fail> {
+    let now = scene(8, 7)?;
     let safes = [
         safe_row(SafeNumber::One, false),
         safe_row(SafeNumber::Two, false),
@@ -226,21 +227,25 @@ fn safes_are_turned(rt: HostRuntime) -> Result<(), Fail> {
     let aa = keeper(b"AA", false).ok_or("initials")?;
     let dd = keeper(b"DD", true).ok_or("initials")?;
     assert_eq!(rt;
-        told_of_opening(&scene(8, 7)?, &safes, SafeNumber::One, &aa),
+        told_of_opening(&now, &safes, SafeNumber::One, &aa),
         "absent person"
     );
     assert_eq!(rt;
-        told_of_opening(&scene(8, 7)?, &safes, SafeNumber::One, &dd),
+        told_of_opening(&now, &safes, SafeNumber::One, &dd),
         "absent person"
     );
-    let open = opened(&scene(8, 7)?, &safes, &dd).ok_or("safe")?;
-    assert!(rt; open.is_open);
-    let safes = [safe_row(SafeNumber::One, false), open];
-    assert_eq!(rt;
-        told_of_opening(&scene(8, 8)?, &safes, SafeNumber::Two, &dd),
-        "safe"
-    );
-    let again = shut(&scene(8, 8)?, &safes, &dd).ok_or("safe")?;
+    Ok(())
+}
+
+#[test]
+fn a_safe_is_opened_and_shut(rt: HostRuntime) -> Result<(), Fail> {
+    let now = scene(8, 7)?;
+    let dd = keeper(b"DD", true).ok_or("initials")?;
+    let closed = [safe_row(SafeNumber::Two, false)];
+    let open = [opened(&now, &closed, &dd).ok_or("safe")?];
+    assert!(rt; open[0].is_open);
+    assert_eq!(rt; told_of_opening(&now, &open, SafeNumber::Two, &dd), "safe");
+    let again = shut(&now, &open, &dd).ok_or("safe")?;
     assert!(rt; !again.is_open);
     Ok(())
 }

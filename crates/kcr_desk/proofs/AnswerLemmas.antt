@@ -1,18 +1,17 @@
 -- What the register answers to one message.
 use Rattle.std.proofs.Common.{◌≡◌, ℕ, List, refl, sym, ap, ◌∙◌, subst, inl, inr}
-use Rattle.std.specs.Prelude.{◌⊎◌, ◌≢◌, ◌↔◌, Bool, true, false, Option, Some, None, Result, Ok, Err, MatchOption, MatchResult, IsSome, IsTrue, unwrap_or}
+use Rattle.std.specs.Prelude.{◌⊎◌, ◌≢◌, true, false, Option, Some, None, Result, Ok, Err, MatchOption, MatchResult, IsSome, IsTrue}
 use Rattle.kcr_base.specs.declared.refusal.Refusal.{Refusal}
 use Rattle.kcr_base.specs.declared.refusal.Refusal.TheVariants as Refusals
 use Rattle.kcr_machine.specs.History.{History}
 use Rattle.kcr_machine.specs.Refusals.{carries}
 use Rattle.kcr_machine.specs.declared.commands.Command.{Command}
 use Rattle.kcr_machine.specs.declared.commands.Reply.{Reply}
-use Rattle.kcr_store.specs.Steps.{Steps, IsNext, IsAsked}
+use Rattle.kcr_store.specs.Steps.{Steps}
 use Rattle.kcr_store.specs.declared.question.Question.{Question}
 use Rattle.kcr_store.specs.declared.question.Shown.{Shown}
-use Rattle.kcr_wire.specs.OrMemory.{OrMemory}
 use Rattle.kcr_wire.specs.Shows.{shown_text}
-use Rattle.kcr_desk.specs.Answers.{Standing, told_text, told_refusal, told_reply, told_shown, Performs, Inquires, IsRefused, TakesCommand, TakesQuestion}
+use Rattle.kcr_desk.specs.Answers.{Standing, told_text, told_refusal, told_reply, told_shown, Performs, Inquires, IsRefused}
 use Rattle.kcr_desk.specs.Texts.{Told}
 
 -- a refusal is told, or want of memory in the place of one that carries something
@@ -29,7 +28,7 @@ TellsReply target result told =
 abbrev pub TellsShown : List ℕ → Result Shown Refusal → Told → Type 0
 TellsShown target result told =
     MatchResult result (λ shown. (told ≡ told_text (shown_text shown)) ⊎ (told ≡ told_refusal target Refusals.Memory))
-      (λ refusal. TellsRefusal target refusal told)
+    (λ refusal. TellsRefusal target refusal told)
 
 not_some : {T : Type 0} (o : Option T) → (IsSome o → ⊥) → o ≡ None
 not_some None h = refl
@@ -60,21 +59,21 @@ module _ (before after : Standing) (x : Command) (target : List ℕ) (told : Tol
   whole_command : (result : Result Reply Refusal) → before.torn ≡ None
       → Performs before.accepted x result after → TellsReply target result told
       → IsRefused before target told after Refusals.Memory
-          ⊎ ((r : Result Reply Refusal) × (told ≡ told_reply target r) × Performs before.accepted x r after)
+      ⊎ ((r : Result Reply Refusal) × (told ≡ told_reply target r) × Performs before.accepted x r after)
   whole_command (Ok reply) none does tells = inr (Ok reply, tells, does)
   whole_command (Err r) none does (inl e) = inr (Err r, e, does)
   whole_command (Err r) none does (inr c) =
       let calm : after.torn ≡ None = not_some after.torn (λ broken.
-          let is : ◌≡◌ {A = Result Reply Refusal} (Err r) (Err Refusals.Disk) = does.breaks.0 broken in
-          let same_refusal : r ≡ Refusals.Disk = cc in carries_no_disk r c.0 same_refusal) in
+      let is : ◌≡◌ {A = Result Reply Refusal} (Err r) (Err Refusals.Disk) = does.breaks.0 broken in
+      let same_refusal : r ≡ Refusals.Disk = cc in carries_no_disk r c.0 same_refusal) in
       inl (c.1, still before after (step_err before.accepted after.accepted x r does.step) none calm)
 
   pub took_command : (torn : Option History) → before.torn ≡ torn → (result : Result Reply Refusal)
       → (IsSome torn → (result ≡ Err Refusals.Broken) × (after ≡ before)) → (torn ≡ None → Performs before.accepted x result after)
       → TellsReply target result told
       → IsRefused before target told after Refusals.Memory
-          ⊎ MatchOption torn ((r : Result Reply Refusal) × (told ≡ told_reply target r) × Performs before.accepted x r after)
-              (λ _. IsRefused before target told after Refusals.Broken)
+      ⊎ MatchOption torn ((r : Result Reply Refusal) × (told ≡ told_reply target r) × Performs before.accepted x r after)
+      (λ _. IsRefused before target told after Refusals.Broken)
   took_command None e result broken does tells = whole_command result e (does refl) tells
   took_command (Some t) e result broken does tells = inr (broken_command result (broken refl).0 (broken refl).1 tells)
 
@@ -91,25 +90,25 @@ module _ (before after : Standing) (question : Question) (target : List ℕ) (to
   whole_question : (result : Result Shown Refusal) → before.torn ≡ None
       → Inquires before.accepted question result after → TellsShown target result told
       → IsRefused before target told after Refusals.Memory
-          ⊎ ((r : Result Shown Refusal) × (told ≡ told_shown target r) × Inquires before.accepted question r after)
+      ⊎ ((r : Result Shown Refusal) × (told ≡ told_shown target r) × Inquires before.accepted question r after)
   whole_question (Ok shown) none does (inl e) = inr (Ok shown, e, does)
   whole_question (Ok shown) none does (inr e) =
       let calm : after.torn ≡ None = not_some after.torn (λ broken.
-          let is : ◌≡◌ {A = Result Shown Refusal} (Ok shown) (Err Refusals.Disk) = does.breaks.0 broken in cc) in
+      let is : ◌≡◌ {A = Result Shown Refusal} (Ok shown) (Err Refusals.Disk) = does.breaks.0 broken in cc) in
       inl (e, still before after does.same none calm)
   whole_question (Err r) none does (inl e) = inr (Err r, e, does)
   whole_question (Err r) none does (inr c) =
       let calm : after.torn ≡ None = not_some after.torn (λ broken.
-          let is : ◌≡◌ {A = Result Shown Refusal} (Err r) (Err Refusals.Disk) = does.breaks.0 broken in
-          let same_refusal : r ≡ Refusals.Disk = cc in carries_no_disk r c.0 same_refusal) in
+      let is : ◌≡◌ {A = Result Shown Refusal} (Err r) (Err Refusals.Disk) = does.breaks.0 broken in
+      let same_refusal : r ≡ Refusals.Disk = cc in carries_no_disk r c.0 same_refusal) in
       inl (c.1, still before after does.same none calm)
 
   pub took_question : (torn : Option History) → before.torn ≡ torn → (result : Result Shown Refusal)
       → (IsSome torn → (result ≡ Err Refusals.Broken) × (after ≡ before)) → (torn ≡ None → Inquires before.accepted question result after)
       → TellsShown target result told
       → IsRefused before target told after Refusals.Memory
-          ⊎ MatchOption torn ((r : Result Shown Refusal) × (told ≡ told_shown target r) × Inquires before.accepted question r after)
-              (λ _. IsRefused before target told after Refusals.Broken)
+      ⊎ MatchOption torn ((r : Result Shown Refusal) × (told ≡ told_shown target r) × Inquires before.accepted question r after)
+      (λ _. IsRefused before target told after Refusals.Broken)
   took_question None e result broken does tells = whole_question result e (does refl) tells
   took_question (Some t) e result broken does tells = inr (broken_question result (broken refl).0 (broken refl).1 tells)
 
@@ -124,7 +123,7 @@ module _ {Request : Type 0} (before after : Standing) (target : List ℕ) (told 
       → IsRefused before target told after Refusals.Memory ⊎ MatchResult expected Takes (IsRefused before target told after)
   refused expected r reads (inr c) same = inl (c.1, same)
   refused expected r reads (inl e) same = elim (is_memory r) [
-      inl m ↦ inl (e ∙ ap (told_refusal target) m, same)
+    | inl m ↦ inl (e ∙ ap (told_refusal target) m, same)
     | inr n ↦ inr (subst (λ t. MatchResult t Takes (IsRefused before target told after)) (sym (reads n)) (e, same))
   ]
 

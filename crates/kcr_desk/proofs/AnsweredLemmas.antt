@@ -1,6 +1,6 @@
 -- What the register answers to one message, from what its calls say.
-use Rattle.std.proofs.Common.{◌≡◌, ℕ, List, refl, sym, ap, subst, inl, inr}
-use Rattle.std.specs.Prelude.{◌⊎◌, ◌≢◌, ◌↔◌, Option, Some, None, Result, Ok, Err, MatchResult, IsSome, IsTrue, unwrap_or}
+use Rattle.std.proofs.Common.{◌≡◌, ℕ, List, refl, ap, inl}
+use Rattle.std.specs.Prelude.{◌≢◌, ◌↔◌, None, Result, Ok, Err, MatchResult, IsSome, IsTrue, unwrap_or}
 use Rattle.sqlite.specs.Held.{state}
 use Rattle.sqlite.specs.State.{HasCleanDisk}
 use Rattle.sqlite.specs.Store.{Ghosts}

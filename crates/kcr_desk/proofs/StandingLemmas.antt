@@ -1,12 +1,12 @@
 -- From runs over registers to runs over their histories.
-use Rattle.std.proofs.Common.{◌≡◌, ℕ, List, [], ◌∷◌, ap, ◌∙◌, subst, sym}
-use Rattle.std.specs.Prelude.{Option, Bool, IsTrue}
+use Rattle.std.proofs.Common.{ℕ, List, [], ◌∷◌, ap, ◌∙◌, subst, sym}
+use Rattle.std.specs.Prelude.{Option, IsTrue}
 use Rattle.sqlite.specs.Held.{state}
 use Rattle.sqlite.specs.State.{HasCleanDisk}
 use Rattle.sqlite.specs.Store.{Ghosts}
 use Rattle.kcr_store.specs.Register.{Seen}
-use Rattle.kcr_desk.specs.Answers.{Standing, standing, Answers, IsAnswer}
-use Rattle.kcr_desk.specs.Run.{Exchange, Run, asked_of, IsServed, IsBroken}
+use Rattle.kcr_desk.specs.Answers.{standing, Answers, IsAnswer}
+use Rattle.kcr_desk.specs.Run.{Exchange, Run, IsServed, IsBroken}
 
 module _ {S : Type 0} (g : Ghosts S) where
   abbrev is_clean : Seen S → Type 0

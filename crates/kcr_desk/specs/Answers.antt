@@ -1,5 +1,5 @@
 -- What a message is told, and what it leaves of the register.
-use Rattle.std.specs.Prelude.{◌≡◌, ◌⊎◌, ◌↔◌, ℕ, Bool, List, Option, Some, None, Result, Ok, Err, MatchOption, MatchResult, IsSome, IsTrue, unwrap_or, codes, if◌then◌else◌}
+use Rattle.std.specs.Prelude.{◌≡◌, ◌⊎◌, ◌↔◌, ℕ, List, Option, None, Result, Ok, Err, MatchOption, MatchResult, IsSome, IsTrue, unwrap_or, codes, if◌then◌else◌}
 use Rattle.std.specs.Str.{bytes_eq}
 use Rattle.sqlite.specs.Held.{state}
 use Rattle.sqlite.specs.State.{HasCleanDisk}
@@ -88,24 +88,24 @@ IsRefused before target told after refusal = (told ≡ told_refusal target refus
 abbrev pub TakesCommand : Standing → List ℕ → Told → Standing → Command → Type 0
 TakesCommand before target told after x =
     MatchOption before.torn
-      ((result : Result Reply Refusal) × (told ≡ told_reply target result) × Performs before.accepted x result after)
-      (λ _. IsRefused before target told after Refusals.Broken)
+    ((result : Result Reply Refusal) × (told ≡ told_reply target result) × Performs before.accepted x result after)
+    (λ _. IsRefused before target told after Refusals.Broken)
 
 -- a question likewise
 abbrev pub TakesQuestion : Standing → List ℕ → Told → Standing → Question → Type 0
 TakesQuestion before target told after question =
     MatchOption before.torn
-      ((result : Result Shown Refusal) × (told ≡ told_shown target result) × Inquires before.accepted question result after)
-      (λ _. IsRefused before target told after Refusals.Broken)
+    ((result : Result Shown Refusal) × (told ≡ told_shown target result) × Inquires before.accepted question result after)
+    (λ _. IsRefused before target told after Refusals.Broken)
 
 -- a POST is a command, and all else a question, or refused for its path, its method, its text or its form
 abbrev pub AnswersBy : Method → Standing → Asked → Told → Standing → Type 0
 AnswersBy Post before asked told after =
     MatchResult (command_of Post asked.target asked.body)
-      (TakesCommand before asked.target told after) (IsRefused before asked.target told after)
+    (TakesCommand before asked.target told after) (IsRefused before asked.target told after)
 AnswersBy method before asked told after =
     MatchResult (question_of method asked.target)
-      (TakesQuestion before asked.target told after) (IsRefused before asked.target told after)
+    (TakesQuestion before asked.target told after) (IsRefused before asked.target told after)
 
 -- what a message is told, and what it leaves. Any message may be told that memory is wanting, and then the register stays as it was
 abbrev pub IsAnswer : Standing → Asked → Told → Standing → Type 0

@@ -132,15 +132,7 @@ pub(crate) fn serve_stream<R: Read, W: Write, G: Responder>(
         match next_turn(&mut intake, reader, writer)? {
             Turn::Ended => return Ok(Served { requests }),
             Turn::Message(spans, plan) => {
-                answer_front(
-                    &intake,
-                    writer,
-                    responder,
-                    alloc,
-                    &mut paths,
-                    spans,
-                    plan,
-                )?;
+                answer_front(&intake, writer, responder, alloc, &mut paths, spans, plan)?;
                 requests += 1;
                 if plan.closes {
                     return Ok(Served { requests });

@@ -16,8 +16,8 @@ ghost use Rattle.kcr_base.specs.Reads.{Found, Only};
 ghost use Rattle.kcr_room.specs.Room.{way_text};
 
 pub use adding::{add_stays, is_out_of_turn_in};
-pub use listing::{attendance, attendance_in};
 use kcr_base::{Initials, Moment};
+pub use listing::{attendance, attendance_in};
 pub use presence::{
     first_lone, first_lone_in, holds, is_crowded, is_crowded_in, present, present_in,
 };

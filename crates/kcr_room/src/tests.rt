@@ -85,7 +85,10 @@ fn late_turn_and_lone(rt: HostRuntime) -> Result<(), Fail> {
         request(alloc, &none, opened, Way::Enter, &[aa], five),
         Err(Refusal::Lone { moment: five })
     );
-    assert_eq!(rt; request(alloc, &none, opened, Way::Enter, &[aa, bb], five), Ok(()));
+    assert_eq!(rt;
+        request(alloc, &none, opened, Way::Enter, &[aa, bb], five),
+        Ok(())
+    );
     let two = [
         row(61, "AA", Way::Enter, "20:05:00")?,
         row(61, "BB", Way::Enter, "20:05:00")?,
@@ -103,7 +106,10 @@ fn late_turn_and_lone(rt: HostRuntime) -> Result<(), Fail> {
         request(alloc, &two, signed, Way::Enter, &[cc], signed),
         Err(Refusal::Late { mark: signed })
     );
-    assert_eq!(rt; request(alloc, &two, signed, Way::Enter, &[cc], at("20:10:01")?), Ok(()));
+    assert_eq!(rt;
+        request(alloc, &two, signed, Way::Enter, &[cc], at("20:10:01")?),
+        Ok(())
+    );
     let three = [
         row(61, "AA", Way::Enter, "20:05:00")?,
         row(61, "BB", Way::Enter, "20:05:00")?,
@@ -114,7 +120,10 @@ fn late_turn_and_lone(rt: HostRuntime) -> Result<(), Fail> {
         request(alloc, &three, opened, Way::Leave, &[aa, bb], twenty),
         Err(Refusal::Lone { moment: twenty })
     );
-    assert_eq!(rt; request(alloc, &three, opened, Way::Leave, &[aa, bb, cc], twenty), Ok(()));
+    assert_eq!(rt;
+        request(alloc, &three, opened, Way::Leave, &[aa, bb, cc], twenty),
+        Ok(())
+    );
     // Into a room from another one, and out of one that they are not in.
     let others = [
         row(62, "AA", Way::Enter, "20:05:00")?,
@@ -199,7 +208,17 @@ fn rooms_and_sheets_fill_up(rt: HostRuntime) -> Result<(), Fail> {
     let (last, more) = (numbered(127)?, numbered(128)?);
     assert!(rt; add_stays(alloc, &stays, 61, opened, false, Way::Enter, &[last], six).is_ok());
     assert_eq!(rt;
-        add_stays(alloc, &stays, 61, opened, false, Way::Enter, &[last, more], six).err(),
+        add_stays(
+            alloc,
+            &stays,
+            61,
+            opened,
+            false,
+            Way::Enter,
+            &[last, more],
+            six
+        )
+        .err(),
         Some(Refusal::Crowd)
     );
     assert_eq!(rt;

@@ -1,5 +1,5 @@
 -- The program's command line is simple, so its matches are exact.
-use Rattle.std.proofs.Common.{◌≡◌, ◌⊎◌, List, [], ◌∷◌, true, Option, Some, None, option_map, refl, sym, ap, inl, inr, codes, ◌∙◌}
+use Rattle.std.proofs.Common.{◌≡◌, ◌⊎◌, List, [], ◌∷◌, true, Option, Some, None, option_map, refl, sym, ap, inl, inr, ◌∙◌}
 use Rattle.std.specs.Prelude.{Box}
 use Rattle.std.specs.Box.{box_value}
 use Rattle.clap.specs.declared.error.kind.ErrorKind.{ErrorKind}

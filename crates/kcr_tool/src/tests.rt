@@ -185,6 +185,48 @@ fn methods(rt: HostRuntime) -> Result<(), Fail> {
     Ok(())
 }
 
+// Whether an input is answered to its end, with no want of memory and no fault of the device.
+fn is_healthy(rt: &HostRuntime, input: &str) -> Result<bool, Fail> {
+    let left = left(rt, &["kcr", "run"], input)?;
+    let output = left.output.as_str();
+    Ok(
+        left.status == 0
+            && left.faults.as_str().is_empty()
+            && !output.contains("HTTP/1.1 503")
+            && !output.contains("HTTP/1.1 500"),
+    )
+}
+
+#[test]
+fn healthy(rt: HostRuntime) -> Result<(), Fail> {
+    let alloc = rt.alloc();
+    let ann = post(alloc, "/people", ANN)?;
+    let other = post(
+        alloc,
+        "/people",
+        "{\"key\":\"k1\",\"who\":\"AA\",\"name\":\"Ann B\"}",
+    )?;
+    let malformed = post(
+        alloc,
+        "/people",
+        "{\"key\":\"k2\",\"who\":\"aa\",\"name\":\"A\"}",
+    )?;
+    let no_json = post(alloc, "/people", "[")?;
+    let rows = format!(in alloc; "{ann}{ann}{other}{malformed}{no_json}{LIST}")?;
+    assert!(rt; is_healthy(&rt, "")?);
+    assert!(rt; is_healthy(&rt, rows.as_str())?);
+    assert!(rt; is_healthy(&rt, "HEAD /people HTTP/1.1\r\nHost: l\r\n\r\n")?);
+    assert!(rt; is_healthy(&rt, "DELETE /people HTTP/1.1\r\nHost: l\r\n\r\n")?);
+    assert!(rt; is_healthy(&rt, "GET /people HTTP/1.1\r\n")?);
+    assert!(rt;
+        is_healthy(
+            &rt,
+            "POST /people HTTP/1.1\r\nHost: l\r\nContent-Length: 131073\r\n\r\n"
+        )?
+    );
+    Ok(())
+}
+
 // A reader and a writer that fail.
 #[derive(Drop)]
 struct Failing;

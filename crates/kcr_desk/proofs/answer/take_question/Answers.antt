@@ -1,5 +1,5 @@
 use Rattle.std.proofs.Common.{◌∙◌, ap, inl, inr}
-use Rattle.std.specs.Prelude.{Ok, Err}
+use Rattle.std.specs.Prelude.{Ok}
 use Rattle.kcr_desk.specs.Answers.{told_text}
 use Rattle.kcr_desk.specs.Told.{told}
 use Rattle.kcr_desk.proofs.AnsweredLemmas.{question_answered}

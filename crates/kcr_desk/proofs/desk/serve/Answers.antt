@@ -7,12 +7,12 @@ pub returns-clause-served : goal.returns-clause-served
 returns-clause-served g c founded clean =
     IfOk-weaker c.serve_stream.result _ _
     (λ served is. served_standing g.S.Store (g.R.Read.remaining (inner_of c.args.reader.now)) (g.W.Write.contents (inner_of c.args.writer.now))
-      (g.W.Write.contents (inner_of c.serve_stream.new.writer)) c.args.register.now c.serve_stream.new.responder served.requests is founded clean)
+    (g.W.Write.contents (inner_of c.serve_stream.new.writer)) c.args.register.now c.serve_stream.new.responder served.requests is founded clean)
     c.serve_stream.ensures.served
 
 pub returns-clause-broken : goal.returns-clause-broken
 returns-clause-broken g c founded clean =
     on_err_weaker c.serve_stream.result
     (λ is. broken_standing g.S.Store (g.R.Read.remaining (inner_of c.args.reader.now)) (g.W.Write.contents (inner_of c.args.writer.now))
-      (g.W.Write.contents (inner_of c.serve_stream.new.writer)) c.args.register.now c.serve_stream.new.responder is founded clean)
+    (g.W.Write.contents (inner_of c.serve_stream.new.writer)) c.args.register.now c.serve_stream.new.responder is founded clean)
     c.serve_stream.ensures.broken
