@@ -59,7 +59,7 @@ struct Left {
 }
 
 // What the program leaves with these words and this input.
-fn left(rt: &HostRuntime, words: &[&str], input: &str) -> Result<Left, Fail> {
+fn run_with(rt: &HostRuntime, words: &[&str], input: &str) -> Result<Left, Fail> {
     let mut reader = Counted::new(input.as_bytes());
     let mut writer = Counted::new(Vec::new(rt.alloc()));
     let mut faults = Vec::new(rt.alloc());
@@ -96,7 +96,7 @@ const LISTED: &str = "{\"people\":[{\"name\":\"Ann Abel\",\"roles\":[],\"who\":\
 
 #[test]
 fn nothing_asked(rt: HostRuntime) -> Result<(), Fail> {
-    let left = left(&rt, &["kcr", "run"], "")?;
+    let left = run_with(&rt, &["kcr", "run"], "")?;
     assert_eq!(rt; left.status, 0);
     assert_eq!(rt; left.output.as_str(), "");
     assert_eq!(rt; left.faults.as_str(), "");
@@ -111,7 +111,7 @@ fn a_repeat_gets_the_same_answer(rt: HostRuntime) -> Result<(), Fail> {
     let listed = answer(alloc, "200 OK", LISTED)?;
     let input = format!(in alloc; "{ann}{ann}{LIST}")?;
     let output = format!(in alloc; "{accepted}{accepted}{listed}")?;
-    let left = left(&rt, &["kcr", "run"], input.as_str())?;
+    let left = run_with(&rt, &["kcr", "run"], input.as_str())?;
     assert_eq!(rt; left.status, 0);
     assert_eq!(rt; left.output.as_str(), output.as_str());
     Ok(())
@@ -131,7 +131,7 @@ fn another_command_under_the_key(rt: HostRuntime) -> Result<(), Fail> {
     let listed = answer(alloc, "200 OK", LISTED)?;
     let input = format!(in alloc; "{ann}{other}{LIST}")?;
     let output = format!(in alloc; "{accepted}{refused}{listed}")?;
-    let left = left(&rt, &["kcr", "run"], input.as_str())?;
+    let left = run_with(&rt, &["kcr", "run"], input.as_str())?;
     assert_eq!(rt; left.output.as_str(), output.as_str());
     Ok(())
 }
@@ -152,7 +152,7 @@ fn requests_refused(rt: HostRuntime) -> Result<(), Fail> {
         ),
     ];
     for (body, status, refusal) in cases {
-        let left = left(&rt, &["kcr", "run"], post(alloc, "/people", body)?.as_str())?;
+        let left = run_with(&rt, &["kcr", "run"], post(alloc, "/people", body)?.as_str())?;
         assert_eq!(rt; left.status, 0);
         assert_eq!(rt;
             left.output.as_str(),
@@ -164,7 +164,7 @@ fn requests_refused(rt: HostRuntime) -> Result<(), Fail> {
 
 #[test]
 fn methods(rt: HostRuntime) -> Result<(), Fail> {
-    let head = left(
+    let head = run_with(
         &rt,
         &["kcr", "run"],
         "HEAD /people HTTP/1.1\r\nHost: l\r\n\r\n",
@@ -173,7 +173,7 @@ fn methods(rt: HostRuntime) -> Result<(), Fail> {
         head.output.as_str(),
         "HTTP/1.1 200 OK\r\ncontent-type: application/json\r\ncontent-length: 13\r\n\r\n"
     );
-    let delete = left(
+    let delete = run_with(
         &rt,
         &["kcr", "run"],
         "DELETE /people HTTP/1.1\r\nHost: l\r\n\r\n",
@@ -187,7 +187,7 @@ fn methods(rt: HostRuntime) -> Result<(), Fail> {
 
 // Whether an input is answered to its end, with no want of memory and no fault of the device.
 fn is_healthy(rt: &HostRuntime, input: &str) -> Result<bool, Fail> {
-    let left = left(rt, &["kcr", "run"], input)?;
+    let left = run_with(rt, &["kcr", "run"], input)?;
     let output = left.output.as_str();
     Ok(
         left.status == 0
@@ -281,7 +281,7 @@ fn faults(rt: HostRuntime) -> Result<(), Fail> {
 #[test]
 fn usage(rt: HostRuntime) -> Result<(), Fail> {
     for words in [["kcr", "serve"], ["kcr", "--help"]] {
-        let left = left(&rt, &words, LIST)?;
+        let left = run_with(&rt, &words, LIST)?;
         assert_eq!(rt; left.status, 2);
         assert_eq!(rt; left.output.as_str(), "");
         assert!(rt;
