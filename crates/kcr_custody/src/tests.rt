@@ -194,59 +194,57 @@ fn keeper(who: &[u8], has_ssc2: bool) -> Option<Keeper> {
     })
 }
 
-fn opened(scene: &Scene, safes: &[SafeRow], by: &Keeper) -> Option<SafeRow> {
-    match &open_safe(scene, safes, SafeNumber::Two, by) {
-        Ok(row) => Some(*row),
-        Err(_) => None,
-    }
-}
-
-fn shut(scene: &Scene, safes: &[SafeRow], by: &Keeper) -> Option<SafeRow> {
-    match &shut_safe(scene, safes, SafeNumber::Two, by) {
-        Ok(row) => Some(*row),
-        Err(_) => None,
-    }
-}
-
+/// What DD is told, who opens a safe and may be trained for safe 2.
 fn told_of_opening(
     scene: &Scene,
     safes: &[SafeRow],
     safe: SafeNumber,
-    by: &Keeper,
+    has_ssc2: bool,
 ) -> &'static str {
-    told_of_safe(&open_safe(scene, safes, safe, by))
+    match keeper(b"DD", has_ssc2) {
+        Some(by) => told_of_safe(&open_safe(scene, safes, safe, &by)),
+        None => "initials",
+    }
+}
+
+/// What DD is told, who shuts safe 2 and is trained for it.
+fn told_of_shutting(scene: &Scene, safes: &[SafeRow]) -> &'static str {
+    match keeper(b"DD", true) {
+        Some(by) => told_of_safe(&shut_safe(scene, safes, SafeNumber::Two, &by)),
+        None => "initials",
+    }
 }
 
 #[test]
-fn a_safe_wants_its_own_controller(rt: HostRuntime) -> Result<(), Fail> {
-    let now = scene(8, 7)?;
-    let safes = [
+fn safes_are_turned(rt: HostRuntime) -> Result<(), Fail> {
+    let opening = Moment::from_number(OPENING).ok_or("moment")?;
+    assert_eq!(rt; opening.text(), *b"2025-02-13T20:00:00Z");
+    let closed = [
         safe_row(SafeNumber::One, false),
         safe_row(SafeNumber::Two, false),
     ];
-    let aa = keeper(b"AA", false).ok_or("initials")?;
-    let dd = keeper(b"DD", true).ok_or("initials")?;
+    let open = [
+        safe_row(SafeNumber::One, false),
+        safe_row(SafeNumber::Two, true),
+    ];
     assert_eq!(rt;
-        told_of_opening(&now, &safes, SafeNumber::One, &aa),
+        told_of_opening(&scene(8, 7)?, &closed, SafeNumber::Two, false),
         "absent person"
     );
     assert_eq!(rt;
-        told_of_opening(&now, &safes, SafeNumber::One, &dd),
+        told_of_opening(&scene(8, 7)?, &closed, SafeNumber::One, true),
         "absent person"
     );
-    Ok(())
-}
-
-#[test]
-fn a_safe_is_opened_and_shut(rt: HostRuntime) -> Result<(), Fail> {
-    let now = scene(8, 7)?;
-    let dd = keeper(b"DD", true).ok_or("initials")?;
-    let closed = [safe_row(SafeNumber::Two, false)];
-    let open = [opened(&now, &closed, &dd).ok_or("safe")?];
-    assert!(rt; open[0].is_open);
-    assert_eq!(rt; told_of_opening(&now, &open, SafeNumber::Two, &dd), "safe");
-    let again = shut(&now, &open, &dd).ok_or("safe")?;
-    assert!(rt; !again.is_open);
+    assert_eq!(rt;
+        told_of_opening(&scene(8, 7)?, &closed, SafeNumber::Two, true),
+        ""
+    );
+    assert_eq!(rt;
+        told_of_opening(&scene(8, 7)?, &open, SafeNumber::Two, true),
+        "safe"
+    );
+    assert_eq!(rt; told_of_shutting(&scene(8, 7)?, &open), "");
+    assert_eq!(rt; told_of_shutting(&scene(8, 7)?, &closed), "safe");
     Ok(())
 }
 
