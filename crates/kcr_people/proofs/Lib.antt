@@ -1,3 +1,3 @@
 mod Days
-mod Orders
-mod Withdrawn
+pub mod Orders
+pub mod Withdrawn

@@ -35,14 +35,14 @@ role-number Ssc2 = refl
 role-number Rkos = refl
 role-number Sw = refl
 
-role-same : (a b : Role) → same_role a b ≡ true → a ≡ b
+pub role-same : (a b : Role) → same_role a b ≡ true → a ≡ b
 role-same a b h = sym (role-number a) ∙ ap role_at (eqb-true (role_number a) (role_number b) h) ∙ role-number b
 
 -- the training that a withdrawal is of
-abbrev training_of : Withdrawal → Training
+abbrev pub training_of : Withdrawal → Training
 training_of w = record { who = w.who; role = w.role; since = w.since; until = w.until }
 
-is_of-true : (row : Training) (w : Withdrawal) → is_of row w ≡ true → training_of w ≡ row
+pub is_of-true : (row : Training) (w : Withdrawal) → is_of row w ≡ true → training_of w ≡ row
 is_of-true row w h =
     let a = and_parts (same_text w.who row.who && same_role w.role row.role && eqb w.since row.since) (eqb w.until row.until) h in
     let b = and_parts (same_text w.who row.who && same_role w.role row.role) (eqb w.since row.since) a.0 in
@@ -53,7 +53,7 @@ is_of-true row w h =
     let until : w.until ≡ row.until = eqb-true w.until row.until a.1 in
     λ i. record { who = who i; role = role i; since = since i; until = until i }
 
-is_of-own : (w : Withdrawal) → is_of (training_of w) w ≡ true
+pub is_of-own : (w : Withdrawal) → is_of (training_of w) w ≡ true
 is_of-own w =
     and_from (same_text w.who w.who && same_role w.role w.role && eqb w.since w.since) (eqb w.until w.until)
     (and_from (same_text w.who w.who && same_role w.role w.role) (eqb w.since w.since)

@@ -3,3 +3,7 @@ pub mod SeatLemmas
 pub mod WrittenLemmas
 pub mod FieldLemmas
 pub mod StepLemmas
+pub mod OnLiterals
+pub mod SeatReading
+pub mod RowLemmas
+pub mod ScriptReading

@@ -9,7 +9,7 @@ use Rattle.kcr_base.specs.declared.place.Role.TheVariants.{Ca, Iw, Sa, Ssc1, Ssc
 use Rattle.kcr_script.specs.declared.seat.Seat.{Seat}
 use Rattle.kcr_script.specs.declared.seat.Seat.TheVariants.{Staff, AnyCo, AnyRksh, Co, Rksh}
 use Rattle.kcr_script.specs.Seat.{kind, can_repeat}
-use Rattle.kcr_script.specs.Seats.{Item, runs, before_runs, groups, seats_of, pair_item}
+use Rattle.kcr_script.specs.Seats.{Item, runs, before_runs, groups, item_seats, pair_item}
 
 seat_of_kind : ℕ → Seat
 seat_of_kind n = get_or (Staff Ca ∷ Staff Iw ∷ Staff Sa ∷ Staff Ssc1 ∷ Staff Ssc2 ∷ Staff Rkos ∷ Staff Sw ∷ AnyCo ∷ AnyRksh ∷ []) n AnyCo
@@ -127,44 +127,44 @@ groups_more s n =
     rw (q, r) refl
 
 -- and they are its seats
-sevens : (s : Seat) (q : ℕ) → flat_map seats_of (replicate q (pair_item (s, 7))) ≡ replicate (q * 7) s
+sevens : (s : Seat) (q : ℕ) → flat_map item_seats (replicate q (pair_item (s, 7))) ≡ replicate (q * 7) s
 sevens s zero = refl
 sevens s (suc q) =
     let more : suc q * 7 ≡ 7 + q * 7 = omega arith in
     ap (λ (xs : List Seat). replicate 7 s ++ xs) (sevens s q) ∙ replicate-append-replicate 7 (q * 7) s ∙ ap (λ (k : ℕ). replicate k s) (sym more)
 
-rest_seats : (s : Seat) (r : ℕ) → flat_map seats_of (cond (eqb r 0) [] (pair_item (s, r) ∷ [])) ≡ replicate r s
+rest_seats : (s : Seat) (r : ℕ) → flat_map item_seats (cond (eqb r 0) [] (pair_item (s, r) ∷ [])) ≡ replicate r s
 rest_seats s r = elim (cases_eq r 0) [
   | inl e ↦ rw e refl
   | inr ne ↦ let t : eqb r 0 ≡ false = grind (arith, nat_tests) in rw t (append-nil (replicate r s))
 ]
 
-pub groups_seats : (s : Seat) (n : ℕ) → flat_map seats_of (groups (pair_item (s, n))) ≡ replicate n s
+pub groups_seats : (s : Seat) (n : ℕ) → flat_map item_seats (groups (pair_item (s, n))) ≡ replicate n s
 groups_seats s n =
     let whole : n / 7 * 7 + n % 7 ≡ n = omega arith in
-    flat_map-append seats_of (replicate (n / 7) (pair_item (s, 7))) (cond (eqb (n % 7) 0) [] (pair_item (s, n % 7) ∷ []))
+    flat_map-append item_seats (replicate (n / 7) (pair_item (s, 7))) (cond (eqb (n % 7) 0) [] (pair_item (s, n % 7) ∷ []))
     ∙ (λ i. sevens s (n / 7) i ++ rest_seats s (n % 7) i)
     ∙ replicate-append-replicate (n / 7 * 7) (n % 7) s
     ∙ ap (λ (k : ℕ). replicate k s) whole
 
 -- the seats of the runs are the list
-before_runs_seats : (s : Seat) (rs : List Item) → flat_map seats_of (before_runs s rs) ≡ s ∷ flat_map seats_of rs
+before_runs_seats : (s : Seat) (rs : List Item) → flat_map item_seats (before_runs s rs) ≡ s ∷ flat_map item_seats rs
 before_runs_seats s [] = refl
 before_runs_seats s (run ∷ more) = elim (cases_Bool (nat_lt (kind s) 9 && eqb (kind s) (kind run.seat))) [
   | inr apart ↦ rw apart refl
   | inl joins ↦
       let same : s ≡ run.seat = merged_same s run.seat joins in
-      rw joins (ap (λ (t : Seat). s ∷ (replicate run.count t ++ flat_map seats_of more)) same)
+      rw joins (ap (λ (t : Seat). s ∷ (replicate run.count t ++ flat_map item_seats more)) same)
 ]
 
-pub runs_seats : (seats : List Seat) → flat_map seats_of (runs seats) ≡ seats
+pub runs_seats : (seats : List Seat) → flat_map item_seats (runs seats) ≡ seats
 runs_seats [] = refl
 runs_seats (s ∷ more) = before_runs_seats s (runs more) ∙ ap (λ (xs : List Seat). s ∷ xs) (runs_seats more)
 
-all_groups_seats : (rs : List Item) → flat_map seats_of (flat_map groups rs) ≡ flat_map seats_of rs
+all_groups_seats : (rs : List Item) → flat_map item_seats (flat_map groups rs) ≡ flat_map item_seats rs
 all_groups_seats [] = refl
 all_groups_seats (run ∷ more) =
-    flat_map-append seats_of (groups run) (flat_map groups more) ∙ (λ i. groups_seats run.seat run.count i ++ all_groups_seats more i)
+    flat_map-append item_seats (groups run) (flat_map groups more) ∙ (λ i. groups_seats run.seat run.count i ++ all_groups_seats more i)
 
-pub written_seats : (seats : List Seat) → flat_map seats_of (flat_map groups (runs seats)) ≡ seats
+pub written_seats : (seats : List Seat) → flat_map item_seats (flat_map groups (runs seats)) ≡ seats
 written_seats seats = all_groups_seats (runs seats) ∙ runs_seats seats

@@ -9,7 +9,7 @@ use Rattle.kcr_base.specs.declared.place.Role.TheVariants.{Ca, Iw, Sa, Ssc1, Ssc
 use Rattle.kcr_script.specs.declared.seat.Seat.{Seat}
 use Rattle.kcr_script.specs.declared.seat.Seat.TheVariants.{Staff, AnyCo, AnyRksh, Co, Rksh}
 use Rattle.kcr_script.specs.Seat.{seat_text, IsSeat}
-use Rattle.kcr_script.specs.Seats.{Item, IsItem, star_text, item_text, after_semicolon, joined, seats_of, Spells, StandsFor, IsSeats, Leads, IsLast}
+use Rattle.kcr_script.specs.Seats.{Item, IsItem, star_text, item_text, after_semicolon, joined, item_seats, Spells, StandsFor, IsSeats, Leads, IsLast}
 
 -- no semicolon
 abbrev pub Plain : ℕ → Type 0
@@ -33,7 +33,7 @@ star_plain n h true = tt
 star_plain n h false = (omega arith, (omega arith, tt))
 
 -- an item has no semicolon
-item_plain : (item : Item) → IsItem item → All Plain (item_text item)
+pub item_plain : (item : Item) → IsItem item → All Plain (item_text item)
 item_plain item h =
     All-append Plain (seat_text item.seat) (star_text item.count) (All-from_recursion Plain _ (seat_plain item.seat h.seat)) (All-from_recursion Plain _ (star_plain item.count h.seven (eqb item.count 1)))
 
@@ -59,26 +59,26 @@ abbrev pub Only : List ℕ → Option (Seat × ℕ) → Type 0
 Only front found = (item : Item) → IsItem item → item_text item ≡ front → found ≡ Some (item.seat, item.count)
 
 -- the items of a text without a semicolon are one
-one_item : (text : List ℕ) (all : List Seat) → All Plain text → Spells text all → (item : Item) × IsItem item × (item_text item ≡ text) × (all ≡ seats_of item)
+one_item : (text : List ℕ) (all : List Seat) → All Plain text → Spells text all → (item : Item) × IsItem item × (item_text item ≡ text) × (all ≡ item_seats item)
 one_item text all free h = by h.more h.text_is h.seats_are
   where
-    by : (more : List Item) → text ≡ joined h.first more → all ≡ seats_of h.first ++ flat_map seats_of more → (item : Item) × IsItem item × (item_text item ≡ text) × (all ≡ seats_of item)
-    by [] t s = (h.first, h.is_first, sym (t ∙ append-nil (item_text h.first)), s ∙ append-nil (seats_of h.first))
+    by : (more : List Item) → text ≡ joined h.first more → all ≡ item_seats h.first ++ flat_map item_seats more → (item : Item) × IsItem item × (item_text item ≡ text) × (all ≡ item_seats item)
+    by [] t s = (h.first, h.is_first, sym (t ∙ append-nil (item_text h.first)), s ∙ append-nil (item_seats h.first))
     by (item ∷ more) t s = absurd (cut_none (item_text h.first) (item_text item ++ flat_map after_semicolon more) text free (sym t))
 
 -- the first item of a text with a semicolon, and the rest
-first_item : (front rest : List ℕ) (all : List Seat) → All Plain front → Spells (front ++ 59 ∷ rest) all → (item : Item) × IsItem item × (item_text item ≡ front) × ((seats : List Seat) × Spells rest seats × (all ≡ seats_of item ++ seats))
+first_item : (front rest : List ℕ) (all : List Seat) → All Plain front → Spells (front ++ 59 ∷ rest) all → (item : Item) × IsItem item × (item_text item ≡ front) × ((seats : List Seat) × Spells rest seats × (all ≡ item_seats item ++ seats))
 first_item front rest all free h = by h.more h.each_more h.text_is h.seats_are
   where
-    by : (more : List Item) → AllByRecursion IsItem more → front ++ 59 ∷ rest ≡ joined h.first more → all ≡ seats_of h.first ++ flat_map seats_of more → (item : Item) × IsItem item × (item_text item ≡ front) × ((seats : List Seat) × Spells rest seats × (all ≡ seats_of item ++ seats))
+    by : (more : List Item) → AllByRecursion IsItem more → front ++ 59 ∷ rest ≡ joined h.first more → all ≡ item_seats h.first ++ flat_map item_seats more → (item : Item) × IsItem item × (item_text item ≡ front) × ((seats : List Seat) × Spells rest seats × (all ≡ item_seats item ++ seats))
     by [] each t s = absurd (cut_none front rest (item_text h.first) (item_plain h.first h.is_first) (t ∙ append-nil (item_text h.first)))
     by (item ∷ more) each t s =
         let r = cut_same front (item_text h.first) rest (joined item more) free (item_plain h.first h.is_first) t in
-        (h.first, h.is_first, sym r.0, (flat_map seats_of (item ∷ more), record { first = item; more = more; is_first = each.0; each_more = each.1; text_is = r.1; seats_are = refl }, s))
+        (h.first, h.is_first, sym r.0, (flat_map item_seats (item ∷ more), record { first = item; more = more; is_first = each.0; each_more = each.1; text_is = r.1; seats_are = refl }, s))
 
 -- ---- what a step of the reader answers
 
-same_replicate : (item : Item) (seat : Seat) (count : ℕ) → ◌≡◌ {A = Option (Seat × ℕ)} (Some (seat, count)) (Some (item.seat, item.count)) → seats_of item ≡ replicate count seat
+same_replicate : (item : Item) (seat : Seat) (count : ℕ) → ◌≡◌ {A = Option (Seat × ℕ)} (Some (seat, count)) (Some (item.seat, item.count)) → item_seats item ≡ replicate count seat
 same_replicate item seat count e =
     let t : ◌≡◌ {A = Seat × ℕ} (item.seat, item.count) (seat, count) = cc in
     ap (λ (p : Seat × ℕ). replicate p.1 p.0) t
@@ -162,15 +162,15 @@ last_step text rest done new seat count e back last all h =
 
 -- ---- what a text can stand for
 
-items_seats : (items : List Item) → AllByRecursion IsItem items → All IsSeat (flat_map seats_of items)
+items_seats : (items : List Item) → AllByRecursion IsItem items → All IsSeat (flat_map item_seats items)
 items_seats [] h = All-nil IsSeat
-items_seats (item ∷ more) h = All-append IsSeat (seats_of item) (flat_map seats_of more) (All-replicate IsSeat item.count item.seat h.0.seat) (items_seats more h.1)
+items_seats (item ∷ more) h = All-append IsSeat (item_seats item) (flat_map item_seats more) (All-replicate IsSeat item.count item.seat h.0.seat) (items_seats more h.1)
 
 pub stands_are_seats : (text : List ℕ) (seats : List Seat) → StandsFor text seats → IsSeats seats
 stands_are_seats text seats h =
     let s = h.spells in
     record {
-      some_seat = omega (arith, ap length s.seats_are, length-append (seats_of s.first) (flat_map seats_of s.more), length-replicate s.first.count s.first.seat, s.is_first.one);
+      some_seat = omega (arith, ap length s.seats_are, length-append (item_seats s.first) (flat_map item_seats s.more), length-replicate s.first.count s.first.seat, s.is_first.one);
       sixteen = h.sixteen;
-      each = All-same IsSeat seats (seats_of s.first ++ flat_map seats_of s.more) s.seats_are (items_seats (s.first ∷ s.more) (s.is_first, s.each_more));
+      each = All-same IsSeat seats (item_seats s.first ++ flat_map item_seats s.more) s.seats_are (items_seats (s.first ∷ s.more) (s.is_first, s.each_more));
     }

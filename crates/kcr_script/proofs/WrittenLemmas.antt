@@ -8,7 +8,7 @@ use Rattle.kcr_base.specs.declared.place.Role.TheVariants.{Ca, Iw, Sa, Ssc1, Ssc
 use Rattle.kcr_script.specs.declared.seat.Seat.{Seat}
 use Rattle.kcr_script.specs.declared.seat.Seat.TheVariants.{Staff, AnyCo, AnyRksh, Co, Rksh}
 use Rattle.kcr_script.specs.Seat.{kind, can_repeat, IsSeat, seat_text}
-use Rattle.kcr_script.specs.Seats.{Item, IsItem, runs, before_runs, groups, seats_of, pair_item, star_text, after_semicolon, appended, all_appended, items_text, written, Spells, StandsFor, IsSeats}
+use Rattle.kcr_script.specs.Seats.{Item, IsItem, runs, before_runs, groups, item_seats, pair_item, star_text, after_semicolon, appended, all_appended, items_text, written, Spells, StandsFor, IsSeats}
 use Rattle.kcr_script.proofs.RunLemmas.{written_seats}
 
 -- ---- appending items
@@ -93,7 +93,7 @@ runs_items (run ∷ more) h = by_and (groups run) (flat_map groups more) (run_it
 
 -- ---- the law
 
-spelled : (items : List Item) (seats : List Seat) → AllByRecursion IsItem items → flat_map seats_of items ≡ seats → 1 ≤ length seats → Spells (items_text items) seats
+spelled : (items : List Item) (seats : List Seat) → AllByRecursion IsItem items → flat_map item_seats items ≡ seats → 1 ≤ length seats → Spells (items_text items) seats
 spelled [] seats h e some = absurd (omega (arith, ap length e))
 spelled (first ∷ more) seats h e some = record { first = first; more = more; is_first = h.0; each_more = h.1; text_is = refl; seats_are = sym e }
 

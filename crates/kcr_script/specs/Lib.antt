@@ -1,6 +1,8 @@
 pub mod Seat
 pub mod Seats
 pub mod Script
+pub mod Reading
 pub mod Fault
 pub mod RowsFault
 pub mod Steps
+pub mod Examples

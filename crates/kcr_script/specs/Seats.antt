@@ -33,8 +33,8 @@ abbrev pub joined : Item → List Item → List ℕ
 joined first more = item_text first ++ flat_map after_semicolon more
 
 -- the seats of an item
-abbrev pub seats_of : Item → List Seat
-seats_of item = replicate item.count item.seat
+abbrev pub item_seats : Item → List Seat
+item_seats item = replicate item.count item.seat
 
 -- the text is made of items, and these are their seats, written out
 pub record Spells (text : List ℕ) (seats : List Seat) : Type 0 where
@@ -43,7 +43,7 @@ pub record Spells (text : List ℕ) (seats : List Seat) : Type 0 where
   pub is_first : IsItem first
   pub each_more : AllByRecursion IsItem more
   pub text_is : text ≡ joined first more
-  pub seats_are : seats ≡ seats_of first ++ flat_map seats_of more
+  pub seats_are : seats ≡ item_seats first ++ flat_map item_seats more
 
 -- the text stands for the list
 pub record StandsFor (text : List ℕ) (seats : List Seat) : Type 0 where

@@ -2,6 +2,7 @@
 #![tactic(auto)]
 
 mod again;
+pub mod laws;
 pub mod rows;
 pub mod script;
 pub mod seat;

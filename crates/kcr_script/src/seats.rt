@@ -4,6 +4,7 @@
 //! by `*m`, m from 2 to 7, and then stands for m such seats. The list that results has 1 to 16 seats.
 ghost use Rattle.std.specs.Prelude.{◌≡◌, ◌≢◌, ◌↔◌, IsTrue, ℕ, ◌+◌, ◌≤◌, ◌<◌, List, [], ◌∷◌, ◌++◌, All, length, replicate, drop, string_bytes, Some, IfSome, IfOk, OnOk, MatchOption, option_map};
 ghost use Rattle.kcr_script.specs.Seats.{Item, IsItem, item_text, pair_item, Spells, StandsFor, IsLast, Leads, IsSeats, runs, groups, appended, all_appended, written};
+ghost use Rattle.kcr_script.specs.Reading.{seats_of};
 ghost use Rattle.kcr_script.specs.Seat.{IsSeat};
 ghost use Rattle.std.specs.Cmp.Lexicographic.{pointwise, lists_per};
 ghost use Rattle.std.specs.Cmp.Rules.{comparing};
@@ -116,6 +117,7 @@ fn push_seats(seats: &mut Vec<Seat>, seat: Seat, count: u8) -> Result<(), AllocE
 pub fn read_seats(alloc: Global, text: &[u8]) -> Result<Option<Seats>, AllocError>
     ensures found { IfOk result (λ o. IfSome o (StandsFor text.now)) }
     ensures only { IfOk result (λ o. (seats : List Seat) → StandsFor text.now seats → o ≡ Some seats) }
+    ensures value { IfOk result (λ o. o ≡ seats_of text.now) }
 {
     let mut seats = Vec::new(alloc);
     let mut rest = text;

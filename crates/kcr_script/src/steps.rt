@@ -2,6 +2,7 @@
 ghost use Rattle.std.specs.Prelude.{◌≡◌, ℕ, List, IfOk, IfErr, IfSome, Some, MatchResult, map};
 ghost use Rattle.csv.specs.Records.{fields_of};
 ghost use Rattle.kcr_script.specs.Script.{IsRow, AreSteps, BreaksFrom, IsScriptRows, BreaksAt, IsScript, BreaksScript};
+ghost use Rattle.kcr_script.specs.Reading.{script_of};
 ghost use Rattle.kcr_script.specs.Fault.{IfRow};
 ghost use Rattle.kcr_script.specs.declared.script.Step.{Step};
 
@@ -84,6 +85,7 @@ pub fn read_script(alloc: Global, text: &[u8]) -> Result<Script, Refusal>
     ensures found { IfOk result (IsScript text.now) }
     ensures fault { IfErr result (IfRow (BreaksScript text.now)) }
     ensures only { (steps : List Step) → IsScript text.now steps → MatchResult result (λ script. script ≡ steps) (λ e. e ≡ Refusal.Memory) }
+    ensures value { MatchResult result (λ script. script_of text.now ≡ Ok script) (IfRow (λ row. script_of text.now ≡ Err row)) }
 {
     match all_rows(alloc, text) {
         Ok(rows) => read_rows(alloc, &rows),

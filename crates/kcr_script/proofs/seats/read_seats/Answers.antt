@@ -1,8 +1,9 @@
-use Rattle.std.proofs.Common.{List, ◌++◌, length, replicate, Some, ap, arith, length-append}
+use Rattle.std.proofs.Common.{List, ◌++◌, length, replicate, Some, None, ap, arith, length-append}
 use Rattle.std.proofs.lemmas.List.{length-replicate}
 use Rattle.kcr_script.specs.declared.seat.Seat.{Seat}
-use Rattle.kcr_script.specs.Seats.{Spells}
+use Rattle.kcr_script.specs.Seats.{Spells, StandsFor}
 use Rattle.kcr_script.proofs.SeatLemmas.{step_front, more_than, on_step, back_step, last_step, stands_are_seats}
+use Rattle.kcr_script.proofs.SeatReading.{seats_are}
 use Rattle.kcr_script.proofs.seats.read_seats.Goals as goal
 
 pub returns-in_default-clause-only : goal.returns-in_default-clause-only
@@ -31,13 +32,24 @@ returns-in-None-clause-only c seats h =
     let last = rw c.in-None.is at c.in-Some.ensures in
     ap (λ (xs : List Seat). Some xs) (last_step _ _ _ _ _ _ c.in_ok-push_seats.ensures c.loop-seat.invariant.back last seats h.spells)
 
-pub invariant_of-result : goal.invariant_of-result
-invariant_of-result c =
+stands : (c : goal.In-None) → StandsFor c.args.text.now c.push_seats.new.seats.items
+stands c =
     let e = c.in_ok-push_seats.ensures in
     let last = rw c.in-None.is at c.in-Some.ensures in
-    let new : List Seat = c.push_seats.new.seats.items in
     let whole : Spells c.args.text.now (c.loop-seat.seats.items ++ replicate c.in-Some.count c.in-Some.seat) = c.loop-seat.invariant.on (replicate c.in-Some.count c.in-Some.seat) last.spells in
-    stands_are_seats c.args.text.now c.push_seats.new.seats.items (record {
+    record {
       spells = rw e whole;
       sixteen = omega (arith, ap length e, length-append c.loop-seat.seats.items (replicate c.in-Some.count c.in-Some.seat), length-replicate c.in-Some.count c.in-Some.seat);
-    })
+    }
+
+pub invariant_of-result : goal.invariant_of-result
+invariant_of-result c = stands_are_seats c.args.text.now c.push_seats.new.seats.items (stands c)
+
+pub returns-in_default-clause-value : goal.returns-in_default-clause-value
+returns-in_default-clause-value c = seats_are c.args.text.now None tt (returns-in_default-clause-only c)
+
+pub returns-then-len-count-gt16-clause-value : goal.returns-then-len-count-gt16-clause-value
+returns-then-len-count-gt16-clause-value c = seats_are c.args.text.now None tt (returns-then-len-count-gt16-clause-only c)
+
+pub returns-in-None-clause-value : goal.returns-in-None-clause-value
+returns-in-None-clause-value c = seats_are c.args.text.now (Some c.push_seats.new.seats.items) (stands c) (returns-in-None-clause-only c)

@@ -1,0 +1,141 @@
+-- The changes of an act that has no fault lead from the tables before it to those after it.
+use Rattle.std.proofs.Common.{◌≡◌, ℕ, Bool, true, false, cond, ◌||◌, List, [], ◌∷◌, ◌++◌, map, Option, Some, None, option_map, refl, sym, ap, ◌∙◌, subst}
+use Rattle.std.specs.List.{list_any}
+use Rattle.std.specs.List.Sorted.{IsPermutation}
+use Rattle.std.proofs.lemmas.List.Sorted.{IsPermutation-refl}
+use Rattle.kcr_base.specs.Rows.{put}
+use Rattle.kcr_base.specs.Same.{same_text}
+use Rattle.kcr_base.specs.declared.place.Place.{Place}
+use Rattle.kcr_base.specs.declared.place.Role.{Role}
+use Rattle.kcr_base.specs.declared.refusal.Refusal.TheVariants.{Taken, Held, Range, Vacant, Memory}
+use Rattle.kcr_base.proofs.RefuseLemmas.{none_holds, unmet}
+use Rattle.kcr_people.specs.declared.Appointment.{Appointment}
+use Rattle.kcr_people.specs.declared.Training.{Training}
+use Rattle.kcr_people.specs.People.{is_person_by, same_training, open_row_by, end_of, nobody, place_held_from_by, person_holds_from_by}
+use Rattle.kcr_history.specs.declared.commands.Act.{Act}
+use Rattle.kcr_history.specs.declared.commands.Act.TheVariants.{Enter, Train, Appoint, Replace, Release}
+use Rattle.kcr_history.specs.declared.commands.Answer.{Answer}
+use Rattle.kcr_history.specs.declared.commands.Command.{Command}
+use Rattle.kcr_history.specs.declared.rows.KeyRow.{KeyRow}
+use Rattle.kcr_history.specs.declared.views.Change.{Change}
+use Rattle.kcr_history.specs.declared.views.Change.TheVariants.{PutAppointment, PutKey}
+use Rattle.kcr_history.specs.declared.views.View.{View}
+use Rattle.kcr_history.specs.History.{History, some_command, entry_of}
+use Rattle.kcr_history.specs.Training.{is_person, is_training}
+use Rattle.kcr_history.specs.Tables.{Tables, SameTables, people, trainings, appointments, ended, keys, key_row, tables}
+use Rattle.kcr_history.specs.Changes.{same_person, same_appointment, same_key_row, changed_by}
+use Rattle.kcr_history.specs.Views.{row_of_key, is_of_key, IsViewOf}
+use Rattle.kcr_history.specs.Asked.{asks_by}
+use Rattle.kcr_history.specs.Conditions.{conditions, fault, is_full}
+use Rattle.kcr_history.specs.Machine.{IsRegister, with_command}
+use Rattle.kcr_history.proofs.Words.{is_person-people, is_training-trainings, row_of_key-keys}
+use Rattle.kcr_history.proofs.Stacked.{or_parts, closing, lasts-ended, no_begin, put-ended, open-order}
+use Rattle.kcr_history.proofs.Orderly.{standing, orderly}
+use Rattle.kcr_decision.specs.ByRows.{refusal_by, changes_by, new_appointment, new_key_row}
+use Rattle.kcr_decision.proofs.Refusals.{open-shown}
+
+-- TABLES THAT ARE EQUAL HAVE THE SAME ROWS
+
+same-own : (t : Tables) → SameTables t t
+same-own t =
+    record {
+      people = IsPermutation-refl t.people;
+      trainings = IsPermutation-refl t.trainings;
+      withdrawals = IsPermutation-refl t.withdrawals;
+      appointments = IsPermutation-refl t.appointments;
+      boxes = IsPermutation-refl t.boxes;
+      safes = IsPermutation-refl t.safes;
+      bags = IsPermutation-refl t.bags;
+      items = IsPermutation-refl t.items;
+      ceremonies = IsPermutation-refl t.ceremonies;
+      marks = IsPermutation-refl t.marks;
+      steps = IsPermutation-refl t.steps;
+      seatings = IsPermutation-refl t.seatings;
+      sheet = IsPermutation-refl t.sheet;
+      stays = IsPermutation-refl t.stays;
+      exceptions = IsPermutation-refl t.exceptions;
+      keys = IsPermutation-refl t.keys;
+    }
+
+same-tables : (t u : Tables) → t ≡ u → SameTables t u
+same-tables t u e = subst (SameTables t) e (same-own t)
+
+-- ROWS THAT ARE NEW
+
+-- a row whose key is not there is put in front
+put_new : {X : Type 0} (same : X → X → Bool) (row : X) (rows : List X) → list_any (same row) rows ≡ false → put same row rows ≡ row ∷ rows
+put_new same row rows h = rw h
+
+-- no row of the key
+no_row : (rows : List KeyRow) (key : List ℕ) → row_of_key key rows ≡ None → list_any (is_of_key key) rows ≡ false
+no_row [] key h = refl
+no_row (row ∷ rows) key h = by_test (no_row rows key) (is_of_key key row) h
+  where
+    by_test : (row_of_key key rows ≡ None → list_any (is_of_key key) rows ≡ false) → (b : Bool) → cond b (Some row) (row_of_key key rows) ≡ None → (b || list_any (is_of_key key) rows) ≡ false
+    by_test ih true g = absurd (let e : Some row ≡ None = g in cc)
+    by_test ih false g = ih g
+
+no_key : (A : History) (key : List ℕ) → entry_of A key ≡ None → list_any (is_of_key key) (keys A) ≡ false
+no_key A key k = no_row (keys A) key (row_of_key-keys A key ∙ ap (option_map key_row) k)
+
+new_key : (A : History) (x : Command) (answer : Answer) → entry_of A x.key ≡ None → put same_key_row (new_key_row x answer) (keys A) ≡ new_key_row x answer ∷ keys A
+new_key A x answer k = put_new same_key_row (new_key_row x answer) (keys A) (no_key A x.key k)
+
+-- THE KINDS
+
+-- the changes of the act and its row of a key, made in the tables, give those of the history with the command
+abbrev Leads : History → View → Command → Answer → Type 0
+Leads A view x answer = changed_by (changes_by view x.act ++ PutKey (new_key_row x answer) ∷ []) (tables A) ≡ tables (with_command A x answer)
+
+enter-leads : (A : History) (key who name : List ℕ) (view : View) (answer : Answer) → entry_of A key ≡ None → fault A (Enter who name) ≡ None → Leads A view (record { key = key; act = Enter who name }) answer
+enter-leads A key who name view answer k f =
+    let absent = is_person-people A who ∙ unmet (is_person A who) Taken (none_holds (conditions A (Enter who name)) f).0 in
+    rw (put_new same_person (record { who = who; name = name }) (people A) absent, new_key A (record { key = key; act = Enter who name }) answer k)
+
+train-leads : (A : History) (key who : List ℕ) (role : Role) (since until : ℕ) (view : View) (answer : Answer) → entry_of A key ≡ None → fault A (Train who role since until) ≡ None
+    → Leads A view (record { key = key; act = Train who role since until }) answer
+train-leads A key who role since until view answer k f =
+    let new : Training = record { who = who; role = role; since = since; until = until } in
+    let absent = is_training-trainings A new ∙ unmet (some_command (is_training who role since until) A) Taken (none_holds (conditions A (Train who role since until)) f).1.0 in
+    rw (put_new same_training new (trainings A) absent, new_key A (record { key = key; act = Train who role since until }) answer k)
+
+appoint-leads : (A : History) → IsRegister A → (key : List ℕ) (place : Place) (who : List ℕ) (day : ℕ) (view : View) (answer : Answer) → entry_of A key ≡ None → fault A (Appoint place who day) ≡ None
+    → Leads A view (record { key = key; act = Appoint place who day }) answer
+appoint-leads A h key place who day view answer k f =
+    let n = none_holds (conditions A (Appoint place who day)) f in
+    let free = (or_parts (place_held_from_by (appointments A) place day) (person_holds_from_by (appointments A) who day) (unmet _ Held n.1.1.0)).0 in
+    let absent = no_begin place day (appointments A) (orderly A h).1 free in
+    rw (put_new same_appointment (new_appointment place who day) (appointments A) absent, new_key A (record { key = key; act = Appoint place who day }) answer k)
+
+replace-leads : (A : History) → IsRegister A → (key : List ℕ) (place : Place) (who : List ℕ) (day : ℕ) (view : View) (answer : Answer) → open_row_by view.appointments.items place ≡ open_row_by (appointments A) place
+    → entry_of A key ≡ None → fault A (Replace place who day) ≡ None → Leads A view (record { key = key; act = Replace place who day }) answer
+replace-leads A h key place who day view answer shown k f =
+    let n = none_holds (conditions A (Replace place who day)) f in
+    let st = standing (open_row_by (appointments A) place) day (unmet _ Range n.1.0) (unmet _ Vacant n.1.1.1.1.0) in
+    let o = orderly A h in
+    let p : put same_appointment (end_of (open_row_by view.appointments.items place) day (new_appointment place who day)) (appointments A) ≡ map (ended place day) (appointments A)
+    = rw (shown ∙ st.1) (put-ended place day st.0 (appointments A) o.0 o.1 st.1) in
+    let free = closing place day st.0 (appointments A) o.0 st.1 st.2 in
+    let fresh = no_begin place day (map (ended place day) (appointments A)) (lasts-ended place day st.0 (appointments A) o.0 o.1 st.1 st.2) free in
+    rw (p, put_new same_appointment (new_appointment place who day) (map (ended place day) (appointments A)) fresh, new_key A (record { key = key; act = Replace place who day }) answer k)
+
+release-leads : (A : History) → IsRegister A → (key : List ℕ) (place : Place) (day : ℕ) (view : View) (answer : Answer) → open_row_by view.appointments.items place ≡ open_row_by (appointments A) place
+    → entry_of A key ≡ None → fault A (Release place day) ≡ None → Leads A view (record { key = key; act = Release place day }) answer
+release-leads A h key place day view answer shown k f =
+    let n = none_holds (conditions A (Release place day)) f in
+    let st = standing (open_row_by (appointments A) place) day (unmet _ Range n.0) (unmet _ Vacant n.1.0) in
+    let o = orderly A h in
+    let p : put same_appointment (end_of (open_row_by view.appointments.items place) day (nobody place day)) (appointments A) ≡ map (ended place day) (appointments A)
+    = rw (shown ∙ st.1) (put-ended place day st.0 (appointments A) o.0 o.1 st.1) in
+    rw (p, new_key A (record { key = key; act = Release place day }) answer k)
+
+pub leads : (A : History) → IsRegister A → (key : List ℕ) (act : Act) (view : View) (answer : Answer) → IsViewOf (asks_by key act) (tables A) view → entry_of A key ≡ None → fault A act ≡ None
+    → refusal_by view (is_full A) act ≡ None → SameTables (changed_by (changes_by view act ++ PutKey (new_key_row (record { key = key; act = act }) answer) ∷ []) (tables A)) (tables (with_command A (record { key = key; act = act }) answer))
+leads A h key (Enter who name) view answer v k f none = same-tables _ _ (enter-leads A key who name view answer k f)
+leads A h key (Train who role since until) view answer v k f none = same-tables _ _ (train-leads A key who role since until view answer k f)
+leads A h key (Appoint place who day) view answer v k f none = same-tables _ _ (appoint-leads A h key place who day view answer k f)
+leads A h key (Replace place who day) view answer v k f none =
+    same-tables _ _ (replace-leads A h key place who day view answer (open-order place (appointments A) view.appointments.items (orderly A h).0 v.appointments) k f)
+leads A h key (Release place day) view answer v k f none =
+    same-tables _ _ (release-leads A h key place day view answer (open-shown A h place view.appointments.items v.appointments) k f)
+leads A h key act view answer v k f none = absurd (let e : Some Memory ≡ None = none in cc)

@@ -1,0 +1,5 @@
+pub mod Shown
+pub mod Unless
+pub mod Refusals
+pub mod Changes
+pub mod Decided

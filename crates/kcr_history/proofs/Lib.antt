@@ -1,0 +1,9 @@
+pub mod Listed
+pub mod ReplyTexts
+pub mod Marks
+pub mod Steps
+pub mod Words
+pub mod Stacked
+pub mod Orderly
+pub mod Trained
+pub mod Settled

@@ -1,0 +1,96 @@
+-- The appointments of a register: each begins where the older ones of its place have ended. So the holder by rows is the holder by history.
+use Rattle.std.proofs.Common.{◌≡◌, ℕ, ◌<◌, Bool, true, false, cond, ◌||◌, ◌&&◌, nat_le, List, [], ◌∷◌, map, find, Option, Some, None, option_map, is_none, refl, sym, ap, ◌∙◌, subst}
+use Rattle.std.specs.Prelude.{unwrap_or}
+use Rattle.std.specs.List.{list_any, list_all}
+use Rattle.std.proofs.lemmas.Bool.{true≢false, leb-true, leb-false, and_parts}
+use Rattle.kcr_base.specs.Rows.{or_else}
+use Rattle.kcr_base.specs.Same.{same_place}
+use Rattle.kcr_base.specs.declared.place.Place.{Place}
+use Rattle.kcr_base.specs.declared.refusal.Refusal.TheVariants.{Held, Range, Vacant}
+use Rattle.kcr_base.proofs.RefuseLemmas.{none_holds, unmet}
+use Rattle.kcr_people.specs.declared.Appointment.{Appointment}
+use Rattle.kcr_people.specs.People.{lasts, open_row_by, begins_too_late, place_held_from_by, person_holds_from_by, holder_by, holds}
+use Rattle.kcr_history.specs.declared.commands.Act.{Act}
+use Rattle.kcr_history.specs.declared.commands.Act.TheVariants.{Appoint, Replace, Release}
+use Rattle.kcr_history.specs.History.{History, last_said}
+use Rattle.kcr_history.specs.Training.{holder, next_holder}
+use Rattle.kcr_history.specs.Tables.{appointments, appointments_after, ended}
+use Rattle.kcr_history.specs.Conditions.{conditions, fault}
+use Rattle.kcr_history.specs.Machine.{IsRegister}
+use Rattle.kcr_history.proofs.Stacked.{or_parts, stacked, closing, stacked-ended, lasts-ended, place-same, find-ended, find-none, free-none}
+use Rattle.kcr_history.proofs.Steps.{took}
+
+-- a place that is not vacant has an open row, which began before the day
+pub standing : (o : Option Appointment) (day : ℕ) → begins_too_late o day ≡ false → is_none o ≡ false → (r : Appointment) × (o ≡ Some r) × (r.since < day)
+standing None day b n = absurd (true≢false n)
+standing (Some r) day b n = (r, refl, leb-false day r.since b)
+
+-- the rows are stacked, and each lasts beyond its first day
+abbrev pub IsOrderly : List Appointment → Type 0
+IsOrderly rows = (stacked rows ≡ true) × (list_all lasts rows ≡ true)
+
+orderly_after : (A : History) (act : Act) → fault A act ≡ None → IsOrderly (appointments A) → IsOrderly (appointments_after act (appointments A))
+orderly_after A (Appoint place who day) f o =
+    let n = none_holds (conditions A (Appoint place who day)) f in
+    let free = (or_parts (place_held_from_by (appointments A) place day) (person_holds_from_by (appointments A) who day) (unmet _ Held n.1.1.0)).0 in
+    (rw (free, o.0), o.1)
+orderly_after A (Replace place who day) f o =
+    let n = none_holds (conditions A (Replace place who day)) f in
+    let st = standing (open_row_by (appointments A) place) day (unmet _ Range n.1.0) (unmet _ Vacant n.1.1.1.1.0) in
+    let free = closing place day st.0 (appointments A) o.0 st.1 st.2 in
+    (rw (free, stacked-ended place day (appointments A) o.0), lasts-ended place day st.0 (appointments A) o.0 o.1 st.1 st.2)
+orderly_after A (Release place day) f o =
+    let n = none_holds (conditions A (Release place day)) f in
+    let st = standing (open_row_by (appointments A) place) day (unmet _ Range n.0) (unmet _ Vacant n.1.0) in
+    (stacked-ended place day (appointments A) o.0, lasts-ended place day st.0 (appointments A) o.0 o.1 st.1 st.2)
+orderly_after A act f o = o
+
+-- the appointments of a register are orderly
+pub orderly : (A : History) → IsRegister A → IsOrderly (appointments A)
+orderly [] h = (refl, refl)
+orderly (entry ∷ A) h = orderly_after A entry.command.act (took A entry h.0).no_fault (orderly A h.1)
+
+-- THE HOLDER
+
+-- what is said of the place, or what was said before
+abbrev told_holder : Option (Option (List ℕ)) → Option (Option (List ℕ)) → Option (List ℕ)
+told_holder now before = unwrap_or (or_else now before) None
+
+-- the row of a command that puts somebody in the place, before the older rows
+first-row : (b : Bool) (new : Appointment) (older : Option Appointment) (said : Option (Option (List ℕ))) → option_map (λ row. row.who) older ≡ unwrap_or said None
+    → option_map (λ row. row.who) (cond (b && true) (Some new) older) ≡ told_holder (cond b (Some (Some new.who)) None) said
+first-row true new older said h = refl
+first-row false new older said h = h
+
+holder_after : (A : History) (act : Act) (place : Place) (d : ℕ) → fault A act ≡ None → IsOrderly (appointments A)
+    → holder_by (appointments A) place d ≡ holder A place d
+    → holder_by (appointments_after act (appointments A)) place d ≡ told_holder (next_holder place d act) (last_said (next_holder place d) A)
+holder_after A (Appoint at who since) place d f o ih =
+    first-row (same_place at place && nat_le since d) (record { place = at; who = who; since = since; until = None }) (find (holds place d) (appointments A)) (last_said (next_holder place d) A) ih
+holder_after A (Replace at who since) place d f o ih =
+    by_word (same_place at place && nat_le since d) refl
+  where
+    by_word : (b : Bool) → (same_place at place && nat_le since d) ≡ b
+        → option_map (λ row. row.who) (cond (b && true) (Some (record { place = at; who = who; since = since; until = None })) (find (holds place d) (map (ended at since) (appointments A))))
+        ≡ told_holder (cond b (Some (Some who)) None) (last_said (next_holder place d) A)
+    by_word true e = refl
+    by_word false e = find-ended at place since d (appointments A) e ∙ ih
+holder_after A (Release at since) place d f o ih =
+    by_word (same_place at place && nat_le since d) refl
+  where
+    by_word : (b : Bool) → (same_place at place && nat_le since d) ≡ b
+        → holder_by (map (ended at since) (appointments A)) place d ≡ told_holder (cond b (Some None) None) (last_said (next_holder place d) A)
+    by_word true e =
+        let n = none_holds (conditions A (Release at since)) f in
+        let st = standing (open_row_by (appointments A) at) since (unmet _ Range n.0) (unmet _ Vacant n.1.0) in
+        let q = and_parts (same_place at place) (nat_le since d) e in
+        let free = closing at since st.0 (appointments A) o.0 st.1 st.2 in
+        let here : place_held_from_by (map (ended at since) (appointments A)) place since ≡ false = subst (λ p. place_held_from_by (map (ended at since) (appointments A)) p since ≡ false) (place-same at place q.0) free in
+        rw (find-none (holds place d) (map (ended at since) (appointments A)) (free-none place since d (map (ended at since) (appointments A)) (leb-true since d q.1) here))
+    by_word false e = find-ended at place since d (appointments A) e ∙ ih
+holder_after A act place d f o ih = ih
+
+-- the holder by the rows of a register is the holder by its history
+pub holder-appointments : (A : History) → IsRegister A → (place : Place) (d : ℕ) → holder_by (appointments A) place d ≡ holder A place d
+holder-appointments [] h place d = refl
+holder-appointments (entry ∷ A) h place d = holder_after A entry.command.act place d (took A entry h.0).no_fault (orderly A h.1) (holder-appointments A h.1 place d)

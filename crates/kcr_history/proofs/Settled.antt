@@ -1,0 +1,109 @@
+-- The settled day by the rows of marks, in any order, is the settled day by history.
+use Rattle.std.proofs.Common.{◌≡◌, ℕ, ◌≤◌, Bool, true, false, cond, ◌||◌, nat_le, eqb, List, [], ◌∷◌, map, filter, Option, Some, None, option_map, is_some, max, refl, sym, ap, ◌∙◌, arith}
+use Rattle.std.specs.Prelude.{unwrap_or}
+use Rattle.std.specs.List.{list_any, list_all, filter_map, cons_option}
+use Rattle.std.specs.List.Sorted.{IsPermutation}
+use Rattle.std.proofs.lemmas.List.Sorted.{list_any-IsPermutation, IsPermutation-map}
+use Rattle.std.proofs.lemmas.Bool.{true≢false, false≢true, and_parts, and_from, leb-true, leb-false, le-leb, lt-leb, eq-eqb}
+use Rattle.kcr_base.specs.Days.{day_of}
+use Rattle.kcr_history.specs.declared.commands.Act.{Act}
+use Rattle.kcr_history.specs.declared.commands.Act.TheVariants.{Open}
+use Rattle.kcr_history.specs.declared.rows.MarkRow.{MarkRow}
+use Rattle.kcr_history.specs.History.{History, all_said, greatest, max_with}
+use Rattle.kcr_history.specs.Ceremonies.{marked, mark, opened_number, all_marks, settled}
+use Rattle.kcr_history.specs.Tables.{marks, mark_row}
+
+-- THE GREATEST OF A LIST IN ANY ORDER
+
+-- the number is at most the greatest
+abbrev reaches : ℕ → Option ℕ → Bool
+reaches n None = false
+reaches n (Some m) = nat_le n m
+
+below-max : (n x : ℕ) (rest : Option ℕ) → (nat_le n x || reaches n rest) ≡ reaches n (Some (max_with x rest))
+below-max n x None = or_false (nat_le n x)
+  where
+    or_false : (b : Bool) → (b || false) ≡ b
+    or_false true = refl
+    or_false false = refl
+below-max n x (Some m) = by_test (nat_le n x) refl (nat_le n m) refl
+  where
+    by_test : (b : Bool) → nat_le n x ≡ b → (c : Bool) → nat_le n m ≡ c → (b || c) ≡ nat_le n (max x m)
+    by_test true e c f = let l = leb-true n x e in sym (le-leb n (max x m) (omega arith))
+    by_test false e true f = let l = leb-true n m f in sym (le-leb n (max x m) (omega arith))
+    by_test false e false f = let k = leb-false n x e in let l = leb-false n m f in sym (lt-leb n (max x m) (omega arith))
+
+reached : (n : ℕ) (xs : List ℕ) → list_any (nat_le n) xs ≡ reaches n (greatest xs)
+reached n [] = refl
+reached n (x ∷ xs) = ap (λ b. nat_le n x || b) (reached n xs) ∙ below-max n x (greatest xs)
+
+le-refl : (n : ℕ) → nat_le n n ≡ true
+le-refl n = le-leb n n (omega arith)
+
+-- numbers that are at least the same numbers are one
+one_greatest : (a b : Option ℕ) → ((n : ℕ) → reaches n a ≡ reaches n b) → a ≡ b
+one_greatest None None h = refl
+one_greatest None (Some m) h = absurd (false≢true (h m ∙ le-refl m))
+one_greatest (Some m) None h = absurd (true≢false (sym (le-refl m) ∙ h m))
+one_greatest (Some m) (Some k) h =
+    let a = leb-true m k (sym (h m) ∙ le-refl m) in
+    let b = leb-true k m (h k ∙ le-refl k) in
+    ap Some (omega (arith, a, b))
+
+pub greatest-order : (xs ys : List ℕ) → IsPermutation xs ys → greatest ys ≡ greatest xs
+greatest-order xs ys p =
+    one_greatest (greatest ys) (greatest xs) (λ n. sym (reached n ys) ∙ sym (list_any-IsPermutation (nat_le n) xs ys p) ∙ reached n xs)
+
+-- EACH CEREMONY THAT WAS OPENED HAS A MARK
+
+abbrev has_mark : History → ℕ → Bool
+has_mark A ceremony = list_any (λ m. eqb m.0 ceremony) (all_said marked A)
+
+some_mark : (ceremony : ℕ) (ms : List (ℕ × ℕ)) → list_any (λ m. eqb m.0 ceremony) ms ≡ true → is_some (greatest (map (λ m. m.1) (filter (λ m. eqb m.0 ceremony) ms))) ≡ true
+some_mark ceremony [] h = absurd (false≢true h)
+some_mark ceremony (m ∷ ms) h = by_test (eqb m.0 ceremony) h (some_mark ceremony ms)
+  where
+    by_test : (b : Bool) → (b || list_any (λ m. eqb m.0 ceremony) ms) ≡ true → (list_any (λ m. eqb m.0 ceremony) ms ≡ true → is_some (greatest (map (λ m. m.1) (filter (λ m. eqb m.0 ceremony) ms))) ≡ true)
+        → is_some (greatest (map (λ m. m.1) (cond b (m ∷ filter (λ m. eqb m.0 ceremony) ms) (filter (λ m. eqb m.0 ceremony) ms)))) ≡ true
+    by_test true h ih = refl
+    by_test false h ih = ih h
+
+or_right : (a b : Bool) → b ≡ true → (a || b) ≡ true
+or_right true b h = refl
+or_right false b h = h
+
+more_marks : (o : Option (ℕ × ℕ)) (ms : List (ℕ × ℕ)) (ceremony : ℕ) → list_any (λ m. eqb m.0 ceremony) ms ≡ true → list_any (λ m. eqb m.0 ceremony) (cons_option o ms) ≡ true
+more_marks None ms ceremony h = h
+more_marks (Some m) ms ceremony h = or_right (eqb m.0 ceremony) _ h
+
+all_more : (o : Option (ℕ × ℕ)) (ms : List (ℕ × ℕ)) (cs : List ℕ) → list_all (λ c. list_any (λ m. eqb m.0 c) ms) cs ≡ true → list_all (λ c. list_any (λ m. eqb m.0 c) (cons_option o ms)) cs ≡ true
+all_more o ms [] h = refl
+all_more o ms (c ∷ cs) h =
+    let p = and_parts (list_any (λ m. eqb m.0 c) ms) (list_all (λ c. list_any (λ m. eqb m.0 c) ms) cs) h in
+    and_from (list_any (λ m. eqb m.0 c) (cons_option o ms)) _ (more_marks o ms c p.0) (all_more o ms cs p.1)
+
+marked_after : (act : Act) (ms : List (ℕ × ℕ)) (cs : List ℕ) → list_all (λ c. list_any (λ m. eqb m.0 c) ms) cs ≡ true
+    → list_all (λ c. list_any (λ m. eqb m.0 c) (cons_option (marked act) ms)) (cons_option (opened_number act) cs) ≡ true
+marked_after (Open ceremony at) ms cs h = and_from (eqb ceremony ceremony || list_any (λ m. eqb m.0 ceremony) ms) _ (rw (eq-eqb ceremony ceremony refl)) (all_more (Some (ceremony, at)) ms cs h)
+marked_after act ms cs h = all_more (marked act) ms cs h
+
+opened_marked : (A : History) → list_all (has_mark A) (all_said opened_number A) ≡ true
+opened_marked [] = refl
+opened_marked (entry ∷ A) = marked_after entry.command.act (all_said marked A) (all_said opened_number A) (opened_marked A)
+
+-- the moments of the rows are the marks
+row_marks : (A : History) (cs : List ℕ) → list_all (has_mark A) cs ≡ true → map (λ row. row.at) (map (mark_row A) cs) ≡ filter_map (mark A) cs
+row_marks A [] h = refl
+row_marks A (c ∷ cs) h =
+    let p = and_parts (has_mark A c) (list_all (has_mark A) cs) h in
+    by_mark (mark A c) (some_mark c (all_said marked A) p.0) (row_marks A cs p.1)
+  where
+    by_mark : (o : Option ℕ) → is_some o ≡ true → map (λ row. row.at) (map (mark_row A) cs) ≡ filter_map (mark A) cs
+        → (unwrap_or o 0 ∷ map (λ row. row.at) (map (mark_row A) cs)) ≡ cons_option o (filter_map (mark A) cs)
+    by_mark None e ih = absurd (false≢true e)
+    by_mark (Some m) e ih = ap (λ ms. m ∷ ms) ih
+
+pub settled-rows : (A : History) (rows : List MarkRow) → IsPermutation (marks A) rows → option_map day_of (greatest (map (λ row. row.at) rows)) ≡ settled A
+settled-rows A rows p =
+    let own = row_marks A (all_said opened_number A) (opened_marked A) in
+    ap (option_map day_of) (greatest-order (map (λ row. row.at) (marks A)) (map (λ row. row.at) rows) (IsPermutation-map (λ row. row.at) (marks A) rows p) ∙ ap greatest own)

@@ -1,0 +1,70 @@
+-- The words on the rows of a history's tables are the words on the history.
+use Rattle.std.proofs.Common.{◌≡◌, ℕ, Bool, true, false, cond, ◌||◌, ◌&&◌, List, [], ◌∷◌, map, filter, Option, Some, None, option_map, refl, sym, ap, ◌∙◌}
+use Rattle.std.specs.List.{list_any, cons_option}
+use Rattle.kcr_base.specs.Same.{same_text}
+use Rattle.kcr_base.specs.declared.place.Place.{Place}
+use Rattle.kcr_base.specs.declared.place.Role.{Role}
+use Rattle.kcr_people.specs.declared.Appointment.{Appointment}
+use Rattle.kcr_people.specs.declared.Person.{Person}
+use Rattle.kcr_people.specs.declared.Training.{Training}
+use Rattle.kcr_people.specs.People.{is_person_by, ever_trained_by, ever_put_by, same_training}
+use Rattle.kcr_history.specs.declared.commands.Act.{Act}
+use Rattle.kcr_history.specs.declared.commands.Act.TheVariants.{Enter, Train, Withdraw, Appoint, Replace, Release}
+use Rattle.kcr_history.specs.History.{History, some_command, entry_of}
+use Rattle.kcr_history.specs.Training.{enters, is_person, trains_person, ever_trained, is_training, puts, ever_put}
+use Rattle.kcr_history.specs.Tables.{people, person_row, trainings, training_row, appointments, appointments_after, ended, keys, key_row}
+use Rattle.kcr_history.specs.Views.{row_of_key}
+
+-- a person is entered by the last command, or was there
+is_person_after : (who : List ℕ) (act : Act) (rows : List Person) → is_person_by (cons_option (person_row act) rows) who ≡ (enters who act || is_person_by rows who)
+is_person_after who (Enter p name) rows = refl
+is_person_after who act rows = refl
+
+pub is_person-people : (A : History) (who : List ℕ) → is_person_by (people A) who ≡ is_person A who
+is_person-people [] who = refl
+is_person-people (entry ∷ A) who =
+    is_person_after who entry.command.act (people A) ∙ ap (λ b. enters who entry.command.act || b) (is_person-people A who)
+
+-- the person is trained by the last command, or was so before
+ever_trained_after : (who : List ℕ) (act : Act) (rows : List Training) → ever_trained_by (cons_option (training_row act) rows) who ≡ (trains_person who act || ever_trained_by rows who)
+ever_trained_after who (Train p role since until) rows = refl
+ever_trained_after who act rows = refl
+
+pub ever_trained-trainings : (A : History) (who : List ℕ) → ever_trained_by (trainings A) who ≡ ever_trained A who
+ever_trained-trainings [] who = refl
+ever_trained-trainings (entry ∷ A) who =
+    ever_trained_after who entry.command.act (trainings A) ∙ ap (λ b. trains_person who entry.command.act || b) (ever_trained-trainings A who)
+
+-- the very same training is entered by the last command, or was there
+is_training_after : (row : Training) (act : Act) (rows : List Training)
+    → list_any (same_training row) (cons_option (training_row act) rows) ≡ (is_training row.who row.role row.since row.until act || list_any (same_training row) rows)
+is_training_after row (Train p role since until) rows = refl
+is_training_after row act rows = refl
+
+pub is_training-trainings : (A : History) (row : Training) → list_any (same_training row) (trainings A) ≡ some_command (is_training row.who row.role row.since row.until) A
+is_training-trainings [] row = refl
+is_training-trainings (entry ∷ A) row =
+    is_training_after row entry.command.act (trainings A) ∙ ap (λ b. is_training row.who row.role row.since row.until entry.command.act || b) (is_training-trainings A row)
+
+-- an end changes no person
+ever_put-ended : (who : List ℕ) (place : Place) (day : ℕ) (rows : List Appointment) → ever_put_by (map (ended place day) rows) who ≡ ever_put_by rows who
+ever_put-ended who place day [] = refl
+ever_put-ended who place day (row ∷ rows) = ap (λ b. same_text row.who who || b) (ever_put-ended who place day rows)
+
+ever_put_after : (who : List ℕ) (act : Act) (rows : List Appointment) → ever_put_by (appointments_after act rows) who ≡ (puts who act || ever_put_by rows who)
+ever_put_after who (Appoint place p day) rows = refl
+ever_put_after who (Replace place p day) rows = ap (λ b. same_text p who || b) (ever_put-ended who place day rows)
+ever_put_after who (Release place day) rows = ever_put-ended who place day rows
+ever_put_after who act rows = refl
+
+pub ever_put-appointments : (A : History) (who : List ℕ) → ever_put_by (appointments A) who ≡ ever_put A who
+ever_put-appointments [] who = refl
+ever_put-appointments (entry ∷ A) who =
+    ever_put_after who entry.command.act (appointments A) ∙ ap (λ b. puts who entry.command.act || b) (ever_put-appointments A who)
+
+-- the row of a key is that of its entry
+pub row_of_key-keys : (A : History) (key : List ℕ) → row_of_key key (keys A) ≡ option_map key_row (entry_of A key)
+row_of_key-keys [] key = refl
+row_of_key-keys (entry ∷ A) key =
+    ap (λ o. cond (same_text entry.command.key key) (Some (key_row entry)) o) (row_of_key-keys A key)
+    ∙ (elim (same_text entry.command.key key) as (λ b. cond b (Some (key_row entry)) (option_map key_row (entry_of A key)) ≡ option_map key_row (cond b (Some entry) (entry_of A key))) [ true ↦ refl | false ↦ refl ])

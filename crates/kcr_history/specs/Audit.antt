@@ -1,0 +1,119 @@
+-- What an audit may find in rows, whether a register has stored them or not.
+use Rattle.std.specs.Prelude.{◌≡◌, ℕ, ◌<◌, ◌==◌, Bool, true, false, not, ◌&&◌, ◌||◌, nat_lt, List, [], ◌∷◌, find, Option, Some, None, IsTrue}
+use Rattle.std.specs.List.{list_any, count_by}
+use Rattle.kcr_base.specs.Days.{day_of}
+use Rattle.kcr_base.specs.Same.{same_text, is_this}
+use Rattle.kcr_base.specs.declared.place.Facility.{Facility}
+use Rattle.kcr_base.specs.declared.place.Place.{Place}
+use Rattle.kcr_base.specs.declared.place.Place.TheVariants as Places
+use Rattle.kcr_people.specs.People.{trained_by, holder_by}
+use Rattle.kcr_room.specs.Room.{in_by, crowd_by}
+use Rattle.kcr_custody.specs.Balance.{holds_items}
+use Rattle.kcr_custody.specs.Custody.{is_box}
+use Rattle.kcr_custody.specs.declared.Rest.{Rest}
+use Rattle.kcr_custody.specs.declared.Rest.TheVariants.{Loose, Within}
+use Rattle.kcr_custody.specs.declared.Spot.{Spot}
+use Rattle.kcr_custody.specs.declared.Spot.TheVariants.{InBox}
+use Rattle.kcr_script.specs.declared.seat.Seat.{Seat}
+use Rattle.kcr_script.specs.declared.seat.Seat.TheVariants.{Staff, AnyCo, AnyRksh, Co, Rksh}
+use Rattle.kcr_history.specs.declared.rows.CeremonyRow.{CeremonyRow}
+use Rattle.kcr_history.specs.declared.rows.StepRow.{StepRow}
+use Rattle.kcr_history.specs.declared.rows.StepState.{StepState}
+use Rattle.kcr_history.specs.declared.rows.StepState.TheVariants.{Undone}
+use Rattle.kcr_history.specs.declared.views.Finding.{Finding}
+use Rattle.kcr_history.specs.declared.views.Finding.TheVariants as Findings
+use Rattle.kcr_history.specs.declared.views.View.{View}
+use Rattle.kcr_history.specs.Prints.{seated_at, seats_filled}
+use Rattle.kcr_history.specs.Seating.{one_to_seven}
+
+-- SEATINGS, BY THE ROWS
+
+-- the person holds the place on the day
+abbrev pub is_holder_by : View → Place → ℕ → List ℕ → Bool
+is_holder_by view place day who = is_this who (holder_by view.appointments.items place day)
+
+-- the person fits the seat on the day, in a ceremony of the facility
+abbrev pub fits_by : View → Facility → ℕ → Seat → List ℕ → Bool
+fits_by view facility day (Staff role) who = trained_by view.trainings.items view.withdrawals.items who role day
+fits_by view facility day AnyCo who = list_any (λ n. is_holder_by view (Places.Co facility n) day who) one_to_seven
+fits_by view facility day (Co n) who = is_holder_by view (Places.Co facility n) day who
+fits_by view facility day AnyRksh who = list_any (λ n. is_holder_by view (Places.Rksh n) day who) one_to_seven
+fits_by view facility day (Rksh n) who = is_holder_by view (Places.Rksh n) day who
+
+-- the person is in the room of the ceremony at t and fits the seat on its day
+abbrev pub eligible_by : View → CeremonyRow → ℕ → Seat → List ℕ → Bool
+eligible_by view ceremony t seat who = in_by view.sheet.items who ceremony.number t && fits_by view ceremony.facility (day_of t) seat who
+
+-- the people, all distinct, are each eligible for the seat in their position
+abbrev pub is_seating_by : View → CeremonyRow → ℕ → List Seat → List (List ℕ) → Bool
+is_seating_by view ceremony t [] [] = true
+is_seating_by view ceremony t (seat ∷ seats) (who ∷ people) =
+    eligible_by view ceremony t seat who && not (list_any (same_text who) people) && is_seating_by view ceremony t seats people
+is_seating_by view ceremony t seats people = false
+
+-- the step was signed or passed
+abbrev pub is_done : StepState → Bool
+is_done Undone = false
+is_done other = true
+
+-- the recorded people fill the step's seats, in its ceremony and at its moment
+abbrev pub is_well_seated : View → StepRow → Option CeremonyRow → Option ℕ → Bool
+is_well_seated view row (Some ceremony) (Some t) =
+    is_seating_by view ceremony t (seats_filled row) (seated_at view.seatings.items row.ceremony row.step)
+is_well_seated view row ceremony at = false
+
+-- the row of the ceremony
+abbrev pub ceremony_in : View → ℕ → Option CeremonyRow
+ceremony_in view number = find (λ row. row.number == number) view.ceremonies.items
+
+-- the row is of this step, which was signed or passed, and its recorded people are no seating
+abbrev pub is_ill_seated : View → ℕ → ℕ → StepRow → Bool
+is_ill_seated view ceremony step row =
+    row.ceremony == ceremony && row.step == step && is_done row.state && not (is_well_seated view row (ceremony_in view row.ceremony) row.at)
+
+-- CUSTODY, BY THE ROWS
+
+-- there is a row of the bag that says it is not spent
+abbrev pub is_bag_there : View → List ℕ → Bool
+is_bag_there view serial = list_any (λ bag. same_text bag.serial serial && holds_items (Some bag.spot)) view.bags.items
+
+-- the item is within a bag that is spent or not there
+abbrev pub is_lost : View → Rest → Bool
+is_lost view (Loose facility) = false
+is_lost view (Within serial) = not (is_bag_there view serial)
+
+-- the bag is in a box that is not there
+abbrev pub is_unboxed : View → Spot → Bool
+is_unboxed view (InBox facility number) = not (list_any (is_box facility number) view.boxes.items)
+is_unboxed view spot = false
+
+-- more than one row passes the test
+abbrev pub is_doubled : {X : Type 0} → (X → Bool) → List X → Bool
+is_doubled test rows = nat_lt 1 (count_by test rows)
+
+-- FINDINGS
+
+-- the finding is true of the rows
+abbrev pub IsTrueOf : View → Finding → Type 0
+IsTrueOf view (Findings.Seating ceremony step) = IsTrue (list_any (is_ill_seated view ceremony step) view.steps.items)
+IsTrueOf view (Findings.Custody item) =
+    IsTrue (is_doubled (λ row. same_text row.code item) view.items.items || list_any (λ row. same_text row.code item && is_lost view row.rest) view.items.items)
+IsTrueOf view (Findings.Bag serial) =
+    IsTrue (is_doubled (λ row. same_text row.serial serial) view.bags.items || list_any (λ row. same_text row.serial serial && is_unboxed view row.spot) view.bags.items)
+IsTrueOf view (Findings.Key key) = IsTrue (is_doubled (λ row. same_text row.key key) view.keys.items)
+IsTrueOf view (Findings.Lone ceremony moment) = crowd_by view.sheet.items ceremony moment ≡ 1
+IsTrueOf view (Findings.Crowd ceremony moment) = 128 < crowd_by view.sheet.items ceremony moment
+
+-- the kinds of finding in the order in which they are sought
+abbrev pub rank : Finding → ℕ
+rank (Findings.Seating ceremony step) = 0
+rank (Findings.Custody item) = 1
+rank (Findings.Bag serial) = 2
+rank (Findings.Key key) = 3
+rank (Findings.Lone ceremony moment) = 4
+rank (Findings.Crowd ceremony moment) = 5
+
+-- what an audit answers: a finding that is true of the rows, while none of an earlier kind is; None where none is true
+abbrev pub IsAudit : View → Option Finding → Type 0
+IsAudit view None = (finding : Finding) → IsTrueOf view finding → ⊥
+IsAudit view (Some found) = IsTrueOf view found × ((other : Finding) → rank other < rank found → IsTrueOf view other → ⊥)

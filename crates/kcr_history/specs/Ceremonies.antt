@@ -1,0 +1,137 @@
+-- What the history says of ceremonies: their plans, steps, states and marks.
+use Rattle.std.specs.Prelude.{ℕ, zero, suc, ◌==◌, Bool, true, false, ◌&&◌, nat_le, List, [], ◌∷◌, map, filter, slice_get, Option, Some, None, option_map, is_some, is_none, unwrap_or, if◌then◌else◌}
+use Rattle.std.specs.List.{filter_map}
+use Rattle.std.specs.Result.{result_unwrap_or}
+use Rattle.kcr_base.specs.Days.{day_of}
+use Rattle.kcr_base.specs.declared.place.Facility.{Facility}
+use Rattle.kcr_base.specs.declared.place.Facility.TheVariants.{East}
+use Rattle.kcr_script.specs.declared.script.Step.{Step}
+use Rattle.kcr_script.specs.Reading.{script_of}
+use Rattle.kcr_history.specs.declared.commands.Act.{Act}
+use Rattle.kcr_history.specs.declared.commands.Act.TheVariants.{AddItem, Plan, Open, Close, Sign, Except, TurnSafe, Seal, Take, Put, Cut}
+use Rattle.kcr_history.specs.History.{History, how_many, all_said, last_said, greatest}
+
+-- a planned ceremony
+pub record Planned : Type 0 where
+  pub facility : Facility
+  pub day : ℕ
+  pub steps : List Step
+
+-- what a command plans for the ceremony: its script's text is read as steps
+abbrev pub planned_as : ℕ → Act → Option Planned
+planned_as ceremony (Plan number facility day script) =
+    if number == ceremony then Some (record { facility = facility; day = day; steps = result_unwrap_or (script_of script) [] }) else None
+planned_as ceremony act = None
+
+-- the plan of the ceremony
+abbrev pub plan_of : History → ℕ → Option Planned
+plan_of A ceremony = last_said (planned_as ceremony) A
+
+-- there is such a ceremony
+abbrev pub is_ceremony : History → ℕ → Bool
+is_ceremony A ceremony = is_some (plan_of A ceremony)
+
+-- the facility of a planned ceremony (of another the word says nothing of use)
+abbrev pub facility_of : History → ℕ → Facility
+facility_of A ceremony = unwrap_or (option_map (λ plan. plan.facility) (plan_of A ceremony)) East
+
+-- the day of a planned ceremony
+abbrev pub day_planned : History → ℕ → ℕ
+day_planned A ceremony = unwrap_or (option_map (λ plan. plan.day) (plan_of A ceremony)) 0
+
+-- the steps of a planned ceremony
+abbrev pub steps_of : History → ℕ → List Step
+steps_of A ceremony = unwrap_or (option_map (λ plan. plan.steps) (plan_of A ceremony)) []
+
+-- step k of a script, k from 1
+abbrev pub step_at : List Step → ℕ → Option Step
+step_at steps zero = None
+step_at steps (suc k) = slice_get steps k
+
+-- STATES
+
+-- when the command opens the ceremony
+abbrev pub opening : ℕ → Act → Option ℕ
+opening ceremony (Open c at) = if c == ceremony then Some at else None
+opening ceremony act = None
+
+-- when the command closes the ceremony
+abbrev pub closing : ℕ → Act → Option ℕ
+closing ceremony (Close c at) = if c == ceremony then Some at else None
+closing ceremony act = None
+
+abbrev pub opened : History → ℕ → Option ℕ
+opened A ceremony = last_said (opening ceremony) A
+
+abbrev pub closed : History → ℕ → Option ℕ
+closed A ceremony = last_said (closing ceremony) A
+
+-- the ceremony is open: it was opened and not closed
+abbrev pub is_open : History → ℕ → Bool
+is_open A ceremony = is_some (opened A ceremony) && is_none (closed A ceremony)
+
+-- MARKS
+
+-- the ceremony and moment of an opening, signature, exception or custody command (items, safes, bags)
+abbrev pub marked : Act → Option (ℕ × ℕ)
+marked (Open c at) = Some (c, at)
+marked (Sign c k at) = Some (c, at)
+marked (Except c text pass at) = Some (c, at)
+marked (AddItem c item at) = Some (c, at)
+marked (TurnSafe c safe state by at) = Some (c, at)
+marked (Seal c serial items at) = Some (c, at)
+marked (Take c serial at) = Some (c, at)
+marked (Put c serial to at) = Some (c, at)
+marked (Cut c serial at) = Some (c, at)
+marked act = None
+
+-- the mark of the ceremony: the greatest moment of those, none where there is none
+abbrev pub mark : History → ℕ → Option ℕ
+mark A ceremony = greatest (map (λ m. m.1) (filter (λ m. m.0 == ceremony) (all_said marked A)))
+
+-- the ceremony that a command opens
+abbrev pub opened_number : Act → Option ℕ
+opened_number (Open ceremony at) = Some ceremony
+opened_number act = None
+
+-- the marks of all ceremonies that were opened: no other has one
+abbrev pub all_marks : History → List ℕ
+all_marks A = filter_map (mark A) (all_said opened_number A)
+
+-- the settled day: the day of the greatest mark of all ceremonies, none where there is no mark
+abbrev pub settled : History → Option ℕ
+settled A = option_map day_of (greatest (all_marks A))
+
+-- the moment is not before the mark
+abbrev pub is_not_before : ℕ → Option ℕ → Bool
+is_not_before t None = true
+is_not_before t (Some m) = nat_le m t
+
+-- STEPS
+
+-- the command signs or passes a step of the ceremony
+abbrev pub does_step : ℕ → Act → Bool
+does_step ceremony (Sign c k at) = c == ceremony
+does_step ceremony (Except c text pass at) = c == ceremony && pass
+does_step ceremony act = false
+
+-- how many steps of the ceremony are signed or passed
+abbrev pub steps_done : History → ℕ → ℕ
+steps_done A ceremony = how_many (does_step ceremony) A
+
+-- the step that is next: one more than those
+abbrev pub next_step : History → ℕ → ℕ
+next_step A ceremony = suc (steps_done A ceremony)
+
+-- the command states an exception in the ceremony
+abbrev pub is_exception : ℕ → Act → Bool
+is_exception ceremony (Except c text pass at) = c == ceremony
+is_exception ceremony act = false
+
+abbrev pub exceptions_of : History → ℕ → ℕ
+exceptions_of A ceremony = how_many (is_exception ceremony) A
+
+-- step k may be signed at t: the ceremony is open, k is next and a step of its script, and t is not before the mark
+abbrev pub next : History → ℕ → ℕ → ℕ → Bool
+next A ceremony k t =
+    is_open A ceremony && k == next_step A ceremony && is_some (step_at (steps_of A ceremony) k) && is_not_before t (mark A ceremony)

@@ -1,0 +1,94 @@
+-- What the history says of safes, boxes, bags and items: of each what the last command that bears on it says.
+use Rattle.std.specs.Prelude.{ℕ, ◌==◌, Bool, true, false, ◌&&◌, List, Option, Some, None, option_map, unwrap_or, if◌then◌else◌}
+use Rattle.std.specs.List.{list_any}
+use Rattle.kcr_base.specs.Rows.{or_else}
+use Rattle.kcr_base.specs.Same.{same_text, same_place, same_facility}
+use Rattle.kcr_base.specs.declared.place.Facility.{Facility}
+use Rattle.kcr_base.specs.declared.place.Facility.TheVariants.{East}
+use Rattle.kcr_base.specs.declared.place.Place.{Place}
+use Rattle.kcr_custody.specs.declared.SafeNumber.{SafeNumber}
+use Rattle.kcr_custody.specs.declared.Spot.{Spot}
+use Rattle.kcr_custody.specs.declared.Spot.TheVariants.{Table, Spent}
+use Rattle.kcr_custody.specs.declared.Rest.{Rest}
+use Rattle.kcr_custody.specs.declared.Rest.TheVariants.{Loose, Within}
+use Rattle.kcr_custody.specs.declared.Store.{Store}
+use Rattle.kcr_custody.specs.Custody.{same_safe, spot_of_store}
+use Rattle.kcr_history.specs.declared.commands.Act.{Act}
+use Rattle.kcr_history.specs.declared.commands.Act.TheVariants.{AddBox, AddItem, TurnSafe, Seal, Take, Put, Cut}
+use Rattle.kcr_history.specs.History.{History, some_command, last_said, last_told}
+use Rattle.kcr_history.specs.Ceremonies.{facility_of}
+
+-- BAGS
+
+-- where a command leaves the bag; `here` gives the facility of a ceremony
+abbrev pub moved : (ℕ → Facility) → List ℕ → Act → Option Spot
+moved here serial (Seal c s items at) = if same_text s serial then Some (Table (here c)) else None
+moved here serial (Take c s at) = if same_text s serial then Some (Table (here c)) else None
+moved here serial (Put c s to at) = if same_text s serial then Some (spot_of_store (here c) to) else None
+moved here serial (Cut c s at) = if same_text s serial then Some Spent else None
+moved here serial act = None
+
+-- where the bag is, None where no such bag was sealed
+abbrev pub spot : History → List ℕ → Option Spot
+spot A serial = last_told (λ before. moved (facility_of before) serial) A
+
+abbrev pub is_spent : Option Spot → Bool
+is_spent (Some Spent) = true
+is_spent other = false
+
+-- ITEMS
+
+-- the bag in which a seal puts the item
+abbrev pub sealed_in : List ℕ → Act → Option (List ℕ)
+sealed_in item (Seal c serial items at) = if list_any (same_text item) items then Some serial else None
+sealed_in item act = None
+
+-- the facility where the bag was cut
+abbrev pub cut_at : (ℕ → Facility) → List ℕ → Act → Option Facility
+cut_at here serial (Cut c s at) = if same_text s serial then Some (here c) else None
+cut_at here serial act = None
+
+-- the facility where the item was added
+abbrev pub added_at : (ℕ → Facility) → List ℕ → Act → Option Facility
+added_at here item (AddItem c i at) = if same_text i item then Some (here c) else None
+added_at here item act = None
+
+-- where an item is that was last sealed in this bag: within it, or loose where it was cut
+abbrev pub rest_in : History → List ℕ → Rest
+rest_in A serial =
+    if is_spent (spot A serial)
+    then Loose (unwrap_or (last_told (λ before. cut_at (facility_of before) serial) A) East)
+    else Within serial
+
+-- where the item is: as its last seal says, or else loose where it was added; None where it was never added
+abbrev pub rest : History → List ℕ → Option Rest
+rest A item =
+    or_else (option_map (rest_in A) (last_said (sealed_in item) A))
+    (option_map Loose (last_told (λ before. added_at (facility_of before) item) A))
+
+-- SAFES
+
+-- what a command says of the safe
+abbrev pub turned : (ℕ → Facility) → Facility → SafeNumber → Act → Option Bool
+turned here facility safe (TurnSafe c s state by at) = if same_facility (here c) facility && same_safe s safe then Some state else None
+turned here facility safe act = None
+
+-- the safe is open: its last command says so; at first it is shut
+abbrev pub is_safe_open : History → Facility → SafeNumber → Bool
+is_safe_open A facility safe = unwrap_or (last_told (λ before. turned (facility_of before) facility safe) A) false
+
+-- BOXES
+
+-- the place of a box that a command adds
+abbrev pub boxed : Facility → ℕ → Act → Option Place
+boxed facility number (AddBox f n place) = if same_facility f facility && n == number then Some place else None
+boxed facility number act = None
+
+-- the place that the box belongs to, None where there is no such box
+abbrev pub place_of_box : History → Facility → ℕ → Option Place
+place_of_box A facility number = last_said (boxed facility number) A
+
+-- the command adds a box for the place
+abbrev pub boxes_place : Place → Act → Bool
+boxes_place place (AddBox f n p) = same_place p place
+boxes_place place act = false

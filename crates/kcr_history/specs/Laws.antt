@@ -1,0 +1,87 @@
+-- What holds of every history that the machine leads to, and what is found after a crash.
+use Rattle.std.specs.Prelude.{ℕ, Bool, true, false, ◌&&◌, List, [], ◌∷◌, map, Option, Some, None, is_some, ◌⊎◌, ◌↔◌, IsTrue}
+use Rattle.std.specs.List.{list_any, list_all}
+use Rattle.kcr_base.specs.Same.{same_text}
+use Rattle.kcr_custody.specs.Balance.{all_differ, holds_items}
+use Rattle.kcr_custody.specs.Custody.{is_on_table, is_loose_at}
+use Rattle.kcr_custody.specs.declared.Rest.{Rest}
+use Rattle.kcr_custody.specs.declared.Rest.TheVariants.{Loose, Within}
+use Rattle.kcr_custody.specs.declared.Spot.{Spot}
+use Rattle.kcr_custody.specs.declared.Spot.TheVariants.{InBox}
+use Rattle.kcr_room.specs.Laws.{IsAllowed}
+use Rattle.kcr_room.specs.Room.{crowd_by}
+use Rattle.kcr_history.specs.declared.commands.Act.{Act}
+use Rattle.kcr_history.specs.declared.commands.Act.TheVariants.{Seal, Cut}
+use Rattle.kcr_history.specs.History.{History, all_said}
+use Rattle.kcr_history.specs.Ceremonies.{facility_of}
+use Rattle.kcr_history.specs.Room.{sheet}
+use Rattle.kcr_history.specs.Custody.{spot, rest, place_of_box}
+use Rattle.kcr_history.specs.Seating.{is_seating}
+use Rattle.kcr_history.specs.Tables.{Tables, tables, SameTables, sealed_serial, added_item}
+use Rattle.kcr_history.specs.Machine.{Sitting, sitting}
+
+-- ONCE
+
+-- no key was accepted twice
+abbrev pub IsOnce : History → Type 0
+IsOnce A = IsTrue (all_differ (map (λ entry. entry.command.key) A))
+
+-- SOUND
+
+-- the recorded people are a seating by the whole of A; a command that needs no seats has nothing to show
+abbrev pub is_seated : History → Option Sitting → Option (List (List ℕ)) → Bool
+is_seated A None people = true
+is_seated A (Some s) None = false
+is_seated A (Some s) (Some people) = is_seating A s.ceremony s.at s.seats people
+
+-- every recorded seating is one by the whole of A
+abbrev pub are_seated : History → Bool
+are_seated A = list_all (λ entry. is_seated A (sitting A entry.command.act) entry.answer.seating) A
+
+-- every recorded seating is one by the whole of A, and at no moment is exactly one person, or more than 128, in a room
+pub record IsSound (A : History) : Type 0 where
+  pub seated : IsTrue (are_seated A)
+  pub rooms : (ceremony t : ℕ) → IsAllowed (crowd_by (sheet A) ceremony t)
+
+-- BALANCED
+
+-- the command adds the item
+abbrev pub is_added : History → List ℕ → Bool
+is_added A item = list_any (same_text item) (all_said added_item A)
+
+-- the item is loose at a facility, or within a bag that is there and not spent
+abbrev pub is_kept : History → Option Rest → Bool
+is_kept A None = false
+is_kept A (Some (Loose facility)) = true
+is_kept A (Some (Within serial)) = holds_items (spot A serial)
+
+-- a spot in a box names a box that is there
+abbrev pub has_its_box : History → Option Spot → Bool
+has_its_box A (Some (InBox facility number)) = is_some (place_of_box A facility number)
+has_its_box A other = true
+
+-- a seal takes items that are loose at its ceremony's facility, a cut a bag that lies on its table
+abbrev pub is_in_place : History → Act → Bool
+is_in_place A (Seal ceremony serial items at) = list_all (λ item. is_loose_at (facility_of A ceremony) (rest A item)) items
+is_in_place A (Cut ceremony serial at) = is_on_table (facility_of A ceremony) (spot A serial)
+is_in_place A act = true
+
+-- each command was in place by the history before it
+abbrev pub were_in_place : History → Bool
+were_in_place [] = true
+were_in_place (entry ∷ A) = is_in_place A entry.command.act && were_in_place A
+
+-- items are neither lost nor doubled: those that were added are those that are loose or within a bag that is not spent, each
+-- once; each serial was sealed once; what was sealed was loose, and what was cut lay on the table; each box that is named is there
+pub record IsBalanced (A : History) : Type 0 where
+  pub added_once : IsTrue (all_differ (all_said added_item A))
+  pub added_kept : (item : List ℕ) → IsTrue (is_added A item) ↔ IsTrue (is_kept A (rest A item))
+  pub sealed_once : IsTrue (all_differ (all_said sealed_serial A))
+  pub in_place : IsTrue (were_in_place A)
+  pub boxed : (serial : List ℕ) → IsTrue (has_its_box A (spot A serial))
+
+-- AFTER A CRASH
+
+-- what an opening finds: the tables of A, or those of A', which has the command in hand accepted after A
+abbrev pub AfterCrash : History → History → Tables → Type 0
+AfterCrash A A' found = SameTables found (tables A) ⊎ SameTables found (tables A')

@@ -1,0 +1,35 @@
+-- What the history says of rooms.
+use Rattle.std.specs.Prelude.{ℕ, Bool, List, [], ◌∷◌, ◌++◌, map, length}
+use Rattle.std.specs.List.{list_any}
+use Rattle.kcr_base.specs.Days.{day_of}
+use Rattle.kcr_base.specs.declared.place.Role.{Role}
+use Rattle.kcr_room.specs.declared.SheetRow.{SheetRow}
+use Rattle.kcr_room.specs.Room.{in_by, present_by}
+use Rattle.kcr_room.specs.Adding.{new_row}
+use Rattle.kcr_history.specs.declared.commands.Act.{Act}
+use Rattle.kcr_history.specs.declared.commands.Act.TheVariants.{Sheet}
+use Rattle.kcr_history.specs.History.{History}
+use Rattle.kcr_history.specs.Training.{trained}
+
+-- the sheet with the rows that a command adds: one for each of its people
+abbrev pub sheet_after : Act → List SheetRow → List SheetRow
+sheet_after (Sheet c way people at) rows = rows ++ map (new_row c way at) people
+sheet_after act rows = rows
+
+-- the sheet: person, way with ceremony, and moment, of all commands, in the order in which they were accepted
+abbrev pub sheet : History → List SheetRow
+sheet [] = []
+sheet (entry ∷ A) = sheet_after entry.command.act (sheet A)
+
+-- the person is in the room of the ceremony at t: of their rows with moments at most t the one with the greatest moment
+-- is `in` for the ceremony
+abbrev pub is_in : History → List ℕ → ℕ → ℕ → Bool
+is_in A who ceremony t = in_by (sheet A) who ceremony t
+
+-- everybody in the room at t, in the byte order of their initials
+abbrev pub present : History → ℕ → ℕ → List (List ℕ)
+present A ceremony t = present_by (sheet A) ceremony t
+
+-- somebody in the room at t is trained for the role on the day of t
+abbrev pub is_attended_by : History → Role → ℕ → ℕ → Bool
+is_attended_by A role ceremony t = list_any (λ who. trained A who role (day_of t)) (present A ceremony t)

@@ -1,0 +1,137 @@
+-- Which rows a command asks for, and when a view holds them.
+use Rattle.std.specs.Prelude.{◌≡◌, ℕ, ◌==◌, Bool, true, false, nat_le, List, [], ◌∷◌, filter, find, Option, Some, None, max, if◌then◌else◌}
+use Rattle.std.specs.List.{list_any}
+use Rattle.std.specs.List.Sorted.{IsPermutation}
+use Rattle.kcr_base.specs.Same.{same_text, same_place}
+use Rattle.kcr_people.specs.declared.Person.{Person}
+use Rattle.kcr_people.specs.declared.Training.{Training}
+use Rattle.kcr_people.specs.declared.Withdrawal.{Withdrawal}
+use Rattle.kcr_people.specs.declared.Appointment.{Appointment}
+use Rattle.kcr_custody.specs.declared.Bag.{Bag}
+use Rattle.kcr_custody.specs.declared.Item.{Item}
+use Rattle.kcr_custody.specs.Custody.{lies_in}
+use Rattle.kcr_room.specs.declared.Stay.{Stay}
+use Rattle.kcr_history.specs.declared.rows.CeremonyRow.{CeremonyRow}
+use Rattle.kcr_history.specs.declared.rows.MarkRow.{MarkRow}
+use Rattle.kcr_history.specs.declared.rows.StepRow.{StepRow}
+use Rattle.kcr_history.specs.declared.rows.ExceptionRow.{ExceptionRow}
+use Rattle.kcr_history.specs.declared.rows.KeyRow.{KeyRow}
+use Rattle.kcr_history.specs.declared.views.AppointmentsOf.{AppointmentsOf}
+use Rattle.kcr_history.specs.declared.views.AppointmentsOf.TheVariants as Appointments
+use Rattle.kcr_history.specs.declared.views.Asks.{Asks}
+use Rattle.kcr_history.specs.declared.views.ItemsOf.{ItemsOf}
+use Rattle.kcr_history.specs.declared.views.ItemsOf.TheVariants as Items
+use Rattle.kcr_history.specs.declared.views.Rows.{Rows}
+use Rattle.kcr_history.specs.declared.views.Rows.TheVariants.{Nothing, Under, All}
+use Rattle.kcr_history.specs.declared.views.StaysOf.{StaysOf}
+use Rattle.kcr_history.specs.declared.views.View.{View}
+use Rattle.kcr_history.specs.Tables.{Tables}
+
+-- WHETHER A ROW IS ONE OF THOSE ASKED FOR
+
+abbrev pub is_of_people : List (List ℕ) → Person → Bool
+is_of_people people row = list_any (same_text row.who) people
+
+abbrev pub is_training_of : List ℕ → Training → Bool
+is_training_of who row = same_text row.who who
+
+abbrev pub is_withdrawal_of : List ℕ → Withdrawal → Bool
+is_withdrawal_of who row = same_text row.who who
+
+abbrev pub is_appointment_of : AppointmentsOf → Appointment → Bool
+is_appointment_of (Appointments.Place place) row = same_place row.place place
+is_appointment_of (Appointments.Person who) row = same_text row.who who
+
+abbrev pub is_of_serial : List ℕ → Bag → Bool
+is_of_serial serial row = same_text row.serial serial
+
+abbrev pub is_item_of : ItemsOf → Item → Bool
+is_item_of (Items.Codes codes) row = list_any (same_text row.code) codes
+is_item_of (Items.Bag serial) row = lies_in serial row
+
+abbrev pub is_of_number : ℕ → CeremonyRow → Bool
+is_of_number ceremony row = row.number == ceremony
+
+abbrev pub is_mark_of : ℕ → MarkRow → Bool
+is_mark_of ceremony row = row.ceremony == ceremony
+
+abbrev pub is_step_of : ℕ → StepRow → Bool
+is_step_of ceremony row = row.ceremony == ceremony
+
+abbrev pub is_exception_of : ℕ → ExceptionRow → Bool
+is_exception_of ceremony row = row.ceremony == ceremony
+
+abbrev pub is_stay_of : ℕ → Stay → Bool
+is_stay_of ceremony row = row.ceremony == ceremony
+
+abbrev pub is_of_key : List ℕ → KeyRow → Bool
+is_of_key key row = same_text row.key key
+
+-- WHEN A VIEW HOLDS THEM
+
+-- the rows asked for are the table's, in any order; beside them the view may hold others
+abbrev pub Shows : {X K : Type 0} → (K → X → Bool) → Rows K → List X → List X → Type 0
+Shows is_under Nothing table rows = Unit {0}
+Shows is_under (Under key) table rows = IsPermutation (filter (is_under key) table) (filter (is_under key) rows)
+Shows is_under All table rows = IsPermutation table rows
+
+-- the whole table, where it is asked for
+abbrev pub ShowsAll : {X : Type 0} → Bool → List X → List X → Type 0
+ShowsAll true table rows = IsPermutation table rows
+ShowsAll false table rows = Unit {0}
+
+-- the later of two stays, by their beginnings
+abbrev pub later_stay : Stay → Option Stay → Option Stay
+later_stay stay None = Some stay
+later_stay stay (Some other) = if nat_le other.since stay.since then Some stay else Some other
+
+-- the stay of a list that began last
+abbrev pub last_of : List Stay → Option Stay
+last_of [] = None
+last_of (stay ∷ stays) = later_stay stay (last_of stays)
+
+-- the person's stay that began last, in whatever ceremony
+abbrev pub last_stay : List Stay → List ℕ → Option Stay
+last_stay stays who = last_of (filter (λ stay. same_text stay.who who) stays)
+
+-- each of the people has the same last stay in the view as in the table
+abbrev pub ShowsLast : List (List ℕ) → List Stay → List Stay → Type 0
+ShowsLast [] table rows = Unit {0}
+ShowsLast (who ∷ people) table rows = (last_stay rows who ≡ last_stay table who) × ShowsLast people table rows
+
+-- the stays of the ceremony, in any order, and of each of the people the one that began last
+pub record ShowsStaysOf (asked : StaysOf) (table rows : List Stay) : Type 0 where
+  pub room : IsPermutation (filter (is_stay_of asked.ceremony) table) (filter (is_stay_of asked.ceremony) rows)
+  pub last : ShowsLast asked.people table rows
+
+abbrev pub ShowsStays : Rows StaysOf → List Stay → List Stay → Type 0
+ShowsStays Nothing table rows = Unit {0}
+ShowsStays (Under asked) table rows = ShowsStaysOf asked table rows
+ShowsStays All table rows = IsPermutation table rows
+
+-- the row of the key
+abbrev pub row_of_key : List ℕ → List KeyRow → Option KeyRow
+row_of_key key rows = find (is_of_key key) rows
+
+-- the greatest number of an accepted command, 0 where there is none
+abbrev pub greatest_number : List KeyRow → ℕ
+greatest_number [] = 0
+greatest_number (row ∷ rows) = max row.accepted (greatest_number rows)
+
+-- the view holds the rows asked for; of the accepted commands it has the row of the key, if there is one, and the greatest number
+pub record IsViewOf (asks : Asks) (t : Tables) (view : View) : Type 0 where
+  pub people : Shows is_of_people asks.people t.people view.people.items
+  pub trainings : Shows is_training_of asks.trainings t.trainings view.trainings.items
+  pub withdrawals : Shows is_withdrawal_of asks.withdrawals t.withdrawals view.withdrawals.items
+  pub appointments : Shows is_appointment_of asks.appointments t.appointments view.appointments.items
+  pub boxes : ShowsAll asks.boxes t.boxes view.boxes.items
+  pub safes : ShowsAll asks.safes t.safes view.safes.items
+  pub bags : Shows is_of_serial asks.bags t.bags view.bags.items
+  pub items : Shows is_item_of asks.items t.items view.items.items
+  pub ceremonies : Shows is_of_number asks.ceremonies t.ceremonies view.ceremonies.items
+  pub marks : Shows is_mark_of asks.marks t.marks view.marks.items
+  pub steps : Shows is_step_of asks.steps t.steps view.steps.items
+  pub exceptions : Shows is_exception_of asks.exceptions t.exceptions view.exceptions.items
+  pub stays : ShowsStays asks.stays t.stays view.stays.items
+  pub key_row : row_of_key asks.key view.keys.items ≡ row_of_key asks.key t.keys
+  pub greatest : greatest_number view.keys.items ≡ greatest_number t.keys

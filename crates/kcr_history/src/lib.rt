@@ -1,0 +1,36 @@
+//! The register as a history of accepted commands: the commands, the rows of its tables, the changes of rows, which
+//! rows a command asks for, and the texts of commands and of answers.
+//!
+//! What a register says at any time is defined over its history, the list of all commands accepted so far, the last one
+//! first. Nothing stores that list; the clauses know it, and its definitions stand in `specs/`: who is trained and who
+//! holds a place, who is in a room, where bags and items are, which step is next, who is eligible for a seat, when a
+//! command is refused and for what, what the machine answers to it, and which rows the tables then hold.
+#![tactic(auto)]
+
+mod asked;
+mod commands;
+mod joined;
+mod lists;
+mod paths;
+mod replies;
+mod row_laws;
+mod rows;
+mod texts;
+mod views;
+
+pub use asked::asks;
+pub use commands::{Act, Answer, Command, Entry, Reply};
+pub use kcr_base::Text;
+pub use lists::{Items, People};
+pub use replies::answer_text;
+pub use row_laws::{
+    holder_of_rows, numbers_count_commands, people_of_rows, settled_of_rows, training_of_rows,
+};
+pub use rows::{
+    CeremonyRow, CeremonyState, ExceptionRow, KeyRow, MarkRow, SeatingRow, StepRow, StepState,
+};
+pub use texts::command_text;
+pub use views::{AppointmentsOf, Asks, Change, Finding, ItemsOf, Rows, StaysOf, Verdict, View};
+
+#[cfg(test)]
+mod tests;

@@ -1,0 +1,91 @@
+//! The texts of replies to accepted commands.
+ghost use Rattle.std.specs.Prelude.{◌≡◌, ◌++◌, IfOk, codes, string_bytes};
+ghost use Rattle.std.specs.Fmt.{decimal};
+ghost use Rattle.std.specs.List.{flat_map};
+ghost use Rattle.std.specs.Option.{option_map};
+ghost use Rattle.kcr_history.specs.Json;
+ghost use Rattle.kcr_history.specs.Texts;
+
+use crate::commands::Answer;
+use crate::lists::People;
+use itoa::Buffer;
+use kcr_base::Text;
+use std::alloc::{AllocError, Global};
+
+/// The JSON text of the reply to an accepted command: its number, then, where there are such, an exception's number,
+/// who sits in each seat, and the step, members in byte order, as
+/// `{"accepted":31,"exception":1,"seating":["BB","AA"],"step":4}`. The error is want of memory.
+pub fn answer_text(alloc: Global, answer: &Answer) -> Result<Text, AllocError>
+    ensures { IfOk result (λ text. text ≡ Texts.answer_text answer.now) }
+{
+    let mut number = Buffer::new();
+    let mut text = String::from_str(alloc, "{\"accepted\":")?;
+    text.push_str(number.format(answer.accepted))?;
+    let text = with_count(text, "exception", answer.exception)?;
+    let text = with_seating(alloc, text, &answer.seating)?;
+    let mut text = with_count(text, "step", answer.step)?;
+    text.push_str("}")?;
+    Ok(Text::from_string(text))
+}
+
+/// The text with a comma and a number of this name, as `,"step":4`, where there is one.
+fn with_count(text: String, name: &str, count: Option<u32>) -> Result<String, AllocError>
+    ensures { IfOk result (λ longer.
+        string_bytes longer ≡ string_bytes text
+        ++ flat_map (λ member. codes "," ++ member)
+        (Texts.member_if name.now (option_map decimal count))) }
+{
+    match count {
+        Some(count) => {
+            let mut number = Buffer::new();
+            with_member(text, name, number.format(count))
+        }
+        None => Ok(text),
+    }
+}
+
+/// The text with a comma and the seating, as `,"seating":["BB","AA"]`, where there is one.
+fn with_seating(alloc: Global, text: String, seating: &Option<People>) -> Result<String, AllocError>
+    ensures { IfOk result (λ longer.
+        string_bytes longer ≡ string_bytes text
+        ++ flat_map (λ member. codes "," ++ member)
+        (Texts.member_if (codes "seating") (option_map Texts.people_array seating.now))) }
+{
+    match seating {
+        Some(people) => {
+            let people = people_array(alloc, people)?;
+            with_member(text, "seating", people.as_str())
+        }
+        None => Ok(text),
+    }
+}
+
+/// The text with a comma and a member of an object, its value a JSON text.
+fn with_member(text: String, name: &str, value: &str) -> Result<String, AllocError>
+    ensures { IfOk result (λ longer.
+        string_bytes longer ≡ string_bytes text ++ (codes "," ++ Json.member name.now value.now)) }
+{
+    let mut text = text;
+    text.push_str(",\"")?;
+    text.push_str(name)?;
+    text.push_str("\":")?;
+    text.push_str(value)?;
+    Ok(text)
+}
+
+/// The JSON text of a list of people, as `["BB","AA"]`.
+fn people_array(alloc: Global, people: &People) -> Result<String, AllocError>
+    ensures { IfOk result (λ text. string_bytes text ≡ Texts.people_array people.now) }
+{
+    let mut text = String::from_str(alloc, "[")?;
+    let mut separator = "";
+    for who in people.as_slice() {
+        text.push_str(separator)?;
+        text.push_str("\"")?;
+        text.push_str(who.as_str())?;
+        text.push_str("\"")?;
+        separator = ",";
+    }
+    text.push_str("]")?;
+    Ok(text)
+}

@@ -1,0 +1,218 @@
+//! Texts of commands and answers, and what commands ask for.
+use crate::{Act, Answer, Command, Items, People, Rows, answer_text, asks, command_text};
+use kcr_base::{Day, Facility, Initials, ItemCode, Key, Moment, Place, Remark, Role, Serial, Text};
+use kcr_custody::{SafeNumber, Store};
+use kcr_room::Way;
+use std::alloc::Global;
+use std::test::Fail;
+
+fn initials(text: &str) -> Result<Initials, Fail> {
+    Ok(Initials::read(text.as_bytes()).ok_or("initials")?)
+}
+
+fn day(text: &str) -> Result<Day, Fail> {
+    Ok(Day::read(text.as_bytes()).ok_or("a day")?)
+}
+
+fn evening() -> Result<Moment, Fail> {
+    Ok(Moment::read(b"2025-02-13T20:05:00Z").ok_or("a moment")?)
+}
+
+fn bag() -> Result<Serial, Fail> {
+    Ok(Serial::read(b"BB51184287").ok_or("a serial")?)
+}
+
+fn two_people(alloc: Global) -> Result<People, Fail> {
+    let mut list = Vec::new(alloc);
+    list.push(initials("BB")?)?;
+    list.push(initials("AA")?)?;
+    Ok(People::new(list))
+}
+
+fn two_items(alloc: Global) -> Result<Items, Fail> {
+    let mut list = Vec::new(alloc);
+    list.push(ItemCode::read(b"HSM4").ok_or("an item")?)?;
+    list.push(ItemCode::read(b"CARD7").ok_or("an item")?)?;
+    Ok(Items::new(list))
+}
+
+#[test]
+fn texts_of_commands_on_people(rt: HostRuntime) -> Result<(), Fail> {
+    let alloc = rt.alloc();
+    let trained = Act::Train {
+        who: initials("AA")?,
+        role: Role::Ssc1,
+        since: day("2025-01-01")?,
+        until: day("2025-02-13")?,
+    };
+    let text = command_text(alloc, &trained)?;
+    assert_eq!(rt;
+        text.as_str(),
+        "/people/AA/roles\nSSC1\n2025-01-01\n2025-02-13"
+    );
+    let withdrawn = Act::Withdraw {
+        who: initials("AA")?,
+        role: Role::Ca,
+        day: day("2025-02-14")?,
+    };
+    let text = command_text(alloc, &withdrawn)?;
+    assert_eq!(rt; text.as_str(), "/people/AA/withdrawals\nCA\n2025-02-14");
+    let replaced = Act::Replace {
+        place: Place::read(b"CO-EAST-2").ok_or("a place")?,
+        who: initials("CC")?,
+        day: day("2025-02-14")?,
+    };
+    let text = command_text(alloc, &replaced)?;
+    assert_eq!(rt;
+        text.as_str(),
+        "/custodians/CO-EAST-2/replacement\nCC\n2025-02-14"
+    );
+    Ok(())
+}
+
+#[test]
+fn texts_of_commands_in_a_ceremony(rt: HostRuntime) -> Result<(), Fail> {
+    let alloc = rt.alloc();
+    let sheet = Act::Sheet {
+        ceremony: 61,
+        way: Way::Enter,
+        who: two_people(alloc)?,
+        at: evening()?,
+    };
+    let text = command_text(alloc, &sheet)?;
+    assert_eq!(rt;
+        text.as_str(),
+        "/ceremonies/61/sheet\nin\nBB,AA\n2025-02-13T20:05:00Z"
+    );
+    let excepted = Act::Except {
+        ceremony: 61,
+        text: Remark::read(alloc, b"Read twice")?.ok_or("a remark")?,
+        pass: true,
+        at: evening()?,
+    };
+    let text = command_text(alloc, &excepted)?;
+    assert_eq!(rt;
+        text.as_str(),
+        "/ceremonies/61/exceptions\nRead twice\ntrue\n2025-02-13T20:05:00Z"
+    );
+    let signed = Act::Sign {
+        ceremony: 61,
+        step: 400,
+        at: evening()?,
+    };
+    let text = command_text(alloc, &signed)?;
+    assert_eq!(rt;
+        text.as_str(),
+        "/ceremonies/61/steps/400/signature\n2025-02-13T20:05:00Z"
+    );
+    Ok(())
+}
+
+#[test]
+fn texts_of_commands_on_custody(rt: HostRuntime) -> Result<(), Fail> {
+    let alloc = rt.alloc();
+    let turned = Act::TurnSafe {
+        ceremony: 61,
+        safe: SafeNumber::Two,
+        is_open: false,
+        by: initials("DD")?,
+        at: evening()?,
+    };
+    let text = command_text(alloc, &turned)?;
+    assert_eq!(rt;
+        text.as_str(),
+        "/ceremonies/61/safes/2\nfalse\nDD\n2025-02-13T20:05:00Z"
+    );
+    let sealed = Act::Seal {
+        ceremony: 61,
+        serial: bag()?,
+        items: two_items(alloc)?,
+        at: evening()?,
+    };
+    let text = command_text(alloc, &sealed)?;
+    assert_eq!(rt;
+        text.as_str(),
+        "/ceremonies/61/bags/BB51184287/seal\nHSM4,CARD7\n2025-02-13T20:05:00Z"
+    );
+    let put = Act::Put {
+        ceremony: 61,
+        serial: bag()?,
+        to: Store::Boxed(9999),
+        at: evening()?,
+    };
+    let text = command_text(alloc, &put)?;
+    assert_eq!(rt;
+        text.as_str(),
+        "/ceremonies/61/bags/BB51184287/put\n9999\n2025-02-13T20:05:00Z"
+    );
+    Ok(())
+}
+
+#[test]
+fn texts_of_answers(rt: HostRuntime) -> Result<(), Fail> {
+    let alloc = rt.alloc();
+    let plain = Answer {
+        accepted: 4_000_000_000,
+        exception: None,
+        seating: None,
+        step: None,
+    };
+    let text = answer_text(alloc, &plain)?;
+    assert_eq!(rt; text.as_str(), "{\"accepted\":4000000000}");
+    let passed = Answer {
+        accepted: 19,
+        exception: Some(1),
+        seating: Some(two_people(alloc)?),
+        step: Some(2),
+    };
+    let text = answer_text(alloc, &passed)?;
+    assert_eq!(rt;
+        text.as_str(),
+        "{\"accepted\":19,\"exception\":1,\"seating\":[\"BB\",\"AA\"],\"step\":2}"
+    );
+    Ok(())
+}
+
+fn asks_for_people(alloc: Global, act: Act) -> Result<usize, Fail> {
+    let command = Command {
+        key: Key::read(b"k1").ok_or("a key")?,
+        act,
+    };
+    let asked = asks(alloc, &command)?;
+    match &asked.people {
+        Rows::Under(people) => Ok(people.as_slice().len()),
+        _ => Ok(0),
+    }
+}
+
+#[test]
+fn what_commands_ask_for(rt: HostRuntime) -> Result<(), Fail> {
+    let alloc = rt.alloc();
+    let sheet = Act::Sheet {
+        ceremony: 61,
+        way: Way::Leave,
+        who: two_people(alloc)?,
+        at: evening()?,
+    };
+    assert_eq!(rt; asks_for_people(alloc, sheet)?, 2);
+    let planned = Act::Plan {
+        number: 61,
+        facility: Facility::East,
+        day: day("2025-02-13")?,
+        script: Text::copy_of(alloc, "step,activity,seats")?,
+    };
+    assert_eq!(rt; asks_for_people(alloc, planned)?, 0);
+    Ok(())
+}
+
+#[test]
+fn lists_keep_their_order(rt: HostRuntime) -> Result<(), Fail> {
+    let alloc = rt.alloc();
+    let people = two_people(alloc)?.into_vec();
+    let first = people.first().ok_or("a person")?;
+    assert_eq!(rt; first.as_str(), "BB");
+    let items = two_items(alloc)?.into_vec();
+    let last = items.last().ok_or("an item")?;
+    assert_eq!(rt; last.as_str(), "CARD7");
+    Ok(())
+}

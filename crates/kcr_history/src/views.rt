@@ -1,0 +1,141 @@
+//! The rows that a decision reads, and those that it puts.
+use crate::commands::{Answer, Reply};
+use crate::lists::{Items, People};
+use crate::rows::{CeremonyRow, ExceptionRow, KeyRow, MarkRow, SeatingRow, StepRow};
+use kcr_base::{Initials, Key, Moment, Place, Serial};
+use kcr_custody::{Bag, BoxRow, Item, SafeRow};
+use kcr_people::{Appointment, Person, Training, Withdrawal};
+use kcr_room::{SheetRow, Stay};
+
+/// Rows of the register's tables, one list for each table, each in any order.
+#[derive(Drop)]
+pub struct View {
+    pub people: Vec<Person>,
+    pub trainings: Vec<Training>,
+    pub withdrawals: Vec<Withdrawal>,
+    pub appointments: Vec<Appointment>,
+    pub boxes: Vec<BoxRow>,
+    pub safes: Vec<SafeRow>,
+    pub bags: Vec<Bag>,
+    pub items: Vec<Item>,
+    pub ceremonies: Vec<CeremonyRow>,
+    pub marks: Vec<MarkRow>,
+    pub steps: Vec<StepRow>,
+    pub seatings: Vec<SeatingRow>,
+    pub sheet: Vec<SheetRow>,
+    pub stays: Vec<Stay>,
+    pub exceptions: Vec<ExceptionRow>,
+    pub keys: Vec<KeyRow>,
+}
+
+/// Which rows of a table are asked for: none, those under `K`, or all.
+#[derive(Drop)]
+pub enum Rows<K> {
+    Nothing,
+    Under(K),
+    All,
+}
+
+/// Which appointments are asked for.
+#[derive(Clone, Copy, Debug, PartialEq, Eq)]
+pub enum AppointmentsOf {
+    /// Those to the place.
+    Place(Place),
+    /// Those of the person.
+    Person(Initials),
+}
+
+/// Which items are asked for.
+#[derive(Drop)]
+pub enum ItemsOf {
+    /// These, by their codes.
+    Codes(Items),
+    /// Those within the bag.
+    Bag(Serial),
+}
+
+/// Which stays are asked for: those of the ceremony, and of each of the people the one that began last, in whatever
+/// ceremony.
+#[derive(Drop)]
+pub struct StaysOf {
+    pub ceremony: u32,
+    pub people: People,
+}
+
+/// The rows that a decision reads. Of the accepted commands these are always two: the row of the key, if there is
+/// one, and the row with the greatest number.
+#[derive(Drop)]
+pub struct Asks {
+    /// People, under their initials.
+    pub people: Rows<People>,
+    /// Trainings of a person.
+    pub trainings: Rows<Initials>,
+    /// Withdrawals of a person's trainings.
+    pub withdrawals: Rows<Initials>,
+    pub appointments: Rows<AppointmentsOf>,
+    /// Whether all boxes are read, of which a facility has at most seven.
+    pub boxes: bool,
+    /// Whether the four safes are read.
+    pub safes: bool,
+    /// A bag, under its serial.
+    pub bags: Rows<Serial>,
+    pub items: Rows<ItemsOf>,
+    /// A ceremony, under its number.
+    pub ceremonies: Rows<u32>,
+    /// The mark of a ceremony.
+    pub marks: Rows<u32>,
+    /// The steps of a ceremony.
+    pub steps: Rows<u32>,
+    /// The exceptions of a ceremony.
+    pub exceptions: Rows<u32>,
+    pub stays: Rows<StaysOf>,
+    /// The key of the command.
+    pub key: Key,
+}
+
+/// A whole row that is put into its table, new or in place of the row that has its key. No row is ever removed.
+#[derive(Drop)]
+pub enum Change {
+    PutPerson(Person),
+    PutTraining(Training),
+    PutWithdrawal(Withdrawal),
+    PutAppointment(Appointment),
+    PutBox(BoxRow),
+    PutSafe(SafeRow),
+    PutBag(Bag),
+    PutItem(Item),
+    PutCeremony(CeremonyRow),
+    PutMark(MarkRow),
+    PutStep(StepRow),
+    PutSeating(SeatingRow),
+    PutSheet(SheetRow),
+    PutStay(Stay),
+    PutException(ExceptionRow),
+    PutKey(KeyRow),
+}
+
+/// A command that is not refused: the rows to put, in this order, and the reply. `answer` is the reply as data where
+/// the command is accepted now, and none where it was accepted before and only its kept reply is given again.
+#[derive(Drop)]
+pub struct Verdict {
+    pub changes: Vec<Change>,
+    pub reply: Reply,
+    pub answer: Option<Answer>,
+}
+
+/// What an audit of the tables finds.
+#[derive(Drop)]
+pub enum Finding {
+    /// A signed or passed step whose recorded people are no seating of its seats: the ceremony and the step.
+    Seating(u32, u32),
+    /// An item in two rows, or within a bag that is spent or not there.
+    Custody(kcr_base::ItemCode),
+    /// A serial in two rows, or a bag in a box that is not there.
+    Bag(Serial),
+    /// A key in two rows.
+    Key(Key),
+    /// A moment with exactly one person in the room of the ceremony.
+    Lone(u32, Moment),
+    /// A moment with more than 128 people in the room of the ceremony.
+    Crowd(u32, Moment),
+}

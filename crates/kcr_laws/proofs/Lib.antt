@@ -1,0 +1,12 @@
+pub mod Trials
+pub mod WorkedRows
+pub mod Accepted
+pub mod Once
+pub mod Stays
+pub mod Rooms
+pub mod Alone
+pub mod Seated
+pub mod Balance
+pub mod Runs
+pub mod Halves
+pub mod Fixed

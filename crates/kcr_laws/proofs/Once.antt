@@ -1,0 +1,24 @@
+-- No key stands twice in a register.
+use Rattle.std.proofs.Common.{◌≡◌, ℕ, Bool, true, false, cond, not, ◌||◌, List, [], ◌∷◌, map, Some, None, refl}
+use Rattle.std.specs.List.{list_any}
+use Rattle.std.proofs.lemmas.Bool.{and_from}
+use Rattle.std.proofs.lemmas.Cmp.{nat_list_eq_equiv}
+use Rattle.kcr_base.specs.Same.{same_text}
+use Rattle.kcr_history.specs.History.{History, entry_of}
+use Rattle.kcr_history.specs.Machine.{IsRegister}
+use Rattle.kcr_history.specs.Laws.{IsOnce}
+use Rattle.kcr_laws.proofs.Accepted.{accepted}
+
+absent : (A : History) (key : List ℕ) → entry_of A key ≡ None → list_any (same_text key) (map (λ entry. entry.command.key) A) ≡ false
+absent [] key h = refl
+absent (entry ∷ A) key h = rw (nat_list_eq_equiv.symm key entry.command.key) (by_test (absent A key) (same_text entry.command.key key) h)
+  where
+    by_test : (entry_of A key ≡ None → list_any (same_text key) (map (λ entry. entry.command.key) A) ≡ false) → (b : Bool) → cond b (Some entry) (entry_of A key) ≡ None → (b || list_any (same_text key) (map (λ entry. entry.command.key) A)) ≡ false
+    by_test ih true g = absurd (let e : Some entry ≡ None = g in cc)
+    by_test ih false g = ih g
+
+pub once : (A : History) → IsRegister A → IsOnce A
+once [] h = refl
+once (entry ∷ A) h =
+    let fresh = absent A entry.command.key (accepted A entry h.0).new_key in
+    and_from (not (list_any (same_text entry.command.key) (map (λ entry. entry.command.key) A))) _ (rw fresh) (once A h.1)

@@ -1,0 +1,251 @@
+-- Seatings and shortages confirmed by trying every list, and commands played one after the other.
+use Rattle.std.proofs.Common.{◌≡◌, ◌≢◌, ℕ, zero, suc, ◌<◌, Bool, true, false, cond, not, ◌&&◌, ◌||◌, nat_lt, ◌==◌, List, [], ◌∷◌, map, length, Option, Some, None, MatchOption, is_none, inl, inr, refl, sym, ap, ◌∙◌, subst, arith}
+use Rattle.std.specs.Prelude.{if◌then◌else◌, IsTrue, option_and_then}
+use Rattle.std.specs.List.{list_any, list_all}
+use Rattle.std.specs.Cmp.Lexicographic.{pointwise}
+use Rattle.std.proofs.lemmas.Bool.{true≢false, and_parts, and_from, ltb-true, ltb-false}
+use Rattle.std.proofs.lemmas.Bool.Decides.{nat_tests}
+use Rattle.kcr_base.specs.Same.{same_text}
+use Rattle.kcr_base.specs.Days.{day_of}
+use Rattle.kcr_base.specs.declared.refusal.Refusal.{Refusal}
+use Rattle.kcr_base.specs.declared.refusal.Refusal.TheVariants.{Short}
+use Rattle.kcr_room.proofs.Agreement.{same-is}
+use Rattle.kcr_room.proofs.Keeping.{present_are_in}
+use Rattle.kcr_script.specs.declared.seat.Seat.{Seat}
+use Rattle.kcr_history.specs.declared.commands.Act.{Act}
+use Rattle.kcr_history.specs.declared.commands.Entry.{Entry}
+use Rattle.kcr_history.specs.History.{History, entry_of}
+use Rattle.kcr_history.specs.Ceremonies.{facility_of}
+use Rattle.kcr_history.specs.Room.{sheet, present, is_in}
+use Rattle.kcr_history.specs.Seating.{fits, eligible, is_seating, comes_first, IsFirst, is_short, is_proper_part, IsLeast}
+use Rattle.kcr_history.specs.Conditions.{fault}
+use Rattle.kcr_history.specs.Machine.{Outcome, Accepts, Refuses, Sitting, sitting, answer_to, seats, acts, repeats, machine}
+use Rattle.kcr_laws.specs.Examples.{outcome_text, new_command, with_act, AreSteps, AreAnswered}
+
+-- EVERY LIST
+
+-- every list of n members of xs passes the test
+abbrev pub every : {X : Type 0} → (List X → Bool) → List X → ℕ → Bool
+every test xs zero = test []
+every test xs (suc n) = list_all (λ x. every (λ rest. test (x ∷ rest)) xs n) xs
+
+-- every list of fewer than n members
+abbrev pub every_shorter : {X : Type 0} → (List X → Bool) → List X → ℕ → Bool
+every_shorter test xs zero = true
+every_shorter test xs (suc n) = every test xs n && every_shorter test xs n
+
+-- a test that every member passes, one of them passes
+pub one_of : {X : Type 0} (same : X → X → Bool) → ((a b : X) → same a b ≡ true → a ≡ b) → (y : X) (good : X → Bool) (xs : List X) → list_any (same y) xs ≡ true → list_all good xs ≡ true → good y ≡ true
+one_of same sound y good [] a g = absurd (true≢false (sym a))
+one_of same sound y good (x ∷ xs) a g = by_test (same y x) refl a (one_of same sound y good xs)
+  where
+    parts : (good x ≡ true) × (list_all good xs ≡ true)
+    parts = and_parts (good x) (list_all good xs) g
+
+    by_test : (b : Bool) → same y x ≡ b → (b || list_any (same y) xs) ≡ true → (list_any (same y) xs ≡ true → list_all good xs ≡ true → good y ≡ true) → good y ≡ true
+    by_test true e h ih = ap good (sound y x e) ∙ parts.0
+    by_test false e h ih = ih h parts.1
+
+-- so does a list of that many members
+every_holds : {X : Type 0} (same : X → X → Bool) → ((a b : X) → same a b ≡ true → a ≡ b) → (xs ys : List X) (n : ℕ) → length ys ≡ n → list_all (λ y. list_any (same y) xs) ys ≡ true
+    → (test : List X → Bool) → every test xs n ≡ true → test ys ≡ true
+every_holds same sound xs [] zero e i test h = h
+every_holds same sound xs [] (suc n) e i test h = absurd (omega arith)
+every_holds same sound xs (y ∷ ys) zero e i test h = absurd (omega arith)
+every_holds same sound xs (y ∷ ys) (suc n) e i test h =
+    let p = and_parts (list_any (same y) xs) (list_all (λ z. list_any (same z) xs) ys) i in
+    every_holds same sound xs ys n (omega arith) p.1 (λ rest. test (y ∷ rest)) (one_of same sound y (λ x. every (λ rest. test (x ∷ rest)) xs n) xs p.0 h)
+
+shorter_holds : {X : Type 0} (same : X → X → Bool) → ((a b : X) → same a b ≡ true → a ≡ b) → (xs ys : List X) (n : ℕ) → length ys < n → list_all (λ y. list_any (same y) xs) ys ≡ true
+    → (test : List X → Bool) → every_shorter test xs n ≡ true → test ys ≡ true
+shorter_holds same sound xs ys zero l i test h = absurd (omega arith)
+shorter_holds {X = X} same sound xs ys (suc n) l i test h = by_test (nat_lt (length ys) n) refl (shorter_holds same sound xs ys n)
+  where
+    parts : (every test xs n ≡ true) × (every_shorter test xs n ≡ true)
+    parts = and_parts (every test xs n) (every_shorter test xs n) h
+
+    by_test : (b : Bool) → nat_lt (length ys) n ≡ b → (length ys < n → list_all (λ y. list_any (same y) xs) ys ≡ true → (test : List X → Bool) → every_shorter test xs n ≡ true → test ys ≡ true) → test ys ≡ true
+    by_test true e ih = ih (ltb-true (length ys) n e) i test parts.1
+    by_test false e ih = every_holds same sound xs ys n (omega (arith, ltb-false (length ys) n e)) i test parts.0
+
+-- FIRST SEATINGS
+
+abbrev pub same_people : List (List ℕ) → List (List ℕ) → Bool
+same_people a b = pointwise same_text a b
+
+pub people-are : (a b : List (List ℕ)) → same_people a b ≡ true → a ≡ b
+people-are [] [] h = refl
+people-are [] (y ∷ ys) h = absurd (true≢false (sym h))
+people-are (x ∷ xs) [] h = absurd (true≢false (sym h))
+people-are (x ∷ xs) (y ∷ ys) h =
+    let p = and_parts (same_text x y) (same_people xs ys) h in
+    λ i. same-is x y p.0 i ∷ people-are xs ys p.1 i
+
+-- the people are no seating, or these, or come later
+abbrev pub is_no_better : History → ℕ → ℕ → List Seat → List (List ℕ) → List (List ℕ) → Bool
+is_no_better A c t seats people others = not (is_seating A c t seats others) || (same_people others people || comes_first people others)
+
+-- a seating, and no list of people present is a better one
+abbrev pub is_first_by_trial : History → ℕ → ℕ → List Seat → List (List ℕ) → Bool
+is_first_by_trial A c t seats people = is_seating A c t seats people && every (is_no_better A c t seats people) (present A c t) (length seats)
+
+-- whoever sits is present
+seated_inside : (A : History) (c t : ℕ) (seats : List Seat) (others : List (List ℕ)) → is_seating A c t seats others ≡ true
+    → (length others ≡ length seats) × (list_all (λ who. list_any (same_text who) (present A c t)) others ≡ true)
+seated_inside A c t [] [] h = (refl, refl)
+seated_inside A c t [] (who ∷ others) h = absurd (true≢false (sym h))
+seated_inside A c t (seat ∷ seats) [] h = absurd (true≢false (sym h))
+seated_inside A c t (seat ∷ seats) (who ∷ others) h =
+    let p = and_parts (eligible A c t seat who && not (list_any (same_text who) others)) (is_seating A c t seats others) h in
+    let q = and_parts (eligible A c t seat who) (not (list_any (same_text who) others)) p.0 in
+    let r = and_parts (is_in A who c t) (fits A (facility_of A c) (day_of t) seat who) q.0 in
+    let more = seated_inside A c t seats others p.1 in
+    (ap suc more.0, and_from (list_any (same_text who) (present A c t)) _ (present_are_in (sheet A) who c t ∙ r.0) more.1)
+
+pub first_by_trial : (A : History) (c t : ℕ) (seats : List Seat) (people : List (List ℕ)) → is_first_by_trial A c t seats people ≡ true → IsFirst A c t seats people
+first_by_trial A c t seats people h = record { seating = parts.0; first = better }
+  where
+    parts : (is_seating A c t seats people ≡ true) × (every (is_no_better A c t seats people) (present A c t) (length seats) ≡ true)
+    parts = and_parts (is_seating A c t seats people) (every (is_no_better A c t seats people) (present A c t) (length seats)) h
+
+    by_tests : (others : List (List ℕ)) (s m f : Bool) → s ≡ true → same_people others people ≡ m → others ≢ people → (not s || (m || f)) ≡ true → f ≡ true
+    by_tests others false m f e k d g = absurd (true≢false (sym e))
+    by_tests others true true f e k d g = absurd (d (people-are others people k))
+    by_tests others true false f e k d g = g
+
+    better : (others : List (List ℕ)) → IsTrue (is_seating A c t seats others) → others ≢ people → IsTrue (comes_first people others)
+    better others s d =
+        let inside = seated_inside A c t seats others s in
+        let passes = every_holds same_text same-is (present A c t) others (length seats) inside.0 inside.1 (is_no_better A c t seats people) parts.1 in
+        by_tests others (is_seating A c t seats others) (same_people others people) (comes_first people others) s refl d passes
+
+-- LEAST SHORTAGES
+
+-- short, and no shorter list of these positions is
+abbrev pub is_least_by_trial : History → ℕ → ℕ → List Seat → List ℕ → Bool
+is_least_by_trial A c t seats positions = is_short A c t seats positions && every_shorter (λ part. not (is_short A c t seats part)) positions (length positions)
+
+not_so : (b : Bool) → not b ≡ true → b ≡ false
+not_so true h = sym h
+not_so false h = refl
+
+pub least_by_trial : (A : History) (c t : ℕ) (seats : List Seat) (positions : List ℕ) → is_least_by_trial A c t seats positions ≡ true → IsLeast A c t seats positions
+least_by_trial A c t seats positions h = record { short = parts.0; least = least }
+  where
+    parts : (is_short A c t seats positions ≡ true) × (every_shorter (λ part. not (is_short A c t seats part)) positions (length positions) ≡ true)
+    parts = and_parts (is_short A c t seats positions) (every_shorter (λ part. not (is_short A c t seats part)) positions (length positions)) h
+
+    number-is : (a b : ℕ) → (b == a) ≡ true → a ≡ b
+    number-is a b e = grind (arith, nat_tests)
+
+    least : (part : List ℕ) → IsTrue (is_proper_part part positions) → is_short A c t seats part ≡ false
+    least part p =
+        let q = and_parts (list_all (λ a. list_any (λ b. b == a) positions) part) (nat_lt (length part) (length positions)) p in
+        not_so (is_short A c t seats part)
+        (shorter_holds (λ a b. b == a) number-is positions part (length positions) (ltb-true (length part) (length positions) q.1) q.0 (λ one. not (is_short A c t seats one)) parts.1)
+
+-- COMMANDS
+
+-- how seats are filled, or not: by these people, or for want of people for these positions, counted from 0
+pub data Filling : Type 0 where
+  Seated : List (List ℕ) → Filling
+  Lacking : List ℕ → Filling
+
+-- an outcome, the history after it, and the fillings that are left
+pub record Played : Type 0 where
+  pub outcome : Outcome
+  pub history : History
+  pub fillings : List Filling
+
+abbrev pub fill : History → Act → Sitting → List Filling → Option Played
+fill A act s [] = None
+fill A act s (Seated people ∷ fillings) =
+    if is_first_by_trial A s.ceremony s.at s.seats people
+    then Some (record { outcome = Accepts (answer_to A act (Some people)); history = with_act A act (Some people); fillings = fillings })
+    else None
+fill A act s (Lacking positions ∷ fillings) =
+    if is_least_by_trial A s.ceremony s.at s.seats positions
+    then Some (record { outcome = Refuses (Short (map suc positions)); history = A; fillings = fillings })
+    else None
+
+abbrev pub seat_if : History → Act → Option Sitting → List Filling → Option Played
+seat_if A act None fillings = Some (record { outcome = Accepts (answer_to A act None); history = with_act A act None; fillings = fillings })
+seat_if A act (Some s) fillings = fill A act s fillings
+
+abbrev pub act_if : History → Act → Option Refusal → Option Sitting → List Filling → Option Played
+act_if A act (Some refusal) s fillings = Some (record { outcome = Refuses refusal; history = A; fillings = fillings })
+act_if A act None s fillings = seat_if A act s fillings
+
+-- one new command
+abbrev pub play : History → Act → List Filling → Option Played
+play A act fillings = if is_none (entry_of A (new_command A act).key) then act_if A act (fault A act) (sitting A act) fillings else None
+
+some-is : {X : Type 0} (a b : X) → Some a ≡ Some b → a ≡ b
+some-is a b e = cc
+
+no-some : {X : Type 0} {Y : Type 0} (x : X) → None ≡ Some x → Y
+no-some x e = absurd (let f : None ≡ Some x = e in cc)
+
+-- it is a step of the machine
+abbrev IsStep : History → Act → Played → Type 0
+IsStep A act p = machine A (new_command A act) p.outcome p.history
+
+fill_seats : (A : History) (act : Act) (s : Sitting) (fillings : List Filling) (p : Played) → fill A act s fillings ≡ Some p → seats A (new_command A act) s p.outcome p.history
+fill_seats A act s [] p e = no-some p e
+fill_seats A act s (Seated people ∷ fillings) p e = by_trial (is_first_by_trial A s.ceremony s.at s.seats people) refl e
+  where
+    by_trial : (b : Bool) → is_first_by_trial A s.ceremony s.at s.seats people ≡ b
+        → cond b (Some (record { outcome = Accepts (answer_to A act (Some people)); history = with_act A act (Some people); fillings = fillings })) None ≡ Some p
+        → seats A (new_command A act) s p.outcome p.history
+    by_trial false t g = no-some p g
+    by_trial true t g =
+        subst (λ (q : Played). seats A (new_command A act) s q.outcome q.history) (some-is _ p g) (inl (people, first_by_trial A s.ceremony s.at s.seats people t, (refl, refl)))
+fill_seats A act s (Lacking positions ∷ fillings) p e = by_trial (is_least_by_trial A s.ceremony s.at s.seats positions) refl e
+  where
+    by_trial : (b : Bool) → is_least_by_trial A s.ceremony s.at s.seats positions ≡ b
+        → cond b (Some (record { outcome = Refuses (Short (map suc positions)); history = A; fillings = fillings })) None ≡ Some p
+        → seats A (new_command A act) s p.outcome p.history
+    by_trial false t g = no-some p g
+    by_trial true t g =
+        subst (λ (q : Played). seats A (new_command A act) s q.outcome q.history) (some-is _ p g) (inr (positions, least_by_trial A s.ceremony s.at s.seats positions t, (refl, refl)))
+
+seats_if : (A : History) (act : Act) (s : Option Sitting) (fillings : List Filling) (p : Played) → seat_if A act s fillings ≡ Some p
+    → MatchOption s ((p.outcome ≡ Accepts (answer_to A act None)) × (p.history ≡ with_act A act None)) (λ q. seats A (new_command A act) q p.outcome p.history)
+seats_if A act None fillings p e = (sym (ap (λ (q : Played). q.outcome) (some-is _ p e)), sym (ap (λ (q : Played). q.history) (some-is _ p e)))
+seats_if A act (Some s) fillings p e = fill_seats A act s fillings p e
+
+acts_if : (A : History) (act : Act) (f : Option Refusal) (fillings : List Filling) (p : Played) → act_if A act f (sitting A act) fillings ≡ Some p → acts A (new_command A act) f p.outcome p.history
+acts_if A act (Some refusal) fillings p e = (sym (ap (λ (q : Played). q.outcome) (some-is _ p e)), sym (ap (λ (q : Played). q.history) (some-is _ p e)))
+acts_if A act None fillings p e = seats_if A act (sitting A act) fillings p e
+
+play_is_step : (A : History) (act : Act) (fillings : List Filling) (p : Played) → play A act fillings ≡ Some p → IsStep A act p
+play_is_step A act fillings p e = by_key (entry_of A (new_command A act).key) e
+  where
+    by_key : (k : Option Entry) → cond (is_none k) (act_if A act (fault A act) (sitting A act) fillings) None ≡ Some p
+        → MatchOption k (acts A (new_command A act) (fault A act) p.outcome p.history) (λ kept. repeats A (new_command A act) kept p.outcome p.history)
+    by_key None g = acts_if A act (fault A act) fillings p g
+    by_key (Some kept) g = no-some p g
+
+-- commands one after the other, each answered its text
+abbrev pub plays : History → List (Act × List ℕ) → List Filling → Option History
+plays A [] fillings = Some A
+plays A (said ∷ rest) fillings =
+    option_and_then (λ (p : Played). if same_text (outcome_text p.outcome) said.1 then plays p.history rest p.fillings else None) (play A said.0 fillings)
+
+are_steps : (A : History) (exchanges : List (Act × List ℕ)) (fillings : List Filling) (A' : History) → plays A exchanges fillings ≡ Some A' → AreSteps A exchanges A'
+are_steps A [] fillings A' e = sym (some-is A A' e)
+are_steps A (said ∷ rest) fillings A' e = by_play (play A said.0 fillings) refl e (λ A1 left. are_steps A1 rest left A')
+  where
+    by_text : (p : Played) (b : Bool) → play A said.0 fillings ≡ Some p → same_text (outcome_text p.outcome) said.1 ≡ b → cond b (plays p.history rest p.fillings) None ≡ Some A'
+        → ((A1 : History) (left : List Filling) → plays A1 rest left ≡ Some A' → AreSteps A1 rest A') → AreSteps A (said ∷ rest) A'
+    by_text p false k t g ih = no-some A' g
+    by_text p true k t g ih =
+        (p.outcome, p.history, play_is_step A said.0 fillings p k, same-is (outcome_text p.outcome) said.1 t, ih p.history p.fillings g)
+
+    by_play : (o : Option Played) → play A said.0 fillings ≡ o → option_and_then (λ (p : Played). if same_text (outcome_text p.outcome) said.1 then plays p.history rest p.fillings else None) o ≡ Some A'
+        → ((A1 : History) (left : List Filling) → plays A1 rest left ≡ Some A' → AreSteps A1 rest A') → AreSteps A (said ∷ rest) A'
+    by_play None k g ih = no-some A' g
+    by_play (Some p) k g ih = by_text p (same_text (outcome_text p.outcome) said.1) k refl g ih
+
+pub answered : (A : History) (exchanges : List (Act × List ℕ)) (fillings : List Filling) (A' : History) → plays A exchanges fillings ≡ Some A' → AreAnswered A exchanges A'
+answered A exchanges fillings A' e = record { steps = are_steps A exchanges fillings A' e }

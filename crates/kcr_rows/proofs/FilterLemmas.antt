@@ -1,0 +1,30 @@
+-- The tests of WHERE on values.
+use Rattle.std.proofs.Common.{◌≡◌, ℕ, ◌&&◌, Bool, true, false, List, filter, refl, sym, ◌∙◌}
+use Rattle.sqlite.specs.declared.types.Value.{Value}
+use Rattle.sqlite.specs.declared.types.Value.TheVariants.{Null}
+use Rattle.sqlite.specs.Ops.{is_null, binary}
+use Rattle.sqlite.specs.Order.{Row, column}
+use Rattle.sqlite_schema.specs.Rules.{equal}
+use Rattle.sqlite.specs.Collation.TheVariants.{Binary}
+use Rattle.kcr_rows.proofs.KeyLemmas.{equal_is}
+use Rattle.kcr_rows.proofs.SameLemmas.{ties, ties_is}
+
+pub filter_as : {X : Type 0} (p q : X → Bool) → ((x : X) → p x ≡ q x) → (xs : List X) → filter p xs ≡ filter q xs
+filter_as p q same xs = λ i. filter (λ x. same x i) xs
+
+-- the row has this value in the column
+abbrev pub has_value : ℕ → Value → Row → Bool
+has_value at v row = equal Binary (column row at) v && true
+
+and_true : (b : Bool) → (b && true) ≡ b
+and_true true = refl
+and_true false = refl
+
+-- values that are there are equal where they tie
+pub value_is : (a v : Value) → is_null a ≡ false → is_null v ≡ false → (equal Binary a v && true) ≡ ties a v
+value_is a v there here = and_true _ ∙ equal_is a v there here ∙ sym (ties_is a v)
+
+-- NULL equals nothing
+pub null_is : (v : Value) → (equal Binary Null v && true) ≡ false
+unfolding binary
+null_is v = refl

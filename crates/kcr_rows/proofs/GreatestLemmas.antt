@@ -1,0 +1,143 @@
+-- A query for the row with the greatest number, among those that pass a test.
+use Rattle.std.proofs.Common.{◌≡◌, inl, inr, None, ℕ, suc, ◌+◌, ◌≤◌, ◌^◌, nat_le, pos, length, List, [], ◌∷◌, map, filter, take, true, false, Bool, Ordering, Less, Equal, Greater, is_lt, IsSorted, refl, sym, ap, subst, ◌∙◌, arith}
+use Rattle.std.specs.Bool.{⊤}
+use Rattle.std.specs.List.{AllByRecursion, list_all}
+use Rattle.std.specs.List.Sorted.{IsPermutation}
+use Rattle.std.specs.Ordering.{is_gt, int_cmp, ordering_reverse}
+use Rattle.std.specs.Cmp.{IsTotalOrder}
+use Rattle.std.proofs.lemmas.Cmp.{upto}
+use Rattle.std.proofs.lemmas.Bool.Decides.{nat_tests}
+use Rattle.std.proofs.lemmas.List.Sorted.{IsPermutation-map, IsPermutation-sym, IsPermutation-trans, length_permutation}
+use Rattle.sqlite.specs.declared.types.Value.TheVariants.{Null, Int}
+use Rattle.sqlite.specs.Order.{Row, column, value_cmp}
+use Rattle.sqlite.specs.Term.{Term, lit, col, holds}
+use Rattle.sqlite.specs.Query.{Query, inner, end, IsAnswer, Output, output, output_cmp}
+use Rattle.sqlite.specs.Program.{overlay}
+use Rattle.sqlite.specs.Collation.TheVariants.{Binary}
+use Rattle.sqlite.specs.Command.TheVariants.{Select}
+use Rattle.sqlite.specs.Schema.{Schema}
+use Rattle.sqlite.specs.State.{State, Shown}
+use Rattle.sqlite.specs.Listing.{understood, reads_listing}
+use Rattle.sqlite.proofs.Callers.{IsPlain, command_of, reads_as}
+use Rattle.sqlite_sql.proofs.QueryLemmas.{output_cmp_total}
+use Rattle.sqlite_value.proofs.OrderLemmas.{value_cmp-Int, then-Equal}
+use Rattle.sqlite_rules.proofs.ListLemmas.{all_has, all_from}
+use Rattle.sqlite_rules.proofs.ProbeLemmas.{mapped_has}
+use Rattle.sqlite_trees.proofs.ListLemmas.{map-map, filter-map, IsPermutation-filter}
+use Rattle.kcr_rows.specs.Keyed.{cells, Place, Keeps}
+use Rattle.kcr_rows.specs.Greatest.{IsGreatest}
+use Rattle.kcr_rows.proofs.ReadLemmas.{matched, map_same}
+use Rattle.kcr_rows.proofs.TableLemmas.{same_values, each_is}
+use Rattle.kcr_rows.proofs.PutLemmas.{mapped_from, has_same}
+
+-- the query on one table that shows the row with the greatest number in a column, counted from 0
+abbrev pub greatest : ℕ → List Term → List Term → ℕ → Query
+greatest tree test project at = record {
+  from = inner tree end;
+  filter = test;
+  group = None;
+  project = project;
+  distinct = false;
+  collations = [];
+  order = (col 1 (suc at), record { collation = Binary; descending = true }) ∷ [];
+  limit = lit (Int (pos 1));
+  offset = lit (Int (pos 0));
+}
+
+abbrev pub with_number : ℕ → Row → Output
+with_number at row = (column row at ∷ [], row)
+
+-- what a sorted list has after its head is not below it
+module _ {X : Type 0} (cmp : X → X → Ordering) (total : IsTotalOrder cmp) where
+  turned : (o : Ordering) → is_lt o ≡ false → is_gt (ordering_reverse o) ≡ false
+  turned Less h = h
+  turned Equal h = refl
+  turned Greater h = refl
+
+  not_above : (x : X) (ys : List X) → IsSorted cmp (x ∷ ys) → AllByRecursion (λ y. is_gt (cmp x y) ≡ false) ys
+  not_above x [] sorted = tt
+  not_above x (y ∷ ys) sorted =
+      let first : is_gt (cmp x y) ≡ false = ap is_gt (total.antisymm x y) ∙ turned _ (sorted 0 x (omega arith) (omega arith)) in
+      let tail : IsSorted cmp (y ∷ ys) = λ k d p q. rw Rattle.std.proofs.Common.add-one (rw Rattle.std.proofs.Common.add-one at (sorted (suc k) d (omega arith) (omega arith))) in
+      (first, all_from _ ys (λ z h. upto total x y z first (all_has _ ys z (not_above y ys tail) h)))
+
+number_order : (a b : ℕ) → is_gt (int_cmp (pos b) (pos a)) ≡ false → b ≤ a
+number_order a b h = grind (arith, nat_tests)
+
+none_from : {X Y : Type 0} (f : X → Y) (xs : List X) → map f xs ≡ [] → xs ≡ []
+none_from f [] h = refl
+none_from f (x ∷ xs) h = absurd (cc)
+
+length_none : {X : Type 0} (l : List X) → length l ≡ 0 → l ≡ []
+length_none [] h = refl
+length_none (x ∷ l) h = absurd (omega arith)
+
+module _ (place : Place) (schema : Schema) (sql : List ℕ) (params : Row) (test project : List Term) (at : ℕ) (names : List (List ℕ)) (passes : Row → Bool)
+    (is : (command_of (understood schema sql) ≡ Select (record { lets = []; body = greatest place.tree test project at }) names) × (reads_listing schema sql ≡ false))
+    (bare : IsPlain (understood schema sql))
+    (shows : (r : Row) → output (greatest place.tree test project at) (params ∷ r ∷ []) ≡ with_number at (cells 1 place.width r))
+    (tests : (r : Row) → list_all (holds (params ∷ r ∷ [])) test ≡ passes (cells 1 place.width r))
+    (low : nat_le (2 ^ 31) place.tree ≡ false)
+    {X : Type 0} (row_of : X → Row) (one : (x y : X) → row_of x ≡ row_of y → x ≡ y) (number : X → ℕ) (numbered : (x : X) → column (row_of x) at ≡ Int (pos (number x))) where
+  abbrev q : Query
+  q = greatest place.tree test project at
+
+  abbrev out : Row → Output
+  out = with_number at
+
+  compares : (a b : Row) → output_cmp q (out a) (out b) ≡ value_cmp (column b at) (column a at)
+  compares a b = then-Equal (value_cmp (column b at) (column a at))
+
+  below : (e x : X) → is_gt (output_cmp q (out (row_of e)) (out (row_of x))) ≡ false → number x ≤ number e
+  below e x h =
+      let values : value_cmp (column (row_of x) at) (column (row_of e) at) ≡ int_cmp (pos (number x)) (pos (number e)) = (λ i. value_cmp (numbered x i) (numbered e i)) ∙ value_cmp-Int (pos (number x)) (pos (number e)) in
+      number_order (number e) (number x) (ap is_gt (sym values) ∙ ap is_gt (sym (compares (row_of e) (row_of x))) ∙ h)
+
+  number_same : (x y : X) → out (row_of x) ≡ out (row_of y) → number x ≤ number y
+  number_same x y h =
+      let firsts : column (row_of x) at ∷ [] ≡ column (row_of y) at ∷ [] = ap (λ (p : Output). p.0) h in
+      let cell : column (row_of x) at ≡ column (row_of y) at = cc in
+      let numbers : Int (pos (number x)) ≡ Int (pos (number y)) = sym (numbered x) ∙ cell ∙ numbered y in
+      let same_one : number x ≡ number y = cc in omega (arith, same_one)
+
+  chosen : (ks xs : List X) (ordered : List Output) → IsPermutation (map out (map row_of ks)) ordered → IsSorted (output_cmp q) ordered
+      → map row_of xs ≡ take 1 (map (λ (o : Output). o.1) ordered) → IsGreatest number ks xs
+  chosen ks xs [] same sorted shown = inl (none_from row_of ks (none_from out _ (length_none _ (sym (length_permutation _ _ same)))), none_from row_of xs shown)
+  chosen ks xs (o ∷ os) same sorted shown =
+      let there = mapped_from out (map row_of ks) o (has_same _ _ o (IsPermutation-sym _ _ same) (inl refl)) in
+      let e = mapped_from row_of ks there.0 there.1 in
+      let found : o ≡ out (row_of e.0) = there.2 ∙ ap out e.2 in
+      let only : xs ≡ e.0 ∷ [] = same_values row_of (λ _. ⊤) (λ _. ⊤) (λ x y _ _. one x y) xs (e.0 ∷ []) (each_is xs) (tt, tt) (shown ∙ ap (λ (p : Output). p.1 ∷ []) found) in
+      let lower = not_above (output_cmp q) (output_cmp_total q) o os sorted in
+      inr (
+        e.0,
+        only,
+        e.1,
+        all_from _ ks (λ x h. elim (has_same _ _ (out (row_of x)) same (mapped_has out _ _ (mapped_has row_of ks x h))) [
+          | inl first ↦ number_same x e.0 (first ∙ found)
+          | inr later ↦ below e.0 x (subst (λ p. is_gt (output_cmp q p (out (row_of x))) ≡ false) found (all_has _ os (out (row_of x)) lower later))
+        ]),
+      )
+
+  pub shown_greatest : (old new : State) (xs : List X) → old.now.schema ≡ schema → Shown sql params old new (map row_of xs) → (ys : List X) → Keeps place old.now.trees (map row_of ys)
+      → IsGreatest number (filter (λ y. passes (row_of y)) ys) xs
+  shown_greatest old new xs has h ys keeps =
+      let read = reads_as sql params old new schema has _ is.0 bare is.1 (map row_of xs) h in
+      let a : IsAnswer q (overlay old.now.trees []) params (map row_of xs) = read.answer Null in
+      let entries = old.now.trees place.tree in
+      let shown = cells 1 place.width in
+      let p = λ (r : Row). list_all (holds (params ∷ r ∷ [])) test in
+      let staged : a.staged ≡ map (λ r. params ∷ r ∷ []) (filter p (overlay old.now.trees [] place.tree)) = a.grouped ∙ matched p (λ r. params ∷ r ∷ []) (overlay old.now.trees [] place.tree) in
+      let over : overlay old.now.trees [] place.tree ≡ entries = rw low in
+      let same_test : filter p entries ≡ filter (λ r. passes (shown r)) entries = λ i. filter (λ r. tests r i) entries in
+      let outs : a.kept ≡ map out (filter passes (map shown entries)) =
+      a.distinct ∙ ap (map (output q)) (staged ∙ ap (λ l. map (λ r. params ∷ r ∷ []) (filter p l)) over ∙ ap (map (λ r. params ∷ r ∷ [])) same_test)
+      ∙ map-map (output q) (λ r. params ∷ r ∷ []) (filter (λ r. passes (shown r)) entries)
+      ∙ map_same _ (λ r. out (shown r)) shows (filter (λ r. passes (shown r)) entries)
+      ∙ sym (map-map out shown (filter (λ r. passes (shown r)) entries))
+      ∙ ap (map out) (sym (filter-map passes shown entries)) in
+      let passed : IsPermutation (map row_of (filter (λ y. passes (row_of y)) ys)) (filter passes (map shown entries)) =
+      subst (λ l. IsPermutation l (filter passes (map shown entries))) (filter-map passes row_of ys) (IsPermutation-filter passes _ _ keeps.same) in
+      let perm : IsPermutation (map out (map row_of (filter (λ y. passes (row_of y)) ys))) a.ordered =
+      IsPermutation-trans _ _ _ (subst (IsPermutation (map out (map row_of (filter (λ y. passes (row_of y)) ys)))) (sym outs) (IsPermutation-map out _ _ passed)) a.same in
+      chosen (filter (λ y. passes (row_of y)) ys) xs a.ordered perm a.sorted a.shown

@@ -1,0 +1,117 @@
+-- Which rows of a table have the key of a new row.
+use Rattle.std.proofs.Common.{◌≡◌, inl, inr, Some, ℕ, ℤ, zero, suc, ◌&&◌, ◌||◌, not, Bool, true, false, List, [], ◌∷◌, true≢false, None, Ordering, Less, Equal, Greater, refl, sym, ap, ap₂, ◌∙◌}
+use Rattle.std.specs.List.{list_any}
+use Rattle.std.specs.Ordering.{is_eq, is_ne, ordering_then}
+use Rattle.std.proofs.lemmas.Bool.{and_parts, or_parts, not-true}
+use Rattle.sqlite.specs.declared.types.Value.{Value}
+use Rattle.sqlite.specs.declared.types.Value.TheVariants.{Int}
+use Rattle.sqlite.specs.Order.{Row, column, value_cmp}
+use Rattle.sqlite.specs.Ops.{is_null, is_true, from_truth, binary}
+use Rattle.sqlite.specs.Query.{key_cmp}
+use Rattle.sqlite.specs.Collation.TheVariants.{Binary}
+use Rattle.sqlite.specs.Tree.{rowid}
+use Rattle.sqlite.specs.Table.{Table}
+use Rattle.sqlite_schema.specs.declared.schema.Index.{Index}
+use Rattle.sqlite_schema.specs.Rules.{equal, differ, agree}
+use Rattle.sqlite_value.specs.Keys.{plain, first_key, rising}
+use Rattle.sqlite_value.proofs.KeyLemmas.{first_key-plain}
+use Rattle.sqlite_rules.specs.Keys.{conflicts, shares}
+use Rattle.sqlite_rules.specs.Lists.{Has}
+use Rattle.sqlite_rules.specs.Edit.{id_in, is_taken}
+use Rattle.kcr_rows.specs.Keyed.{cells, by_key, is_full}
+
+abbrev pub places_from : ℕ → ℕ → List ℕ
+places_from at zero = []
+places_from at (suc count) = at ∷ places_from (suc at) count
+
+abbrev pub full : ℕ → ℕ → Row → Bool
+full at zero row = true
+full at (suc count) row = not (is_null (column row at)) && full (suc at) count row
+
+truth_is : (b : Bool) → is_true (from_truth (Some b)) ≡ b
+truth_is true = refl
+truth_is false = refl
+
+both : (o p : Ordering) → is_eq (ordering_then o p) ≡ (is_eq o && is_eq p)
+both Less p = refl
+both Equal p = refl
+both Greater p = refl
+
+-- SQL's `=` of two values that are there is a tie
+pub equal_is : (a b : Value) → is_null a ≡ false → is_null b ≡ false → equal Binary a b ≡ is_eq (value_cmp a b)
+unfolding binary
+equal_is a b there here = rw (there, here) (truth_is (is_eq (value_cmp a b)))
+
+pub agree_is : (count at : ℕ) (a b : Row) → full at count a ≡ true → full at count b ≡ true → agree plain (places_from at count) a (places_from at count) b ≡ is_eq (key_cmp at (rising count []) a b)
+agree_is zero at a b f g = refl
+agree_is (suc count) at a b f g =
+    let fa = and_parts _ _ f in
+    let fb = and_parts _ _ g in
+    let here : equal (first_key plain).collation (column a at) (column b at) ≡ is_eq (value_cmp (column a at) (column b at)) =
+    rw first_key-plain (equal_is _ _ (not-true _ fa.0) (not-true _ fb.0)) in
+    rw (here, agree_is count (suc at) a b fa.1 fb.1) (sym (both (value_cmp (column a at) (column b at)) (key_cmp (suc at) (rising count []) a b)))
+
+other_is : (o : Ordering) → is_ne o ≡ not (is_eq o)
+other_is Less = refl
+other_is Equal = refl
+other_is Greater = refl
+
+-- SQL's `<>` of two values that are there is no tie
+pub differ_is : (a b : Value) → is_null a ≡ false → is_null b ≡ false → differ a b ≡ not (is_eq (value_cmp a b))
+unfolding binary
+differ_is a b there here = rw (there, here) (truth_is (is_ne (value_cmp a b)) ∙ other_is (value_cmp a b))
+
+-- what holds only where the first does adds nothing to it
+or_within : (a b : Bool) → (a ≡ false → b ≡ false) → (a || b) ≡ a
+or_within true b h = refl
+or_within false b h = h refl
+
+-- rows that agree on the key and more agree on the key
+pub wider : (a b : Bool) → b ≡ false → ((a && b) || false) ≡ false
+wider true b h = ap (λ x. x || false) h
+wider false b h = refl
+
+pub not_any : {X : Type 0} (p : X → Bool) (xs : List X) (x : X) → list_any p xs ≡ false → Has xs x → p x ≡ false
+not_any p [] x none h = absurd h
+not_any p (y ∷ xs) x none (inl same) = ap p same ∙ (or_parts _ _ none).0
+not_any p (y ∷ xs) x none (inr more) = not_any p xs x (or_parts _ _ none).1 more
+
+no_both : (a b : Bool) → (a && b) ≡ false → b ≡ true → a ≡ false
+no_both true b none h = absurd (true≢false (sym h ∙ none))
+no_both false b none h = refl
+
+-- a row that does not clash with the new one has another key
+module _ (keys width : ℕ) (entries : List Row) (id : ℤ) (values : Row)
+    (compares : (a b : Row) → by_key keys (cells 1 width a) (cells 1 width b) ≡ key_cmp 1 (rising keys []) a b)
+    (fulls : (a : Row) → is_full keys (cells 1 width a) ≡ full 1 keys a)
+    (shown : cells 1 width (Int id ∷ values) ≡ values)
+    (free : is_taken entries (Int id ∷ values) ≡ false) where
+  pub fresh_key : (r : Row) → Has entries r → rowid r ≡ Int (id_in (rowid r)) → is_full keys (cells 1 width r) ≡ true → is_full keys values ≡ true
+      → (agree plain (places_from 1 keys) r (places_from 1 keys) (Int id ∷ values) && differ (rowid r) (rowid (Int id ∷ values))) ≡ false
+      → is_eq (by_key keys (cells 1 width r) values) ≡ false
+  fresh_key r h own whole filled none =
+      let new = Int id ∷ values in
+      let apart : is_eq (value_cmp (rowid r) (Int id)) ≡ false = not_any (λ x. is_eq (value_cmp (rowid x) (rowid new))) entries r free h in
+      let other : differ (rowid r) (Int id) ≡ true = differ_is (rowid r) (Int id) (ap is_null own) refl ∙ ap not apart in
+      let new_full : full 1 keys new ≡ true = sym (fulls new) ∙ ap (is_full keys) shown ∙ filled in
+      let keyed : is_eq (key_cmp 1 (rising keys []) r new) ≡ false = sym (agree_is keys 1 r new (sym (fulls r) ∙ whole) new_full) ∙ no_both _ _ none other in
+      sym (ap (λ v. is_eq (by_key keys (cells 1 width r) v)) shown) ∙ ap is_eq (compares r new) ∙ keyed
+
+module _ (keys width : ℕ) (indexes : List Index) (table : Table) (entries : List Row) (id : ℤ) (values : Row)
+    (more : Row → Row → Bool)
+    (shared : (a b : Row) → list_any (shares None table a b) indexes ≡ (agree plain (places_from 1 keys) b (places_from 1 keys) a || more b a))
+    (within : (a b : Row) → agree plain (places_from 1 keys) b (places_from 1 keys) a ≡ false → more b a ≡ false)
+    (compares : (a b : Row) → by_key keys (cells 1 width a) (cells 1 width b) ≡ key_cmp 1 (rising keys []) a b)
+    (fulls : (a : Row) → is_full keys (cells 1 width a) ≡ full 1 keys a)
+    (shown : cells 1 width (Int id ∷ values) ≡ values)
+    (free : is_taken entries (Int id ∷ values) ≡ false) where
+  pub meets : (r : Row) → Has entries r → rowid r ≡ Int (id_in (rowid r)) → is_full keys (cells 1 width r) ≡ true → is_full keys values ≡ true
+      → conflicts None indexes table (Int id ∷ values) r ≡ is_eq (by_key keys (cells 1 width r) values)
+  meets r h own whole filled =
+      let new = Int id ∷ values in
+      let apart : is_eq (value_cmp (rowid r) (Int id)) ≡ false = not_any (λ x. is_eq (value_cmp (rowid x) (rowid new))) entries r free h in
+      let thing : is_null (rowid r) ≡ false = ap is_null own in
+      let rowids : agree plain (0 ∷ []) r (0 ∷ []) new ≡ false = rw (first_key-plain, equal_is (rowid r) (Int id) thing refl, apart) in
+      let new_full : full 1 keys new ≡ true = sym (fulls new) ∙ ap (is_full keys) shown ∙ filled in
+      let keyed = shared new r ∙ or_within _ _ (within new r) ∙ agree_is keys 1 r new (sym (fulls r) ∙ whole) new_full in
+      ap₂ ◌||◌ rowids (keyed ∙ ap is_eq (sym (compares r new)) ∙ ap (λ v. is_eq (by_key keys (cells 1 width r) v)) shown)

@@ -1,0 +1,13 @@
+pub mod ReadLemmas
+pub mod PutLemmas
+pub mod KeyLemmas
+pub mod WriteLemmas
+pub mod TableLemmas
+pub mod FailLemmas
+pub mod InsideLemmas
+pub mod FilterLemmas
+pub mod OneLemmas
+pub mod SameLemmas
+pub mod OrderLemmas
+pub mod GreatestLemmas
+pub mod CreateLemmas

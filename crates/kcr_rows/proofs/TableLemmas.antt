@@ -1,0 +1,230 @@
+-- What one statement on a table with a key does to what the trees keep.
+use Rattle.std.proofs.Common.{◌≡◌, ◌≢◌, inl, inr, ◌==◌, not, ℕ, ℤ, zero, suc, ◌/◌, ◌^◌, nat_le, ◌||◌, ◌&&◌, Bool, true, false, List, [], ◌∷◌, ◌++◌, map, filter, length, slice_get, Some, None, Ok, Less, Equal, Greater, IsTrue, cond, eq-eqb, refl, sym, ap, subst, ◌∙◌, true≢false}
+use Rattle.std.specs.Bool.{⊤}
+use Rattle.std.specs.List.{AllByRecursion, list_any, list_all}
+use Rattle.std.specs.Ordering.{match_ordering, is_eq}
+use Rattle.std.specs.List.Sorted.{IsPermutation}
+use Rattle.std.proofs.lemmas.Bool.{and_parts, not-true}
+use Rattle.sqlite.specs.declared.types.Value.TheVariants.{Null, Int}
+use Rattle.sqlite.specs.Order.{Row}
+use Rattle.sqlite.specs.Term.{Term, holds}
+use Rattle.sqlite.specs.Query.{key_cmp, output, output_cmp}
+use Rattle.sqlite.specs.Cast.{cast_all}
+use Rattle.sqlite.specs.Tree.{Trees, rowid, put_row}
+use Rattle.sqlite.specs.Table.{Table}
+use Rattle.sqlite.specs.Schema.{Schema}
+use Rattle.sqlite.specs.Command.{Command}
+use Rattle.sqlite.specs.Source.TheVariants.{Values}
+use Rattle.sqlite.specs.Command.TheVariants.{Insert, InsertOr, Select}
+use Rattle.sqlite.specs.Edit.{id_in, next_rowid, without_all, IsNoIndex}
+use Rattle.sqlite.specs.Rowids.TheVariants.{Chosen}
+use Rattle.sqlite.specs.Effect.{value_rows}
+use Rattle.sqlite.specs.Rows.{mended_from}
+use Rattle.sqlite.specs.Does.{Does}
+use Rattle.sqlite.specs.State.{State, mode_of, Executes, Shown}
+use Rattle.sqlite.specs.Listing.{understood, reads_listing}
+use Rattle.sqlite.proofs.Callers.{IsPlain, command_of, statement_of, runs_as, reads_as}
+use Rattle.sqlite_trees.specs.View.{is_int, IsShaped}
+use Rattle.sqlite_trees.specs.declared.store.Shape.TheVariants as shape
+use Rattle.sqlite_trees.proofs.ListLemmas.{all-permutation, all_from_map, filter_all, filter-map}
+use Rattle.sqlite_catalog.specs.Listing.{IsSound}
+use Rattle.sqlite_schema.specs.declared.schema.Column.{Column}
+use Rattle.sqlite_schema.specs.declared.schema.Index.{Index}
+use Rattle.sqlite_schema.specs.declared.schema.Keys.TheVariants.{Enforced}
+use Rattle.sqlite_schema.specs.declared.command.Conflict.TheVariants.{Replace}
+use Rattle.sqlite_schema.specs.declared.schema.Constraint.{Constraint}
+use Rattle.sqlite_schema.specs.declared.schema.Constraint.TheVariants.{Unique}
+use Rattle.sqlite_schema.specs.Rules.{agree, clashes, differ, guards, passes, Keeps as Obeyed}
+use Rattle.sqlite_value.specs.declared.keys.Key.{Key}
+use Rattle.sqlite_value.specs.Keys.{plain, rising}
+use Rattle.sqlite_rules.specs.Lists.{Has}
+use Rattle.sqlite_rules.specs.Keys.{shares}
+use Rattle.sqlite_rules.specs.Calls.{ids_of}
+use Rattle.sqlite_rules.specs.Action.{works}
+use Rattle.sqlite_rules.proofs.ListLemmas.{all_has, all_from}
+use Rattle.sqlite_rules.proofs.TableLemmas.{int_is}
+use Rattle.sqlite_rules.proofs.PlaceLemmas.{next_is_free}
+use Rattle.kcr_rows.specs.Columns.{keyed}
+use Rattle.kcr_rows.specs.Keyed.{cells, by_key, is_full, Place, Keeps, put, put_in}
+use Rattle.kcr_rows.proofs.ReadLemmas.{reading, with_key, reads_rows, reads_exact}
+use Rattle.kcr_rows.proofs.PutLemmas.{left_is, keeps_put, put_row_same, has_same}
+use Rattle.kcr_rows.proofs.KeyLemmas.{places_from, full, meets, fresh_key, not_any}
+use Rattle.kcr_rows.proofs.WriteLemmas.{IsPut, IsInserted, stored, puts, inserts}
+
+-- one row was put, and what lies in other trees is as it was
+pub record Changes (place : Place) (schema : Schema) (values : Row) (old new : Trees) : Type 0 where
+  pub rows : (rows : List Row) → Keeps place old rows → Keeps place new (put place.keys values rows)
+  pub sound : IsSound schema new
+  pub others : (t : ℕ) → t ≢ place.tree → IsNoIndex schema t → new t ≡ old t
+
+-- what holds of each table of a schema holds of the one at a place
+all_at : {X : Type 0} (P : X → Type 0) (xs : List X) (at : ℕ) (x : X) → slice_get xs at ≡ Some x → AllByRecursion P xs → P x
+all_at P [] at x e all = absurd (cc)
+all_at P (y ∷ ys) zero x e all = let same : y ≡ x = cc in subst P same all.0
+all_at P (y ∷ ys) (suc at) x e all = all_at P ys at x e all.1
+
+rule_of : (rule : Constraint) (schema : Schema) (db : Trees) (at : ℕ) (table : Table) → slice_get schema.tables at ≡ Some table → Obeyed rule schema db → AllByRecursion (λ row. passes rule schema db table row ≡ true) (db table.tree)
+rule_of rule schema db at table here kept = all_at (λ (t : Table). AllByRecursion (λ row. passes rule schema db t row ≡ true) (db t.tree)) schema.tables at table here kept
+
+module _ (place : Place) (schema : Schema) (at : ℕ) (name : List ℕ) (columns : List Column) (others : List (List ℕ))
+    (here : slice_get schema.tables at ≡ Some (keyed name place.tree columns (places_from 1 place.keys) others))
+    (alone : (olds news : List Row) → works schema Enforced 0 place.tree olds news ≡ [])
+    (compares : (a b : Row) → by_key place.keys (cells 1 place.width a) (cells 1 place.width b) ≡ key_cmp 1 (rising place.keys []) a b)
+    (fulls : (a : Row) → is_full place.keys (cells 1 place.width a) ≡ full 1 place.keys a)
+    (sql : List ℕ) (terms : List Term)
+    (bare : IsPlain (understood schema sql))
+    (values : Row)
+    (given : value_rows (values ++ []) (suc place.width) (length terms / suc place.width) terms ≡ (Null ∷ values) ∷ [])
+    (casts : cast_all columns values ≡ values)
+    (shown : (id : ℤ) → cells 1 place.width (Int id ∷ values) ≡ values)
+    (filled : is_full place.keys values ≡ true) where
+  abbrev table : Table
+  table = keyed name place.tree columns (places_from 1 place.keys) others
+
+  -- the keys of the entries have no NULL
+  whole : (db : Trees) (rows : List Row) → Keeps place db rows → AllByRecursion (λ row. is_full place.keys (cells 1 place.width row) ≡ true) (db place.tree)
+  whole db rows keeps = all_from_map (λ row. is_full place.keys row ≡ true) (cells 1 place.width) (db place.tree) (all-permutation (λ row. is_full place.keys row ≡ true) _ _ keeps.same keeps.full)
+
+  own_id : (db : Trees) (rows : List Row) → Keeps place db rows → (r : Row) → Has (db place.tree) r → rowid r ≡ Int (id_in (rowid r))
+  own_id db rows keeps r h = int_is (rowid r) (all_has (λ x. IsTrue (is_int (rowid x))) (db place.tree) r keeps.shaped.1 h)
+
+  -- ---- INSERT OR REPLACE, where rows that agree on other places that are unique agree on the key too
+
+  module _ (more : Row → Row → Bool)
+      (shared : (a b : Row) → list_any (shares None table a b) schema.indexes ≡ (agree plain (places_from 1 place.keys) b (places_from 1 place.keys) a || more b a))
+      (within : (a b : Row) → agree plain (places_from 1 place.keys) b (places_from 1 place.keys) a ≡ false → more b a ≡ false)
+      (mends : mended_from None 0 columns values ≡ values)
+      (is : command_of (understood schema sql) ≡ InsertOr at Replace (Values terms (suc place.width)) []) where
+    put_keeps : (old new : Trees) → IsPut schema table old new values → (rows : List Row) → Keeps place old rows → Keeps place new (put place.keys values rows)
+    put_keeps old new p rows keeps =
+        let entries = old place.tree in
+        let id = next_rowid entries in
+        let left = left_is place schema.indexes table old (stored entries values) values p.found keeps.shaped
+        (λ r h. meets place.keys place.width schema.indexes table entries id values more shared within compares fulls (shown id) (next_is_free Chosen entries values keeps.shaped.0 keeps.shaped.1) r h (own_id old rows keeps r h)
+        (all_has (λ x. is_full place.keys (cells 1 place.width x) ≡ true) entries r (whole old rows keeps) h) filled) p.are in
+        keeps_put place old (stored entries values) values (without_all entries (ids_of p.found)) keeps.shaped left rows keeps new filled (shown id) refl p.free p.is
+
+    abbrev Replaces : Command
+    Replaces = InsertOr at Replace (Values terms (suc place.width)) []
+
+    -- the statement makes the change
+    pub executes_put : (old new : State) (count : ℕ) → old.now.schema ≡ schema → Executes sql values old new (Ok count) → (new.now.schema ≡ schema) × Changes place schema values old.now.trees new.now.trees
+    executes_put old new count has h =
+        let w = runs_as sql values old new schema has Replaces is bare count h in
+        let text = statement_of sql (understood schema sql) in
+        let p = puts schema at name place.tree columns (places_from 1 place.keys) others terms place.width values here alone given casts mends old.step_limit old.now.trees text w.tally new.now
+        (subst (λ s. Does old.step_limit (mode_of old) values (record old.now { schema = s }) text None Replaces (Ok (w.tally, new.now))) has w.changed) in
+        (p.0, record { sound = subst (λ s. IsSound s new.now.trees) p.0 w.sound; rows = put_keeps old.now.trees new.now.trees p.1; others = p.1.others })
+
+  -- ---- INSERT, which is refused where a row has the key, or agrees on other places that are unique
+
+  module _ (rest : List Row → Row → Bool)
+      (guarded : (rows : List Row) (row : Row) → list_all (λ i. not (guards i table && clashes i.order i.columns rows row)) schema.indexes ≡ (not (clashes plain (places_from 1 place.keys) rows row) && rest rows row))
+      (is : command_of (understood schema sql) ≡ Insert at (Values terms (suc place.width))) where
+    -- no row that was there has the key
+    other_key : (old new : Trees) → IsInserted schema table old new values → (rows : List Row) → Keeps place old rows → (r : Row) → Has (old place.tree) r → is_eq (by_key place.keys (cells 1 place.width r) values) ≡ false
+    other_key old new p rows keeps r h =
+        let entries = old place.tree in
+        let id = next_rowid entries in
+        let entry = stored entries values in
+        let passed = all_has (λ row. passes Unique schema new table row ≡ true) (new place.tree) entry (rule_of Unique schema new at table here (p.fits.rules Unique (λ e. cc)))
+        (subst (λ l. Has l entry) (sym p.is) (has_same (entry ∷ entries) (put_row entry entries) entry (put_row_same entry entries p.free) (inl refl))) in
+        let clash : clashes plain (places_from 1 place.keys) (new place.tree) entry ≡ false = not-true _ (and_parts _ _ (sym (guarded (new place.tree) entry) ∙ passed)).0 in
+        let there = subst (λ l. Has l r) (sym p.is) (has_same (entry ∷ entries) (put_row entry entries) r (put_row_same entry entries p.free) (inr h)) in
+        fresh_key place.keys place.width entries id values compares fulls (shown id) p.free r h (own_id old rows keeps r h)
+        (all_has (λ x. is_full place.keys (cells 1 place.width x) ≡ true) entries r (whole old rows keeps) h) filled
+        (not_any (λ other. agree plain (places_from 1 place.keys) other (places_from 1 place.keys) entry && differ (rowid other) (rowid entry)) (new place.tree) r clash there)
+
+    insert_keeps : (old new : Trees) → IsInserted schema table old new values → (rows : List Row) → Keeps place old rows → Keeps place new (put place.keys values rows)
+    insert_keeps old new p rows keeps =
+        let entries = old place.tree in
+        let left = sym (filter_all (λ r. not (is_eq (by_key place.keys (cells 1 place.width r) values))) entries (all_from _ entries (λ r h. ap not (other_key old new p rows keeps r h)))) in
+        keeps_put place old (stored entries values) values entries keeps.shaped left rows keeps new filled (shown (next_rowid entries)) refl p.free p.is
+
+    abbrev Inserts : Command
+    Inserts = Insert at (Values terms (suc place.width))
+
+    -- the statement makes the change
+    pub executes_insert : (old new : State) (count : ℕ) → old.now.schema ≡ schema → Executes sql values old new (Ok count) → (new.now.schema ≡ schema) × Changes place schema values old.now.trees new.now.trees
+    executes_insert old new count has h =
+        let w = runs_as sql values old new schema has Inserts is bare count h in
+        let text = statement_of sql (understood schema sql) in
+        let p = inserts schema at name place.tree columns (places_from 1 place.keys) others terms place.width values here alone given casts old.step_limit old.now.trees text w.tally new.now
+        (subst (λ s. Does old.step_limit (mode_of old) values (record old.now { schema = s }) text None Inserts (Ok (w.tally, new.now))) has w.changed) in
+        (p.0, record { sound = subst (λ s. IsSound s new.now.trees) p.0 w.sound; rows = insert_keeps old.now.trees new.now.trees p.1; others = p.1.others })
+
+no_index_in : (t : ℕ) (indexes : List Index) → list_all (λ i. not (i.tree == t)) indexes ≡ true → AllByRecursion (λ i. i.tree ≢ t) indexes
+no_index_in t [] h = tt
+no_index_in t (i ∷ more) h = let parts = and_parts _ _ h in ((λ e. true≢false (sym (eq-eqb i.tree t e) ∙ not-true _ parts.0)), no_index_in t more parts.1)
+
+-- a tree that is no index and not the changed one keeps what it has
+pub keeps_on : (place : Place) (old new : Trees) (rows : List Row) → new place.tree ≡ old place.tree → Keeps place old rows → Keeps place new rows
+keeps_on place old new rows same k = record {
+  same = subst (λ l. IsPermutation rows (map (cells 1 place.width) l)) (sym same) k.same;
+  rising = k.rising;
+  full = k.full;
+  shaped = subst (IsShaped shape.Table) (sym same) k.shaped;
+}
+
+pub keeps_still : (schema : Schema) (tree : ℕ) (place : Place) (old new : Trees) (rows : List Row) → ((t : ℕ) → t ≢ tree → IsNoIndex schema t → new t ≡ old t)
+    → (place.tree == tree) ≡ false → list_all (λ i. not (i.tree == place.tree)) schema.indexes ≡ true → Keeps place old rows → Keeps place new rows
+keeps_still schema tree place old new rows others apart bare =
+    keeps_on place old new rows (others place.tree (λ e. true≢false (sym (eq-eqb place.tree tree e) ∙ apart)) (no_index_in place.tree schema.indexes bare))
+
+-- ---- values in place of rows
+
+module _ {X : Type 0} (keys : ℕ) (row_of : X → Row) where
+  pub put_in_rows : (new : X) (xs : List X) → map row_of (put_in keys row_of new xs) ≡ put keys (row_of new) (map row_of xs)
+  put_in_rows new [] = refl
+  put_in_rows new (x ∷ xs) =
+      elim (by_key keys (row_of x) (row_of new)) as (λ o. map row_of (match_ordering o (x ∷ put_in keys row_of new xs) (new ∷ xs) (new ∷ x ∷ xs))
+      ≡ match_ordering o (row_of x ∷ put keys (row_of new) (map row_of xs)) (row_of new ∷ map row_of xs) (row_of new ∷ row_of x ∷ map row_of xs))
+      [ Less ↦ ap (λ l. row_of x ∷ l) (put_in_rows new xs) | Equal ↦ refl | Greater ↦ refl ]
+
+-- rows of values of which one list was read and the other was put
+module _ {X : Type 0} (row_of : X → Row) (IsRead IsStored : X → Type 0) (one : (x y : X) → IsRead x → IsStored y → row_of x ≡ row_of y → x ≡ y) where
+  pub same_values : (xs ys : List X) → AllByRecursion IsRead xs → AllByRecursion IsStored ys → map row_of xs ≡ map row_of ys → xs ≡ ys
+  same_values [] [] r p h = refl
+  same_values [] (y ∷ ys) r p h = absurd (cc)
+  same_values (x ∷ xs) [] r p h = absurd (cc)
+  same_values (x ∷ xs) (y ∷ ys) r p h =
+      let head : row_of x ≡ row_of y = cc in let tail : map row_of xs ≡ map row_of ys = cc in λ i. one x y r.0 p.0 head i ∷ same_values xs ys r.1 p.1 tail i
+
+pub all_filter : {X : Type 0} (P : X → Type 0) (p : X → Bool) (xs : List X) → AllByRecursion P xs → AllByRecursion P (filter p xs)
+all_filter P p [] all = tt
+all_filter P p (x ∷ xs) all = elim (p x) as (λ b. AllByRecursion P (cond b (x ∷ filter p xs) (filter p xs))) [ true ↦ (all.0, all_filter P p xs all.1) | false ↦ all_filter P p xs all.1 ]
+
+-- what is known of every value
+pub each_is : {X : Type 0} (xs : List X) → AllByRecursion (λ _. ⊤) xs
+each_is [] = tt
+each_is (x ∷ xs) = (tt, each_is xs)
+
+-- what a query on one table shows, as values
+module _ (place : Place) (schema : Schema) (sql : List ℕ) (params : Row) (test project : List Term) (order : List (Term × Key)) (names : List (List ℕ)) (passes : Row → Bool)
+    (is : (command_of (understood schema sql) ≡ Select (record { lets = []; body = reading place.tree test project order }) names) × (reads_listing schema sql ≡ false))
+    (bare : IsPlain (understood schema sql))
+    (shows : (r : Row) → output (reading place.tree test project order) (params ∷ r ∷ []) ≡ with_key place.keys (cells 1 place.width r))
+    (tests : (r : Row) → list_all (holds (params ∷ r ∷ [])) test ≡ passes (cells 1 place.width r))
+    (sorts : (a b : Row) → output_cmp (reading place.tree test project order) (with_key place.keys a) (with_key place.keys b) ≡ by_key place.keys a b)
+    (low : nat_le (2 ^ 31) place.tree ≡ false)
+    {X : Type 0} (row_of : X → Row) where
+  pub shown_checked : (IsRead IsStored : X → Type 0) → ((x y : X) → IsRead x → IsStored y → row_of x ≡ row_of y → x ≡ y) → (old new : State) (xs : List X) → old.now.schema ≡ schema → Shown sql params old new (map row_of xs)
+      → AllByRecursion IsRead xs → (ys : List X) → AllByRecursion IsStored ys → Keeps place old.now.trees (map row_of ys) → xs ≡ filter (λ y. passes (row_of y)) ys
+  shown_checked IsRead IsStored one old new xs has h read ys held keeps =
+      let it = reads_as sql params old new schema has _ is.0 bare is.1 (map row_of xs) h in
+      let rows = reads_rows place test project order params passes shows tests sorts low old.now.trees (map row_of xs) (map row_of ys) keeps (it.answer Null) in
+      same_values row_of IsRead IsStored one xs (filter (λ y. passes (row_of y)) ys) read (all_filter IsStored (λ y. passes (row_of y)) ys held) (rows ∙ filter-map passes row_of ys)
+
+  -- where no two values at all have one row
+  pub shown_values : ((x y : X) → row_of x ≡ row_of y → x ≡ y) → (old new : State) (xs : List X) → old.now.schema ≡ schema → Shown sql params old new (map row_of xs) → (ys : List X) → Keeps place old.now.trees (map row_of ys)
+      → xs ≡ filter (λ y. passes (row_of y)) ys
+  shown_values one old new xs has h ys keeps = shown_checked (λ _. ⊤) (λ _. ⊤) (λ x y _ _. one x y) old new xs has h (each_is xs) ys (each_is ys) keeps
+
+  -- also where the tree is no register's
+  pub shown_exact : (old new : State) (xs : List X) → old.now.schema ≡ schema → Shown sql params old new (map row_of xs) → IsPermutation (filter passes (map (cells 1 place.width) (old.now.trees place.tree))) (map row_of xs)
+  shown_exact old new xs has h =
+      let read = reads_as sql params old new schema has _ is.0 bare is.1 (map row_of xs) h in
+      reads_exact place test project order params passes shows tests sorts low old.now.trees (map row_of xs) (read.answer Null)
+
+pub filter_every : {X : Type 0} (xs : List X) → filter (λ _. true) xs ≡ xs
+filter_every xs = filter_all (λ _. true) xs (all_from _ xs (λ x h. refl))

@@ -1,0 +1,63 @@
+-- Tables whose rows stand under a key, and their columns.
+use Rattle.sqlite.specs.Collation.TheVariants.{Binary}
+use Rattle.std.specs.Prelude.{◌≡◌, true, false, Bool, [], ◌∷◌, None, List, ℕ, ◌+◌, map, flat_map}
+use Rattle.sqlite.specs.declared.types.Value.TheVariants.{Null}
+use Rattle.std.specs.List.{AllByRecursion}
+use Rattle.sqlite.specs.Tree.{Trees}
+use Rattle.sqlite.specs.Table.{Table}
+use Rattle.sqlite.specs.Schema.{Schema}
+use Rattle.sqlite_schema.specs.declared.schema.Column.{Column}
+use Rattle.sqlite_schema.specs.declared.schema.Index.{Index}
+use Rattle.sqlite_catalog.specs.Listing.{automatic}
+use Rattle.sqlite.specs.Kind.{Kind}
+use Rattle.sqlite.specs.Kind.TheVariants.{Integer, Text}
+
+abbrev pub column_of : Kind → Bool → List ℕ → Column
+column_of kind not_null name = record { name = name; kind = kind; is_strict = true; not_null = not_null; default = Null; collation = Binary }
+
+-- texts, and numbers
+abbrev pub words : List ℕ → Column
+words = column_of Text true
+
+abbrev pub number : List ℕ → Column
+number = column_of Integer true
+
+-- the same, or NULL
+abbrev pub words_or_null : List ℕ → Column
+words_or_null = column_of Text false
+
+abbrev pub number_or_null : List ℕ → Column
+number_or_null = column_of Integer false
+
+-- a table whose key is these places, in this tree; no two rows agree on the places of one of the others
+abbrev pub keyed : List ℕ → ℕ → List Column → List ℕ → List (List ℕ) → Table
+keyed name tree columns places others = record {
+  name = name;
+  tree = tree;
+  columns = columns;
+  key = None;
+  primary = places;
+  uniques = places ∷ others;
+  orders = map (λ _. record { digits = 0 }) (places ∷ others);
+  checks = [];
+  references = [];
+  computed = [];
+  stamps = record { places = []; terms = []; formats = [] };
+  is_counted = false;
+}
+
+abbrev pub indexes_from : Table → ℕ → List (List ℕ) → List Index
+indexes_from table at [] = []
+indexes_from table at (places ∷ more) = automatic table at places (table.tree + 1 + at) ∷ indexes_from table (at + 1) more
+
+-- the indexes of a table, in the trees behind its own: that of its key first
+abbrev pub indexes_for : Table → List Index
+indexes_for table = indexes_from table 0 table.uniques
+
+-- the schema of these tables and their indexes
+abbrev pub schema_of : List Table → Schema
+schema_of tables = record { tables = tables; indexes = flat_map indexes_for tables; views = [] }
+
+-- the trees of these tables have no entries
+abbrev pub AreEmpty : List Table → Trees → Type 0
+AreEmpty tables db = AllByRecursion (λ t. db t.tree ≡ []) tables

@@ -1,0 +1,5 @@
+pub mod Columns
+pub mod Keyed
+pub mod Values
+pub mod Greatest
+pub mod Refusals

@@ -1,0 +1,387 @@
+//! One value of a row: read from a column, counted from 0, and made into a parameter of a statement. Each reader's
+//! error is `Disk` where the column has no such value; those that take an allocator answer `Memory` for want of memory.
+
+ghost use Rattle.std.specs.Prelude.{⊤, ◌≡◌, ◌≢◌, ◌<◌, ◌^◌, ℕ, List, IsUtf8, pos, Err, IfOk, IfErr, OnErr, Bool};
+ghost use Rattle.sqlite.specs.declared.types.Value.TheVariants.{Null, Int, Text as Chars};
+ghost use Rattle.sqlite.specs.Order.{column};
+ghost use Rattle.sqlite.specs.Values.{bound_value};
+ghost use Rattle.sqlite.specs.Value.{owned};
+ghost use Rattle.kcr_base.specs.Initials.{IsInitials};
+ghost use Rattle.kcr_base.specs.Serial.{IsSerial};
+ghost use Rattle.kcr_base.specs.Key.{IsKey};
+ghost use Rattle.kcr_base.specs.Line.{IsLine};
+ghost use Rattle.kcr_base.specs.Day.{IsDay};
+ghost use Rattle.kcr_base.specs.Moment.{IsMoment};
+ghost use Rattle.kcr_base.specs.Facility.{facility_text};
+ghost use Rattle.kcr_base.specs.Role.{role_text};
+ghost use Rattle.kcr_base.specs.Place.{IsPlace, place_text};
+ghost use Rattle.kcr_base.specs.declared.place.Facility.{Facility as AnyFacility};
+ghost use Rattle.kcr_base.specs.declared.place.Role.{Role as AnyRole};
+ghost use Rattle.kcr_base.specs.declared.place.Place.{Place as AnyPlace};
+ghost use Rattle.kcr_rows.specs.Refusals.{IsFault};
+ghost use Rattle.kcr_rows.specs.Values.{int_or_null, truth_number};
+
+use kcr_base::{
+    Code, Day, Facility, Initials, ItemCode, Key, Line, Moment, Place, Refusal, Role, Serial, Text,
+};
+use sqlite::Row;
+use sqlite::types::ValueRef;
+use std::alloc::Global;
+use std::str;
+
+/// The initials in a column.
+pub fn initials_at(row: &Row, at: usize) -> Result<Initials, Refusal>
+    ensures value { IfOk result (λ found. column row.now at ≡ Chars found) }
+    ensures none { OnErr result ((text : List ℕ) → IsInitials text → column row.now at ≢ Chars text) }
+    ensures cause { IfErr result IsFault }
+{
+    match row.get_ref(at) {
+        Ok(ValueRef::Text(text)) => match Initials::read(text) {
+            Some(found) => Ok(found),
+            None => Err(Refusal::Disk),
+        },
+        _ => Err(Refusal::Disk),
+    }
+}
+
+/// The key of a command in a column.
+pub fn key_at(row: &Row, at: usize) -> Result<Key, Refusal>
+    ensures value { IfOk result (λ found. column row.now at ≡ Chars found) }
+    ensures none { OnErr result ((text : List ℕ) → IsKey text → column row.now at ≢ Chars text) }
+    ensures cause { IfErr result IsFault }
+{
+    match row.get_ref(at) {
+        Ok(ValueRef::Text(text)) => match Key::read(text) {
+            Some(found) => Ok(found),
+            None => Err(Refusal::Disk),
+        },
+        _ => Err(Refusal::Disk),
+    }
+}
+
+/// The serial of a bag in a column.
+pub fn serial_at(row: &Row, at: usize) -> Result<Serial, Refusal>
+    ensures value { IfOk result (λ found. column row.now at ≡ Chars found) }
+    ensures none { OnErr result ((text : List ℕ) → IsSerial text → column row.now at ≢ Chars text) }
+    ensures cause { IfErr result IsFault }
+{
+    match row.get_ref(at) {
+        Ok(ValueRef::Text(text)) => match Serial::read(text) {
+            Some(found) => Ok(found),
+            None => Err(Refusal::Disk),
+        },
+        _ => Err(Refusal::Disk),
+    }
+}
+
+/// The code of an item in a column.
+pub fn item_at(row: &Row, at: usize) -> Result<ItemCode, Refusal>
+    ensures value { IfOk result (λ found. column row.now at ≡ Chars found) }
+    ensures none { OnErr result ((text : List ℕ) → IsSerial text → column row.now at ≢ Chars text) }
+    ensures cause { IfErr result IsFault }
+{
+    match row.get_ref(at) {
+        Ok(ValueRef::Text(text)) => match ItemCode::read(text) {
+            Some(found) => Ok(found),
+            None => Err(Refusal::Disk),
+        },
+        _ => Err(Refusal::Disk),
+    }
+}
+
+/// The facility in a column.
+pub fn facility_at(row: &Row, at: usize) -> Result<Facility, Refusal>
+    ensures value { IfOk result (λ found. column row.now at ≡ Chars (facility_text found)) }
+    ensures none { OnErr result ((found : AnyFacility) → column row.now at ≢ Chars (facility_text found)) }
+    ensures cause { IfErr result IsFault }
+{
+    match row.get_ref(at) {
+        Ok(ValueRef::Text(text)) => match Facility::read(text) {
+            Some(found) => Ok(found),
+            None => Err(Refusal::Disk),
+        },
+        _ => Err(Refusal::Disk),
+    }
+}
+
+/// The role in a column.
+pub fn role_at(row: &Row, at: usize) -> Result<Role, Refusal>
+    ensures value { IfOk result (λ found. column row.now at ≡ Chars (role_text found)) }
+    ensures none { OnErr result ((found : AnyRole) → column row.now at ≢ Chars (role_text found)) }
+    ensures cause { IfErr result IsFault }
+{
+    match row.get_ref(at) {
+        Ok(ValueRef::Text(text)) => match Role::read(text) {
+            Some(found) => Ok(found),
+            None => Err(Refusal::Disk),
+        },
+        _ => Err(Refusal::Disk),
+    }
+}
+
+/// The custodian's place in a column.
+pub fn place_at(row: &Row, at: usize) -> Result<Place, Refusal>
+    ensures value { IfOk result (λ found. column row.now at ≡ Chars (place_text found)) }
+    ensures none { OnErr result ((found : AnyPlace) → IsPlace found → column row.now at ≢ Chars (place_text found)) }
+    ensures cause { IfErr result IsFault }
+{
+    match row.get_ref(at) {
+        Ok(ValueRef::Text(text)) => match Place::read(text) {
+            Some(found) => Ok(found),
+            None => Err(Refusal::Disk),
+        },
+        _ => Err(Refusal::Disk),
+    }
+}
+
+/// The line of text in a column.
+pub fn line_at<const LIMIT: usize>(
+    alloc: Global,
+    row: &Row,
+    at: usize,
+) -> Result<Line<LIMIT>, Refusal>
+    ensures value { IfOk result (λ line. column row.now at ≡ Chars line) }
+    ensures none { result ≡ Err Refusal.Disk → (line : List ℕ) → IsLine LIMIT line → column row.now at ≢ Chars line }
+    ensures cause { IfErr result IsFault }
+{
+    match row.get_ref(at) {
+        Ok(ValueRef::Text(text)) => match Line::read(alloc, text)? {
+            Some(line) => Ok(line),
+            None => Err(Refusal::Disk),
+        },
+        _ => Err(Refusal::Disk),
+    }
+}
+
+/// The text in a column, of any length.
+pub fn text_at(alloc: Global, row: &Row, at: usize) -> Result<Text, Refusal>
+    ensures value { IfOk result (λ text. column row.now at ≡ Chars text) }
+    ensures none { result ≡ Err Refusal.Disk → (text : List ℕ) → IsUtf8 text → column row.now at ≢ Chars text }
+    ensures cause { IfErr result IsFault }
+{
+    match row.get_ref(at) {
+        Ok(ValueRef::Text(bytes)) => match str::from_utf8(bytes) {
+            Ok(text) => Ok(Text::copy_of(alloc, text)?),
+            Err(_) => Err(Refusal::Disk),
+        },
+        _ => Err(Refusal::Disk),
+    }
+}
+
+/// The whole number in a column.
+pub fn number_at(row: &Row, at: usize) -> Result<u32, Refusal>
+    ensures value { IfOk result (λ n. column row.now at ≡ Int (pos n)) }
+    ensures none { OnErr result ((n : ℕ) → n < 2 ^ 32 → column row.now at ≢ Int (pos n)) }
+    ensures cause { IfErr result IsFault }
+{
+    match row.get_ref(at) {
+        Ok(ValueRef::Int(n)) if n >= 0 && n <= 4_294_967_295 => Ok(n as u32),
+        _ => Err(Refusal::Disk),
+    }
+}
+
+/// The day in a column.
+pub fn day_at(row: &Row, at: usize) -> Result<Day, Refusal>
+    ensures value { IfOk result (λ n. column row.now at ≡ Int (pos n)) }
+    ensures none { OnErr result ((n : ℕ) → IsDay n → column row.now at ≢ Int (pos n)) }
+    ensures cause { IfErr result IsFault }
+{
+    match row.get_ref(at) {
+        Ok(ValueRef::Int(n)) if n >= 0 && n < 1 << 16 => match Day::from_number(n as u16) {
+            Some(found) => Ok(found),
+            None => Err(Refusal::Disk),
+        },
+        _ => Err(Refusal::Disk),
+    }
+}
+
+/// The moment in a column.
+pub fn moment_at(row: &Row, at: usize) -> Result<Moment, Refusal>
+    ensures value { IfOk result (λ n. column row.now at ≡ Int (pos n)) }
+    ensures none { OnErr result ((n : ℕ) → IsMoment n → column row.now at ≢ Int (pos n)) }
+    ensures cause { IfErr result IsFault }
+{
+    match row.get_ref(at) {
+        Ok(ValueRef::Int(n)) if n >= 0 && n < 1 << 62 => match Moment::from_number(n as u64) {
+            Some(found) => Ok(found),
+            None => Err(Refusal::Disk),
+        },
+        _ => Err(Refusal::Disk),
+    }
+}
+
+/// The truth value in a column, 0 or 1.
+pub fn truth_at(row: &Row, at: usize) -> Result<bool, Refusal>
+    ensures value { IfOk result (λ found. column row.now at ≡ Int (pos (truth_number found))) }
+    ensures none { OnErr result ((found : Bool) → column row.now at ≢ Int (pos (truth_number found))) }
+    ensures cause { IfErr result IsFault }
+{
+    match row.get_ref(at) {
+        Ok(ValueRef::Int(0)) => Ok(false),
+        Ok(ValueRef::Int(1)) => Ok(true),
+        _ => Err(Refusal::Disk),
+    }
+}
+
+/// The whole number in a column, or None where it is NULL.
+pub fn number_or_null_at(row: &Row, at: usize) -> Result<Option<u32>, Refusal>
+    ensures value { IfOk result (λ found. column row.now at ≡ int_or_null found) }
+    ensures cause { IfErr result IsFault }
+{
+    match row.get_ref(at) {
+        Ok(ValueRef::Null) => Ok(None),
+        _ => match number_at(row, at) {
+            Ok(found) => Ok(Some(found)),
+            Err(refusal) => Err(refusal),
+        },
+    }
+}
+
+/// The day in a column, or None where it is NULL.
+pub fn day_or_null_at(row: &Row, at: usize) -> Result<Option<Day>, Refusal>
+    ensures value { IfOk result (λ found. column row.now at ≡ int_or_null found) }
+    ensures cause { IfErr result IsFault }
+{
+    match row.get_ref(at) {
+        Ok(ValueRef::Null) => Ok(None),
+        _ => match day_at(row, at) {
+            Ok(found) => Ok(Some(found)),
+            Err(refusal) => Err(refusal),
+        },
+    }
+}
+
+/// The moment in a column, or None where it is NULL.
+pub fn moment_or_null_at(row: &Row, at: usize) -> Result<Option<Moment>, Refusal>
+    ensures value { IfOk result (λ found. column row.now at ≡ int_or_null found) }
+    ensures cause { IfErr result IsFault }
+{
+    match row.get_ref(at) {
+        Ok(ValueRef::Null) => Ok(None),
+        _ => match moment_at(row, at) {
+            Ok(found) => Ok(Some(found)),
+            Err(refusal) => Err(refusal),
+        },
+    }
+}
+
+/// The value of initials.
+pub fn initials_cell(who: &Initials) -> ValueRef<'_>
+    ensures { bound_value (owned result) ≡ Chars who.now }
+{
+    ValueRef::Text(who.as_bytes())
+}
+
+/// The value of a key.
+pub fn key_cell(key: &Key) -> ValueRef<'_>
+    ensures { bound_value (owned result) ≡ Chars key.now }
+{
+    ValueRef::Text(key.as_bytes())
+}
+
+/// The value of a serial.
+pub fn serial_cell(serial: &Serial) -> ValueRef<'_>
+    ensures { bound_value (owned result) ≡ Chars serial.now }
+{
+    ValueRef::Text(serial.as_bytes())
+}
+
+/// The value of an item's code.
+pub fn item_cell(item: &ItemCode) -> ValueRef<'_>
+    ensures { bound_value (owned result) ≡ Chars item.now }
+{
+    ValueRef::Text(item.as_bytes())
+}
+
+/// The value of a code.
+pub fn code_cell<const N: usize>(code: &Code<N>) -> ValueRef<'_>
+    ensures { bound_value (owned result) ≡ Chars code.now }
+{
+    ValueRef::Text(code.as_bytes())
+}
+
+/// The value of a line of text.
+pub fn line_cell<const LIMIT: usize>(line: &Line<LIMIT>) -> ValueRef<'_>
+    ensures { bound_value (owned result) ≡ Chars line.now }
+{
+    ValueRef::Text(line.as_str().as_bytes())
+}
+
+/// The value of a text.
+pub fn text_cell(text: &Text) -> ValueRef<'_>
+    ensures { bound_value (owned result) ≡ Chars text.now }
+{
+    ValueRef::Text(text.as_bytes())
+}
+
+/// The value of a facility.
+pub fn facility_cell(facility: Facility) -> ValueRef<'static>
+    ensures { bound_value (owned result) ≡ Chars (facility_text facility) }
+{
+    ValueRef::Text(facility.text().as_bytes())
+}
+
+/// The value of a role.
+pub fn role_cell(role: Role) -> ValueRef<'static>
+    ensures { bound_value (owned result) ≡ Chars (role_text role) }
+{
+    ValueRef::Text(role.text().as_bytes())
+}
+
+/// The value of a number.
+pub fn number_cell(number: u32) -> ValueRef<'static>
+    ensures { bound_value (owned result) ≡ Int (pos number) }
+{
+    ValueRef::Int(i64::from(number))
+}
+
+/// The value of a day.
+pub fn day_cell(day: Day) -> ValueRef<'static>
+    ensures { bound_value (owned result) ≡ Int (pos day) }
+{
+    ValueRef::Int(i64::from(day.number()))
+}
+
+/// The value of a moment.
+pub fn moment_cell(moment: Moment) -> ValueRef<'static>
+    ensures { bound_value (owned result) ≡ Int (pos moment) }
+{
+    ValueRef::Int(moment.number() as i64)
+}
+
+/// The value of a truth value.
+pub fn truth_cell(truth: bool) -> ValueRef<'static>
+    ensures { bound_value (owned result) ≡ Int (pos (truth_number truth)) }
+{
+    ValueRef::Int(i64::from(truth))
+}
+
+/// The value of a number, or NULL where there is none.
+pub fn number_or_null_cell(number: Option<u32>) -> ValueRef<'static>
+    ensures { bound_value (owned result) ≡ int_or_null number }
+{
+    match number {
+        Some(number) => number_cell(number),
+        None => ValueRef::Null,
+    }
+}
+
+/// The value of a day, or NULL where there is none.
+pub fn day_or_null_cell(day: Option<Day>) -> ValueRef<'static>
+    ensures { bound_value (owned result) ≡ int_or_null day }
+{
+    match day {
+        Some(day) => day_cell(day),
+        None => ValueRef::Null,
+    }
+}
+
+/// The value of a moment, or NULL where there is none.
+pub fn moment_or_null_cell(moment: Option<Moment>) -> ValueRef<'static>
+    ensures { bound_value (owned result) ≡ int_or_null moment }
+{
+    match moment {
+        Some(moment) => moment_cell(moment),
+        None => ValueRef::Null,
+    }
+}

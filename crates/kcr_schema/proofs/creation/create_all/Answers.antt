@@ -1,0 +1,33 @@
+use Rattle.std.proofs.Common.{rules, ◌≡◌, ◌<◌, ◌∙◌, take, subst, arith}
+use Rattle.sqlite.specs.Held.{state}
+use Rattle.sqlite_catalog.specs.Listing.{IsSound}
+use Rattle.kcr_schema.specs.Schema.{all_tables}
+use Rattle.kcr_schema.specs.Made.{first}
+use Rattle.kcr_rows.specs.Columns.{AreEmpty}
+use Rattle.kcr_schema.proofs.FirstLemmas.{holds_nothing}
+use Rattle.kcr_rows.proofs.InsideLemmas.{was_clean, survives_on, keeps_then}
+use Rattle.kcr_schema.proofs.creation.create_all.Goals as goal
+
+pub loop-at-preserved : goal.loop-at-preserved
+loop-at-preserved g c =
+    let old = state g.S.Store c.args.tx.now.conn.now in
+    let mid = state g.S.Store c.loop-at.tx.conn.now in
+    let new = state g.S.Store c.create_one.new.tx.conn.now in
+    let had = c.loop-at.invariant in
+    let step = c.in_ok-create_one.ensures in record {
+      same_reference = step.same_reference ∙ had.same_reference;
+      survives = survives_on old mid new had.survives step.survives;
+      goes_on = λ clean inside.
+          let was = had.goes_on (was_clean mid new _ step.survives clean) inside in
+          (step.inside clean was.0, keeps_then old mid new was.1 (step.kept clean was.0));
+      built = λ clean has.
+          let was = had.built (was_clean mid new _ step.survives clean) has in
+          (step.schema clean was.0 was.1, step.empty clean was.0 was.1, λ _. step.sound clean was.0 was.1);
+    }
+
+pub returns-clause-holds : goal.returns-clause-holds
+returns-clause-holds g c clean has =
+    let now = state g.S.Store c.loop-at.tx.conn.now in
+    let at : c.loop-at.at ≡ 17 = search rules in
+    let was = subst (λ n. (now.now.schema ≡ first n) × AreEmpty (take n all_tables) now.now.trees × (0 < n → IsSound (first n) now.now.trees)) at (c.loop-at.invariant.built clean has) in
+    holds_nothing now.now was.0 was.1 (was.2 (omega arith))

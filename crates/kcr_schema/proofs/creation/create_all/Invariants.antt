@@ -1,0 +1,18 @@
+use Rattle.std.proofs.Common.{◌≡◌, ◌<◌, take, IsTrue}
+use Rattle.sqlite.specs.Held.{state}
+use Rattle.sqlite.specs.State.{HasCleanDisk, KeepsCommit, Survives}
+use Rattle.sqlite_catalog.specs.Listing.{IsSound}
+use Rattle.kcr_schema.specs.Schema.{all_tables}
+use Rattle.kcr_schema.specs.Made.{first}
+use Rattle.kcr_rows.specs.Columns.{AreEmpty}
+use Rattle.kcr_schema.proofs.creation.create_all.Given as goal
+
+abbrev pub invariant-loop-at : goal.invariant-loop-at
+invariant-loop-at g l =
+    let old = state g.S.Store l.fn.tx.conn.now in
+    let now = state g.S.Store l.tx.conn.now in record {
+      same_reference : l.tx.conn.ghost_name ≡ l.fn.tx.conn.ghost_name;
+      survives : Survives old now (λ _. ⊥);
+      goes_on : HasCleanDisk now → IsTrue old.in_transaction → IsTrue now.in_transaction × KeepsCommit old now;
+      built : HasCleanDisk now → old.now.schema ≡ first 0 → (now.now.schema ≡ first l.at) × AreEmpty (take l.at all_tables) now.now.trees × (0 < l.at → IsSound (first l.at) now.now.trees);
+    }

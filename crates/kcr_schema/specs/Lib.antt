@@ -1,0 +1,11 @@
+pub mod States
+pub mod Schema
+pub mod Keyed
+pub mod Rows
+pub mod Refusals
+pub mod Held
+pub mod Made
+pub mod First
+pub mod Changed
+pub mod Joint
+pub mod Asked

@@ -1,0 +1,102 @@
+//! The tables of a new register.
+
+ghost use Rattle.std.specs.Prelude.{◌≡◌, ◌+◌, ◌<◌, [], take, IfErr, OnOk, IsTrue};
+ghost use Rattle.sqlite.specs.Held.{state};
+ghost use Rattle.sqlite.specs.State.{HasCleanDisk, KeepsCommit, Survives};
+ghost use Rattle.sqlite_catalog.specs.Listing.{IsSound};
+ghost use Rattle.kcr_history.specs.Tables.{tables};
+ghost use Rattle.kcr_rows.specs.Refusals.{IsFault};
+ghost use Rattle.kcr_rows.specs.Columns.{AreEmpty};
+ghost use Rattle.kcr_rows.specs.Keyed.{put_in};
+ghost use Rattle.kcr_schema.specs.Rows.{safe_row};
+ghost use Rattle.kcr_schema.specs.Held.{Tables, Holds};
+ghost use Rattle.kcr_schema.specs.First.{empty_tables, first_tables, shut};
+ghost use Rattle.kcr_schema.specs.Joint.{HoldsTables};
+ghost use Rattle.kcr_schema.specs.Made.{first};
+ghost use Rattle.kcr_schema.specs.Schema.{all_tables};
+ghost use Rattle.kcr_custody.specs.declared.SafeNumber.TheVariants.{One, Two};
+
+use crate::safes::put_safe;
+use crate::statements::write;
+use crate::texts::{COUNT, create_text};
+use crate::versions::{Version, put_version};
+use kcr_base::{Facility, Refusal};
+use kcr_custody::{SafeNumber, SafeRow};
+use sqlite::{Alter, Transaction};
+
+/// The number of the schema, which the table versions holds.
+const VERSION: u32 = 3;
+
+/// Makes the table of this position, counted from 0, after those before it.
+fn create_one<S: Alter>(tx: &mut Transaction<'_, S>, at: usize) -> Result<(), Refusal>
+    requires { at < 17 }
+    ensures same_reference { tx.new.conn.ghost_name ≡ tx.old.conn.ghost_name }
+    ensures schema { HasCleanDisk (state S.Store tx.new.conn.now) → (state S.Store tx.old.conn.now).now.schema ≡ first at → AreEmpty (take at all_tables) (state S.Store tx.old.conn.now).now.trees → OnOk result ((state S.Store tx.new.conn.now).now.schema ≡ first (at + 1)) }
+    ensures empty { HasCleanDisk (state S.Store tx.new.conn.now) → (state S.Store tx.old.conn.now).now.schema ≡ first at → AreEmpty (take at all_tables) (state S.Store tx.old.conn.now).now.trees → OnOk result (AreEmpty (take (at + 1) all_tables) (state S.Store tx.new.conn.now).now.trees) }
+    ensures sound { HasCleanDisk (state S.Store tx.new.conn.now) → (state S.Store tx.old.conn.now).now.schema ≡ first at → AreEmpty (take at all_tables) (state S.Store tx.old.conn.now).now.trees → OnOk result (IsSound (first (at + 1)) (state S.Store tx.new.conn.now).now.trees) }
+    ensures inside { HasCleanDisk (state S.Store tx.new.conn.now) → IsTrue (state S.Store tx.old.conn.now).in_transaction → OnOk result (IsTrue (state S.Store tx.new.conn.now).in_transaction) }
+    ensures kept { HasCleanDisk (state S.Store tx.new.conn.now) → IsTrue (state S.Store tx.old.conn.now).in_transaction → KeepsCommit (state S.Store tx.old.conn.now) (state S.Store tx.new.conn.now) }
+    ensures survives { Survives (state S.Store tx.old.conn.now) (state S.Store tx.new.conn.now) (λ _. ⊥) }
+    ensures cause { IfErr result IsFault }
+{
+    let text = create_text(at);
+    write(tx, text, &[])
+}
+
+/// All tables, without rows.
+fn create_all<S: Alter>(tx: &mut Transaction<'_, S>) -> Result<(), Refusal>
+    ensures same_reference { tx.new.conn.ghost_name ≡ tx.old.conn.ghost_name }
+    ensures holds { HasCleanDisk (state S.Store tx.new.conn.now) → (state S.Store tx.old.conn.now).now.schema ≡ first 0 → OnOk result (Holds (state S.Store tx.new.conn.now).now empty_tables) }
+    ensures inside { HasCleanDisk (state S.Store tx.new.conn.now) → IsTrue (state S.Store tx.old.conn.now).in_transaction → OnOk result (IsTrue (state S.Store tx.new.conn.now).in_transaction) }
+    ensures kept { HasCleanDisk (state S.Store tx.new.conn.now) → IsTrue (state S.Store tx.old.conn.now).in_transaction → KeepsCommit (state S.Store tx.old.conn.now) (state S.Store tx.new.conn.now) }
+    ensures survives { Survives (state S.Store tx.old.conn.now) (state S.Store tx.new.conn.now) (λ _. ⊥) }
+    ensures cause { IfErr result IsFault }
+{
+    for at in 0..COUNT {
+        create_one(tx, at)?;
+    }
+    Ok(())
+}
+
+/// Puts the two safes of a facility, which are shut.
+fn put_pair<S: Alter>(tx: &mut Transaction<'_, S>, facility: Facility) -> Result<(), Refusal>
+    ensures same_reference { tx.new.conn.ghost_name ≡ tx.old.conn.ghost_name }
+    ensures holds { HasCleanDisk (state S.Store tx.new.conn.now) → (t : Tables) → Holds (state S.Store tx.old.conn.now).now t
+        → OnOk result (Holds (state S.Store tx.new.conn.now).now (record t { safes = put_in 2 safe_row (shut facility Two) (put_in 2 safe_row (shut facility One) t.safes) })) }
+    ensures inside { HasCleanDisk (state S.Store tx.new.conn.now) → IsTrue (state S.Store tx.old.conn.now).in_transaction → OnOk result (IsTrue (state S.Store tx.new.conn.now).in_transaction) }
+    ensures kept { HasCleanDisk (state S.Store tx.new.conn.now) → IsTrue (state S.Store tx.old.conn.now).in_transaction → KeepsCommit (state S.Store tx.old.conn.now) (state S.Store tx.new.conn.now) }
+    ensures survives { Survives (state S.Store tx.old.conn.now) (state S.Store tx.new.conn.now) (λ _. ⊥) }
+    ensures cause { IfErr result IsFault }
+{
+    let equipment = SafeRow {
+        facility,
+        safe: SafeNumber::One,
+        is_open: false,
+    };
+    put_safe(tx, &equipment)?;
+    let credentials = SafeRow {
+        facility,
+        safe: SafeNumber::Two,
+        is_open: false,
+    };
+    put_safe(tx, &credentials)
+}
+
+/// Makes the tables of a new register in an empty database: the four safes, which are shut, one row with the
+/// number of the schema, and no others. The error is `Memory` for want of memory, and else `Disk`. It leaves a part of the tables in the
+/// transaction, which the caller rolls back; what was committed before stays.
+pub fn make<S: Alter>(tx: &mut Transaction<'_, S>) -> Result<(), Refusal>
+    ensures same_reference { tx.new.conn.ghost_name ≡ tx.old.conn.ghost_name }
+    ensures holds { HasCleanDisk (state S.Store tx.new.conn.now) → (state S.Store tx.old.conn.now).now.schema ≡ first 0 → OnOk result (Holds (state S.Store tx.new.conn.now).now first_tables) }
+    ensures made { HasCleanDisk (state S.Store tx.new.conn.now) → (state S.Store tx.old.conn.now).now.schema ≡ first 0 → OnOk result (HoldsTables (tables []) (state S.Store tx.new.conn.now).now) }
+    ensures inside { HasCleanDisk (state S.Store tx.new.conn.now) → IsTrue (state S.Store tx.old.conn.now).in_transaction → OnOk result (IsTrue (state S.Store tx.new.conn.now).in_transaction) }
+    ensures kept { HasCleanDisk (state S.Store tx.new.conn.now) → IsTrue (state S.Store tx.old.conn.now).in_transaction → KeepsCommit (state S.Store tx.old.conn.now) (state S.Store tx.new.conn.now) }
+    ensures survives { Survives (state S.Store tx.old.conn.now) (state S.Store tx.new.conn.now) (λ _. ⊥) }
+    ensures cause { IfErr result IsFault }
+{
+    create_all(tx)?;
+    put_pair(tx, Facility::East)?;
+    put_pair(tx, Facility::West)?;
+    let version = Version { number: VERSION };
+    put_version(tx, &version)
+}

@@ -1,0 +1,12 @@
+-- What an answer unfolds to compute the readers of scripts and seats on a text that is written out.
+use Rattle.std.specs.Prelude.{⊤}
+use Rattle.std.specs.Char.{encode_utf8}
+use Rattle.std.specs.Str.{chars, is_utf8}
+use Rattle.std.specs.Fmt.{digits}
+use Rattle.csv.specs.Machine.{next_record}
+use Rattle.csv.specs.Reading.{records_from, strip_bom}
+use Rattle.kcr_script.specs.Reading.{seats_of, script_of}
+
+unfoldable pub script_on_literals : ⊤
+unfolding seats_of script_of chars encode_utf8 is_utf8 digits next_record records_from strip_bom
+script_on_literals = tt

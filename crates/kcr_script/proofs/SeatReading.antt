@@ -1,0 +1,212 @@
+-- A text stands for the seats that `seats_of` gives, and for no others.
+use Rattle.std.proofs.Common.{◌≡◌, ℕ, zero, suc, ◌≤◌, Bool, true, false, eqb, leb, List, [], ◌∷◌, ◌++◌, map, length, All, Option, Some, None, IfSome, refl, sym, ap, subst, ◌∙◌, arith, append-nil}
+use Rattle.std.specs.List.{flat_map, find, AllByRecursion, join_with_byte}
+use Rattle.std.specs.Cmp.Lexicographic.{bytes_decides}
+use Rattle.std.proofs.lemmas.Bool.{le-leb, leb-true, ne_eqb, cond_both}
+use Rattle.std.proofs.lemmas.Option.{cond_some, option_and_then_some}
+use Rattle.std.proofs.lemmas.List.Elements.{All-weaker}
+use Rattle.std.proofs.lemmas.List.Splits.{slice_split_none, slice_split_at, join_with_byte-slice_split, length-slice_split}
+use Rattle.kcr_base.specs.Same.{same_text}
+use Rattle.kcr_base.specs.declared.place.Role.TheVariants.{Ca, Iw, Sa, Ssc1, Ssc2, Rkos, Sw}
+use Rattle.kcr_script.specs.declared.seat.Seat.{Seat}
+use Rattle.kcr_script.specs.declared.seat.Seat.TheVariants.{Staff, AnyCo, AnyRksh, Co, Rksh}
+use Rattle.kcr_script.specs.Seat.{IsSeat, can_repeat}
+use Rattle.kcr_script.specs.Seats.{Item, IsItem, item_text, item_seats, pair_item, joined, Spells, StandsFor}
+use Rattle.kcr_script.specs.Reading.{one_to_seven, free_seats, repeated, all_items, item_of, between_semicolons, join_items, seats_of_items, at_most_sixteen, seats_of}
+use Rattle.kcr_script.proofs.SeatLemmas.{Plain, item_plain}
+
+-- ---- the item with a text
+
+-- what a search finds passes the test, and is like all in the list
+find_says : {X : Type 0} (P : X → Type 0) (test : X → Bool) (xs : List X) → AllByRecursion P xs → IfSome (find test xs) (λ x. (test x ≡ true) × P x)
+find_says P test [] h = tt
+find_says {X} P test (x ∷ xs) h =
+    cond_both (test x) (Some x) (find test xs) (λ (o : Option X). IfSome o (λ y. (test y ≡ true) × P y)) (λ e. (e, h.0)) (λ e. find_says P test xs h.1)
+
+both_lists : {X : Type 0} (P : X → Type 0) (xs ys : List X) → AllByRecursion P xs → AllByRecursion P ys → AllByRecursion P (xs ++ ys)
+both_lists P [] ys h k = k
+both_lists P (x ∷ xs) ys h k = (h.0, both_lists P xs ys h.1 k)
+
+one_item : (seat : Seat) → IsSeat seat → IsItem (pair_item (seat, 1))
+one_item seat is = record { seat = is; one = omega arith; seven = omega arith; numbered = λ e. refl }
+
+more_items : (seat : Seat) (count : ℕ) → IsSeat seat → can_repeat seat ≡ true → 1 ≤ count → count ≤ 7 → IsItem (pair_item (seat, count))
+more_items seat count is free low high = record { seat = is; one = low; seven = high; numbered = λ e. (let clash : true ≡ false = sym free ∙ e in cc) }
+
+repeated_items : (seat : Seat) → IsSeat seat → can_repeat seat ≡ true → AllByRecursion IsItem (repeated seat)
+repeated_items seat is free = (
+  by 1 (omega arith) (omega arith),
+  (
+    by 2 (omega arith) (omega arith),
+    (
+      by 3 (omega arith) (omega arith),
+      (
+        by 4 (omega arith) (omega arith),
+        (by 5 (omega arith) (omega arith), (by 6 (omega arith) (omega arith), (by 7 (omega arith) (omega arith), tt))),
+      ),
+    ),
+  ),
+)
+  where
+    by : (count : ℕ) → 1 ≤ count → count ≤ 7 → IsItem (pair_item (seat, count))
+    by count low high = more_items seat count is free low high
+
+free_items : (seats : List Seat) → AllByRecursion (λ seat. IsSeat seat × (can_repeat seat ≡ true)) seats → AllByRecursion IsItem (flat_map repeated seats)
+free_items [] h = tt
+free_items (seat ∷ seats) h = both_lists IsItem (repeated seat) (flat_map repeated seats) (repeated_items seat h.0.0 h.0.1) (free_items seats h.1)
+
+numbered_items : (seat_at : ℕ → Seat) (numbers : List ℕ) → AllByRecursion (λ n. IsSeat (seat_at n)) numbers → AllByRecursion IsItem (map (λ n. pair_item (seat_at n, 1)) numbers)
+numbered_items seat_at [] h = tt
+numbered_items seat_at (n ∷ numbers) h = (one_item (seat_at n) h.0, numbered_items seat_at numbers h.1)
+
+seven_numbers : AllByRecursion (λ n. (1 ≤ n) × (n ≤ 7)) one_to_seven
+seven_numbers = (
+  (omega arith, omega arith),
+  (
+    (omega arith, omega arith),
+    (
+      (omega arith, omega arith),
+      (
+        (omega arith, omega arith),
+        ((omega arith, omega arith), ((omega arith, omega arith), ((omega arith, omega arith), tt))),
+      ),
+    ),
+  ),
+)
+
+nine_seats : AllByRecursion (λ seat. IsSeat seat × (can_repeat seat ≡ true)) free_seats
+nine_seats = ((tt, refl), ((tt, refl), ((tt, refl), ((tt, refl), ((tt, refl), ((tt, refl), ((tt, refl), ((tt, refl), ((tt, refl), tt)))))))))
+
+all_are_items : AllByRecursion IsItem all_items
+all_are_items =
+    both_lists IsItem (flat_map repeated free_seats ++ map (λ n. pair_item (Co n, 1)) one_to_seven) (map (λ n. pair_item (Rksh n, 1)) one_to_seven)
+    (both_lists IsItem (flat_map repeated free_seats) (map (λ n. pair_item (Co n, 1)) one_to_seven) (free_items free_seats nine_seats) (numbered_items Co one_to_seven seven_numbers))
+    (numbered_items Rksh one_to_seven seven_numbers)
+
+item_found : (text : List ℕ) (item : Item) → item_of text ≡ Some item → IsItem item × (item_text item ≡ text)
+item_found text item e =
+    let P : Option Item → Type 0 = λ (o : Option Item). IfSome o (λ i. (same_text (item_text i) text ≡ true) × IsItem i) in
+    let f = subst P e (find_says IsItem (λ i. same_text (item_text i) text) all_items all_are_items) in
+    (f.1, (bytes_decides (item_text item) text).0 f.0)
+
+-- what holds of 1 to 7
+of_seven : (P : ℕ → Type 0) → AllByRecursion P one_to_seven → (n : ℕ) → 1 ≤ n → n ≤ 7 → P n
+of_seven P h zero low high = absurd (omega arith)
+of_seven P h (suc zero) low high = h.0
+of_seven P h (suc (suc zero)) low high = h.1.0
+of_seven P h (suc (suc (suc zero))) low high = h.1.1.0
+of_seven P h (suc (suc (suc (suc zero)))) low high = h.1.1.1.0
+of_seven P h (suc (suc (suc (suc (suc zero))))) low high = h.1.1.1.1.0
+of_seven P h (suc (suc (suc (suc (suc (suc zero)))))) low high = h.1.1.1.1.1.0
+of_seven P h (suc (suc (suc (suc (suc (suc (suc zero))))))) low high = h.1.1.1.1.1.1.0
+of_seven P h (suc (suc (suc (suc (suc (suc (suc (suc n)))))))) low high = absurd (omega arith)
+
+abbrev Again : Seat → ℕ → Type 0
+Again seat count = item_of (item_text (pair_item (seat, count))) ≡ Some (pair_item (seat, count))
+
+again : (seat : Seat) (count : ℕ) → IsItem (pair_item (seat, count)) → Again seat count
+again (Staff Ca) count is = of_seven (Again (Staff Ca)) (refl, (refl, (refl, (refl, (refl, (refl, (refl, tt))))))) count is.one is.seven
+again (Staff Iw) count is = of_seven (Again (Staff Iw)) (refl, (refl, (refl, (refl, (refl, (refl, (refl, tt))))))) count is.one is.seven
+again (Staff Sa) count is = of_seven (Again (Staff Sa)) (refl, (refl, (refl, (refl, (refl, (refl, (refl, tt))))))) count is.one is.seven
+again (Staff Ssc1) count is = of_seven (Again (Staff Ssc1)) (refl, (refl, (refl, (refl, (refl, (refl, (refl, tt))))))) count is.one is.seven
+again (Staff Ssc2) count is = of_seven (Again (Staff Ssc2)) (refl, (refl, (refl, (refl, (refl, (refl, (refl, tt))))))) count is.one is.seven
+again (Staff Rkos) count is = of_seven (Again (Staff Rkos)) (refl, (refl, (refl, (refl, (refl, (refl, (refl, tt))))))) count is.one is.seven
+again (Staff Sw) count is = of_seven (Again (Staff Sw)) (refl, (refl, (refl, (refl, (refl, (refl, (refl, tt))))))) count is.one is.seven
+again AnyCo count is = of_seven (Again AnyCo) (refl, (refl, (refl, (refl, (refl, (refl, (refl, tt))))))) count is.one is.seven
+again AnyRksh count is = of_seven (Again AnyRksh) (refl, (refl, (refl, (refl, (refl, (refl, (refl, tt))))))) count is.one is.seven
+again (Co n) count is =
+    let one = of_seven (λ (m : ℕ). Again (Co m) 1) (refl, (refl, (refl, (refl, (refl, (refl, (refl, tt))))))) n is.seat.0 is.seat.1 in
+    subst (Again (Co n)) (sym (is.numbered refl)) one
+again (Rksh n) count is =
+    let one = of_seven (λ (m : ℕ). Again (Rksh m) 1) (refl, (refl, (refl, (refl, (refl, (refl, (refl, tt))))))) n is.seat.0 is.seat.1 in
+    subst (Again (Rksh n)) (sym (is.numbered refl)) one
+
+pub item_again : (item : Item) → IsItem item → item_of (item_text item) ≡ Some item
+item_again item is = again item.seat item.count is
+
+-- ---- the items of a text
+
+no_semicolon : (item : Item) → IsItem item → All (λ b. eqb b 59 ≡ false) (item_text item)
+no_semicolon item is = All-weaker Plain (λ b. eqb b 59 ≡ false) (λ b h. ne_eqb b 59 h) (item_text item) (item_plain item is)
+
+pieces : (first : Item) (more : List Item) → IsItem first → AllByRecursion IsItem more → between_semicolons (joined first more) ≡ item_text first ∷ map item_text more
+pieces first [] is each =
+    ap between_semicolons (append-nil (item_text first)) ∙ slice_split_none (λ b. eqb b 59) (item_text first) (no_semicolon first is)
+pieces first (next ∷ more) is each =
+    slice_split_at (λ b. eqb b 59) (item_text first) 59 (joined next more) (no_semicolon first is) refl
+    ∙ ap (λ (texts : List (List ℕ)). item_text first ∷ texts) (pieces next more each.0 each.1)
+
+their_seats : (items : List Item) → AllByRecursion IsItem items → seats_of_items (map item_text items) ≡ Some (flat_map item_seats items)
+their_seats [] each = refl
+their_seats (item ∷ items) each = rw (item_again item each.0, their_seats items each.1) refl
+
+pub spelled : (text : List ℕ) (seats : List Seat) → Spells text seats → seats_of_items (between_semicolons text) ≡ Some seats
+spelled text seats h =
+    ap (λ (t : List ℕ). seats_of_items (between_semicolons t)) h.text_is
+    ∙ ap seats_of_items (pieces h.first h.more h.is_first h.each_more)
+    ∙ their_seats (h.first ∷ h.more) (h.is_first, h.each_more)
+    ∙ ap (λ (xs : List Seat). Some xs) (sym h.seats_are)
+
+joined_some : (found : Option Item) (others : Option (List Seat)) (seats : List Seat) → join_items found others ≡ Some seats → (item : Item) × (found ≡ Some item) × ((after : List Seat) × (others ≡ Some after) × (seats ≡ item_seats item ++ after))
+joined_some None others seats e = cc
+joined_some (Some item) None seats e = cc
+joined_some (Some item) (Some after) seats e = let same : item_seats item ++ after ≡ seats = cc in (item, refl, (after, refl, sym same))
+
+spells_pieces : (text : List ℕ) (texts : List (List ℕ)) (seats : List Seat) → seats_of_items (text ∷ texts) ≡ Some seats → Spells (join_with_byte 59 (text ∷ texts)) seats
+spells_pieces text [] seats e =
+    let p = joined_some (item_of text) (Some []) seats e in
+    let f = item_found text p.0 p.1 in
+    let none : p.2.0 ≡ [] = (let same = p.2.1 in cc) in
+    record {
+      first = p.0;
+      more = [];
+      is_first = f.0;
+      each_more = tt;
+      text_is = sym f.1 ∙ sym (append-nil (item_text p.0));
+      seats_are = p.2.2 ∙ ap (λ (xs : List Seat). item_seats p.0 ++ xs) none;
+    }
+spells_pieces text (next ∷ texts) seats e =
+    let p = joined_some (item_of text) (seats_of_items (next ∷ texts)) seats e in
+    let f = item_found text p.0 p.1 in
+    let h = spells_pieces next texts p.2.0 p.2.1 in
+    record {
+      first = p.0;
+      more = h.first ∷ h.more;
+      is_first = f.0;
+      each_more = (h.is_first, h.each_more);
+      text_is = λ i. sym f.1 i ++ 59 ∷ h.text_is i;
+      seats_are = p.2.2 ∙ ap (λ (xs : List Seat). item_seats p.0 ++ xs) h.seats_are;
+    }
+
+spells_some : (text : List ℕ) (texts : List (List ℕ)) (seats : List Seat) → between_semicolons text ≡ texts → seats_of_items texts ≡ Some seats → join_with_byte 59 texts ≡ text → Spells text seats
+spells_some text [] seats e h j = absurd (omega (arith, ap length e, length-slice_split (λ b. eqb b 59) text))
+spells_some text (piece ∷ texts) seats e h j = rw (← j) (spells_pieces piece texts seats h)
+
+-- ---- the seats of a text
+
+-- the seats for which a text stands are read
+pub seats_read : (text : List ℕ) (seats : List Seat) → StandsFor text seats → seats_of text ≡ Some seats
+unfolding seats_of
+seats_read text seats h = rw (spelled text seats h.spells, le-leb (length seats) 16 h.sixteen) refl
+
+-- and what is read are those
+pub seats_stand : (text : List ℕ) (seats : List Seat) → seats_of text ≡ Some seats → StandsFor text seats
+unfolding seats_of
+seats_stand text seats e =
+    option_and_then_some {P = StandsFor text seats} at_most_sixteen (seats_of_items (between_semicolons text)) seats e (λ all spelled few.
+    (let c = cond_some (leb (length all) 16) all seats few in
+    let s = spells_some text (between_semicolons text) all refl spelled (join_with_byte-slice_split 59 text) in
+    record { spells = rw (← c.1) s; sixteen = rw (← c.1) (leb-true (length all) 16 c.0) }))
+
+-- a text that stands for no seats
+pub no_seats_read : (text : List ℕ) → ((seats : List Seat) → StandsFor text seats → ⊥) → seats_of text ≡ None
+no_seats_read text none = by (seats_of text) refl
+  where
+    by : (found : Option (List Seat)) → seats_of text ≡ found → found ≡ None
+    by None e = refl
+    by (Some seats) e = absurd (none seats (seats_stand text seats e))
+
+-- what a reader answers that finds the seats of a text, and only those
+pub seats_are : (text : List ℕ) (found : Option (List Seat)) → IfSome found (StandsFor text) → ((seats : List Seat) → StandsFor text seats → found ≡ Some seats) → found ≡ seats_of text
+seats_are text None is only = sym (no_seats_read text (λ seats h. (let e = only seats h in cc)))
+seats_are text (Some seats) is only = sym (seats_read text seats is)

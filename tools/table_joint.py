@@ -1,0 +1,189 @@
+"""Writes the lemmas over all tables."""
+from table_list import TABLES, MACHINE
+from table_specs import uses
+from table_writer import write
+
+
+def lemmas_make():
+    n = len(TABLES)
+    out = f"""-- One CREATE TABLE after the other.
+use Rattle.std.proofs.Common.{{◌≡◌, ℕ, zero, suc, ◌+◌, ◌<◌, take, Ok, refl, sym, ap, ◌∙◌, arith}}
+use Rattle.sqlite.specs.Table.{{Table}}
+use Rattle.sqlite.specs.Command.TheVariants.{{CreateTable}}
+use Rattle.sqlite.specs.Compile.{{table_defined_by}}
+use Rattle.sqlite.specs.Change.{{created}}
+use Rattle.sqlite.specs.State.{{State, Executes}}
+use Rattle.sqlite.specs.Listing.{{understood}}
+use Rattle.sqlite.proofs.Callers.{{IsPlain, command_of, statement_of}}
+use Rattle.sqlite_tied.specs.Compute.{{everything}}
+use Rattle.sqlite_catalog.specs.Listing.{{IsSound}}
+use Rattle.kcr_rows.specs.Columns.{{AreEmpty}}
+use Rattle.kcr_rows.proofs.CreateLemmas.{{creates}}
+use Rattle.kcr_schema.specs.Schema.{{all_tables, {', '.join(t.name for t in TABLES)}}}
+use Rattle.kcr_schema.specs.Made.{{text_at, first}}
+"""
+    for t in TABLES:
+        a = t.at
+        out += f"""
+abbrev bare_{t.name} : Table
+bare_{t.name} = record {t.name} {{ tree = 0 }}
+
+is_{a} : (command_of (understood (first {a}) (text_at {a})) ≡ CreateTable) × (statement_of (text_at {a}) (understood (first {a}) (text_at {a})) ≡ text_at {a}) × IsPlain (understood (first {a}) (text_at {a})) × (table_defined_by (text_at {a}) ≡ Ok bare_{t.name})
+unfolding understood everything
+is_{a} = (refl, refl, (refl, refl), refl)
+
+defines_{a} : (found : Table) → table_defined_by (text_at {a}) ≡ Ok found → created (first {a}) found ≡ first {a + 1}
+defines_{a} found h = let both : Ok found ≡ Ok bare_{t.name} = sym h ∙ is_{a}.3 in let same : found ≡ bare_{t.name} = cc in ap (created (first {a})) same
+"""
+    out += f"""
+abbrev pub Next : ℕ → State → State → Type 0
+Next at old new = (new.now.schema ≡ first (at + 1)) × AreEmpty (take (at + 1) all_tables) new.now.trees × IsSound (first (at + 1)) new.now.trees
+
+pub create_next : (at : ℕ) → at < {n} → (old new : State) (count : ℕ) → old.now.schema ≡ first at → AreEmpty (take at all_tables) old.now.trees → Executes (text_at at) [] old new (Ok count) → Next at old new
+""".replace("Executes (text_at at) []", "Executes (text_at at) []")
+    for t in TABLES:
+        a = t.at
+        pattern = "zero"
+        for _ in range(a):
+            pattern = f"(suc {pattern})"
+        out += f"create_next {pattern} low = creates (first {a}) (text_at {a}) {t.name} (first {a + 1}) is_{a}.0 is_{a}.1 is_{a}.2 defines_{a} refl refl\n"
+    pattern = "at"
+    for _ in range(n):
+        pattern = f"(suc {pattern})"
+    out += f"create_next {pattern} low = absurd (omega arith)\n"
+    out = out.replace("take, Ok, refl", "[], take, Ok, refl")
+    write("proofs/MakeLemmas.antt", out)
+
+    out = f"""-- A new register.
+use Rattle.std.proofs.Common.{{◌≡◌}}
+use Rattle.sqlite.specs.Effect.{{Database}}
+use Rattle.sqlite_catalog.specs.Listing.{{IsSound}}
+use Rattle.kcr_rows.specs.Columns.{{AreEmpty}}
+use Rattle.kcr_rows.proofs.CreateLemmas.{{bare}}
+use Rattle.kcr_schema.specs.Held.{{Holds, {', '.join(t.place for t in TABLES)}}}
+use Rattle.kcr_schema.specs.First.{{empty_tables}}
+use Rattle.kcr_schema.specs.Schema.{{all_tables}}
+use Rattle.kcr_schema.specs.Made.{{first}}
+
+pub holds_nothing : (db : Database) → db.schema ≡ first {n} → AreEmpty all_tables db.trees → IsSound (first {n}) db.trees → Holds db empty_tables
+holds_nothing db is e sound = record {{
+  schema = is;
+  kept = record {{
+    sound = sound;
+"""
+    for t in TABLES:
+        out += f"    {t.name} = bare {t.place} db.trees e{'.1' * t.at}.0;\n"
+    for t in TABLES:
+        if t.is_stored:
+            out += f"    {t.stored_fact} = tt;\n"
+    out += "  };\n}\n"
+    write("proofs/FirstLemmas.antt", out)
+
+
+def key_test(t):
+    """The proof that the machine's test of two rows is a tie of their keys, for `new` and `old`."""
+    cols = t.columns[: t.keys]
+    a, b = ("new", "old") if t.turned else ("old", "new")
+    names = ["one_column", "two_columns", "three_columns", "four_columns"]
+    rest_a = f"(drop {t.keys} ({t.row_of} {a}))"
+    rest_b = f"(drop {t.keys} ({t.row_of} {b}))"
+    values = " ".join(f"({c.value(a)})" for c in cols) + " " + " ".join(f"({c.value(b)})" for c in cols)
+    parts = [f"{c.kind.ties} {a}.{c.field} {b}.{c.field}" for c in cols]
+    if len(parts) == 1:
+        left = f"{parts[0]}"
+    else:
+        body = " && ".join(f"{p} i" for p in parts)
+        left = f"(λ i. {body})"
+    proof = f"{left} ∙ {names[t.keys - 1]} {values} {rest_a} {rest_b}"
+    if t.turned:
+        proof += f" ∙ turned {t.keys} ({t.row_of} new) ({t.row_of} old)"
+    return proof
+
+
+def lemmas_joint():
+    puts = [t for t in TABLES if t.change]
+    out = "-- How the rows in the order of their keys meet the machine's rows, which stand in any order.\n"
+    out += """use Rattle.std.proofs.Common.{◌≡◌, ◌&&◌, List, [], ◌∷◌, map, drop, pos, refl, ◌∙◌, IsPermutation, Less}
+use Rattle.std.specs.Ordering.{is_eq}
+use Rattle.std.proofs.lemmas.List.Sorted.{IsPermutation-refl, IsPermutation-sym, IsPermutation-trans}
+use Rattle.sqlite.specs.declared.types.Value.TheVariants.{Int, Text}
+use Rattle.sqlite.specs.Tree.{Trees, IsAscending}
+use Rattle.sqlite.specs.Effect.{Database}
+use Rattle.kcr_history.specs.declared.views.Change.{Change}
+"""
+    out += "use Rattle.kcr_history.specs.declared.views.Change.TheVariants.{" + ", ".join(t.change for t in puts) + "}\n"
+    out += "use Rattle.kcr_history.specs.Tables as machine\nuse Rattle.kcr_history.specs.Changes as changes\n"
+    own = [t.same for t in puts if t.same not in ("same_training", "same_withdrawn", "same_box", "same_bag", "same_item")]
+    out += f"use Rattle.kcr_history.specs.Changes.{{{', '.join(own)}}}\nuse Rattle.kcr_people.specs.People.{{same_training}}\nuse Rattle.kcr_people.specs.Laws.{{same_withdrawn}}\nuse Rattle.kcr_custody.specs.Balance.{{same_box, same_bag, same_item}}\n"
+    words = []
+    for t in puts:
+        for c in t.columns[: t.keys]:
+            for w in c.kind.words:
+                if w not in words:
+                    words.append(w)
+    out += uses(words)
+    out += "use Rattle.kcr_rows.specs.Keyed.{by_key}\n"
+    out += "use Rattle.kcr_rows.proofs.OrderLemmas.{put-stands, put_in_rising}\nuse Rattle.kcr_rows.proofs.SameLemmas.{text_ties, number_ties, facility_ties, role_ties, place_ties, one_column, two_columns, three_columns, four_columns, turned}\nuse Rattle.kcr_schema.proofs.StateLemmas.{safe_ties}\n"
+    out += f"use Rattle.kcr_schema.specs.Rows.{{{', '.join(t.row_of for t in puts)}}}\n"
+    out += "".join(f"use {t.declared}\n" for t in puts)
+    out += """use Rattle.kcr_schema.specs.Held.{Tables, Kept, Holds}
+use Rattle.kcr_schema.specs.First.{first_tables}
+use Rattle.kcr_schema.specs.Changed.{changed, changed_all}
+use Rattle.kcr_schema.specs.Joint.{Stands, KeepsTables, HoldsTables}
+use Rattle.kcr_schema.proofs.HoldLemmas.{held_of, tables_of}
+
+-- ---- two rows of one key, by the machine's tests
+"""
+    for t in puts:
+        out += f"\npub key_of_{t.name} : (new old : {t.type}) → {t.same} new old ≡ is_eq (by_key {t.keys} ({t.row_of} old) ({t.row_of} new))\nkey_of_{t.name} new old = {key_test(t)}\n"
+    out += "\n-- ---- changes\n\n-- the rows of each table rise by their keys\npub record Rises (t : Tables) : Type 0 where\n"
+    for t in puts:
+        out += f"  pub {t.name} : IsAscending (λ a b. by_key {t.keys} a b ≡ Less) (map {t.row_of} t.{t.name})\n"
+    out += "\npub kept_rises : (db : Trees) (t : Tables) → Kept db t → Rises t\nkept_rises db t k = record { " + "; ".join(f"{t.name} = k.{t.name}.rising" for t in puts) + " }\n"
+    out += "\npub changed_rises : (c : Change) (t : Tables) → Rises t → Rises (changed c t)\n"
+    for t in puts:
+        fields = [f"{u.name} = " + (f"put_in_rising {t.keys} {t.row_of} row t.{t.name} r.{t.name}" if u is t else f"r.{u.name}") for u in puts]
+        out += f"changed_rises ({t.change} row) t r = record {{ {'; '.join(fields)} }}\n"
+    out += "\n-- one change: its table's rows are those of the machine, in another order\npub changed_stands : (c : Change) (m : machine.Tables) (t : Tables) → Rises t → Stands m t → Stands (changes.changed c m) (changed c t)\n"
+    for t in puts:
+        fields = [f"{u.name} = " + (f"put-stands {t.keys} {t.row_of} {t.same} key_of_{t.name} row m.{t.name} t.{t.name} r.{t.name} s.{t.name}" if u is t else f"s.{u.name}") for u in puts]
+        out += f"changed_stands ({t.change} row) m t r s = record {{ {'; '.join(fields)}; versions = s.versions }}\n"
+    out += """
+-- the changes one after the other
+pub all_stand : (list : List Change) (m : machine.Tables) (t : Tables) → Rises t → Stands m t → Stands (changes.changed_by list m) (changed_all list t)
+all_stand [] m t r s = s
+all_stand (c ∷ more) m t r s = all_stand more (changes.changed c m) (changed c t) (changed_rises c t r) (changed_stands c m t r s)
+
+-- ---- what the store holds
+
+pub changes_hold : (list : List Change) (m : machine.Tables) (old new : Database) (h : HoldsTables m old) → Holds new (changed_all list h.tables.t) → HoldsTables (changes.changed_by list m) new
+changes_hold list m old new h held =
+    tables_of (changes.changed_by list m) new (changed_all list h.tables.t) (all_stand list m h.tables.t (kept_rises old.trees h.tables.t h.tables.kept) h.tables.stands) held
+
+"""
+    out += "first_stands : Stands (machine.tables []) first_tables\nfirst_stands = record {\n"
+    for name in MACHINE:
+        rows = "first_tables.safes" if name == "safes" else "[]"
+        out += f"  {name} = IsPermutation-refl {rows};\n"
+    out += "  versions = refl;\n}\n"
+    out += """
+pub first_holds : (db : Database) → Holds db first_tables → HoldsTables (machine.tables []) db
+first_holds db held = tables_of (machine.tables []) db first_tables first_stands held
+
+-- ---- the same rows in another order
+
+pub same_stands : (m n : machine.Tables) (t : Tables) → machine.SameTables m n → Stands m t → Stands n t
+same_stands m n t same s = record {
+"""
+    for name in MACHINE:
+        out += f"  {name} = IsPermutation-trans _ _ _ (IsPermutation-sym _ _ same.{name}) s.{name};\n"
+    out += """  versions = s.versions;
+}
+
+pub same_keeps : (m n : machine.Tables) (db : Trees) → machine.SameTables m n → KeepsTables m db → KeepsTables n db
+same_keeps m n db same h = record { t = h.t; kept = h.kept; stands = same_stands m n h.t same h.stands }
+
+pub same_holds : (m n : machine.Tables) (db : Database) → machine.SameTables m n → HoldsTables m db → HoldsTables n db
+same_holds m n db same h = record { schema = h.schema; tables = same_keeps m n db.trees same h.tables }
+"""
+    write("proofs/JointLemmas.antt", out)

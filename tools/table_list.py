@@ -1,0 +1,235 @@
+"""The tables of the register: the kinds of their columns, their keys, and the readings of each."""
+
+
+class Kind:
+    """How a field of a value stands in one column."""
+
+    def __init__(self, sql, column, value, read, write, one=None, cast=None, ties=None, words=(), prelude=None, casts=()):
+        self.sql = sql  # the type in CREATE TABLE
+        self.column = column  # the column of the schema
+        self.value = value  # the value of a row; {x} is the field
+        self.read = read  # the reader's call; {at} is the column
+        self.write = write  # the cell's call; {x} is the field
+        self.one = one  # the lemma that equal values are of equal fields, or None where that is plain
+        self.cast = cast or value  # the value as it is stored, along the line i
+        self.ties = ties  # the lemma that the test of a key is a tie of values
+        self.words = words  # definitions that the value names
+        self.prelude = prelude  # what stands before the cell
+        self.casts = casts  # lemmas that the cast names
+
+    def cell(self):
+        return self.write.split("(")[0]
+
+    def reader(self):
+        return self.read.split("(")[0]
+
+
+def text(name, by_ref=True):
+    ref = "&" if by_ref else ""
+    return Kind("TEXT NOT NULL", "words", "Text {x}", f"{name}_at(row, {{at}})?", f"{name}_cell({ref}{{x}})", ties="text_ties")
+
+
+def line(name):
+    return Kind("TEXT NOT NULL", "words", "Text {x}", f"{name}_at(alloc, row, {{at}})?", f"{name}_cell(&{{x}})", ties="text_ties")
+
+
+def integer(name):
+    return Kind("INT NOT NULL", "number", "Int (pos {x})", f"{name}_at(row, {{at}})?", f"{name}_cell({{x}})", cast="cast_int (pos {x}) i", ties="number_ties", casts=("cast_int",))
+
+
+def integer_or_null(name):
+    return Kind("INT", "number_or_null", "int_or_null {x}", f"{name}_or_null_at(row, {{at}})?", f"{name}_or_null_cell({{x}})", one="one_number", cast="cast_or_null {x} i", words=("int_or_null",), casts=("cast_or_null",))
+
+
+def numbered(name, word, one, ties=None):
+    return Kind("INT NOT NULL", "number", f"Int (pos ({word} {{x}}))", f"{name}_at(row, {{at}})?", f"{name}_cell({{x}})", one=one, cast=f"cast_int (pos ({word} {{x}})) i", ties=ties, words=(word,), casts=("cast_int",))
+
+
+def named(name, word):
+    return Kind("TEXT NOT NULL", "words", f"Text ({word} {{x}})", f"{name}_at(row, {{at}})?", f"{name}_cell({{x}})", one=f"one_{name}", ties=f"{name}_ties", words=(word,))
+
+
+INITIALS = text("initials")
+KEY = text("key")
+SERIAL = text("serial")
+ITEM = text("item")
+LINE = line("line")
+TEXT = line("text")
+NUMBER = integer("number")
+DAY = integer("day")
+MOMENT = integer("moment")
+DAY_OR_NULL = integer_or_null("day")
+MOMENT_OR_NULL = integer_or_null("moment")
+NUMBER_OR_NULL = integer_or_null("number")
+FACILITY = named("facility", "facility_text")
+ROLE = named("role", "role_text")
+PLACE = Kind("TEXT NOT NULL", "words", "Text (place_text {x})", "place_at(row, {at})?", "code_cell(&{f})", one="one_place", ties="place_ties", words=("place_text",), prelude="let {f} = {x}.text();")
+SAFE = numbered("safe", "safe_digit", "one_safe", "safe_ties")
+TRUTH = numbered("truth", "truth_number", "one_truth")
+WAY = numbered("way", "way_number", "one_way")
+CEREMONY_STATE = numbered("ceremony_state", "ceremony_number", "one_ceremony_state")
+STEP_STATE = numbered("step_state", "step_number", "one_step_state")
+SPOT = Kind("TEXT NOT NULL", "words", "Text (spot_text {x})", "spot_at(row, {at})?", "text_cell(&{f})", one="one_spot", words=("spot_text",), prelude="let {f} = spot_words(alloc, {x})?;")
+SEATS = Kind("TEXT NOT NULL", "words", "Text (written {x})", "seats_at(alloc, row, {at})?", "text_cell(&{f})", one="one_seats", words=("written",), prelude="let {f} = seats_words(alloc, &{x})?;")
+# the two columns of an item's rest
+LOOSE = Kind("TEXT", "words_or_null", "loose_value {x}", "rest_at(row, {at})?", "loose_cell({x})", cast="cast_loose {x} i", words=("loose_value",), casts=("cast_loose",))
+WITHIN = Kind("TEXT", "words_or_null", "within_value {x}", None, "within_cell(&{x})", cast="cast_within {x} i", words=("within_value",), casts=("cast_within",))
+
+BASE_CELLS = {f"{n}_{w}" for n in "initials key serial item line text number day moment facility role place code truth".split() for w in ("at", "cell")} | {f"{n}_or_null_{w}" for n in "number day moment".split() for w in ("at", "cell")}
+
+
+class Column:
+    def __init__(self, name, kind, field=None):
+        self.name, self.kind, self.field = name, kind, field or name
+        self.sql = f'"{name}"' if name == "key" else name
+
+    def value(self, x):
+        return self.kind.value.format(x=f"{x}.{self.field}")
+
+
+class Reading:
+    """The rows that pass a test, in the order of their keys; or with `greatest`, the one of them with the greatest number."""
+
+    def __init__(self, name, doc, where, arg=None, ty=None, kind=None, tests=None, ask=None, greatest=None, prefix=None):
+        self.name, self.doc, self.where, self.arg, self.ty, self.kind = name, doc, where, arg, ty, kind
+        self.tests = tests  # the test of a row {x} by the argument {v}
+        self.ask = ask  # the test as a function, of the argument {v}
+        self.greatest = greatest  # the column of the number
+        self.prefix = prefix or name
+
+
+class Table:
+    def __init__(self, name, row, type_, crate, module, columns, keys, doc, all_doc, put_doc, change=None, same=None, turned=False, others=(), readings=(), asked=None, insert=False,
+                 is_read=None, is_stored=None, stored_fact=None, listed=None):
+        self.name, self.row, self.type = name, row, type_
+        self.crate = crate
+        self.declared = f"Rattle.{crate}.specs.declared.{module}{type_}.{{{type_}}}"
+        self.columns, self.keys, self.doc, self.all_doc, self.put_doc = columns, keys, doc, all_doc, put_doc
+        self.change, self.same, self.turned = change, same, turned
+        self.others, self.readings, self.asked, self.insert = others, readings, asked, insert
+        self.is_read, self.is_stored, self.stored_fact, self.listed = is_read, is_stored, stored_fact, listed
+        self.row_of = f"{row}_row"
+        self.put = f"put_{row}_row" if row in ("key", "sheet") else f"put_{row}"
+        self.place = f"{name}_place"
+        self.lemmas = "".join(p.capitalize() for p in name.split("_")) + "Lemmas"
+        self.needs_alloc = any("alloc" in (c.kind.prelude or "") for c in columns)
+
+    def names(self):
+        return ", ".join(c.sql for c in self.columns)
+
+    def order(self):
+        return ", ".join(c.sql for c in self.columns[: self.keys])
+
+    def all_text(self):
+        return f"SELECT {self.names()} FROM {self.name} ORDER BY {self.order()}"
+
+    def text_of(self, reading):
+        where = f" WHERE {reading.where} = ?1" if reading.where else ""
+        order = f"{reading.greatest} DESC LIMIT 1" if reading.greatest else self.order()
+        return f"SELECT {self.names()} FROM {self.name}{where} ORDER BY {order}"
+
+    def put_text(self):
+        verb = "INSERT" if self.insert else "INSERT OR REPLACE"
+        marks = ", ".join(f"?{i + 1}" for i in range(len(self.columns)))
+        return f"{verb} INTO {self.name} ({self.names()}) VALUES ({marks})"
+
+    def create_text(self):
+        columns = ", ".join(f"{c.sql} {c.kind.sql}" for c in self.columns)
+        others = "".join(f", UNIQUE ({', '.join(self.columns[i].sql for i in other)})" for other in self.others)
+        return f"CREATE TABLE {self.name} ({columns}, PRIMARY KEY ({self.order()}){others}) STRICT"
+
+    def row_is(self, x):
+        return " ∷ ".join(c.value(x) for c in self.columns) + " ∷ []"
+
+    def tree_count(self):
+        return 2 + len(self.others)
+
+    def words(self):
+        found = []
+        for c in self.columns:
+            for w in c.kind.words:
+                if w not in found:
+                    found.append(w)
+        return found
+
+
+def of_person(table, word):
+    return Reading(f"{table}_of", "The rows of one person", "who", "who", "&Initials", INITIALS, "same_text {x}.who {v}", ask=f"{word} {{v}}")
+
+
+def of_ceremony(table, word=None, column="ceremony"):
+    ask = f"{word} {{v}}" if word else None
+    return Reading(f"{table}_of", "The rows of one ceremony", column, "ceremony", "u32", NUMBER, f"{{x}}.{column} == {{v}}", ask=ask)
+
+
+TABLES = [
+    Table("people", "person", "Person", "kcr_people", "", [Column("who", INITIALS), Column("name", LINE)], 1,
+          "a person under their initials", "All people, in the order of their initials: each person is there once.", "their initials",
+          "PutPerson", "same_person",
+          readings=[Reading("person_of", "The row of the person with these initials, alone, or none", "who", "who", "&Initials", INITIALS, "same_text {x}.who {v}")],
+          asked=("People", None), listed=("people_named", "person_of", "People", "people", "who", "is_of_people", "is_person_named", "Initials")),
+    Table("trainings", "training", "Training", "kcr_people", "", [Column("who", INITIALS), Column("role", ROLE), Column("since", DAY), Column("until", DAY)], 4,
+          "a training of a person for a role, all of it its key", "All trainings, by people, then role, first and last day.", "its key",
+          "PutTraining", "same_training", turned=True, readings=[of_person("trainings", "is_training_of")], asked=("Initials", "is_training_of")),
+    Table("appointments", "appointment", "Appointment", "kcr_people", "", [Column("place", PLACE), Column("since", DAY), Column("who", INITIALS), Column("until", DAY_OR_NULL)], 2,
+          "who holds a custodian's place, under the place and the first day", "All appointments, by places, then first day.", "its place and first day",
+          "PutAppointment", "same_appointment",
+          readings=[Reading("appointments_to", "The rows of one place", "place", "place", "Place", PLACE, "same_place {x}.place {v}", ask="is_appointment_of (Wanted.Place {v})"),
+                    Reading("appointments_of", "The rows of one person", "who", "who", "&Initials", INITIALS, "same_text {x}.who {v}", ask="is_appointment_of (Wanted.Person {v})")],
+          asked=("AppointmentsOf", "is_appointment_of")),
+    Table("boxes", "box", "BoxRow", "kcr_custody", "", [Column("facility", FACILITY), Column("box", NUMBER, "number"), Column("place", PLACE)], 2,
+          "a box under its facility and number", "All boxes, by facilities, then number.", "its facility and number", "PutBox", "same_box", asked=(None, None)),
+    Table("safes", "safe", "SafeRow", "kcr_custody", "", [Column("facility", FACILITY), Column("safe", SAFE), Column("state", TRUTH, "is_open")], 2,
+          "a safe under its facility and number", "All safes, by facilities, then number: a register has four.", "its facility and number", "PutSafe", "same_safe_row", asked=(None, None)),
+    Table("bags", "bag", "Bag", "kcr_custody", "", [Column("serial", SERIAL), Column("spot", SPOT)], 1,
+          "a bag under its serial", "All bags, in the order of their serials.", "its serial", "PutBag", "same_bag",
+          readings=[Reading("bag_of", "The row of the bag with this serial, alone, or none", "serial", "serial", "&Serial", SERIAL, "same_text {x}.serial {v}", ask="is_of_serial {v}")],
+          asked=("Serial", "is_of_serial"), is_read="HasBoxNumber", is_stored="HasBoxNumber", stored_fact="spot"),
+    Table("items", "item", "Item", "kcr_custody", "", [Column("code", ITEM), Column("facility", LOOSE, "rest"), Column("serial", WITHIN, "rest")], 1,
+          "an item under its code", "All items, in the order of their codes.", "its code", "PutItem", "same_item", others=[[2, 0]],
+          readings=[Reading("item_of", "The row of the item with this code, alone, or none", "code", "code", "&ItemCode", ITEM, "same_text {x}.code {v}"),
+                    Reading("items_within", "The rows of the items in the bag with this serial", "serial", "serial", "&Serial", SERIAL, "lies_in {v} {x}", ask="is_item_of (Wanted.Bag {v})")],
+          asked=("ItemsOf", None), listed=("items_named", "item_of", "Items", "codes", "code", "is_item_of ∘ Codes", "is_item_named", "ItemCode")),
+    Table("ceremonies", "ceremony", "CeremonyRow", "kcr_history", "rows.", [Column("number", NUMBER), Column("facility", FACILITY), Column("day", DAY), Column("state", CEREMONY_STATE), Column("opened", MOMENT_OR_NULL), Column("closed", MOMENT_OR_NULL)], 1,
+          "a ceremony under its number", "All ceremonies, in the order of their numbers.", "its number", "PutCeremony", "same_ceremony",
+          readings=[Reading("ceremony_of", "The row of the ceremony with this number, alone, or none", "number", "number", "u32", NUMBER, "{x}.number == {v}", ask="is_of_number {v}")],
+          asked=("u32", "is_of_number")),
+    Table("marks", "mark", "MarkRow", "kcr_history", "rows.", [Column("ceremony", NUMBER), Column("at", MOMENT)], 1,
+          "the mark of a ceremony that was opened, under its number", "All marks, in the order of their ceremonies.", "its ceremony", "PutMark", "same_mark",
+          readings=[Reading("mark_of", "The row of the ceremony, alone, or none", "ceremony", "ceremony", "u32", NUMBER, "{x}.ceremony == {v}", ask="is_mark_of {v}")],
+          asked=("u32", "is_mark_of")),
+    Table("steps", "step", "StepRow", "kcr_history", "rows.", [Column("ceremony", NUMBER), Column("step", NUMBER), Column("activity", LINE), Column("seats", SEATS), Column("state", STEP_STATE), Column("at", MOMENT_OR_NULL)], 2,
+          "a step of a ceremony under both numbers", "All steps, by ceremonies, then number.", "its ceremony and number", "PutStep", "same_step",
+          readings=[of_ceremony("steps", "is_step_of")], asked=("u32", "is_step_of"), is_read="HasOnlyTheseSeats", is_stored="HasSeatsText", stored_fact="seats"),
+    Table("seatings", "seating", "SeatingRow", "kcr_history", "rows.", [Column("ceremony", NUMBER), Column("step", NUMBER), Column("seat", NUMBER), Column("who", INITIALS)], 3,
+          "who filled a seat of a step, under the ceremony, the step and the seat", "All seatings, by ceremonies, then step and seat.", "its ceremony, step and seat", "PutSeating", "same_seating",
+          readings=[of_ceremony("seatings")]),
+    Table("sheet", "sheet", "SheetRow", "kcr_room", "", [Column("who", INITIALS), Column("at", MOMENT), Column("ceremony", NUMBER), Column("way", WAY)], 2,
+          "a row of a ceremony's entry and exit sheet, under the person and the moment", "All rows, by people, then moment.", "its person and moment", "PutSheet", "same_sheet_row",
+          readings=[of_ceremony("sheet")]),
+    Table("exceptions", "exception", "ExceptionRow", "kcr_history", "rows.", [Column("ceremony", NUMBER), Column("exception", NUMBER), Column("text", LINE), Column("at", MOMENT), Column("passed", NUMBER_OR_NULL)], 2,
+          "a script exception of a ceremony under both numbers", "All exceptions, by ceremonies, then number.", "its ceremony and number", "PutException", "same_exception",
+          readings=[of_ceremony("exceptions", "is_exception_of")], asked=("u32", "is_exception_of")),
+    Table("versions", "version", "Version", "kcr_schema", "versions.", [Column("number", NUMBER)], 1,
+          "one row with the number of the schema", "All rows, in the order of their numbers: a register has one, with the number of its schema.", "its number"),
+    Table("keys", "key", "KeyRow", "kcr_history", "rows.", [Column("key", KEY), Column("accepted", NUMBER), Column("command", TEXT), Column("reply", TEXT)], 1,
+          "a row for each accepted command, under its key; no two rows have one number", "All accepted commands, in the order of their keys: each key is there once.", "its key",
+          "PutKey", "same_key_row", others=[[1]], insert=True,
+          readings=[Reading("key_row_of", "The row of this key, alone, or none", '"key"', "key", "&Key", KEY, "same_text {x}.key {v}", ask="is_of_key {v}"),
+                    Reading("last_key_row", "The row with the greatest number, alone, or none where there is no row", None, greatest="accepted")]),
+    Table("stays", "stay", "Stay", "kcr_room", "", [Column("who", INITIALS), Column("since", MOMENT), Column("ceremony", NUMBER), Column("until", MOMENT_OR_NULL)], 2,
+          "a stay of a person in the room of a ceremony, under the person and its beginning", "All stays, by people, then beginning.", "its person and beginning", "PutStay", "same_stay", others=[[2, 0, 1]],
+          readings=[of_ceremony("stays", "is_stay_of"),
+                    Reading("last_stay_of", "The row of the person's stay that began last, alone, or none", "who", "who", "&Initials", INITIALS, "same_text {x}.who {v}", ask="is_of {v}", greatest="since")]),
+    Table("withdrawals", "withdrawal", "Withdrawal", "kcr_people", "", [Column("who", INITIALS), Column("role", ROLE), Column("since", DAY), Column("until", DAY), Column("day", DAY)], 4,
+          "from which day a training is withdrawn, under the training's key", "All withdrawals, by people, then role, first and last day of the training.", "its training", "PutWithdrawal", "same_withdrawn",
+          readings=[of_person("withdrawals", "is_withdrawal_of")], asked=("Initials", "is_withdrawal_of")),
+]
+
+tree = 0
+for at, table in enumerate(TABLES):
+    table.at, table.tree = at, tree
+    tree += table.tree_count()
+
+# the order of the machine's tables
+MACHINE = "people trainings withdrawals appointments boxes safes bags items ceremonies marks steps seatings sheet stays exceptions keys".split()

@@ -1,0 +1,151 @@
+"""Writes the definitions: the schema, the rows, and what the database holds."""
+from table_list import TABLES, MACHINE
+from table_writer import write, codes
+
+
+HOMES = {
+    "facility_text": "Rattle.kcr_base.specs.Facility",
+    "role_text": "Rattle.kcr_base.specs.Role",
+    "place_text": "Rattle.kcr_base.specs.Place",
+    "spot_text": "Rattle.kcr_custody.specs.Spots",
+    "written": "Rattle.kcr_script.specs.Seats",
+    "int_or_null": "Rattle.kcr_rows.specs.Values",
+    "truth_number": "Rattle.kcr_rows.specs.Values",
+}
+
+
+def home_of(word):
+    return HOMES.get(word, "Rattle.kcr_schema.specs.States")
+
+
+def uses(words):
+    by_home = {}
+    for w in words:
+        by_home.setdefault(home_of(w), []).append(w)
+    return "".join(f"use {home}.{{{', '.join(ws)}}}\n" for home, ws in by_home.items())
+
+
+def spec_rows():
+    words = []
+    for t in TABLES:
+        for w in t.words():
+            if w not in words:
+                words.append(w)
+    out = "-- The row that stands for a value.\n"
+    out += "use Rattle.std.specs.Prelude.{[], ◌∷◌, pos}\nuse Rattle.sqlite.specs.declared.types.Value.TheVariants.{Int, Text}\nuse Rattle.sqlite.specs.Order.{Row}\n"
+    out += uses(words)
+    out += "".join(f"use {t.declared}\n" for t in TABLES)
+    for t in TABLES:
+        out += f"\nabbrev pub {t.row_of} : {t.type} → Row\n{t.row_of} x = {t.row_is('x')}\n"
+    write("specs/Rows.antt", out)
+
+
+def spec_schema():
+    out = "-- The schema: a table for each kind of row, with the index that its key gets; the keys of commands have a second one.\n"
+    out += "use Rattle.std.specs.Prelude.{List, [], ◌∷◌, codes}\nuse Rattle.sqlite.specs.Table.{Table}\nuse Rattle.sqlite.specs.Schema.{Schema}\nuse Rattle.kcr_rows.specs.Columns.{words, number, words_or_null, number_or_null, keyed, schema_of}\n"
+    for t in TABLES:
+        columns = " ∷ ".join(f"{c.kind.column} ({codes(c.name)})" for c in t.columns) + " ∷ []"
+        places = " ∷ ".join(str(i + 1) for i in range(t.keys)) + " ∷ []"
+        others = "".join("(" + " ∷ ".join(str(i + 1) for i in other) + " ∷ []) ∷ " for other in t.others) + "[]"
+        others = f"({others})" if t.others else others
+        out += f"\n-- {t.doc}\nabbrev pub {t.name} : Table\n{t.name} = keyed ({codes(t.name)}) {t.tree} ({columns}) ({places}) {others}\n"
+    out += "\nabbrev pub all_tables : List Table\nall_tables = " + " ∷ ".join(t.name for t in TABLES) + " ∷ []\n"
+    out += "\nabbrev pub register_schema : Schema\nregister_schema = schema_of all_tables\n"
+    write("specs/Schema.antt", out)
+
+
+def spec_held():
+    out = "-- The database holds the tables of a register.\n"
+    out += "use Rattle.std.specs.Prelude.{◌≡◌, List, map}\nuse Rattle.std.specs.List.{AllByRecursion}\nuse Rattle.sqlite.specs.Effect.{Database}\nuse Rattle.sqlite_catalog.specs.Listing.{IsSound}\nuse Rattle.sqlite.specs.Tree.{Trees}\n"
+    out += "use Rattle.kcr_schema.specs.Schema.{register_schema}\nuse Rattle.kcr_rows.specs.Keyed.{Place, Keeps}\n"
+    out += "use Rattle.kcr_schema.specs.Rows.{" + ", ".join(t.row_of for t in TABLES) + "}\n"
+    out += "use Rattle.kcr_schema.specs.States.{" + ", ".join(t.is_stored for t in TABLES if t.is_stored) + "}\n"
+    out += "".join(f"use {t.declared}\n" for t in TABLES)
+    out += "\n-- where each table lies\n"
+    for t in TABLES:
+        out += f"\nabbrev pub {t.place} : Place\n{t.place} = record {{ tree = {t.tree}; width = {len(t.columns)}; keys = {t.keys} }}\n"
+    out += "\n-- the rows of each table, in the order of their keys\npub record Tables : Type 0 where\n"
+    out += "".join(f"  pub {t.name} : List {t.type}\n" for t in TABLES)
+    out += "\n-- what the trees of a file hold\npub record Kept (db : Trees) (t : Tables) : Type 0 where\n  -- the catalog lists this schema, by which the file is read again\n  pub sound : IsSound register_schema db\n"
+    out += "".join(f"  pub {t.name} : Keeps {t.place} db (map {t.row_of} t.{t.name})\n" for t in TABLES)
+    out += "  -- what is known of the values that were put, beside their rows\n"
+    out += "".join(f"  pub {t.stored_fact} : AllByRecursion {t.is_stored} t.{t.name}\n" for t in TABLES if t.is_stored)
+    out += "\n-- the database has the register's schema and these rows, and no others\npub record Holds (db : Database) (t : Tables) : Type 0 where\n  pub schema : db.schema ≡ register_schema\n  pub kept : Kept db.trees t\n"
+    write("specs/Held.antt", out)
+
+
+def spec_made():
+    out = "-- How an empty database becomes one of a register.\n"
+    out += "use Rattle.std.specs.Prelude.{ℕ, List, [], ◌∷◌, take, codes, slice_index_or}\nuse Rattle.sqlite.specs.Schema.{Schema}\nuse Rattle.kcr_rows.specs.Columns.{schema_of}\nuse Rattle.kcr_schema.specs.Schema.{all_tables}\n"
+    out += "\n-- the texts that make the tables, in their order\nabbrev pub texts : List (List ℕ)\ntexts =\n    "
+    out += "\n    ∷ ".join(codes(t.create_text()) for t in TABLES) + " ∷ []\n"
+    out += "\nabbrev pub text_at : ℕ → List ℕ\ntext_at at = slice_index_or texts at []\n"
+    out += "\n-- the schema of the first tables; of none, that of an empty database\nabbrev pub first : ℕ → Schema\nfirst count = schema_of (take count all_tables)\n"
+    write("specs/Made.antt", out)
+
+
+def spec_changed():
+    puts = [t for t in TABLES if t.change]
+    out = "-- What a change makes of the tables.\nuse Rattle.std.specs.Prelude.{List, fold}\nuse Rattle.kcr_rows.specs.Keyed.{put_in}\n"
+    out += "use Rattle.kcr_schema.specs.Rows.{" + ", ".join(t.row_of for t in puts) + "}\nuse Rattle.kcr_schema.specs.Held.{Tables}\n"
+    out += "use Rattle.kcr_history.specs.declared.views.Change.{Change}\nuse Rattle.kcr_history.specs.declared.views.Change.TheVariants.{" + ", ".join(t.change for t in puts) + "}\n"
+    out += "\n-- the row is put into its table, under its key\nabbrev pub changed : Change → Tables → Tables\n"
+    out += "".join(f"changed ({t.change} x) t = record t {{ {t.name} = put_in {t.keys} {t.row_of} x t.{t.name} }}\n" for t in puts)
+    out += "\n-- one after the other\nabbrev pub changed_all : List Change → Tables → Tables\nchanged_all changes t = fold (λ held c. changed c held) t changes\n"
+    write("specs/Changed.antt", out)
+
+
+def spec_joint():
+    out = """-- The database holds the tables of the machine. The machine has the rows of a table in any order, the database in the order of their keys.
+use Rattle.std.specs.Prelude.{◌≡◌, IsPermutation}
+use Rattle.sqlite.specs.Tree.{Trees}
+use Rattle.sqlite.specs.Effect.{Database}
+use Rattle.kcr_history.specs.Tables as machine
+use Rattle.kcr_schema.specs.Schema.{register_schema}
+use Rattle.kcr_schema.specs.Held.{Tables, Kept}
+use Rattle.kcr_schema.specs.First.{first_tables}
+
+-- the same rows, in any order; the version is that of a new register
+pub record Stands (m : machine.Tables) (t : Tables) : Type 0 where
+"""
+    out += "".join(f"  pub {name} : IsPermutation m.{name} t.{name}\n" for name in MACHINE)
+    out += """  pub versions : t.versions ≡ first_tables.versions
+
+-- the trees of a file hold these tables
+pub record KeepsTables (m : machine.Tables) (db : Trees) : Type 0 where
+  pub t : Tables
+  pub kept : Kept db t
+  pub stands : Stands m t
+
+-- the database has the register's schema and holds these tables
+pub record HoldsTables (m : machine.Tables) (db : Database) : Type 0 where
+  pub schema : db.schema ≡ register_schema
+  pub tables : KeepsTables m db.trees
+"""
+    write("specs/Joint.antt", out)
+
+
+def spec_first():
+    out = """-- The tables of a new register.
+use Rattle.std.specs.Prelude.{[], ◌∷◌, false}
+use Rattle.kcr_base.specs.declared.place.Facility.{Facility}
+use Rattle.kcr_base.specs.declared.place.Facility.TheVariants.{East, West}
+use Rattle.kcr_custody.specs.declared.SafeNumber.{SafeNumber}
+use Rattle.kcr_custody.specs.declared.SafeNumber.TheVariants.{One, Two}
+use Rattle.kcr_custody.specs.declared.SafeRow.{SafeRow}
+use Rattle.kcr_schema.specs.Held.{Tables}
+
+abbrev pub empty_tables : Tables
+empty_tables = record {
+"""
+    out += "".join(f"  {t.name} = [];\n" for t in TABLES)
+    out += """}
+
+abbrev pub shut : Facility → SafeNumber → SafeRow
+shut facility safe = record { facility = facility; safe = safe; is_open = false }
+
+-- no rows but that of the version and the four safes, which are shut
+abbrev pub first_tables : Tables
+first_tables = record empty_tables { safes = shut East One ∷ shut East Two ∷ shut West One ∷ shut West Two ∷ []; versions = record { number = 3 } ∷ [] }
+"""
+    write("specs/First.antt", out)

@@ -1,0 +1,50 @@
+#!/usr/bin/env python3
+"""Writes the modules of the tables in crates/kcr_schema, one for each table and all alike, with their lemma files.
+
+Run it at the top of the repository, then lay the files out and check:
+
+    python3 tools/tables.py
+    cd crates/kcr_schema && rt fmt && rt check
+
+With the word `schema` it writes nothing, and prints the texts that make the tables instead, one on a line and in their
+order, as `tests/sqlite3.sh` compares them with what sqlite3 reads in a register's file.
+
+What differs from table to table stands in `table_list.py`: the columns, the key, and the readings. Everything that this
+program writes is committed; edit a table here and never in the files that are written. The files that are not written
+by it (lib.rt, cells.rt, changes.rt, creation.rt, lists.rt, view.rt and the general lemmas) are edited by hand.
+"""
+import sys
+
+sys.dont_write_bytecode = True  # no files beside these
+
+from table_answers import answers
+from table_joint import lemmas_joint, lemmas_make
+from table_lemmas import lemmas
+from table_list import TABLES
+from table_source import source, source_texts
+from table_specs import spec_changed, spec_first, spec_held, spec_joint, spec_made, spec_rows, spec_schema
+
+
+def main():
+    if sys.argv[1:] == ["schema"]:
+        for t in TABLES:
+            print(t.create_text() + ";")
+        return
+    spec_schema()
+    spec_rows()
+    spec_held()
+    spec_made()
+    spec_changed()
+    spec_joint()
+    spec_first()
+    source_texts()
+    lemmas_make()
+    lemmas_joint()
+    for t in TABLES:
+        source(t)
+        lemmas(t)
+        answers(t)
+
+
+if __name__ == "__main__":
+    main()
