@@ -11,7 +11,8 @@ order, as `tests/sqlite3.sh` compares them with what sqlite3 reads in a register
 
 What differs from table to table stands in `table_list.py`: the columns, the key, and the readings. Everything that this
 program writes is committed; edit a table here and never in the files that are written. The files that are not written
-by it (lib.rt, cells.rt, changes.rt, creation.rt, lists.rt, view.rt and the general lemmas) are edited by hand.
+by it (lib.rt, cells.rt, changes.rt, creation.rt, lists.rt, rooms.rt, statements.rt, stored.rt, view.rt, the tests, and the
+definitions and lemmas that name no single table) are edited by hand.
 """
 import sys
 

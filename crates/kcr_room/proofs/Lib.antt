@@ -10,3 +10,7 @@ pub mod Rising
 pub mod Orders
 pub mod Listed
 pub mod Alone
+pub mod Ends
+pub mod Steps
+pub mod AnyOrder
+pub mod Counting

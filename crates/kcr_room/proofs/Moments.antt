@@ -1,11 +1,13 @@
 -- Who is in a room by stays changes at the moments of the stays alone.
-use Rattle.std.proofs.Common.{◌≡◌, ℕ, ◌+◌, ◌≤◌, Bool, true, false, cond, ◌&&◌, ◌==◌, inl, inr, nat_le, nat_lt, List, [], ◌∷◌, ◌++◌, Option, Some, None, refl, sym, ap, ◌∙◌, arith, subst}
-use Rattle.std.specs.List.{AllByRecursion, list_any}
+use Rattle.std.proofs.Common.{◌≡◌, ℕ, ◌+◌, ◌≤◌, Bool, true, false, cond, ◌||◌, ◌&&◌, ◌==◌, inl, inr, nat_le, nat_lt, List, [], ◌∷◌, ◌++◌, Option, Some, None, refl, sym, ap, ◌∙◌, arith, subst}
+use Rattle.std.specs.List.{AllByRecursion, list_any, count_by}
 use Rattle.std.proofs.lemmas.Bool.{ltb-false, le-ltb, and_parts, or_parts, or_cases}
 use Rattle.std.proofs.lemmas.Bool.Decides.{nat_tests}
+use Rattle.std.proofs.Math.Bool.{and-false}
 use Rattle.std.proofs.lemmas.List.Sums.{sum_by-cons}
 use Rattle.kcr_room.specs.declared.SheetRow.{SheetRow}
 use Rattle.kcr_room.specs.declared.Stay.{Stay}
+use Rattle.kcr_room.specs.Adding.{of_ceremony}
 use Rattle.kcr_room.specs.Room.{crowd_by}
 use Rattle.kcr_room.specs.Moments.{IsFirst, IsEver}
 use Rattle.kcr_room.specs.Stays.{lasts_at, holds, crowd_in_by, is_lone_in_by, is_crowd_in_by, ends, moments_in, first_lone_in_by, is_crowd_at, is_crowded_in_by, stays_by}
@@ -136,3 +138,33 @@ crowded-is_ever stays c = by_answer (is_crowded_in_by stays c) refl
 pub crowded-by_rows : (rows : List SheetRow) (c : ℕ) (b : Bool) → IsEver (is_crowd_in_by (stays_by rows) c) b → IsEver (λ t. nat_lt 128 (crowd_by rows c t)) b
 crowded-by_rows rows c true h = (h.0, subst (λ n. nat_lt 128 n ≡ true) (same-crowd rows c h.0) h.1)
 crowded-by_rows rows c false h = λ t. subst (λ n. nat_lt 128 n ≡ false) (same-crowd rows c t) (h t)
+
+-- where the ceremony has few stays no crowd can be there
+crowd-few : (stays : List Stay) (c t : ℕ) → crowd_in_by stays c t ≤ count_by (of_ceremony c) stays
+crowd-few [] c t = omega arith
+crowd-few (stay ∷ stays) c t =
+    let a = crowd-cons stay stays c t in
+    let b = sum_by-cons (λ s. cond (of_ceremony c s) 1 0) stay stays in
+    omega (arith, a, b, crowd-few stays c t, one (stay.ceremony == c) (nat_le stay.since t) (lasts_at t stay.until))
+  where
+    one : (x y z : Bool) → cond ((x && y) && z) 1 0 ≤ cond x 1 0
+    one true y z = by_rest (y && z)
+      where
+        by_rest : (b : Bool) → cond b 1 0 ≤ 1
+        by_rest true = omega arith
+        by_rest false = omega arith
+    one false y z = omega arith
+
+few-uncrowded : (all stays : List Stay) (c : ℕ) → count_by (of_ceremony c) all ≤ 128 → list_any (is_crowd_at all c) stays ≡ false
+few-uncrowded all [] c h = refl
+few-uncrowded all (stay ∷ stays) c h =
+    let n = crowd-few all c stay.since in
+    let k : is_crowd_in_by all c stay.since ≡ false = le-ltb 128 (crowd_in_by all c stay.since) (omega (arith, n, h)) in
+    ap (λ b. ((stay.ceremony == c) && b) || list_any (is_crowd_at all c) stays) k ∙ ap (λ b. b || list_any (is_crowd_at all c) stays) (and-false (stay.ceremony == c)) ∙ few-uncrowded all stays c h
+
+pub crowded-some : (stays : List Stay) (c : ℕ) → (nat_lt 128 (count_by (of_ceremony c) stays) && is_crowded_in_by stays c) ≡ is_crowded_in_by stays c
+crowded-some stays c = by_count (nat_lt 128 (count_by (of_ceremony c) stays)) refl
+  where
+    by_count : (b : Bool) → nat_lt 128 (count_by (of_ceremony c) stays) ≡ b → (b && is_crowded_in_by stays c) ≡ is_crowded_in_by stays c
+    by_count true e = refl
+    by_count false e = sym (few-uncrowded stays stays c (ltb-false 128 (count_by (of_ceremony c) stays) e))

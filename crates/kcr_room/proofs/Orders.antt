@@ -3,7 +3,7 @@ use Rattle.std.proofs.Common.{◌≡◌, ℕ, ◌+◌, ◌≤◌, Bool, true, fa
 use Rattle.std.specs.List.{list_any, sum_by, filter, find}
 use Rattle.std.specs.List.Sorted.{IsPermutation}
 use Rattle.std.proofs.lemmas.Bool.{both_ways}
-use Rattle.std.proofs.lemmas.List.Sorted.{sum_by-IsPermutation, list_any-IsPermutation}
+use Rattle.std.proofs.lemmas.List.Sorted.{IsPermutation-refl, IsPermutation-map, sum_by-IsPermutation, list_any-IsPermutation}
 use Rattle.std.proofs.lemmas.List.Sums.{sum_by-cons, sum_by-append, length-filter}
 use Rattle.std.specs.Ordering.{nat_cmp, is_lt, ordering_reverse}
 use Rattle.std.specs.Cmp.Lexicographic.{slice_cmp}
@@ -16,7 +16,8 @@ use Rattle.kcr_room.specs.declared.Way.TheVariants.{Enter, Leave}
 use Rattle.kcr_room.specs.declared.Stay.{Stay}
 use Rattle.kcr_room.specs.Room.{ascending_onto, put_person}
 use Rattle.kcr_room.specs.Stays.{holds, crowd_in_by, present_in_by, is_lone_in_by, is_crowd_in_by, first_lone_in_by, is_crowded_in_by}
-use Rattle.kcr_room.specs.Adding.{reaches, is_inside, is_inside_of, is_out_of_turn_in, new_stay, closed, of_ceremony, after, turn_refusal, lone_refusal, is_overfull, later_refusal, stays_refusal}
+use Rattle.kcr_room.specs.Adding.{reaches, is_inside, is_inside_of, is_out_of_turn_in, new_stay, closed, of_ceremony, after, ends_by, changed_stays, turn_refusal, lone_refusal, is_overfull, later_refusal, stays_refusal}
+use Rattle.kcr_room.proofs.Lists.{IsPermutation-filter}
 use Rattle.kcr_room.proofs.Agreement.{same-is, same-itself}
 use Rattle.kcr_room.proofs.Moments.{first_lone-is_first, crowded-is_ever}
 use Rattle.kcr_room.proofs.Refusals.{first-unique, ever-unique, find-same}
@@ -205,3 +206,10 @@ refusal-order xs ys p c mark full way people at =
     ap (λ o. first_of (when (nat_le at mark) (Late mark) ∷ turn_refusal o ∷ later_refusal (after ys c way people at) c full way ∷ []))
     (find-same (is_out_of_turn_in ys c way at) (is_out_of_turn_in xs c way at) (turn-order xs ys p c way at) people)
     ∙ ap (λ x. first_of (when (nat_le at mark) (Late mark) ∷ turn_refusal (find (is_out_of_turn_in xs c way at) people) ∷ x ∷ [])) (later-order xs ys p c full way people at)
+
+-- CHANGES
+
+pub changes-order : (xs ys : List Stay) → IsPermutation xs ys → (c : ℕ) (way : Way) (people : List (List ℕ)) (at : ℕ) → IsPermutation (changed_stays xs c way people at) (changed_stays ys c way people at)
+changes-order xs ys p c Enter people at = IsPermutation-refl (map (new_stay c at) people)
+changes-order xs ys p c Leave people at =
+    IsPermutation-map (closed people at) (filter (ends_by c people) xs) (filter (ends_by c people) ys) (IsPermutation-filter (ends_by c people) xs ys p)

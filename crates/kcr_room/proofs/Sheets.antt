@@ -100,7 +100,7 @@ same-turn who last stays tells c Leave at = rw (tells.moments at, tells.inside_o
     by_last (Some row) = refl
 
 -- where it is the person's turn the last row is earlier
-earlier-last : (way : Way) (c at : ℕ) (last : Option SheetRow) → is_out_of_turn way c at last ≡ false → last_reaches at last ≡ false
+pub earlier-last : (way : Way) (c at : ℕ) (last : Option SheetRow) → is_out_of_turn way c at last ≡ false → last_reaches at last ≡ false
 earlier-last way c at None h = refl
 earlier-last way c at (Some row) h = (or_parts (nat_le at row.at) (is_no_turn way c row) h).0
 

@@ -5,7 +5,8 @@ ghost use Rattle.kcr_base.specs.declared.refusal.Refusal.TheVariants.{Memory};
 ghost use Rattle.kcr_room.specs.Adding;
 ghost use Rattle.kcr_room.specs.declared.Way.TheVariants.{Enter, Leave};
 
-use crate::{Stay, Way, first_lone_in, is_crowded_in};
+use crate::traffic::crowding_of;
+use crate::{Stay, Way};
 use kcr_base::{Initials, Moment, Refusal, not_later, same_person};
 use std::alloc::{AllocError, Global};
 
@@ -244,19 +245,26 @@ fn is_overfull(later: &[Stay], way: Way) -> bool
 }
 
 // What the ceremony's stays after the request are refused for.
-fn later_refusal(later: &[Stay], ceremony: u32, full: bool, way: Way) -> Option<Refusal>
-    ensures { result ≡ Adding.later_refusal later.now ceremony full way }
+fn later_refusal(
+    alloc: Global,
+    later: &[Stay],
+    ceremony: u32,
+    full: bool,
+    way: Way,
+) -> Result<Option<Refusal>, AllocError>
+    ensures { IfOk result (λ refusal. refusal ≡ Adding.later_refusal later.now ceremony full way) }
 {
-    if is_crowded_in(later, ceremony) {
-        return Some(Refusal::Crowd);
+    let crowding = crowding_of(alloc, later, ceremony)?;
+    if crowding.is_crowded {
+        return Ok(Some(Refusal::Crowd));
     }
-    if let Some(moment) = first_lone_in(later, ceremony) {
-        return Some(Refusal::Lone { moment });
+    if let Some(moment) = crowding.first_lone {
+        return Ok(Some(Refusal::Lone { moment }));
     }
     if full || is_overfull(later, way) {
-        return Some(Refusal::Full);
+        return Ok(Some(Refusal::Full));
     }
-    None
+    Ok(None)
 }
 
 /// What a request of the sheet changes for a ceremony: for `in` a new stay for each person, for `out`
@@ -291,7 +299,7 @@ pub fn add_stays(
         return Err(Refusal::Turn { who });
     }
     let later = after(alloc, stays, ceremony, way, people, at)?;
-    if let Some(refusal) = later_refusal(&later, ceremony, full, way) {
+    if let Some(refusal) = later_refusal(alloc, &later, ceremony, full, way)? {
         return Err(refusal);
     }
     let changed = changed_stays(alloc, stays, ceremony, way, people, at)?;

@@ -10,6 +10,7 @@ pub mod sheet;
 pub mod stays;
 #[cfg(test)]
 mod tests;
+mod traffic;
 
 ghost use Rattle.std.specs.Prelude.{⊤, codes, ◌≡◌};
 ghost use Rattle.kcr_base.specs.Reads.{Found, Only};

@@ -1,16 +1,18 @@
 //! Who is in a room at a moment, the first moment with one person alone there, and whether it is
 //! ever too full.
-ghost use Rattle.std.specs.Prelude.{List, false, ◌==◌, nat_lt, ◌≡◌, ◌≤◌, ◌∷◌, ◌++◌, IfOk, length, take, drop};
+ghost use Rattle.std.specs.Prelude.{List, false, ◌==◌, ◌&&◌, nat_lt, ◌≡◌, ◌≤◌, ◌∷◌, ◌++◌, IfOk, length, take, drop};
+ghost use Rattle.kcr_room.specs.Adding;
 ghost use Rattle.kcr_room.specs.Moments;
 ghost use Rattle.kcr_room.specs.Room;
 ghost use Rattle.kcr_room.specs.Stays;
 ghost use Rattle.kcr_room.specs.declared.SheetRow.{SheetRow};
 
+use crate::traffic::crowding_of;
 use crate::{SheetRow, Stay, stays_of};
 use kcr_base::{Initials, Moment, is_before, is_earlier, not_later};
 use std::alloc::{AllocError, Global};
 
-fn lasts_at(at: Moment, until: Option<Moment>) -> bool
+pub(crate) fn lasts_at(at: Moment, until: Option<Moment>) -> bool
     ensures { result ≡ Stays.lasts_at at until }
 {
     match until {
@@ -82,7 +84,7 @@ fn crowd_in(stays: &[Stay], ceremony: u32, at: Moment) -> usize
         .count()
 }
 
-fn is_sooner(at: Moment, found: &Option<Moment>) -> bool
+pub(crate) fn is_sooner(at: Moment, found: &Option<Moment>) -> bool
     ensures { result ≡ Moments.is_sooner at found.now }
 {
     match found {
@@ -138,7 +140,9 @@ fn try_end(
 }
 
 /// The first of all moments at which exactly one person is in the room of the ceremony, or None where
-/// there is none. The stays may hold more than the ceremony's.
+/// there is none. The stays may hold more than the ceremony's, in any order. It takes no memory: it goes
+/// through the stays for each moment at which somebody comes or goes and which is sooner than what was
+/// found, up to the second person there.
 pub fn first_lone_in(stays: &[Stay], ceremony: u32) -> Option<Moment>
     ensures value { result ≡ Stays.first_lone_in_by stays.now ceremony }
     ensures first { Moments.IsFirst (Stays.is_lone_in_by stays.now ceremony) result }
@@ -166,7 +170,19 @@ fn is_crowd_at(stays: &[Stay], ceremony: u32, stay: &Stay) -> bool
     stay.ceremony == ceremony && crowd_in(stays, ceremony, stay.since) > 128
 }
 
-/// Whether at any moment more than 128 people are in the room of the ceremony.
+/// How many stays the ceremony has.
+pub(crate) fn entries(stays: &[Stay], ceremony: u32) -> usize
+    ensures { result ≡ Adding.entries stays.now ceremony }
+{
+    stays
+        .iter()
+        .filter(|stay| stay.ceremony == ceremony)
+        .count()
+}
+
+/// Whether at any moment more than 128 people are in the room of the ceremony. The stays may hold more
+/// than the ceremony's, in any order. It takes no memory: where the ceremony has more than 128 stays, it
+/// goes through the stays for each of them.
 pub fn is_crowded_in(stays: &[Stay], ceremony: u32) -> bool
     ensures value { result ≡ Stays.is_crowded_in_by stays.now ceremony }
     ensures ever { Moments.IsEver (Stays.is_crowd_in_by stays.now ceremony) result }
@@ -174,8 +190,15 @@ pub fn is_crowded_in(stays: &[Stay], ceremony: u32) -> bool
     seek_crowd(stays, ceremony)
 }
 
-// Seeks it at the beginnings of the ceremony's stays.
+// Seeks it where the ceremony has stays enough.
 fn seek_crowd(stays: &[Stay], ceremony: u32) -> bool
+    ensures { result ≡ (nat_lt 128 (Adding.entries stays.now ceremony) && Stays.is_crowded_in_by stays.now ceremony) }
+{
+    entries(stays, ceremony) > 128 && has_crowd(stays, ceremony)
+}
+
+// Seeks it at the beginnings of the ceremony's stays.
+fn has_crowd(stays: &[Stay], ceremony: u32) -> bool
     ensures { result ≡ Stays.is_crowded_in_by stays.now ceremony }
 {
     stays.iter().any(|stay| is_crowd_at(stays, ceremony, stay))
@@ -206,7 +229,8 @@ pub fn first_lone(
     ensures { IfOk result (Moments.IsFirst (λ t. Room.crowd_by rows.now ceremony t == 1)) }
 {
     let stays = stays_of(alloc, rows)?;
-    Ok(first_lone_in(&stays, ceremony))
+    let crowding = crowding_of(alloc, &stays, ceremony)?;
+    Ok(crowding.first_lone)
 }
 
 /// Whether at any moment more than 128 people are in the room of the ceremony; exact for any rows.
@@ -214,5 +238,6 @@ pub fn is_crowded(alloc: Global, rows: &[SheetRow], ceremony: u32) -> Result<boo
     ensures { IfOk result (Moments.IsEver (λ t. nat_lt 128 (Room.crowd_by rows.now ceremony t))) }
 {
     let stays = stays_of(alloc, rows)?;
-    Ok(is_crowded_in(&stays, ceremony))
+    let crowding = crowding_of(alloc, &stays, ceremony)?;
+    Ok(crowding.is_crowded)
 }

@@ -5,8 +5,10 @@ ghost use Rattle.kcr_base.specs.declared.refusal.Refusal.TheVariants.{Memory};
 ghost use Rattle.kcr_room.specs.Adding;
 ghost use Rattle.kcr_room.specs.Room;
 
+use crate::presence::entries;
 use crate::stays::is_enter;
-use crate::{SheetRow, Stay, Way, first_lone_in, is_crowded_in, stays_of};
+use crate::traffic::crowding_of;
+use crate::{SheetRow, Stay, Way, stays_of};
 use kcr_base::{Initials, Moment, Refusal, not_later, same_person};
 use std::alloc::{AllocError, Global};
 
@@ -109,15 +111,6 @@ fn joined(alloc: Global, rows: &[SheetRow], more: &[SheetRow]) -> Result<Vec<She
     Ok(all)
 }
 
-fn entries(stays: &[Stay], ceremony: u32) -> usize
-    ensures { result ≡ Adding.entries stays.now ceremony }
-{
-    stays
-        .iter()
-        .filter(|stay| stay.ceremony == ceremony)
-        .count()
-}
-
 fn is_overfull_by(stays: &[Stay], ceremony: u32, way: Way) -> bool
     ensures { result ≡ Adding.is_overfull_by stays.now ceremony way }
 {
@@ -127,19 +120,26 @@ fn is_overfull_by(stays: &[Stay], ceremony: u32, way: Way) -> bool
     }
 }
 
-fn sheet_refusal(stays: &[Stay], ceremony: u32, full: bool, way: Way) -> Option<Refusal>
-    ensures { result ≡ Adding.sheet_refusal stays.now ceremony full way }
+fn sheet_refusal(
+    alloc: Global,
+    stays: &[Stay],
+    ceremony: u32,
+    full: bool,
+    way: Way,
+) -> Result<Option<Refusal>, AllocError>
+    ensures { IfOk result (λ refusal. refusal ≡ Adding.sheet_refusal stays.now ceremony full way) }
 {
-    if is_crowded_in(stays, ceremony) {
-        return Some(Refusal::Crowd);
+    let crowding = crowding_of(alloc, stays, ceremony)?;
+    if crowding.is_crowded {
+        return Ok(Some(Refusal::Crowd));
     }
-    if let Some(moment) = first_lone_in(stays, ceremony) {
-        return Some(Refusal::Lone { moment });
+    if let Some(moment) = crowding.first_lone {
+        return Ok(Some(Refusal::Lone { moment }));
     }
     if full || is_overfull_by(stays, ceremony, way) {
-        return Some(Refusal::Full);
+        return Ok(Some(Refusal::Full));
     }
-    None
+    Ok(None)
 }
 
 /// The rows that a request adds to the sheet, one for each person in the order of the request; or the
@@ -171,7 +171,7 @@ pub fn add_rows(
     let added = new_rows(alloc, ceremony, way, people, at)?;
     let all = joined(alloc, rows, &added)?;
     let stays = stays_of(alloc, &all)?;
-    if let Some(refusal) = sheet_refusal(&stays, ceremony, full, way) {
+    if let Some(refusal) = sheet_refusal(alloc, &stays, ceremony, full, way)? {
         return Err(refusal);
     }
     Ok(added)

@@ -1,11 +1,13 @@
 //! The stays of a sheet: one for each `in` row.
-ghost use Rattle.std.specs.Prelude.{◌≡◌, IfOk, None, map};
+ghost use Rattle.std.specs.Prelude.{◌≡◌, IfOk, length};
+ghost use Rattle.kcr_room.specs.Ends;
 ghost use Rattle.kcr_room.specs.Room;
 ghost use Rattle.kcr_room.specs.Stays;
 
 use crate::{SheetRow, Stay, Way};
-use kcr_base::{Moment, is_earlier, not_later, same_person};
+use kcr_base::{Initials, Moment};
 use std::alloc::{AllocError, Global};
+use std::collections::HashMap;
 
 pub(crate) fn is_enter(way: Way) -> bool
     ensures { result ≡ Room.is_enter way }
@@ -16,70 +18,69 @@ pub(crate) fn is_enter(way: Way) -> bool
     }
 }
 
-fn sooner(at: Moment, until: Option<Moment>) -> Moment
-    ensures { result ≡ Stays.sooner at until }
-{
-    match until {
-        None => at,
-        Some(until) => { if is_earlier(at, until) { at } else { until } }
-    }
+/// A row of a sheet by its moment, its place among the rows, and its person. In this order each
+/// person's rows come one after another, also where two are at one moment.
+#[derive(Clone, Copy, Debug, PartialEq, Eq, PartialOrd, Ord)]
+struct Step {
+    at: Moment,
+    place: usize,
+    who: Initials,
 }
 
-fn cut(row: &SheetRow, stay: &Stay) -> Stay
-    ensures { result ≡ Stays.cut row.now stay.now }
+// The steps of the rows, the first of them first.
+fn steps_of(alloc: Global, rows: &[SheetRow]) -> Result<Vec<Step>, AllocError>
+    ensures { IfOk result (λ steps. steps.items ≡ Ends.steps_by rows.now) }
 {
-    let until = if same_person(stay.who, row.who) && not_later(stay.since, row.at) {
-        Some(sooner(row.at, stay.until))
-    } else {
-        stay.until
-    };
-    Stay {
-        ceremony: stay.ceremony,
-        who: stay.who,
-        since: stay.since,
-        until,
+    let mut steps = Vec::new(alloc);
+    for (place, row) in rows.iter().enumerate() {
+        steps.push(Step {
+            at: row.at,
+            place,
+            who: row.who,
+        })?;
     }
+    Ok(steps)
 }
 
-fn is_ahead(row: &SheetRow, other: &SheetRow) -> bool
-    ensures { result ≡ Room.is_ahead row.now other.now }
+// The end of each row, if a stay began with it: the moment of the person's next row. It goes through
+// the rows from the last moment back, and keeps for each person the row that comes next.
+fn ends_of(alloc: Global, rows: &[SheetRow]) -> Result<Vec<Option<Moment>>, AllocError>
+    ensures { IfOk result (λ ends. Ends.AreEnds rows.now ends.items) }
 {
-    same_person(other.who, row.who) && is_earlier(row.at, other.at)
-}
-
-// The moment of the person's next row, of those listed before.
-fn next_at(row: &SheetRow, before: &[SheetRow]) -> Option<Moment>
-    ensures { result ≡ Stays.next_onto None row.now before.now }
-{
-    let mut found = None;
-    for other in before {
-        if is_ahead(row, other) {
-            found = Some(sooner(other.at, found));
-        }
+    let mut steps = steps_of(alloc, rows)?;
+    steps.sort_unstable();
+    let mut ends = vec![in alloc; None; rows.len()]?;
+    let mut next = HashMap::new(alloc);
+    while let Some(step) = steps.pop() {
+        ends[step.place] = next.insert(step.who, step.at)?;
     }
-    found
-}
-
-fn cut_all(stays: &mut [Stay], row: &SheetRow)
-    ensures { stays.new ≡ map (Stays.cut row.now) stays.old }
-{
-    for stay in stays.iter_mut() {
-        *stay = cut(row, stay);
-    }
+    Ok(ends)
 }
 
 /// The stays of a sheet, of all ceremonies: one for each `in` row, in the order of the rows, its end
 /// the moment of the person's next row, or None where there is none. The rows may come in any order
 /// of moments; of two rows of one person at one moment the one that is listed later counts as the
-/// later one. Any rows are taken, also such as do not alternate.
+/// later one. Any rows are taken, also such as do not alternate. Time is in the order of n log n.
 pub fn stays_of(alloc: Global, rows: &[SheetRow]) -> Result<Vec<Stay>, AllocError>
     ensures { IfOk result (λ stays. stays.items ≡ Stays.stays_by rows.now) }
 {
+    let ends = ends_of(alloc, rows)?;
+    stays_with(alloc, rows, &ends)
+}
+
+// The stays of the rows with these ends.
+fn stays_with(
+    alloc: Global,
+    rows: &[SheetRow],
+    ends: &[Option<Moment>],
+) -> Result<Vec<Stay>, AllocError>
+    requires { length ends.now ≡ length rows.now }
+    ensures { IfOk result (λ stays. stays.items ≡ Ends.stays_with rows.now ends.now) }
+{
     let mut stays = Vec::new(alloc);
     for (index, row) in rows.iter().enumerate() {
-        cut_all(&mut stays, row);
+        let until = ends[index];
         if is_enter(row.way) {
-            let until = next_at(row, &rows[..index]);
             stays.push(Stay {
                 ceremony: row.ceremony,
                 who: row.who,

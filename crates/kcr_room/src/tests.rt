@@ -314,7 +314,7 @@ fn one_row(way: Way, ceremony: u32, who: Initials, number: u32) -> Result<SheetR
 }
 
 // Three people, each with an `in` and an `out` row at one of four moments, in any order of moments;
-// the third one's are of another ceremony in half of the sheets.
+// the third one's are of another ceremony in half of the sheets. Each sheet also with its last row first.
 #[test]
 fn small_sheets(rt: HostRuntime) -> Result<(), Fail> {
     let alloc = rt.alloc();
@@ -330,6 +330,9 @@ fn small_sheets(rt: HostRuntime) -> Result<(), Fail> {
             one_row(Way::Leave, 61, people[0], 1 + code / 2048)?,
         ];
         assert!(rt; agrees(alloc, &rows, &people)?);
+        let mut turned = rows;
+        turned.reverse();
+        assert!(rt; agrees(alloc, &turned, &people)?);
     }
     Ok(())
 }

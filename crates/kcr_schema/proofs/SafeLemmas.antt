@@ -1,5 +1,5 @@
 -- The four safes of a new register, put one after the other.
-use Rattle.std.proofs.Common.{◌≡◌, [], ◌∷◌, List, refl, ap}
+use Rattle.std.proofs.Common.{◌≡◌, [], List, refl, ap}
 use Rattle.sqlite.specs.Order.{value_cmp}
 use Rattle.sqlite_tied.specs.Compute.{everything}
 use Rattle.kcr_base.specs.declared.place.Facility.TheVariants.{East, West}
@@ -7,7 +7,6 @@ use Rattle.kcr_custody.specs.declared.SafeNumber.TheVariants.{One, Two}
 use Rattle.kcr_custody.specs.declared.SafeRow.{SafeRow}
 use Rattle.kcr_rows.specs.Keyed.{put_in}
 use Rattle.kcr_schema.specs.Rows.{safe_row, version_row}
-use Rattle.kcr_schema.specs.Held.{Tables}
 use Rattle.kcr_schema.specs.First.{empty_tables, first_tables, shut}
 
 -- in the order of their keys

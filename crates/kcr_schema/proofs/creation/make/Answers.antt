@@ -2,7 +2,6 @@ use Rattle.std.proofs.Common.{subst, OnOk}
 use Rattle.sqlite.specs.Held.{state}
 use Rattle.sqlite.specs.State.{HasCleanDisk}
 use Rattle.kcr_schema.specs.Held.{Tables, Holds}
-use Rattle.kcr_schema.specs.First.{empty_tables}
 use Rattle.kcr_rows.proofs.FailLemmas.{on_ok_then}
 use Rattle.kcr_rows.proofs.InsideLemmas.{was_clean}
 use Rattle.kcr_schema.proofs.JointLemmas.{first_holds}

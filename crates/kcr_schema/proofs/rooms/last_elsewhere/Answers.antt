@@ -1,4 +1,4 @@
-use Rattle.std.proofs.Common.{rules, ◌≡◌, ◌==◌, not, filter}
+use Rattle.std.proofs.Common.{rules, ◌==◌, not}
 use Rattle.std.proofs.lemmas.Fn.{filter_same}
 use Rattle.kcr_room.specs.declared.Stay.{Stay}
 use Rattle.kcr_schema.proofs.rooms.last_elsewhere.Goals as goal

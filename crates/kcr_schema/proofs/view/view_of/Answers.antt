@@ -1,4 +1,4 @@
-use Rattle.std.proofs.Common.{◌≡◌, ap, ◌∙◌}
+use Rattle.std.proofs.Common.{ap, ◌∙◌}
 use Rattle.sqlite.specs.Held.{state}
 use Rattle.sqlite.specs.State.{HasCleanDisk}
 use Rattle.kcr_history.specs.Views.{is_of_people, is_training_of, is_withdrawal_of, is_appointment_of, is_of_serial, is_item_of, is_of_number, is_mark_of, is_step_of, is_exception_of, row_of_key, greatest_number}

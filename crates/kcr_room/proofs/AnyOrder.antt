@@ -1,0 +1,191 @@
+-- Rows of which no two of one person share a moment tell the same in any order.
+use Rattle.std.proofs.Common.{◌≡◌, ℕ, suc, ◌+◌, ◌≤◌, Bool, true, false, cond, not, ◌||◌, ◌&&◌, ◌==◌, nat_le, nat_lt, List, [], ◌∷◌, ◌++◌, map, length, Option, Some, None, refl, sym, ap, ◌∙◌, subst, arith, append-nil, append_assoc}
+use Rattle.std.specs.List.{list_any, filter, count_by, AllByRecursion}
+use Rattle.std.specs.List.Sorted.{IsPermutation}
+use Rattle.std.proofs.lemmas.Bool.{eq-eqb, eqb-true, and_parts, or_parts, not-true}
+use Rattle.std.proofs.lemmas.Bool.Decides.{nat_tests}
+use Rattle.std.proofs.Math.Bool.{or-false}
+use Rattle.std.proofs.lemmas.List.{length-append}
+use Rattle.std.proofs.lemmas.List.Sums.{sum_by-append}
+use Rattle.std.proofs.lemmas.List.Sorted.{IsPermutation-map, sum_by-IsPermutation, list_any-IsPermutation}
+use Rattle.kcr_base.specs.Same.{same_text}
+use Rattle.kcr_room.specs.declared.SheetRow.{SheetRow}
+use Rattle.kcr_room.specs.declared.Stay.{Stay}
+use Rattle.kcr_room.specs.Moments.{IsFirst, IsEver}
+use Rattle.kcr_room.specs.Room.{is_enter, is_ahead, later, last_onto, last_row_of, present_by, crowd_by}
+use Rattle.kcr_room.specs.Adding.{is_out_of_turn_by}
+use Rattle.kcr_room.specs.Stays.{sooner, next_onto, stay_from, stays_by}
+use Rattle.kcr_room.specs.Ends.{steps_from, steps_by}
+use Rattle.kcr_room.specs.Laws.{in_turn_onto, IsSheet, ShareNoMoment}
+use Rattle.kcr_room.proofs.Lists.{any-filter, map-same, count-cons, none-behind, IsPermutation-filter}
+use Rattle.kcr_room.proofs.Agreement.{same-is, same-itself, of_person, next-lasts, same-present, same-crowd}
+use Rattle.kcr_room.proofs.Ends.{step_at, until_in, end-unique, told_from, stays-told}
+use Rattle.kcr_room.proofs.Refusals.{first-unique, ever-unique}
+use Rattle.kcr_room.proofs.Orders.{crowd-order, present-order}
+use Rattle.kcr_room.proofs.Sheets.{last_reaches, earlier-last}
+
+-- no row of the person listed behind place i has this row's moment
+abbrev Untied : ℕ → SheetRow → ℕ → List SheetRow → Type 0
+Untied i row place [] = Unit {0}
+Untied i row place (other ∷ rows) = ((same_text other.who row.who && (row.at == other.at && nat_lt i place)) ≡ false) × Untied i row (suc place) rows
+
+drop-tie : (s l x : Bool) → (s && x) ≡ false → (s && (l || x)) ≡ (s && l)
+drop-tie false l x h = refl
+drop-tie true true x h = refl
+drop-tie true false x h = h
+
+untied-until : (i : ℕ) (row : SheetRow) (place : ℕ) (rows : List SheetRow) (found : Option ℕ) → Untied i row place rows → until_in found (step_at i row) (steps_from place rows) ≡ next_onto found row rows
+untied-until i row place [] found u = refl
+untied-until i row place (other ∷ rows) found u =
+    ap (λ b. until_in (cond b (Some (sooner other.at found)) found) (step_at i row) (steps_from (suc place) rows)) (drop-tie (same_text other.who row.who) (nat_lt row.at other.at) (row.at == other.at && nat_lt i place) u.0)
+    ∙ untied-until i row (suc place) rows (cond (is_ahead row other) (Some (sooner other.at found)) found) u.1
+
+tie-none : (s : Bool) (m n : ℕ) (x : Bool) → (s && n == m) ≡ false → (s && (m == n && x)) ≡ false
+tie-none false m n x h = refl
+tie-none true m n x h = grind (arith, nat_tests)
+
+untied-back : (i : ℕ) (row : SheetRow) (place : ℕ) (rows : List SheetRow) → AllByRecursion (λ other. (same_text other.who row.who && other.at == row.at) ≡ false) rows → Untied i row place rows
+untied-back i row place [] a = tt
+untied-back i row place (other ∷ rows) a = (tie-none (same_text other.who row.who) row.at other.at (nat_lt i place) a.0, untied-back i row (suc place) rows a.1)
+
+tie-before : (s : Bool) (m n i place : ℕ) → place ≤ i → (s && (m == n && nat_lt i place)) ≡ false
+tie-before false m n i place h = refl
+tie-before true m n i place h = grind (arith, nat_tests)
+
+untied-at : (i : ℕ) (row : SheetRow) (place : ℕ) (front back : List SheetRow) → place + length front ≡ i → AllByRecursion (λ other. (same_text other.who row.who && other.at == row.at) ≡ false) back → Untied i row place (front ++ (row ∷ back))
+untied-at i row place [] back e a = (tie-before (same_text row.who row.who) row.at row.at i place (omega arith), untied-back i row (suc place) back a)
+untied-at i row place (other ∷ front) back e a = (tie-before (same_text other.who row.who) row.at other.at i place (omega arith), untied-at i row (suc place) front back (omega arith) a)
+
+-- of such rows the next one is told by the moments alone
+next-told : (front back : List SheetRow) (row : SheetRow) → ShareNoMoment (front ++ (row ∷ back)) → until_in None (step_at (length front) row) (steps_by (front ++ (row ∷ back))) ≡ next_onto None row (front ++ (row ∷ back))
+next-told front back row h =
+    let own : (same_text row.who row.who && row.at == row.at) ≡ true = ap (λ b. b && row.at == row.at) (same-itself row.who) ∙ eq-eqb row.at row.at refl in
+    untied-until (length front) row 0 (front ++ (row ∷ back)) None
+    (untied-at (length front) row 0 front back (omega arith) (none-behind (λ other. same_text other.who row.who && other.at == row.at) front back row own (h row.who row.at)))
+
+-- the stays of some of the rows, each with the moment of the person's next row among all
+abbrev plain : List SheetRow → List SheetRow → List Stay
+plain all rows = map (λ row. stay_from row (next_onto None row all)) (filter (λ row. is_enter row.way) rows)
+
+plain-from : (front back : List SheetRow) → ShareNoMoment (front ++ back) → told_from (steps_by (front ++ back)) (length front) back ≡ plain (front ++ back) back
+plain-from front [] h = refl
+plain-from front (row ∷ back) h =
+    ap (λ until. cond (is_enter row.way) (stay_from row until ∷ []) [] ++ told_from (steps_by (front ++ (row ∷ back))) (suc (length front)) back) (next-told front back row h)
+    ∙ ap (λ rest. cond (is_enter row.way) (stay_from row (next_onto None row (front ++ (row ∷ back))) ∷ []) [] ++ rest) (rest (front ++ (row ∷ [])) (append_assoc front (row ∷ []) back) (omega (arith, length-append front (row ∷ []))) (plain-from (front ++ (row ∷ [])) back))
+    ∙ by_way (is_enter row.way)
+  where
+    rest : (more : List SheetRow) → more ++ back ≡ front ++ (row ∷ back) → length more ≡ suc (length front) → (ShareNoMoment (more ++ back) → told_from (steps_by (more ++ back)) (length more) back ≡ plain (more ++ back) back)
+        → told_from (steps_by (front ++ (row ∷ back))) (suc (length front)) back ≡ plain (front ++ (row ∷ back)) back
+    rest more e n ih =
+        ap (λ k. told_from (steps_by (front ++ (row ∷ back))) k back) (sym n)
+        ∙ subst (λ all. told_from (steps_by all) (length more) back ≡ plain all back) e (ih (subst ShareNoMoment (sym e) h))
+
+    by_way : (b : Bool) → cond b (stay_from row (next_onto None row (front ++ (row ∷ back))) ∷ []) [] ++ plain (front ++ (row ∷ back)) back
+        ≡ map (λ other. stay_from other (next_onto None other (front ++ (row ∷ back)))) (cond b (row ∷ filter (λ other. is_enter other.way) back) (filter (λ other. is_enter other.way) back))
+    by_way true = refl
+    by_way false = refl
+
+stays-plain : (rows : List SheetRow) → ShareNoMoment rows → stays_by rows ≡ plain rows rows
+stays-plain rows h = stays-told rows ∙ plain-from [] rows h
+
+next-order : (xs ys : List SheetRow) → IsPermutation xs ys → (row : SheetRow) → next_onto None row xs ≡ next_onto None row ys
+next-order xs ys p row =
+    end-unique (next_onto None row xs) (next_onto None row ys)
+    (λ t. next-lasts t row xs None ∙ ap not (list_any-IsPermutation (λ other. is_ahead row other && nat_le other.at t) xs ys p) ∙ sym (next-lasts t row ys None))
+
+pub share-order : (xs ys : List SheetRow) → IsPermutation xs ys → ShareNoMoment xs → ShareNoMoment ys
+share-order xs ys p h = λ who t. let e = sum_by-IsPermutation (λ row. cond (same_text row.who who && row.at == t) 1 0) xs ys p in let n = h who t in omega (arith, e, n)
+
+-- the stays of such rows are the same in any order, up to their own order
+pub stays-order : (xs ys : List SheetRow) → IsPermutation xs ys → ShareNoMoment xs → IsPermutation (stays_by xs) (stays_by ys)
+stays-order xs ys p h =
+    let same : plain xs ys ≡ plain ys ys = map-same (λ row. stay_from row (next_onto None row xs)) (λ row. stay_from row (next_onto None row ys)) (filter (λ row. is_enter row.way) ys) (λ row. ap (stay_from row) (next-order xs ys p row)) in
+    subst (λ stays. IsPermutation stays (stays_by ys)) (sym (stays-plain xs h))
+    (subst (IsPermutation (plain xs xs)) (same ∙ sym (stays-plain ys (share-order xs ys p h)))
+    (IsPermutation-map (λ row. stay_from row (next_onto None row xs)) (filter (λ row. is_enter row.way) xs) (filter (λ row. is_enter row.way) ys) (IsPermutation-filter (λ row. is_enter row.way) xs ys p)))
+
+-- WHO, HOW MANY AND WHEN
+
+pub rows-crowd : (xs ys : List SheetRow) → IsPermutation xs ys → ShareNoMoment xs → (c t : ℕ) → crowd_by ys c t ≡ crowd_by xs c t
+rows-crowd xs ys p h c t = sym (same-crowd ys c t) ∙ crowd-order (stays_by xs) (stays_by ys) (stays-order xs ys p h) c t ∙ same-crowd xs c t
+
+pub rows-present : (xs ys : List SheetRow) → IsPermutation xs ys → ShareNoMoment xs → (c t : ℕ) → present_by ys c t ≡ present_by xs c t
+rows-present xs ys p h c t = sym (same-present ys c t) ∙ present-order (stays_by xs) (stays_by ys) (stays-order xs ys p h) c t ∙ same-present xs c t
+
+pub rows-lone : (xs ys : List SheetRow) → IsPermutation xs ys → ShareNoMoment xs → (c : ℕ) (first other : Option ℕ) → IsFirst (λ t. crowd_by xs c t == 1) first → IsFirst (λ t. crowd_by ys c t == 1) other → other ≡ first
+rows-lone xs ys p h c first other f g = first-unique (λ t. crowd_by ys c t == 1) (λ t. crowd_by xs c t == 1) (λ t. ap (λ n. n == 1) (rows-crowd xs ys p h c t)) other first g f
+
+pub rows-crowded : (xs ys : List SheetRow) → IsPermutation xs ys → ShareNoMoment xs → (c : ℕ) (ever other : Bool) → IsEver (λ t. nat_lt 128 (crowd_by xs c t)) ever → IsEver (λ t. nat_lt 128 (crowd_by ys c t)) other → other ≡ ever
+rows-crowded xs ys p h c ever other f g = ever-unique (λ t. nat_lt 128 (crowd_by ys c t)) (λ t. nat_lt 128 (crowd_by xs c t)) (λ t. ap (λ n. nat_lt 128 n) (rows-crowd xs ys p h c t)) other ever g f
+
+-- A SHEET'S ROWS
+
+later-reaches : (m r o : ℕ) → cond (nat_lt r o) (nat_le m o) (nat_le m r) ≡ (nat_le m o || nat_le m r)
+later-reaches m r o = grind (arith, nat_tests)
+
+or-assoc : (a b c : Bool) → ((a || b) || c) ≡ (a || (b || c))
+or-assoc true b c = refl
+or-assoc false b c = refl
+
+-- a list of rows has one not earlier than m exactly where its last is
+reached : (m : ℕ) (rows : List SheetRow) (last : Option SheetRow) → last_reaches m (last_onto last rows) ≡ (last_reaches m last || list_any (λ row. nat_le m row.at) rows)
+reached m [] last = sym (or-false (last_reaches m last))
+reached m (row ∷ rows) last = reached m rows (later last row) ∙ by_last last
+  where
+    by_last : (last : Option SheetRow) → (last_reaches m (later last row) || list_any (λ row. nat_le m row.at) rows) ≡ (last_reaches m last || (nat_le m row.at || list_any (λ row. nat_le m row.at) rows))
+    by_last None = refl
+    by_last (Some other) =
+        ap (λ b. b || list_any (λ row. nat_le m row.at) rows) (by_order (nat_lt row.at other.at) ∙ later-reaches m row.at other.at)
+        ∙ or-assoc (nat_le m other.at) (nat_le m row.at) (list_any (λ row. nat_le m row.at) rows)
+      where
+        by_order : (b : Bool) → last_reaches m (cond b (Some other) (Some row)) ≡ cond b (nat_le m other.at) (nat_le m row.at)
+        by_order true = refl
+        by_order false = refl
+
+uncounted : (who : List ℕ) (t : ℕ) (rows : List SheetRow) → list_any (λ row. same_text row.who who && nat_le t row.at) rows ≡ false → count_by (λ row. same_text row.who who && row.at == t) rows ≡ 0
+uncounted who t [] h = refl
+uncounted who t (row ∷ rows) h =
+    let d = or_parts (same_text row.who who && nat_le t row.at) (list_any (λ row. same_text row.who who && nat_le t row.at) rows) h in
+    let k = count-cons (λ row. same_text row.who who && row.at == t) row rows false (apart (same_text row.who who) d.0) in
+    omega (arith, k, uncounted who t rows d.1)
+  where
+    other-moment : (m n : ℕ) → nat_le m n ≡ false → (n == m) ≡ false
+    other-moment m n h = grind (arith, nat_tests)
+
+    apart : (s : Bool) → (s && nat_le t row.at) ≡ false → (s && row.at == t) ≡ false
+    apart false h = refl
+    apart true h = other-moment t row.at h
+
+share-next : (before : List SheetRow) (row : SheetRow) → ShareNoMoment before → is_out_of_turn_by before row.ceremony row.way row.at row.who ≡ false → ShareNoMoment (before ++ (row ∷ []))
+share-next before row h turn who t = by_row (same_text row.who who && row.at == t) refl
+  where
+    new : count_by (λ other. same_text other.who row.who && other.at == row.at) before ≡ 0
+    new =
+        uncounted row.who row.at before
+        (sym (any-filter (of_person row.who) (λ other. nat_le row.at other.at) before)
+        ∙ sym (reached row.at (filter (of_person row.who) before) None)
+        ∙ earlier-last row.way row.ceremony row.at (last_row_of before row.who) turn)
+
+    many : (b : Bool) → (same_text row.who who && row.at == t) ≡ b → count_by (λ other. same_text other.who who && other.at == t) (before ++ (row ∷ [])) ≡ count_by (λ other. same_text other.who who && other.at == t) before + (cond b 1 0 + 0)
+    many b e =
+        sum_by-append (λ other. cond (same_text other.who who && other.at == t) 1 0) before (row ∷ [])
+        ∙ ap (λ n. count_by (λ other. same_text other.who who && other.at == t) before + n) (count-cons (λ other. same_text other.who who && other.at == t) row [] b e)
+
+    by_row : (b : Bool) → (same_text row.who who && row.at == t) ≡ b → count_by (λ other. same_text other.who who && other.at == t) (before ++ (row ∷ [])) ≤ 1
+    by_row false e = let k = many false e in let n = h who t in omega (arith, k, n)
+    by_row true e =
+        let d = and_parts (same_text row.who who) (row.at == t) e in
+        let k = many true e in
+        let n = subst (λ w. count_by (λ other. same_text other.who w && other.at == t) before ≡ 0) (same-is row.who who d.0) (subst (λ m. count_by (λ other. same_text other.who row.who && other.at == m) before ≡ 0) (eqb-true row.at t d.1) new) in
+        omega (arith, k, n)
+
+share-onto : (rows before : List SheetRow) → ShareNoMoment before → in_turn_onto before rows ≡ true → ShareNoMoment (before ++ rows)
+share-onto [] before h turns = subst ShareNoMoment (sym (append-nil before)) h
+share-onto (row ∷ rows) before h turns =
+    let p = and_parts (not (is_out_of_turn_by before row.ceremony row.way row.at row.who)) (in_turn_onto (before ++ (row ∷ [])) rows) turns in
+    subst ShareNoMoment (append_assoc before (row ∷ []) rows)
+    (share-onto rows (before ++ (row ∷ [])) (share-next before row h (not-true (is_out_of_turn_by before row.ceremony row.way row.at row.who) p.0)) p.1)
+
+-- rows made in turn share no moment
+pub sheet-shares : (rows : List SheetRow) → IsSheet rows → ShareNoMoment rows
+sheet-shares rows s = share-onto rows [] (λ who t. omega arith) s

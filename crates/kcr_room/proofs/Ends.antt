@@ -1,0 +1,166 @@
+-- The stays of a sheet are told by the end of each row.
+use Rattle.std.proofs.Common.{◌≡◌, ℕ, suc, ◌+◌, ◌<◌, ◌≤◌, Bool, true, false, cond, not, ◌||◌, ◌&&◌, ◌==◌, inl, inr, nat_le, nat_lt, List, [], ◌∷◌, ◌++◌, map, length, get_or, drop, Option, Some, None, refl, sym, ap, ◌∙◌, arith, append-nil, append_assoc, drop-cons}
+use Rattle.std.specs.List.{list_any, AllByRecursion}
+use Rattle.std.proofs.lemmas.Bool.{both_ways, lt-ltb, le-ltb, cases_order}
+use Rattle.std.proofs.lemmas.Bool.Decides.{nat_tests}
+use Rattle.std.proofs.lemmas.List.{map-append, drop_more}
+use Rattle.std.proofs.Math.Bool.{and-true, and-false}
+use Rattle.kcr_base.specs.Same.{same_text}
+use Rattle.kcr_room.specs.declared.SheetRow.{SheetRow}
+use Rattle.kcr_room.specs.declared.Stay.{Stay}
+use Rattle.kcr_room.specs.declared.stays.Step.{Step}
+use Rattle.kcr_room.specs.Room.{is_enter, is_ahead}
+use Rattle.kcr_room.specs.Stays.{lasts_at, sooner, cut, next_onto, stay_from, stays_next, stays_onto, stays_by}
+use Rattle.kcr_room.specs.Ends.{steps_from, steps_by, follows, IsEnd, stays_with}
+use Rattle.kcr_room.proofs.Agreement.{same-turned, lasts-sooner, next-step}
+
+-- a row at a place
+abbrev pub step_at : ℕ → SheetRow → Step
+step_at place row = record { at = row.at; place = place; who = row.who }
+
+-- the moment of the next of the steps that follow
+abbrev pub until_in : Option ℕ → Step → List Step → Option ℕ
+until_in found step [] = found
+until_in found step (other ∷ steps) = until_in (cond (follows step other) (Some (sooner other.at found)) found) step steps
+
+-- ends that last alike are one
+pub end-unique : (a b : Option ℕ) → ((t : ℕ) → lasts_at t a ≡ lasts_at t b) → a ≡ b
+end-unique None None f = refl
+end-unique None (Some b) f = absurd (both_ways (nat_lt b b) (le-ltb b b (omega arith)) (sym (f b)))
+end-unique (Some a) None f = absurd (both_ways (nat_lt a a) (le-ltb a a (omega arith)) (f a))
+end-unique (Some a) (Some b) f =
+    elim (cases_order a b) [
+      | inl e ↦ ap (λ x. Some x) e
+      | inr d ↦ elim d [
+        | inl l ↦ absurd (both_ways (nat_lt a a) (le-ltb a a (omega arith)) (f a ∙ lt-ltb a b l))
+        | inr l ↦ absurd (both_ways (nat_lt b b) (le-ltb b b (omega arith)) (sym (f b) ∙ lt-ltb b a l))
+      ]
+    ]
+
+pub until-lasts : (t : ℕ) (step : Step) (steps : List Step) (found : Option ℕ) → lasts_at t (until_in found step steps) ≡ (lasts_at t found && not (list_any (λ other. follows step other && nat_le other.at t) steps))
+until-lasts t step [] found = sym (and-true (lasts_at t found))
+until-lasts t step (other ∷ steps) found = until-lasts t step steps (cond (follows step other) (Some (sooner other.at found)) found) ∙ by_test (follows step other)
+  where
+    by_test : (b : Bool) → (lasts_at t (cond b (Some (sooner other.at found)) found) && not (list_any (λ other. follows step other && nat_le other.at t) steps)) ≡ (lasts_at t found && not ((b && nat_le other.at t) || list_any (λ other. follows step other && nat_le other.at t) steps))
+    by_test true = rw (lasts-sooner t other.at found) (next-step t other.at (lasts_at t found) (list_any (λ other. follows step other && nat_le other.at t) steps))
+    by_test false = refl
+
+-- the end is the moment of the next step
+pub end-is : (steps : List Step) (step : Step) (until : Option ℕ) → IsEnd steps step until → until ≡ until_in None step steps
+end-is steps step until h = end-unique until (until_in None step steps) (λ t. h t ∙ sym (until-lasts t step steps None))
+
+-- the stays of rows of which the first has this place, each with its end among all steps
+abbrev pub told_from : List Step → ℕ → List SheetRow → List Stay
+told_from all place [] = []
+told_from all place (row ∷ rows) = cond (is_enter row.way) (stay_from row (until_in None (step_at place row) all) ∷ []) [] ++ told_from all (suc place) rows
+
+until-append : (found : Option ℕ) (step other : Step) (steps : List Step) → until_in found step (steps ++ (other ∷ [])) ≡ cond (follows step other) (Some (sooner other.at (until_in found step steps))) (until_in found step steps)
+until-append found step other [] = refl
+until-append found step other (next ∷ steps) = until-append (cond (follows step next) (Some (sooner next.at found)) found) step other steps
+
+steps-append : (place : ℕ) (rows : List SheetRow) (row : SheetRow) → steps_from place (rows ++ (row ∷ [])) ≡ steps_from place rows ++ (step_at (place + length rows) row ∷ [])
+steps-append place [] row = let e : place ≡ place + 0 = omega arith in ap (λ n. step_at n row ∷ []) e
+steps-append place (other ∷ rows) row =
+    let e : suc place + length rows ≡ place + suc (length rows) = omega arith in
+    ap (λ rest. step_at place other ∷ rest) (steps-append (suc place) rows row ∙ ap (λ n. steps_from (suc place) rows ++ (step_at n row ∷ [])) e)
+
+told-append : (all : List Step) (place : ℕ) (rows : List SheetRow) (row : SheetRow) → told_from all place (rows ++ (row ∷ [])) ≡ told_from all place rows ++ cond (is_enter row.way) (stay_from row (until_in None (step_at (place + length rows) row) all) ∷ []) []
+told-append all place [] row =
+    let e : place ≡ place + 0 = omega arith in
+    append-nil (cond (is_enter row.way) (stay_from row (until_in None (step_at place row) all) ∷ []) [])
+    ∙ ap (λ n. cond (is_enter row.way) (stay_from row (until_in None (step_at n row) all) ∷ []) []) e
+told-append all place (other ∷ rows) row =
+    let first : List Stay = cond (is_enter other.way) (stay_from other (until_in None (step_at place other) all) ∷ []) [] in
+    let e : suc place + length rows ≡ place + suc (length rows) = omega arith in
+    ap (λ rest. first ++ rest) (told-append all (suc place) rows row ∙ ap (λ n. told_from all (suc place) rows ++ cond (is_enter row.way) (stay_from row (until_in None (step_at n row) all) ∷ []) []) e)
+    ∙ sym (append_assoc first (told_from all (suc place) rows) (cond (is_enter row.way) (stay_from row (until_in None (step_at (place + suc (length rows)) row) all) ∷ []) []))
+
+later-listed : (m n p q : ℕ) → p < q → (nat_lt m n || (m == n && nat_lt p q)) ≡ nat_le m n
+later-listed m n p q h = grind (arith, nat_tests)
+
+sooner-listed : (m n p q : ℕ) → q ≤ p → (nat_lt m n || (m == n && nat_lt p q)) ≡ nat_lt m n
+sooner-listed m n p q h = grind (arith, nat_tests)
+
+-- a row listed behind cuts the stay of a row at its end
+cut-one : (place last : ℕ) (other row : SheetRow) (all : List Step) → place < last → cut row (stay_from other (until_in None (step_at place other) all)) ≡ stay_from other (until_in None (step_at place other) (all ++ (step_at last row ∷ [])))
+cut-one place last other row all h =
+    ap (λ b. stay_from other (cond b (Some (sooner row.at (until_in None (step_at place other) all))) (until_in None (step_at place other) all)))
+    (ap (λ b. b && nat_le other.at row.at) (same-turned other.who row.who) ∙ ap (λ b. same_text row.who other.who && b) (sym (later-listed other.at row.at place last h)))
+    ∙ ap (λ until. stay_from other until) (sym (until-append None (step_at place other) (step_at last row) all))
+
+cut-told : (last : ℕ) (row : SheetRow) (all : List Step) (place : ℕ) (rows : List SheetRow) → place + length rows ≤ last → map (cut row) (told_from all place rows) ≡ told_from (all ++ (step_at last row ∷ [])) place rows
+cut-told last row all place [] h = refl
+cut-told last row all place (other ∷ rows) h =
+    map-append (cut row) (cond (is_enter other.way) (stay_from other (until_in None (step_at place other) all) ∷ []) []) (told_from all (suc place) rows)
+    ∙ ap (λ rest. map (cut row) (cond (is_enter other.way) (stay_from other (until_in None (step_at place other) all) ∷ []) []) ++ rest) (cut-told last row all (suc place) rows (omega arith))
+    ∙ by_way (is_enter other.way)
+  where
+    by_way : (b : Bool) → map (cut row) (cond b (stay_from other (until_in None (step_at place other) all) ∷ []) []) ++ told_from (all ++ (step_at last row ∷ [])) (suc place) rows
+        ≡ cond b (stay_from other (until_in None (step_at place other) (all ++ (step_at last row ∷ []))) ∷ []) [] ++ told_from (all ++ (step_at last row ∷ [])) (suc place) rows
+    by_way true = ap (λ stay. stay ∷ told_from (all ++ (step_at last row ∷ [])) (suc place) rows) (cut-one place last other row all (omega arith))
+    by_way false = refl
+
+-- of the rows listed before, those follow that are ahead
+next-before : (row : SheetRow) (last place : ℕ) (before : List SheetRow) (found : Option ℕ) → place + length before ≤ last → until_in found (step_at last row) (steps_from place before) ≡ next_onto found row before
+next-before row last place [] found h = refl
+next-before row last place (other ∷ before) found h =
+    ap (λ b. until_in (cond b (Some (sooner other.at found)) found) (step_at last row) (steps_from (suc place) before)) (ap (λ b. same_text other.who row.who && b) (sooner-listed row.at other.at last place (omega arith)))
+    ∙ next-before row last (suc place) before (cond (is_ahead row other) (Some (sooner other.at found)) found) (omega arith)
+
+next-last : (row : SheetRow) (before : List SheetRow) → until_in None (step_at (length before) row) (steps_from 0 before ++ (step_at (length before) row ∷ [])) ≡ next_onto None row before
+next-last row before =
+    let e : follows (step_at (length before) row) (step_at (length before) row) ≡ false =
+    ap (λ b. same_text row.who row.who && b) (sooner-listed row.at row.at (length before) (length before) (omega arith) ∙ le-ltb row.at row.at (omega arith)) ∙ and-false (same_text row.who row.who) in
+    until-append None (step_at (length before) row) (step_at (length before) row) (steps_from 0 before)
+    ∙ ap (λ b. cond b (Some (sooner row.at (until_in None (step_at (length before) row) (steps_from 0 before)))) (until_in None (step_at (length before) row) (steps_from 0 before))) e
+    ∙ next-before row (length before) 0 before None (omega arith)
+
+told-next : (before : List SheetRow) (row : SheetRow) → stays_next before (told_from (steps_by before) 0 before) row ≡ told_from (steps_by (before ++ (row ∷ []))) 0 (before ++ (row ∷ []))
+told-next before row =
+    let z : 0 + length before ≡ length before = omega arith in
+    let all : List Step = steps_by before ++ (step_at (length before) row ∷ []) in
+    let e : steps_by (before ++ (row ∷ [])) ≡ all = steps-append 0 before row ∙ ap (λ n. steps_by before ++ (step_at n row ∷ [])) z in
+    ap (λ stays. stays ++ cond (is_enter row.way) (stay_from row (next_onto None row before) ∷ []) []) (cut-told (length before) row (steps_by before) 0 before (omega arith))
+    ∙ ap (λ until. told_from all 0 before ++ cond (is_enter row.way) (stay_from row until ∷ []) []) (sym (next-last row before))
+    ∙ ap (λ n. told_from all 0 before ++ cond (is_enter row.way) (stay_from row (until_in None (step_at n row) all) ∷ []) []) (sym z)
+    ∙ sym (told-append all 0 before row)
+    ∙ ap (λ steps. told_from steps 0 (before ++ (row ∷ []))) (sym e)
+
+told-onto : (rows before : List SheetRow) → stays_onto before (told_from (steps_by before) 0 before) rows ≡ told_from (steps_by (before ++ rows)) 0 (before ++ rows)
+told-onto [] before = ap (λ all. told_from (steps_by all) 0 all) (sym (append-nil before))
+told-onto (row ∷ rows) before =
+    ap (λ stays. stays_onto (before ++ (row ∷ [])) stays rows) (told-next before row)
+    ∙ told-onto rows (before ++ (row ∷ []))
+    ∙ ap (λ all. told_from (steps_by all) 0 all) (append_assoc before (row ∷ []) rows)
+
+-- a stay for each `in` row, its end the moment of the person's next row
+pub stays-told : (rows : List SheetRow) → stays_by rows ≡ told_from (steps_by rows) 0 rows
+stays-told rows = told-onto rows []
+
+-- the stays with these ends are the stays of the rows
+pub with-ends : (all : List Step) (full : List (Option ℕ)) (place : ℕ) (rows : List SheetRow) → place + length rows ≡ length full → AllByRecursion (λ step. IsEnd all step (get_or full step.place None)) (steps_from place rows) → stays_with rows (drop place full) ≡ told_from all place rows
+with-ends all full place [] l a = refl
+with-ends all full place (row ∷ rows) l a =
+    ap (stays_with (row ∷ rows)) (drop-cons full place None (omega arith))
+    ∙ ap (λ until. cond (is_enter row.way) (stay_from row until ∷ stays_with rows (drop (suc place) full)) (stays_with rows (drop (suc place) full))) (end-is all (step_at place row) (get_or full place None) a.0)
+    ∙ ap (λ rest. cond (is_enter row.way) (stay_from row (until_in None (step_at place row) all) ∷ rest) rest) (with-ends all full (suc place) rows (omega arith) a.1)
+    ∙ by_way (is_enter row.way)
+  where
+    by_way : (b : Bool) → cond b (stay_from row (until_in None (step_at place row) all) ∷ told_from all (suc place) rows) (told_from all (suc place) rows) ≡ cond b (stay_from row (until_in None (step_at place row) all) ∷ []) [] ++ told_from all (suc place) rows
+    by_way true = refl
+    by_way false = refl
+
+-- one row more, of which b says whether it is `in`
+pub with-more : (rows : List SheetRow) (ends : List (Option ℕ)) (i : ℕ) (row : SheetRow) (until : Option ℕ) (done later : List Stay) → i < length rows → length ends ≡ length rows → row ≡ get_or rows i row → until ≡ get_or ends i until → (b : Bool) → is_enter row.way ≡ b → later ≡ cond b (done ++ (stay_from row until ∷ [])) done
+    → later ++ stays_with (drop (i + 1) rows) (drop (i + 1) ends) ≡ done ++ stays_with (drop i rows) (drop i ends)
+with-more rows ends i row until done later h l e f b w g =
+    ap (λ xs. xs ++ stays_with (drop (i + 1) rows) (drop (i + 1) ends)) g
+    ∙ by_way b
+    ∙ ap (λ x. done ++ cond x (stay_from row until ∷ stays_with (drop (i + 1) rows) (drop (i + 1) ends)) (stays_with (drop (i + 1) rows) (drop (i + 1) ends))) (sym w)
+    ∙ ap (λ xs. done ++ stays_with (row ∷ drop (i + 1) rows) xs) (sym (drop_more ends i until (omega arith) ∙ ap (λ first. first ∷ drop (i + 1) ends) (sym f)))
+    ∙ ap (λ xs. done ++ stays_with xs (drop i ends)) (sym (drop_more rows i row h ∙ ap (λ first. first ∷ drop (i + 1) rows) (sym e)))
+  where
+    by_way : (b : Bool) → cond b (done ++ (stay_from row until ∷ [])) done ++ stays_with (drop (i + 1) rows) (drop (i + 1) ends)
+        ≡ done ++ cond b (stay_from row until ∷ stays_with (drop (i + 1) rows) (drop (i + 1) ends)) (stays_with (drop (i + 1) rows) (drop (i + 1) ends))
+    by_way true = append_assoc done (stay_from row until ∷ []) (stays_with (drop (i + 1) rows) (drop (i + 1) ends))
+    by_way false = refl

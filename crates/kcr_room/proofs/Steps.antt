@@ -1,0 +1,258 @@
+-- Steps in order, gone through from the last one back, tell each row's end.
+use Rattle.std.proofs.Common.{◌≡◌, ℕ, suc, ◌+◌, ◌<◌, ◌≤◌, Bool, true, false, cond, not, ◌||◌, ◌&&◌, ◌==◌, nat_le, nat_lt, List, [], ◌∷◌, ◌++◌, length, get_or, set, drop, Option, Some, None, refl, sym, ap, ◌∙◌, subst, arith, append-nil, append_assoc}
+use Rattle.std.specs.List.{list_any, count_by, AllByRecursion}
+use Rattle.std.specs.List.Sorted.{IsPermutation, IsSortedBy}
+use Rattle.std.specs.declared.cmp.Ordering.{Ordering}
+use Rattle.std.specs.declared.cmp.Ordering.TheVariants.{Less, Equal, Greater}
+use Rattle.std.specs.Ordering.{nat_cmp, is_lt, ordering_then}
+use Rattle.std.specs.Cmp.{IsStrictWeakOrder, on_total}
+use Rattle.std.specs.Cmp.Lexicographic.{slice_cmp}
+use Rattle.std.proofs.lemmas.Bool.{both_ways, eq-eqb, eqb-true, eqb-false, le-ltb, lt-ltb, leb-true, leb-false, lt-leb}
+use Rattle.std.proofs.lemmas.Bool.Decides.{nat_tests}
+use Rattle.std.proofs.Math.Bool.{and-true, and-false}
+use Rattle.std.proofs.lemmas.Cmp.{then_total, nat_cmp_total, nat_list_cmp_total}
+use Rattle.std.proofs.lemmas.List.{length-set, drop_at, drop_all, get_or-set_same, get_or-set_other, get_or-append-add, get_or_append_left, length-append}
+use Rattle.std.proofs.lemmas.List.Elements.{All-from_recursion, recursion_from_All}
+use Rattle.std.proofs.lemmas.List.Folds.{list_any-append}
+use Rattle.std.proofs.lemmas.List.Sorted.{ranks_by, sorted_far, All-permutation, IsPermutation-sym, sum_by-IsPermutation, list_any-IsPermutation}
+use Rattle.kcr_base.specs.Same.{same_text}
+use Rattle.kcr_room.specs.declared.SheetRow.{SheetRow}
+use Rattle.kcr_room.specs.declared.stays.Step.{Step}
+use Rattle.kcr_room.specs.Stays.{lasts_at}
+use Rattle.kcr_room.proofs.Lists.{count-cons, none-behind}
+use Rattle.kcr_room.specs.Ends.{steps_from, steps_by, follows, IsEnd, AreEnds}
+
+-- THE ORDER OF STEPS
+
+-- a step stands before another: at an earlier moment, or at the same one at a lower place
+abbrev pub before : Step → Step → Bool
+before step other = nat_lt step.at other.at || (step.at == other.at && nat_lt step.place other.place)
+
+abbrev pub step_cmp : Step → Step → Ordering
+step_cmp a b = ordering_then (nat_cmp a.at b.at) (ordering_then (nat_cmp a.place b.place) (slice_cmp nat_cmp a.who b.who))
+
+abbrev pub AreSorted : List Step → Type 0
+AreSorted steps = IsSortedBy (λ a b. is_lt (step_cmp a b)) steps
+
+ranked : IsStrictWeakOrder (λ a b. is_lt (step_cmp a b))
+ranked = ranks_by (then_total (on_total (λ (s : Step). s.at) nat_cmp_total) (then_total (on_total (λ (s : Step). s.place) nat_cmp_total) (on_total (λ (s : Step). s.who) nat_list_cmp_total))) (λ s. s)
+
+not-before : (a b : Step) → is_lt (step_cmp a b) ≡ false → before a b ≡ false
+not-before a b h = by_tests (nat_lt a.at b.at) (a.at == b.at) (nat_lt a.place b.place) h
+  where
+    by_tests : (x y z : Bool) → is_lt (ordering_then (cond x Less (cond y Equal Greater)) (ordering_then (cond z Less (cond (a.place == b.place) Equal Greater)) (slice_cmp nat_cmp a.who b.who))) ≡ false → (x || (y && z)) ≡ false
+    by_tests true y z h = absurd (both_ways true h refl)
+    by_tests false true true h = absurd (both_ways true h refl)
+    by_tests false true false h = refl
+    by_tests false false z h = refl
+
+-- of sorted steps none behind a step stands before it
+behind : (front back : List Step) (step : Step) → AreSorted (front ++ (step ∷ back)) → AllByRecursion (λ other. before other step ≡ false) back
+behind front back step sorted = recursion_from_All (λ other. before other step ≡ false) back at_place
+  where
+    at_place : (i : ℕ) (d : Step) → i < length back → before (get_or back i d) step ≡ false
+    at_place i d h =
+        let all : List Step = front ++ (step ∷ back) in
+        let own : get_or all (length front + 0) d ≡ step = get_or-append-add front (step ∷ back) 0 d in
+        let its : get_or all (length front + suc i) d ≡ get_or back i d = get_or-append-add front (step ∷ back) (suc i) d in
+        let far = sorted_far (λ a b. is_lt (step_cmp a b)) ranked all sorted (length front + 0) (length front + suc i) d (omega arith) (omega (arith, length-append front (step ∷ back))) in
+        not-before (get_or back i d) step
+        (subst (λ other. is_lt (step_cmp (get_or back i d) other) ≡ false) own (subst (λ other. is_lt (step_cmp other (get_or all (length front + 0) d)) ≡ false) its far))
+
+-- and it stands before none ahead of it
+ahead : (front back : List Step) (step : Step) → AreSorted (front ++ (step ∷ back)) → AllByRecursion (λ other. before step other ≡ false) front
+ahead front back step sorted = recursion_from_All (λ other. before step other ≡ false) front at_place
+  where
+    at_place : (i : ℕ) (d : Step) → i < length front → before step (get_or front i d) ≡ false
+    at_place i d h =
+        let all : List Step = front ++ (step ∷ back) in
+        let own : get_or all (length front + 0) d ≡ step = get_or-append-add front (step ∷ back) 0 d in
+        let its : get_or all i d ≡ get_or front i d = get_or_append_left front (step ∷ back) d i h in
+        let far = sorted_far (λ a b. is_lt (step_cmp a b)) ranked all sorted i (length front + 0) d (omega arith) (omega (arith, length-append front (step ∷ back))) in
+        not-before step (get_or front i d)
+        (subst (λ other. is_lt (step_cmp step other) ≡ false) its (subst (λ other. is_lt (step_cmp other (get_or all i d)) ≡ false) own far))
+
+-- PLACES
+
+places-above : (i place : ℕ) (rows : List SheetRow) → i < place → count_by (λ step. step.place == i) (steps_from place rows) ≡ 0
+places-above i place [] h = refl
+places-above i place (row ∷ rows) h =
+    let e : (place == i) ≡ false = grind (arith, nat_tests) in
+    let k = count-cons (λ step. step.place == i) (record { at = row.at; place = place; who = row.who }) (steps_from (suc place) rows) false e in
+    omega (arith, k, places-above i (suc place) rows (omega arith))
+
+-- no place stands twice
+places-once : (i place : ℕ) (rows : List SheetRow) → count_by (λ step. step.place == i) (steps_from place rows) ≤ 1
+places-once i place [] = omega arith
+places-once i place (row ∷ rows) = by_test (place == i) refl (places-once i (suc place) rows)
+  where
+    by_test : (b : Bool) → (place == i) ≡ b → count_by (λ step. step.place == i) (steps_from (suc place) rows) ≤ 1 → count_by (λ step. step.place == i) (steps_from place (row ∷ rows)) ≤ 1
+    by_test true f ih =
+        let n = places-above i (suc place) rows (omega (arith, eqb-true place i f)) in
+        let k = count-cons (λ step. step.place == i) (record { at = row.at; place = place; who = row.who }) (steps_from (suc place) rows) true f in
+        omega (arith, n, k)
+    by_test false f ih =
+        let k = count-cons (λ step. step.place == i) (record { at = row.at; place = place; who = row.who }) (steps_from (suc place) rows) false f in
+        omega (arith, ih, k)
+
+-- of steps with each place once none behind a step has its place
+apart : (front back : List Step) (step : Step) → count_by (λ other. other.place == step.place) (front ++ (step ∷ back)) ≤ 1 → AllByRecursion (λ other. (other.place == step.place) ≡ false) back
+apart front back step h = none-behind (λ other. other.place == step.place) front back step (eq-eqb step.place step.place refl) h
+
+-- THE STEP THAT COMES NEXT
+
+later : (m n p q : ℕ) → (nat_lt n m || (n == m && nat_lt q p)) ≡ false → (q == p) ≡ false → (nat_lt m n || (m == n && nat_lt p q)) ≡ true
+later m n p q h k = grind (arith, nat_tests)
+
+-- of the person's steps one at t or before
+abbrev pub is_next_by : List Step → List ℕ → ℕ → Bool
+is_next_by steps who t = list_any (λ other. same_text other.who who && nat_le other.at t) steps
+
+followed-back : (step : Step) (t : ℕ) (back : List Step) → AllByRecursion (λ other. before other step ≡ false) back → AllByRecursion (λ other. (other.place == step.place) ≡ false) back
+    → list_any (λ other. follows step other && nat_le other.at t) back ≡ is_next_by back step.who t
+followed-back step t [] a b = refl
+followed-back step t (other ∷ back) a b =
+    ap (λ x. ((same_text other.who step.who && x) && nat_le other.at t) || list_any (λ other. follows step other && nat_le other.at t) back) (later step.at other.at step.place other.place a.0 b.0)
+    ∙ ap (λ x. (x && nat_le other.at t) || list_any (λ other. follows step other && nat_le other.at t) back) (and-true (same_text other.who step.who))
+    ∙ ap (λ x. (same_text other.who step.who && nat_le other.at t) || x) (followed-back step t back a.1 b.1)
+
+followed-front : (step : Step) (t : ℕ) (front : List Step) → AllByRecursion (λ other. before step other ≡ false) front → list_any (λ other. follows step other && nat_le other.at t) front ≡ false
+followed-front step t [] a = refl
+followed-front step t (other ∷ front) a =
+    ap (λ x. ((same_text other.who step.who && x) && nat_le other.at t) || list_any (λ other. follows step other && nat_le other.at t) front) a.0
+    ∙ ap (λ x. (x && nat_le other.at t) || list_any (λ other. follows step other && nat_le other.at t) front) (and-false (same_text other.who step.who))
+    ∙ followed-front step t front a.1
+
+not-itself : (m p : ℕ) → (nat_lt m m || (m == m && nat_lt p p)) ≡ false
+not-itself m p = grind (arith, nat_tests)
+
+-- the steps that follow are those of the person that stand behind
+followed : (front back : List Step) (step : Step) (t : ℕ) → AreSorted (front ++ (step ∷ back)) → count_by (λ other. other.place == step.place) (front ++ (step ∷ back)) ≤ 1
+    → list_any (λ other. follows step other && nat_le other.at t) (front ++ (step ∷ back)) ≡ is_next_by back step.who t
+followed front back step t sorted once =
+    list_any-append (λ other. follows step other && nat_le other.at t) front (step ∷ back)
+    ∙ ap (λ x. x || list_any (λ other. follows step other && nat_le other.at t) (step ∷ back)) (followed-front step t front (ahead front back step sorted))
+    ∙ ap (λ x. ((same_text step.who step.who && x) && nat_le step.at t) || list_any (λ other. follows step other && nat_le other.at t) back) (not-itself step.at step.place)
+    ∙ ap (λ x. (x && nat_le step.at t) || list_any (λ other. follows step other && nat_le other.at t) back) (and-false (same_text step.who step.who))
+    ∙ followed-back step t back (behind front back step sorted) (apart front back step once)
+
+-- GONE THROUGH FROM THE LAST ONE BACK
+
+-- what is known where the steps in front are still left: of the others each has its end, and the next step of each person is at hand
+pub record Told (rows : List SheetRow) (all front : List Step) (next : List ℕ → Option ℕ) (ends : List (Option ℕ)) : Type 0 where
+  pub left : front ++ drop (length front) all ≡ all
+  pub soon : (who : List ℕ) (t : ℕ) → lasts_at t (next who) ≡ not (is_next_by (drop (length front) all) who t)
+  pub ended : AllByRecursion (λ step. IsEnd (steps_by rows) step (get_or ends step.place None)) (drop (length front) all)
+  pub many : length ends ≡ length rows
+
+pub told-init : (rows : List SheetRow) (all : List Step) (next : List ℕ → Option ℕ) (ends : List (Option ℕ)) → ((who : List ℕ) → next who ≡ None) → length ends ≡ length rows → Told rows all all next ends
+told-init rows all next ends none many =
+    let e : drop (length all) all ≡ [] = drop_all (length all) all (omega arith) in
+    record {
+      left = ap (λ rest. all ++ rest) e ∙ append-nil all;
+      soon = λ who t. ap (lasts_at t) (none who) ∙ ap (λ rest. not (is_next_by rest who t)) (sym e);
+      ended = subst (AllByRecursion (λ step. IsEnd (steps_by rows) step (get_or ends step.place None))) (sym e) tt;
+      many = many;
+    }
+
+-- a step that is not later than the others is the next of its person
+nearer : (m t : ℕ) (rest : Bool) → (nat_le m t ≡ false → rest ≡ false) → nat_lt t m ≡ not (nat_le m t || rest)
+nearer m t rest h = by_test (nat_le m t) refl
+  where
+    by_test : (b : Bool) → nat_le m t ≡ b → nat_lt t m ≡ not (nat_le m t || rest)
+    by_test true e = rw e (le-ltb t m (leb-true m t e))
+    by_test false e = rw (e, h e) (lt-ltb t m (leb-false m t e))
+
+not-sooner : (m n p q : ℕ) → (nat_lt n m || (n == m && nat_lt q p)) ≡ false → m ≤ n
+not-sooner m n p q h = grind (arith, nat_tests)
+
+none-next : (step : Step) (t : ℕ) (who : List ℕ) (back : List Step) → AllByRecursion (λ other. before other step ≡ false) back → nat_le step.at t ≡ false → is_next_by back who t ≡ false
+none-next step t who [] a h = refl
+none-next step t who (other ∷ back) a h =
+    let l = not-sooner step.at other.at step.place other.place a.0 in
+    let k : nat_le other.at t ≡ false = lt-leb other.at t (omega (arith, leb-false step.at t h, l)) in
+    ap (λ b. (same_text other.who who && b) || is_next_by back who t) k
+    ∙ ap (λ b. b || is_next_by back who t) (and-false (same_text other.who who))
+    ∙ none-next step t who back a.1 h
+
+soon-more : (step : Step) (back : List Step) (found : Option ℕ) (who : List ℕ) (t : ℕ) → AllByRecursion (λ other. before other step ≡ false) back → lasts_at t found ≡ not (is_next_by back who t)
+    → lasts_at t (cond (same_text step.who who) (Some step.at) found) ≡ not (is_next_by (step ∷ back) who t)
+soon-more step back found who t a h = by_same (same_text step.who who)
+  where
+    by_same : (b : Bool) → lasts_at t (cond b (Some step.at) found) ≡ not ((b && nat_le step.at t) || is_next_by back who t)
+    by_same true = nearer step.at t (is_next_by back who t) (none-next step t who back a)
+    by_same false = h
+
+-- an end that is written at another place changes none of these
+kept : (all : List Step) (ends : List (Option ℕ)) (place : ℕ) (until : Option ℕ) (steps : List Step) → AllByRecursion (λ other. (other.place == place) ≡ false) steps
+    → AllByRecursion (λ other. IsEnd all other (get_or ends other.place None)) steps → AllByRecursion (λ other. IsEnd all other (get_or (set ends place until) other.place None)) steps
+kept all ends place until [] n a = tt
+kept all ends place until (other ∷ steps) n a =
+    (subst (IsEnd all other) (sym (get_or-set_other ends place other.place until None (eqb-false other.place place n.0))) a.0, kept all ends place until steps n.1 a.1)
+
+in-middle : {X : Type 0} (P : X → Type 0) (front back : List X) (x : X) → AllByRecursion P (front ++ (x ∷ back)) → P x
+in-middle P [] back x a = a.0
+in-middle P (y ∷ front) back x a = in-middle P front back x a.1
+
+places-within : (n place : ℕ) (rows : List SheetRow) → place + length rows ≡ n → AllByRecursion (λ step. step.place < n) (steps_from place rows)
+places-within n place [] h = tt
+places-within n place (row ∷ rows) h = (omega arith, places-within n (suc place) rows (omega arith))
+
+-- the step that is last of those in front
+module _ (rows : List SheetRow) (all front : List Step) (step : Step) (next : List ℕ → Option ℕ) (ends : List (Option ℕ)) (moved : IsPermutation (steps_by rows) all) (told : Told rows all (front ++ (step ∷ [])) next ends) where
+  back : List Step
+  back = drop (length (front ++ (step ∷ []))) all
+
+  split : front ++ (step ∷ back) ≡ all
+  unfolding back
+  split = sym (append_assoc front (step ∷ []) (drop (length (front ++ (step ∷ []))) all)) ∙ told.left
+
+  pub place-within : step.place < length ends
+  place-within =
+      let w = All-permutation (λ step. step.place < length rows) (steps_by rows) all moved (All-from_recursion (λ step. step.place < length rows) (steps_by rows) (places-within (length rows) 0 rows (omega arith))) in
+      let h = in-middle (λ step. step.place < length rows) front back step (subst (AllByRecursion (λ step. step.place < length rows)) (sym split) (recursion_from_All (λ step. step.place < length rows) all w)) in
+      omega (arith, h, told.many)
+
+  module _ (sorted : AreSorted all) where
+    in-order : AreSorted (front ++ (step ∷ back))
+    in-order = subst AreSorted (sym split) sorted
+
+    once : count_by (λ other. other.place == step.place) (front ++ (step ∷ back)) ≤ 1
+    once =
+        let a = sum_by-IsPermutation (λ other. cond (other.place == step.place) 1 0) (steps_by rows) all moved in
+        let b = ap (count_by (λ other. other.place == step.place)) split in
+        let n = places-once step.place 0 rows in
+        omega (arith, a, b, n)
+
+    rest-is : drop (length front) all ≡ step ∷ back
+    rest-is = ap (drop (length front)) (sym split) ∙ drop_at front (step ∷ back) (length front) refl
+
+    its-end : IsEnd (steps_by rows) step (next step.who)
+    unfolding back
+    its-end = λ t.
+        told.soon step.who t
+        ∙ ap not (sym (followed front back step t in-order once) ∙ ap (list_any (λ other. follows step other && nat_le other.at t)) split ∙ sym (list_any-IsPermutation (λ other. follows step other && nat_le other.at t) (steps_by rows) all moved))
+
+    pub told-next : (later : List ℕ → Option ℕ) → ((who : List ℕ) → later who ≡ cond (same_text step.who who) (Some step.at) (next who)) → Told rows all front later (set ends step.place (next step.who))
+    unfolding back
+    told-next later e = record {
+      left = ap (λ rest. front ++ rest) rest-is ∙ split;
+      soon = λ who t.
+          ap (lasts_at t) (e who)
+          ∙ soon-more step back (next who) who t (behind front back step in-order) (told.soon who t)
+          ∙ ap (λ rest. not (is_next_by rest who t)) (sym rest-is);
+      ended =
+          subst (AllByRecursion (λ other. IsEnd (steps_by rows) other (get_or (set ends step.place (next step.who)) other.place None))) (sym rest-is) (
+            subst (IsEnd (steps_by rows) step) (sym (get_or-set_same ends step.place (next step.who) None place-within)) its-end,
+            kept (steps_by rows) ends step.place (next step.who) back (apart front back step once) told.ended,
+          );
+      many = length-set ends step.place (next step.who) ∙ told.many;
+    }
+
+-- where no step is left each has its end
+pub told-all : (rows : List SheetRow) (all : List Step) (next : List ℕ → Option ℕ) (ends : List (Option ℕ)) → IsPermutation (steps_by rows) all → Told rows all [] next ends → AreEnds rows ends
+told-all rows all next ends moved told = (
+  told.many,
+  All-permutation (λ step. IsEnd (steps_by rows) step (get_or ends step.place None)) all (steps_by rows) (IsPermutation-sym (steps_by rows) all moved)
+      (All-from_recursion (λ step. IsEnd (steps_by rows) step (get_or ends step.place None)) all told.ended),
+)

@@ -1,0 +1,22 @@
+-- What the traffic of a room tells.
+use Rattle.std.specs.Prelude.{◌≡◌, ℕ, ◌-◌, ◌==◌, Bool, nat_lt, List}
+use Rattle.kcr_room.specs.declared.Stay.{Stay}
+use Rattle.kcr_room.specs.declared.traffic.Traffic.{Traffic}
+use Rattle.kcr_room.specs.Stays.{crowd_in_by}
+use Rattle.kcr_room.specs.Comings.{count_until}
+
+-- how many people are in the room at t: those who have come, without those who have gone
+abbrev pub crowd_of : Traffic → ℕ → ℕ
+crowd_of traffic t = count_until traffic.comings.items t - count_until traffic.goings.items t
+
+-- more than 128 people are in the room at t
+abbrev pub is_crowd_of : Traffic → ℕ → Bool
+is_crowd_of traffic t = nat_lt 128 (crowd_of traffic t)
+
+-- exactly one person is in the room at t
+abbrev pub is_lone_of : Traffic → ℕ → Bool
+is_lone_of traffic t = crowd_of traffic t == 1
+
+-- at each moment it tells how many people are in the room by the stays
+abbrev pub Tells : Traffic → List Stay → ℕ → Type 0
+Tells traffic stays ceremony = (t : ℕ) → crowd_of traffic t ≡ crowd_in_by stays ceremony t
