@@ -1,3 +1,4 @@
 pub mod DayLemmas
 pub mod PositionsLemmas
 pub mod RefuseLemmas
+pub mod RowsLemmas

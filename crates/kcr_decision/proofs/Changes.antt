@@ -1,28 +1,30 @@
 -- The changes of an act that has no fault lead from the tables before it to those after it.
-use Rattle.std.proofs.Common.{◌≡◌, ℕ, Bool, true, false, cond, ◌||◌, List, [], ◌∷◌, ◌++◌, map, Option, Some, None, option_map, refl, sym, ap, ◌∙◌, subst}
+use Rattle.std.proofs.Common.{◌≡◌, ℕ, Bool, true, false, cond, ◌||◌, List, [], ◌∷◌, ◌++◌, map, Some, None, option_map, refl, ap, ◌∙◌, subst}
 use Rattle.std.specs.List.{list_any}
 use Rattle.std.specs.List.Sorted.{IsPermutation}
-use Rattle.std.proofs.lemmas.List.Sorted.{IsPermutation-refl}
-use Rattle.kcr_base.specs.Rows.{put}
-use Rattle.kcr_base.specs.Same.{same_text}
+use Rattle.std.proofs.lemmas.List.Sorted.{IsPermutation-refl, IsPermutation-sym}
+use Rattle.kcr_base.specs.Rows.{put, put_all}
 use Rattle.kcr_base.specs.declared.place.Place.{Place}
 use Rattle.kcr_base.specs.declared.place.Role.{Role}
 use Rattle.kcr_base.specs.declared.refusal.Refusal.TheVariants.{Taken, Held, Range, Vacant, Memory}
 use Rattle.kcr_base.proofs.RefuseLemmas.{none_holds, unmet}
-use Rattle.kcr_people.specs.declared.Appointment.{Appointment}
+use Rattle.kcr_base.proofs.RowsLemmas.{put_all-order}
 use Rattle.kcr_people.specs.declared.Training.{Training}
-use Rattle.kcr_people.specs.People.{is_person_by, same_training, open_row_by, end_of, nobody, place_held_from_by, person_holds_from_by}
+use Rattle.kcr_people.specs.declared.Withdrawal.{Withdrawal}
+use Rattle.kcr_people.specs.Laws.{same_withdrawn}
+use Rattle.kcr_people.specs.People.{same_training, withdrawn_rows, open_row_by, end_of, nobody, place_held_from_by, person_holds_from_by}
+use Rattle.kcr_people.proofs.Keys.{same_withdrawn-keys, withdrawn_rows-apart}
 use Rattle.kcr_history.specs.declared.commands.Act.{Act}
-use Rattle.kcr_history.specs.declared.commands.Act.TheVariants.{Enter, Train, Appoint, Replace, Release}
+use Rattle.kcr_history.specs.declared.commands.Act.TheVariants.{Enter, Train, Withdraw, Appoint, Replace, Release}
 use Rattle.kcr_history.specs.declared.commands.Answer.{Answer}
 use Rattle.kcr_history.specs.declared.commands.Command.{Command}
 use Rattle.kcr_history.specs.declared.rows.KeyRow.{KeyRow}
 use Rattle.kcr_history.specs.declared.views.Change.{Change}
-use Rattle.kcr_history.specs.declared.views.Change.TheVariants.{PutAppointment, PutKey}
+use Rattle.kcr_history.specs.declared.views.Change.TheVariants.{PutWithdrawal, PutKey}
 use Rattle.kcr_history.specs.declared.views.View.{View}
 use Rattle.kcr_history.specs.History.{History, some_command, entry_of}
 use Rattle.kcr_history.specs.Training.{is_person, is_training}
-use Rattle.kcr_history.specs.Tables.{Tables, SameTables, people, trainings, appointments, ended, keys, key_row, tables}
+use Rattle.kcr_history.specs.Tables.{Tables, SameTables, people, trainings, withdrawals, appointments, ended, keys, key_row, tables}
 use Rattle.kcr_history.specs.Changes.{same_person, same_appointment, same_key_row, changed_by}
 use Rattle.kcr_history.specs.Views.{row_of_key, is_of_key, IsViewOf}
 use Rattle.kcr_history.specs.Asked.{asks_by}
@@ -31,17 +33,20 @@ use Rattle.kcr_history.specs.Machine.{IsRegister, with_command}
 use Rattle.kcr_history.proofs.Words.{is_person-people, is_training-trainings, row_of_key-keys}
 use Rattle.kcr_history.proofs.Stacked.{or_parts, closing, lasts-ended, no_begin, put-ended, open-order}
 use Rattle.kcr_history.proofs.Orderly.{standing, orderly}
+use Rattle.kcr_history.proofs.Distinct.{trainings-apart}
 use Rattle.kcr_decision.specs.ByRows.{refusal_by, changes_by, new_appointment, new_key_row}
 use Rattle.kcr_decision.proofs.Refusals.{open-shown}
+use Rattle.kcr_decision.proofs.Withdrawn.{ShowsTrainings, ShowsWithdrawals, withdrawn_rows-shown}
 
 -- TABLES THAT ARE EQUAL HAVE THE SAME ROWS
 
-same-own : (t : Tables) → SameTables t t
-same-own t =
+-- tables that differ in the order of their withdrawals alone
+other-withdrawals : (t : Tables) (ws : List Withdrawal) → IsPermutation ws t.withdrawals → SameTables (record t { withdrawals = ws }) t
+other-withdrawals t ws p =
     record {
       people = IsPermutation-refl t.people;
       trainings = IsPermutation-refl t.trainings;
-      withdrawals = IsPermutation-refl t.withdrawals;
+      withdrawals = p;
       appointments = IsPermutation-refl t.appointments;
       boxes = IsPermutation-refl t.boxes;
       safes = IsPermutation-refl t.safes;
@@ -56,6 +61,9 @@ same-own t =
       exceptions = IsPermutation-refl t.exceptions;
       keys = IsPermutation-refl t.keys;
     }
+
+same-own : (t : Tables) → SameTables t t
+same-own t = other-withdrawals t t.withdrawals (IsPermutation-refl t.withdrawals)
 
 same-tables : (t u : Tables) → t ≡ u → SameTables t u
 same-tables t u e = subst (SameTables t) e (same-own t)
@@ -99,6 +107,30 @@ train-leads A key who role since until view answer k f =
     let absent = is_training-trainings A new ∙ unmet (some_command (is_training who role since until) A) Taken (none_holds (conditions A (Train who role since until)) f).1.0 in
     rw (put_new same_training new (trainings A) absent, new_key A (record { key = key; act = Train who role since until }) answer k)
 
+-- the rows of withdrawals put one after the other
+changed_by-withdrawals : (rows : List Withdrawal) (rest : List Change) (t : Tables)
+    → changed_by (map PutWithdrawal rows ++ rest) t ≡ changed_by rest (record t { withdrawals = put_all same_withdrawn rows t.withdrawals })
+changed_by-withdrawals [] rest t = refl
+changed_by-withdrawals (row ∷ rows) rest t = changed_by-withdrawals rows rest (record t { withdrawals = put same_withdrawn row t.withdrawals })
+
+-- by the rows shown the same rows are put, in some order; no two of them have one key
+withdrawals-put : (A : History) → IsRegister A → (who : List ℕ) (role : Role) (day : ℕ) (us : List Training) (vs : List Withdrawal) → ShowsTrainings who (trainings A) us → ShowsWithdrawals who (withdrawals A) vs
+    → IsPermutation (put_all same_withdrawn (withdrawn_rows us vs who role day) (withdrawals A)) (put_all same_withdrawn (withdrawn_rows (trainings A) (withdrawals A) who role day) (withdrawals A))
+withdrawals-put A h who role day us vs p q =
+    IsPermutation-sym _ _
+    (put_all-order same_withdrawn same_withdrawn-keys (withdrawn_rows (trainings A) (withdrawals A) who role day) (withdrawn_rows us vs who role day) (withdrawals A)
+    (withdrawn_rows-shown who (trainings A) us (withdrawals A) vs p q role day)
+    (withdrawn_rows-apart (trainings A) (withdrawals A) who role day (trainings-apart A h)))
+
+withdraw-leads : (A : History) → IsRegister A → (key who : List ℕ) (role : Role) (day : ℕ) (view : View) (answer : Answer) → IsViewOf (asks_by key (Withdraw who role day)) (tables A) view → entry_of A key ≡ None
+    → SameTables (changed_by (changes_by view (Withdraw who role day) ++ PutKey (new_key_row (record { key = key; act = Withdraw who role day }) answer) ∷ []) (tables A)) (tables (with_command A (record { key = key; act = Withdraw who role day }) answer))
+withdraw-leads A h key who role day view answer v k =
+    let x : Command = record { key = key; act = Withdraw who role day } in
+    let rows = withdrawn_rows view.trainings.items view.withdrawals.items who role day in
+    rw (changed_by-withdrawals rows (PutKey (new_key_row x answer) ∷ []) (tables A), new_key A x answer k)
+    (other-withdrawals (tables (with_command A x answer)) (put_all same_withdrawn rows (withdrawals A))
+    (withdrawals-put A h who role day view.trainings.items view.withdrawals.items v.trainings v.withdrawals))
+
 appoint-leads : (A : History) → IsRegister A → (key : List ℕ) (place : Place) (who : List ℕ) (day : ℕ) (view : View) (answer : Answer) → entry_of A key ≡ None → fault A (Appoint place who day) ≡ None
     → Leads A view (record { key = key; act = Appoint place who day }) answer
 appoint-leads A h key place who day view answer k f =
@@ -133,6 +165,7 @@ pub leads : (A : History) → IsRegister A → (key : List ℕ) (act : Act) (vie
     → refusal_by view (is_full A) act ≡ None → SameTables (changed_by (changes_by view act ++ PutKey (new_key_row (record { key = key; act = act }) answer) ∷ []) (tables A)) (tables (with_command A (record { key = key; act = act }) answer))
 leads A h key (Enter who name) view answer v k f none = same-tables _ _ (enter-leads A key who name view answer k f)
 leads A h key (Train who role since until) view answer v k f none = same-tables _ _ (train-leads A key who role since until view answer k f)
+leads A h key (Withdraw who role day) view answer v k f none = withdraw-leads A h key who role day view answer v k
 leads A h key (Appoint place who day) view answer v k f none = same-tables _ _ (appoint-leads A h key place who day view answer k f)
 leads A h key (Replace place who day) view answer v k f none =
     same-tables _ _ (replace-leads A h key place who day view answer (open-order place (appointments A) view.appointments.items (orderly A h).0 v.appointments) k f)

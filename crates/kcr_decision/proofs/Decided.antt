@@ -1,10 +1,10 @@
 -- A decision by the rows of a view is a step of the machine.
-use Rattle.std.proofs.Common.{◌≡◌, ◌≢◌, ℕ, ◌+◌, Bool, true, false, nat_le, max, List, [], ◌∷◌, length, Option, Some, None, option_map, refl, sym, ap, ◌∙◌, arith, ◌⊎◌, inl, inr, Result, Ok, Err, MatchOption}
+use Rattle.std.proofs.Common.{◌≡◌, ◌≢◌, ℕ, ◌+◌, Bool, false, nat_le, List, [], ◌∷◌, length, Option, Some, None, option_map, refl, sym, ap, ◌∙◌, arith, ◌⊎◌, inl, inr, Result, Ok, Err, MatchOption}
 use Rattle.kcr_base.specs.Same.{same_text}
 use Rattle.kcr_base.specs.declared.refusal.Refusal.{Refusal}
 use Rattle.kcr_base.specs.declared.refusal.Refusal.TheVariants.{Key, Memory}
 use Rattle.kcr_history.specs.declared.commands.Act.{Act}
-use Rattle.kcr_history.specs.declared.commands.Act.TheVariants.{Enter, Train, Appoint, Replace, Release}
+use Rattle.kcr_history.specs.declared.commands.Act.TheVariants.{Enter, Train, Withdraw, Appoint, Replace, Release}
 use Rattle.kcr_history.specs.declared.commands.Answer.{Answer}
 use Rattle.kcr_history.specs.declared.commands.Command.{Command}
 use Rattle.kcr_history.specs.declared.commands.Entry.{Entry}
@@ -13,15 +13,14 @@ use Rattle.kcr_history.specs.declared.views.View.{View}
 use Rattle.kcr_history.specs.History.{History, entry_of}
 use Rattle.kcr_history.specs.Texts.{command_text}
 use Rattle.kcr_history.specs.Tables.{keys, key_row, tables}
-use Rattle.kcr_history.specs.Changes.{changed_by}
 use Rattle.kcr_history.specs.Views.{greatest_number, row_of_key, IsViewOf}
 use Rattle.kcr_history.specs.Asked.{asks_by, asks_of}
 use Rattle.kcr_history.specs.Conditions.{fault, is_full}
-use Rattle.kcr_history.specs.Machine.{Accepts, Refuses, sitting, answer_to, plain_answer, with_command, acts, accepts, seats, repeats, IsRegister, IsAcceptance, IsRepeat, IsDecision}
+use Rattle.kcr_history.specs.Machine.{Accepts, Refuses, sitting, answer_to, plain_answer, with_command, acts, repeats, IsRegister, IsAcceptance, IsRepeat, IsDecision}
 use Rattle.kcr_history.proofs.Steps.{took, number_of_answer}
 use Rattle.kcr_history.proofs.Words.{row_of_key-keys}
-use Rattle.kcr_decision.specs.ByRows.{refusal_by, refusal_in, next_answer, AcceptsNew, RepeatsRow, IsRowVerdict, IsRowDecision}
-use Rattle.kcr_decision.proofs.Refusals.{enter-fault, train-fault, appoint-fault, replace-fault, release-fault}
+use Rattle.kcr_decision.specs.ByRows.{refusal_by, refusal_in, AcceptsNew, RepeatsRow, IsRowVerdict, IsRowDecision}
+use Rattle.kcr_decision.proofs.Refusals.{enter-fault, train-fault, withdraw-fault, appoint-fault, replace-fault, release-fault}
 use Rattle.kcr_decision.proofs.Changes.{leads}
 
 -- the greatest number is the number of entries
@@ -38,6 +37,7 @@ fault-shown : (A : History) → IsRegister A → (key : List ℕ) (act : Act) (v
     → (refusal_by view (is_full A) act ≡ fault A act) ⊎ (refusal_by view (is_full A) act ≡ Some Memory)
 fault-shown A h key (Enter who name) view v = inl (enter-fault A who name key view v)
 fault-shown A h key (Train who role since until) view v = inl (train-fault A who role since until key view v)
+fault-shown A h key (Withdraw who role day) view v = inl (withdraw-fault A who role day key view v)
 fault-shown A h key (Appoint place who day) view v = inl (appoint-fault A place who day key view v)
 fault-shown A h key (Replace place who day) view v = inl (replace-fault A h place who day key view v)
 fault-shown A h key (Release place day) view v = inl (release-fault A h place day key view v)
@@ -50,6 +50,7 @@ full-shown A x view h v = ap (λ n. refusal_by view (nat_le 4000000000 n) x.act)
 plain : (A : History) (act : Act) (view : View) (full : Bool) → refusal_by view full act ≡ None → (sitting A act ≡ None) × (answer_to A act None ≡ plain_answer A)
 plain A (Enter who name) view full none = (refl, refl)
 plain A (Train who role since until) view full none = (refl, refl)
+plain A (Withdraw who role day) view full none = (refl, refl)
 plain A (Appoint place who day) view full none = (refl, refl)
 plain A (Replace place who day) view full none = (refl, refl)
 plain A (Release place day) view full none = (refl, refl)

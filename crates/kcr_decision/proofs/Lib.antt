@@ -1,4 +1,5 @@
 pub mod Shown
+pub mod Withdrawn
 pub mod Unless
 pub mod Refusals
 pub mod Changes

@@ -1,9 +1,9 @@
 -- The first refusal by the rows of a view is the fault by the history.
-use Rattle.std.proofs.Common.{◌≡◌, ℕ, Bool, true, false, cond, not, ◌||◌, ◌&&◌, nat_le, max, eqb, List, [], ◌∷◌, filter, Option, Some, None, refl, sym, ap, ◌∙◌, is_none}
-use Rattle.std.specs.List.{list_any, AllByRecursion}
+use Rattle.std.proofs.Common.{◌≡◌, ℕ, Bool, true, false, ◌||◌, ◌&&◌, eqb, List, [], ◌∷◌, filter, sym, ◌∙◌, is_none}
+use Rattle.std.specs.List.{list_any}
 use Rattle.std.specs.List.Sorted.{IsPermutation}
 use Rattle.std.proofs.lemmas.List.Sorted.{list_any-IsPermutation}
-use Rattle.std.proofs.lemmas.Bool.{true≢false, false≢true, and_parts}
+use Rattle.std.proofs.lemmas.Bool.{and_parts}
 use Rattle.std.specs.Cmp.Lexicographic.{bytes_decides}
 use Rattle.kcr_base.specs.Same.{same_text, same_role, same_place}
 use Rattle.kcr_base.specs.declared.place.Place.{Place}
@@ -11,28 +11,24 @@ use Rattle.kcr_base.specs.declared.place.Role.{Role}
 use Rattle.kcr_people.specs.declared.Appointment.{Appointment}
 use Rattle.kcr_people.specs.declared.Person.{Person}
 use Rattle.kcr_people.specs.declared.Training.{Training}
-use Rattle.kcr_people.specs.declared.Withdrawal.{Withdrawal}
-use Rattle.kcr_people.specs.People.{is_person_by, ever_trained_by, ever_put_by, same_training, is_of, is_withdrawn_by, covers, trains, trained_from_by, lasts_beyond, open_row_by, stands, place_held_from_by, person_holds_from_by}
-use Rattle.kcr_people.proofs.Orders.{any-same}
-use Rattle.kcr_history.specs.declared.commands.Act.{Act}
+use Rattle.kcr_people.specs.People.{is_person_by, ever_trained_by, ever_put_by, same_training, lasts_beyond, open_row_by, stands}
 use Rattle.kcr_history.specs.declared.commands.Act.TheVariants.{Enter, Train, Withdraw, Appoint, Replace, Release}
-use Rattle.kcr_history.specs.declared.rows.MarkRow.{MarkRow}
 use Rattle.kcr_history.specs.declared.views.AppointmentsOf.TheVariants as Appointments
 use Rattle.kcr_history.specs.declared.views.View.{View}
 use Rattle.kcr_history.specs.History.{History}
 use Rattle.kcr_history.specs.Training.{is_person, ever_trained}
-use Rattle.kcr_history.specs.Ceremonies.{settled}
-use Rattle.kcr_history.specs.Tables.{people, trainings, withdrawals, appointments, marks, tables}
-use Rattle.kcr_history.specs.Views.{is_of_people, is_training_of, is_withdrawal_of, is_appointment_of, IsViewOf}
+use Rattle.kcr_history.specs.Tables.{people, trainings, withdrawals, appointments, tables}
+use Rattle.kcr_history.specs.Views.{is_of_people, is_training_of, is_appointment_of, IsViewOf}
 use Rattle.kcr_history.specs.Asked.{asks_by}
 use Rattle.kcr_history.specs.Conditions.{fault, is_full}
 use Rattle.kcr_history.specs.Machine.{IsRegister}
 use Rattle.kcr_history.proofs.Words.{is_person-people, ever_trained-trainings, is_training-trainings, ever_put-appointments}
-use Rattle.kcr_history.proofs.Stacked.{stacked, open-order, only-one}
+use Rattle.kcr_history.proofs.Stacked.{open-order, only-one}
 use Rattle.kcr_history.proofs.Orderly.{orderly}
 use Rattle.kcr_history.proofs.Settled.{settled-rows}
-use Rattle.kcr_decision.specs.ByRows.{refusal_by, settled_by}
+use Rattle.kcr_decision.specs.ByRows.{refusal_by}
 use Rattle.kcr_decision.proofs.Shown.{any-shown, find-shown}
+use Rattle.kcr_decision.proofs.Withdrawn.{trained_from-shown}
 
 text-turn : (a b : List ℕ) → same_text a b ≡ true → same_text b a ≡ true
 text-turn a b h = (bytes_decides b a).1 (sym ((bytes_decides a b).0 h))
@@ -86,6 +82,15 @@ train-fault A who role since until key view v =
       person-shown A who view.people.items v.people,
       training-shown A new view.trainings.items v.trainings ∙ is_training-trainings A new,
       put-shown A who view.appointments.items v.appointments ∙ ever_put-appointments A who,
+    )
+
+pub withdraw-fault : (A : History) (who : List ℕ) (role : Role) (day : ℕ) (key : List ℕ) (view : View) → IsViewOf (asks_by key (Withdraw who role day)) (tables A) view
+    → refusal_by view (is_full A) (Withdraw who role day) ≡ fault A (Withdraw who role day)
+withdraw-fault A who role day key view v =
+    rw (
+      person-shown A who view.people.items v.people,
+      trained_from-shown who (trainings A) view.trainings.items (withdrawals A) view.withdrawals.items v.trainings v.withdrawals role day,
+      settled-rows A view.marks.items v.marks,
     )
 
 pub appoint-fault : (A : History) (place : Place) (who : List ℕ) (day : ℕ) (key : List ℕ) (view : View) → IsViewOf (asks_by key (Appoint place who day)) (tables A) view

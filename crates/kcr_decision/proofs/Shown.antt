@@ -5,6 +5,7 @@ use Rattle.std.specs.List.Sorted.{IsPermutation}
 use Rattle.std.proofs.lemmas.List.Sorted.{list_any-IsPermutation, All-permutation}
 use Rattle.std.proofs.lemmas.List.Elements.{All-from_recursion, recursion_from_All}
 use Rattle.std.proofs.lemmas.Bool.{true≢false, false≢true}
+use Rattle.kcr_base.proofs.RowsLemmas.{filter-order}
 
 -- a test that only rows asked for can pass finds the same among them
 pub any-filter : {X : Type 0} (test of : X → Bool) → ((x : X) → test x ≡ true → of x ≡ true) → (rows : List X) → list_any test (filter of rows) ≡ list_any test rows
@@ -19,6 +20,20 @@ any-filter test of imp (row ∷ rows) = by_tests (of row) (test row) refl (λ e.
 pub any-shown : {X : Type 0} (test of : X → Bool) → ((x : X) → test x ≡ true → of x ≡ true) → (table rows : List X) → IsPermutation (filter of table) (filter of rows) → list_any test rows ≡ list_any test table
 any-shown test of imp table rows p =
     sym (any-filter test of imp rows) ∙ sym (list_any-IsPermutation test (filter of table) (filter of rows) p) ∙ any-filter test of imp table
+
+-- so does what the test keeps, in some order
+filter-filter : {X : Type 0} (test of : X → Bool) → ((x : X) → test x ≡ true → of x ≡ true) → (rows : List X) → filter test (filter of rows) ≡ filter test rows
+filter-filter test of imp [] = refl
+filter-filter test of imp (row ∷ rows) = by_tests (of row) (test row) refl (λ e. imp row e) (filter-filter test of imp rows)
+  where
+    by_tests : (o t : Bool) → test row ≡ t → (test row ≡ true → o ≡ true) → filter test (filter of rows) ≡ filter test rows → filter test (cond o (row ∷ filter of rows) (filter of rows)) ≡ cond t (row ∷ filter test rows) (filter test rows)
+    by_tests true t e i ih = rw (e, ih)
+    by_tests false true e i ih = absurd (false≢true (i e))
+    by_tests false false e i ih = ih
+
+pub filter-shown : {X : Type 0} (test of : X → Bool) → ((x : X) → test x ≡ true → of x ≡ true) → (table rows : List X) → IsPermutation (filter of table) (filter of rows) → IsPermutation (filter test table) (filter test rows)
+filter-shown test of imp table rows p =
+    rw (← filter-filter test of imp table, ← filter-filter test of imp rows) (filter-order test (filter of table) (filter of rows) p)
 
 -- so does the first that passes, where all that pass are one
 find-filter : {X : Type 0} (test of : X → Bool) → ((x : X) → test x ≡ true → of x ≡ true) → (rows : List X) → find test (filter of rows) ≡ find test rows

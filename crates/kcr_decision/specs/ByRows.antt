@@ -30,6 +30,8 @@ abbrev pub refusal_by : View → Bool → Act → Option Refusal
 refusal_by view full (Enter who name) = enter_refusal view.people.items full who
 refusal_by view full (Train who role since until) =
     train_refusal view.people.items view.trainings.items view.appointments.items full (record { who = who; role = role; since = since; until = until })
+refusal_by view full (Withdraw who role day) =
+    withdraw_refusal view.people.items view.trainings.items view.withdrawals.items (settled_by view.marks.items) full who role day
 refusal_by view full (Appoint place who day) =
     appoint_refusal view.people.items view.trainings.items view.appointments.items (settled_by view.marks.items) full place who day
 refusal_by view full (Replace place who day) =
@@ -41,10 +43,11 @@ refusal_by view full act = Some Memory
 abbrev pub new_appointment : Place → List ℕ → ℕ → Appointment
 new_appointment place who day = record { place = place; who = who; since = day; until = None }
 
--- the rows that an act puts; a replacement and a release end the place's open appointment
+-- the rows that an act puts; a withdrawal puts one for each training that it bears on, a replacement and a release end the place's open appointment
 abbrev pub changes_by : View → Act → List Change
 changes_by view (Enter who name) = PutPerson (record { who = who; name = name }) ∷ []
 changes_by view (Train who role since until) = PutTraining (record { who = who; role = role; since = since; until = until }) ∷ []
+changes_by view (Withdraw who role day) = map PutWithdrawal (withdrawn_rows view.trainings.items view.withdrawals.items who role day)
 changes_by view (Appoint place who day) = PutAppointment (new_appointment place who day) ∷ []
 changes_by view (Replace place who day) =
     PutAppointment (end_of (open_row_by view.appointments.items place) day (new_appointment place who day)) ∷ PutAppointment (new_appointment place who day) ∷ []

@@ -30,6 +30,9 @@ fn changes_of(alloc: Global, view: &View, full: bool, act: &Act) -> Result<Vec<C
             since,
             until,
         } => people::train(alloc, view, full, *who, *role, *since, *until),
+        Act::Withdraw { who, role, day } => {
+            people::withdraw(alloc, view, full, *who, *role, *day)
+        }
         Act::Appoint { place, who, day } => {
             people::appoint(alloc, view, full, *place, *who, *day)
         }
@@ -92,7 +95,7 @@ fn decide_by_rows(alloc: Global, view: &View, command: &Command) -> Result<Verdi
 /// reply is given and nothing changes, with another command it is refused (11). Then come the act's own refusals in the
 /// order of their numbers, and 27 where 4,000,000,000 commands have been accepted. Want of memory (33) may be answered
 /// in place of all of these; it changes nothing. Over any other view there is some answer. Of the kinds of act, those
-/// that enter a person, train, appoint, replace and release are decided; all others get 33 here.
+/// that enter a person, train, withdraw training, appoint, replace and release are decided; all others get 33 here.
 pub fn decide(alloc: Global, view: &View, command: &Command) -> Result<Verdict, Refusal>
     ensures { (A : History) → IsRegister A → IsViewOf (asks_of command.now) (tables A) view.now → IsDecision A command.now result }
 {

@@ -124,6 +124,45 @@ pub(crate) fn train(
     }
 }
 
+/// The rows of withdrawals as changes.
+fn withdrawal_changes(alloc: Global, rows: &[Withdrawal]) -> Result<Vec<Change>, AllocError>
+    ensures { IfOk result (λ changes. changes.items ≡ map PutWithdrawal rows.now) }
+{
+    let mut changes = Vec::new(alloc);
+    for row in rows {
+        changes.push(Change::PutWithdrawal(*row))?;
+    }
+    Ok(changes)
+}
+
+/// Withdraws a person's trainings for a role.
+pub(crate) fn withdraw(
+    alloc: Global,
+    view: &View,
+    full: bool,
+    who: Initials,
+    role: Role,
+    day: Day,
+) -> Result<Vec<Change>, Refusal>
+    ensures { MatchResult result
+        (λ changes. HasChanges view.now full (Kinds.Withdraw who role day) changes.items)
+        (λ refusal. HasRefusal view.now full (Kinds.Withdraw who role day) refusal) }
+{
+    let rows = kcr_people::withdraw(
+        alloc,
+        &view.people,
+        &view.trainings,
+        &view.withdrawals,
+        settled(&view.marks),
+        full,
+        who,
+        role,
+        day,
+    )?;
+    let changes = withdrawal_changes(alloc, rows.as_slice())?;
+    Ok(changes)
+}
+
 /// The row of an appointment, by the rows of the view.
 fn new_holder(
     view: &View,

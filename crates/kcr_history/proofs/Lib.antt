@@ -7,3 +7,4 @@ pub mod Stacked
 pub mod Orderly
 pub mod Trained
 pub mod Settled
+pub mod Distinct

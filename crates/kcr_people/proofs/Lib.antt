@@ -1,3 +1,4 @@
 mod Days
 pub mod Orders
 pub mod Withdrawn
+pub mod Keys

@@ -169,7 +169,7 @@ least-min a b d = by_test (nat_le a d) (nat_le b d) refl refl
     by_test false true e f = le-leb (min a b) d (omega (arith, leb-true b d f))
     by_test false false e f = lt-leb (min a b) d (omega (arith, leb-false a d e, leb-false b d f))
 
-least-day : (ws : List Withdrawal) (row : Training) (day d : ℕ) → nat_le (least_day ws row day) d ≡ (nat_le day d || is_withdrawn_by ws row d)
+pub least-day : (ws : List Withdrawal) (row : Training) (day d : ℕ) → nat_le (least_day ws row day) d ≡ (nat_le day d || is_withdrawn_by ws row d)
 least-day [] row day d = sym (or_false (nat_le day d))
   where
     or_false : (b : Bool) → (b || false) ≡ b

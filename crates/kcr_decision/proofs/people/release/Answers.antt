@@ -1,4 +1,3 @@
-use Rattle.std.proofs.Common.{◌≡◌, ap, ◌∙◌, sym}
 use Rattle.kcr_decision.proofs.Unless.{refused}
 use Rattle.kcr_decision.proofs.people.release.Goals as goal
 

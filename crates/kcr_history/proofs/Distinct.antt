@@ -1,0 +1,28 @@
+-- No training is entered twice.
+use Rattle.std.proofs.Common.{◌≡◌, [], ◌∷◌, None, ◌∙◌}
+use Rattle.std.specs.List.{cons_option}
+use Rattle.kcr_base.specs.declared.refusal.Refusal.TheVariants.{Taken}
+use Rattle.kcr_base.proofs.RefuseLemmas.{none_holds, unmet}
+use Rattle.kcr_base.proofs.RowsLemmas.{Apart}
+use Rattle.kcr_people.specs.declared.Training.{Training}
+use Rattle.kcr_people.specs.People.{same_training}
+use Rattle.kcr_history.specs.declared.commands.Act.{Act}
+use Rattle.kcr_history.specs.declared.commands.Act.TheVariants.{Train}
+use Rattle.kcr_history.specs.History.{History, some_command}
+use Rattle.kcr_history.specs.Training.{is_training}
+use Rattle.kcr_history.specs.Tables.{trainings, training_row}
+use Rattle.kcr_history.specs.Conditions.{conditions, fault}
+use Rattle.kcr_history.specs.Machine.{IsRegister}
+use Rattle.kcr_history.proofs.Steps.{took}
+use Rattle.kcr_history.proofs.Words.{is_training-trainings}
+
+apart_after : (A : History) (act : Act) → fault A act ≡ None → Apart same_training (trainings A) → Apart same_training (cons_option (training_row act) (trainings A))
+apart_after A (Train who role since until) f a =
+    let new : Training = record { who = who; role = role; since = since; until = until } in
+    (is_training-trainings A new ∙ unmet (some_command (is_training who role since until) A) Taken (none_holds (conditions A (Train who role since until)) f).1.0, a)
+apart_after A act f a = a
+
+-- the trainings of a register are all different
+pub trainings-apart : (A : History) → IsRegister A → Apart same_training (trainings A)
+trainings-apart [] h = tt
+trainings-apart (entry ∷ A) h = apart_after A entry.command.act (took A entry h.0).no_fault (trainings-apart A h.1)
