@@ -2,7 +2,7 @@
 use crate::decide;
 use kcr_base::{Day, Initials, Key, Moment, Name, Place, Refusal, Role};
 use kcr_history::{Act, Change, Command, MarkRow, Verdict, View};
-use kcr_people::Appointment;
+use kcr_people::{Appointment, Withdrawal};
 use std::alloc::Global;
 use std::test::Fail;
 
@@ -55,6 +55,14 @@ fn train(who: &str, since: &str, until: &str) -> Result<Act, Fail> {
     })
 }
 
+fn withdraw(who: &str, role: Role, from: &str) -> Result<Act, Fail> {
+    Ok(Act::Withdraw {
+        who: initials(who)?,
+        role,
+        day: day(from)?,
+    })
+}
+
 fn appoint(at: &str, who: &str, from: &str) -> Result<Act, Fail> {
     Ok(Act::Appoint {
         place: place(at)?,
@@ -90,10 +98,27 @@ fn put_appointment(rows: &mut Vec<Appointment>, row: Appointment) -> Result<(), 
     Ok(())
 }
 
+/// Puts the row in place of the one of the same training, or at the end.
+fn put_withdrawal(rows: &mut Vec<Withdrawal>, row: Withdrawal) -> Result<(), Fail> {
+    for old in rows.iter_mut() {
+        if (Withdrawal {
+            day: row.day,
+            ..*old
+        }) == row
+        {
+            *old = row;
+            return Ok(());
+        }
+    }
+    rows.push(row)?;
+    Ok(())
+}
+
 fn put(view: &mut View, change: Change) -> Result<(), Fail> {
     match change {
         Change::PutPerson(row) => Ok(view.people.push(row)?),
         Change::PutTraining(row) => Ok(view.trainings.push(row)?),
+        Change::PutWithdrawal(row) => put_withdrawal(&mut view.withdrawals, row),
         Change::PutAppointment(row) => put_appointment(&mut view.appointments, row),
         Change::PutKey(row) => Ok(view.keys.push(row)?),
         _ => Err("another change".into()),
@@ -256,6 +281,103 @@ fn a_settled_day_is_refused(rt: HostRuntime) -> Result<(), Fail> {
         )?,
         6
     );
+    Ok(())
+}
+
+#[test]
+fn a_withdrawal_bears_on_what_ends_later(rt: HostRuntime) -> Result<(), Fail> {
+    let alloc = rt.alloc();
+    let mut view = with_a_holder(alloc)?;
+    assert_eq!(rt;
+        told(
+            alloc,
+            &mut view,
+            "k6",
+            train("AA", "2025-06-01", "2025-12-31")?
+        )?,
+        6
+    );
+    assert_eq!(rt;
+        told(
+            alloc,
+            &mut view,
+            "k7",
+            withdraw("AA", Role::Ca, "2025-02-14")?
+        )?,
+        7
+    );
+    assert_eq!(rt; view.withdrawals.len(), 1);
+    assert!(rt; view.withdrawals[0].since == day("2025-06-01")?);
+    assert!(rt; view.withdrawals[0].day == day("2025-02-14")?);
+    assert_eq!(rt;
+        told(
+            alloc,
+            &mut view,
+            "k8",
+            withdraw("AA", Role::Ca, "2025-02-01")?
+        )?,
+        8
+    );
+    assert_eq!(rt; view.withdrawals.len(), 2);
+    assert!(rt; view.withdrawals[0].day == day("2025-02-01")?);
+    assert!(rt; view.withdrawals[1].since == day("2025-01-01")?);
+    assert!(rt; view.withdrawals[1].day == day("2025-02-01")?);
+    let vacant = told(
+        alloc,
+        &mut view,
+        "n1",
+        withdraw("AA", Role::Ca, "2025-02-01")?,
+    )?;
+    assert_eq!(rt; vacant, -17);
+    let other_role = told(
+        alloc,
+        &mut view,
+        "n1",
+        withdraw("AA", Role::Iw, "2025-01-15")?,
+    )?;
+    assert_eq!(rt; other_role, -17);
+    let unknown = told(
+        alloc,
+        &mut view,
+        "n1",
+        withdraw("BB", Role::Ca, "2025-01-15")?,
+    )?;
+    assert_eq!(rt; unknown, -12);
+    Ok(())
+}
+
+#[test]
+fn a_withdrawal_is_not_before_a_settled_day(rt: HostRuntime) -> Result<(), Fail> {
+    let alloc = rt.alloc();
+    let mut view = with_a_holder(alloc)?;
+    view.marks.push(MarkRow {
+        ceremony: 60,
+        at: Moment::read(b"2025-02-12T20:10:00Z").ok_or("a moment")?,
+    })?;
+    let settled = told(
+        alloc,
+        &mut view,
+        "n1",
+        withdraw("AA", Role::Ca, "2025-02-12")?,
+    )?;
+    assert_eq!(rt; settled, -18);
+    let vacant = told(
+        alloc,
+        &mut view,
+        "n1",
+        withdraw("DD", Role::Ca, "2025-02-12")?,
+    )?;
+    assert_eq!(rt; vacant, -17);
+    assert_eq!(rt;
+        told(
+            alloc,
+            &mut view,
+            "k6",
+            withdraw("AA", Role::Ca, "2025-02-13")?
+        )?,
+        6
+    );
+    assert_eq!(rt; view.withdrawals.len(), 1);
     Ok(())
 }
 
