@@ -8,8 +8,8 @@ NEW_IS = "(state g.S.Store c.rows_of.new.tx.conn.now)"
 
 def answers(t):
     A = f"proofs/{t.name}"
-    L = f"Rattle.kcr_schema.proofs.{t.lemmas}"
-    G = f"Rattle.kcr_schema.proofs.{t.name}"
+    L = f"Rattle.kcr_tables.proofs.{t.lemmas}"
+    G = f"Rattle.kcr_tables.proofs.{t.name}"
     take = "if_both _ _ _" if t.is_read else "if_ok _ _"
     lam = "λ all h read." if t.is_read else "λ all h."
     more = " read" if t.is_read else ""
@@ -26,7 +26,7 @@ returns-clause-holds g c clean t held =
 
     joint = t.name != "versions"
     out = "use Rattle.std.proofs.Common.{IsPermutation, sym, subst}\n" if joint else ""
-    out += f"use Rattle.sqlite.specs.Held.{{state}}\nuse Rattle.kcr_rows.proofs.FailLemmas.{{{', '.join(used)}}}\nuse Rattle.kcr_schema.specs.Schema.{{register_schema}}\nuse Rattle.kcr_schema.proofs.HoldLemmas.{{still_holds"
+    out += f"use Rattle.sqlite.specs.Held.{{state}}\nuse Rattle.kcr_rows.proofs.FailLemmas.{{{', '.join(used)}}}\nuse Rattle.kcr_tables.specs.Schema.{{register_schema}}\nuse Rattle.kcr_tables.proofs.HoldLemmas.{{still_holds"
     out += ", held_of, tables_of" if joint else ""
     out += f"}}\nuse {L}.{{all_text, all_plain, reads, reads_exact}}\nuse {G}.all_{t.name}.Goals as goal\n"
     out += f"""
@@ -58,7 +58,7 @@ returns-clause-tables g c clean m h =
         out = ""
         if r.arg:
             out += f"use Rattle.std.proofs.Common.{{[], ◌∷◌, ◌∙◌, ap, map, IfOk, subst}}\nuse Rattle.sqlite.specs.declared.types.Value.TheVariants.{{Text}}\nuse Rattle.sqlite.specs.Order.{{Row}}\n"
-        out += f"use Rattle.sqlite.specs.Held.{{state}}\nuse Rattle.sqlite.specs.State.{{Shown}}\nuse Rattle.kcr_rows.proofs.FailLemmas.{{{', '.join(used)}}}\nuse Rattle.kcr_schema.specs.Schema.{{register_schema}}\nuse Rattle.kcr_schema.specs.Rows.{{{t.row_of}}}\nuse Rattle.kcr_schema.proofs.HoldLemmas.{{still_holds}}\n"
+        out += f"use Rattle.sqlite.specs.Held.{{state}}\nuse Rattle.sqlite.specs.State.{{Shown}}\nuse Rattle.kcr_rows.proofs.FailLemmas.{{{', '.join(used)}}}\nuse Rattle.kcr_tables.specs.Schema.{{register_schema}}\nuse Rattle.kcr_tables.specs.Rows.{{{t.row_of}}}\nuse Rattle.kcr_tables.proofs.HoldLemmas.{{still_holds}}\n"
         out += f"use {L}.{{{p}_text, {p}_plain, reads_{p}}}\nuse {G}.{r.name}.Goals as goal\n"
         out += f"\npub returns-clause-rows : goal.returns-clause-rows\nreturns-clause-rows g c clean t held =\n    let old = state g.S.Store c.args.tx.now.conn.now in\n    let new = state g.S.Store c.rows_of.new.tx.conn.now in\n"
         if r.arg:
@@ -108,7 +108,7 @@ use Rattle.std.proofs.lemmas.List.{{get_or_default}}
 use Rattle.kcr_base.specs.Same.{{same_text}}
 use {t.declared}
 use Rattle.kcr_rows.proofs.FailLemmas.{{if_ok}}
-use Rattle.kcr_schema.proofs.{t.name}.{once}.Goals as goal
+use Rattle.kcr_tables.proofs.{t.name}.{once}.Goals as goal
 
 pub returns-else-{test}-clause-rows : goal.returns-else-{test}-clause-rows
 returns-else-{test}-clause-rows g c clean t held =
@@ -132,8 +132,8 @@ use Rattle.kcr_history.specs.declared.views.Rows.{{Rows}}
         out += "use Rattle.kcr_history.specs.declared.views.Rows.TheVariants.{Under}\nuse Rattle.kcr_history.specs.declared.views.ItemsOf.{ItemsOf}\n" + wanted.replace("{Codes}", "{Codes, Bag}")
         out += f"use {t.declared}\nuse Rattle.std.proofs.lemmas.List.Sorted.{{IsPermutation-refl}}\n"
     out += f"""use Rattle.kcr_rows.proofs.FailLemmas.{{if_ok}}
-use Rattle.kcr_schema.proofs.NamedLemmas.{{passing}}
-use Rattle.kcr_schema.proofs.{t.name}.asked_{t.name}.Goals as goal
+use Rattle.kcr_tables.proofs.NamedLemmas.{{passing}}
+use Rattle.kcr_tables.proofs.{t.name}.asked_{t.name}.Goals as goal
 
 pub returns-in-{under}-clause-rows : goal.returns-in-{under}-clause-rows
 returns-in-{under}-clause-rows g c clean t held =
@@ -155,8 +155,8 @@ returns-in-Under-Bag-clause-rows g c clean t held =
 use Rattle.sqlite.specs.Held.{{state}}
 use Rattle.sqlite.specs.State.{{HasCleanDisk, KeepsCommit, Survives}}
 use Rattle.kcr_history.specs.Views.{{{word}}}
-{wanted}use Rattle.kcr_schema.specs.Held.{{Tables, Holds}}
-use Rattle.kcr_schema.proofs.{t.name}.{name}.Given as goal
+{wanted}use Rattle.kcr_tables.specs.Held.{{Tables, Holds}}
+use Rattle.kcr_tables.proofs.{t.name}.{name}.Given as goal
 
 abbrev pub invariant-loop-at : goal.invariant-loop-at
 invariant-loop-at g l =
@@ -175,10 +175,10 @@ use Rattle.kcr_base.specs.Same.{{same_text}}
 use Rattle.sqlite.specs.Held.{{state}}
 use Rattle.kcr_history.specs.Views.{{{word}}}
 {wanted}use {t.declared}
-use Rattle.kcr_schema.specs.Held.{{Tables}}
+use Rattle.kcr_tables.specs.Held.{{Tables}}
 use Rattle.kcr_rows.proofs.InsideLemmas.{{was_clean, survives_on, keeps_then}}
-use Rattle.kcr_schema.proofs.NamedLemmas.{{none_named, named_more}}
-use Rattle.kcr_schema.proofs.{t.name}.{name}.Goals as goal
+use Rattle.kcr_tables.proofs.NamedLemmas.{{none_named, named_more}}
+use Rattle.kcr_tables.proofs.{t.name}.{name}.Goals as goal
 
 pub loop-at-init : goal.loop-at-init
 loop-at-init g c = record {{

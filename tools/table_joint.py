@@ -19,8 +19,8 @@ use Rattle.sqlite_tied.specs.Compute.{{everything}}
 use Rattle.sqlite_catalog.specs.Listing.{{IsSound}}
 use Rattle.kcr_rows.specs.Columns.{{AreEmpty}}
 use Rattle.kcr_rows.proofs.CreateLemmas.{{creates}}
-use Rattle.kcr_schema.specs.Schema.{{all_tables, {', '.join(t.name for t in TABLES)}}}
-use Rattle.kcr_schema.specs.Made.{{text_at, first}}
+use Rattle.kcr_tables.specs.Schema.{{all_tables, {', '.join(t.name for t in TABLES)}}}
+use Rattle.kcr_tables.specs.Made.{{text_at, first}}
 """
     for t in TABLES:
         a = t.at
@@ -60,10 +60,10 @@ use Rattle.sqlite.specs.Effect.{{Database}}
 use Rattle.sqlite_catalog.specs.Listing.{{IsSound}}
 use Rattle.kcr_rows.specs.Columns.{{AreEmpty}}
 use Rattle.kcr_rows.proofs.CreateLemmas.{{bare}}
-use Rattle.kcr_schema.specs.Held.{{Holds, {', '.join(t.place for t in TABLES)}}}
-use Rattle.kcr_schema.specs.First.{{empty_tables}}
-use Rattle.kcr_schema.specs.Schema.{{all_tables}}
-use Rattle.kcr_schema.specs.Made.{{first}}
+use Rattle.kcr_tables.specs.Held.{{Holds, {', '.join(t.place for t in TABLES)}}}
+use Rattle.kcr_tables.specs.First.{{empty_tables}}
+use Rattle.kcr_tables.specs.Schema.{{all_tables}}
+use Rattle.kcr_tables.specs.Made.{{first}}
 
 pub holds_nothing : (db : Database) → db.schema ≡ first {n} → AreEmpty all_tables db.trees → IsSound (first {n}) db.trees → Holds db empty_tables
 holds_nothing db is e sound = record {{
@@ -123,14 +123,14 @@ use Rattle.kcr_history.specs.declared.views.Change.{Change}
                     words.append(w)
     out += uses(words)
     out += "use Rattle.kcr_rows.specs.Keyed.{by_key}\n"
-    out += "use Rattle.kcr_rows.proofs.OrderLemmas.{put-stands, put_in_rising}\nuse Rattle.kcr_rows.proofs.SameLemmas.{text_ties, number_ties, facility_ties, role_ties, place_ties, one_column, two_columns, three_columns, four_columns, turned}\nuse Rattle.kcr_schema.proofs.StateLemmas.{safe_ties}\n"
-    out += f"use Rattle.kcr_schema.specs.Rows.{{{', '.join(t.row_of for t in puts)}}}\n"
+    out += "use Rattle.kcr_rows.proofs.OrderLemmas.{put-stands, put_in_rising}\nuse Rattle.kcr_rows.proofs.SameLemmas.{text_ties, number_ties, facility_ties, role_ties, place_ties, one_column, two_columns, three_columns, four_columns, turned}\nuse Rattle.kcr_tables.proofs.StateLemmas.{safe_ties}\n"
+    out += f"use Rattle.kcr_tables.specs.Rows.{{{', '.join(t.row_of for t in puts)}}}\n"
     out += "".join(f"use {t.declared}\n" for t in puts)
-    out += """use Rattle.kcr_schema.specs.Held.{Tables, Kept, Holds}
-use Rattle.kcr_schema.specs.First.{first_tables}
-use Rattle.kcr_schema.specs.Changed.{changed, changed_all}
-use Rattle.kcr_schema.specs.Joint.{Stands, KeepsTables, HoldsTables}
-use Rattle.kcr_schema.proofs.HoldLemmas.{held_of, tables_of}
+    out += """use Rattle.kcr_tables.specs.Held.{Tables, Kept, Holds}
+use Rattle.kcr_tables.specs.First.{first_tables}
+use Rattle.kcr_tables.specs.Changed.{changed, changed_all}
+use Rattle.kcr_tables.specs.Joint.{Stands, KeepsTables, HoldsTables}
+use Rattle.kcr_tables.proofs.HoldLemmas.{held_of, tables_of}
 
 -- ---- two rows of one key, by the machine's tests
 """

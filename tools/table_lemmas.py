@@ -8,7 +8,7 @@ ONES = {"one_number": "SameLemmas", "one_facility": "SameLemmas", "one_role": "S
 
 
 def lemmas(t):
-    P = f"Rattle.kcr_schema"
+    P = f"Rattle.kcr_tables"
     cols = t.columns
     out = f"-- The statements on the table {t.name}.\n"
     common = ["◌≡◌", "ℕ", "pos", "List", "[]", "◌∷◌", "map", "filter", "codes", "true", "false", "Ok", "refl", "sym", "subst", "◌∙◌", "◌==◌", "◌&&◌", "◌||◌", "not", "Bool"]

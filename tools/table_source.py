@@ -72,21 +72,21 @@ def source(t):
     out += "ghost use Rattle.kcr_rows.specs.Refusals.{IsFault};\nghost use Rattle.kcr_rows.specs.Keyed.{put_in, cells};\n"
     if extra:
         out += "ghost use Rattle.kcr_rows.specs.Greatest.{IsGreatest};\n"
-    out += "ghost use Rattle.kcr_schema.specs.Schema.{register_schema};\n"
-    out += f"ghost use Rattle.kcr_schema.specs.Rows.{{{t.row_of}}};\n"
+    out += "ghost use Rattle.kcr_tables.specs.Schema.{register_schema};\n"
+    out += f"ghost use Rattle.kcr_tables.specs.Rows.{{{t.row_of}}};\n"
     if t.is_read:
-        out += f"ghost use Rattle.kcr_schema.specs.States.{{{t.is_read}}};\n"
-    out += "ghost use Rattle.kcr_schema.specs.Held.{Tables, Holds};\n"
+        out += f"ghost use Rattle.kcr_tables.specs.States.{{{t.is_read}}};\n"
+    out += "ghost use Rattle.kcr_tables.specs.Held.{Tables, Holds};\n"
     if t.asked:
         asked_words = "asked_of" if t.asked[1] else ("asked_all" if not t.asked[0] else "")
         if asked_words:
-            out += f"ghost use Rattle.kcr_schema.specs.Asked.{{{asked_words}}};\n"
+            out += f"ghost use Rattle.kcr_tables.specs.Asked.{{{asked_words}}};\n"
         if t.asked[1] and t.asked[1] not in machine_words:
             out += f"ghost use Rattle.kcr_history.specs.Views.{{{t.asked[1]}}};\n"
         if t.asked[0] and not t.asked[1]:
             out += "ghost use Rattle.kcr_history.specs.Views.{Shows};\n"
     if not is_version:
-        out += "ghost use Rattle.kcr_schema.specs.Joint.{HoldsTables};\n"
+        out += "ghost use Rattle.kcr_tables.specs.Joint.{HoldsTables};\n"
     out += "\n"
     cells = []
     for c in t.columns:
@@ -277,7 +277,7 @@ def source_texts():
     out = """//! The texts that make the tables.
 
 ghost use Rattle.std.specs.Prelude.{◌≡◌, ◌<◌};
-ghost use Rattle.kcr_schema.specs.Made.{text_at};
+ghost use Rattle.kcr_tables.specs.Made.{text_at};
 
 """
     out += f"/// How many tables there are.\npub const COUNT: usize = {len(TABLES)};\n\n"

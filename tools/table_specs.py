@@ -15,7 +15,7 @@ HOMES = {
 
 
 def home_of(word):
-    return HOMES.get(word, "Rattle.kcr_schema.specs.States")
+    return HOMES.get(word, "Rattle.kcr_tables.specs.States")
 
 
 def uses(words):
@@ -57,9 +57,9 @@ def spec_schema():
 def spec_held():
     out = "-- The database holds the tables of a register.\n"
     out += "use Rattle.std.specs.Prelude.{◌≡◌, List, map}\nuse Rattle.std.specs.List.{AllByRecursion}\nuse Rattle.sqlite.specs.Effect.{Database}\nuse Rattle.sqlite_catalog.specs.Listing.{IsSound}\nuse Rattle.sqlite.specs.Tree.{Trees}\n"
-    out += "use Rattle.kcr_schema.specs.Schema.{register_schema}\nuse Rattle.kcr_rows.specs.Keyed.{Place, Keeps}\n"
-    out += "use Rattle.kcr_schema.specs.Rows.{" + ", ".join(t.row_of for t in TABLES) + "}\n"
-    out += "use Rattle.kcr_schema.specs.States.{" + ", ".join(t.is_stored for t in TABLES if t.is_stored) + "}\n"
+    out += "use Rattle.kcr_tables.specs.Schema.{register_schema}\nuse Rattle.kcr_rows.specs.Keyed.{Place, Keeps}\n"
+    out += "use Rattle.kcr_tables.specs.Rows.{" + ", ".join(t.row_of for t in TABLES) + "}\n"
+    out += "use Rattle.kcr_tables.specs.States.{" + ", ".join(t.is_stored for t in TABLES if t.is_stored) + "}\n"
     out += "".join(f"use {t.declared}\n" for t in TABLES)
     out += "\n-- where each table lies\n"
     for t in TABLES:
@@ -76,7 +76,7 @@ def spec_held():
 
 def spec_made():
     out = "-- How an empty database becomes one of a register.\n"
-    out += "use Rattle.std.specs.Prelude.{ℕ, List, [], ◌∷◌, take, codes, slice_index_or}\nuse Rattle.sqlite.specs.Schema.{Schema}\nuse Rattle.kcr_rows.specs.Columns.{schema_of}\nuse Rattle.kcr_schema.specs.Schema.{all_tables}\n"
+    out += "use Rattle.std.specs.Prelude.{ℕ, List, [], ◌∷◌, take, codes, slice_index_or}\nuse Rattle.sqlite.specs.Schema.{Schema}\nuse Rattle.kcr_rows.specs.Columns.{schema_of}\nuse Rattle.kcr_tables.specs.Schema.{all_tables}\n"
     out += "\n-- the texts that make the tables, in their order\nabbrev pub texts : List (List ℕ)\ntexts =\n    "
     out += "\n    ∷ ".join(codes(t.create_text()) for t in TABLES) + " ∷ []\n"
     out += "\nabbrev pub text_at : ℕ → List ℕ\ntext_at at = slice_index_or texts at []\n"
@@ -87,7 +87,7 @@ def spec_made():
 def spec_changed():
     puts = [t for t in TABLES if t.change]
     out = "-- What a change makes of the tables.\nuse Rattle.std.specs.Prelude.{List, fold}\nuse Rattle.kcr_rows.specs.Keyed.{put_in}\n"
-    out += "use Rattle.kcr_schema.specs.Rows.{" + ", ".join(t.row_of for t in puts) + "}\nuse Rattle.kcr_schema.specs.Held.{Tables}\n"
+    out += "use Rattle.kcr_tables.specs.Rows.{" + ", ".join(t.row_of for t in puts) + "}\nuse Rattle.kcr_tables.specs.Held.{Tables}\n"
     out += "use Rattle.kcr_history.specs.declared.views.Change.{Change}\nuse Rattle.kcr_history.specs.declared.views.Change.TheVariants.{" + ", ".join(t.change for t in puts) + "}\n"
     out += "\n-- the row is put into its table, under its key\nabbrev pub changed : Change → Tables → Tables\n"
     out += "".join(f"changed ({t.change} x) t = record t {{ {t.name} = put_in {t.keys} {t.row_of} x t.{t.name} }}\n" for t in puts)
@@ -101,9 +101,9 @@ use Rattle.std.specs.Prelude.{◌≡◌, IsPermutation}
 use Rattle.sqlite.specs.Tree.{Trees}
 use Rattle.sqlite.specs.Effect.{Database}
 use Rattle.kcr_history.specs.Tables as machine
-use Rattle.kcr_schema.specs.Schema.{register_schema}
-use Rattle.kcr_schema.specs.Held.{Tables, Kept}
-use Rattle.kcr_schema.specs.First.{first_tables}
+use Rattle.kcr_tables.specs.Schema.{register_schema}
+use Rattle.kcr_tables.specs.Held.{Tables, Kept}
+use Rattle.kcr_tables.specs.First.{first_tables}
 
 -- the same rows, in any order; the version is that of a new register
 pub record Stands (m : machine.Tables) (t : Tables) : Type 0 where
@@ -133,7 +133,7 @@ use Rattle.kcr_base.specs.declared.place.Facility.TheVariants.{East, West}
 use Rattle.kcr_custody.specs.declared.SafeNumber.{SafeNumber}
 use Rattle.kcr_custody.specs.declared.SafeNumber.TheVariants.{One, Two}
 use Rattle.kcr_custody.specs.declared.SafeRow.{SafeRow}
-use Rattle.kcr_schema.specs.Held.{Tables}
+use Rattle.kcr_tables.specs.Held.{Tables}
 
 abbrev pub empty_tables : Tables
 empty_tables = record {

@@ -2,7 +2,7 @@
 import os
 import re
 
-ROOT = os.path.join("crates", "kcr_schema")
+ROOT = os.path.join("crates", "kcr_tables")
 
 
 def is_named(name, body):

@@ -1,10 +1,10 @@
 #!/usr/bin/env python3
-"""Writes the modules of the tables in crates/kcr_schema, one for each table and all alike, with their lemma files.
+"""Writes the modules of the tables in crates/kcr_tables, one for each table and all alike, with their lemma files.
 
 Run it at the top of the repository, then lay the files out and check:
 
     python3 tools/tables.py
-    cd crates/kcr_schema && rt fmt && rt check
+    cd crates/kcr_tables && rt fmt && rt check
 
 With the word `schema` it writes nothing, and prints the texts that make the tables instead, one on a line and in their
 order, as `tests/sqlite3.sh` compares them with what sqlite3 reads in a register's file.

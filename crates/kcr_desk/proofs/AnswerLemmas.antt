@@ -3,10 +3,10 @@ use Rattle.std.proofs.Common.{◌≡◌, ℕ, List, refl, sym, ap, ◌∙◌, su
 use Rattle.std.specs.Prelude.{◌⊎◌, ◌≢◌, true, false, Option, Some, None, Result, Ok, Err, MatchOption, MatchResult, IsSome, IsTrue}
 use Rattle.kcr_base.specs.declared.refusal.Refusal.{Refusal}
 use Rattle.kcr_base.specs.declared.refusal.Refusal.TheVariants as Refusals
-use Rattle.kcr_machine.specs.History.{History}
-use Rattle.kcr_machine.specs.Refusals.{carries}
-use Rattle.kcr_machine.specs.declared.commands.Command.{Command}
-use Rattle.kcr_machine.specs.declared.commands.Reply.{Reply}
+use Rattle.kcr_history.specs.History.{History}
+use Rattle.kcr_history.specs.Refusals.{carries}
+use Rattle.kcr_history.specs.declared.commands.Command.{Command}
+use Rattle.kcr_history.specs.declared.commands.Reply.{Reply}
 use Rattle.kcr_store.specs.Steps.{Steps}
 use Rattle.kcr_store.specs.declared.question.Question.{Question}
 use Rattle.kcr_store.specs.declared.question.Shown.{Shown}

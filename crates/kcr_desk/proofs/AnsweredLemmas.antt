@@ -6,8 +6,8 @@ use Rattle.sqlite.specs.State.{HasCleanDisk}
 use Rattle.sqlite.specs.Store.{Ghosts}
 use Rattle.kcr_base.specs.declared.refusal.Refusal.{Refusal}
 use Rattle.kcr_base.specs.declared.refusal.Refusal.TheVariants as Refusals
-use Rattle.kcr_machine.specs.declared.commands.Command.{Command}
-use Rattle.kcr_machine.specs.declared.commands.Reply.{Reply}
+use Rattle.kcr_history.specs.declared.commands.Command.{Command}
+use Rattle.kcr_history.specs.declared.commands.Reply.{Reply}
 use Rattle.kcr_store.specs.Register.{Seen}
 use Rattle.kcr_store.specs.Steps.{Steps, IsNext, IsAsked}
 use Rattle.kcr_store.specs.declared.question.Question.{Question}

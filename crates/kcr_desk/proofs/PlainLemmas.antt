@@ -4,7 +4,7 @@ use Rattle.std.specs.Fmt.{digits}
 use Rattle.std.specs.Prelude.{false}
 use Rattle.kcr_base.specs.declared.refusal.Refusal.{Refusal}
 use Rattle.kcr_base.specs.declared.refusal.Refusal.TheVariants.{Head, Host, Length, Coding, Large, Cut, Path, Method, Json, Form, Key, Unknown, Taken, Range, Apart, Held, Vacant, Settled, Script, State, Busy, Late, Order, Turn, Crowd, Lone, Full, Safe, Elsewhere, Absent, Unfinished, Short, Memory, Disk, Broken}
-use Rattle.kcr_machine.specs.Refusals.{carries, refusal_text}
+use Rattle.kcr_history.specs.Refusals.{carries, refusal_text}
 use Rattle.kcr_desk.specs.Texts.{plain_text}
 
 pub plain_refusal : (r : Refusal) → carries r ≡ false → plain_text r ≡ refusal_text r

@@ -7,10 +7,10 @@ use Rattle.sqlite.specs.Store.{Ghosts}
 use Rattle.kcr_base.specs.Refusal.{status_of}
 use Rattle.kcr_base.specs.declared.refusal.Refusal.{Refusal}
 use Rattle.kcr_base.specs.declared.refusal.Refusal.TheVariants as Refusals
-use Rattle.kcr_machine.specs.History.{History}
-use Rattle.kcr_machine.specs.Refusals.{refusal_text}
-use Rattle.kcr_machine.specs.declared.commands.Command.{Command}
-use Rattle.kcr_machine.specs.declared.commands.Reply.{Reply}
+use Rattle.kcr_history.specs.History.{History}
+use Rattle.kcr_history.specs.Refusals.{refusal_text}
+use Rattle.kcr_history.specs.declared.commands.Command.{Command}
+use Rattle.kcr_history.specs.declared.commands.Reply.{Reply}
 use Rattle.kcr_store.specs.Register.{Seen}
 use Rattle.kcr_store.specs.Steps.{Steps, IsNext, IsAsked}
 use Rattle.kcr_store.specs.declared.question.Question.{Question}

@@ -4,7 +4,7 @@ ghost use Rattle.sqlite.specs.Held.{state};
 ghost use Rattle.sqlite.specs.State.{HasCleanDisk};
 ghost use Rattle.kcr_base.specs.Counted.{inner_of, failures_of, gifts_of};
 ghost use Rattle.kcr_base.specs.declared.refusal.Refusal.{Refusal};
-ghost use Rattle.kcr_machine.specs.Refusals.{carries, refusal_text};
+ghost use Rattle.kcr_history.specs.Refusals.{carries, refusal_text};
 ghost use Rattle.kcr_desk.specs.Answers.{IsAnswer, standing};
 ghost use Rattle.kcr_desk.specs.Run.{IsServed, IsBroken};
 ghost use Rattle.kcr_desk.specs.Texts.{plain_text};

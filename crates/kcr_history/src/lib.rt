@@ -12,6 +12,7 @@ mod commands;
 mod joined;
 mod lists;
 mod paths;
+mod refusals;
 mod replies;
 mod row_laws;
 mod rows;
@@ -22,6 +23,7 @@ pub use asked::asks;
 pub use commands::{Act, Answer, Command, Entry, Reply};
 pub use kcr_base::Text;
 pub use lists::{Items, People};
+pub use refusals::{fixed_text, refusal_text};
 pub use replies::answer_text;
 pub use row_laws::{
     holder_of_rows, numbers_count_commands, people_of_rows, settled_of_rows, training_of_rows,

@@ -1,25 +1,74 @@
--- A decision by the rows of a view is a step of the machine.
-use Rattle.std.proofs.Common.{◌≡◌, ℕ, ◌+◌, Bool, true, false, cond, ◌||◌, nat_le, List, [], ◌∷◌, ◌++◌, Option, Some, None, option_map, refl, sym, ap, ◌∙◌, Result, Ok, Err, MatchOption}
+-- The changes of an act that has no fault lead from the tables before it to those after it.
+use Rattle.std.proofs.Common.{◌≡◌, ℕ, Bool, true, false, cond, ◌||◌, List, [], ◌∷◌, ◌++◌, map, Some, None, option_map, refl, ap, ◌∙◌, subst}
 use Rattle.std.specs.List.{list_any}
-use Rattle.kcr_base.specs.Same.{same_text}
-use Rattle.kcr_base.specs.declared.refusal.Refusal.{Refusal}
-use Rattle.kcr_base.specs.declared.refusal.Refusal.TheVariants.{Key, Taken}
-use Rattle.kcr_machine.specs.declared.commands.Act.{Act}
-use Rattle.kcr_machine.specs.declared.commands.Act.TheVariants.{Enter}
-use Rattle.kcr_machine.specs.declared.commands.Answer.{Answer}
-use Rattle.kcr_machine.specs.declared.commands.Command.{Command}
-use Rattle.kcr_machine.specs.declared.commands.Entry.{Entry}
-use Rattle.kcr_machine.specs.declared.views.Change.TheVariants.{PutKey}
-use Rattle.kcr_machine.specs.declared.views.KeyRow.{KeyRow}
-use Rattle.kcr_machine.specs.declared.views.Verdict.{Verdict}
-use Rattle.kcr_machine.specs.declared.views.View.{View}
-use Rattle.kcr_machine.specs.History.{History, entry_of, is_person}
-use Rattle.kcr_machine.specs.Texts.{command_text}
-use Rattle.kcr_machine.specs.Tables.{people, keys, key_row, put, tables, changed_by, is_of_person, is_of_key, row_of_key, greatest_number, asks_of, IsViewOf}
-use Rattle.kcr_machine.specs.Machine.{conditions, fault, is_full, Accepts, Refuses, answer_to, with_command, acts, repeats, IsRegister, IsAcceptance, IsRepeat, IsDecision}
-use Rattle.kcr_machine.specs.ByRows.{refusal_in, changes_by, new_key_row, AcceptsNew, RepeatsRow, IsRowVerdict, IsRowDecision}
-use Rattle.kcr_machine.proofs.Words.{is_person-people, row_of_key-keys}
-use Rattle.kcr_machine.proofs.Steps.{refusal-shown, greatest-keys, none_holds, unmet}
+use Rattle.std.specs.List.Sorted.{IsPermutation}
+use Rattle.std.proofs.lemmas.List.Sorted.{IsPermutation-refl, IsPermutation-sym}
+use Rattle.kcr_base.specs.Rows.{put, put_all}
+use Rattle.kcr_base.specs.declared.place.Place.{Place}
+use Rattle.kcr_base.specs.declared.place.Role.{Role}
+use Rattle.kcr_base.specs.declared.refusal.Refusal.TheVariants.{Taken, Held, Range, Vacant, Memory}
+use Rattle.kcr_base.proofs.RefuseLemmas.{none_holds, unmet}
+use Rattle.kcr_base.proofs.RowsLemmas.{put_all-order}
+use Rattle.kcr_people.specs.declared.Training.{Training}
+use Rattle.kcr_people.specs.declared.Withdrawal.{Withdrawal}
+use Rattle.kcr_people.specs.Laws.{same_withdrawn}
+use Rattle.kcr_people.specs.People.{same_training, withdrawn_rows, open_row_by, end_of, nobody, place_held_from_by, person_holds_from_by}
+use Rattle.kcr_people.proofs.Keys.{same_withdrawn-keys, withdrawn_rows-apart}
+use Rattle.kcr_history.specs.declared.commands.Act.{Act}
+use Rattle.kcr_history.specs.declared.commands.Act.TheVariants.{Enter, Train, Withdraw, Appoint, Replace, Release}
+use Rattle.kcr_history.specs.declared.commands.Answer.{Answer}
+use Rattle.kcr_history.specs.declared.commands.Command.{Command}
+use Rattle.kcr_history.specs.declared.rows.KeyRow.{KeyRow}
+use Rattle.kcr_history.specs.declared.views.Change.{Change}
+use Rattle.kcr_history.specs.declared.views.Change.TheVariants.{PutWithdrawal, PutKey}
+use Rattle.kcr_history.specs.declared.views.View.{View}
+use Rattle.kcr_history.specs.History.{History, some_command, entry_of}
+use Rattle.kcr_history.specs.Training.{is_person, is_training}
+use Rattle.kcr_history.specs.Tables.{Tables, SameTables, people, trainings, withdrawals, appointments, ended, keys, key_row, tables}
+use Rattle.kcr_history.specs.Changes.{same_person, same_appointment, same_key_row, changed_by}
+use Rattle.kcr_history.specs.Views.{row_of_key, is_of_key, IsViewOf}
+use Rattle.kcr_history.specs.Asked.{asks_by}
+use Rattle.kcr_history.specs.Conditions.{conditions, fault, is_full}
+use Rattle.kcr_history.specs.Machine.{IsRegister, with_command}
+use Rattle.kcr_history.proofs.Words.{is_person-people, is_training-trainings, row_of_key-keys}
+use Rattle.kcr_history.proofs.Stacked.{or_parts, closing, lasts-ended, no_begin, put-ended, open-order}
+use Rattle.kcr_history.proofs.Orderly.{standing, orderly}
+use Rattle.kcr_history.proofs.Distinct.{trainings-apart}
+use Rattle.kcr_machine.specs.ByRows.{refusal_by, changes_by, new_appointment, new_key_row}
+use Rattle.kcr_machine.proofs.Refusals.{open-shown}
+use Rattle.kcr_machine.proofs.Withdrawn.{ShowsTrainings, ShowsWithdrawals, withdrawn_rows-shown}
+
+-- TABLES THAT ARE EQUAL HAVE THE SAME ROWS
+
+-- tables that differ in the order of their withdrawals alone
+other-withdrawals : (t : Tables) (ws : List Withdrawal) → IsPermutation ws t.withdrawals → SameTables (record t { withdrawals = ws }) t
+other-withdrawals t ws p =
+    record {
+      people = IsPermutation-refl t.people;
+      trainings = IsPermutation-refl t.trainings;
+      withdrawals = p;
+      appointments = IsPermutation-refl t.appointments;
+      boxes = IsPermutation-refl t.boxes;
+      safes = IsPermutation-refl t.safes;
+      bags = IsPermutation-refl t.bags;
+      items = IsPermutation-refl t.items;
+      ceremonies = IsPermutation-refl t.ceremonies;
+      marks = IsPermutation-refl t.marks;
+      steps = IsPermutation-refl t.steps;
+      seatings = IsPermutation-refl t.seatings;
+      sheet = IsPermutation-refl t.sheet;
+      stays = IsPermutation-refl t.stays;
+      exceptions = IsPermutation-refl t.exceptions;
+      keys = IsPermutation-refl t.keys;
+    }
+
+same-own : (t : Tables) → SameTables t t
+same-own t = other-withdrawals t t.withdrawals (IsPermutation-refl t.withdrawals)
+
+same-tables : (t u : Tables) → t ≡ u → SameTables t u
+same-tables t u e = subst (SameTables t) e (same-own t)
+
+-- ROWS THAT ARE NEW
 
 -- a row whose key is not there is put in front
 put_new : {X : Type 0} (same : X → X → Bool) (row : X) (rows : List X) → list_any (same row) rows ≡ false → put same row rows ≡ row ∷ rows
@@ -37,59 +86,89 @@ no_row (row ∷ rows) key h = by_test (no_row rows key) (is_of_key key row) h
 no_key : (A : History) (key : List ℕ) → entry_of A key ≡ None → list_any (is_of_key key) (keys A) ≡ false
 no_key A key k = no_row (keys A) key (row_of_key-keys A key ∙ ap (option_map key_row) k)
 
--- the first refusal by the rows of a view is the fault
-refusal-view : (A : History) (x : Command) (view : View) → IsRegister A → IsViewOf (asks_of x) (tables A) view → refusal_in view x.act ≡ fault A x.act
-refusal-view A x view h v =
-    let full : nat_le 4000000000 (greatest_number view.keys.items) ≡ is_full A = rw (v.greatest, greatest-keys A h) in
-    rw full (refusal-shown A x.act view.people.items v.people)
+new_key : (A : History) (x : Command) (answer : Answer) → entry_of A x.key ≡ None → put same_key_row (new_key_row x answer) (keys A) ≡ new_key_row x answer ∷ keys A
+new_key A x answer k = put_new same_key_row (new_key_row x answer) (keys A) (no_key A x.key k)
 
--- the changes of an act that has no fault
-changes-of : (A : History) (key : List ℕ) (act : Act) (answer : Answer) → entry_of A key ≡ None → fault A act ≡ None
-    → changed_by (changes_by act ++ PutKey (new_key_row (record { key = key; act = act }) answer) ∷ []) (tables A) ≡ tables (with_command A (record { key = key; act = act }) answer)
-changes-of A key (Enter who name) answer k f =
+-- THE KINDS
+
+-- the changes of the act and its row of a key, made in the tables, give those of the history with the command
+abbrev Leads : History → View → Command → Answer → Type 0
+Leads A view x answer = changed_by (changes_by view x.act ++ PutKey (new_key_row x answer) ∷ []) (tables A) ≡ tables (with_command A x answer)
+
+enter-leads : (A : History) (key who name : List ℕ) (view : View) (answer : Answer) → entry_of A key ≡ None → fault A (Enter who name) ≡ None → Leads A view (record { key = key; act = Enter who name }) answer
+enter-leads A key who name view answer k f =
     let absent = is_person-people A who ∙ unmet (is_person A who) Taken (none_holds (conditions A (Enter who name)) f).0 in
-    let p = put_new (λ new. is_of_person new.who) (record { who = who; name = name }) (people A) absent in
-    let q = put_new (λ new. is_of_key new.key) (new_key_row (record { key = key; act = Enter who name }) answer) (keys A) (no_key A key k) in
-    rw (p, q)
+    rw (put_new same_person (record { who = who; name = name }) (people A) absent, new_key A (record { key = key; act = Enter who name }) answer k)
 
-accepted : (A : History) (x : Command) (view : View) (verdict : Verdict) (answer : Answer) → IsRegister A → IsViewOf (asks_of x) (tables A) view
-    → entry_of A x.key ≡ None → AcceptsNew view x verdict answer → IsAcceptance A x verdict answer
-accepted A x view verdict answer h v k g =
-    let next : answer ≡ answer_to A = g.next ∙ ap (λ n. record { accepted = n + 1 }) (v.greatest ∙ greatest-keys A h) in
-    let none : fault A x.act ≡ None = sym (refusal-view A x view h v) ∙ g.fine in
-    record {
-      step = rw (k, none) (ap Accepts next, ap (with_command A x) next);
-      tables = ap (λ changes. changed_by changes (tables A)) g.changes ∙ changes-of A x.key x.act answer k none;
-      reply = g.reply;
-    }
+train-leads : (A : History) (key who : List ℕ) (role : Role) (since until : ℕ) (view : View) (answer : Answer) → entry_of A key ≡ None → fault A (Train who role since until) ≡ None
+    → Leads A view (record { key = key; act = Train who role since until }) answer
+train-leads A key who role since until view answer k f =
+    let new : Training = record { who = who; role = role; since = since; until = until } in
+    let absent = is_training-trainings A new ∙ unmet (some_command (is_training who role since until) A) Taken (none_holds (conditions A (Train who role since until)) f).1.0 in
+    rw (put_new same_training new (trainings A) absent, new_key A (record { key = key; act = Train who role since until }) answer k)
 
-repeated : (A : History) (x : Command) (view : View) (verdict : Verdict) (kept : Entry) → entry_of A x.key ≡ Some kept → RepeatsRow view x verdict (key_row kept) → IsRepeat A x verdict kept
-repeated A x view verdict kept k g =
-    record {
-      found = k;
-      step = rw k (rw g.same refl, refl);
-      changes = g.changes;
-      reply = g.reply;
-    }
+-- the rows of withdrawals put one after the other
+changed_by-withdrawals : (rows : List Withdrawal) (rest : List Change) (t : Tables)
+    → changed_by (map PutWithdrawal rows ++ rest) t ≡ changed_by rest (record t { withdrawals = put_all same_withdrawn rows t.withdrawals })
+changed_by-withdrawals [] rest t = refl
+changed_by-withdrawals (row ∷ rows) rest t = changed_by-withdrawals rows rest (record t { withdrawals = put same_withdrawn row t.withdrawals })
 
-verdict-view : (A : History) (x : Command) (view : View) (verdict : Verdict) → IsRegister A → IsViewOf (asks_of x) (tables A) view
-    → (k : Option Entry) → entry_of A x.key ≡ k → (o : Option Answer) → IsRowVerdict view x verdict (option_map key_row k) o
-    → MatchOption o ((kept : Entry) × IsRepeat A x verdict kept) (IsAcceptance A x verdict)
-verdict-view A x view verdict h v None e (Some answer) g = accepted A x view verdict answer h v e g
-verdict-view A x view verdict h v (Some kept) e None g = (kept, repeated A x view verdict kept e g)
-verdict-view A x view verdict h v None e None g = absurd g
-verdict-view A x view verdict h v (Some kept) e (Some answer) g = absurd g
+-- by the rows shown the same rows are put, in some order; no two of them have one key
+withdrawals-put : (A : History) → IsRegister A → (who : List ℕ) (role : Role) (day : ℕ) (us : List Training) (vs : List Withdrawal) → ShowsTrainings who (trainings A) us → ShowsWithdrawals who (withdrawals A) vs
+    → IsPermutation (put_all same_withdrawn (withdrawn_rows us vs who role day) (withdrawals A)) (put_all same_withdrawn (withdrawn_rows (trainings A) (withdrawals A) who role day) (withdrawals A))
+withdrawals-put A h who role day us vs p q =
+    IsPermutation-sym _ _
+    (put_all-order same_withdrawn same_withdrawn-keys (withdrawn_rows (trainings A) (withdrawals A) who role day) (withdrawn_rows us vs who role day) (withdrawals A)
+    (withdrawn_rows-shown who (trainings A) us (withdrawals A) vs p q role day)
+    (withdrawn_rows-apart (trainings A) (withdrawals A) who role day (trainings-apart A h)))
 
-refused : (A : History) (x : Command) (view : View) (refusal : Refusal) → IsRegister A → IsViewOf (asks_of x) (tables A) view → (k : Option Entry)
-    → MatchOption (option_map key_row k) (refusal_in view x.act ≡ Some refusal) (λ row. (same_text row.command (command_text x.act) ≡ false) × (refusal ≡ Key))
-    → MatchOption k (acts A x (fault A x.act) (Refuses refusal) A) (λ kept. repeats A x kept (Refuses refusal) A)
-refused A x view refusal h v (Some kept) g = (rw (g.0, g.1), refl)
-refused A x view refusal h v None g = rw (sym (refusal-view A x view h v) ∙ g) (refl, refl)
+withdraw-leads : (A : History) → IsRegister A → (key who : List ℕ) (role : Role) (day : ℕ) (view : View) (answer : Answer) → IsViewOf (asks_by key (Withdraw who role day)) (tables A) view → entry_of A key ≡ None
+    → SameTables (changed_by (changes_by view (Withdraw who role day) ++ PutKey (new_key_row (record { key = key; act = Withdraw who role day }) answer) ∷ []) (tables A)) (tables (with_command A (record { key = key; act = Withdraw who role day }) answer))
+withdraw-leads A h key who role day view answer v k =
+    let x : Command = record { key = key; act = Withdraw who role day } in
+    let rows = withdrawn_rows view.trainings.items view.withdrawals.items who role day in
+    rw (changed_by-withdrawals rows (PutKey (new_key_row x answer) ∷ []) (tables A), new_key A x answer k)
+    (other-withdrawals (tables (with_command A x answer)) (put_all same_withdrawn rows (withdrawals A))
+    (withdrawals-put A h who role day view.trainings.items view.withdrawals.items v.trainings v.withdrawals))
 
--- a decision by the rows of a view is a step of the machine
-pub decision : (A : History) (x : Command) (view : View) (result : Result Verdict Refusal) → IsRegister A → IsViewOf (asks_of x) (tables A) view → IsRowDecision view x result → IsDecision A x result
-decision A x view (Ok verdict) h v g =
-    let e = v.key_row ∙ row_of_key-keys A x.key in
-    verdict-view A x view verdict h v (entry_of A x.key) refl verdict.answer (rw e at g)
-decision A x view (Err refusal) h v g =
-    λ ne. let e = v.key_row ∙ row_of_key-keys A x.key in refused A x view refusal h v (entry_of A x.key) (rw e at (g ne))
+appoint-leads : (A : History) → IsRegister A → (key : List ℕ) (place : Place) (who : List ℕ) (day : ℕ) (view : View) (answer : Answer) → entry_of A key ≡ None → fault A (Appoint place who day) ≡ None
+    → Leads A view (record { key = key; act = Appoint place who day }) answer
+appoint-leads A h key place who day view answer k f =
+    let n = none_holds (conditions A (Appoint place who day)) f in
+    let free = (or_parts (place_held_from_by (appointments A) place day) (person_holds_from_by (appointments A) who day) (unmet _ Held n.1.1.0)).0 in
+    let absent = no_begin place day (appointments A) (orderly A h).1 free in
+    rw (put_new same_appointment (new_appointment place who day) (appointments A) absent, new_key A (record { key = key; act = Appoint place who day }) answer k)
+
+replace-leads : (A : History) → IsRegister A → (key : List ℕ) (place : Place) (who : List ℕ) (day : ℕ) (view : View) (answer : Answer) → open_row_by view.appointments.items place ≡ open_row_by (appointments A) place
+    → entry_of A key ≡ None → fault A (Replace place who day) ≡ None → Leads A view (record { key = key; act = Replace place who day }) answer
+replace-leads A h key place who day view answer shown k f =
+    let n = none_holds (conditions A (Replace place who day)) f in
+    let st = standing (open_row_by (appointments A) place) day (unmet _ Range n.1.0) (unmet _ Vacant n.1.1.1.1.0) in
+    let o = orderly A h in
+    let p : put same_appointment (end_of (open_row_by view.appointments.items place) day (new_appointment place who day)) (appointments A) ≡ map (ended place day) (appointments A)
+    = rw (shown ∙ st.1) (put-ended place day st.0 (appointments A) o.0 o.1 st.1) in
+    let free = closing place day st.0 (appointments A) o.0 st.1 st.2 in
+    let fresh = no_begin place day (map (ended place day) (appointments A)) (lasts-ended place day st.0 (appointments A) o.0 o.1 st.1 st.2) free in
+    rw (p, put_new same_appointment (new_appointment place who day) (map (ended place day) (appointments A)) fresh, new_key A (record { key = key; act = Replace place who day }) answer k)
+
+release-leads : (A : History) → IsRegister A → (key : List ℕ) (place : Place) (day : ℕ) (view : View) (answer : Answer) → open_row_by view.appointments.items place ≡ open_row_by (appointments A) place
+    → entry_of A key ≡ None → fault A (Release place day) ≡ None → Leads A view (record { key = key; act = Release place day }) answer
+release-leads A h key place day view answer shown k f =
+    let n = none_holds (conditions A (Release place day)) f in
+    let st = standing (open_row_by (appointments A) place) day (unmet _ Range n.0) (unmet _ Vacant n.1.0) in
+    let o = orderly A h in
+    let p : put same_appointment (end_of (open_row_by view.appointments.items place) day (nobody place day)) (appointments A) ≡ map (ended place day) (appointments A)
+    = rw (shown ∙ st.1) (put-ended place day st.0 (appointments A) o.0 o.1 st.1) in
+    rw (p, new_key A (record { key = key; act = Release place day }) answer k)
+
+pub leads : (A : History) → IsRegister A → (key : List ℕ) (act : Act) (view : View) (answer : Answer) → IsViewOf (asks_by key act) (tables A) view → entry_of A key ≡ None → fault A act ≡ None
+    → refusal_by view (is_full A) act ≡ None → SameTables (changed_by (changes_by view act ++ PutKey (new_key_row (record { key = key; act = act }) answer) ∷ []) (tables A)) (tables (with_command A (record { key = key; act = act }) answer))
+leads A h key (Enter who name) view answer v k f none = same-tables _ _ (enter-leads A key who name view answer k f)
+leads A h key (Train who role since until) view answer v k f none = same-tables _ _ (train-leads A key who role since until view answer k f)
+leads A h key (Withdraw who role day) view answer v k f none = withdraw-leads A h key who role day view answer v k
+leads A h key (Appoint place who day) view answer v k f none = same-tables _ _ (appoint-leads A h key place who day view answer k f)
+leads A h key (Replace place who day) view answer v k f none =
+    same-tables _ _ (replace-leads A h key place who day view answer (open-order place (appointments A) view.appointments.items (orderly A h).0 v.appointments) k f)
+leads A h key (Release place day) view answer v k f none =
+    same-tables _ _ (release-leads A h key place day view answer (open-shown A h place view.appointments.items v.appointments) k f)
+leads A h key act view answer v k f none = absurd (let e : Some Memory ≡ None = none in cc)

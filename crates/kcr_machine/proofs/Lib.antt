@@ -1,5 +1,6 @@
-pub mod Words
-pub mod Steps
+pub mod Shown
+pub mod Withdrawn
+pub mod Unless
+pub mod Refusals
 pub mod Changes
-pub mod Once
-pub mod RefusalTexts
+pub mod Decided

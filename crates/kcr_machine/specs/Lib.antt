@@ -1,9 +1,1 @@
-pub mod History
-pub mod Json
-pub mod Texts
-pub mod Refusals
-pub mod Tables
-pub mod Machine
 pub mod ByRows
-pub mod Laws
-pub mod Examples

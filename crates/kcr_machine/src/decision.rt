@@ -1,32 +1,22 @@
-//! What a command reads, and how it is decided.
+//! How a command is decided.
 ghost use Rattle.std.specs.Prelude.{◌≡◌, MatchResult};
-ghost use Rattle.kcr_machine.specs.History.{History};
-ghost use Rattle.kcr_machine.specs.Tables.{asks_of, tables, IsViewOf};
-ghost use Rattle.kcr_machine.specs.Machine.{IsRegister, IsDecision};
+ghost use Rattle.kcr_history.specs.History.{History};
+ghost use Rattle.kcr_history.specs.Asked.{asks_of};
+ghost use Rattle.kcr_history.specs.Tables.{tables};
+ghost use Rattle.kcr_history.specs.Views.{IsViewOf};
+ghost use Rattle.kcr_history.specs.Machine.{IsRegister, IsDecision};
 ghost use Rattle.kcr_machine.specs.ByRows.{HasChanges, HasRefusal, IsRowDecision};
 
-use crate::commands::{Act, Answer, Command, Reply};
 use crate::keys::{MOST_COMMANDS, greatest_number, row_of_key};
 use crate::people;
-use crate::texts::{answer_text, command_text};
-use crate::views::{Asks, Change, KeyRow, Rows, Verdict, View};
 use kcr_base::Refusal;
+use kcr_history::{
+    Act, Answer, Change, Command, KeyRow, Reply, Verdict, View, answer_text, command_text,
+};
 use std::alloc::Global;
 
-/// The rows that the decision of this command reads. Their number does not grow with the register.
-pub fn asks(command: &Command) -> Asks
-    ensures { result ≡ asks_of command.now }
-{
-    let people = match &command.act {
-        Act::Enter { who, name: _ } => Rows::Under(*who),
-    };
-    Asks {
-        people,
-        key: command.key,
-    }
-}
-
-/// The rows that an act puts, or its first refusal.
+/// The rows that an act puts, or its first refusal. Of the kinds that act on ceremonies, rooms, steps and custody no
+/// decision is made yet: they get `Memory`.
 fn changes_of(alloc: Global, view: &View, full: bool, act: &Act) -> Result<Vec<Change>, Refusal>
     ensures { MatchResult result
         (λ changes. HasChanges view.now full act.now changes.items)
@@ -34,6 +24,23 @@ fn changes_of(alloc: Global, view: &View, full: bool, act: &Act) -> Result<Vec<C
 {
     match act {
         Act::Enter { who, name } => people::enter(alloc, view, full, *who, name),
+        Act::Train {
+            who,
+            role,
+            since,
+            until,
+        } => people::train(alloc, view, full, *who, *role, *since, *until),
+        Act::Withdraw { who, role, day } => {
+            people::withdraw(alloc, view, full, *who, *role, *day)
+        }
+        Act::Appoint { place, who, day } => {
+            people::appoint(alloc, view, full, *place, *who, *day)
+        }
+        Act::Replace { place, who, day } => {
+            people::replace(alloc, view, full, *place, *who, *day)
+        }
+        Act::Release { place, day } => people::release(alloc, view, full, *place, *day),
+        _ => Err(Refusal::Memory),
     }
 }
 
@@ -62,8 +69,11 @@ fn decide_by_rows(alloc: Global, view: &View, command: &Command) -> Result<Verdi
     }
     let answer = Answer {
         accepted: greatest + 1,
+        exception: None,
+        seating: None,
+        step: None,
     };
-    let reply = answer_text(alloc, answer)?;
+    let reply = answer_text(alloc, &answer)?;
     changes.push(Change::PutKey(KeyRow {
         key: command.key,
         accepted: answer.accepted,
@@ -80,11 +90,12 @@ fn decide_by_rows(alloc: Global, view: &View, command: &Command) -> Result<Verdi
 /// Decides a command over the rows that it asks for.
 ///
 /// For every history A that the machine leads to: where the view holds the rows of the tables of A that the command
-/// asks for, in any order, the result is the machine's step from A. A key that was accepted before is looked at first:
-/// with the same command its kept reply is given and nothing changes, with another command it is refused (11). Then
-/// come the act's own refusals in the order of their numbers, and 27 where 4,000,000,000 commands have been accepted.
-/// Want of memory (33) may be answered in place of all of these; it changes nothing. Over any other view there is
-/// some answer.
+/// asks for, in any order, the result is the machine's step from A, and the changes lead from the tables of A to those
+/// after it, up to the order of rows. A key that was accepted before is looked at first: with the same command its kept
+/// reply is given and nothing changes, with another command it is refused (11). Then come the act's own refusals in the
+/// order of their numbers, and 27 where 4,000,000,000 commands have been accepted. Want of memory (33) may be answered
+/// in place of all of these; it changes nothing. Over any other view there is some answer. Of the kinds of act, those
+/// that enter a person, train, withdraw training, appoint, replace and release are decided; all others get 33 here.
 pub fn decide(alloc: Global, view: &View, command: &Command) -> Result<Verdict, Refusal>
     ensures { (A : History) → IsRegister A → IsViewOf (asks_of command.now) (tables A) view.now → IsDecision A command.now result }
 {

@@ -1,29 +1,15 @@
-//! The machine of the register: its commands, what it answers to each, and which rows its tables hold afterwards.
+//! How commands are decided: over the rows that a command asks for, which rows to put into the tables and what to
+//! reply, or the first reason why it is refused.
 //!
-//! A command is decided over a view of the tables, the rows that it asks for. The answer says which rows to put into
-//! the tables, and what to reply. The contract of `decide` ties both to the register's history, the list of all
-//! commands accepted so far, which nothing stores and only the clauses know.
+//! The kinds that act on people are decided here: a person entered, training, withdrawal, appointment, replacement,
+//! release. The contract of `decide` is the machine's step over every history that the machine leads to.
 #![tactic(auto)]
 
-mod commands;
 mod decision;
 mod keys;
-mod laws;
 mod people;
-mod refusals;
-mod texts;
-mod views;
 
-pub use commands::{Act, Answer, Command, Entry, Reply};
-pub use decision::{asks, decide};
-pub use kcr_base::Text;
-pub use laws::{
-    first_command, keys_stand_once, numbers_count_commands, refusal_examples, refused_commands,
-    repeated_command, repeats_change_nothing, rows_of_a_person_are_enough,
-};
-pub use refusals::{fixed_text, refusal_text};
-pub use texts::{answer_text, command_text};
-pub use views::{Asks, Change, KeyRow, Rows, Verdict, View};
+pub use decision::decide;
 
 #[cfg(test)]
 mod tests;

@@ -9,7 +9,7 @@ use Rattle.sqlite.specs.Store.{Ghosts}
 use Rattle.sqlite.specs.Tree.{Trees}
 use Rattle.sqlite.specs.Held.{Held, state}
 use Rattle.sqlite.proofs.StateLemmas.{survives_then}
-use Rattle.kcr_machine.specs.History.{History}
+use Rattle.kcr_history.specs.History.{History}
 use Rattle.kcr_tables.specs.Schema.{register_schema}
 use Rattle.kcr_tables.specs.Held.{Tables, Holds}
 use Rattle.kcr_tables.proofs.OpenLemmas.{one_schema}
@@ -21,7 +21,7 @@ pub apart : no_schema ≡ register_schema → ⊥
 apart e = let tables : ◌≡◌ {A = List Table} [] register_schema.tables = ap (λ (s : Schema). s.tables) e in cc
 
 -- the register's schema has the table of versions
-versions_stand : table_named register_schema (codes "versions") ≡ Some 1
+versions_stand : table_named register_schema (codes "versions") ≡ Some 13
 unfolding same_name
 versions_stand = refl
 
@@ -70,7 +70,7 @@ module _ (accepted : History) (old : State) (settled : IsTrue old.is_open → ol
   pub of_foreign : IsForeign old.now.schema → ⊥
   of_foreign foreign = elim (f clean live) [
     | inl first ↦ foreign.0 first.0
-    | inr t ↦ (let none : ◌≡◌ {A = Option ℕ} (Some 1) None = sym versions_stand ∙ subst (λ s. table_named s (codes "versions") ≡ None) (schema_is t) foreign.1 in cc)
+    | inr t ↦ (let none : ◌≡◌ {A = Option ℕ} (Some 13) None = sym versions_stand ∙ subst (λ s. table_named s (codes "versions") ≡ None) (schema_is t) foreign.1 in cc)
   ]
 
 -- ---- a reading that is rolled back

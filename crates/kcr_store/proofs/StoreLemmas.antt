@@ -13,20 +13,21 @@ use Rattle.sqlite_value.proofs.OrderLemmas.{value_cmp-Text, then-Equal}
 use Rattle.kcr_base.specs.Same.{is_before}
 use Rattle.kcr_base.specs.declared.refusal.Refusal.{Refusal}
 use Rattle.kcr_people.specs.declared.Person.{Person}
-use Rattle.kcr_machine.specs.declared.commands.Answer.{Answer}
-use Rattle.kcr_machine.specs.declared.commands.Command.{Command}
-use Rattle.kcr_machine.specs.declared.commands.Entry.{Entry}
-use Rattle.kcr_machine.specs.declared.commands.Reply.{Reply}
-use Rattle.kcr_machine.specs.declared.views.Change.{Change}
-use Rattle.kcr_machine.specs.declared.views.Verdict.{Verdict}
-use Rattle.kcr_machine.specs.History.{History}
-use Rattle.kcr_machine.specs.Tables.{tables, changed_by}
-use Rattle.kcr_machine.specs.Tables as Machine
-use Rattle.kcr_machine.specs.Machine.{IsRegister, IsAcceptance, IsRepeat, machine, Accepts}
+use Rattle.kcr_history.specs.declared.commands.Answer.{Answer}
+use Rattle.kcr_history.specs.declared.commands.Command.{Command}
+use Rattle.kcr_history.specs.declared.commands.Entry.{Entry}
+use Rattle.kcr_history.specs.declared.commands.Reply.{Reply}
+use Rattle.kcr_history.specs.declared.views.Change.{Change}
+use Rattle.kcr_history.specs.declared.views.Verdict.{Verdict}
+use Rattle.kcr_history.specs.History.{History}
+use Rattle.kcr_history.specs.Tables.{tables}
+use Rattle.kcr_history.specs.Changes.{changed_by}
+use Rattle.kcr_history.specs.Machine.{IsRegister, IsAcceptance, IsRepeat, machine, Accepts}
 use Rattle.kcr_tables.specs.Keyed.{by_key}
 use Rattle.kcr_tables.specs.Rows.{person_row}
 use Rattle.kcr_tables.specs.Held.{Holds}
 use Rattle.kcr_tables.specs.Joint.{HoldsTables}
+use Rattle.kcr_tables.proofs.JointLemmas.{same_holds}
 use Rattle.kcr_tables.specs.Refusals.{IsFault}
 use Rattle.kcr_store.specs.Steps.{Steps, IsNext, IsByInitials, with_answer}
 use Rattle.kcr_store.specs.Stored.{IsTables, Stores}
@@ -47,14 +48,14 @@ module _ (A : History) (x : Command) (v : Verdict) where
   next_register (Some a) d r = (d.step, r)
   next_register None d r = r
 
-  next_tables : (answer : Option Answer) → Decides A x v answer → changed_by v.changes.items (tables A) ≡ tables (with_answer A x answer)
-  next_tables (Some a) d = d.tables
-  next_tables None d = ap (λ (l : List Change). changed_by l (tables A)) d.1.changes
+  -- the tables with the changes are those of the history after the command, up to the order of their rows
+  next_holds : (answer : Option Answer) (new : Database) → Decides A x v answer → HoldsTables (changed_by v.changes.items (tables A)) new → HoldsTables (tables (with_answer A x answer)) new
+  next_holds (Some a) new d h = same_holds (changed_by v.changes.items (tables A)) (tables (with_answer A x (Some a))) new d.tables h
+  next_holds None new d h = subst (λ (l : List Change). HoldsTables (changed_by l (tables A)) new) d.1.changes h
 
-  -- the tables with the changes are those of the history after the command
   pub next_stores : (answer : Option Answer) (old new : Database) → Stores A old → Decides A x v answer → HoldsTables (changed_by v.changes.items (tables A)) new → Stores (with_answer A x answer) new
   next_stores answer old new s d h =
-      let held = subst (λ (m : Machine.Tables). HoldsTables m new) (next_tables answer d) h in
+      let held = next_holds answer new d h in
       record { schema = held.schema; tables = record { register = next_register answer d s.tables.register; kept = held.tables } }
 
 -- want of memory and a fault of the device leave the history

@@ -11,7 +11,7 @@ use Rattle.sqlite.proofs.StateLemmas.{survives_then}
 use Rattle.sqlite.specs.Steps.{FailsToCommit}
 use Rattle.sqlite.specs.Held.{Held, state}
 use Rattle.kcr_store.specs.Stored.{IsTables, Stores}
-use Rattle.kcr_machine.specs.History.{History}
+use Rattle.kcr_history.specs.History.{History}
 use Rattle.kcr_store.specs.Register.{IsWhole, Leaves, LeavesEither}
 use Rattle.kcr_store.specs.Register as register
 

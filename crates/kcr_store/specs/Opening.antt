@@ -3,7 +3,7 @@ use Rattle.std.specs.Prelude.{◌≡◌, ◌⊎◌, ◌≢◌, [], None, IsSome,
 use Rattle.sqlite.specs.Schema.{Schema}
 use Rattle.sqlite.specs.State.{State, HasCleanDisk}
 use Rattle.sqlite_schema.specs.Names.{table_named}
-use Rattle.kcr_machine.specs.History.{History}
+use Rattle.kcr_history.specs.History.{History}
 use Rattle.kcr_tables.specs.First.{first_tables}
 use Rattle.kcr_tables.specs.Held.{Tables}
 use Rattle.kcr_store.specs.declared.«open».OpenFault.{OpenFault}

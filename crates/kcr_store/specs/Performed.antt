@@ -2,8 +2,8 @@
 use Rattle.std.specs.Prelude.{Bool, true, false, Result, Ok, Err}
 use Rattle.kcr_base.specs.declared.refusal.Refusal.{Refusal}
 use Rattle.kcr_base.specs.declared.refusal.Refusal.TheVariants.{Disk}
-use Rattle.kcr_machine.specs.declared.commands.Reply.{Reply}
-use Rattle.kcr_machine.specs.History.{History}
+use Rattle.kcr_history.specs.declared.commands.Reply.{Reply}
+use Rattle.kcr_history.specs.History.{History}
 use Rattle.kcr_store.specs.declared.perform.Performed.{Performed}
 use Rattle.kcr_store.specs.declared.perform.Performed.TheVariants.{Accepted, Refused, Torn}
 

@@ -5,8 +5,8 @@ use Rattle.sqlite.specs.Store.{Ghosts}
 use Rattle.sqlite.specs.Tree.{Trees}
 use Rattle.sqlite.specs.State.{State, HasCleanDisk}
 use Rattle.sqlite.specs.Held.{Held, held_code, state}
-use Rattle.kcr_machine.specs.contracts.commands.Entry as entry
-use Rattle.kcr_machine.specs.History.{History}
+use Rattle.kcr_history.specs.contracts.commands.Entry as entry
+use Rattle.kcr_history.specs.History.{History}
 use Rattle.kcr_store.specs.Stored.{IsTables, Stores}
 
 -- the connection shows the tables of the history, and nothing waits

@@ -4,13 +4,13 @@ use Rattle.kcr_base.specs.Same.{is_before}
 use Rattle.kcr_base.specs.declared.refusal.Refusal.{Refusal}
 use Rattle.kcr_base.specs.declared.refusal.Refusal.TheVariants.{Memory, Disk}
 use Rattle.kcr_people.specs.declared.Person.{Person}
-use Rattle.kcr_machine.specs.declared.commands.Answer.{Answer}
-use Rattle.kcr_machine.specs.declared.commands.Command.{Command}
-use Rattle.kcr_machine.specs.declared.commands.Reply.{Reply}
-use Rattle.kcr_machine.specs.History.{History}
-use Rattle.kcr_machine.specs.Tables.{people}
-use Rattle.kcr_machine.specs.Texts.{answer_text}
-use Rattle.kcr_machine.specs.Machine.{machine, Accepts, Refuses, with_command}
+use Rattle.kcr_history.specs.declared.commands.Answer.{Answer}
+use Rattle.kcr_history.specs.declared.commands.Command.{Command}
+use Rattle.kcr_history.specs.declared.commands.Reply.{Reply}
+use Rattle.kcr_history.specs.History.{History}
+use Rattle.kcr_history.specs.Tables.{people}
+use Rattle.kcr_history.specs.Texts.{answer_text}
+use Rattle.kcr_history.specs.Machine.{machine, Accepts, Refuses, with_command}
 use Rattle.kcr_tables.specs.Refusals.{IsFault}
 use Rattle.kcr_store.specs.declared.question.Question.{Question}
 use Rattle.kcr_store.specs.declared.question.Question.TheVariants as asked

@@ -3,9 +3,9 @@ use Rattle.std.specs.Prelude.{◌≡◌, []}
 use Rattle.sqlite.specs.Schema.{Schema}
 use Rattle.sqlite.specs.Tree.{Trees}
 use Rattle.sqlite.specs.Effect.{Database}
-use Rattle.kcr_machine.specs.History.{History}
-use Rattle.kcr_machine.specs.Tables.{tables}
-use Rattle.kcr_machine.specs.Machine.{IsRegister}
+use Rattle.kcr_history.specs.History.{History}
+use Rattle.kcr_history.specs.Tables.{tables}
+use Rattle.kcr_history.specs.Machine.{IsRegister}
 use Rattle.kcr_tables.specs.Schema.{register_schema}
 use Rattle.kcr_tables.specs.Joint.{KeepsTables}
 

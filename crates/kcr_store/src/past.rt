@@ -1,9 +1,9 @@
 //! The history of a register, for clauses alone.
 ghost use Rattle.std.specs.Prelude.{◌≡◌, ◌∷◌, Bool};
 ghost use Rattle.std.specs.Borrow.{ftrue};
-ghost use Rattle.kcr_machine.specs.History.{History};
+ghost use Rattle.kcr_history.specs.History.{History};
 
-use kcr_machine::{Answer, Command};
+use kcr_history::{Answer, Command};
 use std::marker::Model;
 
 /// The commands that were accepted, each with its answer, the last one first. It takes no bytes, and only proofs read

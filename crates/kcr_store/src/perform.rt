@@ -2,7 +2,7 @@
 ghost use Rattle.std.specs.Prelude.{◌≡◌, false, Ok, Err, IsTrue, IfOk, IfErr, OnOk};
 ghost use Rattle.sqlite.specs.State.{HasCleanDisk, KeepsCommit, Survives};
 ghost use Rattle.sqlite.specs.Held.{state};
-ghost use Rattle.kcr_machine.specs.History.{History};
+ghost use Rattle.kcr_history.specs.History.{History};
 ghost use Rattle.kcr_tables.specs.Refusals.{IsFault};
 ghost use Rattle.kcr_store.specs.Stored.{Stores};
 ghost use Rattle.kcr_store.specs.Steps.{Steps, with_answer, IsNext, IsAsked};
@@ -12,7 +12,8 @@ ghost use Rattle.kcr_store.specs.Performed.{history_after, tried_after, answer_o
 use crate::past::Past;
 use crate::question::{Question, Shown};
 use kcr_base::Refusal;
-use kcr_machine::{Answer, Command, Reply, asks, decide};
+use kcr_history::{Answer, Command, Reply, asks};
+use kcr_machine::decide;
 use kcr_tables::{all_people, make_changes, view_of};
 use sqlite::{Alter, Connection, Error, ErrorCode, Transaction};
 use std::alloc::Global;
@@ -45,10 +46,10 @@ pub(crate) fn prepare<S: Alter>(
     ensures kept { HasCleanDisk (state S.Store tx.new.conn.now) → IsTrue (state S.Store tx.old.conn.now).in_transaction → KeepsCommit (state S.Store tx.old.conn.now) (state S.Store tx.new.conn.now) }
     ensures survives { Survives (state S.Store tx.old.conn.now) (state S.Store tx.new.conn.now) (λ _. ⊥) }
 {
-    let asked = asks(command);
+    let asked = asks(alloc, command)?;
     let view = view_of(alloc, tx, &asked)?;
     let verdict = decide(alloc, &view, command)?;
-    make_changes(tx, verdict.changes.as_slice())?;
+    make_changes(alloc, tx, verdict.changes.as_slice())?;
     Ok(Prepared {
         reply: verdict.reply,
         answer: verdict.answer,

@@ -10,7 +10,7 @@ use crate::past::Past;
 use crate::perform::{Performed, ask, perform};
 use crate::question::{Question, Shown};
 use kcr_base::Refusal;
-use kcr_machine::{Command, Reply};
+use kcr_history::{Command, Reply};
 use sqlite::{Alter, Connection, MemStore};
 use std::alloc::Global;
 use std::marker::Model;
@@ -53,7 +53,7 @@ impl<S: Alter> Model for Register<S> {
 impl<S: Alter + Drop> Register<S> {
     ghost use Rattle.std.specs.Prelude.{Bool, MatchResult, ◌⊎◌, ◌≢◌};
     ghost use Rattle.sqlite.specs.State.{Survives};
-    ghost use Rattle.kcr_machine.specs.History.{History};
+    ghost use Rattle.kcr_history.specs.History.{History};
     ghost use Rattle.kcr_tables.specs.First.{first_tables};
     ghost use Rattle.kcr_tables.specs.Held.{Tables, Holds};
     ghost use Rattle.kcr_store.specs.Stored.{IsTables, no_schema};

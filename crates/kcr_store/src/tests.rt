@@ -1,6 +1,6 @@
 use super::*;
 use kcr_base::{Initials, Key, Name, Refusal};
-use kcr_machine::{Act, Command};
+use kcr_history::{Act, Command};
 use sqlite::{Alter, Connection, FileStore, Files, MemStore, Options};
 use sqlite_disk::{Crash, Fuse, Memory};
 use std::alloc::Global;
@@ -20,7 +20,7 @@ fn enter(alloc: Global, key: &str, who: &str, name: &str) -> Result<Command, Fai
 }
 
 /// The reply's text, or the number of the refusal.
-fn told(outcome: &Result<kcr_machine::Reply, Refusal>) -> (&str, u8) {
+fn told(outcome: &Result<kcr_history::Reply, Refusal>) -> (&str, u8) {
     match outcome {
         Ok(reply) => (reply.text.as_str(), 0),
         Err(refusal) => ("", refusal.number()),

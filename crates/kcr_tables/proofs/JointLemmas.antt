@@ -1,164 +1,220 @@
 -- How the rows in the order of their keys meet the machine's rows, which stand in any order.
-use Rattle.std.proofs.Common.{◌≡◌, ◌≢◌, ◌||◌, Bool, true, false, cond, ℕ, List, [], ◌∷◌, map, drop, refl, sym, ap, subst, ◌∙◌, true≢false, IsPermutation, Ordering, Less, Equal, Greater}
-use Rattle.std.specs.Prelude.{bytes_eq}
-use Rattle.std.specs.List.{list_any, AllByRecursion}
-use Rattle.std.specs.Ordering.{match_ordering, is_eq, ordering_reverse}
-use Rattle.std.specs.Cmp.{IsTotalOrder}
-use Rattle.std.proofs.lemmas.Cmp.{on_total}
-use Rattle.std.proofs.lemmas.Map.Text.{is_eq-slice_cmp}
-use Rattle.std.proofs.lemmas.List.Sorted.{IsPermutation-cons, IsPermutation-map, IsPermutation-refl, IsPermutation-sym, IsPermutation-trans, IsPermutation-middle, list_any-IsPermutation}
-use Rattle.sqlite.specs.declared.types.Value.TheVariants.{Text}
-use Rattle.sqlite.specs.Order.{Row, value_cmp}
+use Rattle.std.proofs.Common.{◌≡◌, ◌&&◌, List, [], ◌∷◌, map, drop, pos, refl, ◌∙◌, Less}
+use Rattle.std.specs.Ordering.{is_eq}
+use Rattle.std.proofs.lemmas.List.Sorted.{IsPermutation-refl, IsPermutation-sym, IsPermutation-trans}
+use Rattle.sqlite.specs.declared.types.Value.TheVariants.{Int, Text}
 use Rattle.sqlite.specs.Tree.{Trees, IsAscending}
 use Rattle.sqlite.specs.Effect.{Database}
-use Rattle.sqlite_value.specs.Keys.{rising}
-use Rattle.sqlite_value.proofs.OrderLemmas.{value_cmp-Text, then-Equal}
-use Rattle.sqlite_sql.proofs.QueryLemmas.{key_cmp_total}
-use Rattle.sqlite_trees.proofs.ListLemmas.{all_from_map}
-use Rattle.kcr_machine.specs.declared.views.Change.{Change}
-use Rattle.kcr_machine.specs.declared.views.Change.TheVariants.{PutPerson, PutKey}
-use Rattle.kcr_machine.specs.Tables as machine
-use Rattle.kcr_tables.specs.Keyed.{by_key, put_in}
-use Rattle.kcr_tables.specs.Rows.{person_row, key_row}
+use Rattle.kcr_history.specs.declared.views.Change.{Change}
+use Rattle.kcr_history.specs.declared.views.Change.TheVariants.{PutPerson, PutTraining, PutAppointment, PutBox, PutSafe, PutBag, PutItem, PutCeremony, PutMark, PutStep, PutSeating, PutSheet, PutException, PutKey, PutStay, PutWithdrawal}
+use Rattle.kcr_history.specs.Tables as machine
+use Rattle.kcr_history.specs.Changes as changes
+use Rattle.kcr_history.specs.Changes.{same_person, same_appointment, same_safe_row, same_ceremony, same_mark, same_step, same_seating, same_sheet_row, same_exception, same_key_row, same_stay}
+use Rattle.kcr_people.specs.People.{same_training}
+use Rattle.kcr_people.specs.Laws.{same_withdrawn}
+use Rattle.kcr_custody.specs.Balance.{same_box, same_bag, same_item}
+use Rattle.kcr_base.specs.Role.{role_text}
+use Rattle.kcr_base.specs.Place.{place_text}
+use Rattle.kcr_base.specs.Facility.{facility_text}
+use Rattle.kcr_tables.specs.States.{safe_digit}
+use Rattle.kcr_rows.specs.Keyed.{by_key}
+use Rattle.kcr_rows.proofs.OrderLemmas.{put-stands, put_in_rising}
+use Rattle.kcr_rows.proofs.SameLemmas.{text_ties, number_ties, facility_ties, role_ties, place_ties, one_column, two_columns, three_columns, four_columns, turned}
+use Rattle.kcr_tables.proofs.StateLemmas.{safe_ties}
+use Rattle.kcr_tables.specs.Rows.{person_row, training_row, appointment_row, box_row, safe_row, bag_row, item_row, ceremony_row, mark_row, step_row, seating_row, sheet_row, exception_row, key_row, stay_row, withdrawal_row}
+use Rattle.kcr_people.specs.declared.Person.{Person}
+use Rattle.kcr_people.specs.declared.Training.{Training}
+use Rattle.kcr_people.specs.declared.Appointment.{Appointment}
+use Rattle.kcr_custody.specs.declared.BoxRow.{BoxRow}
+use Rattle.kcr_custody.specs.declared.SafeRow.{SafeRow}
+use Rattle.kcr_custody.specs.declared.Bag.{Bag}
+use Rattle.kcr_custody.specs.declared.Item.{Item}
+use Rattle.kcr_history.specs.declared.rows.CeremonyRow.{CeremonyRow}
+use Rattle.kcr_history.specs.declared.rows.MarkRow.{MarkRow}
+use Rattle.kcr_history.specs.declared.rows.StepRow.{StepRow}
+use Rattle.kcr_history.specs.declared.rows.SeatingRow.{SeatingRow}
+use Rattle.kcr_room.specs.declared.SheetRow.{SheetRow}
+use Rattle.kcr_history.specs.declared.rows.ExceptionRow.{ExceptionRow}
+use Rattle.kcr_history.specs.declared.rows.KeyRow.{KeyRow}
+use Rattle.kcr_room.specs.declared.Stay.{Stay}
+use Rattle.kcr_people.specs.declared.Withdrawal.{Withdrawal}
 use Rattle.kcr_tables.specs.Held.{Tables, Kept, Holds}
 use Rattle.kcr_tables.specs.First.{first_tables}
 use Rattle.kcr_tables.specs.Changed.{changed, changed_all}
-use Rattle.kcr_tables.specs.Joint.{Stands, HoldsTables}
-use Rattle.kcr_tables.proofs.PutLemmas.{put_rising}
-use Rattle.kcr_tables.proofs.TableLemmas.{put_in_rows}
+use Rattle.kcr_tables.specs.Joint.{Stands, KeepsTables, HoldsTables}
+use Rattle.kcr_tables.proofs.HoldLemmas.{tables_of}
 
--- ---- a row put in its place is the row put anywhere, up to order
+-- ---- two rows of one key, by the machine's tests
 
-pub key_total : (keys : ℕ) → IsTotalOrder (by_key keys)
-key_total keys = on_total _ (key_cmp_total (rising keys []) 0)
+pub key_of_people : (new old : Person) → same_person new old ≡ is_eq (by_key 1 (person_row old) (person_row new))
+key_of_people new old = text_ties old.who new.who ∙ one_column (Text old.who) (Text new.who) (drop 1 (person_row old)) (drop 1 (person_row new))
 
-pub from_map : {X : Type 0} (R : Row → Row → Type 0) (f : X → Row) (xs : List X) → IsAscending R (map f xs) → IsAscending (λ a b. R (f a) (f b)) xs
-from_map R f [] up = tt
-from_map R f (x ∷ xs) up = (all_from_map (R (f x)) f xs up.0, from_map R f xs up.1)
+pub key_of_trainings : (new old : Training) → same_training new old ≡ is_eq (by_key 4 (training_row old) (training_row new))
+key_of_trainings new old = (λ i. text_ties new.who old.who i && role_ties new.role old.role i && number_ties new.since old.since i && number_ties new.until old.until i) ∙ four_columns (Text new.who) (Text (role_text new.role)) (Int (pos new.since)) (Int (pos new.until)) (Text old.who) (Text (role_text old.role)) (Int (pos old.since)) (Int (pos old.until)) (drop 4 (training_row new)) (drop 4 (training_row old)) ∙ turned 4 (training_row new) (training_row old)
 
-or_none : (x y : Bool) → x ≡ false → y ≡ false → (x || y) ≡ false
-or_none x y p q = rw (p, q)
+pub key_of_appointments : (new old : Appointment) → same_appointment new old ≡ is_eq (by_key 2 (appointment_row old) (appointment_row new))
+key_of_appointments new old = (λ i. place_ties old.place new.place i && number_ties old.since new.since i) ∙ two_columns (Text (place_text old.place)) (Int (pos old.since)) (Text (place_text new.place)) (Int (pos new.since)) (drop 2 (appointment_row old)) (drop 2 (appointment_row new))
 
-other_key : (o : Ordering) → o ≢ Equal → is_eq o ≡ false
-other_key Less n = refl
-other_key Equal n = absurd (n refl)
-other_key Greater n = refl
+pub key_of_boxes : (new old : BoxRow) → same_box new old ≡ is_eq (by_key 2 (box_row old) (box_row new))
+key_of_boxes new old = (λ i. facility_ties old.facility new.facility i && number_ties old.number new.number i) ∙ two_columns (Text (facility_text old.facility)) (Int (pos old.number)) (Text (facility_text new.facility)) (Int (pos new.number)) (drop 2 (box_row old)) (drop 2 (box_row new))
 
-module _ {X : Type 0} (keys : ℕ) (row_of : X → Row) (new : X) where
-  abbrev cmp : X → X → Ordering
-  cmp x y = by_key keys (row_of x) (row_of y)
+pub key_of_safes : (new old : SafeRow) → same_safe_row new old ≡ is_eq (by_key 2 (safe_row old) (safe_row new))
+key_of_safes new old = (λ i. facility_ties old.facility new.facility i && safe_ties old.safe new.safe i) ∙ two_columns (Text (facility_text old.facility)) (Int (pos (safe_digit old.safe))) (Text (facility_text new.facility)) (Int (pos (safe_digit new.safe))) (drop 2 (safe_row old)) (drop 2 (safe_row new))
 
-  -- two rows have one key
-  abbrev pub same : X → X → Bool
-  same row old = is_eq (cmp old row)
+pub key_of_bags : (new old : Bag) → same_bag new old ≡ is_eq (by_key 1 (bag_row old) (bag_row new))
+key_of_bags new old = text_ties old.serial new.serial ∙ one_column (Text old.serial) (Text new.serial) (drop 1 (bag_row old)) (drop 1 (bag_row new))
 
-  no_key-map : (rows : List X) → list_any (same new) rows ≡ false → map (λ old. cond (same new old) new old) rows ≡ rows
-  no_key-map [] h = refl
-  no_key-map (row ∷ rows) h = by_test (same new row) h (no_key-map rows)
-    where
-      by_test : (b : Bool) → (b || list_any (same new) rows) ≡ false → (list_any (same new) rows ≡ false → map (λ old. cond (same new old) new old) rows ≡ rows)
-          → cond b new row ∷ map (λ old. cond (same new old) new old) rows ≡ row ∷ rows
-      by_test true g ih = absurd (true≢false g)
-      by_test false g ih = ap (λ rest. row ∷ rest) (ih g)
+pub key_of_items : (new old : Item) → same_item new old ≡ is_eq (by_key 1 (item_row old) (item_row new))
+key_of_items new old = text_ties old.code new.code ∙ one_column (Text old.code) (Text new.code) (drop 1 (item_row old)) (drop 1 (item_row new))
 
-  past : (x y : X) → cmp x new ≢ Less → cmp x y ≡ Less → is_eq (cmp y new) ≡ false
-  past x y n less =
-      let total = key_total keys in
-      other_key (cmp y new) (λ tie.
-      let turned : by_key keys (row_of new) (row_of x) ≡ Greater = sym (total.congr (row_of y) (row_of new) (row_of x) tie) ∙ total.antisymm (row_of y) (row_of x) ∙ ap ordering_reverse less in
-      n (total.antisymm (row_of x) (row_of new) ∙ ap ordering_reverse turned))
+pub key_of_ceremonies : (new old : CeremonyRow) → same_ceremony new old ≡ is_eq (by_key 1 (ceremony_row old) (ceremony_row new))
+key_of_ceremonies new old = number_ties old.number new.number ∙ one_column (Int (pos old.number)) (Int (pos new.number)) (drop 1 (ceremony_row old)) (drop 1 (ceremony_row new))
 
-  none_behind : (x : X) → cmp x new ≢ Less → (xs : List X) → AllByRecursion (λ y. cmp x y ≡ Less) xs → list_any (same new) xs ≡ false
-  none_behind x n [] a = refl
-  none_behind x n (y ∷ ys) a = or_none (is_eq (cmp y new)) _ (past x y n a.0) (none_behind x n ys a.1)
+pub key_of_marks : (new old : MarkRow) → same_mark new old ≡ is_eq (by_key 1 (mark_row old) (mark_row new))
+key_of_marks new old = number_ties old.ceremony new.ceremony ∙ one_column (Int (pos old.ceremony)) (Int (pos new.ceremony)) (drop 1 (mark_row old)) (drop 1 (mark_row new))
 
-  pub put-in : (xs : List X) → IsAscending (λ a b. cmp a b ≡ Less) xs → IsPermutation (machine.put same new xs) (put_in keys row_of new xs)
-  put-in [] r = IsPermutation-refl (new ∷ [])
-  put-in (x ∷ xs) r = by_order (cmp x new) refl (put-in xs r.1)
-    where
-      less : (b : Bool) → IsPermutation (cond b (map (λ old. cond (same new old) new old) xs) (new ∷ xs)) (put_in keys row_of new xs)
-          → IsPermutation (cond b (x ∷ map (λ old. cond (same new old) new old) xs) (new ∷ x ∷ xs)) (x ∷ put_in keys row_of new xs)
-      less true ih = IsPermutation-cons x _ _ ih
-      less false ih = IsPermutation-trans _ _ _ (IsPermutation-sym _ _ (IsPermutation-middle (x ∷ []) new xs)) (IsPermutation-cons x _ _ ih)
+pub key_of_steps : (new old : StepRow) → same_step new old ≡ is_eq (by_key 2 (step_row old) (step_row new))
+key_of_steps new old = (λ i. number_ties old.ceremony new.ceremony i && number_ties old.step new.step i) ∙ two_columns (Int (pos old.ceremony)) (Int (pos old.step)) (Int (pos new.ceremony)) (Int (pos new.step)) (drop 2 (step_row old)) (drop 2 (step_row new))
 
-      by_order : (o : Ordering) → cmp x new ≡ o → IsPermutation (machine.put same new xs) (put_in keys row_of new xs)
-          → IsPermutation (cond (is_eq o || list_any (same new) xs) (cond (is_eq o) new x ∷ map (λ old. cond (same new old) new old) xs) (new ∷ x ∷ xs))
-          (match_ordering o (x ∷ put_in keys row_of new xs) (new ∷ xs) (new ∷ x ∷ xs))
-      by_order Less e ih = less (list_any (same new) xs) ih
-      by_order Equal e ih =
-          let none = none_behind x (λ l. let f : Equal ≡ Less = sym e ∙ l in cc) xs r.0 in
-          rw (no_key-map xs none) (IsPermutation-refl (new ∷ xs))
-      by_order Greater e ih =
-          let none = none_behind x (λ l. let f : Greater ≡ Less = sym e ∙ l in cc) xs r.0 in
-          rw none (IsPermutation-refl (new ∷ x ∷ xs))
+pub key_of_seatings : (new old : SeatingRow) → same_seating new old ≡ is_eq (by_key 3 (seating_row old) (seating_row new))
+key_of_seatings new old = (λ i. number_ties old.ceremony new.ceremony i && number_ties old.step new.step i && number_ties old.seat new.seat i) ∙ three_columns (Int (pos old.ceremony)) (Int (pos old.step)) (Int (pos old.seat)) (Int (pos new.ceremony)) (Int (pos new.step)) (Int (pos new.seat)) (drop 3 (seating_row old)) (drop 3 (seating_row new))
 
-pub put-order : {X : Type 0} (same : X → X → Bool) (row : X) (xs ys : List X) → IsPermutation xs ys → IsPermutation (machine.put same row xs) (machine.put same row ys)
-put-order same row xs ys p =
-    rw (← list_any-IsPermutation (same row) xs ys p) (by_test (list_any (same row) xs))
-  where
-    by_test : (b : Bool) → IsPermutation (cond b (map (λ old. cond (same row old) row old) xs) (row ∷ xs)) (cond b (map (λ old. cond (same row old) row old) ys) (row ∷ ys))
-    by_test true = IsPermutation-map (λ old. cond (same row old) row old) xs ys p
-    by_test false = IsPermutation-cons row xs ys p
+pub key_of_sheet : (new old : SheetRow) → same_sheet_row new old ≡ is_eq (by_key 2 (sheet_row old) (sheet_row new))
+key_of_sheet new old = (λ i. text_ties old.who new.who i && number_ties old.at new.at i) ∙ two_columns (Text old.who) (Int (pos old.at)) (Text new.who) (Int (pos new.at)) (drop 2 (sheet_row old)) (drop 2 (sheet_row new))
 
--- the machine's rows after a change of its own, and the database's after the same change
-pub put-stands : {X : Type 0} (keys : ℕ) (row_of : X → Row) (test : X → X → Bool) → ((row old : X) → test row old ≡ is_eq (by_key keys (row_of old) (row_of row)))
-    → (new : X) (xs ys : List X) → IsAscending (λ a b. by_key keys a b ≡ Less) (map row_of ys) → IsPermutation xs ys → IsPermutation (machine.put test new xs) (put_in keys row_of new ys)
-put-stands {X = X} keys row_of test is new xs ys up p =
-    IsPermutation-trans _ _ _ (put-order test new xs ys p)
-    (subst (λ (s : X → X → Bool). IsPermutation (machine.put s new ys) (put_in keys row_of new ys)) (λ i row old. sym (is row old) i) (put-in keys row_of new ys (from_map (λ a b. by_key keys a b ≡ Less) row_of ys up)))
+pub key_of_exceptions : (new old : ExceptionRow) → same_exception new old ≡ is_eq (by_key 2 (exception_row old) (exception_row new))
+key_of_exceptions new old = (λ i. number_ties old.ceremony new.ceremony i && number_ties old.exception new.exception i) ∙ two_columns (Int (pos old.ceremony)) (Int (pos old.exception)) (Int (pos new.ceremony)) (Int (pos new.exception)) (drop 2 (exception_row old)) (drop 2 (exception_row new))
 
--- the rows still rise
-pub put_in_rising : {X : Type 0} (keys : ℕ) (row_of : X → Row) (new : X) (xs : List X) → IsAscending (λ a b. by_key keys a b ≡ Less) (map row_of xs)
-    → IsAscending (λ a b. by_key keys a b ≡ Less) (map row_of (put_in keys row_of new xs))
-put_in_rising keys row_of new xs up = subst (IsAscending (λ a b. by_key keys a b ≡ Less)) (sym (put_in_rows keys row_of new xs)) (put_rising keys (row_of new) (map row_of xs) up)
+pub key_of_keys : (new old : KeyRow) → same_key_row new old ≡ is_eq (by_key 1 (key_row old) (key_row new))
+key_of_keys new old = text_ties old.key new.key ∙ one_column (Text old.key) (Text new.key) (drop 1 (key_row old)) (drop 1 (key_row new))
 
--- ---- tables
+pub key_of_stays : (new old : Stay) → same_stay new old ≡ is_eq (by_key 2 (stay_row old) (stay_row new))
+key_of_stays new old = (λ i. text_ties old.who new.who i && number_ties old.since new.since i) ∙ two_columns (Text old.who) (Int (pos old.since)) (Text new.who) (Int (pos new.since)) (drop 2 (stay_row old)) (drop 2 (stay_row new))
 
--- a key that is one text
-pub text_key : (s t : List ℕ) (a b : Row) → bytes_eq s t ≡ is_eq (by_key 1 (Text s ∷ a) (Text t ∷ b))
-text_key s t a b = sym (ap is_eq (then-Equal (value_cmp (Text s) (Text t)) ∙ value_cmp-Text s t) ∙ is_eq-slice_cmp s t)
+pub key_of_withdrawals : (new old : Withdrawal) → same_withdrawn new old ≡ is_eq (by_key 4 (withdrawal_row old) (withdrawal_row new))
+key_of_withdrawals new old = (λ i. text_ties old.who new.who i && role_ties old.role new.role i && number_ties old.since new.since i && number_ties old.until new.until i) ∙ four_columns (Text old.who) (Text (role_text old.role)) (Int (pos old.since)) (Int (pos old.until)) (Text new.who) (Text (role_text new.role)) (Int (pos new.since)) (Int (pos new.until)) (drop 4 (withdrawal_row old)) (drop 4 (withdrawal_row new))
+
+-- ---- changes
 
 -- the rows of each table rise by their keys
 pub record Rises (t : Tables) : Type 0 where
   pub people : IsAscending (λ a b. by_key 1 a b ≡ Less) (map person_row t.people)
+  pub trainings : IsAscending (λ a b. by_key 4 a b ≡ Less) (map training_row t.trainings)
+  pub appointments : IsAscending (λ a b. by_key 2 a b ≡ Less) (map appointment_row t.appointments)
+  pub boxes : IsAscending (λ a b. by_key 2 a b ≡ Less) (map box_row t.boxes)
+  pub safes : IsAscending (λ a b. by_key 2 a b ≡ Less) (map safe_row t.safes)
+  pub bags : IsAscending (λ a b. by_key 1 a b ≡ Less) (map bag_row t.bags)
+  pub items : IsAscending (λ a b. by_key 1 a b ≡ Less) (map item_row t.items)
+  pub ceremonies : IsAscending (λ a b. by_key 1 a b ≡ Less) (map ceremony_row t.ceremonies)
+  pub marks : IsAscending (λ a b. by_key 1 a b ≡ Less) (map mark_row t.marks)
+  pub steps : IsAscending (λ a b. by_key 2 a b ≡ Less) (map step_row t.steps)
+  pub seatings : IsAscending (λ a b. by_key 3 a b ≡ Less) (map seating_row t.seatings)
+  pub sheet : IsAscending (λ a b. by_key 2 a b ≡ Less) (map sheet_row t.sheet)
+  pub exceptions : IsAscending (λ a b. by_key 2 a b ≡ Less) (map exception_row t.exceptions)
   pub keys : IsAscending (λ a b. by_key 1 a b ≡ Less) (map key_row t.keys)
+  pub stays : IsAscending (λ a b. by_key 2 a b ≡ Less) (map stay_row t.stays)
+  pub withdrawals : IsAscending (λ a b. by_key 4 a b ≡ Less) (map withdrawal_row t.withdrawals)
 
 pub kept_rises : (db : Trees) (t : Tables) → Kept db t → Rises t
-kept_rises db t k = record { people = k.people.rising; keys = k.keys.rising }
+kept_rises db t k = record { people = k.people.rising; trainings = k.trainings.rising; appointments = k.appointments.rising; boxes = k.boxes.rising; safes = k.safes.rising; bags = k.bags.rising; items = k.items.rising; ceremonies = k.ceremonies.rising; marks = k.marks.rising; steps = k.steps.rising; seatings = k.seatings.rising; sheet = k.sheet.rising; exceptions = k.exceptions.rising; keys = k.keys.rising; stays = k.stays.rising; withdrawals = k.withdrawals.rising }
 
 pub changed_rises : (c : Change) (t : Tables) → Rises t → Rises (changed c t)
-changed_rises (PutPerson row) t r = record { people = put_in_rising 1 person_row row t.people r.people; keys = r.keys }
-changed_rises (PutKey row) t r = record { people = r.people; keys = put_in_rising 1 key_row row t.keys r.keys }
+changed_rises (PutPerson row) t r = record { people = put_in_rising 1 person_row row t.people r.people; trainings = r.trainings; appointments = r.appointments; boxes = r.boxes; safes = r.safes; bags = r.bags; items = r.items; ceremonies = r.ceremonies; marks = r.marks; steps = r.steps; seatings = r.seatings; sheet = r.sheet; exceptions = r.exceptions; keys = r.keys; stays = r.stays; withdrawals = r.withdrawals }
+changed_rises (PutTraining row) t r = record { people = r.people; trainings = put_in_rising 4 training_row row t.trainings r.trainings; appointments = r.appointments; boxes = r.boxes; safes = r.safes; bags = r.bags; items = r.items; ceremonies = r.ceremonies; marks = r.marks; steps = r.steps; seatings = r.seatings; sheet = r.sheet; exceptions = r.exceptions; keys = r.keys; stays = r.stays; withdrawals = r.withdrawals }
+changed_rises (PutAppointment row) t r = record { people = r.people; trainings = r.trainings; appointments = put_in_rising 2 appointment_row row t.appointments r.appointments; boxes = r.boxes; safes = r.safes; bags = r.bags; items = r.items; ceremonies = r.ceremonies; marks = r.marks; steps = r.steps; seatings = r.seatings; sheet = r.sheet; exceptions = r.exceptions; keys = r.keys; stays = r.stays; withdrawals = r.withdrawals }
+changed_rises (PutBox row) t r = record { people = r.people; trainings = r.trainings; appointments = r.appointments; boxes = put_in_rising 2 box_row row t.boxes r.boxes; safes = r.safes; bags = r.bags; items = r.items; ceremonies = r.ceremonies; marks = r.marks; steps = r.steps; seatings = r.seatings; sheet = r.sheet; exceptions = r.exceptions; keys = r.keys; stays = r.stays; withdrawals = r.withdrawals }
+changed_rises (PutSafe row) t r = record { people = r.people; trainings = r.trainings; appointments = r.appointments; boxes = r.boxes; safes = put_in_rising 2 safe_row row t.safes r.safes; bags = r.bags; items = r.items; ceremonies = r.ceremonies; marks = r.marks; steps = r.steps; seatings = r.seatings; sheet = r.sheet; exceptions = r.exceptions; keys = r.keys; stays = r.stays; withdrawals = r.withdrawals }
+changed_rises (PutBag row) t r = record { people = r.people; trainings = r.trainings; appointments = r.appointments; boxes = r.boxes; safes = r.safes; bags = put_in_rising 1 bag_row row t.bags r.bags; items = r.items; ceremonies = r.ceremonies; marks = r.marks; steps = r.steps; seatings = r.seatings; sheet = r.sheet; exceptions = r.exceptions; keys = r.keys; stays = r.stays; withdrawals = r.withdrawals }
+changed_rises (PutItem row) t r = record { people = r.people; trainings = r.trainings; appointments = r.appointments; boxes = r.boxes; safes = r.safes; bags = r.bags; items = put_in_rising 1 item_row row t.items r.items; ceremonies = r.ceremonies; marks = r.marks; steps = r.steps; seatings = r.seatings; sheet = r.sheet; exceptions = r.exceptions; keys = r.keys; stays = r.stays; withdrawals = r.withdrawals }
+changed_rises (PutCeremony row) t r = record { people = r.people; trainings = r.trainings; appointments = r.appointments; boxes = r.boxes; safes = r.safes; bags = r.bags; items = r.items; ceremonies = put_in_rising 1 ceremony_row row t.ceremonies r.ceremonies; marks = r.marks; steps = r.steps; seatings = r.seatings; sheet = r.sheet; exceptions = r.exceptions; keys = r.keys; stays = r.stays; withdrawals = r.withdrawals }
+changed_rises (PutMark row) t r = record { people = r.people; trainings = r.trainings; appointments = r.appointments; boxes = r.boxes; safes = r.safes; bags = r.bags; items = r.items; ceremonies = r.ceremonies; marks = put_in_rising 1 mark_row row t.marks r.marks; steps = r.steps; seatings = r.seatings; sheet = r.sheet; exceptions = r.exceptions; keys = r.keys; stays = r.stays; withdrawals = r.withdrawals }
+changed_rises (PutStep row) t r = record { people = r.people; trainings = r.trainings; appointments = r.appointments; boxes = r.boxes; safes = r.safes; bags = r.bags; items = r.items; ceremonies = r.ceremonies; marks = r.marks; steps = put_in_rising 2 step_row row t.steps r.steps; seatings = r.seatings; sheet = r.sheet; exceptions = r.exceptions; keys = r.keys; stays = r.stays; withdrawals = r.withdrawals }
+changed_rises (PutSeating row) t r = record { people = r.people; trainings = r.trainings; appointments = r.appointments; boxes = r.boxes; safes = r.safes; bags = r.bags; items = r.items; ceremonies = r.ceremonies; marks = r.marks; steps = r.steps; seatings = put_in_rising 3 seating_row row t.seatings r.seatings; sheet = r.sheet; exceptions = r.exceptions; keys = r.keys; stays = r.stays; withdrawals = r.withdrawals }
+changed_rises (PutSheet row) t r = record { people = r.people; trainings = r.trainings; appointments = r.appointments; boxes = r.boxes; safes = r.safes; bags = r.bags; items = r.items; ceremonies = r.ceremonies; marks = r.marks; steps = r.steps; seatings = r.seatings; sheet = put_in_rising 2 sheet_row row t.sheet r.sheet; exceptions = r.exceptions; keys = r.keys; stays = r.stays; withdrawals = r.withdrawals }
+changed_rises (PutException row) t r = record { people = r.people; trainings = r.trainings; appointments = r.appointments; boxes = r.boxes; safes = r.safes; bags = r.bags; items = r.items; ceremonies = r.ceremonies; marks = r.marks; steps = r.steps; seatings = r.seatings; sheet = r.sheet; exceptions = put_in_rising 2 exception_row row t.exceptions r.exceptions; keys = r.keys; stays = r.stays; withdrawals = r.withdrawals }
+changed_rises (PutKey row) t r = record { people = r.people; trainings = r.trainings; appointments = r.appointments; boxes = r.boxes; safes = r.safes; bags = r.bags; items = r.items; ceremonies = r.ceremonies; marks = r.marks; steps = r.steps; seatings = r.seatings; sheet = r.sheet; exceptions = r.exceptions; keys = put_in_rising 1 key_row row t.keys r.keys; stays = r.stays; withdrawals = r.withdrawals }
+changed_rises (PutStay row) t r = record { people = r.people; trainings = r.trainings; appointments = r.appointments; boxes = r.boxes; safes = r.safes; bags = r.bags; items = r.items; ceremonies = r.ceremonies; marks = r.marks; steps = r.steps; seatings = r.seatings; sheet = r.sheet; exceptions = r.exceptions; keys = r.keys; stays = put_in_rising 2 stay_row row t.stays r.stays; withdrawals = r.withdrawals }
+changed_rises (PutWithdrawal row) t r = record { people = r.people; trainings = r.trainings; appointments = r.appointments; boxes = r.boxes; safes = r.safes; bags = r.bags; items = r.items; ceremonies = r.ceremonies; marks = r.marks; steps = r.steps; seatings = r.seatings; sheet = r.sheet; exceptions = r.exceptions; keys = r.keys; stays = r.stays; withdrawals = put_in_rising 4 withdrawal_row row t.withdrawals r.withdrawals }
 
--- one change: a line for each table
-pub changed_stands : (c : Change) (m : machine.Tables) (t : Tables) → Rises t → Stands m t → Stands (machine.changed c m) (changed c t)
-changed_stands (PutPerson row) m t r s = record {
-  people = put-stands 1 person_row (λ new. machine.is_of_person new.who) (λ new old. text_key old.who new.who (Text old.name ∷ []) (Text new.name ∷ [])) row m.people t.people r.people s.people;
-  versions = s.versions;
-  keys = s.keys;
-}
-changed_stands (PutKey row) m t r s = record {
-  people = s.people;
-  versions = s.versions;
-  keys = put-stands 1 key_row (λ new. machine.is_of_key new.key) (λ new old. text_key old.key new.key (drop 1 (key_row old)) (drop 1 (key_row new))) row m.keys t.keys r.keys s.keys;
-}
+-- one change: its table's rows are those of the machine, in another order
+pub changed_stands : (c : Change) (m : machine.Tables) (t : Tables) → Rises t → Stands m t → Stands (changes.changed c m) (changed c t)
+changed_stands (PutPerson row) m t r s = record { people = put-stands 1 person_row same_person key_of_people row m.people t.people r.people s.people; trainings = s.trainings; appointments = s.appointments; boxes = s.boxes; safes = s.safes; bags = s.bags; items = s.items; ceremonies = s.ceremonies; marks = s.marks; steps = s.steps; seatings = s.seatings; sheet = s.sheet; exceptions = s.exceptions; keys = s.keys; stays = s.stays; withdrawals = s.withdrawals; versions = s.versions }
+changed_stands (PutTraining row) m t r s = record { people = s.people; trainings = put-stands 4 training_row same_training key_of_trainings row m.trainings t.trainings r.trainings s.trainings; appointments = s.appointments; boxes = s.boxes; safes = s.safes; bags = s.bags; items = s.items; ceremonies = s.ceremonies; marks = s.marks; steps = s.steps; seatings = s.seatings; sheet = s.sheet; exceptions = s.exceptions; keys = s.keys; stays = s.stays; withdrawals = s.withdrawals; versions = s.versions }
+changed_stands (PutAppointment row) m t r s = record { people = s.people; trainings = s.trainings; appointments = put-stands 2 appointment_row same_appointment key_of_appointments row m.appointments t.appointments r.appointments s.appointments; boxes = s.boxes; safes = s.safes; bags = s.bags; items = s.items; ceremonies = s.ceremonies; marks = s.marks; steps = s.steps; seatings = s.seatings; sheet = s.sheet; exceptions = s.exceptions; keys = s.keys; stays = s.stays; withdrawals = s.withdrawals; versions = s.versions }
+changed_stands (PutBox row) m t r s = record { people = s.people; trainings = s.trainings; appointments = s.appointments; boxes = put-stands 2 box_row same_box key_of_boxes row m.boxes t.boxes r.boxes s.boxes; safes = s.safes; bags = s.bags; items = s.items; ceremonies = s.ceremonies; marks = s.marks; steps = s.steps; seatings = s.seatings; sheet = s.sheet; exceptions = s.exceptions; keys = s.keys; stays = s.stays; withdrawals = s.withdrawals; versions = s.versions }
+changed_stands (PutSafe row) m t r s = record { people = s.people; trainings = s.trainings; appointments = s.appointments; boxes = s.boxes; safes = put-stands 2 safe_row same_safe_row key_of_safes row m.safes t.safes r.safes s.safes; bags = s.bags; items = s.items; ceremonies = s.ceremonies; marks = s.marks; steps = s.steps; seatings = s.seatings; sheet = s.sheet; exceptions = s.exceptions; keys = s.keys; stays = s.stays; withdrawals = s.withdrawals; versions = s.versions }
+changed_stands (PutBag row) m t r s = record { people = s.people; trainings = s.trainings; appointments = s.appointments; boxes = s.boxes; safes = s.safes; bags = put-stands 1 bag_row same_bag key_of_bags row m.bags t.bags r.bags s.bags; items = s.items; ceremonies = s.ceremonies; marks = s.marks; steps = s.steps; seatings = s.seatings; sheet = s.sheet; exceptions = s.exceptions; keys = s.keys; stays = s.stays; withdrawals = s.withdrawals; versions = s.versions }
+changed_stands (PutItem row) m t r s = record { people = s.people; trainings = s.trainings; appointments = s.appointments; boxes = s.boxes; safes = s.safes; bags = s.bags; items = put-stands 1 item_row same_item key_of_items row m.items t.items r.items s.items; ceremonies = s.ceremonies; marks = s.marks; steps = s.steps; seatings = s.seatings; sheet = s.sheet; exceptions = s.exceptions; keys = s.keys; stays = s.stays; withdrawals = s.withdrawals; versions = s.versions }
+changed_stands (PutCeremony row) m t r s = record { people = s.people; trainings = s.trainings; appointments = s.appointments; boxes = s.boxes; safes = s.safes; bags = s.bags; items = s.items; ceremonies = put-stands 1 ceremony_row same_ceremony key_of_ceremonies row m.ceremonies t.ceremonies r.ceremonies s.ceremonies; marks = s.marks; steps = s.steps; seatings = s.seatings; sheet = s.sheet; exceptions = s.exceptions; keys = s.keys; stays = s.stays; withdrawals = s.withdrawals; versions = s.versions }
+changed_stands (PutMark row) m t r s = record { people = s.people; trainings = s.trainings; appointments = s.appointments; boxes = s.boxes; safes = s.safes; bags = s.bags; items = s.items; ceremonies = s.ceremonies; marks = put-stands 1 mark_row same_mark key_of_marks row m.marks t.marks r.marks s.marks; steps = s.steps; seatings = s.seatings; sheet = s.sheet; exceptions = s.exceptions; keys = s.keys; stays = s.stays; withdrawals = s.withdrawals; versions = s.versions }
+changed_stands (PutStep row) m t r s = record { people = s.people; trainings = s.trainings; appointments = s.appointments; boxes = s.boxes; safes = s.safes; bags = s.bags; items = s.items; ceremonies = s.ceremonies; marks = s.marks; steps = put-stands 2 step_row same_step key_of_steps row m.steps t.steps r.steps s.steps; seatings = s.seatings; sheet = s.sheet; exceptions = s.exceptions; keys = s.keys; stays = s.stays; withdrawals = s.withdrawals; versions = s.versions }
+changed_stands (PutSeating row) m t r s = record { people = s.people; trainings = s.trainings; appointments = s.appointments; boxes = s.boxes; safes = s.safes; bags = s.bags; items = s.items; ceremonies = s.ceremonies; marks = s.marks; steps = s.steps; seatings = put-stands 3 seating_row same_seating key_of_seatings row m.seatings t.seatings r.seatings s.seatings; sheet = s.sheet; exceptions = s.exceptions; keys = s.keys; stays = s.stays; withdrawals = s.withdrawals; versions = s.versions }
+changed_stands (PutSheet row) m t r s = record { people = s.people; trainings = s.trainings; appointments = s.appointments; boxes = s.boxes; safes = s.safes; bags = s.bags; items = s.items; ceremonies = s.ceremonies; marks = s.marks; steps = s.steps; seatings = s.seatings; sheet = put-stands 2 sheet_row same_sheet_row key_of_sheet row m.sheet t.sheet r.sheet s.sheet; exceptions = s.exceptions; keys = s.keys; stays = s.stays; withdrawals = s.withdrawals; versions = s.versions }
+changed_stands (PutException row) m t r s = record { people = s.people; trainings = s.trainings; appointments = s.appointments; boxes = s.boxes; safes = s.safes; bags = s.bags; items = s.items; ceremonies = s.ceremonies; marks = s.marks; steps = s.steps; seatings = s.seatings; sheet = s.sheet; exceptions = put-stands 2 exception_row same_exception key_of_exceptions row m.exceptions t.exceptions r.exceptions s.exceptions; keys = s.keys; stays = s.stays; withdrawals = s.withdrawals; versions = s.versions }
+changed_stands (PutKey row) m t r s = record { people = s.people; trainings = s.trainings; appointments = s.appointments; boxes = s.boxes; safes = s.safes; bags = s.bags; items = s.items; ceremonies = s.ceremonies; marks = s.marks; steps = s.steps; seatings = s.seatings; sheet = s.sheet; exceptions = s.exceptions; keys = put-stands 1 key_row same_key_row key_of_keys row m.keys t.keys r.keys s.keys; stays = s.stays; withdrawals = s.withdrawals; versions = s.versions }
+changed_stands (PutStay row) m t r s = record { people = s.people; trainings = s.trainings; appointments = s.appointments; boxes = s.boxes; safes = s.safes; bags = s.bags; items = s.items; ceremonies = s.ceremonies; marks = s.marks; steps = s.steps; seatings = s.seatings; sheet = s.sheet; exceptions = s.exceptions; keys = s.keys; stays = put-stands 2 stay_row same_stay key_of_stays row m.stays t.stays r.stays s.stays; withdrawals = s.withdrawals; versions = s.versions }
+changed_stands (PutWithdrawal row) m t r s = record { people = s.people; trainings = s.trainings; appointments = s.appointments; boxes = s.boxes; safes = s.safes; bags = s.bags; items = s.items; ceremonies = s.ceremonies; marks = s.marks; steps = s.steps; seatings = s.seatings; sheet = s.sheet; exceptions = s.exceptions; keys = s.keys; stays = s.stays; withdrawals = put-stands 4 withdrawal_row same_withdrawn key_of_withdrawals row m.withdrawals t.withdrawals r.withdrawals s.withdrawals; versions = s.versions }
 
 -- the changes one after the other
-pub all_stand : (changes : List Change) (m : machine.Tables) (t : Tables) → Rises t → Stands m t → Stands (machine.changed_by changes m) (changed_all changes t)
+pub all_stand : (list : List Change) (m : machine.Tables) (t : Tables) → Rises t → Stands m t → Stands (changes.changed_by list m) (changed_all list t)
 all_stand [] m t r s = s
-all_stand (c ∷ more) m t r s = all_stand more (machine.changed c m) (changed c t) (changed_rises c t r) (changed_stands c m t r s)
+all_stand (c ∷ more) m t r s = all_stand more (changes.changed c m) (changed c t) (changed_rises c t r) (changed_stands c m t r s)
 
 -- ---- what the store holds
 
-pub held_of : (m : machine.Tables) (db : Database) (h : HoldsTables m db) → Holds db h.tables.t
-held_of m db h = record { schema = h.schema; kept = h.tables.kept }
+pub changes_hold : (list : List Change) (m : machine.Tables) (old new : Database) (h : HoldsTables m old) → Holds new (changed_all list h.tables.t) → HoldsTables (changes.changed_by list m) new
+changes_hold list m old new h held =
+    tables_of (changes.changed_by list m) new (changed_all list h.tables.t) (all_stand list m h.tables.t (kept_rises old.trees h.tables.t h.tables.kept) h.tables.stands) held
 
-pub tables_of : (m : machine.Tables) (db : Database) (t : Tables) → Stands m t → Holds db t → HoldsTables m db
-tables_of m db t stands held = record { schema = held.schema; tables = record { t = t; kept = held.kept; stands = stands } }
-
-pub changes_hold : (changes : List Change) (m : machine.Tables) (old new : Database) (h : HoldsTables m old) → Holds new (changed_all changes h.tables.t) → HoldsTables (machine.changed_by changes m) new
-changes_hold changes m old new h held =
-    tables_of (machine.changed_by changes m) new (changed_all changes h.tables.t) (all_stand changes m h.tables.t (kept_rises old.trees h.tables.t h.tables.kept) h.tables.stands) held
+first_stands : Stands (machine.tables []) first_tables
+first_stands = record {
+  people = IsPermutation-refl [];
+  trainings = IsPermutation-refl [];
+  withdrawals = IsPermutation-refl [];
+  appointments = IsPermutation-refl [];
+  boxes = IsPermutation-refl [];
+  safes = IsPermutation-refl first_tables.safes;
+  bags = IsPermutation-refl [];
+  items = IsPermutation-refl [];
+  ceremonies = IsPermutation-refl [];
+  marks = IsPermutation-refl [];
+  steps = IsPermutation-refl [];
+  seatings = IsPermutation-refl [];
+  sheet = IsPermutation-refl [];
+  stays = IsPermutation-refl [];
+  exceptions = IsPermutation-refl [];
+  keys = IsPermutation-refl [];
+  versions = refl;
+}
 
 pub first_holds : (db : Database) → Holds db first_tables → HoldsTables (machine.tables []) db
-first_holds db held = tables_of (machine.tables []) db first_tables (record { people = IsPermutation-refl []; versions = refl; keys = IsPermutation-refl [] }) held
+first_holds db held = tables_of (machine.tables []) db first_tables first_stands held
+
+-- ---- the same rows in another order
+
+pub same_stands : (m n : machine.Tables) (t : Tables) → machine.SameTables m n → Stands m t → Stands n t
+same_stands m n t same s = record {
+  people = IsPermutation-trans _ _ _ (IsPermutation-sym _ _ same.people) s.people;
+  trainings = IsPermutation-trans _ _ _ (IsPermutation-sym _ _ same.trainings) s.trainings;
+  withdrawals = IsPermutation-trans _ _ _ (IsPermutation-sym _ _ same.withdrawals) s.withdrawals;
+  appointments = IsPermutation-trans _ _ _ (IsPermutation-sym _ _ same.appointments) s.appointments;
+  boxes = IsPermutation-trans _ _ _ (IsPermutation-sym _ _ same.boxes) s.boxes;
+  safes = IsPermutation-trans _ _ _ (IsPermutation-sym _ _ same.safes) s.safes;
+  bags = IsPermutation-trans _ _ _ (IsPermutation-sym _ _ same.bags) s.bags;
+  items = IsPermutation-trans _ _ _ (IsPermutation-sym _ _ same.items) s.items;
+  ceremonies = IsPermutation-trans _ _ _ (IsPermutation-sym _ _ same.ceremonies) s.ceremonies;
+  marks = IsPermutation-trans _ _ _ (IsPermutation-sym _ _ same.marks) s.marks;
+  steps = IsPermutation-trans _ _ _ (IsPermutation-sym _ _ same.steps) s.steps;
+  seatings = IsPermutation-trans _ _ _ (IsPermutation-sym _ _ same.seatings) s.seatings;
+  sheet = IsPermutation-trans _ _ _ (IsPermutation-sym _ _ same.sheet) s.sheet;
+  stays = IsPermutation-trans _ _ _ (IsPermutation-sym _ _ same.stays) s.stays;
+  exceptions = IsPermutation-trans _ _ _ (IsPermutation-sym _ _ same.exceptions) s.exceptions;
+  keys = IsPermutation-trans _ _ _ (IsPermutation-sym _ _ same.keys) s.keys;
+  versions = s.versions;
+}
+
+pub same_keeps : (m n : machine.Tables) (db : Trees) → machine.SameTables m n → KeepsTables m db → KeepsTables n db
+same_keeps m n db same h = record { t = h.t; kept = h.kept; stands = same_stands m n h.t same h.stands }
+
+pub same_holds : (m n : machine.Tables) (db : Database) → machine.SameTables m n → HoldsTables m db → HoldsTables n db
+same_holds m n db same h = record { schema = h.schema; tables = same_keeps m n db.trees same h.tables }

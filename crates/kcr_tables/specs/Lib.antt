@@ -1,3 +1,4 @@
+pub mod States
 pub mod Schema
 pub mod Keyed
 pub mod Rows
@@ -5,7 +6,6 @@ pub mod Refusals
 pub mod Held
 pub mod Made
 pub mod First
-pub mod Greatest
 pub mod Changed
 pub mod Joint
 pub mod Asked

@@ -1,24 +1,33 @@
 -- How an empty database becomes one of a register.
-use Rattle.std.specs.Prelude.{◌≡◌, ℕ, List, [], ◌∷◌, take, flat_map, codes, slice_index_or}
-use Rattle.std.specs.List.{AllByRecursion}
-use Rattle.sqlite.specs.Tree.{Trees}
+use Rattle.std.specs.Prelude.{ℕ, List, [], ◌∷◌, take, codes, slice_index_or}
 use Rattle.sqlite.specs.Schema.{Schema}
-use Rattle.sqlite.specs.Table.{Table}
-use Rattle.kcr_tables.specs.Schema.{indexes_for, all_tables}
+use Rattle.kcr_rows.specs.Columns.{schema_of}
+use Rattle.kcr_tables.specs.Schema.{all_tables}
 
 -- the texts that make the tables, in their order
 abbrev pub texts : List (List ℕ)
 texts =
     codes "CREATE TABLE people (who TEXT NOT NULL, name TEXT NOT NULL, PRIMARY KEY (who)) STRICT"
+    ∷ codes "CREATE TABLE trainings (who TEXT NOT NULL, role TEXT NOT NULL, since INT NOT NULL, until INT NOT NULL, PRIMARY KEY (who, role, since, until)) STRICT"
+    ∷ codes "CREATE TABLE appointments (place TEXT NOT NULL, since INT NOT NULL, who TEXT NOT NULL, until INT, PRIMARY KEY (place, since)) STRICT"
+    ∷ codes "CREATE TABLE boxes (facility TEXT NOT NULL, box INT NOT NULL, place TEXT NOT NULL, PRIMARY KEY (facility, box)) STRICT"
+    ∷ codes "CREATE TABLE safes (facility TEXT NOT NULL, safe INT NOT NULL, state INT NOT NULL, PRIMARY KEY (facility, safe)) STRICT"
+    ∷ codes "CREATE TABLE bags (serial TEXT NOT NULL, spot TEXT NOT NULL, PRIMARY KEY (serial)) STRICT"
+    ∷ codes "CREATE TABLE items (code TEXT NOT NULL, facility TEXT, serial TEXT, PRIMARY KEY (code), UNIQUE (serial, code)) STRICT"
+    ∷ codes "CREATE TABLE ceremonies (number INT NOT NULL, facility TEXT NOT NULL, day INT NOT NULL, state INT NOT NULL, opened INT, closed INT, PRIMARY KEY (number)) STRICT"
+    ∷ codes "CREATE TABLE marks (ceremony INT NOT NULL, at INT NOT NULL, PRIMARY KEY (ceremony)) STRICT"
+    ∷ codes "CREATE TABLE steps (ceremony INT NOT NULL, step INT NOT NULL, activity TEXT NOT NULL, seats TEXT NOT NULL, state INT NOT NULL, at INT, PRIMARY KEY (ceremony, step)) STRICT"
+    ∷ codes "CREATE TABLE seatings (ceremony INT NOT NULL, step INT NOT NULL, seat INT NOT NULL, who TEXT NOT NULL, PRIMARY KEY (ceremony, step, seat)) STRICT"
+    ∷ codes "CREATE TABLE sheet (who TEXT NOT NULL, at INT NOT NULL, ceremony INT NOT NULL, way INT NOT NULL, PRIMARY KEY (who, at)) STRICT"
+    ∷ codes "CREATE TABLE exceptions (ceremony INT NOT NULL, exception INT NOT NULL, text TEXT NOT NULL, at INT NOT NULL, passed INT, PRIMARY KEY (ceremony, exception)) STRICT"
     ∷ codes "CREATE TABLE versions (number INT NOT NULL, PRIMARY KEY (number)) STRICT"
-    ∷ codes "CREATE TABLE keys (\"key\" TEXT NOT NULL, accepted INT NOT NULL, command TEXT NOT NULL, reply TEXT NOT NULL, PRIMARY KEY (\"key\"), UNIQUE (accepted)) STRICT" ∷ []
+    ∷ codes "CREATE TABLE keys (\"key\" TEXT NOT NULL, accepted INT NOT NULL, command TEXT NOT NULL, reply TEXT NOT NULL, PRIMARY KEY (\"key\"), UNIQUE (accepted)) STRICT"
+    ∷ codes "CREATE TABLE stays (who TEXT NOT NULL, since INT NOT NULL, ceremony INT NOT NULL, until INT, PRIMARY KEY (who, since), UNIQUE (ceremony, who, since)) STRICT"
+    ∷ codes "CREATE TABLE withdrawals (who TEXT NOT NULL, role TEXT NOT NULL, since INT NOT NULL, until INT NOT NULL, day INT NOT NULL, PRIMARY KEY (who, role, since, until)) STRICT" ∷ []
 
 abbrev pub text_at : ℕ → List ℕ
 text_at at = slice_index_or texts at []
 
 -- the schema of the first tables; of none, that of an empty database
 abbrev pub first : ℕ → Schema
-first count = record { tables = take count all_tables; indexes = flat_map indexes_for (take count all_tables); views = [] }
-
-abbrev pub AreEmpty : List Table → Trees → Type 0
-AreEmpty tables db = AllByRecursion (λ t. db t.tree ≡ []) tables
+first count = schema_of (take count all_tables)

@@ -1,8 +1,2 @@
 -- Which refusals the tables give.
-use Rattle.std.specs.Prelude.{◌≡◌, ◌⊎◌}
-use Rattle.kcr_base.specs.declared.refusal.Refusal.{Refusal}
-use Rattle.kcr_base.specs.declared.refusal.Refusal.TheVariants.{Memory, Disk}
-
--- the database gave no answer
-abbrev pub IsFault : Refusal → Type 0
-IsFault refusal = (refusal ≡ Memory) ⊎ (refusal ≡ Disk)
+pub use Rattle.kcr_rows.specs.Refusals.{IsFault}

@@ -1,63 +1,79 @@
--- The schema: three tables, each with the index that its key gets, and the keys with a second one.
-use Rattle.sqlite.specs.Collation.TheVariants.{Binary}
-use Rattle.std.specs.Prelude.{true, false, Bool, [], ◌∷◌, None, codes, List, ℕ, ◌+◌, map, flat_map}
-use Rattle.sqlite.specs.declared.types.Value.TheVariants.{Null}
+-- The schema: a table for each kind of row, with the index that its key gets; the keys of commands have a second one.
+use Rattle.std.specs.Prelude.{List, [], ◌∷◌, codes}
 use Rattle.sqlite.specs.Table.{Table}
 use Rattle.sqlite.specs.Schema.{Schema}
-use Rattle.sqlite_schema.specs.declared.schema.Column.{Column}
-use Rattle.sqlite_schema.specs.declared.schema.Index.{Index}
-use Rattle.sqlite_catalog.specs.Listing.{automatic}
-use Rattle.sqlite.specs.Kind.{Kind}
-use Rattle.sqlite.specs.Kind.TheVariants.{Integer, Text}
-
-abbrev pub column_of : Kind → Bool → List ℕ → Column
-column_of kind not_null name = record { name = name; kind = kind; is_strict = true; not_null = not_null; default = Null; collation = Binary }
-
-abbrev pub words : List ℕ → Column
-words = column_of Text true
-
-abbrev pub number : List ℕ → Column
-number = column_of Integer true
-
--- a table whose key is these places, in this tree; no two rows agree on the places of one of the others
-abbrev pub keyed : List ℕ → ℕ → List Column → List ℕ → List (List ℕ) → Table
-keyed name tree columns places others = record {
-  name = name;
-  tree = tree;
-  columns = columns;
-  key = None;
-  primary = places;
-  uniques = places ∷ others;
-  orders = map (λ _. record { digits = 0 }) (places ∷ others);
-  checks = [];
-  references = [];
-  computed = [];
-  stamps = record { places = []; terms = []; formats = [] };
-  is_counted = false;
-}
-
-abbrev pub indexes_from : Table → ℕ → List (List ℕ) → List Index
-indexes_from table at [] = []
-indexes_from table at (places ∷ more) = automatic table at places (table.tree + 1 + at) ∷ indexes_from table (at + 1) more
-
--- the indexes of a table, in the trees behind its own: that of its key first
-abbrev pub indexes_for : Table → List Index
-indexes_for table = indexes_from table 0 table.uniques
+use Rattle.kcr_rows.specs.Columns.{words, number, words_or_null, number_or_null, keyed, schema_of}
 
 -- a person under their initials
 abbrev pub people : Table
 people = keyed (codes "people") 0 (words (codes "who") ∷ words (codes "name") ∷ []) (1 ∷ []) []
 
--- the number of the schema
-abbrev pub versions : Table
-versions = keyed (codes "versions") 2 (number (codes "number") ∷ []) (1 ∷ []) []
+-- a training of a person for a role, all of it its key
+abbrev pub trainings : Table
+trainings = keyed (codes "trainings") 2 (words (codes "who") ∷ words (codes "role") ∷ number (codes "since") ∷ number (codes "until") ∷ []) (1 ∷ 2 ∷ 3 ∷ 4 ∷ []) []
 
--- an accepted command under its key; no two have one number
+-- who holds a custodian's place, under the place and the first day
+abbrev pub appointments : Table
+appointments = keyed (codes "appointments") 4 (words (codes "place") ∷ number (codes "since") ∷ words (codes "who") ∷ number_or_null (codes "until") ∷ []) (1 ∷ 2 ∷ []) []
+
+-- a box under its facility and number
+abbrev pub boxes : Table
+boxes = keyed (codes "boxes") 6 (words (codes "facility") ∷ number (codes "box") ∷ words (codes "place") ∷ []) (1 ∷ 2 ∷ []) []
+
+-- a safe under its facility and number
+abbrev pub safes : Table
+safes = keyed (codes "safes") 8 (words (codes "facility") ∷ number (codes "safe") ∷ number (codes "state") ∷ []) (1 ∷ 2 ∷ []) []
+
+-- a bag under its serial
+abbrev pub bags : Table
+bags = keyed (codes "bags") 10 (words (codes "serial") ∷ words (codes "spot") ∷ []) (1 ∷ []) []
+
+-- an item under its code
+abbrev pub items : Table
+items = keyed (codes "items") 12 (words (codes "code") ∷ words_or_null (codes "facility") ∷ words_or_null (codes "serial") ∷ []) (1 ∷ []) ((3 ∷ 1 ∷ []) ∷ [])
+
+-- a ceremony under its number
+abbrev pub ceremonies : Table
+ceremonies = keyed (codes "ceremonies") 15 (number (codes "number") ∷ words (codes "facility") ∷ number (codes "day") ∷ number (codes "state") ∷ number_or_null (codes "opened") ∷ number_or_null (codes "closed") ∷ []) (1 ∷ []) []
+
+-- the mark of a ceremony that was opened, under its number
+abbrev pub marks : Table
+marks = keyed (codes "marks") 17 (number (codes "ceremony") ∷ number (codes "at") ∷ []) (1 ∷ []) []
+
+-- a step of a ceremony under both numbers
+abbrev pub steps : Table
+steps = keyed (codes "steps") 19 (number (codes "ceremony") ∷ number (codes "step") ∷ words (codes "activity") ∷ words (codes "seats") ∷ number (codes "state") ∷ number_or_null (codes "at") ∷ []) (1 ∷ 2 ∷ []) []
+
+-- who filled a seat of a step, under the ceremony, the step and the seat
+abbrev pub seatings : Table
+seatings = keyed (codes "seatings") 21 (number (codes "ceremony") ∷ number (codes "step") ∷ number (codes "seat") ∷ words (codes "who") ∷ []) (1 ∷ 2 ∷ 3 ∷ []) []
+
+-- a row of a ceremony's entry and exit sheet, under the person and the moment
+abbrev pub sheet : Table
+sheet = keyed (codes "sheet") 23 (words (codes "who") ∷ number (codes "at") ∷ number (codes "ceremony") ∷ number (codes "way") ∷ []) (1 ∷ 2 ∷ []) []
+
+-- a script exception of a ceremony under both numbers
+abbrev pub exceptions : Table
+exceptions = keyed (codes "exceptions") 25 (number (codes "ceremony") ∷ number (codes "exception") ∷ words (codes "text") ∷ number (codes "at") ∷ number_or_null (codes "passed") ∷ []) (1 ∷ 2 ∷ []) []
+
+-- one row with the number of the schema
+abbrev pub versions : Table
+versions = keyed (codes "versions") 27 (number (codes "number") ∷ []) (1 ∷ []) []
+
+-- a row for each accepted command, under its key; no two rows have one number
 abbrev pub keys : Table
-keys = keyed (codes "keys") 4 (words (codes "key") ∷ number (codes "accepted") ∷ words (codes "command") ∷ words (codes "reply") ∷ []) (1 ∷ []) ((2 ∷ []) ∷ [])
+keys = keyed (codes "keys") 29 (words (codes "key") ∷ number (codes "accepted") ∷ words (codes "command") ∷ words (codes "reply") ∷ []) (1 ∷ []) ((2 ∷ []) ∷ [])
+
+-- a stay of a person in the room of a ceremony, under the person and its beginning
+abbrev pub stays : Table
+stays = keyed (codes "stays") 32 (words (codes "who") ∷ number (codes "since") ∷ number (codes "ceremony") ∷ number_or_null (codes "until") ∷ []) (1 ∷ 2 ∷ []) ((3 ∷ 1 ∷ 2 ∷ []) ∷ [])
+
+-- from which day a training is withdrawn, under the training's key
+abbrev pub withdrawals : Table
+withdrawals = keyed (codes "withdrawals") 35 (words (codes "who") ∷ words (codes "role") ∷ number (codes "since") ∷ number (codes "until") ∷ number (codes "day") ∷ []) (1 ∷ 2 ∷ 3 ∷ 4 ∷ []) []
 
 abbrev pub all_tables : List Table
-all_tables = people ∷ versions ∷ keys ∷ []
+all_tables = people ∷ trainings ∷ appointments ∷ boxes ∷ safes ∷ bags ∷ items ∷ ceremonies ∷ marks ∷ steps ∷ seatings ∷ sheet ∷ exceptions ∷ versions ∷ keys ∷ stays ∷ withdrawals ∷ []
 
 abbrev pub register_schema : Schema
-register_schema = record { tables = all_tables; indexes = flat_map indexes_for all_tables; views = [] }
+register_schema = schema_of all_tables

@@ -3,20 +3,40 @@
 ghost use Rattle.std.specs.Prelude.{◌≡◌, OnOk, IsTrue, IfErr};
 ghost use Rattle.sqlite.specs.Held.{state};
 ghost use Rattle.sqlite.specs.State.{HasCleanDisk, KeepsCommit, Survives};
-ghost use Rattle.kcr_machine.specs.Tables as machine;
-ghost use Rattle.kcr_tables.specs.Refusals.{IsFault};
+ghost use Rattle.kcr_history.specs.Tables as machine;
+ghost use Rattle.kcr_history.specs.Changes.{changed_by};
+ghost use Rattle.kcr_rows.specs.Refusals.{IsFault};
 ghost use Rattle.kcr_tables.specs.Held.{Tables, Holds};
 ghost use Rattle.kcr_tables.specs.Changed.{changed, changed_all};
 ghost use Rattle.kcr_tables.specs.Joint.{HoldsTables};
 
+use crate::appointments::put_appointment;
+use crate::bags::put_bag;
+use crate::boxes::put_box;
+use crate::ceremonies::put_ceremony;
+use crate::exceptions::put_exception;
+use crate::items::put_item;
 use crate::keys::put_key_row;
+use crate::marks::put_mark;
 use crate::people::put_person;
+use crate::safes::put_safe;
+use crate::seatings::put_seating;
+use crate::sheet::put_sheet_row;
+use crate::stays::put_stay;
+use crate::steps::put_step;
+use crate::trainings::put_training;
+use crate::withdrawals::put_withdrawal;
 use kcr_base::Refusal;
-use kcr_machine::Change;
+use kcr_history::Change;
 use sqlite::{Alter, Transaction};
+use std::alloc::Global;
 
 /// Makes one change: the row goes into its table.
-pub fn make_change<S: Alter>(tx: &mut Transaction<'_, S>, change: &Change) -> Result<(), Refusal>
+fn make_change<S: Alter>(
+    alloc: Global,
+    tx: &mut Transaction<'_, S>,
+    change: &Change,
+) -> Result<(), Refusal>
     ensures same_reference { tx.new.conn.ghost_name ≡ tx.old.conn.ghost_name }
     ensures holds { HasCleanDisk (state S.Store tx.new.conn.now) → (t : Tables) → Holds (state S.Store tx.old.conn.now).now t → OnOk result (Holds (state S.Store tx.new.conn.now).now (changed change.now t)) }
     ensures inside { HasCleanDisk (state S.Store tx.new.conn.now) → IsTrue (state S.Store tx.old.conn.now).in_transaction → OnOk result (IsTrue (state S.Store tx.new.conn.now).in_transaction) }
@@ -26,6 +46,20 @@ pub fn make_change<S: Alter>(tx: &mut Transaction<'_, S>, change: &Change) -> Re
 {
     match change {
         Change::PutPerson(row) => put_person(tx, row),
+        Change::PutTraining(row) => put_training(tx, row),
+        Change::PutWithdrawal(row) => put_withdrawal(tx, row),
+        Change::PutAppointment(row) => put_appointment(tx, row),
+        Change::PutBox(row) => put_box(tx, row),
+        Change::PutSafe(row) => put_safe(tx, row),
+        Change::PutBag(row) => put_bag(alloc, tx, row),
+        Change::PutItem(row) => put_item(tx, row),
+        Change::PutCeremony(row) => put_ceremony(tx, row),
+        Change::PutMark(row) => put_mark(tx, row),
+        Change::PutStep(row) => put_step(alloc, tx, row),
+        Change::PutSeating(row) => put_seating(tx, row),
+        Change::PutSheet(row) => put_sheet_row(tx, row),
+        Change::PutStay(row) => put_stay(tx, row),
+        Change::PutException(row) => put_exception(tx, row),
         Change::PutKey(row) => put_key_row(tx, row),
     }
 }
@@ -34,19 +68,20 @@ pub fn make_change<S: Alter>(tx: &mut Transaction<'_, S>, change: &Change) -> Re
 /// `Disk`: the device failed, or a row of an accepted command has a key or a number that is taken. It leaves the
 /// changes before it in the transaction, which the caller rolls back; what was committed before stays.
 pub fn make_changes<S: Alter>(
+    alloc: Global,
     tx: &mut Transaction<'_, S>,
     changes: &[Change],
 ) -> Result<(), Refusal>
     ensures same_reference { tx.new.conn.ghost_name ≡ tx.old.conn.ghost_name }
     ensures holds { HasCleanDisk (state S.Store tx.new.conn.now) → (t : Tables) → Holds (state S.Store tx.old.conn.now).now t → OnOk result (Holds (state S.Store tx.new.conn.now).now (changed_all changes.now t)) }
-    ensures tables { HasCleanDisk (state S.Store tx.new.conn.now) → (m : machine.Tables) → HoldsTables m (state S.Store tx.old.conn.now).now → OnOk result (HoldsTables (machine.changed_by changes.now m) (state S.Store tx.new.conn.now).now) }
+    ensures tables { HasCleanDisk (state S.Store tx.new.conn.now) → (m : machine.Tables) → HoldsTables m (state S.Store tx.old.conn.now).now → OnOk result (HoldsTables (changed_by changes.now m) (state S.Store tx.new.conn.now).now) }
     ensures inside { HasCleanDisk (state S.Store tx.new.conn.now) → IsTrue (state S.Store tx.old.conn.now).in_transaction → OnOk result (IsTrue (state S.Store tx.new.conn.now).in_transaction) }
     ensures kept { HasCleanDisk (state S.Store tx.new.conn.now) → IsTrue (state S.Store tx.old.conn.now).in_transaction → KeepsCommit (state S.Store tx.old.conn.now) (state S.Store tx.new.conn.now) }
     ensures survives { Survives (state S.Store tx.old.conn.now) (state S.Store tx.new.conn.now) (λ _. ⊥) }
     ensures cause { IfErr result IsFault }
 {
     for change in changes {
-        make_change(tx, change)?;
+        make_change(alloc, tx, change)?;
     }
     Ok(())
 }

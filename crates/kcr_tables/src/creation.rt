@@ -4,42 +4,32 @@ ghost use Rattle.std.specs.Prelude.{◌≡◌, ◌+◌, ◌<◌, [], take, IfErr
 ghost use Rattle.sqlite.specs.Held.{state};
 ghost use Rattle.sqlite.specs.State.{HasCleanDisk, KeepsCommit, Survives};
 ghost use Rattle.sqlite_catalog.specs.Listing.{IsSound};
-ghost use Rattle.kcr_machine.specs.Tables.{tables};
-ghost use Rattle.kcr_tables.specs.Refusals.{IsFault};
-ghost use Rattle.kcr_tables.specs.Held.{Holds};
-ghost use Rattle.kcr_tables.specs.First.{empty_tables, first_tables};
+ghost use Rattle.kcr_history.specs.Tables.{tables};
+ghost use Rattle.kcr_rows.specs.Refusals.{IsFault};
+ghost use Rattle.kcr_rows.specs.Columns.{AreEmpty};
+ghost use Rattle.kcr_rows.specs.Keyed.{put_in};
+ghost use Rattle.kcr_tables.specs.Rows.{safe_row};
+ghost use Rattle.kcr_tables.specs.Held.{Tables, Holds};
+ghost use Rattle.kcr_tables.specs.First.{empty_tables, first_tables, shut};
 ghost use Rattle.kcr_tables.specs.Joint.{HoldsTables};
-ghost use Rattle.kcr_tables.specs.Made.{text_at, first, AreEmpty};
+ghost use Rattle.kcr_tables.specs.Made.{first};
 ghost use Rattle.kcr_tables.specs.Schema.{all_tables};
+ghost use Rattle.kcr_custody.specs.declared.SafeNumber.TheVariants.{One, Two};
 
+use crate::safes::put_safe;
 use crate::statements::write;
+use crate::texts::{COUNT, create_text};
 use crate::versions::{Version, put_version};
-use kcr_base::Refusal;
+use kcr_base::{Facility, Refusal};
+use kcr_custody::{SafeNumber, SafeRow};
 use sqlite::{Alter, Transaction};
-
-/// How many tables there are.
-const COUNT: usize = 3;
 
 /// The number of the schema, which the table versions holds.
 const VERSION: u32 = 3;
 
-/// The text that makes the table of this position, counted from 0.
-fn create_text(at: usize) -> &'static str
-    requires { at < 3 }
-    ensures { result.now ≡ text_at at }
-{
-    match at {
-        0 =>
-            "CREATE TABLE people (who TEXT NOT NULL, name TEXT NOT NULL, PRIMARY KEY (who)) STRICT",
-        1 => "CREATE TABLE versions (number INT NOT NULL, PRIMARY KEY (number)) STRICT",
-        _ =>
-            "CREATE TABLE keys (\"key\" TEXT NOT NULL, accepted INT NOT NULL, command TEXT NOT NULL, reply TEXT NOT NULL, PRIMARY KEY (\"key\"), UNIQUE (accepted)) STRICT",
-    }
-}
-
 /// Makes the table of this position, counted from 0, after those before it.
 fn create_one<S: Alter>(tx: &mut Transaction<'_, S>, at: usize) -> Result<(), Refusal>
-    requires { at < 3 }
+    requires { at < 17 }
     ensures same_reference { tx.new.conn.ghost_name ≡ tx.old.conn.ghost_name }
     ensures schema { HasCleanDisk (state S.Store tx.new.conn.now) → (state S.Store tx.old.conn.now).now.schema ≡ first at → AreEmpty (take at all_tables) (state S.Store tx.old.conn.now).now.trees → OnOk result ((state S.Store tx.new.conn.now).now.schema ≡ first (at + 1)) }
     ensures empty { HasCleanDisk (state S.Store tx.new.conn.now) → (state S.Store tx.old.conn.now).now.schema ≡ first at → AreEmpty (take at all_tables) (state S.Store tx.old.conn.now).now.trees → OnOk result (AreEmpty (take (at + 1) all_tables) (state S.Store tx.new.conn.now).now.trees) }
@@ -68,8 +58,32 @@ fn create_all<S: Alter>(tx: &mut Transaction<'_, S>) -> Result<(), Refusal>
     Ok(())
 }
 
-/// Makes the tables of a new register in an empty database: nobody, no accepted command, and one row with the number
-/// of the schema. The error is `Memory` for want of memory, and else `Disk`. It leaves a part of the tables in the
+/// Puts the two safes of a facility, which are shut.
+fn put_pair<S: Alter>(tx: &mut Transaction<'_, S>, facility: Facility) -> Result<(), Refusal>
+    ensures same_reference { tx.new.conn.ghost_name ≡ tx.old.conn.ghost_name }
+    ensures holds { HasCleanDisk (state S.Store tx.new.conn.now) → (t : Tables) → Holds (state S.Store tx.old.conn.now).now t
+        → OnOk result (Holds (state S.Store tx.new.conn.now).now (record t { safes = put_in 2 safe_row (shut facility Two) (put_in 2 safe_row (shut facility One) t.safes) })) }
+    ensures inside { HasCleanDisk (state S.Store tx.new.conn.now) → IsTrue (state S.Store tx.old.conn.now).in_transaction → OnOk result (IsTrue (state S.Store tx.new.conn.now).in_transaction) }
+    ensures kept { HasCleanDisk (state S.Store tx.new.conn.now) → IsTrue (state S.Store tx.old.conn.now).in_transaction → KeepsCommit (state S.Store tx.old.conn.now) (state S.Store tx.new.conn.now) }
+    ensures survives { Survives (state S.Store tx.old.conn.now) (state S.Store tx.new.conn.now) (λ _. ⊥) }
+    ensures cause { IfErr result IsFault }
+{
+    let equipment = SafeRow {
+        facility,
+        safe: SafeNumber::One,
+        is_open: false,
+    };
+    put_safe(tx, &equipment)?;
+    let credentials = SafeRow {
+        facility,
+        safe: SafeNumber::Two,
+        is_open: false,
+    };
+    put_safe(tx, &credentials)
+}
+
+/// Makes the tables of a new register in an empty database: the four safes, which are shut, one row with the
+/// number of the schema, and no others. The error is `Memory` for want of memory, and else `Disk`. It leaves a part of the tables in the
 /// transaction, which the caller rolls back; what was committed before stays.
 pub fn make<S: Alter>(tx: &mut Transaction<'_, S>) -> Result<(), Refusal>
     ensures same_reference { tx.new.conn.ghost_name ≡ tx.old.conn.ghost_name }
@@ -81,6 +95,8 @@ pub fn make<S: Alter>(tx: &mut Transaction<'_, S>) -> Result<(), Refusal>
     ensures cause { IfErr result IsFault }
 {
     create_all(tx)?;
+    put_pair(tx, Facility::East)?;
+    put_pair(tx, Facility::West)?;
     let version = Version { number: VERSION };
     put_version(tx, &version)
 }

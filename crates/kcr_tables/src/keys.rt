@@ -1,26 +1,30 @@
 //! The table keys: a row for each accepted command, under its key; no two rows have one number.
 
-ghost use Rattle.std.specs.Prelude.{◌≡◌, filter, map, IsPermutation, IfOk, OnOk, IsTrue, IfErr};
+ghost use Rattle.std.specs.Prelude.{⊤, ◌≡◌, map, IsPermutation, IfOk, OnOk, IsTrue, IfErr, filter};
 ghost use Rattle.sqlite.specs.Held.{state};
 ghost use Rattle.sqlite.specs.State.{HasCleanDisk, KeepsCommit, Survives};
-ghost use Rattle.kcr_machine.specs.Tables.{is_of_key};
+ghost use Rattle.kcr_history.specs.Tables as machine;
+ghost use Rattle.kcr_history.specs.Views.{is_of_key};
+ghost use Rattle.kcr_rows.specs.Refusals.{IsFault};
+ghost use Rattle.kcr_rows.specs.Keyed.{put_in, cells};
+ghost use Rattle.kcr_rows.specs.Greatest.{IsGreatest};
 ghost use Rattle.kcr_tables.specs.Schema.{register_schema};
-ghost use Rattle.kcr_tables.specs.Refusals.{IsFault};
-ghost use Rattle.kcr_tables.specs.Keyed.{put_in, cells};
 ghost use Rattle.kcr_tables.specs.Rows.{key_row};
 ghost use Rattle.kcr_tables.specs.Held.{Tables, Holds};
-ghost use Rattle.kcr_tables.specs.Greatest.{IsGreatest};
+ghost use Rattle.kcr_tables.specs.Joint.{HoldsTables};
 
-use crate::cells::{key_at, key_cell, number_at, number_cell, text_at, text_cell};
 use crate::statements::{rows_of, write};
 use crate::stored::Stored;
 use kcr_base::{Key, Refusal};
-use kcr_machine::KeyRow;
+use kcr_history::KeyRow;
+use kcr_rows::cells::{key_at, key_cell, number_at, number_cell, text_at, text_cell};
 use sqlite::{Alter, Row, Transaction};
 use std::alloc::Global;
 
 impl Stored for KeyRow {
     ghost row_of = { key_row };
+
+    ghost is_read = { λ _. ⊤ };
 
     fn decode(alloc: Global, row: &Row) -> Result<KeyRow, Refusal> {
         if row.column_count() != 4 {
@@ -48,8 +52,10 @@ pub fn all_keys<S: Alter>(
 ) -> Result<Vec<KeyRow>, Refusal>
     ensures same_reference { tx.new.conn.ghost_name ≡ tx.old.conn.ghost_name }
     ensures rows { HasCleanDisk (state S.Store tx.new.conn.now) → (t : Tables) → Holds (state S.Store tx.old.conn.now).now t → IfOk result (λ all. all.items ≡ t.keys) }
+    ensures keys { HasCleanDisk (state S.Store tx.new.conn.now) → (m : machine.Tables) → HoldsTables m (state S.Store tx.old.conn.now).now → IfOk result (λ all. IsPermutation m.keys all.items) }
+    ensures tables { HasCleanDisk (state S.Store tx.new.conn.now) → (m : machine.Tables) → HoldsTables m (state S.Store tx.old.conn.now).now → OnOk result (HoldsTables m (state S.Store tx.new.conn.now).now) }
     ensures exact { HasCleanDisk (state S.Store tx.new.conn.now) → (state S.Store tx.old.conn.now).now.schema ≡ register_schema
-        → IfOk result (λ all. IsPermutation (map (cells 1 4) ((state S.Store tx.old.conn.now).now.trees 4)) (map key_row all.items)) }
+        → IfOk result (λ all. IsPermutation (map (cells 1 4) ((state S.Store tx.old.conn.now).now.trees 29)) (map key_row all.items)) }
     ensures holds { HasCleanDisk (state S.Store tx.new.conn.now) → (t : Tables) → Holds (state S.Store tx.old.conn.now).now t → OnOk result (Holds (state S.Store tx.new.conn.now).now t) }
     ensures opened { HasCleanDisk (state S.Store tx.new.conn.now) → OnOk result (IsTrue (state S.Store tx.old.conn.now).is_open) }
     ensures inside { HasCleanDisk (state S.Store tx.new.conn.now) → IsTrue (state S.Store tx.old.conn.now).in_transaction → OnOk result (IsTrue (state S.Store tx.new.conn.now).in_transaction) }
@@ -99,7 +105,7 @@ pub fn last_key_row<S: Alter>(
     tx: &mut Transaction<'_, S>,
 ) -> Result<Vec<KeyRow>, Refusal>
     ensures same_reference { tx.new.conn.ghost_name ≡ tx.old.conn.ghost_name }
-    ensures rows { HasCleanDisk (state S.Store tx.new.conn.now) → (t : Tables) → Holds (state S.Store tx.old.conn.now).now t → IfOk result (λ all. IsGreatest t.keys all.items) }
+    ensures rows { HasCleanDisk (state S.Store tx.new.conn.now) → (t : Tables) → Holds (state S.Store tx.old.conn.now).now t → IfOk result (λ all. IsGreatest (λ x. x.accepted) t.keys all.items) }
     ensures holds { HasCleanDisk (state S.Store tx.new.conn.now) → (t : Tables) → Holds (state S.Store tx.old.conn.now).now t → OnOk result (Holds (state S.Store tx.new.conn.now).now t) }
     ensures opened { HasCleanDisk (state S.Store tx.new.conn.now) → OnOk result (IsTrue (state S.Store tx.old.conn.now).is_open) }
     ensures inside { HasCleanDisk (state S.Store tx.new.conn.now) → IsTrue (state S.Store tx.old.conn.now).in_transaction → OnOk result (IsTrue (state S.Store tx.new.conn.now).in_transaction) }

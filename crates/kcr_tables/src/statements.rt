@@ -8,7 +8,8 @@ ghost use Rattle.sqlite.specs.Values.{bound};
 ghost use Rattle.sqlite.specs.Listing.{understood};
 ghost use Rattle.sqlite.specs.Given.{IsPlain};
 ghost use Rattle.sqlite.specs.State.{HasCleanDisk, IsUnchanged, KeepsCommit, Survives, Executes, Shown};
-ghost use Rattle.kcr_tables.specs.Refusals.{IsFault};
+ghost use Rattle.std.specs.List.{AllByRecursion};
+ghost use Rattle.kcr_rows.specs.Refusals.{IsFault};
 
 use crate::stored::Stored;
 use kcr_base::Refusal;
@@ -31,6 +32,7 @@ fn refusal_of(error: Error) -> Refusal
 /// The values of rows that a query gave, in their order.
 fn decode_all<T: Stored>(alloc: Global, rows: &[Row]) -> Result<Vec<T>, Refusal>
     ensures rows { IfOk result (λ all. map T.row_of all.items ≡ rows.now) }
+    ensures read { IfOk result (λ all. AllByRecursion T.is_read all.items) }
     ensures cause { IfErr result IsFault }
 {
     let mut all = Vec::new(alloc);
@@ -49,6 +51,7 @@ pub fn rows_of<S: Alter, T: Stored>(
 ) -> Result<Vec<T>, Refusal>
     ensures same_reference { tx.new.conn.ghost_name ≡ tx.old.conn.ghost_name }
     ensures shown { HasCleanDisk (state S.Store tx.new.conn.now) → IfOk result (λ all. Shown sql.now (bound params.now) (state S.Store tx.old.conn.now) (state S.Store tx.new.conn.now) (map T.row_of all.items)) }
+    ensures read { IfOk result (λ all. AllByRecursion T.is_read all.items) }
     ensures same { HasCleanDisk (state S.Store tx.new.conn.now) → IsPlain (understood (state S.Store tx.old.conn.now).now.schema sql.now) → OnOk result (IsUnchanged (state S.Store tx.old.conn.now) (state S.Store tx.new.conn.now)) }
     ensures opened { HasCleanDisk (state S.Store tx.new.conn.now) → OnOk result (IsTrue (state S.Store tx.old.conn.now).is_open) }
     ensures inside { HasCleanDisk (state S.Store tx.new.conn.now) → IsTrue (state S.Store tx.old.conn.now).in_transaction → OnOk result (IsTrue (state S.Store tx.new.conn.now).in_transaction) }

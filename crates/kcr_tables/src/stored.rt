@@ -1,7 +1,7 @@
 //! Values that stand in rows.
 
 ghost use Rattle.std.specs.Prelude.{◌≡◌, IfOk, IfErr};
-ghost use Rattle.kcr_tables.specs.Refusals.{IsFault};
+ghost use Rattle.kcr_rows.specs.Refusals.{IsFault};
 
 use kcr_base::Refusal;
 use sqlite::Row;
@@ -14,8 +14,12 @@ pub trait Stored: Drop {
     /// The row of a value.
     ghost row_of: { Self → Values };
 
+    /// What is known of a value that was read, beside its row.
+    ghost is_read: { Self → Type 0 };
+
     /// The value of a row; the error is `Disk` where the row is no value's, and `Memory` for want of memory.
     fn decode(alloc: Global, row: &Row) -> Result<Self, Refusal>
         ensures row { IfOk result (λ x. row.now ≡ row_of x) }
+        ensures read { IfOk result is_read }
         ensures cause { IfErr result IsFault };
 }

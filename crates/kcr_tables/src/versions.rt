@@ -1,18 +1,18 @@
 //! The table versions: one row with the number of the schema.
 
-ghost use Rattle.std.specs.Prelude.{◌≡◌, map, IsPermutation, IfOk, OnOk, IsTrue, IfErr};
+ghost use Rattle.std.specs.Prelude.{⊤, ◌≡◌, map, IsPermutation, IfOk, OnOk, IsTrue, IfErr};
 ghost use Rattle.sqlite.specs.Held.{state};
 ghost use Rattle.sqlite.specs.State.{HasCleanDisk, KeepsCommit, Survives};
+ghost use Rattle.kcr_rows.specs.Refusals.{IsFault};
+ghost use Rattle.kcr_rows.specs.Keyed.{put_in, cells};
 ghost use Rattle.kcr_tables.specs.Schema.{register_schema};
-ghost use Rattle.kcr_tables.specs.Refusals.{IsFault};
-ghost use Rattle.kcr_tables.specs.Keyed.{put_in, cells};
 ghost use Rattle.kcr_tables.specs.Rows.{version_row};
 ghost use Rattle.kcr_tables.specs.Held.{Tables, Holds};
 
-use crate::cells::{number_at, number_cell};
 use crate::statements::{rows_of, write};
 use crate::stored::Stored;
 use kcr_base::Refusal;
+use kcr_rows::cells::{number_at, number_cell};
 use sqlite::{Alter, Row, Transaction};
 use std::alloc::Global;
 
@@ -24,6 +24,8 @@ pub struct Version {
 
 impl Stored for Version {
     ghost row_of = { version_row };
+
+    ghost is_read = { λ _. ⊤ };
 
     fn decode(_alloc: Global, row: &Row) -> Result<Version, Refusal> {
         if row.column_count() != 1 {
@@ -44,7 +46,7 @@ pub fn all_versions<S: Alter>(
     ensures same_reference { tx.new.conn.ghost_name ≡ tx.old.conn.ghost_name }
     ensures rows { HasCleanDisk (state S.Store tx.new.conn.now) → (t : Tables) → Holds (state S.Store tx.old.conn.now).now t → IfOk result (λ all. all.items ≡ t.versions) }
     ensures exact { HasCleanDisk (state S.Store tx.new.conn.now) → (state S.Store tx.old.conn.now).now.schema ≡ register_schema
-        → IfOk result (λ all. IsPermutation (map (cells 1 1) ((state S.Store tx.old.conn.now).now.trees 2)) (map version_row all.items)) }
+        → IfOk result (λ all. IsPermutation (map (cells 1 1) ((state S.Store tx.old.conn.now).now.trees 27)) (map version_row all.items)) }
     ensures holds { HasCleanDisk (state S.Store tx.new.conn.now) → (t : Tables) → Holds (state S.Store tx.old.conn.now).now t → OnOk result (Holds (state S.Store tx.new.conn.now).now t) }
     ensures opened { HasCleanDisk (state S.Store tx.new.conn.now) → OnOk result (IsTrue (state S.Store tx.old.conn.now).is_open) }
     ensures inside { HasCleanDisk (state S.Store tx.new.conn.now) → IsTrue (state S.Store tx.old.conn.now).in_transaction → OnOk result (IsTrue (state S.Store tx.new.conn.now).in_transaction) }
@@ -60,8 +62,8 @@ pub fn all_versions<S: Alter>(
     )
 }
 
-/// Puts the row under its number; every other row stays.
-/// The error is `Memory` or `Disk`, and what was committed before stays.
+/// Puts the row under its number, new or in place of the row there; every other row stays. The error is `Memory` or
+/// `Disk`, and what was committed before stays.
 pub fn put_version<S: Alter>(tx: &mut Transaction<'_, S>, row: &Version) -> Result<(), Refusal>
     ensures same_reference { tx.new.conn.ghost_name ≡ tx.old.conn.ghost_name }
     ensures holds { HasCleanDisk (state S.Store tx.new.conn.now) → (t : Tables) → Holds (state S.Store tx.old.conn.now).now t → OnOk result (Holds (state S.Store tx.new.conn.now).now (record t { versions = put_in 1 version_row row.now t.versions })) }

@@ -3,22 +3,64 @@
 ghost use Rattle.std.specs.Prelude.{◌≡◌, ◌++◌, List, filter, IfOk, OnOk, IsTrue, IfErr};
 ghost use Rattle.sqlite.specs.Held.{state};
 ghost use Rattle.sqlite.specs.State.{HasCleanDisk, KeepsCommit, Survives};
-ghost use Rattle.kcr_machine.specs.Tables.{is_of_person, is_of_key, IsViewOf};
-ghost use Rattle.kcr_machine.specs.Tables as machine;
-ghost use Rattle.kcr_machine.specs.declared.views.KeyRow.{KeyRow};
-ghost use Rattle.kcr_tables.specs.Refusals.{IsFault};
-ghost use Rattle.kcr_tables.specs.Greatest.{IsGreatest};
-ghost use Rattle.kcr_tables.specs.Asked.{asked_of};
+ghost use Rattle.kcr_history.specs.Views.{IsViewOf, Shows, ShowsStays, is_of_people, is_training_of, is_withdrawal_of, is_appointment_of, is_of_serial, is_item_of, is_of_number, is_mark_of, is_step_of, is_exception_of, is_of_key};
+ghost use Rattle.kcr_history.specs.Tables as machine;
+ghost use Rattle.kcr_history.specs.declared.rows.KeyRow.{KeyRow};
+ghost use Rattle.kcr_rows.specs.Refusals.{IsFault};
+ghost use Rattle.kcr_rows.specs.Greatest.{IsGreatest};
+ghost use Rattle.kcr_tables.specs.Asked.{asked_of, asked_all};
 ghost use Rattle.kcr_tables.specs.Held.{Tables, Holds};
 ghost use Rattle.kcr_tables.specs.Joint.{HoldsTables};
 
+use crate::appointments::asked_appointments;
+use crate::bags::asked_bags;
+use crate::boxes::asked_boxes;
+use crate::ceremonies::asked_ceremonies;
+use crate::exceptions::asked_exceptions;
+use crate::items::asked_items;
 use crate::keys::{key_row_of, last_key_row};
-use crate::people::{all_people, person_of};
-use kcr_base::{Initials, Key, Refusal};
-use kcr_machine::{Asks, KeyRow, Rows, View};
-use kcr_people::Person;
+use crate::marks::asked_marks;
+use crate::people::asked_people;
+use crate::rooms::asked_stays;
+use crate::safes::asked_safes;
+use crate::steps::asked_steps;
+use crate::trainings::asked_trainings;
+use crate::withdrawals::asked_withdrawals;
+use kcr_base::{Key, Refusal};
+use kcr_custody::{Bag, BoxRow, Item, SafeRow};
+use kcr_history::{Asks, CeremonyRow, ExceptionRow, KeyRow, MarkRow, StepRow, View};
+use kcr_people::{Appointment, Person, Training, Withdrawal};
+use kcr_room::Stay;
 use sqlite::{Alter, Transaction};
 use std::alloc::Global;
+
+/// Rows of people and their offices.
+#[derive(Drop)]
+struct StaffRows {
+    people: Vec<Person>,
+    trainings: Vec<Training>,
+    withdrawals: Vec<Withdrawal>,
+    appointments: Vec<Appointment>,
+}
+
+/// Rows of what is kept in the safes.
+#[derive(Drop)]
+struct CustodyRows {
+    boxes: Vec<BoxRow>,
+    safes: Vec<SafeRow>,
+    bags: Vec<Bag>,
+    items: Vec<Item>,
+}
+
+/// Rows of ceremonies.
+#[derive(Drop)]
+struct CeremonyRows {
+    ceremonies: Vec<CeremonyRow>,
+    marks: Vec<MarkRow>,
+    steps: Vec<StepRow>,
+    exceptions: Vec<ExceptionRow>,
+    stays: Vec<Stay>,
+}
 
 /// The row of the key, if there is one, and then the row with the greatest number, if there is a row.
 fn asked_keys<S: Alter>(
@@ -27,7 +69,7 @@ fn asked_keys<S: Alter>(
     key: &Key,
 ) -> Result<Vec<KeyRow>, Refusal>
     ensures same_reference { tx.new.conn.ghost_name ≡ tx.old.conn.ghost_name }
-    ensures rows { HasCleanDisk (state S.Store tx.new.conn.now) → (t : Tables) → Holds (state S.Store tx.old.conn.now).now t → IfOk result (λ all. (last : List KeyRow) × IsGreatest t.keys last × (all.items ≡ filter (is_of_key key.now) t.keys ++ last)) }
+    ensures rows { HasCleanDisk (state S.Store tx.new.conn.now) → (t : Tables) → Holds (state S.Store tx.old.conn.now).now t → IfOk result (λ all. (last : List KeyRow) × IsGreatest (λ x. x.accepted) t.keys last × (all.items ≡ filter (is_of_key key.now) t.keys ++ last)) }
     ensures holds { HasCleanDisk (state S.Store tx.new.conn.now) → (t : Tables) → Holds (state S.Store tx.old.conn.now).now t → OnOk result (Holds (state S.Store tx.new.conn.now).now t) }
     ensures opened { HasCleanDisk (state S.Store tx.new.conn.now) → OnOk result (IsTrue (state S.Store tx.old.conn.now).is_open) }
     ensures inside { HasCleanDisk (state S.Store tx.new.conn.now) → IsTrue (state S.Store tx.old.conn.now).in_transaction → OnOk result (IsTrue (state S.Store tx.new.conn.now).in_transaction) }
@@ -41,29 +83,99 @@ fn asked_keys<S: Alter>(
     Ok(rows)
 }
 
-/// The people who are asked for.
-fn asked_people<S: Alter>(
+/// The rows asked for of people and their offices.
+fn staff_rows<S: Alter>(
     alloc: Global,
     tx: &mut Transaction<'_, S>,
-    asked: Rows<Initials>,
-) -> Result<Vec<Person>, Refusal>
+    asks: &Asks,
+) -> Result<StaffRows, Refusal>
     ensures same_reference { tx.new.conn.ghost_name ≡ tx.old.conn.ghost_name }
-    ensures rows { HasCleanDisk (state S.Store tx.new.conn.now) → (t : Tables) → Holds (state S.Store tx.old.conn.now).now t → IfOk result (λ all. all.items ≡ asked_of is_of_person asked t.people) }
+    ensures people { HasCleanDisk (state S.Store tx.new.conn.now) → (t : Tables) → Holds (state S.Store tx.old.conn.now).now t → IfOk result (λ rows. Shows is_of_people asks.now.people t.people rows.people.items) }
+    ensures trainings { HasCleanDisk (state S.Store tx.new.conn.now) → (t : Tables) → Holds (state S.Store tx.old.conn.now).now t → IfOk result (λ rows. rows.trainings.items ≡ asked_of is_training_of asks.now.trainings t.trainings) }
+    ensures withdrawals { HasCleanDisk (state S.Store tx.new.conn.now) → (t : Tables) → Holds (state S.Store tx.old.conn.now).now t → IfOk result (λ rows. rows.withdrawals.items ≡ asked_of is_withdrawal_of asks.now.withdrawals t.withdrawals) }
+    ensures appointments { HasCleanDisk (state S.Store tx.new.conn.now) → (t : Tables) → Holds (state S.Store tx.old.conn.now).now t → IfOk result (λ rows. rows.appointments.items ≡ asked_of is_appointment_of asks.now.appointments t.appointments) }
     ensures holds { HasCleanDisk (state S.Store tx.new.conn.now) → (t : Tables) → Holds (state S.Store tx.old.conn.now).now t → OnOk result (Holds (state S.Store tx.new.conn.now).now t) }
     ensures inside { HasCleanDisk (state S.Store tx.new.conn.now) → IsTrue (state S.Store tx.old.conn.now).in_transaction → OnOk result (IsTrue (state S.Store tx.new.conn.now).in_transaction) }
     ensures kept { HasCleanDisk (state S.Store tx.new.conn.now) → IsTrue (state S.Store tx.old.conn.now).in_transaction → KeepsCommit (state S.Store tx.old.conn.now) (state S.Store tx.new.conn.now) }
     ensures survives { Survives (state S.Store tx.old.conn.now) (state S.Store tx.new.conn.now) (λ _. ⊥) }
     ensures cause { IfErr result IsFault }
 {
-    match asked {
-        Rows::Nothing => Ok(Vec::new(alloc)),
-        Rows::Under(who) => person_of(alloc, tx, &who),
-        Rows::All => all_people(alloc, tx),
-    }
+    let people = asked_people(alloc, tx, &asks.people)?;
+    let trainings = asked_trainings(alloc, tx, &asks.trainings)?;
+    let withdrawals = asked_withdrawals(alloc, tx, &asks.withdrawals)?;
+    let appointments = asked_appointments(alloc, tx, &asks.appointments)?;
+    Ok(StaffRows {
+        people,
+        trainings,
+        withdrawals,
+        appointments,
+    })
 }
 
-/// The rows asked for, of each table. Nothing is changed. The error is `Memory` for want of memory, and else `Disk`:
-/// the device failed, or a row is one that no register stores.
+/// The rows asked for of what is kept in the safes.
+fn custody_rows<S: Alter>(
+    alloc: Global,
+    tx: &mut Transaction<'_, S>,
+    asks: &Asks,
+) -> Result<CustodyRows, Refusal>
+    ensures same_reference { tx.new.conn.ghost_name ≡ tx.old.conn.ghost_name }
+    ensures boxes { HasCleanDisk (state S.Store tx.new.conn.now) → (t : Tables) → Holds (state S.Store tx.old.conn.now).now t → IfOk result (λ rows. rows.boxes.items ≡ asked_all asks.now.boxes t.boxes) }
+    ensures safes { HasCleanDisk (state S.Store tx.new.conn.now) → (t : Tables) → Holds (state S.Store tx.old.conn.now).now t → IfOk result (λ rows. rows.safes.items ≡ asked_all asks.now.safes t.safes) }
+    ensures bags { HasCleanDisk (state S.Store tx.new.conn.now) → (t : Tables) → Holds (state S.Store tx.old.conn.now).now t → IfOk result (λ rows. rows.bags.items ≡ asked_of is_of_serial asks.now.bags t.bags) }
+    ensures items { HasCleanDisk (state S.Store tx.new.conn.now) → (t : Tables) → Holds (state S.Store tx.old.conn.now).now t → IfOk result (λ rows. Shows is_item_of asks.now.items t.items rows.items.items) }
+    ensures holds { HasCleanDisk (state S.Store tx.new.conn.now) → (t : Tables) → Holds (state S.Store tx.old.conn.now).now t → OnOk result (Holds (state S.Store tx.new.conn.now).now t) }
+    ensures inside { HasCleanDisk (state S.Store tx.new.conn.now) → IsTrue (state S.Store tx.old.conn.now).in_transaction → OnOk result (IsTrue (state S.Store tx.new.conn.now).in_transaction) }
+    ensures kept { HasCleanDisk (state S.Store tx.new.conn.now) → IsTrue (state S.Store tx.old.conn.now).in_transaction → KeepsCommit (state S.Store tx.old.conn.now) (state S.Store tx.new.conn.now) }
+    ensures survives { Survives (state S.Store tx.old.conn.now) (state S.Store tx.new.conn.now) (λ _. ⊥) }
+    ensures cause { IfErr result IsFault }
+{
+    let boxes = asked_boxes(alloc, tx, asks.boxes)?;
+    let safes = asked_safes(alloc, tx, asks.safes)?;
+    let bags = asked_bags(alloc, tx, &asks.bags)?;
+    let items = asked_items(alloc, tx, &asks.items)?;
+    Ok(CustodyRows {
+        boxes,
+        safes,
+        bags,
+        items,
+    })
+}
+
+/// The rows asked for of ceremonies.
+fn ceremony_rows<S: Alter>(
+    alloc: Global,
+    tx: &mut Transaction<'_, S>,
+    asks: &Asks,
+) -> Result<CeremonyRows, Refusal>
+    ensures same_reference { tx.new.conn.ghost_name ≡ tx.old.conn.ghost_name }
+    ensures ceremonies { HasCleanDisk (state S.Store tx.new.conn.now) → (t : Tables) → Holds (state S.Store tx.old.conn.now).now t → IfOk result (λ rows. rows.ceremonies.items ≡ asked_of is_of_number asks.now.ceremonies t.ceremonies) }
+    ensures marks { HasCleanDisk (state S.Store tx.new.conn.now) → (t : Tables) → Holds (state S.Store tx.old.conn.now).now t → IfOk result (λ rows. rows.marks.items ≡ asked_of is_mark_of asks.now.marks t.marks) }
+    ensures steps { HasCleanDisk (state S.Store tx.new.conn.now) → (t : Tables) → Holds (state S.Store tx.old.conn.now).now t → IfOk result (λ rows. rows.steps.items ≡ asked_of is_step_of asks.now.steps t.steps) }
+    ensures exceptions { HasCleanDisk (state S.Store tx.new.conn.now) → (t : Tables) → Holds (state S.Store tx.old.conn.now).now t → IfOk result (λ rows. rows.exceptions.items ≡ asked_of is_exception_of asks.now.exceptions t.exceptions) }
+    ensures stays { HasCleanDisk (state S.Store tx.new.conn.now) → (t : Tables) → Holds (state S.Store tx.old.conn.now).now t → IfOk result (λ rows. ShowsStays asks.now.stays t.stays rows.stays.items) }
+    ensures holds { HasCleanDisk (state S.Store tx.new.conn.now) → (t : Tables) → Holds (state S.Store tx.old.conn.now).now t → OnOk result (Holds (state S.Store tx.new.conn.now).now t) }
+    ensures inside { HasCleanDisk (state S.Store tx.new.conn.now) → IsTrue (state S.Store tx.old.conn.now).in_transaction → OnOk result (IsTrue (state S.Store tx.new.conn.now).in_transaction) }
+    ensures kept { HasCleanDisk (state S.Store tx.new.conn.now) → IsTrue (state S.Store tx.old.conn.now).in_transaction → KeepsCommit (state S.Store tx.old.conn.now) (state S.Store tx.new.conn.now) }
+    ensures survives { Survives (state S.Store tx.old.conn.now) (state S.Store tx.new.conn.now) (λ _. ⊥) }
+    ensures cause { IfErr result IsFault }
+{
+    let ceremonies = asked_ceremonies(alloc, tx, &asks.ceremonies)?;
+    let marks = asked_marks(alloc, tx, &asks.marks)?;
+    let steps = asked_steps(alloc, tx, &asks.steps)?;
+    let exceptions = asked_exceptions(alloc, tx, &asks.exceptions)?;
+    let stays = asked_stays(alloc, tx, &asks.stays)?;
+    Ok(CeremonyRows {
+        ceremonies,
+        marks,
+        steps,
+        exceptions,
+        stays,
+    })
+}
+
+/// The rows asked for, of each table: of the accepted commands always the row of the key, if there is one, and the row
+/// with the greatest number. Of a table that is not asked for nothing is read. Nothing is changed. The error is `Memory`
+/// for want of memory, and else `Disk`: the device failed, or a row is one that no register stores.
 pub fn view_of<S: Alter>(
     alloc: Global,
     tx: &mut Transaction<'_, S>,
@@ -80,6 +192,25 @@ pub fn view_of<S: Alter>(
     ensures cause { IfErr result IsFault }
 {
     let keys = asked_keys(alloc, tx, &asks.key)?;
-    let people = asked_people(alloc, tx, asks.people)?;
-    Ok(View { people, keys })
+    let staff = staff_rows(alloc, tx, asks)?;
+    let custody = custody_rows(alloc, tx, asks)?;
+    let ceremony = ceremony_rows(alloc, tx, asks)?;
+    Ok(View {
+        people: staff.people,
+        trainings: staff.trainings,
+        withdrawals: staff.withdrawals,
+        appointments: staff.appointments,
+        boxes: custody.boxes,
+        safes: custody.safes,
+        bags: custody.bags,
+        items: custody.items,
+        ceremonies: ceremony.ceremonies,
+        marks: ceremony.marks,
+        steps: ceremony.steps,
+        seatings: Vec::new(alloc),
+        sheet: Vec::new(alloc),
+        stays: ceremony.stays,
+        exceptions: ceremony.exceptions,
+        keys,
+    })
 }

@@ -7,9 +7,9 @@ use Rattle.kcr_wire.specs.Targets.{target_of, allowed}
 use Rattle.kcr_wire.specs.Members.{json_of, key_at, who_at, name_at}
 use Rattle.kcr_base.specs.declared.refusal.Refusal.{Refusal}
 use Rattle.kcr_base.specs.declared.refusal.Refusal.TheVariants as refusal
-use Rattle.kcr_machine.specs.declared.commands.Act.{Act}
-use Rattle.kcr_machine.specs.declared.commands.Act.TheVariants as act
-use Rattle.kcr_machine.specs.declared.commands.Command.{Command}
+use Rattle.kcr_history.specs.declared.commands.Act.{Act}
+use Rattle.kcr_history.specs.declared.commands.Act.TheVariants as act
+use Rattle.kcr_history.specs.declared.commands.Command.{Command}
 use Rattle.kcr_wire.specs.declared.allow.Allow.{Allow}
 use Rattle.kcr_wire.specs.declared.allow.Allow.TheVariants as allow
 use Rattle.kcr_wire.specs.declared.method.Method.{Method}

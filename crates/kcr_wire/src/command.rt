@@ -9,7 +9,7 @@ use crate::member::{key_in, name_in, read_body, who_in};
 use crate::method::Method;
 use crate::target::{Paths, Target};
 use kcr_base::Refusal;
-use kcr_machine::{Act, Command};
+use kcr_history::{Act, Command};
 use serde_json::Value;
 use std::alloc::Global;
 

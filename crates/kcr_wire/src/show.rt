@@ -1,11 +1,11 @@
 //! Answers as JSON: compact, with the members of an object in byte order.
 ghost use Rattle.std.specs.Prelude.{◌≡◌, IfOk, map, string_bytes};
 ghost use Rattle.serde_json.specs.View.{view};
-ghost use Rattle.kcr_machine.specs.Refusals.{refusal_text};
+ghost use Rattle.kcr_history.specs.Refusals.{refusal_text};
 ghost use Rattle.kcr_wire.specs.Shows.{person_json, people_json, people_text, shown_text};
 
 use kcr_base::{Refusal, Text};
-use kcr_machine::refusal_text;
+use kcr_history::refusal_text;
 use kcr_people::Person;
 use kcr_store::Shown;
 use serde_json::{Value, json};

@@ -1,7 +1,7 @@
 //! Requests and answers by example.
 use crate::{Allow, Method, Paths, read_command, read_question, write_refusal, write_shown};
 use kcr_base::{Initials, Member, Name, Refusal};
-use kcr_machine::Act;
+use kcr_history::Act;
 use kcr_people::Person;
 use kcr_store::{Question, Shown};
 use std::alloc::Global;

@@ -1,4 +1,4 @@
-use Rattle.kcr_machine.proofs.Changes.{decision}
+use Rattle.kcr_machine.proofs.Decided.{decision}
 use Rattle.kcr_machine.proofs.decision.decide.Goals as goal
 
 pub returns : goal.returns

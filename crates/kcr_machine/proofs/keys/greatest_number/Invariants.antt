@@ -1,5 +1,5 @@
 use Rattle.std.proofs.Common.{◌≡◌, max, drop}
-use Rattle.kcr_machine.specs.Tables.{greatest_number}
+use Rattle.kcr_history.specs.Views.{greatest_number}
 use Rattle.kcr_machine.proofs.keys.greatest_number.Given as goal
 
 -- the greatest so far and of what is left is the greatest

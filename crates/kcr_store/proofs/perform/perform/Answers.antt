@@ -1,7 +1,8 @@
-use Rattle.std.proofs.Common.{◌≡◌, ◌++◌, ◌∷◌, [], List, IsTrue, inl, inr, refl, sym, subst, rules}
+use Rattle.std.proofs.Common.{◌≡◌, ◌++◌, ◌∷◌, [], List, IsTrue, Ok, inl, inr, refl, sym, subst, rules}
 use Rattle.sqlite.specs.State.{HasCleanDisk, Survives}
 use Rattle.sqlite.specs.Held.{Held, state}
 use Rattle.kcr_store.specs.Stored.{Stores}
+use Rattle.kcr_store.specs.Steps.{Steps}
 use Rattle.kcr_store.specs.Register.{IsWhole, LeavesEither}
 use Rattle.kcr_store.proofs.StoreLemmas.{candidate_of}
 use Rattle.kcr_store.proofs.WholeLemmas.{Began, begins, was_clean, whole_undone, whole_done, either, either_last, whole_stands}
@@ -114,3 +115,14 @@ returns-clause-candidate g c was clean =
     let before : HasCleanDisk mid = was_clean mid (state S c.commit.new.self.0) _ c.commit.ensures.survives (search rules) in
     let done = c.in-Ok.ensures.done before b.inside accepted (λ live. (b.shows (was_clean begun mid _ c.prepare.ensures.survives before) live).now) in
     candidate_of accepted c.args.command.now _ _ _ done.0 c.after-after.ensures.entries
+
+pub returns-in-Ok-commit-clause-step : goal.returns-in-Ok-commit-clause-step
+returns-in-Ok-commit-clause-step g c was clean =
+    let S = g.S.Store in
+    let accepted = c.args.past.now.entries in
+    let b = begins S accepted c.args.conn.now c.transaction-tx.result.conn.now c.transaction-tx.ensures.begun was in
+    let begun = state S c.transaction-tx.result.conn.now in
+    let mid = state S c.prepare.new.tx.conn.now in
+    let before : HasCleanDisk mid = was_clean mid (state S c.commit.new.self.0) _ c.commit.ensures.survives (search rules) in
+    let done = c.in-Ok.ensures.done before b.inside accepted (λ live. (b.shows (was_clean begun mid _ c.prepare.ensures.survives before) live).now) in
+    subst (λ h. Steps accepted c.args.command.now (Ok c.in-Ok.prepared.reply) h) (sym c.after-after.ensures.entries) done.0

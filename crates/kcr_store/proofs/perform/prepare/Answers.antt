@@ -2,14 +2,14 @@ use Rattle.std.proofs.Common.{rules, arith, ◌≡◌, refl, IsTrue}
 use Rattle.std.proofs.lemmas.Result.{err_from_is_err_and}
 use Rattle.sqlite.specs.State.{HasCleanDisk}
 use Rattle.sqlite.specs.Held.{state}
-use Rattle.kcr_machine.specs.Tables.{tables}
+use Rattle.kcr_history.specs.Tables.{tables}
 use Rattle.kcr_store.proofs.WholeLemmas.{was_clean}
 use Rattle.kcr_store.proofs.StoreLemmas.{held_in, steps, next_stores, fault_steps}
 use Rattle.kcr_store.proofs.perform.prepare.Goals as goal
 
 pub returns-in_err-view-clause-denied : goal.returns-in_err-view-clause-denied
 returns-in_err-view-clause-denied g c clean accepted had =
-    let p = err_from_is_err_and c.from_residual.result c.from_residual.ensures.1 in
+    let p = err_from_is_err_and c.from_residual-in_err-view.result c.from_residual-in_err-view.ensures.1 in
     rw (p.1, p.2) (fault_steps accepted c.args.command.now _ c.in_err-view.ensures.cause)
 
 pub returns-in_err-verdict-clause-denied : goal.returns-in_err-verdict-clause-denied
@@ -17,7 +17,7 @@ returns-in_err-verdict-clause-denied g c clean accepted had =
     let was = had (c.in_ok-view.ensures.opened clean) in
     let view = c.in_ok-view.ensures.view clean (tables accepted) (held_in _ _ was) in
     let p = err_from_is_err_and c.from_residual-in_err-verdict.result c.from_residual-in_err-verdict.ensures.1 in
-    rw (p.1, p.2) (refl, λ memory disk. c.in_err-verdict.ensures accepted was.tables.register (rw c.asks-asked.ensures at view) memory)
+    rw (p.1, p.2) (refl, λ memory disk. c.in_err-verdict.ensures accepted was.tables.register (rw c.in_ok-asked.ensures at view) memory)
 
 pub returns-in_err-make_changes-clause-denied : goal.returns-in_err-make_changes-clause-denied
 returns-in_err-make_changes-clause-denied g c clean accepted had =
@@ -33,7 +33,7 @@ returns-clause-done g c clean inside accepted had =
     let was = had (c.in_ok-view.ensures.opened clean1) in
     let held = held_in _ _ was in
     let view = c.in_ok-view.ensures.view clean1 (tables accepted) held in
-    let decided = c.in_ok-verdict.ensures accepted was.tables.register (rw c.asks-asked.ensures at view) in
+    let decided = c.in_ok-verdict.ensures accepted was.tables.register (rw c.in_ok-asked.ensures at view) in
     let held1 = c.in_ok-view.ensures.stays clean1 (tables accepted) held in
     let held2 = c.in_ok-make_changes.ensures.tables clean (tables accepted) held1 in
     let verdict = c.in_ok-verdict.verdict in

@@ -1,6 +1,6 @@
 use Rattle.std.proofs.Common.{rules, ◌≡◌, Ok, sym, subst}
 use Rattle.sqlite.specs.Held.{state}
-use Rattle.kcr_machine.specs.Tables.{tables}
+use Rattle.kcr_history.specs.Tables.{tables}
 use Rattle.kcr_tables.specs.Held.{Holds}
 use Rattle.kcr_store.specs.declared.question.Question.TheVariants as asked
 use Rattle.kcr_store.specs.declared.question.Shown.TheVariants as shown

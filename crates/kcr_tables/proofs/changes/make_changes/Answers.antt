@@ -2,11 +2,12 @@ use Rattle.std.proofs.Common.{rules, arith, ◌≡◌, ◌+◌, ◌<◌, ◌∙�
 use Rattle.std.proofs.lemmas.List.{take_all}
 use Rattle.std.proofs.lemmas.List.Sums.{fold_more}
 use Rattle.sqlite.specs.Held.{state}
-use Rattle.kcr_machine.specs.declared.views.Change.{Change}
+use Rattle.kcr_history.specs.declared.views.Change.{Change}
 use Rattle.kcr_tables.specs.Held.{Tables, Holds}
 use Rattle.kcr_tables.specs.Changed.{changed, changed_all}
-use Rattle.kcr_tables.proofs.InsideLemmas.{was_clean, survives_on, keeps_then}
-use Rattle.kcr_tables.proofs.JointLemmas.{held_of, changes_hold}
+use Rattle.kcr_rows.proofs.InsideLemmas.{was_clean, survives_on, keeps_then}
+use Rattle.kcr_tables.proofs.HoldLemmas.{held_of}
+use Rattle.kcr_tables.proofs.JointLemmas.{changes_hold}
 use Rattle.kcr_tables.proofs.changes.make_changes.Goals as goal
 
 pub loop-change-preserved : goal.loop-change-preserved

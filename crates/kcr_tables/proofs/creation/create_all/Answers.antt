@@ -2,9 +2,10 @@ use Rattle.std.proofs.Common.{rules, ◌≡◌, ◌<◌, ◌∙◌, take, subst,
 use Rattle.sqlite.specs.Held.{state}
 use Rattle.sqlite_catalog.specs.Listing.{IsSound}
 use Rattle.kcr_tables.specs.Schema.{all_tables}
-use Rattle.kcr_tables.specs.Made.{first, AreEmpty}
+use Rattle.kcr_tables.specs.Made.{first}
+use Rattle.kcr_rows.specs.Columns.{AreEmpty}
 use Rattle.kcr_tables.proofs.FirstLemmas.{holds_nothing}
-use Rattle.kcr_tables.proofs.InsideLemmas.{was_clean, survives_on, keeps_then}
+use Rattle.kcr_rows.proofs.InsideLemmas.{was_clean, survives_on, keeps_then}
 use Rattle.kcr_tables.proofs.creation.create_all.Goals as goal
 
 pub loop-at-preserved : goal.loop-at-preserved
@@ -27,6 +28,6 @@ loop-at-preserved g c =
 pub returns-clause-holds : goal.returns-clause-holds
 returns-clause-holds g c clean has =
     let now = state g.S.Store c.loop-at.tx.conn.now in
-    let at : c.loop-at.at ≡ 3 = search rules in
+    let at : c.loop-at.at ≡ 17 = search rules in
     let was = subst (λ n. (now.now.schema ≡ first n) × AreEmpty (take n all_tables) now.now.trees × (0 < n → IsSound (first n) now.now.trees)) at (c.loop-at.invariant.built clean has) in
     holds_nothing now.now was.0 was.1 (was.2 (omega arith))

@@ -3,7 +3,8 @@ use Rattle.sqlite.specs.Held.{state}
 use Rattle.sqlite.specs.State.{HasCleanDisk, KeepsCommit, Survives}
 use Rattle.sqlite_catalog.specs.Listing.{IsSound}
 use Rattle.kcr_tables.specs.Schema.{all_tables}
-use Rattle.kcr_tables.specs.Made.{first, AreEmpty}
+use Rattle.kcr_tables.specs.Made.{first}
+use Rattle.kcr_rows.specs.Columns.{AreEmpty}
 use Rattle.kcr_tables.proofs.creation.create_all.Given as goal
 
 abbrev pub invariant-loop-at : goal.invariant-loop-at

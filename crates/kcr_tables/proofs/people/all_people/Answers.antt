@@ -1,8 +1,9 @@
 use Rattle.std.proofs.Common.{IsPermutation, sym, subst}
 use Rattle.sqlite.specs.Held.{state}
-use Rattle.kcr_tables.proofs.FailLemmas.{if_ok, on_ok_then, plain_in, still_holds}
+use Rattle.kcr_rows.proofs.FailLemmas.{if_ok, on_ok_then, plain_in}
+use Rattle.kcr_tables.specs.Schema.{register_schema}
+use Rattle.kcr_tables.proofs.HoldLemmas.{still_holds, held_of, tables_of}
 use Rattle.kcr_tables.proofs.PeopleLemmas.{all_text, all_plain, reads, reads_exact}
-use Rattle.kcr_tables.proofs.JointLemmas.{held_of, tables_of}
 use Rattle.kcr_tables.proofs.people.all_people.Goals as goal
 
 pub returns-clause-rows : goal.returns-clause-rows
@@ -11,7 +12,7 @@ returns-clause-rows g c clean t held =
 
 pub returns-clause-holds : goal.returns-clause-holds
 returns-clause-holds g c clean t held =
-    on_ok_then _ _ (still_holds _ (state g.S.Store c.rows_of.new.tx.conn.now) t held) c.rows_of.result (c.rows_of.ensures.same clean (plain_in all_text all_plain (state g.S.Store c.args.tx.now.conn.now) held.schema))
+    on_ok_then _ _ (still_holds _ (state g.S.Store c.rows_of.new.tx.conn.now) t held) c.rows_of.result (c.rows_of.ensures.same clean (plain_in register_schema all_text all_plain (state g.S.Store c.args.tx.now.conn.now) held.schema))
 
 pub returns-clause-exact : goal.returns-clause-exact
 returns-clause-exact g c clean has =
@@ -21,6 +22,6 @@ pub returns-clause-people : goal.returns-clause-people
 returns-clause-people g c clean m h =
     if_ok _ _ (λ all is. subst (IsPermutation m.people) (sym is) h.tables.stands.people) c.rows_of.result (returns-clause-rows g c clean h.tables.t (held_of m (state g.S.Store c.args.tx.now.conn.now).now h))
 
-pub returns-clause-stays : goal.returns-clause-stays
-returns-clause-stays g c clean m h =
+pub returns-clause-tables : goal.returns-clause-tables
+returns-clause-tables g c clean m h =
     on_ok_then _ _ (tables_of m (state g.S.Store c.rows_of.new.tx.conn.now).now h.tables.t h.tables.stands) c.rows_of.result (returns-clause-holds g c clean h.tables.t (held_of m (state g.S.Store c.args.tx.now.conn.now).now h))

@@ -2,18 +2,20 @@ use Rattle.std.proofs.Common.{[], ◌∷◌, map, IfOk, subst}
 use Rattle.sqlite.specs.Order.{Row}
 use Rattle.sqlite.specs.Held.{state}
 use Rattle.sqlite.specs.State.{Shown}
+use Rattle.kcr_rows.proofs.FailLemmas.{if_ok, on_ok_then, plain_in}
+use Rattle.kcr_tables.specs.Schema.{register_schema}
 use Rattle.kcr_tables.specs.Rows.{person_row}
-use Rattle.kcr_tables.proofs.FailLemmas.{if_ok, on_ok_then, plain_in, still_holds}
-use Rattle.kcr_tables.proofs.PeopleLemmas.{one_text, one_plain, reads_one}
+use Rattle.kcr_tables.proofs.HoldLemmas.{still_holds}
+use Rattle.kcr_tables.proofs.PeopleLemmas.{person_of_text, person_of_plain, reads_person_of}
 use Rattle.kcr_tables.proofs.people.person_of.Goals as goal
 
 pub returns-clause-rows : goal.returns-clause-rows
 returns-clause-rows g c clean t held =
     let old = state g.S.Store c.args.tx.now.conn.now in
     let new = state g.S.Store c.rows_of.new.tx.conn.now in
-    let shown = subst (λ (v : Row). IfOk c.rows_of.result (λ all. Shown one_text v old new (map person_row all.items))) (λ i. c.initials_cell-c0.ensures i ∷ []) (c.rows_of.ensures.shown clean) in
-    if_ok _ _ (λ all h. reads_one c.args.who.now old new all.items t held h) c.rows_of.result shown
+    let shown = subst (λ (v : Row). IfOk c.rows_of.result (λ all. Shown person_of_text v old new (map person_row all.items))) (λ i. c.initials_cell-c0.ensures i ∷ []) (c.rows_of.ensures.shown clean) in
+    if_ok _ _ (λ all h. reads_person_of c.args.who.now old new all.items t held h) c.rows_of.result shown
 
 pub returns-clause-holds : goal.returns-clause-holds
 returns-clause-holds g c clean t held =
-    on_ok_then _ _ (still_holds _ (state g.S.Store c.rows_of.new.tx.conn.now) t held) c.rows_of.result (c.rows_of.ensures.same clean (plain_in one_text one_plain (state g.S.Store c.args.tx.now.conn.now) held.schema))
+    on_ok_then _ _ (still_holds _ (state g.S.Store c.rows_of.new.tx.conn.now) t held) c.rows_of.result (c.rows_of.ensures.same clean (plain_in register_schema person_of_text person_of_plain (state g.S.Store c.args.tx.now.conn.now) held.schema))

@@ -1,5 +1,5 @@
 use Rattle.sqlite.specs.Held.{state}
-use Rattle.kcr_tables.proofs.FailLemmas.{on_ok, shown_same, shown_opened, shown_inside, shown_keeps, failed_query_keeps}
+use Rattle.kcr_rows.proofs.FailLemmas.{on_ok, shown_same, shown_opened, shown_inside, shown_keeps, failed_query_keeps}
 use Rattle.kcr_tables.proofs.statements.rows_of.Goals as goal
 
 pub returns-in-Err-clause-kept : goal.returns-in-Err-clause-kept

@@ -1,5 +1,7 @@
 use Rattle.sqlite.specs.Held.{state}
-use Rattle.kcr_tables.proofs.FailLemmas.{if_ok, on_ok_then, plain_in, still_holds}
+use Rattle.kcr_rows.proofs.FailLemmas.{if_ok, on_ok_then, plain_in}
+use Rattle.kcr_tables.specs.Schema.{register_schema}
+use Rattle.kcr_tables.proofs.HoldLemmas.{still_holds}
 use Rattle.kcr_tables.proofs.VersionsLemmas.{all_text, all_plain, reads, reads_exact}
 use Rattle.kcr_tables.proofs.versions.all_versions.Goals as goal
 
@@ -9,7 +11,7 @@ returns-clause-rows g c clean t held =
 
 pub returns-clause-holds : goal.returns-clause-holds
 returns-clause-holds g c clean t held =
-    on_ok_then _ _ (still_holds _ (state g.S.Store c.rows_of.new.tx.conn.now) t held) c.rows_of.result (c.rows_of.ensures.same clean (plain_in all_text all_plain (state g.S.Store c.args.tx.now.conn.now) held.schema))
+    on_ok_then _ _ (still_holds _ (state g.S.Store c.rows_of.new.tx.conn.now) t held) c.rows_of.result (c.rows_of.ensures.same clean (plain_in register_schema all_text all_plain (state g.S.Store c.args.tx.now.conn.now) held.schema))
 
 pub returns-clause-exact : goal.returns-clause-exact
 returns-clause-exact g c clean has =

@@ -2,7 +2,7 @@ use Rattle.std.proofs.Common.{ℕ, [], ◌∷◌, Ok, OnOk, subst}
 use Rattle.sqlite.specs.Order.{Row}
 use Rattle.sqlite.specs.Held.{state}
 use Rattle.sqlite.specs.State.{Executes}
-use Rattle.kcr_tables.proofs.FailLemmas.{on_ok_then}
+use Rattle.kcr_rows.proofs.FailLemmas.{on_ok_then}
 use Rattle.kcr_tables.proofs.VersionsLemmas.{put_text, puts}
 use Rattle.kcr_tables.proofs.versions.put_version.Goals as goal
 

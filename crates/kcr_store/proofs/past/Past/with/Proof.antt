@@ -31,8 +31,8 @@ use Rattle.kcr_store.specs.contracts.past.Past.with as f
 use Rattle.kcr_store.proofs.past.Past.with.Statement as stated
 use Rattle.kcr_store.proofs.past.Past.with.Code as code
 use Rattle.kcr_store.specs.contracts.past.Past as past
-use Rattle.kcr_machine.specs.contracts.commands.Command as command
-use Rattle.kcr_machine.specs.contracts.commands.Answer as answer
+use Rattle.kcr_history.specs.contracts.commands.Command as command
+use Rattle.kcr_history.specs.contracts.commands.Answer as answer
 
 abbrev stayed : Stays (f.ended).signature.params (f.ended).kept
 stayed = (stay_none_ref (0 ∷ []) tt (plain (λ _. past.the_row)) yes, (stay_none_ref (1 ∷ []) tt (plain (λ _. command.the_row)) yes, (stay_none_ref (2 ∷ []) tt (plain (λ _. answer.the_row)) yes, tt)))

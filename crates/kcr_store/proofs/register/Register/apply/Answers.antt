@@ -9,6 +9,14 @@ returns-in-Accepted-clause-durable g c founded clean db may =
     let was = c.self.invariant.whole same (rw c.if-self.false refl) in
     (c.in-Accepted.ensures.whole was refl).crash clean db may
 
+pub invariant_of-self-in-Refused : goal.invariant_of-self-in-Refused
+invariant_of-self-in-Refused g c =
+    record {
+      autocommit = c.in-Refused.ensures.autocommit;
+      whole = λ same _. c.in-Refused.ensures.whole (c.self.invariant.whole same (rw c.if-self.false refl)) refl;
+      crash = λ same. rw c.if-self.false (c.in-Refused.ensures.tried (c.self.invariant.whole same (rw c.if-self.false refl)));
+    }
+
 pub returns-in-Refused : goal.returns-in-Refused
 returns-in-Refused g c =
     let whole : c.self.inside.broken ≡ false = search rules in
@@ -25,11 +33,7 @@ returns-in-Refused g c =
       durable = search rules;
       clean = search rules;
       founded = search rules;
-      kept = record {
-        autocommit = c.in-Refused.ensures.autocommit;
-        whole = λ same _. c.in-Refused.ensures.whole (c.self.invariant.whole same (rw c.if-self.false refl)) refl;
-        crash = λ same. rw c.if-self.false (c.in-Refused.ensures.tried (c.self.invariant.whole same (rw c.if-self.false refl)));
-      };
+      kept = invariant_of-self-in-Refused g c;
     }
 
 pub returns-in-Accepted-clause-tried : goal.returns-in-Accepted-clause-tried

@@ -1,5 +1,0 @@
-use Rattle.kcr_decision.proofs.Decided.{decision}
-use Rattle.kcr_decision.proofs.decision.decide.Goals as goal
-
-pub returns : goal.returns
-returns c = λ A h v. decision A c.args.command.now c.args.view.now c.decide_by_rows.result h v c.decide_by_rows.ensures

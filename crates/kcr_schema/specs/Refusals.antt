@@ -1,2 +1,0 @@
--- Which refusals the tables give.
-pub use Rattle.kcr_rows.specs.Refusals.{IsFault}

@@ -1,0 +1,21 @@
+-- The four safes of a new register, put one after the other.
+use Rattle.std.proofs.Common.{◌≡◌, [], List, refl, ap}
+use Rattle.sqlite.specs.Order.{value_cmp}
+use Rattle.sqlite_tied.specs.Compute.{everything}
+use Rattle.kcr_base.specs.declared.place.Facility.TheVariants.{East, West}
+use Rattle.kcr_custody.specs.declared.SafeNumber.TheVariants.{One, Two}
+use Rattle.kcr_custody.specs.declared.SafeRow.{SafeRow}
+use Rattle.kcr_rows.specs.Keyed.{put_in}
+use Rattle.kcr_tables.specs.Rows.{safe_row, version_row}
+use Rattle.kcr_tables.specs.First.{empty_tables, first_tables, shut}
+
+-- in the order of their keys
+safes_are : put_in 2 safe_row (shut West Two) (put_in 2 safe_row (shut West One) (put_in 2 safe_row (shut East Two) (put_in 2 safe_row (shut East One) []))) ≡ first_tables.safes
+unfolding value_cmp everything lib.Ieee.is_nan lib.Ieee.lt
+safes_are = refl
+
+pub first_is : record empty_tables {
+  safes = put_in 2 safe_row (shut West Two) (put_in 2 safe_row (shut West One) (put_in 2 safe_row (shut East Two) (put_in 2 safe_row (shut East One) [])));
+  versions = put_in 1 version_row (record { number = 3 }) [];
+} ≡ first_tables
+first_is = ap (λ (l : List SafeRow). record first_tables { safes = l }) safes_are

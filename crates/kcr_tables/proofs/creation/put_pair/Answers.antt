@@ -1,0 +1,11 @@
+use Rattle.sqlite.specs.Held.{state}
+use Rattle.sqlite.specs.State.{HasCleanDisk}
+use Rattle.kcr_rows.proofs.InsideLemmas.{was_clean}
+use Rattle.kcr_tables.proofs.creation.put_pair.Goals as goal
+
+pub returns-clause-holds : goal.returns-clause-holds
+returns-clause-holds g c clean t held =
+    let mid = state g.S.Store c.put_safe.new.tx.conn.now in
+    let new = state g.S.Store c.put_safe-2.new.tx.conn.now in
+    let before : HasCleanDisk mid = was_clean mid new _ c.put_safe-2.ensures.survives clean in
+    c.put_safe-2.ensures.holds clean _ (c.in_ok-put_safe.ensures.holds before t held)

@@ -1,0 +1,16 @@
+use Rattle.std.proofs.Common.{◌≡◌, take, filter, IsPermutation, IsTrue}
+use Rattle.sqlite.specs.Held.{state}
+use Rattle.sqlite.specs.State.{HasCleanDisk, KeepsCommit, Survives}
+use Rattle.kcr_history.specs.Views.{is_of_people}
+use Rattle.kcr_tables.specs.Held.{Tables, Holds}
+use Rattle.kcr_tables.proofs.people.people_named.Given as goal
+
+abbrev pub invariant-loop-at : goal.invariant-loop-at
+invariant-loop-at g l =
+    let old = state g.S.Store l.fn.tx.conn.now in
+    let now = state g.S.Store l.tx.conn.now in record {
+      same_reference : l.tx.conn.ghost_name ≡ l.fn.tx.conn.ghost_name;
+      survives : Survives old now (λ _. ⊥);
+      goes_on : HasCleanDisk now → IsTrue old.in_transaction → IsTrue now.in_transaction × KeepsCommit old now;
+      read : HasCleanDisk now → (t : Tables) → Holds old.now t → Holds now.now t × IsPermutation (filter (is_of_people (take l.at l.people)) t.people) l.rows.items;
+    }

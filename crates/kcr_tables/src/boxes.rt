@@ -1,0 +1,111 @@
+//! The table boxes: a box under its facility and number.
+
+ghost use Rattle.std.specs.Prelude.{⊤, ◌≡◌, map, IsPermutation, IfOk, OnOk, IsTrue, IfErr};
+ghost use Rattle.sqlite.specs.Held.{state};
+ghost use Rattle.sqlite.specs.State.{HasCleanDisk, KeepsCommit, Survives};
+ghost use Rattle.kcr_history.specs.Tables as machine;
+ghost use Rattle.kcr_rows.specs.Refusals.{IsFault};
+ghost use Rattle.kcr_rows.specs.Keyed.{put_in, cells};
+ghost use Rattle.kcr_tables.specs.Schema.{register_schema};
+ghost use Rattle.kcr_tables.specs.Rows.{box_row};
+ghost use Rattle.kcr_tables.specs.Held.{Tables, Holds};
+ghost use Rattle.kcr_tables.specs.Asked.{asked_all};
+ghost use Rattle.kcr_tables.specs.Joint.{HoldsTables};
+
+use crate::statements::{rows_of, write};
+use crate::stored::Stored;
+use kcr_base::Refusal;
+use kcr_custody::BoxRow;
+use kcr_rows::cells::{code_cell, facility_at, facility_cell, number_at, number_cell, place_at};
+use sqlite::{Alter, Row, Transaction};
+use std::alloc::Global;
+
+impl Stored for BoxRow {
+    ghost row_of = { box_row };
+
+    ghost is_read = { λ _. ⊤ };
+
+    fn decode(_alloc: Global, row: &Row) -> Result<BoxRow, Refusal> {
+        if row.column_count() != 3 {
+            return Err(Refusal::Disk);
+        }
+        let facility = facility_at(row, 0)?;
+        let number = number_at(row, 1)?;
+        let place = place_at(row, 2)?;
+        Ok(BoxRow {
+            facility,
+            number,
+            place,
+        })
+    }
+}
+
+/// All boxes, by facilities, then number.
+/// Nothing is changed. The error is `Memory` for want of memory, and else `Disk`: the device failed, or a row is one
+/// that no register stores.
+pub fn all_boxes<S: Alter>(
+    alloc: Global,
+    tx: &mut Transaction<'_, S>,
+) -> Result<Vec<BoxRow>, Refusal>
+    ensures same_reference { tx.new.conn.ghost_name ≡ tx.old.conn.ghost_name }
+    ensures rows { HasCleanDisk (state S.Store tx.new.conn.now) → (t : Tables) → Holds (state S.Store tx.old.conn.now).now t → IfOk result (λ all. all.items ≡ t.boxes) }
+    ensures boxes { HasCleanDisk (state S.Store tx.new.conn.now) → (m : machine.Tables) → HoldsTables m (state S.Store tx.old.conn.now).now → IfOk result (λ all. IsPermutation m.boxes all.items) }
+    ensures tables { HasCleanDisk (state S.Store tx.new.conn.now) → (m : machine.Tables) → HoldsTables m (state S.Store tx.old.conn.now).now → OnOk result (HoldsTables m (state S.Store tx.new.conn.now).now) }
+    ensures exact { HasCleanDisk (state S.Store tx.new.conn.now) → (state S.Store tx.old.conn.now).now.schema ≡ register_schema
+        → IfOk result (λ all. IsPermutation (map (cells 1 3) ((state S.Store tx.old.conn.now).now.trees 6)) (map box_row all.items)) }
+    ensures holds { HasCleanDisk (state S.Store tx.new.conn.now) → (t : Tables) → Holds (state S.Store tx.old.conn.now).now t → OnOk result (Holds (state S.Store tx.new.conn.now).now t) }
+    ensures opened { HasCleanDisk (state S.Store tx.new.conn.now) → OnOk result (IsTrue (state S.Store tx.old.conn.now).is_open) }
+    ensures inside { HasCleanDisk (state S.Store tx.new.conn.now) → IsTrue (state S.Store tx.old.conn.now).in_transaction → OnOk result (IsTrue (state S.Store tx.new.conn.now).in_transaction) }
+    ensures kept { HasCleanDisk (state S.Store tx.new.conn.now) → IsTrue (state S.Store tx.old.conn.now).in_transaction → KeepsCommit (state S.Store tx.old.conn.now) (state S.Store tx.new.conn.now) }
+    ensures survives { Survives (state S.Store tx.old.conn.now) (state S.Store tx.new.conn.now) (λ _. ⊥) }
+    ensures cause { IfErr result IsFault }
+{
+    rows_of(
+        alloc,
+        tx,
+        "SELECT facility, box, place FROM boxes ORDER BY facility, box",
+        &[],
+    )
+}
+
+/// All rows, where they are asked for.
+pub fn asked_boxes<S: Alter>(
+    alloc: Global,
+    tx: &mut Transaction<'_, S>,
+    asked: bool,
+) -> Result<Vec<BoxRow>, Refusal>
+    ensures same_reference { tx.new.conn.ghost_name ≡ tx.old.conn.ghost_name }
+    ensures rows { HasCleanDisk (state S.Store tx.new.conn.now) → (t : Tables) → Holds (state S.Store tx.old.conn.now).now t → IfOk result (λ all. all.items ≡ asked_all asked t.boxes) }
+    ensures holds { HasCleanDisk (state S.Store tx.new.conn.now) → (t : Tables) → Holds (state S.Store tx.old.conn.now).now t → OnOk result (Holds (state S.Store tx.new.conn.now).now t) }
+    ensures inside { HasCleanDisk (state S.Store tx.new.conn.now) → IsTrue (state S.Store tx.old.conn.now).in_transaction → OnOk result (IsTrue (state S.Store tx.new.conn.now).in_transaction) }
+    ensures kept { HasCleanDisk (state S.Store tx.new.conn.now) → IsTrue (state S.Store tx.old.conn.now).in_transaction → KeepsCommit (state S.Store tx.old.conn.now) (state S.Store tx.new.conn.now) }
+    ensures survives { Survives (state S.Store tx.old.conn.now) (state S.Store tx.new.conn.now) (λ _. ⊥) }
+    ensures cause { IfErr result IsFault }
+{
+    if asked {
+        all_boxes(alloc, tx)
+    } else {
+        Ok(Vec::new(alloc))
+    }
+}
+
+/// Puts the row under its facility and number, new or in place of the row there; every other row stays. The error is `Memory` or
+/// `Disk`, and what was committed before stays.
+pub fn put_box<S: Alter>(tx: &mut Transaction<'_, S>, row: &BoxRow) -> Result<(), Refusal>
+    ensures same_reference { tx.new.conn.ghost_name ≡ tx.old.conn.ghost_name }
+    ensures holds { HasCleanDisk (state S.Store tx.new.conn.now) → (t : Tables) → Holds (state S.Store tx.old.conn.now).now t → OnOk result (Holds (state S.Store tx.new.conn.now).now (record t { boxes = put_in 2 box_row row.now t.boxes })) }
+    ensures inside { HasCleanDisk (state S.Store tx.new.conn.now) → IsTrue (state S.Store tx.old.conn.now).in_transaction → OnOk result (IsTrue (state S.Store tx.new.conn.now).in_transaction) }
+    ensures kept { HasCleanDisk (state S.Store tx.new.conn.now) → IsTrue (state S.Store tx.old.conn.now).in_transaction → KeepsCommit (state S.Store tx.old.conn.now) (state S.Store tx.new.conn.now) }
+    ensures survives { Survives (state S.Store tx.old.conn.now) (state S.Store tx.new.conn.now) (λ _. ⊥) }
+    ensures cause { IfErr result IsFault }
+{
+    let c0 = facility_cell(row.facility);
+    let c1 = number_cell(row.number);
+    let place = row.place.text();
+    let c2 = code_cell(&place);
+    write(
+        tx,
+        "INSERT OR REPLACE INTO boxes (facility, box, place) VALUES (?1, ?2, ?3)",
+        &[c0, c1, c2],
+    )
+}

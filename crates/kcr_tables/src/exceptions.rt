@@ -1,0 +1,149 @@
+//! The table exceptions: a script exception of a ceremony under both numbers.
+
+ghost use Rattle.std.specs.Prelude.{⊤, ◌≡◌, map, IsPermutation, IfOk, OnOk, IsTrue, IfErr, filter};
+ghost use Rattle.sqlite.specs.Held.{state};
+ghost use Rattle.sqlite.specs.State.{HasCleanDisk, KeepsCommit, Survives};
+ghost use Rattle.kcr_history.specs.Tables as machine;
+ghost use Rattle.kcr_history.specs.Views.{is_exception_of};
+ghost use Rattle.kcr_rows.specs.Refusals.{IsFault};
+ghost use Rattle.kcr_rows.specs.Keyed.{put_in, cells};
+ghost use Rattle.kcr_tables.specs.Schema.{register_schema};
+ghost use Rattle.kcr_tables.specs.Rows.{exception_row};
+ghost use Rattle.kcr_tables.specs.Held.{Tables, Holds};
+ghost use Rattle.kcr_tables.specs.Asked.{asked_of};
+ghost use Rattle.kcr_tables.specs.Joint.{HoldsTables};
+
+use crate::statements::{rows_of, write};
+use crate::stored::Stored;
+use kcr_base::Refusal;
+use kcr_history::{ExceptionRow, Rows};
+use kcr_rows::cells::{
+    line_at, line_cell, moment_at, moment_cell, number_at, number_cell, number_or_null_at,
+    number_or_null_cell,
+};
+use sqlite::{Alter, Row, Transaction};
+use std::alloc::Global;
+
+impl Stored for ExceptionRow {
+    ghost row_of = { exception_row };
+
+    ghost is_read = { λ _. ⊤ };
+
+    fn decode(alloc: Global, row: &Row) -> Result<ExceptionRow, Refusal> {
+        if row.column_count() != 5 {
+            return Err(Refusal::Disk);
+        }
+        let ceremony = number_at(row, 0)?;
+        let exception = number_at(row, 1)?;
+        let text = line_at(alloc, row, 2)?;
+        let at = moment_at(row, 3)?;
+        let passed = number_or_null_at(row, 4)?;
+        Ok(ExceptionRow {
+            ceremony,
+            exception,
+            text,
+            at,
+            passed,
+        })
+    }
+}
+
+/// All exceptions, by ceremonies, then number.
+/// Nothing is changed. The error is `Memory` for want of memory, and else `Disk`: the device failed, or a row is one
+/// that no register stores.
+pub fn all_exceptions<S: Alter>(
+    alloc: Global,
+    tx: &mut Transaction<'_, S>,
+) -> Result<Vec<ExceptionRow>, Refusal>
+    ensures same_reference { tx.new.conn.ghost_name ≡ tx.old.conn.ghost_name }
+    ensures rows { HasCleanDisk (state S.Store tx.new.conn.now) → (t : Tables) → Holds (state S.Store tx.old.conn.now).now t → IfOk result (λ all. all.items ≡ t.exceptions) }
+    ensures exceptions { HasCleanDisk (state S.Store tx.new.conn.now) → (m : machine.Tables) → HoldsTables m (state S.Store tx.old.conn.now).now → IfOk result (λ all. IsPermutation m.exceptions all.items) }
+    ensures tables { HasCleanDisk (state S.Store tx.new.conn.now) → (m : machine.Tables) → HoldsTables m (state S.Store tx.old.conn.now).now → OnOk result (HoldsTables m (state S.Store tx.new.conn.now).now) }
+    ensures exact { HasCleanDisk (state S.Store tx.new.conn.now) → (state S.Store tx.old.conn.now).now.schema ≡ register_schema
+        → IfOk result (λ all. IsPermutation (map (cells 1 5) ((state S.Store tx.old.conn.now).now.trees 25)) (map exception_row all.items)) }
+    ensures holds { HasCleanDisk (state S.Store tx.new.conn.now) → (t : Tables) → Holds (state S.Store tx.old.conn.now).now t → OnOk result (Holds (state S.Store tx.new.conn.now).now t) }
+    ensures opened { HasCleanDisk (state S.Store tx.new.conn.now) → OnOk result (IsTrue (state S.Store tx.old.conn.now).is_open) }
+    ensures inside { HasCleanDisk (state S.Store tx.new.conn.now) → IsTrue (state S.Store tx.old.conn.now).in_transaction → OnOk result (IsTrue (state S.Store tx.new.conn.now).in_transaction) }
+    ensures kept { HasCleanDisk (state S.Store tx.new.conn.now) → IsTrue (state S.Store tx.old.conn.now).in_transaction → KeepsCommit (state S.Store tx.old.conn.now) (state S.Store tx.new.conn.now) }
+    ensures survives { Survives (state S.Store tx.old.conn.now) (state S.Store tx.new.conn.now) (λ _. ⊥) }
+    ensures cause { IfErr result IsFault }
+{
+    rows_of(
+        alloc,
+        tx,
+        "SELECT ceremony, exception, text, at, passed FROM exceptions ORDER BY ceremony, exception",
+        &[],
+    )
+}
+
+/// The rows of one ceremony, in the order of their keys.
+/// Nothing is changed. The error is `Memory` for want of memory, and else `Disk`: the device failed, or a row is one
+/// that no register stores.
+pub fn exceptions_of<S: Alter>(
+    alloc: Global,
+    tx: &mut Transaction<'_, S>,
+    ceremony: u32,
+) -> Result<Vec<ExceptionRow>, Refusal>
+    ensures same_reference { tx.new.conn.ghost_name ≡ tx.old.conn.ghost_name }
+    ensures rows { HasCleanDisk (state S.Store tx.new.conn.now) → (t : Tables) → Holds (state S.Store tx.old.conn.now).now t → IfOk result (λ all. all.items ≡ filter (is_exception_of ceremony) t.exceptions) }
+    ensures holds { HasCleanDisk (state S.Store tx.new.conn.now) → (t : Tables) → Holds (state S.Store tx.old.conn.now).now t → OnOk result (Holds (state S.Store tx.new.conn.now).now t) }
+    ensures opened { HasCleanDisk (state S.Store tx.new.conn.now) → OnOk result (IsTrue (state S.Store tx.old.conn.now).is_open) }
+    ensures inside { HasCleanDisk (state S.Store tx.new.conn.now) → IsTrue (state S.Store tx.old.conn.now).in_transaction → OnOk result (IsTrue (state S.Store tx.new.conn.now).in_transaction) }
+    ensures kept { HasCleanDisk (state S.Store tx.new.conn.now) → IsTrue (state S.Store tx.old.conn.now).in_transaction → KeepsCommit (state S.Store tx.old.conn.now) (state S.Store tx.new.conn.now) }
+    ensures survives { Survives (state S.Store tx.old.conn.now) (state S.Store tx.new.conn.now) (λ _. ⊥) }
+    ensures cause { IfErr result IsFault }
+{
+    let c0 = number_cell(ceremony);
+    rows_of(
+        alloc,
+        tx,
+        "SELECT ceremony, exception, text, at, passed FROM exceptions WHERE ceremony = ?1 ORDER BY ceremony, exception",
+        &[c0],
+    )
+}
+
+/// The rows that are asked for.
+pub fn asked_exceptions<S: Alter>(
+    alloc: Global,
+    tx: &mut Transaction<'_, S>,
+    asked: &Rows<u32>,
+) -> Result<Vec<ExceptionRow>, Refusal>
+    ensures same_reference { tx.new.conn.ghost_name ≡ tx.old.conn.ghost_name }
+    ensures rows { HasCleanDisk (state S.Store tx.new.conn.now) → (t : Tables) → Holds (state S.Store tx.old.conn.now).now t → IfOk result (λ all. all.items ≡ asked_of is_exception_of asked.now t.exceptions) }
+    ensures holds { HasCleanDisk (state S.Store tx.new.conn.now) → (t : Tables) → Holds (state S.Store tx.old.conn.now).now t → OnOk result (Holds (state S.Store tx.new.conn.now).now t) }
+    ensures inside { HasCleanDisk (state S.Store tx.new.conn.now) → IsTrue (state S.Store tx.old.conn.now).in_transaction → OnOk result (IsTrue (state S.Store tx.new.conn.now).in_transaction) }
+    ensures kept { HasCleanDisk (state S.Store tx.new.conn.now) → IsTrue (state S.Store tx.old.conn.now).in_transaction → KeepsCommit (state S.Store tx.old.conn.now) (state S.Store tx.new.conn.now) }
+    ensures survives { Survives (state S.Store tx.old.conn.now) (state S.Store tx.new.conn.now) (λ _. ⊥) }
+    ensures cause { IfErr result IsFault }
+{
+    match asked {
+        Rows::Nothing => Ok(Vec::new(alloc)),
+        Rows::Under(ceremony) => exceptions_of(alloc, tx, *ceremony),
+        Rows::All => all_exceptions(alloc, tx),
+    }
+}
+
+/// Puts the row under its ceremony and number, new or in place of the row there; every other row stays. The error is `Memory` or
+/// `Disk`, and what was committed before stays.
+pub fn put_exception<S: Alter>(
+    tx: &mut Transaction<'_, S>,
+    row: &ExceptionRow,
+) -> Result<(), Refusal>
+    ensures same_reference { tx.new.conn.ghost_name ≡ tx.old.conn.ghost_name }
+    ensures holds { HasCleanDisk (state S.Store tx.new.conn.now) → (t : Tables) → Holds (state S.Store tx.old.conn.now).now t → OnOk result (Holds (state S.Store tx.new.conn.now).now (record t { exceptions = put_in 2 exception_row row.now t.exceptions })) }
+    ensures inside { HasCleanDisk (state S.Store tx.new.conn.now) → IsTrue (state S.Store tx.old.conn.now).in_transaction → OnOk result (IsTrue (state S.Store tx.new.conn.now).in_transaction) }
+    ensures kept { HasCleanDisk (state S.Store tx.new.conn.now) → IsTrue (state S.Store tx.old.conn.now).in_transaction → KeepsCommit (state S.Store tx.old.conn.now) (state S.Store tx.new.conn.now) }
+    ensures survives { Survives (state S.Store tx.old.conn.now) (state S.Store tx.new.conn.now) (λ _. ⊥) }
+    ensures cause { IfErr result IsFault }
+{
+    let c0 = number_cell(row.ceremony);
+    let c1 = number_cell(row.exception);
+    let c2 = line_cell(&row.text);
+    let c3 = moment_cell(row.at);
+    let c4 = number_or_null_cell(row.passed);
+    write(
+        tx,
+        "INSERT OR REPLACE INTO exceptions (ceremony, exception, text, at, passed) VALUES (?1, ?2, ?3, ?4, ?5)",
+        &[c0, c1, c2, c3, c4],
+    )
+}

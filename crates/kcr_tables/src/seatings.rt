@@ -1,0 +1,117 @@
+//! The table seatings: who filled a seat of a step, under the ceremony, the step and the seat.
+
+ghost use Rattle.std.specs.Prelude.{⊤, ◌≡◌, map, IsPermutation, IfOk, OnOk, IsTrue, IfErr, filter, ◌==◌};
+ghost use Rattle.sqlite.specs.Held.{state};
+ghost use Rattle.sqlite.specs.State.{HasCleanDisk, KeepsCommit, Survives};
+ghost use Rattle.kcr_history.specs.Tables as machine;
+ghost use Rattle.kcr_rows.specs.Refusals.{IsFault};
+ghost use Rattle.kcr_rows.specs.Keyed.{put_in, cells};
+ghost use Rattle.kcr_tables.specs.Schema.{register_schema};
+ghost use Rattle.kcr_tables.specs.Rows.{seating_row};
+ghost use Rattle.kcr_tables.specs.Held.{Tables, Holds};
+ghost use Rattle.kcr_tables.specs.Joint.{HoldsTables};
+
+use crate::statements::{rows_of, write};
+use crate::stored::Stored;
+use kcr_base::Refusal;
+use kcr_history::SeatingRow;
+use kcr_rows::cells::{initials_at, initials_cell, number_at, number_cell};
+use sqlite::{Alter, Row, Transaction};
+use std::alloc::Global;
+
+impl Stored for SeatingRow {
+    ghost row_of = { seating_row };
+
+    ghost is_read = { λ _. ⊤ };
+
+    fn decode(_alloc: Global, row: &Row) -> Result<SeatingRow, Refusal> {
+        if row.column_count() != 4 {
+            return Err(Refusal::Disk);
+        }
+        let ceremony = number_at(row, 0)?;
+        let step = number_at(row, 1)?;
+        let seat = number_at(row, 2)?;
+        let who = initials_at(row, 3)?;
+        Ok(SeatingRow {
+            ceremony,
+            step,
+            seat,
+            who,
+        })
+    }
+}
+
+/// All seatings, by ceremonies, then step and seat.
+/// Nothing is changed. The error is `Memory` for want of memory, and else `Disk`: the device failed, or a row is one
+/// that no register stores.
+pub fn all_seatings<S: Alter>(
+    alloc: Global,
+    tx: &mut Transaction<'_, S>,
+) -> Result<Vec<SeatingRow>, Refusal>
+    ensures same_reference { tx.new.conn.ghost_name ≡ tx.old.conn.ghost_name }
+    ensures rows { HasCleanDisk (state S.Store tx.new.conn.now) → (t : Tables) → Holds (state S.Store tx.old.conn.now).now t → IfOk result (λ all. all.items ≡ t.seatings) }
+    ensures seatings { HasCleanDisk (state S.Store tx.new.conn.now) → (m : machine.Tables) → HoldsTables m (state S.Store tx.old.conn.now).now → IfOk result (λ all. IsPermutation m.seatings all.items) }
+    ensures tables { HasCleanDisk (state S.Store tx.new.conn.now) → (m : machine.Tables) → HoldsTables m (state S.Store tx.old.conn.now).now → OnOk result (HoldsTables m (state S.Store tx.new.conn.now).now) }
+    ensures exact { HasCleanDisk (state S.Store tx.new.conn.now) → (state S.Store tx.old.conn.now).now.schema ≡ register_schema
+        → IfOk result (λ all. IsPermutation (map (cells 1 4) ((state S.Store tx.old.conn.now).now.trees 21)) (map seating_row all.items)) }
+    ensures holds { HasCleanDisk (state S.Store tx.new.conn.now) → (t : Tables) → Holds (state S.Store tx.old.conn.now).now t → OnOk result (Holds (state S.Store tx.new.conn.now).now t) }
+    ensures opened { HasCleanDisk (state S.Store tx.new.conn.now) → OnOk result (IsTrue (state S.Store tx.old.conn.now).is_open) }
+    ensures inside { HasCleanDisk (state S.Store tx.new.conn.now) → IsTrue (state S.Store tx.old.conn.now).in_transaction → OnOk result (IsTrue (state S.Store tx.new.conn.now).in_transaction) }
+    ensures kept { HasCleanDisk (state S.Store tx.new.conn.now) → IsTrue (state S.Store tx.old.conn.now).in_transaction → KeepsCommit (state S.Store tx.old.conn.now) (state S.Store tx.new.conn.now) }
+    ensures survives { Survives (state S.Store tx.old.conn.now) (state S.Store tx.new.conn.now) (λ _. ⊥) }
+    ensures cause { IfErr result IsFault }
+{
+    rows_of(
+        alloc,
+        tx,
+        "SELECT ceremony, step, seat, who FROM seatings ORDER BY ceremony, step, seat",
+        &[],
+    )
+}
+
+/// The rows of one ceremony, in the order of their keys.
+/// Nothing is changed. The error is `Memory` for want of memory, and else `Disk`: the device failed, or a row is one
+/// that no register stores.
+pub fn seatings_of<S: Alter>(
+    alloc: Global,
+    tx: &mut Transaction<'_, S>,
+    ceremony: u32,
+) -> Result<Vec<SeatingRow>, Refusal>
+    ensures same_reference { tx.new.conn.ghost_name ≡ tx.old.conn.ghost_name }
+    ensures rows { HasCleanDisk (state S.Store tx.new.conn.now) → (t : Tables) → Holds (state S.Store tx.old.conn.now).now t → IfOk result (λ all. all.items ≡ filter (λ x. x.ceremony == ceremony) t.seatings) }
+    ensures holds { HasCleanDisk (state S.Store tx.new.conn.now) → (t : Tables) → Holds (state S.Store tx.old.conn.now).now t → OnOk result (Holds (state S.Store tx.new.conn.now).now t) }
+    ensures opened { HasCleanDisk (state S.Store tx.new.conn.now) → OnOk result (IsTrue (state S.Store tx.old.conn.now).is_open) }
+    ensures inside { HasCleanDisk (state S.Store tx.new.conn.now) → IsTrue (state S.Store tx.old.conn.now).in_transaction → OnOk result (IsTrue (state S.Store tx.new.conn.now).in_transaction) }
+    ensures kept { HasCleanDisk (state S.Store tx.new.conn.now) → IsTrue (state S.Store tx.old.conn.now).in_transaction → KeepsCommit (state S.Store tx.old.conn.now) (state S.Store tx.new.conn.now) }
+    ensures survives { Survives (state S.Store tx.old.conn.now) (state S.Store tx.new.conn.now) (λ _. ⊥) }
+    ensures cause { IfErr result IsFault }
+{
+    let c0 = number_cell(ceremony);
+    rows_of(
+        alloc,
+        tx,
+        "SELECT ceremony, step, seat, who FROM seatings WHERE ceremony = ?1 ORDER BY ceremony, step, seat",
+        &[c0],
+    )
+}
+
+/// Puts the row under its ceremony, step and seat, new or in place of the row there; every other row stays. The error is `Memory` or
+/// `Disk`, and what was committed before stays.
+pub fn put_seating<S: Alter>(tx: &mut Transaction<'_, S>, row: &SeatingRow) -> Result<(), Refusal>
+    ensures same_reference { tx.new.conn.ghost_name ≡ tx.old.conn.ghost_name }
+    ensures holds { HasCleanDisk (state S.Store tx.new.conn.now) → (t : Tables) → Holds (state S.Store tx.old.conn.now).now t → OnOk result (Holds (state S.Store tx.new.conn.now).now (record t { seatings = put_in 3 seating_row row.now t.seatings })) }
+    ensures inside { HasCleanDisk (state S.Store tx.new.conn.now) → IsTrue (state S.Store tx.old.conn.now).in_transaction → OnOk result (IsTrue (state S.Store tx.new.conn.now).in_transaction) }
+    ensures kept { HasCleanDisk (state S.Store tx.new.conn.now) → IsTrue (state S.Store tx.old.conn.now).in_transaction → KeepsCommit (state S.Store tx.old.conn.now) (state S.Store tx.new.conn.now) }
+    ensures survives { Survives (state S.Store tx.old.conn.now) (state S.Store tx.new.conn.now) (λ _. ⊥) }
+    ensures cause { IfErr result IsFault }
+{
+    let c0 = number_cell(row.ceremony);
+    let c1 = number_cell(row.step);
+    let c2 = number_cell(row.seat);
+    let c3 = initials_cell(&row.who);
+    write(
+        tx,
+        "INSERT OR REPLACE INTO seatings (ceremony, step, seat, who) VALUES (?1, ?2, ?3, ?4)",
+        &[c0, c1, c2, c3],
+    )
+}
