@@ -1,10 +1,10 @@
 -- When a command is refused: the conditions of each kind in the order of the refusals' numbers.
-use Rattle.std.specs.Prelude.{ℕ, ◌+◌, ◌==◌, Bool, true, false, not, ◌&&◌, ◌||◌, nat_lt, nat_le, List, [], ◌∷◌, ◌++◌, map, filter, find, length, Option, Some, None, option_map, option_and_then, is_some, is_none, unwrap_or, Result, Ok, Err}
+use Rattle.std.specs.Prelude.{ℕ, ◌+◌, ◌==◌, Bool, true, false, not, ◌&&◌, ◌||◌, nat_lt, nat_le, List, [], ◌∷◌, ◌++◌, map, filter, find, length, Option, Some, None, option_map, option_and_then, is_some, is_none, unwrap_or, Result, Ok, Err, if◌then◌else◌}
 use Rattle.std.specs.List.{list_any, list_all}
 use Rattle.kcr_base.specs.Days.{day_of}
 use Rattle.kcr_base.specs.Refuse.{when, first_of}
 use Rattle.kcr_base.specs.Rows.{or_else}
-use Rattle.kcr_base.specs.Same.{same_facility}
+use Rattle.kcr_base.specs.Same.{same_facility, same_text}
 use Rattle.kcr_base.specs.declared.place.Facility.{Facility}
 use Rattle.kcr_base.specs.declared.place.Place.{Place}
 use Rattle.kcr_base.specs.declared.place.Role.{Role}
@@ -24,7 +24,7 @@ use Rattle.kcr_custody.specs.Custody.{same_truth, is_co_place_of, is_loose_at, i
 use Rattle.kcr_room.specs.declared.SheetRow.{SheetRow}
 use Rattle.kcr_room.specs.declared.Way.{Way}
 use Rattle.kcr_room.specs.declared.Way.TheVariants as Ways
-use Rattle.kcr_room.specs.Adding.{is_out_of_turn_by}
+use Rattle.kcr_room.specs.Adding.{is_out_of_turn_by, turn_refusal}
 use Rattle.kcr_room.specs.Room.{entries_by}
 use Rattle.kcr_room.specs.Stays.{stays_by, is_crowded_in_by, first_lone_in_by}
 use Rattle.kcr_script.specs.declared.script.Step.{Step}
@@ -150,6 +150,15 @@ unfinished A ceremony at =
 abbrev pub out_of_turn : History → ℕ → Way → ℕ → List ℕ → Option Refusal
 out_of_turn A ceremony way at who = when (is_out_of_turn_by (sheet A) ceremony way at who) (Turn who)
 
+-- the first of the people who is named again
+abbrev pub first_twice : List (List ℕ) → Option (List ℕ)
+first_twice [] = None
+first_twice (who ∷ people) = if list_any (same_text who) people then Some who else first_twice people
+
+-- somebody is named twice, and the second row would be out of turn (such a request is refused 10 where it is read, before any register sees it)
+abbrev pub named_twice : List (List ℕ) → Option Refusal
+named_twice people = turn_refusal (first_twice people)
+
 -- at some moment more than 128 people would be in the room
 abbrev pub crowded : List SheetRow → ℕ → Option Refusal
 crowded rows ceremony = when (is_crowded_in_by (stays_by rows) ceremony) Crowd
@@ -268,6 +277,7 @@ conditions A (Sheet ceremony way people at) =
     ∷ first_with (no_person A) people
     ∷ not_open A ceremony
     ∷ not_later A ceremony at
+    ∷ named_twice people
     ∷ first_with (out_of_turn A ceremony way at) people
     ∷ crowded (sheet_after (Sheet ceremony way people at) (sheet A)) ceremony
     ∷ lone (sheet_after (Sheet ceremony way people at) (sheet A)) ceremony

@@ -69,10 +69,10 @@ room_after A key (Sheet d way people at) answer c t f ih = by_ceremony (d == c) 
     by_ceremony : (b : Bool) → (d == c) ≡ b → IsAllowed (crowd_by (sheet A ++ map (new_row d way at) people) c t)
     by_ceremony true e =
         let n = none_holds (conditions A (Sheet d way people at)) f in
-        subst (λ z. IsAllowed (crowd_by (sheet A ++ map (new_row d way at) people) z t)) (eqb-true d c e) (own_room (sheet A ++ map (new_row d way at) people) d n.1.1.1.1.1.0 n.1.1.1.1.1.1.0 t)
+        subst (λ z. IsAllowed (crowd_by (sheet A ++ map (new_row d way at) people) z t)) (eqb-true d c e) (own_room (sheet A ++ map (new_row d way at) people) d n.1.1.1.1.1.1.0 n.1.1.1.1.1.1.1.0 t)
     by_ceremony false e =
         let n = none_holds (conditions A (Sheet d way people at)) f in
-        subst IsAllowed (sym (ap length (same_room (sheet A ++ map (new_row d way at) people) (sheet A) c t (λ who. in_other (sheet A) d way at people who c t (turns A d way at people n.1.1.1.1.0) e)))) ih
+        subst IsAllowed (sym (ap length (same_room (sheet A ++ map (new_row d way at) people) (sheet A) c t (λ who. in_other (sheet A) d way at people who c t (turns A d way at people n.1.1.1.1.1.0) e)))) ih
 room_after A key act answer c t f ih = ih
 
 pub rooms : (A : History) → IsRegister A → (c t : ℕ) → IsAllowed (crowd_by (sheet A) c t)

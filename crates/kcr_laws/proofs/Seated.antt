@@ -204,7 +204,7 @@ same_in A key (Sheet d way people at) answer who c t f k = by_ceremony (d == c) 
         in_before (sheet A) d way at people who c t (behind at t (mark A d) n.1.1.1.0 (ap (λ z. at_most t (mark A z)) (eqb-true d c e) ∙ k))
     by_ceremony false e =
         let n = none_holds (conditions A (Sheet d way people at)) f in
-        in_other (sheet A) d way at people who c t (turns A d way at people n.1.1.1.1.0) e
+        in_other (sheet A) d way at people who c t (turns A d way at people n.1.1.1.1.1.0) e
 same_in A key act answer who c t f k = refl
 
 -- a moment that is not later than one of the marks is not later than the greatest

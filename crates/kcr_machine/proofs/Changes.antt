@@ -1,12 +1,13 @@
 -- The changes of an act that has no fault lead from the tables before it to those after it.
-use Rattle.std.proofs.Common.{◌≡◌, ℕ, Bool, true, false, cond, ◌||◌, List, [], ◌∷◌, ◌++◌, map, Some, None, option_map, refl, ap, ◌∙◌, subst}
+use Rattle.std.proofs.Common.{◌≡◌, ℕ, Bool, true, false, List, [], ◌∷◌, ◌++◌, map, None, refl, ◌∙◌, subst}
 use Rattle.std.specs.List.{list_any}
+use Rattle.std.proofs.lemmas.Bool.{false≢true}
 use Rattle.std.specs.List.Sorted.{IsPermutation}
 use Rattle.std.proofs.lemmas.List.Sorted.{IsPermutation-refl, IsPermutation-sym}
 use Rattle.kcr_base.specs.Rows.{put, put_all}
 use Rattle.kcr_base.specs.declared.place.Place.{Place}
 use Rattle.kcr_base.specs.declared.place.Role.{Role}
-use Rattle.kcr_base.specs.declared.refusal.Refusal.TheVariants.{Taken, Held, Range, Vacant, Memory}
+use Rattle.kcr_base.specs.declared.refusal.Refusal.TheVariants.{Taken, Held, Range, Vacant}
 use Rattle.kcr_base.proofs.RefuseLemmas.{none_holds, unmet}
 use Rattle.kcr_base.proofs.RowsLemmas.{put_all-order}
 use Rattle.kcr_people.specs.declared.Training.{Training}
@@ -15,27 +16,36 @@ use Rattle.kcr_people.specs.Laws.{same_withdrawn}
 use Rattle.kcr_people.specs.People.{same_training, withdrawn_rows, open_row_by, end_of, nobody, place_held_from_by, person_holds_from_by}
 use Rattle.kcr_people.proofs.Keys.{same_withdrawn-keys, withdrawn_rows-apart}
 use Rattle.kcr_history.specs.declared.commands.Act.{Act}
-use Rattle.kcr_history.specs.declared.commands.Act.TheVariants.{Enter, Train, Withdraw, Appoint, Replace, Release}
+use Rattle.kcr_history.specs.declared.commands.Act.TheVariants.{Enter, Train, Withdraw, Appoint, Replace, Release, AddBox, AddItem, Plan, Open, Close, Sheet, TurnSafe, Sign, Except, Seal, Take, Put, Cut}
 use Rattle.kcr_history.specs.declared.commands.Answer.{Answer}
 use Rattle.kcr_history.specs.declared.commands.Command.{Command}
-use Rattle.kcr_history.specs.declared.rows.KeyRow.{KeyRow}
 use Rattle.kcr_history.specs.declared.views.Change.{Change}
 use Rattle.kcr_history.specs.declared.views.Change.TheVariants.{PutWithdrawal, PutKey}
 use Rattle.kcr_history.specs.declared.views.View.{View}
 use Rattle.kcr_history.specs.History.{History, some_command, entry_of}
 use Rattle.kcr_history.specs.Training.{is_person, is_training}
-use Rattle.kcr_history.specs.Tables.{Tables, SameTables, people, trainings, withdrawals, appointments, ended, keys, key_row, tables}
-use Rattle.kcr_history.specs.Changes.{same_person, same_appointment, same_key_row, changed_by}
-use Rattle.kcr_history.specs.Views.{row_of_key, is_of_key, IsViewOf}
+use Rattle.kcr_history.specs.Tables.{Tables, SameTables, people, trainings, withdrawals, appointments, ended, tables}
+use Rattle.kcr_history.specs.Changes.{same_person, same_appointment, changed_by}
+use Rattle.kcr_history.specs.Views.{IsViewOf}
 use Rattle.kcr_history.specs.Asked.{asks_by}
 use Rattle.kcr_history.specs.Conditions.{conditions, fault, is_full}
 use Rattle.kcr_history.specs.Machine.{IsRegister, with_command}
-use Rattle.kcr_history.proofs.Words.{is_person-people, is_training-trainings, row_of_key-keys}
+use Rattle.kcr_history.proofs.Words.{is_person-people, is_training-trainings}
 use Rattle.kcr_history.proofs.Stacked.{or_parts, closing, lasts-ended, no_begin, put-ended, open-order}
 use Rattle.kcr_history.proofs.Orderly.{standing, orderly}
 use Rattle.kcr_history.proofs.Distinct.{trainings-apart}
-use Rattle.kcr_machine.specs.ByRows.{refusal_by, changes_by, new_appointment, new_key_row}
+use Rattle.kcr_machine.specs.ByRows.{refusal_by, changes_by, is_plain, new_appointment, new_key_row}
+use Rattle.kcr_machine.proofs.NewKeys.{new_key}
 use Rattle.kcr_machine.proofs.Refusals.{open-shown}
+use Rattle.kcr_machine.proofs.Boxes.{add_box-leads}
+use Rattle.kcr_machine.proofs.Opening.{open-leads}
+use Rattle.kcr_machine.proofs.Planning.{plan-leads}
+use Rattle.kcr_machine.proofs.Closed.{close-leads}
+use Rattle.kcr_machine.proofs.Turned.{turn-leads}
+use Rattle.kcr_machine.proofs.AddedItems.{add_item-leads}
+use Rattle.kcr_machine.proofs.SheetFaults.{sheet-made, name-once, named_once}
+use Rattle.kcr_machine.proofs.SheetLeads.{sheet-leads-by}
+use Rattle.kcr_machine.proofs.BagsLeads.{seal-leads, take-leads, put-leads, cut-leads}
 use Rattle.kcr_machine.proofs.Withdrawn.{ShowsTrainings, ShowsWithdrawals, withdrawn_rows-shown}
 
 -- TABLES THAT ARE EQUAL HAVE THE SAME ROWS
@@ -65,7 +75,7 @@ other-withdrawals t ws p =
 same-own : (t : Tables) → SameTables t t
 same-own t = other-withdrawals t t.withdrawals (IsPermutation-refl t.withdrawals)
 
-same-tables : (t u : Tables) → t ≡ u → SameTables t u
+pub same-tables : (t u : Tables) → t ≡ u → SameTables t u
 same-tables t u e = subst (SameTables t) e (same-own t)
 
 -- ROWS THAT ARE NEW
@@ -73,21 +83,6 @@ same-tables t u e = subst (SameTables t) e (same-own t)
 -- a row whose key is not there is put in front
 put_new : {X : Type 0} (same : X → X → Bool) (row : X) (rows : List X) → list_any (same row) rows ≡ false → put same row rows ≡ row ∷ rows
 put_new same row rows h = rw h
-
--- no row of the key
-no_row : (rows : List KeyRow) (key : List ℕ) → row_of_key key rows ≡ None → list_any (is_of_key key) rows ≡ false
-no_row [] key h = refl
-no_row (row ∷ rows) key h = by_test (no_row rows key) (is_of_key key row) h
-  where
-    by_test : (row_of_key key rows ≡ None → list_any (is_of_key key) rows ≡ false) → (b : Bool) → cond b (Some row) (row_of_key key rows) ≡ None → (b || list_any (is_of_key key) rows) ≡ false
-    by_test ih true g = absurd (let e : Some row ≡ None = g in cc)
-    by_test ih false g = ih g
-
-no_key : (A : History) (key : List ℕ) → entry_of A key ≡ None → list_any (is_of_key key) (keys A) ≡ false
-no_key A key k = no_row (keys A) key (row_of_key-keys A key ∙ ap (option_map key_row) k)
-
-new_key : (A : History) (x : Command) (answer : Answer) → entry_of A x.key ≡ None → put same_key_row (new_key_row x answer) (keys A) ≡ new_key_row x answer ∷ keys A
-new_key A x answer k = put_new same_key_row (new_key_row x answer) (keys A) (no_key A x.key k)
 
 -- THE KINDS
 
@@ -162,13 +157,27 @@ release-leads A h key place day view answer shown k f =
     rw (p, new_key A (record { key = key; act = Release place day }) answer k)
 
 pub leads : (A : History) → IsRegister A → (key : List ℕ) (act : Act) (view : View) (answer : Answer) → IsViewOf (asks_by key act) (tables A) view → entry_of A key ≡ None → fault A act ≡ None
-    → refusal_by view (is_full A) act ≡ None → SameTables (changed_by (changes_by view act ++ PutKey (new_key_row (record { key = key; act = act }) answer) ∷ []) (tables A)) (tables (with_command A (record { key = key; act = act }) answer))
-leads A h key (Enter who name) view answer v k f none = same-tables _ _ (enter-leads A key who name view answer k f)
-leads A h key (Train who role since until) view answer v k f none = same-tables _ _ (train-leads A key who role since until view answer k f)
-leads A h key (Withdraw who role day) view answer v k f none = withdraw-leads A h key who role day view answer v k
-leads A h key (Appoint place who day) view answer v k f none = same-tables _ _ (appoint-leads A h key place who day view answer k f)
-leads A h key (Replace place who day) view answer v k f none =
+    → refusal_by view (is_full A) act ≡ None → is_plain act ≡ true → SameTables (changed_by (changes_by view act ++ PutKey (new_key_row (record { key = key; act = act }) answer) ∷ []) (tables A)) (tables (with_command A (record { key = key; act = act }) answer))
+leads A h key (Enter who name) view answer v k f none p = same-tables _ _ (enter-leads A key who name view answer k f)
+leads A h key (Train who role since until) view answer v k f none p = same-tables _ _ (train-leads A key who role since until view answer k f)
+leads A h key (Withdraw who role day) view answer v k f none p = withdraw-leads A h key who role day view answer v k
+leads A h key (Appoint place who day) view answer v k f none p = same-tables _ _ (appoint-leads A h key place who day view answer k f)
+leads A h key (Replace place who day) view answer v k f none p =
     same-tables _ _ (replace-leads A h key place who day view answer (open-order place (appointments A) view.appointments.items (orderly A h).0 v.appointments) k f)
-leads A h key (Release place day) view answer v k f none =
+leads A h key (Release place day) view answer v k f none p =
     same-tables _ _ (release-leads A h key place day view answer (open-shown A h place view.appointments.items v.appointments) k f)
-leads A h key act view answer v k f none = absurd (let e : Some Memory ≡ None = none in cc)
+leads A h key (AddBox facility number place) view answer v k f none p = same-tables _ _ (add_box-leads A key facility number place view answer k f)
+leads A h key (Plan number facility day script) view answer v k f none p = same-tables _ _ (plan-leads A h key answer number facility day script f view k)
+leads A h key (Open ceremony at) view answer v k f none p = same-tables _ _ (open-leads A h key answer ceremony at f view v.ceremonies k)
+leads A h key (Close ceremony at) view answer v k f none p = same-tables _ _ (close-leads A key answer ceremony at f view v.ceremonies k)
+leads A h key (Seal c serial codes at) view answer v k f none p = same-tables _ _ (seal-leads A h key c serial codes at view answer v k f)
+leads A h key (Take c serial at) view answer v k f none p = same-tables _ _ (take-leads A h key c serial at view answer v k f)
+leads A h key (Put c serial to at) view answer v k f none p = same-tables _ _ (put-leads A h key c serial to at view answer v k f)
+leads A h key (Cut c serial at) view answer v k f none p = same-tables _ _ (cut-leads A h key c serial at view answer v k f)
+leads A h key (AddItem c item at) view answer v k f none p = same-tables _ _ (add_item-leads A h key c item at view answer v k f)
+leads A h key (Sheet c way all at) view answer v k f none p =
+    let n = none_holds (conditions A (Sheet c way all at)) f in
+    sheet-leads-by A (sheet-made A h (name-once (λ B d w people t g. named_once people (none_holds (conditions B (Sheet d w people t)) g).1.1.1.1.0) A h)) key c way all at (named_once all n.1.1.1.1.0) view answer v k n.1.1.1.1.1.0
+leads A h key (TurnSafe c safe state by at) view answer v k f none p = same-tables _ _ (turn-leads A h key c safe state by at view answer v k f)
+leads A h key (Sign ceremony step at) view answer v k f none p = absurd (false≢true p)
+leads A h key (Except ceremony text pass at) view answer v k f none p = absurd (false≢true p)

@@ -1,27 +1,47 @@
 -- A decision by the rows of a view is a step of the machine.
-use Rattle.std.proofs.Common.{◌≡◌, ◌≢◌, ℕ, ◌+◌, Bool, false, nat_le, List, [], ◌∷◌, length, Option, Some, None, option_map, refl, sym, ap, ◌∙◌, arith, ◌⊎◌, inl, inr, Result, Ok, Err, MatchOption}
+use Rattle.std.specs.Prelude.{slice_get}
+use Rattle.std.proofs.Common.{◌≡◌, ◌≢◌, ℕ, suc, ◌+◌, true, false, nat_le, List, [], ◌∷◌, ◌++◌, map, length, Option, Some, None, option_map, refl, sym, ap, ◌∙◌, subst, arith, inl, inr, Result, Ok, Err, MatchOption}
+use Rattle.kcr_base.specs.Days.{day_of}
 use Rattle.kcr_base.specs.Same.{same_text}
+use Rattle.kcr_base.proofs.RefuseLemmas.{none_holds}
 use Rattle.kcr_base.specs.declared.refusal.Refusal.{Refusal}
-use Rattle.kcr_base.specs.declared.refusal.Refusal.TheVariants.{Key, Memory}
+use Rattle.kcr_base.specs.declared.refusal.Refusal.TheVariants.{Key, Short, Memory}
 use Rattle.kcr_history.specs.declared.commands.Act.{Act}
-use Rattle.kcr_history.specs.declared.commands.Act.TheVariants.{Enter, Train, Withdraw, Appoint, Replace, Release}
+use Rattle.kcr_history.specs.declared.commands.Act.TheVariants.{Enter, Train, Withdraw, Appoint, Replace, Release, AddBox, AddItem, Plan, Open, Close, Sheet, TurnSafe, Sign, Except, Seal, Take, Put, Cut}
 use Rattle.kcr_history.specs.declared.commands.Answer.{Answer}
 use Rattle.kcr_history.specs.declared.commands.Command.{Command}
 use Rattle.kcr_history.specs.declared.commands.Entry.{Entry}
+use Rattle.kcr_history.specs.declared.views.Change.TheVariants.{PutKey}
 use Rattle.kcr_history.specs.declared.views.Verdict.{Verdict}
 use Rattle.kcr_history.specs.declared.views.View.{View}
 use Rattle.kcr_history.specs.History.{History, entry_of}
+use Rattle.kcr_history.specs.Ceremonies.{facility_of, steps_of}
 use Rattle.kcr_history.specs.Texts.{command_text}
-use Rattle.kcr_history.specs.Tables.{keys, key_row, tables}
+use Rattle.kcr_history.specs.Seating.{IsFirst, IsLeast}
+use Rattle.kcr_history.specs.Tables.{SameTables, seats_at, keys, key_row, tables}
+use Rattle.kcr_history.specs.Changes.{changed_by}
 use Rattle.kcr_history.specs.Views.{greatest_number, row_of_key, IsViewOf}
 use Rattle.kcr_history.specs.Asked.{asks_by, asks_of}
-use Rattle.kcr_history.specs.Conditions.{fault, is_full}
-use Rattle.kcr_history.specs.Machine.{Accepts, Refuses, sitting, answer_to, plain_answer, with_command, acts, repeats, IsRegister, IsAcceptance, IsRepeat, IsDecision}
+use Rattle.kcr_history.specs.Conditions.{conditions, fault, is_full}
+use Rattle.kcr_history.specs.Machine.{Accepts, Refuses, Sitting, sitting, answer_to, with_command, accepts, seats, acts, repeats, IsRegister, IsAcceptance, IsRepeat, IsDecision}
 use Rattle.kcr_history.proofs.Steps.{took, number_of_answer}
 use Rattle.kcr_history.proofs.Words.{row_of_key-keys}
-use Rattle.kcr_machine.specs.ByRows.{refusal_by, refusal_in, AcceptsNew, RepeatsRow, IsRowVerdict, IsRowDecision}
+use Rattle.kcr_machine.specs.ByRows.{refusal_by, is_full_by, is_overdone, sitting_by, IsSeatedFor, IsUnseatedFor, all_changes_by, answer_by, new_key_row, IsRefused, AcceptsNew, RepeatsRow, IsRowVerdict, IsRowDecision}
+use Rattle.kcr_machine.specs.Signing.{staff, IsSeatedBy, IsUnseatedBy}
 use Rattle.kcr_machine.proofs.Refusals.{enter-fault, train-fault, withdraw-fault, appoint-fault, replace-fault, release-fault}
-use Rattle.kcr_machine.proofs.Changes.{leads}
+use Rattle.kcr_machine.proofs.Boxes.{add_box-fault}
+use Rattle.kcr_machine.proofs.Opening.{open-fault}
+use Rattle.kcr_machine.proofs.Planning.{plan-fault}
+use Rattle.kcr_machine.proofs.Closed.{close-fault}
+use Rattle.kcr_machine.proofs.Turned.{turn-fault}
+use Rattle.kcr_machine.proofs.AddedItems.{add_item-fault}
+use Rattle.kcr_machine.proofs.SheetFaults.{sheet-made, name-once, named_once, sheet-fault}
+use Rattle.kcr_machine.proofs.BagsFaults.{seal-fault, take-fault, put-fault, cut-fault}
+use Rattle.kcr_machine.proofs.Changes.{same-tables, leads}
+use Rattle.kcr_machine.proofs.InRoom.{present-shown}
+use Rattle.kcr_machine.proofs.Scenes.{facility-shown}
+use Rattle.kcr_machine.proofs.Signed.{sign-fault, except-fault, sign-there, seats-shown, fits-shown, staff-shown, seated-first, unseated-least, sign-leads, pass-leads, state-leads}
+use Rattle.kcr_machine.proofs.StepRows.{done-shown, not_overdone, stated-shown}
 
 -- the greatest number is the number of entries
 greatest-keys : (A : History) → IsRegister A → greatest_number (keys A) ≡ length A
@@ -32,44 +52,149 @@ greatest-keys (entry ∷ A) h =
     let below : greatest_number (keys A) ≡ length A = greatest-keys A h.1 in
     omega arith
 
--- the first refusal by the rows is the fault, where the kind is one of those that are decided
+-- the first refusal by the rows is the fault
 fault-shown : (A : History) → IsRegister A → (key : List ℕ) (act : Act) (view : View) → IsViewOf (asks_by key act) (tables A) view
-    → (refusal_by view (is_full A) act ≡ fault A act) ⊎ (refusal_by view (is_full A) act ≡ Some Memory)
-fault-shown A h key (Enter who name) view v = inl (enter-fault A who name key view v)
-fault-shown A h key (Train who role since until) view v = inl (train-fault A who role since until key view v)
-fault-shown A h key (Withdraw who role day) view v = inl (withdraw-fault A who role day key view v)
-fault-shown A h key (Appoint place who day) view v = inl (appoint-fault A place who day key view v)
-fault-shown A h key (Replace place who day) view v = inl (replace-fault A h place who day key view v)
-fault-shown A h key (Release place day) view v = inl (release-fault A h place day key view v)
-fault-shown A h key act view v = inr refl
+    → refusal_by view (is_full A) act ≡ fault A act
+fault-shown A h key (Enter who name) view v = enter-fault A who name key view v
+fault-shown A h key (Train who role since until) view v = train-fault A who role since until key view v
+fault-shown A h key (Withdraw who role day) view v = withdraw-fault A who role day key view v
+fault-shown A h key (Appoint place who day) view v = appoint-fault A place who day key view v
+fault-shown A h key (Replace place who day) view v = replace-fault A h place who day key view v
+fault-shown A h key (Release place day) view v = release-fault A h place day key view v
+fault-shown A h key (AddBox facility number place) view v = add_box-fault A facility number place key view v
+fault-shown A h key (Plan number facility day script) view v = plan-fault A number facility day script key view v
+fault-shown A h key (Open ceremony at) view v = open-fault A ceremony at key view v
+fault-shown A h key (Close ceremony at) view v = close-fault A h ceremony at key view v
+fault-shown A h key (Seal ceremony serial items at) view v = seal-fault A h ceremony serial items at key view v
+fault-shown A h key (Take ceremony serial at) view v = take-fault A h ceremony serial at key view v
+fault-shown A h key (Put ceremony serial to at) view v = put-fault A h ceremony serial to at key view v
+fault-shown A h key (Cut ceremony serial at) view v = cut-fault A h ceremony serial at key view v
+fault-shown A h key (AddItem c item at) view v = add_item-fault A h c item at key view v
+fault-shown A h key (Sheet c way all at) view v =
+    sheet-fault A h (sheet-made A h (name-once (λ B d w people t g. named_once people (none_holds (conditions B (Sheet d w people t)) g).1.1.1.1.0) A h)) c way all at key view v
+fault-shown A h key (TurnSafe c safe state by at) view v = turn-fault A h c safe state by at key view v
+fault-shown A h key (Sign ceremony step at) view v = sign-fault A h ceremony step at key view v
+fault-shown A h key (Except ceremony text pass at) view v = except-fault A h ceremony text pass at key view v
 
-full-shown : (A : History) (x : Command) (view : View) → IsRegister A → IsViewOf (asks_of x) (tables A) view → refusal_in view x.act ≡ refusal_by view (is_full A) x.act
+full-shown : (A : History) (x : Command) (view : View) → IsRegister A → IsViewOf (asks_of x) (tables A) view → refusal_by view (is_full_by view) x.act ≡ refusal_by view (is_full A) x.act
 full-shown A x view h v = ap (λ n. refusal_by view (nat_le 4000000000 n) x.act) (v.greatest ∙ greatest-keys A h)
 
--- a kind that is decided needs no seats, and its answer is its number alone
-plain : (A : History) (act : Act) (view : View) (full : Bool) → refusal_by view full act ≡ None → (sitting A act ≡ None) × (answer_to A act None ≡ plain_answer A)
-plain A (Enter who name) view full none = (refl, refl)
-plain A (Train who role since until) view full none = (refl, refl)
-plain A (Withdraw who role day) view full none = (refl, refl)
-plain A (Appoint place who day) view full none = (refl, refl)
-plain A (Replace place who day) view full none = (refl, refl)
-plain A (Release place day) view full none = (refl, refl)
-plain A act view full none = absurd (let e : Some Memory ≡ None = none in cc)
+-- SEATS
 
-no_fault : (A : History) (x : Command) (view : View) → (refusal_by view (is_full A) x.act ≡ fault A x.act) ⊎ (refusal_by view (is_full A) x.act ≡ Some Memory) → refusal_by view (is_full A) x.act ≡ None → fault A x.act ≡ None
-no_fault A x view (inl e) none = sym e ∙ none
-no_fault A x view (inr e) none = absurd (let g : Some Memory ≡ None = sym e ∙ none in cc)
+sign-fine : (A : History) → IsRegister A → (key : List ℕ) (c k at : ℕ) (view : View) → IsViewOf (asks_by key (Sign c k at)) (tables A) view → refusal_by view (is_full A) (Sign c k at) ≡ None → fault A (Sign c k at) ≡ None
+sign-fine A h key c k at view v none = sym (sign-fault A h c k at key view v) ∙ none
+
+-- the seats that an act needs by the rows are those by the history
+sitting-shown : (A : History) → IsRegister A → (key : List ℕ) (act : Act) (view : View) → IsViewOf (asks_by key act) (tables A) view → refusal_by view (is_full A) act ≡ None → sitting_by view act ≡ sitting A act
+sitting-shown A h key (Sign c k at) view v none =
+    ap (λ seats. Some (record { ceremony = c; at = at; seats = seats })) (seats-shown A h c view v.steps k (sign-there A c k at (sign-fine A h key c k at view v none)))
+sitting-shown A h key (Except c text true at) view v none = refl
+sitting-shown A h key (Except c text false at) view v none = refl
+sitting-shown A h key act view v none = refl
+
+same_sitting : (s t : Sitting) → Some s ≡ Some t → s ≡ t
+same_sitting s t e = cc
+
+-- the people who are seated by the rows are the first seating of the history
+first-shown : (A : History) → IsRegister A → (key : List ℕ) (act : Act) (view : View) → IsViewOf (asks_by key act) (tables A) view
+    → (s : Sitting) (people : List (List ℕ)) → sitting A act ≡ Some s → IsSeatedBy view s people → IsFirst A s.ceremony s.at s.seats people
+first-shown A h key (Sign c k at) view v s people e =
+    let own : Sitting = record { ceremony = c; at = at; seats = seats_at (steps_of A c) k } in
+    subst (λ s. IsSeatedBy view s people → IsFirst A s.ceremony s.at s.seats people) (same_sitting own s e)
+    (seated-first A h view own (facility-shown A c view.ceremonies.items v.ceremonies) (present-shown A c view.stays.items v.stays.room at)
+    (λ j who. fits-shown A h view v.trainings v.withdrawals v.appointments (facility_of A c) (day_of at) (slice_get (seats_at (steps_of A c) k) j) who) people)
+first-shown A h key (Except c text true at) view v s people e =
+    let own : Sitting = record { ceremony = c; at = at; seats = staff } in
+    subst (λ s. IsSeatedBy view s people → IsFirst A s.ceremony s.at s.seats people) (same_sitting own s e)
+    (seated-first A h view own (facility-shown A c view.ceremonies.items v.ceremonies) (present-shown A c view.stays.items v.stays.room at)
+    (staff-shown A h view v.trainings v.withdrawals (facility_of A c) (day_of at)) people)
+first-shown A h key (Except c text false at) view v s people e = absurd (let f : None ≡ Some s = e in cc)
+first-shown A h key act view v s people e = absurd (let f : None ≡ Some s = e in cc)
+
+-- the seats that lack people by the rows are a least shortage of the history
+abbrev Lacks : History → Sitting → Refusal → Type 0
+Lacks A s refusal = (positions : List ℕ) × IsLeast A s.ceremony s.at s.seats positions × (refusal ≡ Short (map suc positions))
+
+least-shown : (A : History) → IsRegister A → (key : List ℕ) (act : Act) (view : View) → IsViewOf (asks_by key act) (tables A) view
+    → (s : Sitting) (refusal : Refusal) → sitting A act ≡ Some s → IsUnseatedBy view s refusal → Lacks A s refusal
+least-shown A h key (Sign c k at) view v s refusal e =
+    let own : Sitting = record { ceremony = c; at = at; seats = seats_at (steps_of A c) k } in
+    subst (λ s. IsUnseatedBy view s refusal → Lacks A s refusal) (same_sitting own s e)
+    (unseated-least A h view own (facility-shown A c view.ceremonies.items v.ceremonies) (present-shown A c view.stays.items v.stays.room at)
+    (λ j who. fits-shown A h view v.trainings v.withdrawals v.appointments (facility_of A c) (day_of at) (slice_get (seats_at (steps_of A c) k) j) who) refusal)
+least-shown A h key (Except c text true at) view v s refusal e =
+    let own : Sitting = record { ceremony = c; at = at; seats = staff } in
+    subst (λ s. IsUnseatedBy view s refusal → Lacks A s refusal) (same_sitting own s e)
+    (unseated-least A h view own (facility-shown A c view.ceremonies.items v.ceremonies) (present-shown A c view.stays.items v.stays.room at)
+    (staff-shown A h view v.trainings v.withdrawals (facility_of A c) (day_of at)) refusal)
+least-shown A h key (Except c text false at) view v s refusal e = absurd (let f : None ≡ Some s = e in cc)
+least-shown A h key act view v s refusal e = absurd (let f : None ≡ Some s = e in cc)
+
+-- the rows tell of no more steps done than a script has
+not_overdone-shown : (A : History) → IsRegister A → (key : List ℕ) (act : Act) (view : View) → IsViewOf (asks_by key act) (tables A) view → is_overdone view act ≡ false
+not_overdone-shown A h key (Sign c k at) view v = not_overdone A h c view.steps.items v.steps
+not_overdone-shown A h key (Except c text pass at) view v = not_overdone A h c view.steps.items v.steps
+not_overdone-shown A h key act view v = refl
+
+-- ANSWERS
+
+number-shown : (A : History) (act : Act) (key : List ℕ) (view : View) → IsRegister A → IsViewOf (asks_by key act) (tables A) view → greatest_number view.keys.items ≡ length A
+number-shown A act key view h v = v.greatest ∙ greatest-keys A h
+
+-- the answer by the rows is the one by the history
+answer-shown : (A : History) → IsRegister A → (key : List ℕ) (act : Act) (view : View) → IsViewOf (asks_by key act) (tables A) view
+    → (people : Option (List (List ℕ))) → IsSeatedFor view (sitting_by view act) people → answer_by view act people ≡ answer_to A act people
+answer-shown A h key (Sign c k at) view v people g = rw (number-shown A (Sign c k at) key view h v) refl
+answer-shown A h key (Except c text true at) view v people g =
+    rw (number-shown A (Except c text true at) key view h v, stated-shown A h c view.exceptions.items v.exceptions, done-shown A h c view.steps.items v.steps) refl
+answer-shown A h key (Except c text false at) view v people g =
+    rw (number-shown A (Except c text false at) key view h v, stated-shown A h c view.exceptions.items v.exceptions, g) refl
+answer-shown A h key act view v people g = rw (number-shown A act key view h v, g) refl
+
+-- CHANGES
+
+abbrev one : List ℕ → Act → Command
+one key act = record { key = key; act = act }
+
+-- the changes of an act that has no fault, with those of its seats, lead from the tables before it to those after it
+leads-all : (A : History) → IsRegister A → (key : List ℕ) (act : Act) (view : View) (people : Option (List (List ℕ))) (answer : Answer) → IsViewOf (asks_by key act) (tables A) view → entry_of A key ≡ None → fault A act ≡ None
+    → refusal_by view (is_full A) act ≡ None → IsSeatedFor view (sitting_by view act) people → answer ≡ answer_to A act people
+    → SameTables (changed_by (all_changes_by view act people ++ PutKey (new_key_row (one key act) answer) ∷ []) (tables A)) (tables (with_command A (one key act) answer))
+leads-all A h key (Sign c k at) view None answer v q f none g e = absurd g
+leads-all A h key (Sign c k at) view (Some people) answer v q f none g e = same-tables _ _ (sign-leads A h key c k at view people answer v q f e)
+leads-all A h key (Except c text true at) view None answer v q f none g e = absurd g
+leads-all A h key (Except c text true at) view (Some people) answer v q f none g e = same-tables _ _ (pass-leads A h key c text at view people answer v q f e)
+leads-all A h key (Except c text false at) view people answer v q f none g e = same-tables _ _ (state-leads A h key c text at view answer v q f e)
+leads-all A h key act view people answer v q f none g e = leads A h key act view answer v q f none refl
+
+-- ACCEPTED
+
+-- where no seats are needed the command is accepted; else with the people who are seated
+module _ (A : History) (x : Command) (view : View) (answer : Answer) where
+  abbrev Steps : Option Sitting → Type 0
+  Steps o = MatchOption o (accepts A x (answer_to A x.act None) (Accepts answer) (with_command A x answer)) (λ s. seats A x s (Accepts answer) (with_command A x answer))
+
+  by_people : (s : Sitting) (people : Option (List (List ℕ))) → IsSeatedFor view (Some s) people → ((ps : List (List ℕ)) → IsSeatedBy view s ps → IsFirst A s.ceremony s.at s.seats ps)
+      → answer ≡ answer_to A x.act people → seats A x s (Accepts answer) (with_command A x answer)
+  by_people s None g first e = absurd g
+  by_people s (Some people) g first e = inl (people, first people g, (ap Accepts e, ap (with_command A x) e))
+
+  by_sitting : (o : Option Sitting) → IsSeatedFor view o answer.seating → ((s : Sitting) (ps : List (List ℕ)) → o ≡ Some s → IsSeatedBy view s ps → IsFirst A s.ceremony s.at s.seats ps)
+      → answer ≡ answer_to A x.act answer.seating → Steps o
+  by_sitting None g first e = let n = e ∙ ap (answer_to A x.act) g in (ap Accepts n, ap (with_command A x) n)
+  by_sitting (Some s) g first e = by_people s answer.seating g (λ ps q. first s ps refl q) e
 
 accepted : (A : History) (x : Command) (view : View) (verdict : Verdict) (answer : Answer) → IsRegister A → IsViewOf (asks_of x) (tables A) view
     → entry_of A x.key ≡ None → AcceptsNew view x verdict answer → IsAcceptance A x verdict answer
 accepted A x view verdict answer h v k g =
     let none : refusal_by view (is_full A) x.act ≡ None = sym (full-shown A x view h v) ∙ g.fine in
-    let fine : fault A x.act ≡ None = no_fault A x view (fault-shown A h x.key x.act view v) none in
-    let alone = plain A x.act view (is_full A) none in
-    let next : answer ≡ answer_to A x.act None = g.next ∙ ap (λ n. record { accepted = n + 1; exception = None; seating = None; step = None }) (v.greatest ∙ greatest-keys A h) ∙ sym alone.1 in
+    let fine : fault A x.act ≡ None = sym (fault-shown A h x.key x.act view v) ∙ none in
+    let next : answer ≡ answer_to A x.act answer.seating = g.next ∙ answer-shown A h x.key x.act view v answer.seating g.seated in
+    let seated : IsSeatedFor view (sitting A x.act) answer.seating = subst (λ o. IsSeatedFor view o answer.seating) (sitting-shown A h x.key x.act view v none) g.seated in
+    let step = by_sitting A x view answer (sitting A x.act) seated (λ s ps. first-shown A h x.key x.act view v s ps) next in
     record {
-      step = rw (k, fine, alone.0) (ap Accepts next, ap (with_command A x) next);
-      tables = rw g.changes (leads A h x.key x.act view answer v k fine none);
+      step = rw (k, fine) step;
+      tables = rw g.changes (leads-all A h x.key x.act view answer.seating answer v k fine none g.seated next);
       reply = g.reply;
     }
 
@@ -90,16 +215,29 @@ verdict-view A x view verdict h v (Some kept) e None g = (kept, repeated A x vie
 verdict-view A x view verdict h v None e None g = absurd g
 verdict-view A x view verdict h v (Some kept) e (Some answer) g = absurd g
 
-refused_new : (A : History) (x : Command) (view : View) (refusal : Refusal) → refusal ≢ Memory
-    → (refusal_by view (is_full A) x.act ≡ fault A x.act) ⊎ (refusal_by view (is_full A) x.act ≡ Some Memory) → refusal_by view (is_full A) x.act ≡ Some refusal → acts A x (fault A x.act) (Refuses refusal) A
-refused_new A x view refusal ne (inl e) g = rw (sym e ∙ g) (refl, refl)
-refused_new A x view refusal ne (inr e) g = absurd (ne (let m : Some Memory ≡ Some refusal = sym e ∙ g in cc))
+-- REFUSED
+
+unseated : (A : History) (x : Command) (view : View) (refusal : Refusal) → (o : Option Sitting) → IsUnseatedFor view o refusal → ((s : Sitting) → o ≡ Some s → IsUnseatedBy view s refusal → Lacks A s refusal)
+    → MatchOption o (accepts A x (answer_to A x.act None) (Refuses refusal) A) (λ s. seats A x s (Refuses refusal) A)
+unseated A x view refusal None g least = absurd g
+unseated A x view refusal (Some s) g least = let w = least s refl g in inr (w.0, w.1, (ap Refuses w.2, refl))
+
+refused_new : (A : History) → IsRegister A → (x : Command) (view : View) (refusal : Refusal) → refusal ≢ Memory → IsViewOf (asks_of x) (tables A) view
+    → refusal_by view (is_full A) x.act ≡ fault A x.act → (o : Option Refusal) → refusal_by view (is_full A) x.act ≡ o
+    → MatchOption o (IsUnseatedFor view (sitting_by view x.act) refusal) (λ first. refusal ≡ first) → acts A x (fault A x.act) (Refuses refusal) A
+refused_new A h x view refusal ne v e (Some first) f g = rw (sym e ∙ f) (ap Refuses g, refl)
+refused_new A h x view refusal ne v e None f g =
+    let fine : fault A x.act ≡ None = sym e ∙ f in
+    let w : IsUnseatedFor view (sitting A x.act) refusal = subst (λ o. IsUnseatedFor view o refusal) (sitting-shown A h x.key x.act view v f) g in
+    rw fine (unseated A x view refusal (sitting A x.act) w (λ s. least-shown A h x.key x.act view v s refusal))
 
 refused : (A : History) (x : Command) (view : View) (refusal : Refusal) → refusal ≢ Memory → IsRegister A → IsViewOf (asks_of x) (tables A) view → (k : Option Entry)
-    → MatchOption (option_map key_row k) (refusal_in view x.act ≡ Some refusal) (λ row. (same_text row.command (command_text x.act) ≡ false) × (refusal ≡ Key))
+    → MatchOption (option_map key_row k) (IsRefused view (is_full_by view) x.act refusal) (λ row. (same_text row.command (command_text x.act) ≡ false) × (refusal ≡ Key))
     → MatchOption k (acts A x (fault A x.act) (Refuses refusal) A) (λ kept. repeats A x kept (Refuses refusal) A)
 refused A x view refusal ne h v (Some kept) g = (rw (g.0, g.1), refl)
-refused A x view refusal ne h v None g = refused_new A x view refusal ne (fault-shown A h x.key x.act view v) (sym (full-shown A x view h v) ∙ g)
+refused A x view refusal ne h v None g =
+    let shown = g.first (not_overdone-shown A h x.key x.act view v) in
+    refused_new A h x view refusal ne v (fault-shown A h x.key x.act view v) (refusal_by view (is_full A) x.act) refl (rw (full-shown A x view h v) at shown)
 
 -- a command asks for the row of its key
 asks-key : (key : List ℕ) (act : Act) → (asks_by key act).key ≡ key

@@ -7,7 +7,7 @@ use Rattle.kcr_base.specs.Same.{same_text, same_role}
 use Rattle.kcr_base.specs.declared.place.Role.{Role}
 use Rattle.kcr_people.specs.declared.Training.{Training}
 use Rattle.kcr_people.specs.declared.Withdrawal.{Withdrawal}
-use Rattle.kcr_people.specs.People.{is_of, is_withdrawn_by, covers, trains, trained_from_by, ends_from, least_day, withdrawal_of, withdrawn_rows}
+use Rattle.kcr_people.specs.People.{is_of, is_withdrawn_by, covers, trains, trained_by, trained_from_by, ends_from, least_day, withdrawal_of, withdrawn_rows}
 use Rattle.kcr_people.proofs.Orders.{any-same}
 use Rattle.kcr_people.proofs.Withdrawn.{is_of-true, least-day}
 use Rattle.kcr_history.specs.Views.{is_training_of, is_withdrawal_of}
@@ -51,6 +51,14 @@ trained_from-shown who ts us ws vs p q role day =
     any-same (λ row. trains vs who role (max row.since day) row) (λ row. trains ws who role (max row.since day) row) (λ row. trains-shown who ws vs q role (max row.since day) row) us
     ∙ any-shown (λ row. trains ws who role (max row.since day) row) (is_training_of who)
     (λ row h. covers-who who role (max row.since day) row (and_parts (covers who role (max row.since day) row) (not (is_withdrawn_by ws row (max row.since day))) h).0) ts us p
+
+-- whether the person is trained on the day
+pub trained-shown : (who : List ℕ) (ts us : List Training) (ws vs : List Withdrawal) → ShowsTrainings who ts us → ShowsWithdrawals who ws vs → (role : Role) (day : ℕ)
+    → trained_by us vs who role day ≡ trained_by ts ws who role day
+trained-shown who ts us ws vs p q role day =
+    any-same (trains vs who role day) (trains ws who role day) (λ row. trains-shown who ws vs q role day row) us
+    ∙ any-shown (trains ws who role day) (is_training_of who)
+    (λ row h. covers-who who role day row (and_parts (covers who role day row) (not (is_withdrawn_by ws row day)) h).0) ts us p
 
 -- THE ROWS OF A WITHDRAWAL
 

@@ -42,7 +42,7 @@ pub(crate) fn settled(marks: &[MarkRow]) -> Option<Day>
 }
 
 /// One change alone.
-fn only(alloc: Global, change: Change) -> Result<Vec<Change>, AllocError>
+pub(crate) fn only(alloc: Global, change: Change) -> Result<Vec<Change>, AllocError>
     ensures { IfOk result (λ changes. changes.items ≡ change ∷ []) }
 {
     let mut changes = Vec::new(alloc);
@@ -51,7 +51,7 @@ fn only(alloc: Global, change: Change) -> Result<Vec<Change>, AllocError>
 }
 
 /// Two changes, in this order.
-fn both(alloc: Global, first: Change, second: Change) -> Result<Vec<Change>, AllocError>
+pub(crate) fn both(alloc: Global, first: Change, second: Change) -> Result<Vec<Change>, AllocError>
     ensures { IfOk result (λ changes. changes.items ≡ first ∷ second ∷ []) }
 {
     let mut changes = Vec::new(alloc);

@@ -1,0 +1,260 @@
+-- What the rows of a view say of bags, items, safes and boxes is what the history says.
+use Rattle.std.proofs.Common.{◌≡◌, ℕ, Bool, true, false, cond, ◌||◌, ◌&&◌, eqb, List, [], ◌∷◌, filter, Option, Some, None, option_map, is_some, is_none, refl, sym, ap, ◌∙◌, subst}
+use Rattle.std.specs.Prelude.{unwrap_or}
+use Rattle.std.specs.List.{list_any, cons_option, AllByRecursion}
+use Rattle.std.specs.List.Sorted.{IsPermutation}
+use Rattle.std.proofs.lemmas.List.Sorted.{list_any-IsPermutation}
+use Rattle.std.proofs.lemmas.Bool.{true≢false, false≢true, or_parts, and_parts, eqb-true}
+use Rattle.kcr_base.proofs.RefuseLemmas.{none_holds, unmet}
+use Rattle.kcr_base.specs.Refuse.{when}
+use Rattle.kcr_base.specs.Rows.{or_else}
+use Rattle.kcr_base.specs.Same.{same_text, same_facility}
+use Rattle.kcr_base.specs.declared.place.Facility.{Facility}
+use Rattle.kcr_base.specs.declared.place.Facility.TheVariants.{East, West}
+use Rattle.kcr_base.specs.declared.refusal.Refusal.TheVariants.{Unknown, Taken}
+use Rattle.kcr_base.specs.declared.refusal.Thing.TheVariants as Things
+use Rattle.kcr_custody.proofs.Puts.{text_same}
+use Rattle.kcr_custody.specs.declared.Bag.{Bag}
+use Rattle.kcr_custody.specs.declared.BoxRow.{BoxRow}
+use Rattle.kcr_custody.specs.declared.Item.{Item}
+use Rattle.kcr_custody.specs.declared.Rest.{Rest}
+use Rattle.kcr_custody.specs.declared.Rest.TheVariants.{Loose}
+use Rattle.kcr_custody.specs.declared.SafeNumber.{SafeNumber}
+use Rattle.kcr_custody.specs.declared.SafeNumber.TheVariants.{One, Two}
+use Rattle.kcr_custody.specs.declared.SafeRow.{SafeRow}
+use Rattle.kcr_custody.specs.declared.Spot.{Spot}
+use Rattle.kcr_custody.specs.declared.Spot.TheVariants.{Table, Spent}
+use Rattle.kcr_custody.specs.Custody.{spot_by, rest_by, is_open_by, opens, is_box, place_of_box_by, spot_of_store}
+use Rattle.kcr_history.specs.declared.commands.Act.{Act}
+use Rattle.kcr_history.specs.declared.commands.Act.TheVariants.{AddBox, AddItem, Seal, Take, Put, Cut}
+use Rattle.kcr_history.specs.declared.views.ItemsOf.TheVariants as Items
+use Rattle.kcr_history.specs.History.{History, all_said, last_said, last_told}
+use Rattle.kcr_history.specs.Ceremonies.{facility_of}
+use Rattle.kcr_history.specs.Custody.{moved, spot, sealed_in, added_at, rest_in, rest, is_safe_open, boxed, place_of_box}
+use Rattle.kcr_history.specs.Tables.{bags, bag_row, sealed_serial, items, item_row, added_item, safes, boxes, box_row}
+use Rattle.kcr_history.specs.Views.{is_of_serial, is_item_of}
+use Rattle.kcr_history.specs.Conditions.{conditions, fault, no_bag, no_item, first_with}
+use Rattle.kcr_history.specs.Machine.{IsRegister}
+use Rattle.kcr_history.proofs.Steps.{took}
+use Rattle.kcr_machine.proofs.BagsFound.{found-shown, found-order, any-made, all-made}
+
+pub there : {X : Type 0} (o : Option X) → is_none o ≡ false → is_some o ≡ true
+there None g = absurd (true≢false g)
+there (Some x) g = refl
+
+-- BAGS
+
+-- a bag that was there before says no more than that it is there
+moved_there : (t s : List ℕ) (new : Spot) (old : Option Spot) (here : Bool) → (same_text t s ≡ true → is_some old ≡ true) → here ≡ is_some old
+    → here ≡ is_some (or_else (cond (same_text t s) (Some new) None) old)
+moved_there t s new old here known ih = by_test (same_text t s) refl
+  where
+    by_test : (b : Bool) → same_text t s ≡ b → here ≡ is_some (or_else (cond b (Some new) None) old)
+    by_test true e = ih ∙ known e
+    by_test false e = ih
+
+-- the bag of a command is there
+bag_known : (A : History) (t s : List ℕ) → no_bag A t ≡ None → same_text t s ≡ true → is_some (spot A s) ≡ true
+bag_known A t s n e = subst (λ k. is_some (spot A k) ≡ true) (text_same t s e) (there (spot A t) (unmet _ (Unknown (Things.Bag t)) n))
+
+abbrev is_sealed : History → List ℕ → Bool
+is_sealed A s = list_any (λ k. same_text k s) (all_said sealed_serial A)
+
+sealed_after : (A : History) (act : Act) (s : List ℕ) → fault A act ≡ None → is_sealed A s ≡ is_some (spot A s)
+    → list_any (λ k. same_text k s) (cons_option (sealed_serial act) (all_said sealed_serial A)) ≡ is_some (or_else (moved (facility_of A) s act) (spot A s))
+sealed_after A (Seal c serial codes at) s f ih = by_test (same_text serial s)
+  where
+    by_test : (b : Bool) → (b || is_sealed A s) ≡ is_some (or_else (cond b (Some (Table (facility_of A c))) None) (spot A s))
+    by_test true = refl
+    by_test false = ih
+sealed_after A (Take c t at) s f ih = moved_there t s (Table (facility_of A c)) (spot A s) (is_sealed A s) (bag_known A t s (none_holds (conditions A (Take c t at)) f).1.0) ih
+sealed_after A (Put c t to at) s f ih = moved_there t s (spot_of_store (facility_of A c) to) (spot A s) (is_sealed A s) (bag_known A t s (none_holds (conditions A (Put c t to at)) f).1.0) ih
+sealed_after A (Cut c t at) s f ih = moved_there t s Spent (spot A s) (is_sealed A s) (bag_known A t s (none_holds (conditions A (Cut c t at)) f).1.0) ih
+sealed_after A act s f ih = ih
+
+-- a bag is somewhere exactly where it was sealed
+pub sealed_somewhere : (A : History) → IsRegister A → (s : List ℕ) → list_any (λ k. same_text k s) (all_said sealed_serial A) ≡ is_some (spot A s)
+sealed_somewhere [] h s = refl
+sealed_somewhere (entry ∷ A) h s = sealed_after A entry.command.act s (took A entry h.0).no_fault (sealed_somewhere A h.1 s)
+
+-- where the bag is, by the rows of its serial
+pub spot-shown : (A : History) → IsRegister A → (s : List ℕ) (rows : List Bag) → IsPermutation (filter (is_of_serial s) (bags A)) (filter (is_of_serial s) rows) → spot_by rows s ≡ spot A s
+spot-shown A h s rows p =
+    found-shown (λ row. same_text row.serial s) (is_of_serial s) (λ row e. e) (λ row. row.spot) (spot A s) (bags A) rows p
+    (all-made (λ row. row.serial) (λ row. row.spot) (bag_row A) (λ k. refl) s (spot A s) Spent refl (all_said sealed_serial A))
+    (any-made (λ row. row.serial) (λ row. row.spot) (bag_row A) (λ k. refl) s (all_said sealed_serial A) ∙ sealed_somewhere A h s)
+
+-- ITEMS
+
+abbrev is_added : History → List ℕ → Bool
+is_added A k = list_any (λ i. same_text i k) (all_said added_item A)
+
+abbrev added : History → List ℕ → Option Facility
+added A k = last_told (λ before. added_at (facility_of before) k) A
+
+-- an item was added somewhere exactly where it was added
+added_after : (A : History) (act : Act) (k : List ℕ) → is_added A k ≡ is_some (added A k)
+    → list_any (λ i. same_text i k) (cons_option (added_item act) (all_said added_item A)) ≡ is_some (or_else (added_at (facility_of A) k act) (added A k))
+added_after A (AddItem c item at) k ih = by_test (same_text item k)
+  where
+    by_test : (b : Bool) → (b || is_added A k) ≡ is_some (or_else (cond b (Some (facility_of A c)) None) (added A k))
+    by_test true = refl
+    by_test false = ih
+added_after A act k ih = ih
+
+added_somewhere : (A : History) (k : List ℕ) → is_added A k ≡ is_some (added A k)
+added_somewhere [] k = refl
+added_somewhere (entry ∷ A) k = added_after A entry.command.act k (added_somewhere A k)
+
+-- each of the items that a command may list is somewhere
+pub items_known : (A : History) (k : List ℕ) (codes : List (List ℕ)) → first_with (no_item A) codes ≡ None → list_any (same_text k) codes ≡ true → is_some (rest A k) ≡ true
+items_known A k [] n h = absurd (false≢true h)
+items_known A k (code ∷ codes) n h = by_known (is_none (rest A code)) refl n (items_known A k codes)
+  where
+    by_known : (b : Bool) → is_none (rest A code) ≡ b → or_else (when b (Unknown (Things.Item code))) (first_with (no_item A) codes) ≡ None
+        → (first_with (no_item A) codes ≡ None → list_any (same_text k) codes ≡ true → is_some (rest A k) ≡ true) → is_some (rest A k) ≡ true
+    by_known true e g ih = absurd (let q : Some (Unknown (Things.Item code)) ≡ None = g in cc)
+    by_known false e g ih = by_test (same_text k code) refl h
+      where
+        by_test : (b : Bool) → same_text k code ≡ b → (b || list_any (same_text k) codes) ≡ true → is_some (rest A k) ≡ true
+        by_test true f t = subst (λ x. is_some (rest A x) ≡ true) (sym (text_same k code f)) (there (rest A code) e)
+        by_test false f t = ih g t
+
+some_rest : (S : Option (List ℕ)) (D : Option Facility) (inside : List ℕ → Rest) → is_some (or_else (option_map inside S) (option_map Loose D)) ≡ (is_some S || is_some D)
+some_rest (Some s) D inside = refl
+some_rest None (Some f) inside = refl
+some_rest None None inside = refl
+
+abbrev last_bag : History → List ℕ → Option (List ℕ)
+last_bag A k = last_said (sealed_in k) A
+
+-- an item that was sealed was added
+sealed_added_after : (A : History) (act : Act) (k : List ℕ) → fault A act ≡ None → (is_some (last_bag A k) ≡ true → is_some (added A k) ≡ true)
+    → is_some (or_else (sealed_in k act) (last_bag A k)) ≡ true → is_some (or_else (added_at (facility_of A) k act) (added A k)) ≡ true
+sealed_added_after A (AddItem c item at) k f ih s = by_test (same_text item k) (ih s)
+  where
+    by_test : (b : Bool) → is_some (added A k) ≡ true → is_some (or_else (cond b (Some (facility_of A c)) None) (added A k)) ≡ true
+    by_test true g = refl
+    by_test false g = g
+sealed_added_after A (Seal c serial codes at) k f ih s = by_test (list_any (same_text k) codes) refl s
+  where
+    join : (x y : Bool) → (x ≡ true → y ≡ true) → (x || y) ≡ true → y ≡ true
+    join true y g e = g refl
+    join false y g e = e
+
+    by_test : (b : Bool) → list_any (same_text k) codes ≡ b → is_some (or_else (cond b (Some serial) None) (last_bag A k)) ≡ true → is_some (added A k) ≡ true
+    by_test true e g =
+        join (is_some (last_bag A k)) _ ih
+        (sym (some_rest (last_bag A k) (added A k) (rest_in A)) ∙ items_known A k codes (none_holds (conditions A (Seal c serial codes at)) f).1.0 e)
+    by_test false e g = ih g
+sealed_added_after A act k f ih s = ih s
+
+sealed_added : (A : History) → IsRegister A → (k : List ℕ) → is_some (last_bag A k) ≡ true → is_some (added A k) ≡ true
+sealed_added [] h k s = absurd (false≢true s)
+sealed_added (entry ∷ A) h k s = sealed_added_after A entry.command.act k (took A entry h.0).no_fault (sealed_added A h.1 k) s
+
+-- an item is somewhere exactly where it was added
+pub added_rest : (A : History) → IsRegister A → (k : List ℕ) → list_any (λ i. same_text i k) (all_said added_item A) ≡ is_some (rest A k)
+added_rest A h k =
+    added_somewhere A k
+    ∙ join (is_some (last_bag A k)) (is_some (added A k)) (sealed_added A h k)
+    ∙ sym (some_rest (last_bag A k) (added A k) (rest_in A))
+  where
+    join : (x y : Bool) → (x ≡ true → y ≡ true) → y ≡ (x || y)
+    join true y f = f refl
+    join false y f = refl
+
+-- where an item is, by rows among which its own is
+pub rest-shown : (A : History) → IsRegister A → (of : Item → Bool) (k : List ℕ) → ((row : Item) → same_text row.code k ≡ true → of row ≡ true) → (rows : List Item)
+    → IsPermutation (filter of (items A)) (filter of rows) → rest_by rows k ≡ rest A k
+rest-shown A h of k own rows p =
+    found-shown (λ row. same_text row.code k) of own (λ row. row.rest) (rest A k) (items A) rows p
+    (all-made (λ row. row.code) (λ row. row.rest) (item_row A) (λ i. refl) k (rest A k) (Loose East) refl (all_said added_item A))
+    (any-made (λ row. row.code) (λ row. row.rest) (item_row A) (λ i. refl) k (all_said added_item A) ∙ added_rest A h k)
+
+-- the same of items that are asked for by their codes
+pub rest-coded : (A : History) → IsRegister A → (codes : List (List ℕ)) (rows : List Item) → IsPermutation (filter (is_item_of (Items.Codes codes)) (items A)) (filter (is_item_of (Items.Codes codes)) rows)
+    → (k : List ℕ) → list_any (same_text k) codes ≡ true → rest_by rows k ≡ rest A k
+rest-coded A h codes rows p k among =
+    rest-shown A h (is_item_of (Items.Codes codes)) k (λ row e. subst (λ c. list_any (same_text c) codes ≡ true) (sym (text_same row.code k e)) among) rows p
+
+-- SAFES
+
+or_false : (b : Bool) → (b || false) ≡ b
+or_false true = refl
+or_false false = refl
+
+open-safes : (A : History) (facility : Facility) (safe : SafeNumber) → is_open_by (safes A) facility safe ≡ is_safe_open A facility safe
+open-safes A East One = or_false (is_safe_open A East One)
+open-safes A East Two = or_false (is_safe_open A East Two)
+open-safes A West One = or_false (is_safe_open A West One)
+open-safes A West Two = or_false (is_safe_open A West Two)
+
+-- whether a safe is open, by the four rows in any order
+pub open-shown : (A : History) (rows : List SafeRow) → IsPermutation (safes A) rows → (facility : Facility) (safe : SafeNumber) → is_open_by rows facility safe ≡ is_safe_open A facility safe
+open-shown A rows p facility safe = sym (list_any-IsPermutation (opens facility safe) (safes A) rows p) ∙ open-safes A facility safe
+
+-- BOXES
+
+box_after : (A : History) (act : Act) (f : Facility) (n : ℕ) → list_any (is_box f n) (boxes A) ≡ is_some (place_of_box A f n)
+    → list_any (is_box f n) (cons_option (box_row act) (boxes A)) ≡ is_some (or_else (boxed f n act) (place_of_box A f n))
+box_after A (AddBox facility number place) f n ih = by_test (same_facility facility f && eqb number n)
+  where
+    by_test : (b : Bool) → (b || list_any (is_box f n) (boxes A)) ≡ is_some (or_else (cond b (Some place) None) (place_of_box A f n))
+    by_test true = refl
+    by_test false = ih
+box_after A act f n ih = ih
+
+-- a box is there exactly where it has a place
+pub box-there : (A : History) (f : Facility) (n : ℕ) → list_any (is_box f n) (boxes A) ≡ is_some (place_of_box A f n)
+box-there [] f n = refl
+box-there (entry ∷ A) f n = box_after A entry.command.act f n (box-there A f n)
+
+facility-same : (f g : Facility) → same_facility f g ≡ true → f ≡ g
+facility-same East East e = refl
+facility-same East West e = absurd (false≢true e)
+facility-same West East e = absurd (false≢true e)
+facility-same West West e = refl
+
+abbrev Placed : History → Facility → ℕ → BoxRow → Type 0
+Placed A f n row = is_box f n row ≡ true → place_of_box A f n ≡ Some row.place
+
+each : {X : Type 0} (P Q : X → Type 0) → ((x : X) → P x → Q x) → (xs : List X) → AllByRecursion P xs → AllByRecursion Q xs
+each P Q f [] a = tt
+each P Q f (x ∷ xs) a = (f x a.0, each P Q f xs a.1)
+
+placed_after : (A : History) (act : Act) (f : Facility) (n : ℕ) → fault A act ≡ None → AllByRecursion (Placed A f n) (boxes A)
+    → AllByRecursion (λ row. is_box f n row ≡ true → or_else (boxed f n act) (place_of_box A f n) ≡ Some row.place) (cons_option (box_row act) (boxes A))
+placed_after A (AddBox facility number place) f n fine ih =
+    (first, each (Placed A f n) (λ row. is_box f n row ≡ true → or_else (boxed f n (AddBox facility number place)) (place_of_box A f n) ≡ Some row.place) (λ row g e. older row (g e)) (boxes A) ih)
+  where
+    first : (same_facility facility f && eqb number n) ≡ true → or_else (cond (same_facility facility f && eqb number n) (Some place) None) (place_of_box A f n) ≡ Some place
+    first e = rw e
+
+    free : is_some (place_of_box A facility number) ≡ false
+    free =
+        (or_parts (is_some (place_of_box A facility number)) _
+        (unmet _ Taken (none_holds (conditions A (AddBox facility number place)) fine).0)).0
+
+    older : (row : BoxRow) → place_of_box A f n ≡ Some row.place → or_else (cond (same_facility facility f && eqb number n) (Some place) None) (place_of_box A f n) ≡ Some row.place
+    older row g = by_test (same_facility facility f && eqb number n) refl
+      where
+        by_test : (b : Bool) → (same_facility facility f && eqb number n) ≡ b → or_else (cond b (Some place) None) (place_of_box A f n) ≡ Some row.place
+        by_test false e = g
+        by_test true e =
+            let p = and_parts (same_facility facility f) (eqb number n) e in
+            let i : facility ≡ f = facility-same facility f p.0 in
+            let j : number ≡ n = eqb-true number n p.1 in
+            absurd (true≢false (sym (ap is_some g) ∙ ap (λ m. is_some (place_of_box A f m)) (sym j) ∙ ap (λ k. is_some (place_of_box A k number)) (sym i) ∙ free))
+placed_after A act f n fine ih = ih
+
+placed : (A : History) → IsRegister A → (f : Facility) (n : ℕ) → AllByRecursion (Placed A f n) (boxes A)
+placed [] h f n = tt
+placed (entry ∷ A) h f n = placed_after A entry.command.act f n (took A entry h.0).no_fault (placed A h.1 f n)
+
+-- the place of a box, by all boxes in any order
+pub place-shown : (A : History) → IsRegister A → (rows : List BoxRow) → IsPermutation (boxes A) rows → (f : Facility) (n : ℕ) → place_of_box_by rows f n ≡ place_of_box A f n
+place-shown A h rows p f n =
+    found-order (is_box f n) (λ row. row.place) (place_of_box A f n) (boxes A) rows p
+    (each (Placed A f n) (λ row. is_box f n row ≡ true → unwrap_or (place_of_box A f n) row.place ≡ row.place) (λ row g e. ap (λ o. unwrap_or o row.place) (g e)) (boxes A) (placed A h f n))
+    (box-there A f n)

@@ -1,0 +1,130 @@
+-- Who is in a room, who is trained and who holds a place: by the rows that a view shows, as by the history.
+use Rattle.std.proofs.Common.{◌≡◌, ℕ, Bool, true, false, cond, not, ◌&&◌, ◌==◌, nat_le, List, [], ◌∷◌, map, filter, find, reverse, Option, Some, None, option_map, refl, sym, ap, ◌∙◌, subst}
+use Rattle.std.specs.Prelude.{unwrap_or}
+use Rattle.std.specs.List.{list_any, AllByRecursion}
+use Rattle.std.specs.List.Sorted.{IsPermutation}
+use Rattle.std.proofs.lemmas.Bool.{both_ways, and_parts, or_parts, leb-true, not-true}
+use Rattle.std.proofs.lemmas.List.Sorted.{IsPermutation-reverse}
+use Rattle.kcr_base.specs.Days.{day_of}
+use Rattle.kcr_base.specs.Same.{same_text, same_place}
+use Rattle.kcr_base.specs.declared.place.Place.{Place}
+use Rattle.kcr_base.specs.declared.place.Role.{Role}
+use Rattle.kcr_base.proofs.RowsLemmas.{filter-order}
+use Rattle.kcr_people.specs.declared.Appointment.{Appointment}
+use Rattle.kcr_people.specs.declared.Training.{Training}
+use Rattle.kcr_people.specs.declared.Withdrawal.{Withdrawal}
+use Rattle.kcr_people.specs.People.{trained_by, holder_by, holds, lasts_beyond, place_held_from_by}
+use Rattle.kcr_people.proofs.Orders.{any-same, trained-order}
+use Rattle.kcr_room.specs.declared.Stay.{Stay}
+use Rattle.kcr_room.specs.Room.{ascending}
+use Rattle.kcr_room.specs.Stays as Stays
+use Rattle.kcr_room.specs.Stays.{lasts_at, present_in_by, stays_by}
+use Rattle.kcr_room.proofs.Lists.{filter-kept}
+use Rattle.kcr_room.proofs.Agreement.{same-present}
+use Rattle.kcr_room.proofs.Orders.{present-order}
+use Rattle.kcr_room.proofs.Keeping.{present_are_in}
+use Rattle.kcr_history.specs.declared.views.View.{View}
+use Rattle.kcr_history.specs.History.{History}
+use Rattle.kcr_history.specs.Training.{trained, holder}
+use Rattle.kcr_history.specs.Room.{sheet, is_in, present}
+use Rattle.kcr_history.specs.Room as Rooms
+use Rattle.kcr_history.specs.Tables.{trainings, withdrawals, appointments}
+use Rattle.kcr_history.specs.Views.{is_stay_of}
+use Rattle.kcr_history.specs.Conditions.{has_holder_in}
+use Rattle.kcr_history.specs.Machine.{IsRegister}
+use Rattle.kcr_history.proofs.Stacked.{stacked, place-same, free-none}
+use Rattle.kcr_history.proofs.Orderly.{orderly, holder-appointments}
+use Rattle.kcr_history.proofs.Trained.{trained-rows}
+use Rattle.kcr_machine.specs.Scene.{is_in_by, is_attended_by, has_holder_in_by}
+use Rattle.kcr_machine.proofs.Shown.{find-shown}
+use Rattle.kcr_machine.proofs.Withdrawn.{ShowsTrainings, ShowsWithdrawals, trained-shown}
+
+-- THE ROOM
+
+-- the stays of the ceremony that the table has are those that are shown, in some order
+abbrev pub ShowsRoom : ℕ → List Stay → List Stay → Type 0
+ShowsRoom c table rows = IsPermutation (filter (is_stay_of c) table) (filter (is_stay_of c) rows)
+
+holds-of : (c t : ℕ) (stay : Stay) → Stays.holds c t stay ≡ true → is_stay_of c stay ≡ true
+holds-of c t stay h = (and_parts (stay.ceremony == c) (nat_le stay.since t) (and_parts ((stay.ceremony == c) && nat_le stay.since t) (lasts_at t stay.until) h).0).0
+
+present-own : (stays : List Stay) (c t : ℕ) → present_in_by (filter (is_stay_of c) stays) c t ≡ present_in_by stays c t
+present-own stays c t = ap (λ some. ascending (map (λ stay. stay.who) some)) (filter-kept (Stays.holds c t) (is_stay_of c) stays (holds-of c t))
+
+module _ (A : History) (c : ℕ) (rows : List Stay) (p : ShowsRoom c (reverse (stays_by (sheet A))) rows) where
+  -- those in the room
+  pub present-shown : (t : ℕ) → present_in_by rows c t ≡ present A c t
+  present-shown t =
+      sym (present-own rows c t)
+      ∙ present-order (filter (is_stay_of c) (reverse (stays_by (sheet A)))) (filter (is_stay_of c) rows) p c t
+      ∙ present-own (reverse (stays_by (sheet A))) c t
+      ∙ present-order (stays_by (sheet A)) (reverse (stays_by (sheet A))) (IsPermutation-reverse (stays_by (sheet A))) c t
+      ∙ same-present (sheet A) c t
+
+  -- whether a person is in the room
+  pub in-shown : (who : List ℕ) (t : ℕ) → is_in_by rows who c t ≡ is_in A who c t
+  in-shown who t = ap (list_any (same_text who)) (present-shown t) ∙ present_are_in (sheet A) who c t
+
+-- TRAINING
+
+-- whether a person is trained, by all trainings and withdrawals
+pub trained-all : (A : History) → IsRegister A → (us : List Training) (vs : List Withdrawal) → IsPermutation (trainings A) us → IsPermutation (withdrawals A) vs
+    → (who : List ℕ) (role : Role) (day : ℕ) → trained_by us vs who role day ≡ trained A who role day
+trained-all A h us vs p q who role day = trained-order (trainings A) us (withdrawals A) vs p q who role day ∙ trained-rows A h who role day
+
+-- the same by those of the person
+pub trained-own : (A : History) → IsRegister A → (us : List Training) (vs : List Withdrawal) → (who : List ℕ) → ShowsTrainings who (trainings A) us → ShowsWithdrawals who (withdrawals A) vs
+    → (role : Role) (day : ℕ) → trained_by us vs who role day ≡ trained A who role day
+trained-own A h us vs who p q role day = trained-shown who (trainings A) us (withdrawals A) vs p q role day ∙ trained-rows A h who role day
+
+-- whether somebody in the room is trained
+pub attended-shown : (A : History) → IsRegister A → (view : View) (c : ℕ) → ShowsRoom c (reverse (stays_by (sheet A))) view.stays.items
+    → IsPermutation (trainings A) view.trainings.items → IsPermutation (withdrawals A) view.withdrawals.items
+    → (role : Role) (t : ℕ) → is_attended_by view role c t ≡ Rooms.is_attended_by A role c t
+attended-shown A h view c s p q role t =
+    any-same (λ who. trained_by view.trainings.items view.withdrawals.items who role (day_of t)) (λ who. trained A who role (day_of t)) (λ who. trained-all A h view.trainings.items view.withdrawals.items p q who role (day_of t)) (present_in_by view.stays.items c t)
+    ∙ ap (list_any (λ who. trained A who role (day_of t))) (present-shown A c view.stays.items s t)
+
+-- HOLDERS
+
+-- a row that holds the place on the day is the only one of the older and it
+only-holder : (place : Place) (day : ℕ) (r : Appointment) (rows : List Appointment) → stacked rows ≡ true → find (holds place day) rows ≡ Some r → AllByRecursion (λ row. holds place day row ≡ true → row ≡ r) rows
+only-holder place day r [] s e = tt
+only-holder place day r (row ∷ rows) s e = by_test (holds place day row) refl e (only-holder place day r rows parts.1)
+  where
+    parts : (not (place_held_from_by rows row.place row.since) ≡ true) × (stacked rows ≡ true)
+    parts = and_parts (not (place_held_from_by rows row.place row.since)) (stacked rows) s
+
+    nobody_else : (olds : List Appointment) → list_any (holds place day) olds ≡ false → AllByRecursion (λ old. holds place day old ≡ true → old ≡ r) olds
+    nobody_else [] n = tt
+    nobody_else (old ∷ olds) n = let q = or_parts (holds place day old) (list_any (holds place day) olds) n in (λ k. absurd (both_ways _ q.0 k), nobody_else olds q.1)
+
+    free : holds place day row ≡ true → list_any (holds place day) rows ≡ false
+    free k =
+        let a = and_parts (same_place row.place place && nat_le row.since day) (lasts_beyond day row) k in
+        let b = and_parts (same_place row.place place) (nat_le row.since day) a.0 in
+        free-none place row.since day rows (leb-true row.since day b.1)
+        (subst (λ at. place_held_from_by rows at row.since ≡ false) (place-same row.place place b.0) (not-true (place_held_from_by rows row.place row.since) parts.0))
+
+    by_test : (b : Bool) → holds place day row ≡ b → cond b (Some row) (find (holds place day) rows) ≡ Some r → (find (holds place day) rows ≡ Some r → AllByRecursion (λ old. holds place day old ≡ true → old ≡ r) rows)
+        → (holds place day row ≡ true → row ≡ r) × AllByRecursion (λ old. holds place day old ≡ true → old ≡ r) rows
+    by_test true k g ih = (λ _. (let z : Some row ≡ Some r = g in cc), nobody_else rows (free k))
+    by_test false k g ih = (λ z. absurd (both_ways _ k z), ih g)
+
+-- who holds a place, by all appointments
+pub holder-shown : (A : History) → IsRegister A → (rows : List Appointment) → IsPermutation (appointments A) rows → (place : Place) (day : ℕ) → holder_by rows place day ≡ holder A place day
+holder-shown A h rows p place day =
+    ap (option_map (λ row. row.who))
+    (find-shown (holds place day) (λ row. true) (λ row e. refl) (appointments A) rows (filter-order (λ row. true) (appointments A) rows p) (λ r e. only-holder place day r (appointments A) (orderly A h).0 e))
+    ∙ holder-appointments A h place day
+
+-- whether the place has a holder, who is in the room
+pub holder_in-shown : (A : History) → IsRegister A → (view : View) (c : ℕ) → ShowsRoom c (reverse (stays_by (sheet A))) view.stays.items → IsPermutation (appointments A) view.appointments.items
+    → (place : Place) (t : ℕ) → has_holder_in_by view place c t ≡ has_holder_in A place c t
+holder_in-shown A h view c s p place t =
+    ap (λ o. unwrap_or (option_map (λ who. is_in_by view.stays.items who c t) o) false) (holder-shown A h view.appointments.items p place (day_of t))
+    ∙ by_holder (holder A place (day_of t))
+  where
+    by_holder : (o : Option (List ℕ)) → unwrap_or (option_map (λ who. is_in_by view.stays.items who c t) o) false ≡ unwrap_or (option_map (λ who. is_in A who c t) o) false
+    by_holder None = refl
+    by_holder (Some who) = in-shown A c view.stays.items s who t

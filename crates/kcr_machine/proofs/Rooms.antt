@@ -1,0 +1,187 @@
+-- Rows added for one ceremony leave the rooms of the others as they are, and its own room before their moment.
+use Rattle.std.proofs.Common.{◌≡◌, ℕ, ◌<◌, ◌≤◌, Bool, true, false, cond, not, ◌||◌, ◌&&◌, ◌==◌, nat_le, nat_lt, List, [], ◌∷◌, ◌++◌, map, filter, Option, Some, None, refl, sym, ap, ◌∙◌, arith}
+use Rattle.std.specs.List.{list_any, list_all}
+use Rattle.std.proofs.lemmas.Bool.{true≢false, or_parts, and_parts, and_right, not-false, eqb-true, leb-true, leb-false, le-leb, lt-leb, le-ltb, ltb-false}
+use Rattle.std.proofs.lemmas.List.Elements.{filter-append}
+use Rattle.kcr_base.specs.Same.{same_text, is_before}
+use Rattle.kcr_room.specs.declared.SheetRow.{SheetRow}
+use Rattle.kcr_room.specs.declared.Way.{Way}
+use Rattle.kcr_room.specs.declared.Way.TheVariants as Ways
+use Rattle.kcr_room.specs.Room.{is_enter, enters, later, last_onto, last_row, is_of, last_enters, in_by, last_row_of, present_by}
+use Rattle.kcr_room.specs.Adding.{is_no_turn, is_out_of_turn, is_out_of_turn_by, new_row}
+use Rattle.kcr_room.specs.Laws.{are_rising}
+use Rattle.kcr_room.proofs.Agreement.{same-is, same-itself, same-turned, listed, last-above}
+use Rattle.kcr_room.proofs.Keeping.{present_are_in}
+use Rattle.kcr_room.proofs.Rising.{present_are_rising}
+use Rattle.kcr_room.proofs.Orders.{before-turned}
+
+-- what passes a test for all of a list passes it for whatever is the same as one of them
+one_of : {X : Type 0} (same : X → X → Bool) → ((a b : X) → same a b ≡ true → a ≡ b) → (y : X) (good : X → Bool) (xs : List X) → list_any (same y) xs ≡ true → list_all good xs ≡ true → good y ≡ true
+one_of same sound y good [] a g = absurd (true≢false (sym a))
+one_of same sound y good (x ∷ xs) a g = by_test (same y x) refl a (one_of same sound y good xs)
+  where
+    parts : (good x ≡ true) × (list_all good xs ≡ true)
+    parts = and_parts (good x) (list_all good xs) g
+
+    by_test : (b : Bool) → same y x ≡ b → (b || list_any (same y) xs) ≡ true → (list_any (same y) xs ≡ true → list_all good xs ≡ true → good y ≡ true) → good y ≡ true
+    by_test true e h ih = ap good (sound y x e) ∙ parts.0
+    by_test false e h ih = ih h parts.1
+
+-- none of the rows is an `in` of the ceremony, so the last of them is none
+none_enters : (other : ℕ) (last : Option SheetRow) (rows : List SheetRow) → last_enters other last ≡ false → list_any (enters other) rows ≡ false → last_enters other (last_onto last rows) ≡ false
+none_enters other last [] l h = l
+none_enters other last (row ∷ rows) l h = none_enters other (later last row) rows (by_last last l) parts.1
+  where
+    parts : (enters other row ≡ false) × (list_any (enters other) rows ≡ false)
+    parts = or_parts (enters other row) (list_any (enters other) rows) h
+
+    by_last : (o : Option SheetRow) → last_enters other o ≡ false → last_enters other (later o row) ≡ false
+    by_last None e = parts.0
+    by_last (Some old) e = by_test (nat_lt row.at old.at)
+      where
+        by_test : (b : Bool) → last_enters other (cond b (Some old) (Some row)) ≡ false
+        by_test true = e
+        by_test false = parts.0
+
+onto_append : (last : Option SheetRow) (rows more : List SheetRow) → last_onto last (rows ++ more) ≡ last_onto (last_onto last rows) more
+onto_append last [] more = refl
+onto_append last (row ∷ rows) more = onto_append (later last row) rows more
+
+-- new rows are not of a moment before theirs
+none_yet : (c : ℕ) (way : Way) (at : ℕ) (who : List ℕ) (t : ℕ) (people : List (List ℕ)) → nat_le at t ≡ false → filter (is_of who t) (map (new_row c way at) people) ≡ []
+none_yet c way at who t [] h = refl
+none_yet c way at who t (p ∷ people) h = rw (and_right (same_text p who) (nat_le at t) h) (none_yet c way at who t people h)
+
+-- nor of somebody who is not among the people
+none_of : (c : ℕ) (way : Way) (at : ℕ) (who : List ℕ) (t : ℕ) (people : List (List ℕ)) → list_any (same_text who) people ≡ false → filter (is_of who t) (map (new_row c way at) people) ≡ []
+none_of c way at who t [] h = refl
+none_of c way at who t (p ∷ people) h =
+    let q = or_parts (same_text who p) (list_any (same_text who) people) h in
+    rw (sym (same-turned who p) ∙ q.0) (none_of c way at who t people q.1)
+
+-- new rows are of the one ceremony
+none_other : (c other : ℕ) (way : Way) (at : ℕ) (who : List ℕ) (t : ℕ) (people : List (List ℕ)) → (c == other) ≡ false → list_any (enters other) (filter (is_of who t) (map (new_row c way at) people)) ≡ false
+none_other c other way at who t [] h = refl
+none_other c other way at who t (p ∷ people) h = by_test (is_of who t (new_row c way at p)) (none_other c other way at who t people h)
+  where
+    by_test : (b : Bool) → list_any (enters other) (filter (is_of who t) (map (new_row c way at) people)) ≡ false
+        → list_any (enters other) (cond b (new_row c way at p ∷ filter (is_of who t) (map (new_row c way at) people)) (filter (is_of who t) (map (new_row c way at) people))) ≡ false
+    by_test true g = rw (and_right (is_enter way) (c == other) h, g) refl
+    by_test false g = g
+
+-- the same rows of a person, where none is later than t
+all_of : (who : List ℕ) (m t : ℕ) (rows : List SheetRow) → m ≤ t → list_any (λ row. nat_lt m row.at) (filter (λ row. same_text row.who who) rows) ≡ false → filter (is_of who t) rows ≡ filter (λ row. same_text row.who who) rows
+all_of who m t [] l h = refl
+all_of who m t (row ∷ rows) l h = by_same (same_text row.who who) h (all_of who m t rows l)
+  where
+    by_same : (b : Bool) → list_any (λ r. nat_lt m r.at) (cond b (row ∷ filter (λ r. same_text r.who who) rows) (filter (λ r. same_text r.who who) rows)) ≡ false
+        → (list_any (λ r. nat_lt m r.at) (filter (λ r. same_text r.who who) rows) ≡ false → filter (is_of who t) rows ≡ filter (λ r. same_text r.who who) rows)
+        → cond (b && nat_le row.at t) (row ∷ filter (is_of who t) rows) (filter (is_of who t) rows) ≡ cond b (row ∷ filter (λ r. same_text r.who who) rows) (filter (λ r. same_text r.who who) rows)
+    by_same false g ih = ih g
+    by_same true g ih =
+        let q = or_parts (nat_lt m row.at) (list_any (λ r. nat_lt m r.at) (filter (λ r. same_text r.who who) rows)) g in
+        rw (le-leb row.at t (omega (arith, ltb-false m row.at q.0)), ih q.1) refl
+
+-- WHOSE TURN IT IS
+
+-- nobody's last row is later than t, where the new rows are not
+not_behind : (c : ℕ) (way : Way) (at t : ℕ) (last : Option SheetRow) → is_out_of_turn way c at last ≡ false → nat_le at t ≡ true → list_any (λ row. nat_lt t row.at) (listed last) ≡ false
+not_behind c way at t None h l = refl
+not_behind c way at t (Some row) h l =
+    let q = or_parts (nat_le at row.at) (is_no_turn way c row) h in
+    rw (le-ltb t row.at (omega (arith, leb-true at t l, leb-false at row.at q.0))) refl
+
+-- whoever has a turn for the one ceremony is in no other's room
+elsewhere : (c other : ℕ) (way : Way) (at : ℕ) (last : Option SheetRow) → (c == other) ≡ false → is_out_of_turn way c at last ≡ false → last_enters other last ≡ false
+elsewhere c other way at None d h = refl
+elsewhere c other Ways.Enter at (Some row) d h = rw (or_parts (nat_le at row.at) (is_enter row.way) h).1 refl
+elsewhere c other Ways.Leave at (Some row) d h =
+    let e = not-false (is_enter row.way && row.ceremony == c) (or_parts (nat_le at row.at) (not (is_enter row.way && row.ceremony == c)) h).1 in
+    let f : row.ceremony ≡ c = eqb-true row.ceremony c (and_parts (is_enter row.way) (row.ceremony == c) e).1 in
+    and_right (is_enter row.way) (row.ceremony == other) (ap (λ n. n == other) f ∙ d)
+
+-- where all of a person's rows are at most t, the last of them is the last one at t
+last_at : (rows : List SheetRow) (who : List ℕ) (t : ℕ) → list_any (λ row. nat_lt t row.at) (listed (last_row_of rows who)) ≡ false → last_row (filter (is_of who t) rows) ≡ last_row_of rows who
+last_at rows who t h =
+    ap last_row (all_of who t t rows (omega arith) (sym (last-above t (filter (λ row. same_text row.who who) rows) None) ∙ h))
+
+-- everybody has the turn
+abbrev pub HaveTurns : List SheetRow → ℕ → Way → ℕ → List (List ℕ) → Type 0
+HaveTurns rows c way at people = (p : List ℕ) → list_any (same_text p) people ≡ true → is_out_of_turn_by rows c way at p ≡ false
+
+split_in : (rows more : List SheetRow) (who : List ℕ) (c t : ℕ) → in_by (rows ++ more) who c t ≡ last_enters c (last_onto (last_row (filter (is_of who t) rows)) (filter (is_of who t) more))
+split_in rows more who c t =
+    ap (λ some. last_enters c (last_row some)) (filter-append (is_of who t) rows more)
+    ∙ ap (last_enters c) (onto_append None (filter (is_of who t) rows) (filter (is_of who t) more))
+
+unchanged : (rows more : List SheetRow) (who : List ℕ) (c t : ℕ) → filter (is_of who t) more ≡ [] → in_by (rows ++ more) who c t ≡ in_by rows who c t
+unchanged rows more who c t h = split_in rows more who c t ∙ ap (λ some. last_enters c (last_onto (last_row (filter (is_of who t) rows)) some)) h
+
+-- before the moment of new rows everybody is where they were
+pub in_before : (rows : List SheetRow) (c : ℕ) (way : Way) (at : ℕ) (people : List (List ℕ)) (who : List ℕ) (other t : ℕ) → t < at → in_by (rows ++ map (new_row c way at) people) who other t ≡ in_by rows who other t
+in_before rows c way at people who other t l = unchanged rows (map (new_row c way at) people) who other t (none_yet c way at who t people (lt-leb at t l))
+
+-- in another ceremony's room everybody is where they were, at every moment
+pub in_other : (rows : List SheetRow) (c : ℕ) (way : Way) (at : ℕ) (people : List (List ℕ)) (who : List ℕ) (other t : ℕ) → HaveTurns rows c way at people → (c == other) ≡ false
+    → in_by (rows ++ map (new_row c way at) people) who other t ≡ in_by rows who other t
+in_other rows c way at people who other t turns d = by_moment (nat_le at t) refl (list_any (same_text who) people) refl
+  where
+    by_moment : (b : Bool) → nat_le at t ≡ b → (m : Bool) → list_any (same_text who) people ≡ m → in_by (rows ++ map (new_row c way at) people) who other t ≡ in_by rows who other t
+    by_moment false e m k = unchanged rows (map (new_row c way at) people) who other t (none_yet c way at who t people e)
+    by_moment true e false k = unchanged rows (map (new_row c way at) people) who other t (none_of c way at who t people k)
+    by_moment true e true k =
+        let turn = turns who k in
+        let last = last_at rows who t (not_behind c way at t (last_row_of rows who) turn e) in
+        let before : last_enters other (last_row (filter (is_of who t) rows)) ≡ false = ap (last_enters other) last ∙ elsewhere c other way at (last_row_of rows who) d turn in
+        split_in rows (map (new_row c way at) people) who other t
+        ∙ none_enters other (last_row (filter (is_of who t) rows)) (filter (is_of who t) (map (new_row c way at) people)) before (none_other c other way at who t people d)
+        ∙ sym before
+
+-- LISTS OF PEOPLE IN BYTE ORDER
+
+not_itself : (x : List ℕ) (xs : List (List ℕ)) → list_all (is_before x) xs ≡ true → list_any (same_text x) xs ≡ false
+not_itself x xs h = by_test (list_any (same_text x) xs) refl
+  where
+    by_test : (b : Bool) → list_any (same_text x) xs ≡ b → b ≡ false
+    by_test false e = refl
+    by_test true e =
+        let k = one_of same_text same-is x (is_before x) xs e h in
+        absurd (true≢false (sym k ∙ before-turned x x k))
+
+-- two rising lists of the same people are one list
+rising_unique : (xs ys : List (List ℕ)) → are_rising xs ≡ true → are_rising ys ≡ true → ((who : List ℕ) → list_any (same_text who) xs ≡ list_any (same_text who) ys) → xs ≡ ys
+rising_unique [] [] r s h = refl
+rising_unique [] (y ∷ ys) r s h = absurd (true≢false (sym (ap (λ b. b || list_any (same_text y) ys) (same-itself y)) ∙ sym (h y)))
+rising_unique (x ∷ xs) [] r s h = absurd (true≢false (sym (ap (λ b. b || list_any (same_text x) xs) (same-itself x)) ∙ h x))
+rising_unique (x ∷ xs) (y ∷ ys) r s h = by_head (same_text x y) refl (rising_unique xs ys p.1 q.1)
+  where
+    p : (list_all (is_before x) xs ≡ true) × (are_rising xs ≡ true)
+    p = and_parts (list_all (is_before x) xs) (are_rising xs) r
+
+    q : (list_all (is_before y) ys ≡ true) × (are_rising ys ≡ true)
+    q = and_parts (list_all (is_before y) ys) (are_rising ys) s
+
+    tails : x ≡ y → (who : List ℕ) → list_any (same_text who) xs ≡ list_any (same_text who) ys
+    tails e who = by_who (same_text who x) refl
+      where
+        by_who : (b : Bool) → same_text who x ≡ b → list_any (same_text who) xs ≡ list_any (same_text who) ys
+        by_who true k =
+            let is : who ≡ x = same-is who x k in
+            ap (λ w. list_any (same_text w) xs) is ∙ not_itself x xs p.0 ∙ sym (ap (λ w. list_any (same_text w) ys) (is ∙ e) ∙ not_itself y ys q.0)
+        by_who false k =
+            sym (ap (λ b. b || list_any (same_text who) xs) k) ∙ h who ∙ ap (λ b. b || list_any (same_text who) ys) (ap (λ z. same_text who z) (sym e) ∙ k)
+
+    by_head : (b : Bool) → same_text x y ≡ b → (((who : List ℕ) → list_any (same_text who) xs ≡ list_any (same_text who) ys) → xs ≡ ys) → x ∷ xs ≡ y ∷ ys
+    by_head true e ih = let k = same-is x y e in λ i. k i ∷ ih (tails k) i
+    by_head false e ih =
+        let there : list_any (same_text x) ys ≡ true = sym (ap (λ b. b || list_any (same_text x) ys) e) ∙ sym (h x) ∙ ap (λ b. b || list_any (same_text x) xs) (same-itself x) in
+        let here : list_any (same_text y) xs ≡ true = sym (ap (λ b. b || list_any (same_text y) xs) (sym (same-turned x y) ∙ e)) ∙ h y ∙ ap (λ b. b || list_any (same_text y) ys) (same-itself y) in
+        let first = one_of same_text same-is x (is_before y) ys there q.0 in
+        let second = one_of same_text same-is y (is_before x) xs here p.0 in
+        absurd (true≢false (sym second ∙ before-turned y x first))
+
+-- rooms in which everybody is alike have the same people
+pub same_room : (a b : List SheetRow) (c t : ℕ) → ((who : List ℕ) → in_by a who c t ≡ in_by b who c t) → present_by a c t ≡ present_by b c t
+same_room a b c t h =
+    rising_unique (present_by a c t) (present_by b c t) (present_are_rising a c t) (present_are_rising b c t)
+    (λ who. present_are_in a who c t ∙ h who ∙ sym (present_are_in b who c t))

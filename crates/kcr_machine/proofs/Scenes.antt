@@ -1,0 +1,324 @@
+-- What the rows of a view say of a ceremony is what the history says of it.
+use Rattle.std.proofs.Common.{◌≡◌, ℕ, Bool, true, false, cond, not, ◌||◌, ◌&&◌, eqb, nat_lt, List, [], ◌∷◌, map, filter, Option, Some, None, option_map, is_none, refl, sym, ap, ◌∙◌, subst, arith}
+use Rattle.std.specs.Prelude.{is_some, unwrap_or}
+use Rattle.std.specs.List.{list_any, cons_option}
+use Rattle.std.specs.List.Sorted.{IsPermutation}
+use Rattle.std.specs.Result.{result_unwrap_or}
+use Rattle.std.proofs.lemmas.Bool.{true≢false, false≢true, eqb-true, eq-eqb, and_parts, ltb-false}
+use Rattle.kcr_base.specs.Rows.{put, or_else}
+use Rattle.kcr_base.specs.Refuse.{when, first_of}
+use Rattle.kcr_base.specs.declared.place.Facility.TheVariants.{East}
+use Rattle.kcr_base.specs.declared.refusal.Refusal.{Refusal}
+use Rattle.kcr_base.specs.declared.refusal.Refusal.TheVariants.{Unknown, State, Late}
+use Rattle.kcr_base.specs.declared.refusal.Thing.TheVariants as Things
+use Rattle.kcr_base.proofs.RefuseLemmas.{none_holds, unmet}
+use Rattle.kcr_custody.specs.declared.Scene.{Scene}
+use Rattle.kcr_custody.specs.Custody
+use Rattle.kcr_custody.specs.Custody.{not_ready}
+use Rattle.kcr_script.specs.Reading.{script_of}
+use Rattle.kcr_history.specs.declared.commands.Act.{Act}
+use Rattle.kcr_history.specs.declared.commands.Act.TheVariants.{AddItem, Plan, Open, Sign, Except, TurnSafe, Seal, Take, Put, Cut}
+use Rattle.kcr_history.specs.declared.commands.Entry.{Entry}
+use Rattle.kcr_history.specs.declared.rows.CeremonyRow.{CeremonyRow}
+use Rattle.kcr_history.specs.declared.rows.CeremonyState.TheVariants as States
+use Rattle.kcr_history.specs.declared.rows.MarkRow.{MarkRow}
+use Rattle.kcr_history.specs.declared.views.View.{View}
+use Rattle.kcr_history.specs.History.{History, all_said, greatest, max_with}
+use Rattle.kcr_history.specs.Ceremonies.{Planned, planned_as, plan_of, is_ceremony, facility_of, day_planned, opening, opened, closed, is_open, marked, mark, opened_number}
+use Rattle.kcr_history.specs.Tables.{planned_number, ceremony_row, ceremonies, mark_row, marks}
+use Rattle.kcr_history.specs.Changes.{same_mark}
+use Rattle.kcr_history.specs.Views.{is_of_number, is_mark_of}
+use Rattle.kcr_history.specs.Conditions.{conditions, fault, is_full, full, not_open, is_late, late}
+use Rattle.kcr_history.specs.Machine.{IsRegister}
+use Rattle.kcr_history.proofs.Steps.{took}
+use Rattle.kcr_machine.specs.Scene.{ceremony_by, facility_by, day_by, is_open_state, is_open_row, mark_by, scene_by}
+use Rattle.kcr_machine.proofs.Keyed.{some_if, any-map, find-view, put-at, put-first}
+
+pub met : (b : Bool) (r : Refusal) → when (not b) r ≡ None → b ≡ true
+met true r h = refl
+met false r h = absurd (let e : Some r ≡ None = h in cc)
+
+pub turned : (a b : ℕ) → eqb b a ≡ false → eqb a b ≡ false
+turned a b h = by_test (eqb a b) refl
+  where
+    by_test : (x : Bool) → eqb a b ≡ x → x ≡ false
+    by_test false e = refl
+    by_test true e = absurd (true≢false (sym (eq-eqb b a (sym (eqb-true a b e))) ∙ h))
+
+-- THE CEREMONY
+
+-- a ceremony has a row where it was planned
+planned_after : (act : Act) (c : ℕ) (numbers : List ℕ) (plan : Option Planned) → list_any (λ k. eqb k c) numbers ≡ is_some plan
+    → list_any (λ k. eqb k c) (cons_option (planned_number act) numbers) ≡ is_some (or_else (planned_as c act) plan)
+planned_after (Plan number facility day script) c numbers plan ih = by_test (eqb number c) (record { facility = facility; day = day; steps = result_unwrap_or (script_of script) [] })
+  where
+    by_test : (b : Bool) (new : Planned) → (b || list_any (λ k. eqb k c) numbers) ≡ is_some (or_else (cond b (Some new) None) plan)
+    by_test true new = refl
+    by_test false new = ih
+planned_after act c numbers plan ih = ih
+
+pub planned-number : (A : History) (c : ℕ) → list_any (λ k. eqb k c) (all_said planned_number A) ≡ is_ceremony A c
+planned-number [] c = refl
+planned-number (entry ∷ A) c = planned_after entry.command.act c (all_said planned_number A) (plan_of A c) (planned-number A c)
+
+abbrev pub ShowsCeremony : ℕ → List CeremonyRow → List CeremonyRow → Type 0
+ShowsCeremony c table rows = IsPermutation (filter (is_of_number c) table) (filter (is_of_number c) rows)
+
+-- the row of the ceremony, where it was planned
+pub ceremony-shown : (A : History) (c : ℕ) (rows : List CeremonyRow) → ShowsCeremony c (ceremonies A) rows → ceremony_by rows c ≡ some_if (is_ceremony A c) (ceremony_row A c)
+ceremony-shown A c rows p =
+    find-view (is_of_number c) (is_of_number c) (ceremony_row A) (ceremony_row A c) (λ x e. e) (λ k e. ap (ceremony_row A) (eqb-true k c e)) (all_said planned_number A) rows p
+    ∙ ap (λ b. some_if b (ceremony_row A c)) (planned-number A c)
+
+-- THE STATE
+
+-- only a planned ceremony is opened
+opened_planned_after : (A : History) (act : Act) (c : ℕ) → fault A act ≡ None → (is_some (opened A c) ≡ true → is_ceremony A c ≡ true)
+    → is_some (or_else (opening c act) (opened A c)) ≡ true → is_some (or_else (planned_as c act) (plan_of A c)) ≡ true
+opened_planned_after A (Plan number facility day script) c f ih h = still (planned_as c (Plan number facility day script)) (plan_of A c) (ih h)
+  where
+    still : (o p : Option Planned) → is_some p ≡ true → is_some (or_else o p) ≡ true
+    still None p e = e
+    still (Some x) p e = refl
+opened_planned_after A (Open d at) c f ih h = by_test (eqb d c) refl h
+  where
+    by_test : (b : Bool) → eqb d c ≡ b → is_some (or_else (cond b (Some at) None) (opened A c)) ≡ true → is_ceremony A c ≡ true
+    by_test true e g = subst (λ c. is_ceremony A c ≡ true) (eqb-true d c e) (met (is_ceremony A d) (Unknown (Things.Ceremony d)) (none_holds (conditions A (Open d at)) f).0)
+    by_test false e g = ih g
+opened_planned_after A act c f ih h = ih h
+
+pub opened-planned : (A : History) → IsRegister A → (c : ℕ) → is_some (opened A c) ≡ true → is_ceremony A c ≡ true
+opened-planned [] h c e = absurd (false≢true e)
+opened-planned (entry ∷ A) h c e = opened_planned_after A entry.command.act c (took A entry h.0).no_fault (opened-planned A h.1 c) e
+
+-- the state of a row tells whether the ceremony is open
+pub open-state : (A : History) (c : ℕ) → is_open_row (Some (ceremony_row A c)) ≡ is_open A c
+open-state A c = by_both (closed A c) (opened A c)
+  where
+    by_both : (end begin : Option ℕ) → is_open_state (cond (is_some end) States.Closed (cond (is_some begin) States.Open States.Planned)) ≡ (is_some begin && is_none end)
+    by_both None None = refl
+    by_both None (Some at) = refl
+    by_both (Some at) None = refl
+    by_both (Some at) (Some now) = refl
+
+never-open : (A : History) → IsRegister A → (c : ℕ) → is_ceremony A c ≡ false → is_open A c ≡ false
+never-open A h c e = by_test (is_some (opened A c)) refl
+  where
+    by_test : (b : Bool) → is_some (opened A c) ≡ b → (b && is_none (closed A c)) ≡ false
+    by_test true o = absurd (true≢false (sym (opened-planned A h c o) ∙ e))
+    by_test false o = refl
+
+module _ (A : History) (c : ℕ) (rows : List CeremonyRow) (p : ShowsCeremony c (ceremonies A) rows) where
+  -- whether there is such a ceremony
+  pub known-shown : is_some (ceremony_by rows c) ≡ is_ceremony A c
+  known-shown = ap is_some (ceremony-shown A c rows p) ∙ by_test (is_ceremony A c)
+    where
+      by_test : (b : Bool) → is_some (some_if b (ceremony_row A c)) ≡ b
+      by_test true = refl
+      by_test false = refl
+
+  -- its facility
+  pub facility-shown : facility_by (ceremony_by rows c) ≡ facility_of A c
+  facility-shown = ap facility_by (ceremony-shown A c rows p) ∙ by_plan (plan_of A c)
+    where
+      by_plan : (o : Option Planned) → facility_by (some_if (is_some o) (record (ceremony_row A c) { facility = unwrap_or (option_map (λ plan. plan.facility) o) East })) ≡ unwrap_or (option_map (λ plan. plan.facility) o) East
+      by_plan None = refl
+      by_plan (Some plan) = refl
+
+  -- its day
+  pub day-shown : day_by (ceremony_by rows c) ≡ day_planned A c
+  day-shown = ap day_by (ceremony-shown A c rows p) ∙ by_plan (plan_of A c)
+    where
+      by_plan : (o : Option Planned) → day_by (some_if (is_some o) (record (ceremony_row A c) { day = unwrap_or (option_map (λ plan. plan.day) o) 0 })) ≡ unwrap_or (option_map (λ plan. plan.day) o) 0
+      by_plan None = refl
+      by_plan (Some plan) = refl
+
+  -- whether it is open
+  pub is_open-shown : IsRegister A → is_open_row (ceremony_by rows c) ≡ is_open A c
+  is_open-shown h = ap is_open_row (ceremony-shown A c rows p) ∙ by_test (is_ceremony A c) refl
+    where
+      by_test : (b : Bool) → is_ceremony A c ≡ b → is_open_row (some_if b (ceremony_row A c)) ≡ is_open A c
+      by_test true e = open-state A c
+      by_test false e = sym (never-open A h c e)
+
+-- MARKS
+
+-- the mark with one more command
+abbrev pub mark_with : Option (ℕ × ℕ) → ℕ → Option ℕ → Option ℕ
+mark_with None c m = m
+mark_with (Some new) c m = cond (eqb new.0 c) (Some (max_with new.1 m)) m
+
+greatest_with : (o : Option (ℕ × ℕ)) (c : ℕ) (ms : List (ℕ × ℕ)) → greatest (map (λ m. m.1) (filter (λ m. eqb m.0 c) (cons_option o ms))) ≡ mark_with o c (greatest (map (λ m. m.1) (filter (λ m. eqb m.0 c) ms)))
+greatest_with None c ms = refl
+greatest_with (Some new) c ms = by_test (eqb new.0 c)
+  where
+    by_test : (b : Bool) → greatest (map (λ m. m.1) (cond b (new ∷ filter (λ m. eqb m.0 c) ms) (filter (λ m. eqb m.0 c) ms))) ≡ cond b (Some (max_with new.1 (greatest (map (λ m. m.1) (filter (λ m. eqb m.0 c) ms))))) (greatest (map (λ m. m.1) (filter (λ m. eqb m.0 c) ms)))
+    by_test true = refl
+    by_test false = refl
+
+pub mark-after : (A : History) (entry : Entry) (c : ℕ) → mark (entry ∷ A) c ≡ mark_with (marked entry.command.act) c (mark A c)
+mark-after A entry c = greatest_with (marked entry.command.act) c (all_said marked A)
+
+-- an act that is marked, but for an opening, is in an open ceremony and not before its mark
+abbrev pub IsReady : History → Option (ℕ × ℕ) → Option ℕ → Type 0
+IsReady A (Some new) None = (is_open A new.0 ≡ true) × (late A new.0 new.1 ≡ None)
+IsReady A m o = Unit {0}
+
+pub ready : (A : History) (act : Act) → fault A act ≡ None → IsReady A (marked act) (opened_number act)
+ready A (Sign c k at) f = let n = none_holds (conditions A (Sign c k at)) f in (met (is_open A c) State n.1.1.0, n.1.1.1.0)
+ready A (Except c text pass at) f = let n = none_holds (conditions A (Except c text pass at)) f in (met (is_open A c) State n.1.0, n.1.1.0)
+ready A (AddItem c item at) f = let n = none_holds (conditions A (AddItem c item at)) f in (met (is_open A c) State n.1.1.0, n.1.1.1.0)
+ready A (TurnSafe c safe state by at) f = let n = none_holds (conditions A (TurnSafe c safe state by at)) f in (met (is_open A c) State n.1.1.0, n.1.1.1.0)
+ready A (Seal c serial items at) f = let n = none_holds (conditions A (Seal c serial items at)) f in (met (is_open A c) State n.1.1.1.0, n.1.1.1.1.0)
+ready A (Take c serial at) f = let n = none_holds (conditions A (Take c serial at)) f in (met (is_open A c) State n.1.1.0, n.1.1.1.0)
+ready A (Put c serial to at) f = let n = none_holds (conditions A (Put c serial to at)) f in (met (is_open A c) State n.1.1.1.0, n.1.1.1.1.0)
+ready A (Cut c serial at) f = let n = none_holds (conditions A (Cut c serial at)) f in (met (is_open A c) State n.1.1.0, n.1.1.1.0)
+ready A act f = tt
+
+open-opened : (A : History) (c : ℕ) → is_open A c ≡ true → is_some (opened A c) ≡ true
+open-opened A c e = (and_parts (is_some (opened A c)) (is_none (closed A c)) e).0
+
+-- a ceremony has a mark where it was opened
+mark_stays : (A : History) (c : ℕ) (o : Option (ℕ × ℕ)) → IsReady A o None → is_some (mark A c) ≡ is_some (opened A c) → is_some (mark_with o c (mark A c)) ≡ is_some (opened A c)
+mark_stays A c None r ih = ih
+mark_stays A c (Some new) r ih = by_test (eqb new.0 c) refl
+  where
+    by_test : (b : Bool) → eqb new.0 c ≡ b → is_some (cond b (Some (max_with new.1 (mark A c))) (mark A c)) ≡ is_some (opened A c)
+    by_test true e = sym (open-opened A c (subst (λ c. is_open A c ≡ true) (eqb-true new.0 c e) r.0))
+    by_test false e = ih
+
+marked_opened_after : (A : History) (act : Act) (c : ℕ) → fault A act ≡ None → is_some (mark A c) ≡ is_some (opened A c) → is_some (mark_with (marked act) c (mark A c)) ≡ is_some (or_else (opening c act) (opened A c))
+marked_opened_after A (Open d at) c f ih = by_test (eqb d c)
+  where
+    by_test : (b : Bool) → is_some (cond b (Some (max_with at (mark A c))) (mark A c)) ≡ is_some (or_else (cond b (Some at) None) (opened A c))
+    by_test true = refl
+    by_test false = ih
+marked_opened_after A act c f ih = mark_stays A c (marked act) (ready A act f) ih
+
+pub marked-opened : (A : History) → IsRegister A → (c : ℕ) → is_some (mark A c) ≡ is_some (opened A c)
+marked-opened [] h c = refl
+marked-opened (entry ∷ A) h c = ap is_some (mark-after A entry c) ∙ marked_opened_after A entry.command.act c (took A entry h.0).no_fault (marked-opened A h.1 c)
+
+-- a ceremony has a row of marks where it was opened
+opened_after : (act : Act) (c : ℕ) (numbers : List ℕ) (o : Option ℕ) → list_any (λ k. eqb k c) numbers ≡ is_some o
+    → list_any (λ k. eqb k c) (cons_option (opened_number act) numbers) ≡ is_some (or_else (opening c act) o)
+opened_after (Open d at) c numbers o ih = by_test (eqb d c)
+  where
+    by_test : (b : Bool) → (b || list_any (λ k. eqb k c) numbers) ≡ is_some (or_else (cond b (Some at) None) o)
+    by_test true = refl
+    by_test false = ih
+opened_after act c numbers o ih = ih
+
+pub opened-number : (A : History) (c : ℕ) → list_any (λ k. eqb k c) (all_said opened_number A) ≡ is_some (opened A c)
+opened-number [] c = refl
+opened-number (entry ∷ A) c = opened_after entry.command.act c (all_said opened_number A) (opened A c) (opened-number A c)
+
+abbrev pub ShowsMark : ℕ → List MarkRow → List MarkRow → Type 0
+ShowsMark c table rows = IsPermutation (filter (is_mark_of c) table) (filter (is_mark_of c) rows)
+
+marked-at : (o : Option ℕ) (c : ℕ) (b : Bool) → is_some o ≡ b → option_map (λ (row : MarkRow). row.at) (some_if b (record { ceremony = c; at = unwrap_or o 0 })) ≡ o
+marked-at None c true h = absurd (false≢true h)
+marked-at None c false h = refl
+marked-at (Some m) c true h = refl
+marked-at (Some m) c false h = absurd (true≢false h)
+
+-- the mark of the ceremony
+pub mark-shown : (A : History) → IsRegister A → (c : ℕ) (rows : List MarkRow) → ShowsMark c (marks A) rows → mark_by rows c ≡ mark A c
+mark-shown A h c rows p =
+    ap (option_map (λ row. row.at))
+    (find-view (is_mark_of c) (is_mark_of c) (mark_row A) (mark_row A c) (λ x e. e) (λ k e. ap (mark_row A) (eqb-true k c e)) (all_said opened_number A) rows p
+    ∙ ap (λ b. some_if b (mark_row A c)) (opened-number A c))
+    ∙ marked-at (mark A c) c (is_some (opened A c)) (marked-opened A h c)
+
+-- THE MARK'S ROW IS PUT
+
+-- not before the mark: the moment is the new mark
+pub mark-now : (o : Option ℕ) (at : ℕ) → is_late at o ≡ None → max_with at o ≡ at
+mark-now None at h = refl
+mark-now (Some m) at h = omega (arith, ltb-false at m (unmet (nat_lt at m) (Late m) h))
+
+abbrev row_at : ℕ → ℕ → MarkRow
+row_at c at = record { ceremony = c; at = at }
+
+-- a marked act that is accepted, but for an opening: putting the mark's row gives the marks after it
+pub marks-put : (A : History) (entry : Entry) (c at : ℕ) → fault A entry.command.act ≡ None → marked entry.command.act ≡ Some (c, at) → opened_number entry.command.act ≡ None
+    → put same_mark (record { ceremony = c; at = at }) (marks A) ≡ marks (entry ∷ A)
+marks-put A entry c at f m o =
+    put-at same_mark (λ k. eqb k c) (mark_row A) (mark_row (entry ∷ A)) (row_at c at) (λ k. refl) here elsewhere (all_said opened_number A) (opened-number A c ∙ open-opened A c go.0)
+    ∙ ap (λ n. map (mark_row (entry ∷ A)) (cons_option n (all_said opened_number A))) (sym o)
+  where
+    go : IsReady A (Some (c, at)) None
+    go = subst (λ n. IsReady A (Some (c, at)) n) o (subst (λ n. IsReady A n (opened_number entry.command.act)) m (ready A entry.command.act f))
+
+    next : (k : ℕ) → mark (entry ∷ A) k ≡ cond (eqb c k) (Some (max_with at (mark A k))) (mark A k)
+    next k = mark-after A entry k ∙ ap (λ n. mark_with n k (mark A k)) m
+
+    here : (k : ℕ) → eqb k c ≡ true → row_at c at ≡ mark_row (entry ∷ A) k
+    here k e =
+        let same : k ≡ c = eqb-true k c e in
+        let new : mark (entry ∷ A) c ≡ Some at = next c ∙ ap (λ b. cond b (Some (max_with at (mark A c))) (mark A c)) (eq-eqb c c refl) ∙ ap Some (mark-now (mark A c) at go.1) in
+        sym (ap (mark_row (entry ∷ A)) same ∙ ap (λ n. row_at c (unwrap_or n 0)) new)
+
+    elsewhere : (k : ℕ) → eqb k c ≡ false → mark_row A k ≡ mark_row (entry ∷ A) k
+    elsewhere k e = ap (λ n. row_at k (unwrap_or n 0)) (sym (next k ∙ ap (λ b. cond b (Some (max_with at (mark A k))) (mark A k)) (turned c k e)))
+
+-- an opening that is accepted: putting the mark's row gives the marks after it
+pub marks-opened : (A : History) (entry : Entry) (c at : ℕ) → IsRegister A → fault A entry.command.act ≡ None → entry.command.act ≡ Open c at
+    → put same_mark (record { ceremony = c; at = at }) (marks A) ≡ marks (entry ∷ A)
+marks-opened A entry c at h f is =
+    put-first same_mark (mark_row A) (mark_row (entry ∷ A)) (row_at c at) elsewhere (all_said opened_number A) (any-map (same_mark (row_at c at)) (mark_row A) (all_said opened_number A) ∙ opened-number A c ∙ closed_yet)
+    ∙ ap (λ row. row ∷ map (mark_row (entry ∷ A)) (all_said opened_number A)) (ap (λ n. row_at c (unwrap_or n 0)) (sym new))
+    ∙ ap (λ act. map (mark_row (entry ∷ A)) (cons_option (opened_number act) (all_said opened_number A))) (sym is)
+  where
+    closed_yet : is_some (opened A c) ≡ false
+    closed_yet = unmet (is_some (opened A c)) State (none_holds (conditions A (Open c at)) (subst (λ act. fault A act ≡ None) is f)).1.1.0
+
+    next : (k : ℕ) → mark (entry ∷ A) k ≡ cond (eqb c k) (Some (max_with at (mark A k))) (mark A k)
+    next k = mark-after A entry k ∙ ap (λ act. mark_with (marked act) k (mark A k)) is
+
+    none : (o : Option ℕ) → is_some o ≡ false → o ≡ None
+    none None e = refl
+    none (Some m) e = absurd (true≢false e)
+
+    new : mark (entry ∷ A) c ≡ Some at
+    new = next c ∙ ap (λ b. cond b (Some (max_with at (mark A c))) (mark A c)) (eq-eqb c c refl) ∙ ap (λ o. Some (max_with at o)) (none (mark A c) (marked-opened A h c ∙ closed_yet))
+
+    elsewhere : (k : ℕ) → eqb k c ≡ false → mark_row A k ≡ mark_row (entry ∷ A) k
+    elsewhere k e = ap (λ n. row_at k (unwrap_or n 0)) (sym (next k ∙ ap (λ b. cond b (Some (max_with at (mark A k))) (mark A k)) (turned c k e)))
+
+-- THE SCENE
+
+-- the scene of a ceremony by the history
+abbrev pub scene_of : History → ℕ → ℕ → Bool → Scene
+scene_of A c at has_ca =
+    record {
+      ceremony = c;
+      is_known = is_ceremony A c;
+      facility = facility_of A c;
+      is_open = is_open A c;
+      mark = mark A c;
+      at = at;
+      is_full = is_full A;
+      has_ca = has_ca;
+    }
+
+pub scene-shown : (A : History) → IsRegister A → (c at : ℕ) (has_ca : Bool) (view : View) → ShowsCeremony c (ceremonies A) view.ceremonies.items → ShowsMark c (marks A) view.marks.items
+    → scene_by view c at (is_full A) has_ca ≡ scene_of A c at has_ca
+scene-shown A h c at has_ca view p q =
+    let rows = view.ceremonies.items in
+    rw (known-shown A c rows p, facility-shown A c rows p, is_open-shown A c rows p h, mark-shown A h c view.marks.items q) refl
+
+-- what an act of custody tests of its ceremony first, one after the other
+pub ready-by : (A : History) (c at : ℕ) (has_ca : Bool) (rest : List (Option Refusal))
+    → first_of (not_ready (scene_of A c at has_ca) ∷ rest) ≡ first_of (not_open A c ∷ late A c at ∷ full A ∷ rest)
+ready-by A c at has_ca rest = by_tests (not_open A c) (mark A c) (full A)
+  where
+    by_late : (o p : Option Refusal) → first_of (first_of (o ∷ p ∷ []) ∷ rest) ≡ first_of (o ∷ p ∷ rest)
+    by_late (Some r) p = refl
+    by_late None (Some r) = refl
+    by_late None None = refl
+
+    by_tests : (o : Option Refusal) (m : Option ℕ) (p : Option Refusal) → first_of (first_of (o ∷ Custody.late m at ∷ p ∷ []) ∷ rest) ≡ first_of (o ∷ is_late at m ∷ p ∷ rest)
+    by_tests (Some r) m p = refl
+    by_tests None None p = by_late None p
+    by_tests None (Some m) p = by_late (when (nat_lt at m) (Late m)) p

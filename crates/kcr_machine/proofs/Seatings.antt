@@ -1,0 +1,321 @@
+-- The search's answers over those present by the history are the machine's: the first seating, and a least shortage.
+use Rattle.std.proofs.Common.{◌≡◌, ◌≢◌, ℕ, zero, suc, ◌+◌, ◌<◌, ◌≤◌, Bool, true, false, cond, not, ◌||◌, ◌&&◌, ◌==◌, nat_lt, nat_le, List, [], ◌∷◌, map, filter, length, get_or, Option, Some, None, refl, sym, ap, ◌∙◌, arith, subst}
+use Rattle.std.specs.Prelude.{slice_get, slice_index, EachIndex}
+use Rattle.std.specs.List.{list_any, list_all, SomeIndex}
+use Rattle.std.specs.List.Sorted.{IsStrictlyIncreasing}
+use Rattle.std.proofs.lemmas.Bool.{false≢true, both_ways, and_parts, and_from, or_parts, not-true, eqb-true, eq-eqb, ne_eqb, leb-true, le-leb, ltb-true, ltb-false, lt-ltb}
+use Rattle.std.proofs.lemmas.List.Folds.{list_any_at}
+use Rattle.kcr_base.specs.Days.{day_of}
+use Rattle.kcr_base.specs.Same.{same_text, is_before}
+use Rattle.kcr_room.specs.Laws.{are_rising}
+use Rattle.kcr_room.proofs.Agreement.{same-is, same-itself}
+use Rattle.kcr_room.proofs.Keeping.{present_are_in}
+use Rattle.kcr_room.proofs.Rising.{present_are_rising}
+use Rattle.kcr_script.specs.declared.seat.Seat.{Seat}
+use Rattle.kcr_seats.specs.Seating as Search
+use Rattle.kcr_history.specs.History.{History}
+use Rattle.kcr_history.specs.Ceremonies.{facility_of}
+use Rattle.kcr_history.specs.Room.{sheet, is_in, present}
+use Rattle.kcr_history.specs.Seating.{fits, eligible, is_seating, comes_first, IsFirst, is_eligible_at, who_fit, rise, is_short, is_proper_part, IsLeast}
+use Rattle.kcr_machine.specs.Signing.{on_seat, fits_of}
+use Rattle.kcr_machine.proofs.Shown.{any-filter}
+use Rattle.kcr_machine.proofs.StepRows.{or_true}
+use Rattle.kcr_machine.proofs.Lift.{IsSeatingOf, IsFirstOf, can_take_one, any-ext, first-lift, takers}
+
+pub neither : (x y : Bool) → x ≡ false → y ≡ false → (x || y) ≡ false
+neither x y p q = rw (p, q)
+
+-- SEATINGS, POSITION BY POSITION AND ONE AFTER THE OTHER
+
+not_there : (who : List ℕ) (people : List (List ℕ)) → ((j : ℕ) → j < length people → get_or people j [] ≡ who → ⊥) → list_any (same_text who) people ≡ false
+not_there who [] f = refl
+not_there who (p ∷ people) f = neither (same_text who p) _ (by_test (same_text who p) refl) (not_there who people (λ j l. f (suc j) (omega (arith, l))))
+  where
+    by_test : (b : Bool) → same_text who p ≡ b → b ≡ false
+    by_test true e = absurd (f 0 (omega arith) (sym (same-is who p e)))
+    by_test false e = refl
+
+seating-is : (A : History) (c t : ℕ) (L : List Seat) (people : List (List ℕ)) → IsSeatingOf (eligible A c t) L people → is_seating A c t L people ≡ true
+seating-is A c t [] [] s = refl
+seating-is A c t [] (who ∷ people) s = absurd (omega (arith, s.each_seat))
+seating-is A c t (seat ∷ L) [] s = absurd (omega (arith, s.each_seat))
+seating-is A c t (seat ∷ L) (who ∷ people) s =
+    let count : length people ≡ length L = omega (arith, s.each_seat) in
+    let rest : IsSeatingOf (eligible A c t) L people
+    = record {
+      each_seat = count;
+      fitting = λ k l. s.fitting (suc k) (omega (arith, l));
+      distinct = λ j k a b e. (let same : suc j ≡ suc k = s.distinct (suc j) (suc k) (omega (arith, a)) (omega (arith, b)) e in omega (arith, same));
+    } in
+    let alone : list_any (same_text who) people ≡ false
+    = not_there who people (λ j l e. (let same : suc j ≡ 0 = s.distinct (suc j) 0 (omega (arith, l, count)) (omega arith) e in omega (arith, same))) in
+    and_from (eligible A c t seat who && not (list_any (same_text who) people)) (is_seating A c t L people)
+    (and_from (eligible A c t seat who) (not (list_any (same_text who) people)) (s.fitting 0 (omega arith)) (ap not alone))
+    (seating-is A c t L people rest)
+
+seat_count : (A : History) (c t : ℕ) (L : List Seat) (people : List (List ℕ)) → is_seating A c t L people ≡ true → length people ≡ length L
+seat_count A c t [] [] h = refl
+seat_count A c t [] (who ∷ people) h = absurd (false≢true h)
+seat_count A c t (seat ∷ L) [] h = absurd (false≢true h)
+seat_count A c t (seat ∷ L) (who ∷ people) h =
+    ap suc (seat_count A c t L people (and_parts (eligible A c t seat who && not (list_any (same_text who) people)) (is_seating A c t L people) h).1)
+
+fit_at : (A : History) (c t : ℕ) (L : List Seat) (people : List (List ℕ)) → is_seating A c t L people ≡ true → (k : ℕ) → k < length L → on_seat (eligible A c t) (slice_get L k) (get_or people k []) ≡ true
+fit_at A c t [] people h k l = absurd (omega (arith, l))
+fit_at A c t (seat ∷ L) [] h k l = absurd (false≢true h)
+fit_at A c t (seat ∷ L) (who ∷ people) h zero l =
+    let q = and_parts (eligible A c t seat who && not (list_any (same_text who) people)) (is_seating A c t L people) h in
+    (and_parts (eligible A c t seat who) (not (list_any (same_text who) people)) q.0).0
+fit_at A c t (seat ∷ L) (who ∷ people) h (suc k) l =
+    fit_at A c t L people (and_parts (eligible A c t seat who && not (list_any (same_text who) people)) (is_seating A c t L people) h).1 k (omega (arith, l))
+
+not_in : (x : List ℕ) (people : List (List ℕ)) (q : ℕ) → q < length people → list_any (same_text x) people ≡ false → same_text x (get_or people q []) ≡ false
+not_in x [] q l h = absurd (omega (arith, l))
+not_in x (who ∷ people) zero l h = (or_parts (same_text x who) (list_any (same_text x) people) h).0
+not_in x (who ∷ people) (suc q) l h = not_in x people q (omega (arith, l)) (or_parts (same_text x who) (list_any (same_text x) people) h).1
+
+apart_at : (A : History) (c t : ℕ) (L : List Seat) (people : List (List ℕ)) → is_seating A c t L people ≡ true → (p q : ℕ) → p < q → q < length people → same_text (get_or people p []) (get_or people q []) ≡ false
+apart_at A c t [] [] h p q l m = absurd (omega (arith, m))
+apart_at A c t [] (who ∷ people) h p q l m = absurd (false≢true h)
+apart_at A c t (seat ∷ L) [] h p q l m = absurd (false≢true h)
+apart_at A c t (seat ∷ L) (who ∷ people) h p zero l m = absurd (omega (arith, l))
+apart_at A c t (seat ∷ L) (who ∷ people) h zero (suc q) l m =
+    let k = and_parts (eligible A c t seat who && not (list_any (same_text who) people)) (is_seating A c t L people) h in
+    not_in who people q (omega (arith, m)) (not-true (list_any (same_text who) people) (and_parts (eligible A c t seat who) (not (list_any (same_text who) people)) k.0).1)
+apart_at A c t (seat ∷ L) (who ∷ people) h (suc p) (suc q) l m =
+    apart_at A c t L people (and_parts (eligible A c t seat who && not (list_any (same_text who) people)) (is_seating A c t L people) h).1 p q (omega (arith, l)) (omega (arith, m))
+
+seating-of : (A : History) (c t : ℕ) (L : List Seat) (people : List (List ℕ)) → is_seating A c t L people ≡ true → IsSeatingOf (eligible A c t) L people
+seating-of A c t L people h =
+    record {
+      each_seat = count;
+      fitting = fit_at A c t L people h;
+      distinct = λ j k a b e. by_order j k a b e (nat_lt j k) refl (nat_lt k j) refl;
+    }
+  where
+    count : length people ≡ length L
+    count = seat_count A c t L people h
+
+    differ : (j k : ℕ) → j < k → k < length L → get_or people j [] ≡ get_or people k [] → ⊥
+    differ j k l b e =
+        both_ways _ (apart_at A c t L people h j k l (omega (arith, b, count)))
+        (ap (same_text (get_or people j [])) (sym e) ∙ same-itself (get_or people j []))
+
+    by_order : (j k : ℕ) → j < length L → k < length L → get_or people j [] ≡ get_or people k [] → (x : Bool) → nat_lt j k ≡ x → (y : Bool) → nat_lt k j ≡ y → j ≡ k
+    by_order j k a b e true p y q = absurd (differ j k (ltb-true j k p) b e)
+    by_order j k a b e false p true q = absurd (differ k j (ltb-true k j q) a (sym e))
+    by_order j k a b e false p false q = omega (arith, ltb-false j k p, ltb-false k j q)
+
+-- where the first position that differs has a later person, the first list comes first
+comes-first : (people others : List (List ℕ)) → length people ≡ length others → others ≢ people
+    → ((k : ℕ) → k < length people → ((j : ℕ) → j < k → get_or others j [] ≡ get_or people j []) → get_or others k [] ≢ get_or people k [] → is_before (get_or people k []) (get_or others k []) ≡ true)
+    → comes_first people others ≡ true
+comes-first [] [] n ne f = absurd (ne refl)
+comes-first [] (b ∷ others) n ne f = absurd (omega (arith, n))
+comes-first (a ∷ people) [] n ne f = absurd (omega (arith, n))
+comes-first (a ∷ people) (b ∷ others) n ne f = by_test (same_text a b) refl (comes-first people others (omega (arith, n)))
+  where
+    later : (same : a ≡ b) → (k : ℕ) → ((j : ℕ) → j < k → get_or others j [] ≡ get_or people j []) → (j : ℕ) → j < suc k → get_or (b ∷ others) j [] ≡ get_or (a ∷ people) j []
+    later same k e zero l = sym same
+    later same k e (suc j) l = e j (omega (arith, l))
+
+    by_test : (x : Bool) → same_text a b ≡ x
+        → (others ≢ people → ((k : ℕ) → k < length people → ((j : ℕ) → j < k → get_or others j [] ≡ get_or people j []) → get_or others k [] ≢ get_or people k [] → is_before (get_or people k []) (get_or others k []) ≡ true) → comes_first people others ≡ true)
+        → cond x (comes_first people others) (is_before a b) ≡ true
+    by_test true e ih =
+        let same : a ≡ b = same-is a b e in
+        ih (λ q. ne (rw (same, q) refl)) (λ k l g d. f (suc k) (omega (arith, l)) (later same k g) d)
+    by_test false e ih = f 0 (omega arith) (λ j l. absurd (omega (arith, l))) (λ q. absurd (both_ways _ e (ap (same_text a) q ∙ same-itself a)))
+
+first-is : (A : History) (c t : ℕ) (L : List Seat) (people : List (List ℕ)) → IsFirstOf (eligible A c t) L people → IsFirst A c t L people
+first-is A c t L people f =
+    record {
+      seating = seating-is A c t L people f.seating;
+      first = λ others so ne.
+          let s = seating-of A c t L others so in
+          comes-first people others (f.seating.each_seat ∙ sym s.each_seat) ne (λ k l same differ. f.first others k s (omega (arith, l, f.seating.each_seat)) same differ);
+    }
+
+-- SHORTAGES
+
+-- whether a person is eligible for the seat in a position
+at-seat : (A : History) (c t : ℕ) (L : List Seat) (who : List ℕ) (p : ℕ) → is_eligible_at A c t L who p ≡ on_seat (eligible A c t) (slice_get L p) who
+at-seat A c t [] who p = refl
+at-seat A c t (seat ∷ L) who zero = refl
+at-seat A c t (seat ∷ L) who (suc p) = at-seat A c t L who p
+
+filter-ext : {X : Type 0} (p q : X → Bool) → ((x : X) → p x ≡ q x) → (xs : List X) → filter p xs ≡ filter q xs
+filter-ext p q f [] = refl
+filter-ext p q f (x ∷ xs) = rw (f x, filter-ext p q f xs) refl
+
+takers-fit : (A : History) (c t : ℕ) (L : List Seat) (S : List ℕ) → who_fit A c t L S ≡ filter (can_take_one (eligible A c t) L S) (present A c t)
+takers-fit A c t L S =
+    filter-ext (λ who. list_any (is_eligible_at A c t L who) S) (can_take_one (eligible A c t) L S)
+    (λ who. any-ext (is_eligible_at A c t L who) (λ s. on_seat (eligible A c t) (slice_get L s) who) (at-seat A c t L who) S) (present A c t)
+
+-- rising numbers in a range, position by position and one after the other
+tail-rises : (p : ℕ) (S : List ℕ) → IsStrictlyIncreasing (p ∷ S) → IsStrictlyIncreasing S
+tail-rises p S h = λ k l.
+    let e : suc k + 1 ≡ suc (k + 1) = omega arith in
+    subst (λ n. slice_index (p ∷ S) (suc k) < slice_index (p ∷ S) n) e (h (suc k) (omega (arith, l)))
+
+rise-is : (low high : ℕ) (S : List ℕ) → IsStrictlyIncreasing S → EachIndex S (λ i. slice_index S i < high) → (0 < length S → low ≤ slice_index S 0) → rise low high S ≡ true
+rise-is low high [] inc range first = refl
+rise-is low high (p ∷ S) inc range first =
+    and_from (nat_le low p && nat_lt p high) (rise (suc p) high S)
+    (and_from (nat_le low p) (nat_lt p high) (le-leb low p (first (omega arith))) (lt-ltb p high (range 0 (omega arith))))
+    (rise-is (suc p) high S (tail-rises p S inc) (λ i l. range (suc i) (omega (arith, l))) (λ l. inc 0 (omega (arith, l))))
+
+range-of : (low high : ℕ) (S : List ℕ) → rise low high S ≡ true → (i : ℕ) → i < length S → slice_index S i < high
+range-of low high [] r i l = absurd (omega (arith, l))
+range-of low high (p ∷ S) r zero l = let k = and_parts (nat_le low p && nat_lt p high) (rise (suc p) high S) r in ltb-true p high (and_parts (nat_le low p) (nat_lt p high) k.0).1
+range-of low high (p ∷ S) r (suc i) l = range-of (suc p) high S (and_parts (nat_le low p && nat_lt p high) (rise (suc p) high S) r).1 i (omega (arith, l))
+
+rises-of : (low high : ℕ) (S : List ℕ) → rise low high S ≡ true → (k : ℕ) → k + 1 < length S → slice_index S k < slice_index S (k + 1)
+rises-of low high [] r k l = absurd (omega (arith, l))
+rises-of low high (p ∷ []) r k l = absurd (omega (arith, l))
+rises-of low high (p ∷ q ∷ S) r zero l =
+    let k = and_parts (nat_le low p && nat_lt p high) (rise (suc p) high (q ∷ S)) r in
+    let m = and_parts (nat_le (suc p) q && nat_lt q high) (rise (suc q) high S) k.1 in
+    leb-true (suc p) q (and_parts (nat_le (suc p) q) (nat_lt q high) m.0).0
+rises-of low high (p ∷ q ∷ S) r (suc k) l =
+    let e : suc (k + 1) ≡ suc k + 1 = omega arith in
+    subst (λ n. slice_index (p ∷ q ∷ S) (suc k) < slice_index (p ∷ q ∷ S) n) e
+    (rises-of (suc p) high (q ∷ S) (and_parts (nat_le low p && nat_lt p high) (rise (suc p) high (q ∷ S)) r).1 k (omega (arith, l)))
+
+-- PARTS
+
+abbrev is_one : ℕ → List ℕ → Bool
+is_one p ps = list_any (λ q. q == p) ps
+
+below : (low high : ℕ) (ps : List ℕ) → rise low high ps ≡ true → (p : ℕ) → is_one p ps ≡ true → low ≤ p
+below low high [] r p h = absurd (false≢true h)
+below low high (q ∷ ps) r p h = by_first (q == p) refl h (below (suc q) high ps k.1 p)
+  where
+    k : (nat_le low q && nat_lt q high ≡ true) × (rise (suc q) high ps ≡ true)
+    k = and_parts (nat_le low q && nat_lt q high) (rise (suc q) high ps) r
+
+    at_least : low ≤ q
+    at_least = leb-true low q (and_parts (nat_le low q) (nat_lt q high) k.0).0
+
+    by_first : (b : Bool) → (q == p) ≡ b → (b || is_one p ps) ≡ true → (is_one p ps ≡ true → suc q ≤ p) → low ≤ p
+    by_first true e g ih = let is : q ≡ p = eqb-true q p e in omega (arith, is, at_least)
+    by_first false e g ih = let n = ih g in omega (arith, n, at_least)
+
+abbrev without : ℕ → List ℕ → List ℕ
+without p T = filter (λ q. not (q == p)) T
+
+no_more : (p : ℕ) (T : List ℕ) → length (without p T) ≤ length T
+no_more p [] = omega arith
+no_more p (q ∷ T) = by_test (q == p) (no_more p T)
+  where
+    by_test : (b : Bool) → length (without p T) ≤ length T → length (cond (not b) (q ∷ without p T) (without p T)) ≤ suc (length T)
+    by_test true h = omega (arith, h)
+    by_test false h = omega (arith, h)
+
+fewer : (p : ℕ) (T : List ℕ) → is_one p T ≡ true → length (without p T) < length T
+fewer p [] h = absurd (false≢true h)
+fewer p (q ∷ T) h = by_test (q == p) h (fewer p T)
+  where
+    by_test : (b : Bool) → (b || is_one p T) ≡ true → (is_one p T ≡ true → length (without p T) < length T) → length (cond (not b) (q ∷ without p T) (without p T)) < suc (length T)
+    by_test true g ih = omega (arith, no_more p T)
+    by_test false g ih = omega (arith, ih g)
+
+still : (p q : ℕ) (T : List ℕ) → (q ≡ p → ⊥) → is_one q T ≡ true → is_one q (without p T) ≡ true
+still p q T ne h = any-filter (λ x. x == q) (λ x. not (x == p)) (λ x e. ap not (ne_eqb x p (λ s. ne (sym (eqb-true x q e) ∙ s)))) T ∙ h
+
+-- rising numbers that are all in a list are not more than it has
+pigeon : (low high : ℕ) (S T : List ℕ) → rise low high S ≡ true → ((p : ℕ) → is_one p S ≡ true → is_one p T ≡ true) → length S ≤ length T
+pigeon low high [] T r m = omega arith
+pigeon low high (p ∷ S) T r m =
+    let k = and_parts (nat_le low p && nat_lt p high) (rise (suc p) high S) r in
+    let here : is_one p T ≡ true = m p (ap (λ b. b || is_one p S) (eq-eqb p p refl)) in
+    let rest = pigeon (suc p) high S (without p T) k.1
+    (λ q o. still p q T (λ e. (let b : suc p ≤ q = below (suc p) high S k.1 q o in omega (arith, b, e))) (m q (or_true (p == q) o))) in
+    omega (arith, fewer p T here, rest)
+
+find-index : (p : ℕ) (S : List ℕ) → is_one p S ≡ true → SomeIndex S (λ j. slice_index S j ≡ p)
+find-index p [] h = absurd (false≢true h)
+find-index p (q ∷ S) h = by_test (q == p) refl h (find-index p S)
+  where
+    by_test : (b : Bool) → (q == p) ≡ b → (b || is_one p S) ≡ true → (is_one p S ≡ true → SomeIndex S (λ j. slice_index S j ≡ p)) → SomeIndex (q ∷ S) (λ j. slice_index (q ∷ S) j ≡ p)
+    by_test true e g ih = (0, omega arith, eqb-true q p e)
+    by_test false e g ih = let r = ih g in (suc r.0, omega (arith, r.1), r.2)
+
+part-of : (part whole : List ℕ) → list_all (λ p. is_one p whole) part ≡ true → Search.IsPart part whole
+part-of [] whole h i l = absurd (omega (arith, l))
+part-of (p ∷ part) whole h zero l = find-index p whole (and_parts (is_one p whole) (list_all (λ p. is_one p whole) part) h).0
+part-of (p ∷ part) whole h (suc i) l = part-of part whole (and_parts (is_one p whole) (list_all (λ p. is_one p whole) part) h).1 i (omega (arith, l))
+
+one-of : (whole part : List ℕ) → Search.IsPart whole part → (p : ℕ) → is_one p whole ≡ true → is_one p part ≡ true
+one-of whole part h p o =
+    let i = find-index p whole o in
+    let j = h i.0 i.1 in
+    list_any_at (λ q. q == p) part j.0 0 j.1 (eq-eqb (slice_index part j.0) p (j.2 ∙ i.2))
+
+-- OVER THOSE PRESENT
+
+all-at : (test : List ℕ → Bool) (P : List (List ℕ)) → list_all test P ≡ true → (j : ℕ) → j < length P → test (get_or P j []) ≡ true
+all-at test [] h j l = absurd (omega (arith, l))
+all-at test (x ∷ P) h zero l = (and_parts (test x) (list_all test P) h).0
+all-at test (x ∷ P) h (suc j) l = all-at test P (and_parts (test x) (list_all test P) h).1 j (omega (arith, l))
+
+rising-at : (P : List (List ℕ)) → are_rising P ≡ true → (i j : ℕ) → i < j → j < length P → is_before (get_or P i []) (get_or P j []) ≡ true
+rising-at [] h i j l m = absurd (omega (arith, m))
+rising-at (x ∷ P) h i zero l m = absurd (omega (arith, l))
+rising-at (x ∷ P) h zero (suc j) l m = all-at (is_before x) P (and_parts (list_all (is_before x) P) (are_rising P) h).0 j (omega (arith, m))
+rising-at (x ∷ P) h (suc i) (suc j) l m = rising-at P (and_parts (list_all (is_before x) P) (are_rising P) h).1 i j (omega (arith, l)) (omega (arith, m))
+
+-- F says who fits by the rows, and of the seats at hand says what the history does
+module _ (A : History) (c t : ℕ) (F : Seat → List ℕ → Bool) (L : List Seat)
+    (fit : (k : ℕ) (who : List ℕ) → on_seat F (slice_get L k) who ≡ on_seat (fits A (facility_of A c) (day_of t)) (slice_get L k) who) where
+  rising : (i j : ℕ) → i < j → j < length (present A c t) → is_before (get_or (present A c t) i []) (get_or (present A c t) j []) ≡ true
+  rising = rising-at (present A c t) (present_are_rising (sheet A) c t)
+
+  agree : (k : ℕ) (who : List ℕ) → list_any (same_text who) (present A c t) ≡ true → on_seat F (slice_get L k) who ≡ on_seat (eligible A c t) (slice_get L k) who
+  agree k who e = fit k who ∙ by_seat (slice_get L k)
+    where
+      by_seat : (o : Option Seat) → on_seat (fits A (facility_of A c) (day_of t)) o who ≡ on_seat (eligible A c t) o who
+      by_seat None = refl
+      by_seat (Some seat) = sym (ap (λ b. b && fits A (facility_of A c) (day_of t) seat who) (sym (present_are_in (sheet A) who c t) ∙ e))
+
+  inside : (k : ℕ) (who : List ℕ) → on_seat (eligible A c t) (slice_get L k) who ≡ true → list_any (same_text who) (present A c t) ≡ true
+  inside k who e = by_seat (slice_get L k) e
+    where
+      by_seat : (o : Option Seat) → on_seat (eligible A c t) o who ≡ true → list_any (same_text who) (present A c t) ≡ true
+      by_seat None g = absurd (false≢true g)
+      by_seat (Some seat) g = present_are_in (sheet A) who c t ∙ (and_parts (is_in A who c t) (fits A (facility_of A c) (day_of t) seat who) g).0
+
+  -- the first seating
+  pub first-of : (w : List ℕ) → Search.IsFirst (fits_of F L (present A c t)) (length L) (length (present A c t)) w → IsFirst A c t L (map (λ p. get_or (present A c t) p []) w)
+  first-of w f = first-is A c t L (map (λ p. get_or (present A c t) p []) w) (first-lift (eligible A c t) F L (present A c t) rising agree inside w f)
+
+  counted : (S : List ℕ) → Search.count_below (Search.can_take (fits_of F L (present A c t)) S) (length (present A c t)) ≡ length (who_fit A c t L S)
+  counted S = takers (eligible A c t) F L (present A c t) rising agree inside S ∙ ap length (sym (takers-fit A c t L S))
+
+  short-is : (S : List ℕ) → Search.IsShort (fits_of F L (present A c t)) (length L) (length (present A c t)) S → is_short A c t L S ≡ true
+  short-is S s =
+      and_from (rise 0 (length L) S) (nat_lt (length (who_fit A c t L S)) (length S))
+      (rise-is 0 (length L) S s.rising s.in_range (λ l. omega arith))
+      (lt-ltb (length (who_fit A c t L S)) (length S) (rw (counted S) at s.few))
+
+  short-of : (S : List ℕ) → is_short A c t L S ≡ true → Search.IsShort (fits_of F L (present A c t)) (length L) (length (present A c t)) S
+  short-of S h =
+      let k = and_parts (rise 0 (length L) S) (nat_lt (length (who_fit A c t L S)) (length S)) h in
+      record {
+        rising = rises-of 0 (length L) S k.0;
+        in_range = range-of 0 (length L) S k.0;
+        few = rw (counted S) (ltb-true (length (who_fit A c t L S)) (length S) k.1);
+      }
+
+  -- a least shortage
+  pub least-of : (S : List ℕ) → Search.IsLeast (fits_of F L (present A c t)) (length L) (length (present A c t)) S → IsLeast A c t L S
+  least-of S f = record { short = short-is S f.short; least = λ part proper. by_test part proper (is_short A c t L part) refl }
+    where
+      by_test : (part : List ℕ) → is_proper_part part S ≡ true → (b : Bool) → is_short A c t L part ≡ b → b ≡ false
+      by_test part proper false e = refl
+      by_test part proper true e =
+          let p = and_parts (list_all (λ p. is_one p S) part) (nat_lt (length part) (length S)) proper in
+          let back = f.least part (short-of part e) (part-of part S p.0) in
+          let rises = (and_parts (rise 0 (length L) S) (nat_lt (length (who_fit A c t L S)) (length S)) (short-is S f.short)).0 in
+          absurd (omega (arith, ltb-true (length part) (length S) p.1, pigeon 0 (length L) S part rises (one-of S part back)))

@@ -1,0 +1,225 @@
+-- Signatures and exceptions: what the rows of a view say of them is what the history says, and their changes lead on.
+use Rattle.std.proofs.Common.{◌≡◌, ℕ, zero, suc, ◌<◌, Bool, true, false, nat_lt, List, [], ◌∷◌, ◌++◌, map, length, get_or, Option, Some, None, is_none, refl, sym, ap, ◌∙◌, subst, arith, inl, inr}
+use Rattle.std.specs.Prelude.{is_some, slice_get}
+use Rattle.std.specs.List.Sorted.{IsPermutation}
+use Rattle.std.proofs.lemmas.Bool.{ltb-true}
+use Rattle.kcr_base.specs.Days.{day_of}
+use Rattle.kcr_base.specs.Rows.{put}
+use Rattle.kcr_base.specs.Same.{is_this}
+use Rattle.kcr_base.specs.declared.place.Facility.{Facility}
+use Rattle.kcr_base.specs.declared.place.Place.{Place}
+use Rattle.kcr_base.specs.declared.place.Place.TheVariants as Places
+use Rattle.kcr_base.specs.declared.place.Role.TheVariants.{Ca, Iw}
+use Rattle.kcr_base.specs.declared.refusal.Refusal.{Refusal}
+use Rattle.kcr_base.specs.declared.refusal.Refusal.TheVariants.{Unknown, Order, Short}
+use Rattle.kcr_base.specs.declared.refusal.Thing.TheVariants as Things
+use Rattle.kcr_base.proofs.RefuseLemmas.{none_holds, unmet}
+use Rattle.kcr_script.specs.declared.script.Step.{Step}
+use Rattle.kcr_script.specs.declared.seat.Seat.{Seat}
+use Rattle.kcr_script.specs.declared.seat.Seat.TheVariants.{Staff, AnyCo, AnyRksh, Co, Rksh}
+use Rattle.kcr_seats.specs.Seating as Search
+use Rattle.kcr_history.specs.declared.commands.Act.{Act}
+use Rattle.kcr_history.specs.declared.commands.Act.TheVariants.{Sign, Except}
+use Rattle.kcr_history.specs.declared.commands.Answer.{Answer}
+use Rattle.kcr_history.specs.declared.commands.Command.{Command}
+use Rattle.kcr_history.specs.declared.commands.Entry.{Entry}
+use Rattle.kcr_history.specs.declared.rows.StepState.{StepState}
+use Rattle.kcr_history.specs.declared.rows.StepState.TheVariants.{Signed, Passed}
+use Rattle.kcr_history.specs.declared.views.Change.{Change}
+use Rattle.kcr_history.specs.declared.views.Change.TheVariants.{PutStep, PutSeating, PutException, PutKey}
+use Rattle.kcr_history.specs.declared.views.View.{View}
+use Rattle.kcr_history.specs.History.{History, entry_of, stacked_on}
+use Rattle.kcr_history.specs.Training.{is_holder}
+use Rattle.kcr_history.specs.Ceremonies.{facility_of, steps_of, step_at, steps_done, next_step, exceptions_of}
+use Rattle.kcr_history.specs.Room.{present}
+use Rattle.kcr_history.specs.Seating.{fits, one_to_seven, IsFirst, IsLeast}
+use Rattle.kcr_history.specs.Tables.{Tables, tables, marks, steps, step_row, seatings, seat_rows, seats_at, exceptions, trainings, withdrawals, appointments}
+use Rattle.kcr_history.specs.Changes.{changed_by, same_step, same_mark, same_exception}
+use Rattle.kcr_history.specs.Views.{IsViewOf}
+use Rattle.kcr_history.specs.Asked.{asks_by}
+use Rattle.kcr_history.specs.Conditions.{conditions, fault, is_full}
+use Rattle.kcr_history.specs.Machine.{Sitting, answer_to, with_command, IsRegister}
+use Rattle.kcr_machine.specs.Scene.{ceremony_by, facility_by}
+use Rattle.kcr_machine.specs.Signing.{step_by, seats_by, next_by, sign_refusal, except_refusal, is_holder_by, fits_by, on_seat, fits_of, room_by, IsSeatedBy, IsUnseatedBy, staff, step_change, mark_change, seat_changes, exception_change}
+use Rattle.kcr_machine.specs.ByRows.{new_key_row}
+use Rattle.kcr_machine.proofs.Alone.{rooms}
+use Rattle.kcr_machine.proofs.NewKeys.{new_key}
+use Rattle.kcr_machine.proofs.InRoom.{trained-all, holder-shown}
+use Rattle.kcr_machine.proofs.Keyed.{some_if, put-new}
+use Rattle.kcr_machine.proofs.Lift.{any-ext}
+use Rattle.kcr_machine.proofs.Scenes.{known-shown, is_open-shown, mark-shown, marks-put}
+use Rattle.kcr_machine.proofs.Seatings.{first-of, least-of}
+use Rattle.kcr_machine.proofs.StepChanges.{changed-append, put-step, put-seats, fresh-seats, fresh-exception}
+use Rattle.kcr_machine.proofs.StepRows.{ShowsSteps, there, next_signed, step-shown, done-shown, stated-shown}
+
+-- THE FIRST REFUSAL
+
+-- whether the script has the step
+no_step-shown : (A : History) → IsRegister A → (c : ℕ) (view : View) → ShowsSteps c (steps A) view.steps.items → (k : ℕ) → is_none (step_by view.steps.items c k) ≡ is_none (step_at (steps_of A c) k)
+no_step-shown A h c view p k = ap is_none (step-shown A h c view.steps.items p k) ∙ by_step (step_at (steps_of A c) k)
+  where
+    by_step : (o : Option Step) → is_none (some_if (is_some o) (step_row A (c, k))) ≡ is_none o
+    by_step None = refl
+    by_step (Some x) = refl
+
+pub sign-fault : (A : History) → IsRegister A → (c k at : ℕ) (key : List ℕ) (view : View) → IsViewOf (asks_by key (Sign c k at)) (tables A) view
+    → sign_refusal view (is_full A) c k at ≡ fault A (Sign c k at)
+sign-fault A h c k at key view v =
+    rw (
+      known-shown A c view.ceremonies.items v.ceremonies,
+      no_step-shown A h c view v.steps k,
+      is_open-shown A c view.ceremonies.items v.ceremonies h,
+      mark-shown A h c view.marks.items v.marks,
+      done-shown A h c view.steps.items v.steps,
+    )
+
+pub except-fault : (A : History) → IsRegister A → (c : ℕ) (text : List ℕ) (pass : Bool) (at : ℕ) (key : List ℕ) (view : View) → IsViewOf (asks_by key (Except c text pass at)) (tables A) view
+    → except_refusal view (is_full A) c pass at ≡ fault A (Except c text pass at)
+except-fault A h c text pass at key view v =
+    rw (
+      known-shown A c view.ceremonies.items v.ceremonies,
+      no_step-shown A h c view v.steps (next_by view.steps.items c),
+      is_open-shown A c view.ceremonies.items v.ceremonies h,
+      mark-shown A h c view.marks.items v.marks,
+      done-shown A h c view.steps.items v.steps,
+      stated-shown A h c view.exceptions.items v.exceptions,
+    )
+
+-- SEATS
+
+-- the step of a signature that has no fault is in the script
+pub sign-there : (A : History) (c k at : ℕ) → fault A (Sign c k at) ≡ None → is_some (step_at (steps_of A c) k) ≡ true
+sign-there A c k at f =
+    there (step_at (steps_of A c) k) (unmet (is_none (step_at (steps_of A c) k)) (Unknown (Things.Step k)) (none_holds (conditions A (Sign c k at)) f).1.0)
+
+pub pass-there : (A : History) (c : ℕ) (text : List ℕ) (at : ℕ) → fault A (Except c text true at) ≡ None → is_some (step_at (steps_of A c) (next_step A c)) ≡ true
+pass-there A c text at f =
+    there (step_at (steps_of A c) (next_step A c)) (unmet (is_none (step_at (steps_of A c) (next_step A c))) (Order (next_step A c)) (none_holds (conditions A (Except c text true at)) f).1.1.1.0)
+
+-- the seats of the step's row are those of the script
+pub seats-shown : (A : History) → IsRegister A → (c : ℕ) (view : View) → ShowsSteps c (steps A) view.steps.items → (k : ℕ) → is_some (step_at (steps_of A c) k) ≡ true
+    → seats_by (step_by view.steps.items c k) ≡ seats_at (steps_of A c) k
+seats-shown A h c view p k e = rw (step-shown A h c view.steps.items p k, e) refl
+
+-- who holds a place, by all appointments
+is_holder-shown : (A : History) → IsRegister A → (view : View) → IsPermutation (appointments A) view.appointments.items → (place : Place) (day : ℕ) (who : List ℕ)
+    → is_holder_by view.appointments.items place day who ≡ is_holder A place day who
+is_holder-shown A h view p place day who = ap (is_this who) (holder-shown A h view.appointments.items p place day)
+
+-- who fits a seat, by all trainings, withdrawals and appointments
+abbrev by_view : History → View → Sitting → Seat → List ℕ → Bool
+by_view A view s = fits_by view.trainings.items view.withdrawals.items view.appointments.items (facility_of A s.ceremony) (day_of s.at)
+
+pub fits-shown : (A : History) → IsRegister A → (view : View) → IsPermutation (trainings A) view.trainings.items → IsPermutation (withdrawals A) view.withdrawals.items → IsPermutation (appointments A) view.appointments.items
+    → (f : Facility) (day : ℕ) (o : Option Seat) (who : List ℕ) → on_seat (fits_by view.trainings.items view.withdrawals.items view.appointments.items f day) o who ≡ on_seat (fits A f day) o who
+fits-shown A h view p q r f day None who = refl
+fits-shown A h view p q r f day (Some (Staff role)) who = trained-all A h view.trainings.items view.withdrawals.items p q who role day
+fits-shown A h view p q r f day (Some AnyCo) who =
+    any-ext (λ n. is_holder_by view.appointments.items (Places.Co f n) day who) (λ n. is_holder A (Places.Co f n) day who) (λ n. is_holder-shown A h view r (Places.Co f n) day who) one_to_seven
+fits-shown A h view p q r f day (Some (Co n)) who = is_holder-shown A h view r (Places.Co f n) day who
+fits-shown A h view p q r f day (Some AnyRksh) who =
+    any-ext (λ n. is_holder_by view.appointments.items (Places.Rksh n) day who) (λ n. is_holder A (Places.Rksh n) day who) (λ n. is_holder-shown A h view r (Places.Rksh n) day who) one_to_seven
+fits-shown A h view p q r f day (Some (Rksh n)) who = is_holder-shown A h view r (Places.Rksh n) day who
+
+-- of the seats of a passing exception trainings and withdrawals are enough
+pub staff-shown : (A : History) → IsRegister A → (view : View) → IsPermutation (trainings A) view.trainings.items → IsPermutation (withdrawals A) view.withdrawals.items
+    → (f : Facility) (day k : ℕ) (who : List ℕ) → on_seat (fits_by view.trainings.items view.withdrawals.items view.appointments.items f day) (slice_get staff k) who ≡ on_seat (fits A f day) (slice_get staff k) who
+staff-shown A h view p q f day zero who = trained-all A h view.trainings.items view.withdrawals.items p q who Ca day
+staff-shown A h view p q f day (suc zero) who = trained-all A h view.trainings.items view.withdrawals.items p q who Iw day
+staff-shown A h view p q f day (suc (suc k)) who = refl
+
+-- the people whom the search names are the first seating, and the seats that it names a least shortage
+module _ (A : History) (h : IsRegister A) (view : View) (s : Sitting)
+    (facility : facility_by (ceremony_by view.ceremonies.items s.ceremony) ≡ facility_of A s.ceremony)
+    (room : room_by view s ≡ present A s.ceremony s.at)
+    (fit : (k : ℕ) (who : List ℕ) → on_seat (by_view A view s) (slice_get s.seats k) who ≡ on_seat (fits A (facility_of A s.ceremony) (day_of s.at)) (slice_get s.seats k) who) where
+  abbrev relation : Facility → List (List ℕ) → ℕ → ℕ → Bool
+  relation f P = fits_of (fits_by view.trainings.items view.withdrawals.items view.appointments.items f (day_of s.at)) s.seats P
+
+  pub seated-first : (people : List (List ℕ)) → IsSeatedBy view s people → IsFirst A s.ceremony s.at s.seats people
+  seated-first people g =
+      let one = subst (λ f. Search.IsFirst (relation f (room_by view s)) (length s.seats) (length (room_by view s)) g.numbers) facility g.first in
+      let two = subst (λ P. Search.IsFirst (relation (facility_of A s.ceremony) P) (length s.seats) (length P) g.numbers) room one in
+      subst (IsFirst A s.ceremony s.at s.seats) (sym (g.named ∙ ap (λ P. map (λ p. get_or P p []) g.numbers) room))
+      (first-of A s.ceremony s.at (by_view A view s) s.seats fit g.numbers two)
+
+  pub unseated-least : (refusal : Refusal) → IsUnseatedBy view s refusal → (positions : List ℕ) × IsLeast A s.ceremony s.at s.seats positions × (refusal ≡ Short (map suc positions))
+  unseated-least refusal (inl (positions, g, e)) =
+      let one = subst (λ f. Search.IsLeast (relation f (room_by view s)) (length s.seats) (length (room_by view s)) g.numbers) facility g.least in
+      let two = subst (λ P. Search.IsLeast (relation (facility_of A s.ceremony) P) (length s.seats) (length P) g.numbers) room one in
+      (g.numbers, least-of A s.ceremony s.at (by_view A view s) s.seats fit g.numbers two, e ∙ ap Short g.counted)
+  unseated-least refusal (inr (e, g)) =
+      let many : 128 < length (present A s.ceremony s.at) = ltb-true 128 (length (present A s.ceremony s.at)) (ap (λ P. nat_lt 128 (length P)) (sym room) ∙ g) in
+      absurd (omega (arith, many, (rooms A h s.ceremony s.at).1))
+
+-- CHANGES
+
+-- the step row and the seats of a step that is done, and the mark
+seat-tables : (A : History) (c k at : ℕ) (state : StepState) (people : List (List ℕ)) → IsRegister A → steps_done A c < k
+    → changed_by (PutStep (record (step_row A (c, k)) { state = state; at = Some at }) ∷ map PutSeating (seat_rows c k 0 people) ++ mark_change c at ∷ []) (tables A)
+    ≡ record (tables A) { steps = put same_step (record (step_row A (c, k)) { state = state; at = Some at }) (steps A); seatings = stacked_on (seat_rows c k 0 people) (seatings A); marks = put same_mark (record { ceremony = c; at = at }) (marks A) }
+seat-tables A c k at state people h l =
+    let t : Tables = record (tables A) { steps = put same_step (record (step_row A (c, k)) { state = state; at = Some at }) (steps A) } in
+    changed-append (map PutSeating (seat_rows c k 0 people)) (mark_change c at ∷ []) t
+    ∙ ap (λ t. changed_by (mark_change c at ∷ []) t) (put-seats c k 0 people t (λ j m. fresh-seats A h c k j l))
+
+abbrev one : List ℕ → Act → Answer → Entry
+one key act answer = record { command = record { key = key; act = act }; answer = answer }
+
+-- a signature
+pub sign-leads : (A : History) → IsRegister A → (key : List ℕ) (c k at : ℕ) (view : View) (people : List (List ℕ)) (answer : Answer) → IsViewOf (asks_by key (Sign c k at)) (tables A) view → entry_of A key ≡ None
+    → fault A (Sign c k at) ≡ None → answer ≡ answer_to A (Sign c k at) (Some people)
+    → changed_by (seat_changes view Signed c k at people ++ PutKey (new_key_row (record { key = key; act = Sign c k at }) answer) ∷ []) (tables A)
+    ≡ tables (with_command A (record { key = key; act = Sign c k at }) answer)
+sign-leads A h key c k at view people answer v absent f e =
+    let x : Command = record { key = key; act = Sign c k at } in
+    let inside = sign-there A c k at f in
+    let number : steps_done A c < k = omega (arith, next_signed A c k at f) in
+    let q = new_key A x answer absent in
+    let s = put-step A h (one key (Sign c k at) answer) c k at Signed (λ d j. refl) (λ d. refl) refl inside in
+    let m = marks-put A (one key (Sign c k at) answer) c at f refl refl in
+    let old : step_change (step_by view.steps.items c k) Signed at ≡ PutStep (record (step_row A (c, k)) { state = Signed; at = Some at }) ∷ [] = rw (step-shown A h c view.steps.items v.steps k, inside) refl in
+    ap (λ changes. changed_by ((changes ++ map PutSeating (seat_rows c k 0 people) ++ mark_change c at ∷ []) ++ PutKey (new_key_row x answer) ∷ []) (tables A)) old
+    ∙ changed-append (PutStep (record (step_row A (c, k)) { state = Signed; at = Some at }) ∷ map PutSeating (seat_rows c k 0 people) ++ mark_change c at ∷ []) (PutKey (new_key_row x answer) ∷ []) (tables A)
+    ∙ ap (changed_by (PutKey (new_key_row x answer) ∷ [])) (seat-tables A c k at Signed people h number)
+    ∙ rw (q, s, m, e) refl
+
+-- an exception that passes a step
+pub pass-leads : (A : History) → IsRegister A → (key : List ℕ) (c : ℕ) (text : List ℕ) (at : ℕ) (view : View) (people : List (List ℕ)) (answer : Answer) → IsViewOf (asks_by key (Except c text true at)) (tables A) view → entry_of A key ≡ None
+    → fault A (Except c text true at) ≡ None → answer ≡ answer_to A (Except c text true at) (Some people)
+    → changed_by ((seat_changes view Passed c (next_by view.steps.items c) at people ++ exception_change view c text at (Some (next_by view.steps.items c)) ∷ []) ++ PutKey (new_key_row (record { key = key; act = Except c text true at }) answer) ∷ []) (tables A)
+    ≡ tables (with_command A (record { key = key; act = Except c text true at }) answer)
+pass-leads A h key c text at view people answer v absent f e =
+    let y : Command = record { key = key; act = Except c text true at } in
+    let inside = pass-there A c text at f in
+    let q = new_key A y answer absent in
+    let s = put-step A h (one key (Except c text true at) (answer_to A (Except c text true at) (Some people))) c (next_step A c) at Passed (λ d j. refl) (λ d. refl) refl inside in
+    let m = marks-put A (one key (Except c text true at) answer) c at f refl refl in
+    let w = put-new same_exception (record { ceremony = c; exception = suc (exceptions_of A c); text = text; at = at; passed = Some (next_step A c) }) (exceptions A) (fresh-exception A h c (suc (exceptions_of A c)) (omega arith)) in
+    let old : step_change (step_by view.steps.items c (next_step A c)) Passed at ≡ PutStep (record (step_row A (c, next_step A c)) { state = Passed; at = Some at }) ∷ []
+    = rw (step-shown A h c view.steps.items v.steps (next_step A c), inside) refl in
+    let E : Change = PutException (record { ceremony = c; exception = suc (exceptions_of A c); text = text; at = at; passed = Some (next_step A c) }) in
+    let ups : List Change = PutStep (record (step_row A (c, next_step A c)) { state = Passed; at = Some at }) ∷ map PutSeating (seat_rows c (next_step A c) 0 people) ++ mark_change c at ∷ [] in
+    let tell : exception_change view c text at (Some (next_by view.steps.items c)) ≡ E = rw (stated-shown A h c view.exceptions.items v.exceptions, done-shown A h c view.steps.items v.steps) refl in
+    let seats : seat_changes view Passed c (next_by view.steps.items c) at people ≡ ups
+    = rw (done-shown A h c view.steps.items v.steps) (ap (λ changes. changes ++ map PutSeating (seat_rows c (next_step A c) 0 people) ++ mark_change c at ∷ []) old) in
+    ap (λ changes. changed_by ((changes ++ exception_change view c text at (Some (next_by view.steps.items c)) ∷ []) ++ PutKey (new_key_row y answer) ∷ []) (tables A)) seats
+    ∙ ap (λ change. changed_by ((ups ++ change ∷ []) ++ PutKey (new_key_row y answer) ∷ []) (tables A)) tell
+    ∙ changed-append (ups ++ E ∷ []) (PutKey (new_key_row y answer) ∷ []) (tables A)
+    ∙ ap (changed_by (PutKey (new_key_row y answer) ∷ []))
+    (changed-append ups (E ∷ []) (tables A)
+    ∙ ap (changed_by (E ∷ [])) (seat-tables A c (next_step A c) at Passed people h (omega arith)))
+    ∙ rw (w, q, m, e) (rw s refl)
+
+-- an exception that passes no step
+pub state-leads : (A : History) → IsRegister A → (key : List ℕ) (c : ℕ) (text : List ℕ) (at : ℕ) (view : View) (answer : Answer) → IsViewOf (asks_by key (Except c text false at)) (tables A) view → entry_of A key ≡ None
+    → fault A (Except c text false at) ≡ None → answer ≡ answer_to A (Except c text false at) None
+    → changed_by ((mark_change c at ∷ exception_change view c text at None ∷ []) ++ PutKey (new_key_row (record { key = key; act = Except c text false at }) answer) ∷ []) (tables A)
+    ≡ tables (with_command A (record { key = key; act = Except c text false at }) answer)
+state-leads A h key c text at view answer v absent f e =
+    let z : Command = record { key = key; act = Except c text false at } in
+    let q = new_key A z answer absent in
+    let m = marks-put A (one key (Except c text false at) answer) c at f refl refl in
+    let w = put-new same_exception (record { ceremony = c; exception = suc (exceptions_of A c); text = text; at = at; passed = None }) (exceptions A) (fresh-exception A h c (suc (exceptions_of A c)) (omega arith)) in
+    let tell : exception_change view c text at None ≡ PutException (record { ceremony = c; exception = suc (exceptions_of A c); text = text; at = at; passed = None }) = rw (stated-shown A h c view.exceptions.items v.exceptions) refl in
+    ap (λ change. changed_by ((mark_change c at ∷ change ∷ []) ++ PutKey (new_key_row z answer) ∷ []) (tables A)) tell ∙ rw (w, q, m, e) refl
