@@ -2,6 +2,8 @@
 //! Its kept output is such a file, which `tests/sqlite3.sh` reads with sqlite3.
 #![tactic(auto)]
 
+ghost use Rattle.std.specs.Prelude.{◌≡◌, false};
+
 mod rows;
 
 use kcr_base::Refusal;
@@ -30,7 +32,9 @@ fn fill(
     alloc: Global,
     conn: &mut Connection<FileStore<Memory>>,
     rows: &[Change],
-) -> Result<(), Refusal> {
+) -> Result<(), Refusal>
+    requires { conn.old.in_transaction ≡ false }
+{
     let mut tx = conn.transaction();
     make(&mut tx)?;
     make_changes(alloc, &mut tx, rows)?;

@@ -182,7 +182,7 @@ fn step(
     at: Option<Moment>,
 ) -> Result<Change, Fault> {
     let activity = Activity::read(alloc, activity.as_bytes())?.ok_or(Fault::Value)?;
-    let seats = read_seats(alloc, b"CO*7 CA")?.ok_or(Fault::Value)?;
+    let seats = read_seats(alloc, b"CO*7;CA")?.ok_or(Fault::Value)?;
     Ok(Change::PutStep(StepRow {
         ceremony: 9_999,
         step: number,

@@ -54,3 +54,8 @@ pub use trainings::{all_trainings, trainings_of};
 pub use versions::{Version, all_versions};
 pub use view::view_of;
 pub use withdrawals::{all_withdrawals, withdrawals_of};
+
+#[cfg(test)]
+mod tests;
+#[cfg(test)]
+mod view_tests;
