@@ -1,0 +1,9 @@
+use Rattle.std.proofs.Common.{take}
+use Rattle.std.specs.HashSet.{contains}
+use Rattle.kcr_base.specs.Same.{same_text}
+use Rattle.kcr_audit.proofs.Seen.{Seen}
+use Rattle.kcr_audit.proofs.keys.repeated.Given as goal
+
+-- the keys of the rows so far were seen, each once
+abbrev pub invariant-loop-row : goal.invariant-loop-row
+invariant-loop-row l = Seen (take l.row-index l.rows) (contains same_text l.seen)

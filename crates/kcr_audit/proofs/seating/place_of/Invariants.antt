@@ -1,0 +1,7 @@
+use Rattle.std.proofs.Common.{◌≡◌, ◌++◌, take, drop}
+use Rattle.kcr_audit.specs.Wrongs.{put_row}
+use Rattle.kcr_audit.proofs.seating.place_of.Given as goal
+
+-- put in among what is left, behind what was passed over, it is put in among all
+abbrev pub invariant-loop-index : goal.invariant-loop-index
+invariant-loop-index l = take l.index l.rows ++ put_row l.row (drop l.index l.rows) ≡ put_row l.row l.rows

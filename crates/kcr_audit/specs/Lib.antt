@@ -1,0 +1,4 @@
+pub mod Sought
+pub mod Wrongs
+pub mod Rooms
+pub mod Whole

@@ -1,0 +1,23 @@
+-- Moments of rooms.
+use Rattle.std.specs.Prelude.{◌≡◌, ℕ, ◌==◌, Bool, true, false, nat_lt, List, Option, Some, None}
+use Rattle.std.specs.List.{All}
+use Rattle.kcr_room.specs.declared.SheetRow.{SheetRow}
+use Rattle.kcr_room.specs.Room.{crowd_by}
+
+-- exactly one person is in the room
+abbrev pub is_lone : List SheetRow → ℕ → ℕ → Bool
+is_lone rows ceremony t = crowd_by rows ceremony t == 1
+
+-- more than 128 people are in the room
+abbrev pub is_crowd : List SheetRow → ℕ → ℕ → Bool
+is_crowd rows ceremony t = nat_lt 128 (crowd_by rows ceremony t)
+
+-- a moment that passes; None where none does
+abbrev pub IsSometime : (ℕ → Bool) → Option ℕ → Type 0
+IsSometime test None = (t : ℕ) → test t ≡ false
+IsSometime test (Some moment) = test moment ≡ true
+
+-- a ceremony and a moment that pass; None where no moment of any of these ceremonies does
+abbrev pub IsSoughtAmong : (ℕ → ℕ → Bool) → List ℕ → Option (ℕ × ℕ) → Type 0
+IsSoughtAmong test numbers None = All (λ c. (t : ℕ) → test c t ≡ false) numbers
+IsSoughtAmong test numbers (Some found) = test found.0 found.1 ≡ true

@@ -1,0 +1,148 @@
+//! Items and bags that are not where one can find them.
+ghost use Rattle.std.specs.Prelude.{◌≡◌, Some, find, option_map};
+ghost use Rattle.std.specs.List.{list_any};
+ghost use Rattle.kcr_custody.specs.Balance;
+ghost use Rattle.kcr_custody.specs.Custody;
+ghost use Rattle.kcr_history.specs.Audit;
+ghost use Rattle.kcr_history.specs.declared.views.Finding.TheVariants as Findings;
+ghost use Rattle.kcr_audit.specs.Sought.{IsSought};
+ghost use Rattle.kcr_audit.specs.Wrongs;
+
+use kcr_base::{Facility, ItemCode, Serial};
+use kcr_custody::{Bag, BoxRow, Item, Rest, Spot};
+use kcr_history::{Finding, View};
+
+/// Whether a bag at this spot can hold items: a spent one holds none.
+fn holds_items(spot: Spot) -> bool
+    ensures { result ≡ Balance.holds_items (Some spot) }
+{
+    match spot {
+        Spot::Spent => false,
+        Spot::Table(_) | Spot::Equipment(_) | Spot::InBox(_, _) => true,
+    }
+}
+
+/// Whether some row of the bag says that it is not spent.
+fn is_bag_there(view: &View, serial: Serial) -> bool
+    ensures { result ≡ Audit.is_bag_there view.now serial }
+{
+    view.bags
+        .iter()
+        .any(|bag| bag.serial == serial && holds_items(bag.spot))
+}
+
+/// Whether an item that rests there is within a bag that is spent or not there.
+fn is_lost(view: &View, rest: Rest) -> bool
+    ensures { result ≡ Audit.is_lost view.now rest }
+{
+    match rest {
+        Rest::Loose(_) => false,
+        Rest::Within(serial) => !is_bag_there(view, serial),
+    }
+}
+
+/// Whether the item stands in more than one row.
+fn is_item_doubled(rows: &[Item], code: ItemCode) -> bool
+    ensures { result ≡ Wrongs.is_item_doubled rows.now code }
+{
+    rows.iter().filter(|row| row.code == code).count() > 1
+}
+
+/// Whether the item is lost by one of its rows.
+fn is_item_lost(view: &View, code: ItemCode) -> bool
+    ensures { result ≡ Wrongs.is_item_lost view.now code }
+{
+    view.items
+        .iter()
+        .any(|row| row.code == code && is_lost(view, row.rest))
+}
+
+/// Whether the item stands in more than one row, or is lost by one.
+fn is_item_wrong(view: &View, code: ItemCode) -> bool
+    ensures { result ≡ Wrongs.is_item_wrong view.now code }
+{
+    is_item_doubled(&view.items, code) || is_item_lost(view, code)
+}
+
+/// The first row whose item stands in another one too, or is lost.
+fn first_lost(view: &View) -> Option<Finding>
+    ensures { result ≡ option_map (λ row. Findings.Custody row.code) (find (λ row. Wrongs.is_item_wrong view.now row.code) view.now.items.items) }
+{
+    view.items
+        .iter()
+        .find(|row| is_item_wrong(view, row.code))
+        .map(|row| Finding::Custody(row.code))
+}
+
+/// An item that stands in two rows, or lies within a bag that is spent or not there.
+#[tactic(auto, using(crate::proofs::Found::items))]
+pub(crate) fn lost_item(view: &View) -> Option<Finding>
+    ensures { IsSought view.now 1 result }
+{
+    first_lost(view)
+}
+
+/// Whether the row is of this box.
+fn is_box(row: BoxRow, facility: Facility, number: u32) -> bool
+    ensures { result ≡ Custody.is_box facility number row }
+{
+    row.facility == facility && row.number == number
+}
+
+/// Whether the facility has the box.
+fn has_box(boxes: &[BoxRow], facility: Facility, number: u32) -> bool
+    ensures { result ≡ list_any (Custody.is_box facility number) boxes.now }
+{
+    boxes.iter().any(|row| is_box(*row, facility, number))
+}
+
+/// Whether the spot is in a box that is not there.
+fn is_unboxed(view: &View, spot: Spot) -> bool
+    ensures { result ≡ Audit.is_unboxed view.now spot }
+{
+    match spot {
+        Spot::InBox(facility, number) => !has_box(&view.boxes, facility, number),
+        Spot::Table(_) | Spot::Equipment(_) | Spot::Spent => false,
+    }
+}
+
+/// Whether the serial stands in more than one row.
+fn is_bag_doubled(rows: &[Bag], serial: Serial) -> bool
+    ensures { result ≡ Wrongs.is_bag_doubled rows.now serial }
+{
+    rows.iter().filter(|row| row.serial == serial).count() > 1
+}
+
+/// Whether by one of its rows the bag is in a box that is not there.
+fn is_bag_boxless(view: &View, serial: Serial) -> bool
+    ensures { result ≡ Wrongs.is_bag_boxless view.now serial }
+{
+    view.bags
+        .iter()
+        .any(|row| row.serial == serial && is_unboxed(view, row.spot))
+}
+
+/// Whether the serial stands in more than one row, or is in a box that is not there by one.
+fn is_bag_wrong(view: &View, serial: Serial) -> bool
+    ensures { result ≡ Wrongs.is_bag_wrong view.now serial }
+{
+    is_bag_doubled(&view.bags, serial) || is_bag_boxless(view, serial)
+}
+
+/// The first row whose serial stands in another one too, or whose box is not there.
+fn first_boxless(view: &View) -> Option<Finding>
+    ensures { result ≡ option_map (λ row. Findings.Bag row.serial) (find (λ row. Wrongs.is_bag_wrong view.now row.serial) view.now.bags.items) }
+{
+    view.bags
+        .iter()
+        .find(|row| is_bag_wrong(view, row.serial))
+        .map(|row| Finding::Bag(row.serial))
+}
+
+/// A serial that stands in two rows, or a bag in a box that is not there.
+#[tactic(auto, using(crate::proofs::Found::bags))]
+pub(crate) fn boxless_bag(view: &View) -> Option<Finding>
+    ensures { IsSought view.now 2 result }
+{
+    first_boxless(view)
+}

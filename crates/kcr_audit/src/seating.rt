@@ -1,0 +1,344 @@
+//! Steps that were signed or passed, and whether their recorded people are a seating of their seats.
+ghost use Rattle.std.specs.Prelude.{◌≡◌, ◌++◌, ◌≤◌, ◌∷◌, ℕ, nat_le, take, drop, length, map, find, filter, option_map, ◌&&◌, ◌==◌, IfOk};
+ghost use Rattle.std.specs.List.{list_any};
+ghost use Rattle.kcr_base.specs.Days.{day_of};
+ghost use Rattle.kcr_base.specs.Same;
+ghost use Rattle.kcr_base.specs.Same.{same_place, same_text};
+ghost use Rattle.kcr_base.specs.declared.place.Place.TheVariants as Places;
+ghost use Rattle.kcr_people.specs.People.{lasts_beyond, holder_by};
+ghost use Rattle.kcr_room.specs.Room;
+ghost use Rattle.kcr_history.specs.Audit;
+ghost use Rattle.kcr_history.specs.Prints;
+ghost use Rattle.kcr_history.specs.Seating.{one_to_seven};
+ghost use Rattle.kcr_history.specs.declared.views.Finding.TheVariants as Findings;
+ghost use Rattle.kcr_audit.specs.Sought.{IsSought};
+ghost use Rattle.kcr_audit.specs.Wrongs;
+
+use kcr_base::{Day, Facility, Initials, Moment, Place, Role, not_later, same_person};
+use kcr_history::{CeremonyRow, Finding, SeatingRow, StepRow, StepState, View};
+use kcr_people::Appointment;
+use kcr_room::{SheetRow, Way};
+use kcr_script::Seat;
+use std::alloc::{AllocError, Global};
+
+/// The numbers of the places of one kind.
+const NUMBERS: [u8; 7] = [1, 2, 3, 4, 5, 6, 7];
+
+/// The seats of an exception that passes a step.
+const STAFF: [Seat; 2] = [Seat::Staff(Role::Ca), Seat::Staff(Role::Iw)];
+
+/// Whether the place is the facility's Crypto Officer's with this number.
+fn is_co(place: Place, facility: Facility, number: u8) -> bool
+    ensures { result ≡ same_place place (Places.Co facility number) }
+{
+    match place {
+        Place::Co(other, n) => other == facility && n.get() == number,
+        Place::Rksh(_) => false,
+    }
+}
+
+/// Whether the place is the Recovery Key Share Holder's with this number.
+fn is_rksh(place: Place, number: u8) -> bool
+    ensures { result ≡ same_place place (Places.Rksh number) }
+{
+    match place {
+        Place::Co(_, _) => false,
+        Place::Rksh(n) => n.get() == number,
+    }
+}
+
+/// Whether the appointment covers the day.
+fn covers(row: &Appointment, day: Day) -> bool
+    ensures { result ≡ (nat_le row.now.since day && lasts_beyond day row.now) }
+{
+    row.since <= day
+        && match row.until {
+            None => true,
+            Some(end) => day < end,
+        }
+}
+
+/// Who holds the facility's Crypto Officer's place with this number on the day.
+fn co_holder(rows: &[Appointment], facility: Facility, number: u8, day: Day) -> Option<Initials>
+    ensures { result ≡ holder_by rows.now (Places.Co facility number) day }
+{
+    rows.iter()
+        .find(|row| is_co(row.place, facility, number) && covers(*row, day))
+        .map(|row| row.who)
+}
+
+/// Who holds the Recovery Key Share Holder's place with this number on the day.
+fn rksh_holder(rows: &[Appointment], number: u8, day: Day) -> Option<Initials>
+    ensures { result ≡ holder_by rows.now (Places.Rksh number) day }
+{
+    rows.iter()
+        .find(|row| is_rksh(row.place, number) && covers(*row, day))
+        .map(|row| row.who)
+}
+
+/// Whether there is a holder, and it is this person.
+fn is_this(held: Option<Initials>, who: Initials) -> bool
+    ensures { result ≡ Same.is_this who held }
+{
+    match held {
+        Some(other) => same_person(other, who),
+        None => false,
+    }
+}
+
+/// Whether the person holds the facility's Crypto Officer's place with this number on the day.
+fn holds_co(view: &View, facility: Facility, number: u8, day: Day, who: Initials) -> bool
+    ensures { result ≡ Audit.is_holder_by view.now (Places.Co facility number) day who }
+{
+    is_this(co_holder(&view.appointments, facility, number, day), who)
+}
+
+/// Whether the person holds the Recovery Key Share Holder's place with this number on the day.
+fn holds_rksh(view: &View, number: u8, day: Day, who: Initials) -> bool
+    ensures { result ≡ Audit.is_holder_by view.now (Places.Rksh number) day who }
+{
+    is_this(rksh_holder(&view.appointments, number, day), who)
+}
+
+/// Whether the person holds some Crypto Officer's place of the facility on the day.
+fn holds_some_co(view: &View, facility: Facility, day: Day, who: Initials) -> bool
+    ensures { result ≡ list_any (λ n. Audit.is_holder_by view.now (Places.Co facility n) day who) one_to_seven }
+{
+    NUMBERS
+        .iter()
+        .any(|number| holds_co(view, facility, *number, day, who))
+}
+
+/// Whether the person holds some Recovery Key Share Holder's place on the day.
+fn holds_some_rksh(view: &View, day: Day, who: Initials) -> bool
+    ensures { result ≡ list_any (λ n. Audit.is_holder_by view.now (Places.Rksh n) day who) one_to_seven }
+{
+    NUMBERS
+        .iter()
+        .any(|number| holds_rksh(view, *number, day, who))
+}
+
+/// Whether the person fits the seat on the day, in a ceremony of the facility.
+fn fits(view: &View, facility: Facility, day: Day, seat: Seat, who: Initials) -> bool
+    ensures { result ≡ Audit.fits_by view.now facility day seat who }
+{
+    match seat {
+        Seat::Staff(role) => {
+            kcr_people::trained(&view.trainings, &view.withdrawals, who, role, day)
+        }
+        Seat::AnyCo => holds_some_co(view, facility, day, who),
+        Seat::Co(number) => holds_co(view, facility, number, day, who),
+        Seat::AnyRksh => holds_some_rksh(view, day, who),
+        Seat::Rksh(number) => holds_rksh(view, number, day, who),
+    }
+}
+
+/// Whether the row is not earlier than the last one so far.
+fn is_overtaken(last: &Option<SheetRow>, row: &SheetRow) -> bool
+    ensures { result ≡ Room.is_overtaken last.now row.now }
+{
+    match last {
+        None => true,
+        Some(other) => not_later(other.at, row.at),
+    }
+}
+
+/// The person's last row up to the moment; of two with one moment the later listed.
+fn last_row(rows: &[SheetRow], who: Initials, at: Moment) -> Option<SheetRow>
+    ensures { result ≡ Room.last_row (filter (Room.is_of who at) rows.now) }
+{
+    let mut last = None;
+    for row in rows {
+        if same_person(row.who, who) && not_later(row.at, at) && is_overtaken(&last, row) {
+            last = Some(*row);
+        }
+    }
+    last
+}
+
+/// Whether the row is an `in` of the ceremony.
+fn enters(row: SheetRow, ceremony: u32) -> bool
+    ensures { result ≡ Room.enters ceremony row }
+{
+    match row.way {
+        Way::Enter => row.ceremony == ceremony,
+        Way::Leave => false,
+    }
+}
+
+/// Whether the person is in the room of the ceremony at the moment.
+fn is_in(rows: &[SheetRow], who: Initials, ceremony: u32, at: Moment) -> bool
+    ensures { result ≡ Room.in_by rows.now who ceremony at }
+{
+    match last_row(rows, who, at) {
+        Some(row) => enters(row, ceremony),
+        None => false,
+    }
+}
+
+/// Whether the person is in the room of the ceremony at the moment and fits the seat on its day.
+fn is_eligible(view: &View, ceremony: &CeremonyRow, at: Moment, seat: Seat, who: Initials) -> bool
+    ensures { result ≡ Audit.eligible_by view.now ceremony.now at seat who }
+{
+    is_in(&view.sheet, who, ceremony.number, at)
+        && fits(view, ceremony.facility, at.day(), seat, who)
+}
+
+/// Whether the person is one of these.
+fn is_among(people: &[Initials], who: Initials) -> bool
+    ensures { result ≡ list_any (same_text who) people.now }
+{
+    people.iter().any(|other| same_person(who, *other))
+}
+
+/// Whether the people, all distinct, are each eligible for the seat in their position.
+fn is_seating(
+    view: &View,
+    ceremony: &CeremonyRow,
+    at: Moment,
+    seats: &[Seat],
+    people: &[Initials],
+) -> bool
+    ensures { result ≡ Audit.is_seating_by view.now ceremony.now at seats.now people.now }
+{
+    if seats.len() != people.len() {
+        return false;
+    }
+    for (index, seat) in seats.iter().enumerate() {
+        let who = people[index];
+        if !is_eligible(view, ceremony, at, *seat, who) || is_among(&people[index + 1..], who) {
+            return false;
+        }
+    }
+    true
+}
+
+/// The place of a row among rows in the order of their seats: before all whose seat is not earlier.
+fn place_of(row: SeatingRow, rows: &[SeatingRow]) -> usize
+    ensures within { result ≤ length rows.now }
+    ensures placed { take result rows.now ++ row ∷ drop result rows.now ≡ Wrongs.put_row row rows.now }
+{
+    for (index, other) in rows.iter().enumerate() {
+        if other.seat >= row.seat {
+            return index;
+        }
+    }
+    rows.len()
+}
+
+/// The rows in the order of their seats; of two with one seat the first listed comes first.
+fn in_order(alloc: Global, rows: &[SeatingRow]) -> Result<Vec<SeatingRow>, AllocError>
+    ensures { IfOk result (λ sorted. sorted.items ≡ Wrongs.rows_in_order rows.now) }
+{
+    let mut sorted = Vec::new(alloc);
+    let mut index = rows.len();
+    while index > 0 {
+        index -= 1;
+        let place = place_of(rows[index], &sorted);
+        sorted.insert(place, rows[index])?;
+    }
+    Ok(sorted)
+}
+
+/// The rows of the step.
+fn rows_of(
+    alloc: Global,
+    rows: &[SeatingRow],
+    ceremony: u32,
+    step: u32,
+) -> Result<Vec<SeatingRow>, AllocError>
+    ensures { IfOk result (λ found. found.items ≡ filter (λ row. row.ceremony == ceremony && row.step == step) rows.now) }
+{
+    rows.iter()
+        .filter(|row| row.ceremony == ceremony && row.step == step)
+        .copied()
+        .collect(alloc)
+}
+
+/// The people who are recorded at the step, seat by seat.
+fn people_at(
+    alloc: Global,
+    rows: &[SeatingRow],
+    ceremony: u32,
+    step: u32,
+) -> Result<Vec<Initials>, AllocError>
+    ensures { IfOk result (λ people. people.items ≡ Prints.seated_at rows.now ceremony step) }
+{
+    let found = rows_of(alloc, rows, ceremony, step)?;
+    let sorted = in_order(alloc, &found)?;
+    sorted.iter().map(|row| row.who).collect(alloc)
+}
+
+/// The seats that were filled: the step's own, or those of an exception where it was passed.
+fn seats_filled(row: &StepRow) -> &[Seat]
+    ensures { result.now ≡ Prints.seats_filled row.now }
+{
+    match row.state {
+        StepState::Passed => &STAFF,
+        StepState::Undone | StepState::Signed => row.seats.as_slice(),
+    }
+}
+
+/// Whether the step was signed or passed.
+fn is_done(state: StepState) -> bool
+    ensures { result ≡ Audit.is_done state }
+{
+    match state {
+        StepState::Undone => false,
+        StepState::Signed | StepState::Passed => true,
+    }
+}
+
+/// The row of the ceremony.
+fn ceremony_in(view: &View, number: u32) -> Option<CeremonyRow>
+    ensures { result ≡ Audit.ceremony_in view.now number }
+{
+    view.ceremonies
+        .iter()
+        .copied()
+        .find(|row| row.number == number)
+}
+
+/// Whether the recorded people fill the step's seats, in its ceremony and at its moment.
+fn is_well_seated(alloc: Global, view: &View, row: &StepRow) -> Result<bool, AllocError>
+    ensures { IfOk result (λ well. well ≡ Audit.is_well_seated view.now row.now (Audit.ceremony_in view.now row.now.ceremony) row.now.at) }
+{
+    match (ceremony_in(view, row.ceremony), row.at) {
+        (Some(ceremony), Some(at)) => {
+            let people = people_at(alloc, &view.seatings, row.ceremony, row.step)?;
+            Ok(is_seating(view, &ceremony, at, seats_filled(row), &people))
+        }
+        _ => Ok(false),
+    }
+}
+
+/// Whether the step was signed or passed, and its recorded people are no seating.
+fn is_ill_seated(alloc: Global, view: &View, row: &StepRow) -> Result<bool, AllocError>
+    ensures { IfOk result (λ ill. ill ≡ Wrongs.is_step_wrong view.now row.now) }
+{
+    if !is_done(row.state) {
+        return Ok(false);
+    }
+    let well = is_well_seated(alloc, view, row)?;
+    Ok(!well)
+}
+
+/// The first step that was signed or passed and whose recorded people are no seating.
+fn first_ill_seated(alloc: Global, view: &View) -> Result<Option<Finding>, AllocError>
+    ensures { IfOk result (λ found. found ≡ option_map (λ row. Findings.Seating row.ceremony row.step) (find (Wrongs.is_step_wrong view.now) view.now.steps.items)) }
+{
+    for row in &view.steps {
+        if is_ill_seated(alloc, view, row)? {
+            return Ok(Some(Finding::Seating(row.ceremony, row.step)));
+        }
+    }
+    Ok(None)
+}
+
+/// A step that was signed or passed and whose recorded people are no seating of its seats.
+#[tactic(auto, using(crate::proofs::Found::steps))]
+pub(crate) fn ill_seated_step(alloc: Global, view: &View) -> Result<Option<Finding>, AllocError>
+    ensures { IfOk result (IsSought view.now 0) }
+{
+    first_ill_seated(alloc, view)
+}
