@@ -41,7 +41,7 @@ contains-in x (y ∷ ys) h = by_index h.0 h.1 h.2 (contains-in x ys)
     by_index zero l e ih = inl (sym e)
     by_index (suc i) l e ih = inr (ih (i, omega arith, e))
 
-in-order : {X : Type 0} (x : X) (xs ys : List X) → IsPermutation xs ys → In x xs → In x ys
+pub in-order : {X : Type 0} (x : X) (xs ys : List X) → IsPermutation xs ys → In x xs → In x ys
 in-order x xs ys p h = contains-in x ys (Contains-permutation xs ys x p (in-contains x xs h))
 
 in-append : {X : Type 0} (x : X) (xs ys : List X) → In x (xs ++ ys) → In x xs ⊎ In x ys
@@ -155,7 +155,7 @@ last-same c rows shown p alike = by_last (last_row rows) refl (last_row shown) r
 abbrev pub AreAlike : List SheetRow → Type 0
 AreAlike rows = (r o : SheetRow) → In r rows → In o rows → same_text r.who o.who ≡ true → r.at ≡ o.at → (c : ℕ) → enters c r ≡ enters c o
 
-same-in : (rows shown : List SheetRow) → IsPermutation rows shown → AreAlike rows → (who : List ℕ) (c t : ℕ) → in_by rows who c t ≡ in_by shown who c t
+pub same-in : (rows shown : List SheetRow) → IsPermutation rows shown → AreAlike rows → (who : List ℕ) (c t : ℕ) → in_by rows who c t ≡ in_by shown who c t
 same-in rows shown p alike who c t =
     last-same c (filter (is_of who t) rows) (filter (is_of who t) shown) (IsPermutation-filter (is_of who t) rows shown p)
     (λ r o h k e. (let a = in-filter (is_of who t) r rows h in let b = in-filter (is_of who t) o rows k in alike r o a.0 b.0 (one-person r o a.1 b.1) e c))

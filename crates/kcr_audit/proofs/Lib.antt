@@ -5,3 +5,8 @@ pub mod Seen
 pub mod Stored
 pub mod Alike
 pub mod Passing
+pub mod Done
+pub mod Placed
+pub mod Fitting
+pub mod Filed
+pub mod Rightly

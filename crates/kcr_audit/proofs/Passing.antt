@@ -1,4 +1,4 @@
--- Nothing but a seating is found in the tables of a register.
+-- Nothing is found in the tables of a register.
 use Rattle.std.proofs.Common.{◌≡◌, ℕ, ◌+◌, ◌<◌, ◌≤◌, Bool, true, false, cond, not, ◌||◌, ◌&&◌, List, [], ◌∷◌, map, Option, Some, None, is_some, refl, sym, ap, subst, ◌∙◌, arith, inl, inr}
 use Rattle.std.specs.Prelude.{unwrap_or, reverse, ◌⊎◌}
 use Rattle.std.specs.List.{list_any, count_by}
@@ -25,7 +25,7 @@ use Rattle.kcr_room.specs.declared.SheetRow.{SheetRow}
 use Rattle.kcr_room.specs.Room.{crowd_by}
 use Rattle.kcr_history.specs.declared.views.Finding.{Finding}
 use Rattle.kcr_history.specs.Room.{sheet}
-use Rattle.kcr_history.specs.Audit.{IsTrueOf, rank, is_doubled, is_bag_there, is_lost, is_unboxed}
+use Rattle.kcr_history.specs.Audit.{IsTrueOf, is_doubled, is_bag_there, is_lost, is_unboxed}
 use Rattle.kcr_history.specs.History.{History, all_said}
 use Rattle.kcr_history.specs.Custody.{spot, rest}
 use Rattle.kcr_history.specs.Laws.{is_kept, has_its_box}
@@ -38,6 +38,7 @@ use Rattle.kcr_audit.proofs.Alike.{alike, same-crowds}
 use Rattle.kcr_audit.specs.Whole.{tables_of}
 use Rattle.kcr_audit.proofs.Found.{or-left, or-right, none-of}
 use Rattle.kcr_audit.proofs.Stored.{sealed_somewhere, box-there}
+use Rattle.kcr_audit.proofs.Rightly.{no-seating}
 
 -- DOUBLED
 
@@ -185,13 +186,14 @@ shown-crowd A h shown p c t = same-crowds (sheet A) shown (IsPermutation-trans (
 
 -- ALL
 
-pub passing : (A : History) → IsRegister A → (view : View) → SameTables (tables A) (tables_of view) → (finding : Finding) → IsTrueOf view finding → rank finding ≡ 0
-passing A h view same (Findings.Seating c s) t = refl
-passing A h view same (Findings.Custody item) t = absurd (no-item A h view same.bags same.items item t)
-passing A h view same (Findings.Bag serial) t = absurd (no-bag A h view same.boxes same.bags serial t)
-passing A h view same (Findings.Key key) t = absurd (no-key A h view same.keys key t)
-passing A h view same (Findings.Lone c m) t = absurd ((rooms A h c m).0 (sym (shown-crowd A h view.sheet.items same.sheet c m) ∙ t))
+pub passing : (A : History) → IsRegister A → (view : View) → SameTables (tables A) (tables_of view) → (finding : Finding) → IsTrueOf view finding → ⊥
+passing A h view same (Findings.Seating c s) t = no-seating A h view same c s t
+passing A h view same (Findings.Custody item) t = no-item A h view same.bags same.items item t
+passing A h view same (Findings.Bag serial) t = no-bag A h view same.boxes same.bags serial t
+passing A h view same (Findings.Key key) t = no-key A h view same.keys key t
+passing A h view same (Findings.Lone c m) t = (rooms A h c m).0 (sym (shown-crowd A h view.sheet.items same.sheet c m) ∙ t)
 passing A h view same (Findings.Crowd c m) t =
     let e = shown-crowd A h view.sheet.items same.sheet c m in
     let few = (rooms A h c m).1 in
-    absurd (let many : 128 < crowd_by view.sheet.items c m = t in omega arith)
+    let many : 128 < crowd_by view.sheet.items c m = t in
+    omega arith

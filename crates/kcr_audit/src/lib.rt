@@ -13,7 +13,7 @@ mod rooms;
 mod seating;
 
 pub use findings::audit;
-pub use laws::registers_keep_order;
+pub use laws::registers_pass;
 
 #[cfg(test)]
 mod tests;

@@ -1,6 +1,12 @@
 //! Texts of commands and answers, and what commands ask for.
-use crate::{Act, Answer, Command, Items, People, Rows, answer_text, asks, command_text};
-use kcr_base::{Day, Facility, Initials, ItemCode, Key, Moment, Place, Remark, Role, Serial, Text};
+use crate::{
+    Act, Answer, Command, Items, People, Rows, answer_text, asks, command_text, fixed_text,
+    refusal_text,
+};
+use kcr_base::{
+    Absentee, Day, Facility, Initials, ItemCode, Key, Member, Moment, Part, Place, Positions,
+    Refusal, Remark, Role, Serial, Text, Thing,
+};
 use kcr_custody::{SafeNumber, Store};
 use kcr_room::Way;
 use std::alloc::Global;
@@ -214,5 +220,83 @@ fn lists_keep_their_order(rt: HostRuntime) -> Result<(), Fail> {
     let items = two_items(alloc)?.into_vec();
     let last = items.last().ok_or("an item")?;
     assert_eq!(rt; last.as_str(), "CARD7");
+    Ok(())
+}
+
+#[test]
+fn texts_of_refusals(rt: HostRuntime) -> Result<(), Fail> {
+    let alloc = rt.alloc();
+    let at = Moment::read(b"2025-02-13T20:10:00Z").ok_or("a moment")?;
+    let who = initials("CC")?;
+    let seats = Positions::new(&[1, 2]).ok_or("positions")?;
+    for (refusal, text) in [
+        (Refusal::Key, "{\"number\":11,\"refusal\":\"key\"}"),
+        (Refusal::Elsewhere, "{\"number\":29,\"refusal\":\"where\"}"),
+        (
+            Refusal::Form {
+                member: Member::Who,
+            },
+            "{\"member\":\"who\",\"number\":10,\"refusal\":\"form\"}",
+        ),
+        (
+            Refusal::Unknown {
+                thing: Thing::Ceremony(61),
+            },
+            "{\"number\":12,\"refusal\":\"unknown\",\"thing\":\"ceremony 61\"}",
+        ),
+        (
+            Refusal::Settled { day: at.day() },
+            "{\"day\":\"2025-02-13\",\"number\":18,\"refusal\":\"settled\"}",
+        ),
+        (
+            Refusal::Script { row: 2 },
+            "{\"number\":19,\"refusal\":\"script\",\"row\":2}",
+        ),
+        (
+            Refusal::Late { mark: at },
+            "{\"mark\":\"2025-02-13T20:10:00Z\",\"number\":22,\"refusal\":\"late\"}",
+        ),
+        (
+            Refusal::Order { next: 2 },
+            "{\"next\":2,\"number\":23,\"refusal\":\"order\"}",
+        ),
+        (
+            Refusal::Turn { who },
+            "{\"number\":24,\"refusal\":\"turn\",\"who\":\"CC\"}",
+        ),
+        (
+            Refusal::Lone { moment: at },
+            "{\"moment\":\"2025-02-13T20:10:00Z\",\"number\":26,\"refusal\":\"lone\"}",
+        ),
+        (
+            Refusal::Absent {
+                who: Absentee::Role(Role::Ca),
+            },
+            "{\"number\":30,\"refusal\":\"absent\",\"who\":\"CA\"}",
+        ),
+        (
+            Refusal::Unfinished { part: Part::Table },
+            "{\"number\":31,\"part\":\"table\",\"refusal\":\"unfinished\"}",
+        ),
+        (
+            Refusal::Short { seats },
+            "{\"number\":32,\"refusal\":\"short\",\"seats\":[1,2]}",
+        ),
+    ] {
+        assert_eq!(rt; refusal_text(alloc, &refusal)?.as_str(), text);
+    }
+    assert_eq!(rt;
+        fixed_text(&Refusal::Memory).ok_or("33")?,
+        "{\"number\":33,\"refusal\":\"memory\"}"
+    );
+    assert_eq!(rt;
+        fixed_text(&Refusal::Disk).ok_or("34")?,
+        "{\"number\":34,\"refusal\":\"disk\"}"
+    );
+    assert_eq!(rt;
+        fixed_text(&Refusal::Broken).ok_or("35")?,
+        "{\"number\":35,\"refusal\":\"broken\"}"
+    );
+    assert!(rt; fixed_text(&Refusal::Turn { who }).is_none());
     Ok(())
 }

@@ -1,0 +1,176 @@
+-- Who fits a seat by the rows of a register, in whatever order, is who fits it by its history.
+use Rattle.std.proofs.Common.{◌≡◌, ℕ, Bool, true, false, cond, not, ◌||◌, ◌&&◌, ◌==◌, nat_le, List, [], ◌∷◌, map, find, reverse, Option, Some, None, option_map, refl, sym, ap, ◌∙◌, subst}
+use Rattle.std.specs.Prelude.{is_some}
+use Rattle.std.specs.List.{list_any, AllByRecursion, cons_option}
+use Rattle.std.specs.List.Sorted.{IsPermutation}
+use Rattle.std.specs.Result.{result_unwrap_or}
+use Rattle.std.proofs.lemmas.Bool.{both_ways, and_parts, or_parts, leb-true, not-true, eqb-true}
+use Rattle.std.proofs.lemmas.List.Sorted.{list_any-IsPermutation, All-permutation, IsPermutation-reverse, IsPermutation-trans}
+use Rattle.std.proofs.lemmas.List.Elements.{All-from_recursion, recursion_from_All}
+use Rattle.kcr_base.specs.Days.{day_of}
+use Rattle.kcr_base.specs.Rows.{or_else}
+use Rattle.kcr_base.specs.Same.{same_text, same_place, is_this}
+use Rattle.kcr_base.specs.declared.place.Facility.{Facility}
+use Rattle.kcr_base.specs.declared.place.Place.{Place}
+use Rattle.kcr_base.specs.declared.place.Place.TheVariants as Places
+use Rattle.kcr_people.specs.declared.Appointment.{Appointment}
+use Rattle.kcr_people.specs.People.{holder_by, holds, lasts_beyond, place_held_from_by}
+use Rattle.kcr_people.proofs.Orders.{any-same, trained-order}
+use Rattle.kcr_script.specs.Reading.{script_of}
+use Rattle.kcr_script.specs.declared.seat.Seat.{Seat}
+use Rattle.kcr_script.specs.declared.seat.Seat.TheVariants.{Staff, AnyCo, AnyRksh, Co, Rksh}
+use Rattle.kcr_history.specs.declared.commands.Act.{Act}
+use Rattle.kcr_history.specs.declared.commands.Act.TheVariants.{Plan}
+use Rattle.kcr_history.specs.declared.rows.CeremonyRow.{CeremonyRow}
+use Rattle.kcr_history.specs.declared.views.View.{View}
+use Rattle.kcr_history.specs.Audit.{is_holder_by, fits_by, eligible_by, is_seating_by, ceremony_in}
+use Rattle.kcr_history.specs.History.{History, all_said}
+use Rattle.kcr_history.specs.Ceremonies.{Planned, planned_as, plan_of, is_ceremony, facility_of}
+use Rattle.kcr_history.specs.Room.{sheet, is_in}
+use Rattle.kcr_history.specs.Seating.{fits, eligible, is_seating, one_to_seven}
+use Rattle.kcr_history.specs.Training.{holder, is_holder}
+use Rattle.kcr_history.specs.Tables.{appointments, trainings, withdrawals, ceremonies, ceremony_row, planned_number, tables, SameTables}
+use Rattle.kcr_history.specs.Machine.{IsRegister}
+use Rattle.kcr_history.proofs.Stacked.{stacked, place-same, free-none, find-none}
+use Rattle.kcr_history.proofs.Orderly.{orderly, holder-appointments}
+use Rattle.kcr_history.proofs.Trained.{trained-rows}
+use Rattle.kcr_audit.specs.Whole.{tables_of}
+use Rattle.kcr_audit.proofs.Alike.{alike, same-in}
+
+-- A ROW IS FOUND
+
+abbrev some_if : {X : Type 0} → Bool → X → Option X
+some_if true x = Some x
+some_if false x = None
+
+-- all that passes is one row: it is the one that is found
+find-all : {X : Type 0} (test : X → Bool) (v : X) (rows : List X) → AllByRecursion (λ x. test x ≡ true → x ≡ v) rows → find test rows ≡ some_if (list_any test rows) v
+find-all test v [] a = refl
+find-all test v (x ∷ rows) a = by_test (test x) a.0 (find-all test v rows a.1)
+  where
+    by_test : (b : Bool) → (b ≡ true → x ≡ v) → find test rows ≡ some_if (list_any test rows) v → cond b (Some x) (find test rows) ≡ some_if (b || list_any test rows) v
+    by_test true f ih = ap Some (f refl)
+    by_test false f ih = ih
+
+-- in any order
+find-one : {X : Type 0} (test : X → Bool) (v : X) (table rows : List X) → IsPermutation table rows → AllByRecursion (λ x. test x ≡ true → x ≡ v) table → find test rows ≡ some_if (list_any test table) v
+find-one test v table rows p a =
+    find-all test v rows (recursion_from_All (λ x. test x ≡ true → x ≡ v) rows (All-permutation (λ x. test x ≡ true → x ≡ v) table rows p (All-from_recursion (λ x. test x ≡ true → x ≡ v) table a)))
+    ∙ ap (λ b. some_if b v) (sym (list_any-IsPermutation test table rows p))
+
+none-find : {X : Type 0} (test : X → Bool) (rows : List X) → find test rows ≡ None → list_any test rows ≡ false
+none-find test [] h = refl
+none-find test (row ∷ rows) h = by_test (test row) h (none-find test rows)
+  where
+    by_test : (b : Bool) → cond b (Some row) (find test rows) ≡ None → (find test rows ≡ None → list_any test rows ≡ false) → (b || list_any test rows) ≡ false
+    by_test true h ih = absurd (let e : Some row ≡ None = h in cc)
+    by_test false h ih = ih h
+
+some-find : {X : Type 0} (test : X → Bool) (r : X) (rows : List X) → find test rows ≡ Some r → list_any test rows ≡ true
+some-find test r [] h = absurd (let e : None ≡ Some r = h in cc)
+some-find test r (row ∷ rows) h = by_test (test row) h (some-find test r rows)
+  where
+    by_test : (b : Bool) → cond b (Some row) (find test rows) ≡ Some r → (find test rows ≡ Some r → list_any test rows ≡ true) → (b || list_any test rows) ≡ true
+    by_test true h ih = refl
+    by_test false h ih = ih h
+
+-- where all that passes in the table is the first that does, it is found in any order
+find-same : {X : Type 0} (test : X → Bool) (table rows : List X) → IsPermutation table rows → ((r : X) → find test table ≡ Some r → AllByRecursion (λ row. test row ≡ true → row ≡ r) table)
+    → find test rows ≡ find test table
+find-same {X = X} test table rows p only = by_row (find test table) refl
+  where
+    by_row : (o : Option X) → find test table ≡ o → find test rows ≡ o
+    by_row None e = find-none test rows (sym (list_any-IsPermutation test table rows p) ∙ none-find test table e)
+    by_row (Some r) e = find-one test r table rows p (only r e) ∙ ap (λ b. some_if b r) (some-find test r table e)
+
+-- THE CEREMONY
+
+planned_after : (act : Act) (c : ℕ) (numbers : List ℕ) (plan : Option Planned) → list_any (λ k. k == c) numbers ≡ is_some plan
+    → list_any (λ k. k == c) (cons_option (planned_number act) numbers) ≡ is_some (or_else (planned_as c act) plan)
+planned_after (Plan number facility day script) c numbers plan ih = by_test (number == c) (record { facility = facility; day = day; steps = result_unwrap_or (script_of script) [] })
+  where
+    by_test : (b : Bool) (new : Planned) → (b || list_any (λ k. k == c) numbers) ≡ is_some (or_else (cond b (Some new) None) plan)
+    by_test true new = refl
+    by_test false new = ih
+planned_after act c numbers plan ih = ih
+
+planned-number : (A : History) (c : ℕ) → list_any (λ k. k == c) (all_said planned_number A) ≡ is_ceremony A c
+planned-number [] c = refl
+planned-number (entry ∷ A) c = planned_after entry.command.act c (all_said planned_number A) (plan_of A c) (planned-number A c)
+
+number-any : (A : History) (c : ℕ) (numbers : List ℕ) → list_any (λ row. row.number == c) (map (ceremony_row A) numbers) ≡ list_any (λ k. k == c) numbers
+number-any A c [] = refl
+number-any A c (k ∷ numbers) = ap (λ b. k == c || b) (number-any A c numbers)
+
+own-row : (A : History) (c : ℕ) (numbers : List ℕ) → AllByRecursion (λ (row : CeremonyRow). (row.number == c) ≡ true → row ≡ ceremony_row A c) (map (ceremony_row A) numbers)
+own-row A c [] = tt
+own-row A c (k ∷ numbers) = (λ e. ap (ceremony_row A) (eqb-true k c e), own-row A c numbers)
+
+-- the row of a planned ceremony
+pub ceremony-found : (A : History) (view : View) → IsPermutation (ceremonies A) view.ceremonies.items → (c : ℕ) → is_ceremony A c ≡ true → ceremony_in view c ≡ Some (ceremony_row A c)
+ceremony-found A view p c k =
+    find-one (λ row. row.number == c) (ceremony_row A c) (ceremonies A) view.ceremonies.items p (own-row A c (all_said planned_number A))
+    ∙ ap (λ b. some_if b (ceremony_row A c)) (number-any A c (all_said planned_number A) ∙ planned-number A c ∙ k)
+
+-- HOLDERS
+
+-- a row that holds the place on the day is the only one of the older and it
+only-holder : (place : Place) (day : ℕ) (r : Appointment) (rows : List Appointment) → stacked rows ≡ true → find (holds place day) rows ≡ Some r → AllByRecursion (λ row. holds place day row ≡ true → row ≡ r) rows
+only-holder place day r [] s e = tt
+only-holder place day r (row ∷ rows) s e = by_test (holds place day row) refl e (only-holder place day r rows parts.1)
+  where
+    parts : (not (place_held_from_by rows row.place row.since) ≡ true) × (stacked rows ≡ true)
+    parts = and_parts (not (place_held_from_by rows row.place row.since)) (stacked rows) s
+
+    nobody_else : (olds : List Appointment) → list_any (holds place day) olds ≡ false → AllByRecursion (λ old. holds place day old ≡ true → old ≡ r) olds
+    nobody_else [] n = tt
+    nobody_else (old ∷ olds) n = let q = or_parts (holds place day old) (list_any (holds place day) olds) n in (λ k. absurd (both_ways _ q.0 k), nobody_else olds q.1)
+
+    free : holds place day row ≡ true → list_any (holds place day) rows ≡ false
+    free k =
+        let a = and_parts (same_place row.place place && nat_le row.since day) (lasts_beyond day row) k in
+        let b = and_parts (same_place row.place place) (nat_le row.since day) a.0 in
+        free-none place row.since day rows (leb-true row.since day b.1)
+        (subst (λ at. place_held_from_by rows at row.since ≡ false) (place-same row.place place b.0) (not-true (place_held_from_by rows row.place row.since) parts.0))
+
+    by_test : (b : Bool) → holds place day row ≡ b → cond b (Some row) (find (holds place day) rows) ≡ Some r → (find (holds place day) rows ≡ Some r → AllByRecursion (λ old. holds place day old ≡ true → old ≡ r) rows)
+        → (holds place day row ≡ true → row ≡ r) × AllByRecursion (λ old. holds place day old ≡ true → old ≡ r) rows
+    by_test true k g ih = (λ _. (let z : Some row ≡ Some r = g in cc), nobody_else rows (free k))
+    by_test false k g ih = (λ z. absurd (both_ways _ k z), ih g)
+
+-- who holds a place
+holder-same : (A : History) → IsRegister A → (rows : List Appointment) → IsPermutation (appointments A) rows → (place : Place) (day : ℕ) → holder_by rows place day ≡ holder A place day
+holder-same A h rows p place day =
+    ap (option_map (λ row. row.who)) (find-same (holds place day) (appointments A) rows p (λ r e. only-holder place day r (appointments A) (orderly A h).0 e))
+    ∙ holder-appointments A h place day
+
+-- SEATS
+
+module _ (A : History) (h : IsRegister A) (view : View) (same : SameTables (tables A) (tables_of view)) where
+  held : (place : Place) (day : ℕ) (who : List ℕ) → is_holder_by view place day who ≡ is_holder A place day who
+  held place day who = ap (is_this who) (holder-same A h view.appointments.items same.appointments place day)
+
+  fits-same : (facility : Facility) (day : ℕ) (seat : Seat) (who : List ℕ) → fits_by view facility day seat who ≡ fits A facility day seat who
+  fits-same facility day (Staff role) who =
+      trained-order (trainings A) view.trainings.items (withdrawals A) view.withdrawals.items same.trainings same.withdrawals who role day ∙ trained-rows A h who role day
+  fits-same facility day AnyCo who =
+      any-same (λ n. is_holder_by view (Places.Co facility n) day who) (λ n. is_holder A (Places.Co facility n) day who) (λ n. held (Places.Co facility n) day who) one_to_seven
+  fits-same facility day (Co n) who = held (Places.Co facility n) day who
+  fits-same facility day AnyRksh who =
+      any-same (λ n. is_holder_by view (Places.Rksh n) day who) (λ n. is_holder A (Places.Rksh n) day who) (λ n. held (Places.Rksh n) day who) one_to_seven
+  fits-same facility day (Rksh n) who = held (Places.Rksh n) day who
+
+  eligible-same : (c t : ℕ) (seat : Seat) (who : List ℕ) → eligible_by view (ceremony_row A c) t seat who ≡ eligible A c t seat who
+  eligible-same c t seat who =
+      ap (λ b. b && fits_by view (facility_of A c) (day_of t) seat who)
+      (sym (same-in (sheet A) view.sheet.items (IsPermutation-trans (sheet A) (reverse (sheet A)) view.sheet.items (IsPermutation-reverse (sheet A)) same.sheet) (alike A h) who c t))
+      ∙ ap (λ b. is_in A who c t && b) (fits-same (facility_of A c) (day_of t) seat who)
+
+  -- what is a seating by the rows is one by the history
+  pub seating-same : (c t : ℕ) (seats : List Seat) (people : List (List ℕ)) → is_seating_by view (ceremony_row A c) t seats people ≡ is_seating A c t seats people
+  seating-same c t [] [] = refl
+  seating-same c t [] (who ∷ people) = refl
+  seating-same c t (seat ∷ seats) [] = refl
+  seating-same c t (seat ∷ seats) (who ∷ people) =
+      ap (λ b. b && not (list_any (same_text who) people) && is_seating_by view (ceremony_row A c) t seats people) (eligible-same c t seat who)
+      ∙ ap (λ b. eligible A c t seat who && not (list_any (same_text who) people) && b) (seating-same c t seats people)

@@ -1,0 +1,75 @@
+-- The recorded people of each step of a register that was signed or passed fill its seats by the rows, in whatever order.
+use Rattle.std.proofs.Common.{◌≡◌, ℕ, Bool, true, false, not, ◌||◌, ◌&&◌, ◌==◌, List, [], ◌∷◌, map, filter, Option, Some, None, option_map, refl, sym, ap, subst, ◌∙◌}
+use Rattle.std.specs.Prelude.{unwrap_or}
+use Rattle.std.specs.List.{list_any}
+use Rattle.std.specs.List.Sorted.{IsPermutation}
+use Rattle.std.proofs.lemmas.Bool.{true≢false, and_right}
+use Rattle.std.proofs.lemmas.List.Sorted.{list_any-IsPermutation, IsPermutation-trans}
+use Rattle.kcr_room.proofs.Lists.{IsPermutation-filter}
+use Rattle.kcr_history.specs.declared.rows.SeatingRow.{SeatingRow}
+use Rattle.kcr_history.specs.declared.rows.StepRow.{StepRow}
+use Rattle.kcr_history.specs.declared.rows.StepState.{StepState}
+use Rattle.kcr_history.specs.declared.rows.StepState.TheVariants.{Undone, Signed, Passed}
+use Rattle.kcr_history.specs.declared.views.Finding.TheVariants as Findings
+use Rattle.kcr_history.specs.declared.views.View.{View}
+use Rattle.kcr_history.specs.Audit.{IsTrueOf, is_done, is_well_seated, ceremony_in, is_ill_seated}
+use Rattle.kcr_history.specs.Ceremonies.{steps_of}
+use Rattle.kcr_history.specs.History.{History, stacked_on}
+use Rattle.kcr_history.specs.Prints.{seated_at, seats_filled}
+use Rattle.kcr_history.specs.Seating.{is_seating}
+use Rattle.kcr_history.specs.Tables.{fate_of, seats_at, step_row, step_keys, steps, seat_rows, seatings, tables, SameTables}
+use Rattle.kcr_history.specs.Machine.{IsRegister}
+use Rattle.kcr_laws.proofs.Seated.{seated}
+use Rattle.kcr_audit.specs.Whole.{tables_of}
+use Rattle.kcr_audit.proofs.Placed.{stacked-alone, seats-in-order, people-of-seats}
+use Rattle.kcr_audit.proofs.Fitting.{ceremony-found, seating-same}
+use Rattle.kcr_audit.proofs.Filed.{is_of, seats_for, filed, done-planned}
+
+-- the people of a step are those of its rows, in whatever order these come
+people-placed : (table shown : List SeatingRow) → IsPermutation table shown → (c k : ℕ) (people : List (List ℕ)) → filter (is_of c k) table ≡ stacked_on (seat_rows c k 0 people) [] → seated_at shown c k ≡ people
+people-placed table shown p c k people e =
+    ap (map (λ row. row.who))
+    (seats-in-order c k 0 people (filter (is_of c k) shown)
+    (IsPermutation-trans (seat_rows c k 0 people) (stacked_on (seat_rows c k 0 people) []) (filter (is_of c k) shown) (stacked-alone (seat_rows c k 0 people))
+    (subst (λ rows. IsPermutation rows (filter (is_of c k) shown)) e (IsPermutation-filter (is_of c k) table shown p))))
+    ∙ people-of-seats c k 0 people
+
+-- the row of a step with what became of it
+abbrev row_with : History → ℕ × ℕ → Option (StepState × ℕ) → StepRow
+row_with A key fate = record (step_row A key) { state = unwrap_or (option_map (λ said. said.0) fate) Undone; at = option_map (λ said. said.1) fate }
+
+module _ (A : History) (h : IsRegister A) (view : View) (same : SameTables (tables A) (tables_of view)) where
+  -- a step that is done is well seated, where its seats are those that its state asks for
+  well : (key : ℕ × ℕ) (state : StepState) (at : ℕ) → fate_of A key.0 key.1 ≡ Some (state, at)
+      → seats_filled (row_with A key (Some (state, at))) ≡ seats_for state (seats_at (steps_of A key.0) key.1)
+      → is_well_seated view (row_with A key (Some (state, at))) (ceremony_in view key.0) (Some at) ≡ true
+  well key state at e s =
+      let record_of = filed A A h (seated A h) key.0 key.1 (state, at) e in
+      ap (λ o. is_well_seated view (row_with A key (Some (state, at))) o (Some at)) (ceremony-found A view same.ceremonies key.0 (done-planned A h key.0 key.1 (state, at) e))
+      ∙ seating-same A h view same key.0 at (seats_filled (row_with A key (Some (state, at)))) (seated_at view.seatings.items key.0 key.1)
+      ∙ ap (λ seats. is_seating A key.0 at seats (seated_at view.seatings.items key.0 key.1)) s
+      ∙ ap (is_seating A key.0 at (seats_for state (seats_at (steps_of A key.0) key.1))) (people-placed (seatings A) view.seatings.items same.seatings key.0 key.1 record_of.people record_of.filed)
+      ∙ record_of.seated
+
+  none-ill : (c s : ℕ) (key : ℕ × ℕ) → is_ill_seated view c s (step_row A key) ≡ false
+  none-ill c s key = by_fate (fate_of A key.0 key.1) refl
+    where
+      undone : (w : Bool) → (key.0 == c && key.1 == s && false && w) ≡ false
+      undone w = ap (λ b. b && w) (and_right (key.0 == c && key.1 == s) false refl)
+
+      filled : (state : StepState) (at : ℕ) → is_well_seated view (row_with A key (Some (state, at))) (ceremony_in view key.0) (Some at) ≡ true → is_ill_seated view c s (row_with A key (Some (state, at))) ≡ false
+      filled state at w = and_right (key.0 == c && key.1 == s && is_done state) _ (ap not w)
+
+      by_fate : (o : Option (StepState × ℕ)) → fate_of A key.0 key.1 ≡ o → is_ill_seated view c s (row_with A key o) ≡ false
+      by_fate None e = undone _
+      by_fate (Some (Undone, at)) e = undone _
+      by_fate (Some (Signed, at)) e = filled Signed at (well key Signed at e refl)
+      by_fate (Some (Passed, at)) e = filled Passed at (well key Passed at e refl)
+
+  none-of-steps : (c s : ℕ) (keys : List (ℕ × ℕ)) → list_any (is_ill_seated view c s) (map (step_row A) keys) ≡ false
+  none-of-steps c s [] = refl
+  none-of-steps c s (key ∷ keys) = ap (λ b. b || list_any (is_ill_seated view c s) (map (step_row A) keys)) (none-ill c s key) ∙ none-of-steps c s keys
+
+  -- no step of a register is ill seated
+  pub no-seating : (c s : ℕ) → IsTrueOf view (Findings.Seating c s) → ⊥
+  no-seating c s t = true≢false (sym t ∙ sym (list_any-IsPermutation (is_ill_seated view c s) (steps A) view.steps.items same.steps) ∙ none-of-steps c s (step_keys A))
