@@ -21,6 +21,4 @@ mod signing;
 pub use decision::decide;
 
 #[cfg(test)]
-mod signing_tests;
-#[cfg(test)]
 mod tests;

@@ -59,15 +59,21 @@ fn allowed_methods(rt: HostRuntime) -> Result<(), Fail> {
     Ok(())
 }
 
+// Who is entered, and under which name, by an act that enters somebody.
+fn entered(act: &Act) -> (&str, &str) {
+    match act {
+        Act::Enter { who, name } => (who.as_str(), name.as_str()),
+        _ => ("", ""),
+    }
+}
+
 #[test]
 fn a_person_entered(rt: HostRuntime) -> Result<(), Fail> {
     let paths = Paths::new(rt.alloc())?;
     let body = b"{\"key\":\"k1\",\"who\":\"AA\",\"name\":\"Ann Abel\"}";
     let command = paths.read_command(rt.alloc(), Method::Post, b"/people", body)?;
     assert_eq!(rt; command.key.as_str(), "k1");
-    let Act::Enter { who, name } = &command.act;
-    assert_eq!(rt; who.as_str(), "AA");
-    assert_eq!(rt; name.as_str(), "Ann Abel");
+    assert_eq!(rt; entered(&command.act), ("AA", "Ann Abel"));
     Ok(())
 }
 
