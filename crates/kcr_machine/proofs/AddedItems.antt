@@ -30,9 +30,9 @@ use Rattle.kcr_history.specs.Views.{IsViewOf}
 use Rattle.kcr_history.specs.Asked.{asks_by}
 use Rattle.kcr_history.specs.Conditions.{conditions, fault, is_full, no_ceremony, no_ca}
 use Rattle.kcr_history.specs.Machine.{IsRegister, with_command}
-use Rattle.kcr_machine.specs.Scene.{is_attended_by}
-use Rattle.kcr_machine.specs.RoomRows.{add_item_refusal_by, add_item_changes_by}
-use Rattle.kcr_machine.specs.ByRows.{new_key_row}
+use Rattle.kcr_scene.specs.Scene.{is_attended_by}
+use Rattle.kcr_acts.specs.RoomRows.{add_item_refusal_by, add_item_changes_by}
+use Rattle.kcr_machine.specs.RowDecision.{new_key_row}
 use Rattle.kcr_machine.proofs.Keyed.{any-map, put-first}
 use Rattle.kcr_machine.proofs.NewKeys.{new_key}
 use Rattle.kcr_machine.proofs.Scenes.{scene_of, scene-shown, ready-by, facility-shown, marks-put}

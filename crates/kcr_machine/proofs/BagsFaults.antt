@@ -35,8 +35,8 @@ use Rattle.kcr_history.specs.Views.{IsViewOf}
 use Rattle.kcr_history.specs.Asked.{asks_by}
 use Rattle.kcr_history.specs.Conditions.{fault, is_full, no_ceremony, no_bag, no_item, no_box, first_with, shut, has_holder_in, no_holder, no_ca}
 use Rattle.kcr_history.specs.Machine.{IsRegister}
-use Rattle.kcr_machine.specs.Scene.{is_attended_by, has_holder_in_by}
-use Rattle.kcr_machine.specs.CustodyRows.{has_keeper_by, place_to_take, place_to_put, seal_refusal_in, take_refusal_in, put_refusal_in, cut_refusal_in}
+use Rattle.kcr_scene.specs.Scene.{is_attended_by, has_holder_in_by}
+use Rattle.kcr_acts.specs.CustodyRows.{has_keeper_by, place_to_take, place_to_put, seal_refusal_in, take_refusal_in, put_refusal_in, cut_refusal_in}
 use Rattle.kcr_machine.proofs.Scenes.{facility-shown, scene_of, scene-shown, ready-by}
 use Rattle.kcr_machine.proofs.InRoom.{attended-shown, holder_in-shown}
 use Rattle.kcr_machine.proofs.BagsFound.{among}

@@ -23,7 +23,8 @@ use Rattle.kcr_history.specs.Views.{IsViewOf}
 use Rattle.kcr_history.specs.Asked.{asks_by}
 use Rattle.kcr_history.specs.Conditions.{fault}
 use Rattle.kcr_history.specs.Machine.{IsRegister, with_command}
-use Rattle.kcr_machine.specs.ByRows.{changes_by, new_key_row}
+use Rattle.kcr_acts.specs.ByRows.{changes_by}
+use Rattle.kcr_machine.specs.RowDecision.{new_key_row}
 use Rattle.kcr_machine.proofs.Scenes.{facility-shown, marks-put}
 use Rattle.kcr_machine.proofs.NewKeys.{new_key}
 use Rattle.kcr_machine.proofs.BagsRows.{bags-seal, bags-take, bags-put, bags-cut, items-seal, items-take, items-put, items-cut}

@@ -26,7 +26,8 @@ use Rattle.kcr_history.specs.Asked.{asks_by}
 use Rattle.kcr_history.specs.Conditions.{conditions, fault, is_full}
 use Rattle.kcr_history.specs.Machine.{with_command}
 use Rattle.kcr_history.proofs.Stacked.{or_parts}
-use Rattle.kcr_machine.specs.ByRows.{refusal_by, changes_by, new_key_row}
+use Rattle.kcr_acts.specs.ByRows.{refusal_by, changes_by}
+use Rattle.kcr_machine.specs.RowDecision.{new_key_row}
 use Rattle.kcr_machine.proofs.Keyed.{put-new}
 use Rattle.kcr_machine.proofs.NewKeys.{new_key}
 

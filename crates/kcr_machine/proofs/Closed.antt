@@ -36,9 +36,10 @@ use Rattle.kcr_history.specs.Views.{is_step_of, IsViewOf}
 use Rattle.kcr_history.specs.Asked.{asks_by}
 use Rattle.kcr_history.specs.Conditions.{conditions, fault, is_full, not_open, late, full, unfinished, is_empty}
 use Rattle.kcr_history.specs.Machine.{IsRegister, with_command}
-use Rattle.kcr_machine.specs.Signing.{is_done}
-use Rattle.kcr_machine.specs.CeremonyRows.{is_undone, is_undone_of, lies_on_table, closing_refusal}
-use Rattle.kcr_machine.specs.ByRows.{refusal_by, changes_by, new_key_row}
+use Rattle.kcr_scene.specs.Signing.{is_done}
+use Rattle.kcr_acts.specs.CeremonyRows.{is_undone, is_undone_of, lies_on_table, closing_refusal}
+use Rattle.kcr_acts.specs.ByRows.{refusal_by, changes_by}
+use Rattle.kcr_machine.specs.RowDecision.{new_key_row}
 use Rattle.kcr_machine.proofs.Shown.{any-shown}
 use Rattle.kcr_machine.proofs.Keyed.{some_if, any-map, put-at}
 use Rattle.kcr_machine.proofs.Scenes.{met, ShowsCeremony, ceremony-shown, planned-number, open-state, mark-shown, turned}

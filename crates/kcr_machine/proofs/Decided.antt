@@ -26,8 +26,9 @@ use Rattle.kcr_history.specs.Conditions.{conditions, fault, is_full}
 use Rattle.kcr_history.specs.Machine.{Accepts, Refuses, Sitting, sitting, answer_to, with_command, accepts, seats, acts, repeats, IsRegister, IsAcceptance, IsRepeat, IsDecision}
 use Rattle.kcr_history.proofs.Steps.{took, number_of_answer}
 use Rattle.kcr_history.proofs.Words.{row_of_key-keys}
-use Rattle.kcr_machine.specs.ByRows.{refusal_by, is_full_by, is_overdone, sitting_by, IsSeatedFor, IsUnseatedFor, all_changes_by, answer_by, new_key_row, IsRefused, AcceptsNew, RepeatsRow, IsRowVerdict, IsRowDecision}
-use Rattle.kcr_machine.specs.Signing.{staff, IsSeatedBy, IsUnseatedBy}
+use Rattle.kcr_acts.specs.ByRows.{refusal_by, is_overdone, sitting_by, IsSeatedFor, IsUnseatedFor, all_changes_by, IsRefused}
+use Rattle.kcr_machine.specs.RowDecision.{is_full_by, answer_by, new_key_row, AcceptsNew, RepeatsRow, IsRowVerdict, IsRowDecision}
+use Rattle.kcr_scene.specs.Signing.{staff, IsSeatedBy, IsUnseatedBy}
 use Rattle.kcr_machine.proofs.Refusals.{enter-fault, train-fault, withdraw-fault, appoint-fault, replace-fault, release-fault}
 use Rattle.kcr_machine.proofs.Boxes.{add_box-fault}
 use Rattle.kcr_machine.proofs.Opening.{open-fault}

@@ -1,6 +1,5 @@
 pub mod Shown
 pub mod Withdrawn
-pub mod Unless
 pub mod Keyed
 pub mod Scenes
 pub mod InRoom
@@ -20,18 +19,14 @@ pub mod BagsWords
 pub mod BagsRows
 pub mod BagsFaults
 pub mod BagsLeads
-pub mod BagsTold
 pub mod UsedRooms
 pub mod Closed
 pub mod Turned
 pub mod AddedItems
-pub mod RoomTold
 pub mod Members
 pub mod SheetStays
-pub mod LastStays
 pub mod SheetFaults
 pub mod SheetLeads
 pub mod Changes
 pub mod Signed
-pub mod Plain
 pub mod Decided

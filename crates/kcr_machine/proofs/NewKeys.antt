@@ -10,7 +10,7 @@ use Rattle.kcr_history.specs.Tables.{keys, key_row}
 use Rattle.kcr_history.specs.Changes.{same_key_row}
 use Rattle.kcr_history.specs.Views.{row_of_key, is_of_key}
 use Rattle.kcr_history.proofs.Words.{row_of_key-keys}
-use Rattle.kcr_machine.specs.ByRows.{new_key_row}
+use Rattle.kcr_machine.specs.RowDecision.{new_key_row}
 use Rattle.kcr_machine.proofs.Keyed.{put-new}
 
 -- no row of the key

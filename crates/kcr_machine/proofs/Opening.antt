@@ -32,9 +32,10 @@ use Rattle.kcr_history.specs.Asked.{asks_by}
 use Rattle.kcr_history.specs.Conditions.{conditions, fault, is_full, busy}
 use Rattle.kcr_history.specs.Machine.{IsRegister, with_command}
 use Rattle.kcr_history.proofs.Steps.{took}
-use Rattle.kcr_machine.specs.Scene.{ceremony_by}
-use Rattle.kcr_machine.specs.CeremonyRows.{is_open_beside, opening_refusal}
-use Rattle.kcr_machine.specs.ByRows.{refusal_by, changes_by, new_key_row}
+use Rattle.kcr_scene.specs.Scene.{ceremony_by}
+use Rattle.kcr_acts.specs.CeremonyRows.{is_open_beside, opening_refusal}
+use Rattle.kcr_acts.specs.ByRows.{refusal_by, changes_by}
+use Rattle.kcr_machine.specs.RowDecision.{new_key_row}
 use Rattle.kcr_machine.proofs.Keyed.{some_if, any-map, put-at, put-first}
 use Rattle.kcr_machine.proofs.Scenes.{met, ceremony-shown, planned-number, open-state, mark-after, marked-opened, opened-number, turned}
 use Rattle.kcr_machine.proofs.NewKeys.{new_key}

@@ -28,8 +28,9 @@ use Rattle.kcr_history.specs.Asked.{asks_by}
 use Rattle.kcr_history.specs.Conditions.{conditions, fault, is_full}
 use Rattle.kcr_history.specs.Machine.{IsRegister, with_command}
 use Rattle.kcr_history.proofs.Steps.{took}
-use Rattle.kcr_machine.specs.CeremonyRows.{planned_row, undone_row, undone_rows}
-use Rattle.kcr_machine.specs.ByRows.{refusal_by, changes_by, new_key_row}
+use Rattle.kcr_acts.specs.CeremonyRows.{planned_row, undone_row, undone_rows}
+use Rattle.kcr_acts.specs.ByRows.{refusal_by, changes_by}
+use Rattle.kcr_machine.specs.RowDecision.{new_key_row}
 use Rattle.kcr_machine.proofs.Keyed.{any-map, put-new, put-first}
 use Rattle.kcr_machine.proofs.Scenes.{met, turned, planned-number, opened-planned, known-shown}
 use Rattle.kcr_machine.proofs.Opening.{never-closed}

@@ -26,7 +26,7 @@ use Rattle.kcr_history.proofs.Words.{is_person-people, ever_trained-trainings, i
 use Rattle.kcr_history.proofs.Stacked.{open-order, only-one}
 use Rattle.kcr_history.proofs.Orderly.{orderly}
 use Rattle.kcr_history.proofs.Settled.{settled-rows}
-use Rattle.kcr_machine.specs.ByRows.{refusal_by}
+use Rattle.kcr_acts.specs.ByRows.{refusal_by}
 use Rattle.kcr_machine.proofs.Shown.{any-shown, find-shown}
 use Rattle.kcr_machine.proofs.Withdrawn.{trained_from-shown}
 

@@ -17,7 +17,7 @@ use Rattle.kcr_history.specs.History.{History}
 use Rattle.kcr_history.specs.Ceremonies.{facility_of}
 use Rattle.kcr_history.specs.Room.{sheet, is_in, present}
 use Rattle.kcr_history.specs.Seating.{fits, eligible, is_seating, comes_first, IsFirst, is_eligible_at, who_fit, rise, is_short, is_proper_part, IsLeast}
-use Rattle.kcr_machine.specs.Signing.{on_seat, fits_of}
+use Rattle.kcr_scene.specs.Signing.{on_seat, fits_of}
 use Rattle.kcr_machine.proofs.Shown.{any-filter}
 use Rattle.kcr_machine.proofs.StepRows.{or_true}
 use Rattle.kcr_machine.proofs.Lift.{IsSeatingOf, IsFirstOf, can_take_one, any-ext, first-lift, takers}

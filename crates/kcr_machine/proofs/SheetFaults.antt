@@ -42,7 +42,7 @@ use Rattle.kcr_history.specs.Conditions.{conditions, fault, is_full, first_with,
 use Rattle.kcr_history.specs.Machine.{IsRegister}
 use Rattle.kcr_history.proofs.Steps.{took}
 use Rattle.kcr_history.proofs.Words.{is_person-people}
-use Rattle.kcr_machine.specs.SheetRows.{elsewhere, last_elsewhere, stays_of_request, first_unknown, first_twice, named_twice, room_refusal, sheet_refusal_by}
+use Rattle.kcr_acts.specs.SheetRows.{elsewhere, last_elsewhere, stays_of_request, first_unknown, first_twice, named_twice, room_refusal, sheet_refusal_by}
 use Rattle.kcr_machine.proofs.Shown.{any-shown}
 use Rattle.kcr_machine.proofs.Members.{IsIn, in-append, in-front, in-behind, in-filter, filter-in, in-filter_map, filter_map-in, in-any}
 use Rattle.kcr_machine.proofs.SheetStays.{IsClear, clear-order, clear-sheet, last-in, turn-last}

@@ -31,8 +31,8 @@ use Rattle.kcr_history.specs.Views.{ShowsLast, IsViewOf}
 use Rattle.kcr_history.specs.Asked.{asks_by}
 use Rattle.kcr_history.specs.Conditions.{first_with, out_of_turn}
 use Rattle.kcr_history.specs.Machine.{with_command}
-use Rattle.kcr_machine.specs.SheetRows.{stays_of_request, sheet_changes_by}
-use Rattle.kcr_machine.specs.ByRows.{new_key_row}
+use Rattle.kcr_acts.specs.SheetRows.{stays_of_request, sheet_changes_by}
+use Rattle.kcr_machine.specs.RowDecision.{new_key_row}
 use Rattle.kcr_machine.proofs.Members.{IsIn, in-front, in-filter, filter-in, any-in, in-any, none-in, in-order}
 use Rattle.kcr_machine.proofs.SheetStays.{IsClear, clear-order, clear-sheet, before-enter}
 use Rattle.kcr_machine.proofs.SheetFaults.{turns-first, among-all, stays-shown}

@@ -39,9 +39,9 @@ use Rattle.kcr_history.specs.Views.{IsViewOf}
 use Rattle.kcr_history.specs.Asked.{asks_by}
 use Rattle.kcr_history.specs.Conditions.{conditions, fault, is_full}
 use Rattle.kcr_history.specs.Machine.{Sitting, answer_to, with_command, IsRegister}
-use Rattle.kcr_machine.specs.Scene.{ceremony_by, facility_by}
-use Rattle.kcr_machine.specs.Signing.{step_by, seats_by, next_by, sign_refusal, except_refusal, is_holder_by, fits_by, on_seat, fits_of, room_by, IsSeatedBy, IsUnseatedBy, staff, step_change, mark_change, seat_changes, exception_change}
-use Rattle.kcr_machine.specs.ByRows.{new_key_row}
+use Rattle.kcr_scene.specs.Scene.{ceremony_by, facility_by}
+use Rattle.kcr_scene.specs.Signing.{step_by, seats_by, next_by, sign_refusal, except_refusal, is_holder_by, fits_by, on_seat, fits_of, room_by, IsSeatedBy, IsUnseatedBy, staff, step_change, mark_change, seat_changes, exception_change}
+use Rattle.kcr_machine.specs.RowDecision.{new_key_row}
 use Rattle.kcr_machine.proofs.Alone.{rooms}
 use Rattle.kcr_machine.proofs.NewKeys.{new_key}
 use Rattle.kcr_machine.proofs.InRoom.{trained-all, holder-shown}

@@ -30,7 +30,7 @@ use Rattle.kcr_history.specs.Machine.{answer_to, IsRegister}
 use Rattle.kcr_history.specs.Tables.{numbered, step_keys, step_keys_after, step_done, fate_of, step_row, steps, exceptions}
 use Rattle.kcr_history.specs.Views.{is_step_of, is_exception_of}
 use Rattle.kcr_history.proofs.Steps.{took}
-use Rattle.kcr_machine.specs.Signing.{is_done, done_by, stated_by, step_by}
+use Rattle.kcr_scene.specs.Signing.{is_done, done_by, stated_by, step_by}
 use Rattle.kcr_machine.proofs.Keyed.{some_if, find-view}
 use Rattle.kcr_machine.proofs.Scenes.{met}
 

@@ -36,8 +36,8 @@ use Rattle.kcr_history.specs.Asked.{asks_by}
 use Rattle.kcr_history.specs.Conditions.{fault, is_full, no_ceremony, no_person, may_turn}
 use Rattle.kcr_history.specs.Machine.{IsRegister, with_command}
 use Rattle.kcr_history.proofs.Words.{is_person-people}
-use Rattle.kcr_machine.specs.RoomRows.{keeper_by, turn_refusal_by, turn_changes_by}
-use Rattle.kcr_machine.specs.ByRows.{new_key_row}
+use Rattle.kcr_acts.specs.RoomRows.{keeper_by, turn_refusal_by, turn_changes_by}
+use Rattle.kcr_machine.specs.RowDecision.{new_key_row}
 use Rattle.kcr_machine.proofs.Shown.{any-shown}
 use Rattle.kcr_machine.proofs.NewKeys.{new_key}
 use Rattle.kcr_machine.proofs.Scenes.{scene_of, scene-shown, ready-by, facility-shown, marks-put}

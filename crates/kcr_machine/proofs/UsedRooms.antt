@@ -31,7 +31,7 @@ use Rattle.kcr_history.specs.Conditions.{conditions, fault, first_with, out_of_t
 use Rattle.kcr_history.specs.Machine.{IsRegister}
 use Rattle.kcr_history.specs.Views.{is_stay_of}
 use Rattle.kcr_history.proofs.Steps.{took}
-use Rattle.kcr_machine.specs.CeremonyRows.{is_unended}
+use Rattle.kcr_acts.specs.CeremonyRows.{is_unended}
 use Rattle.kcr_machine.proofs.Keyed.{any-map}
 use Rattle.kcr_machine.proofs.Shown.{any-shown}
 

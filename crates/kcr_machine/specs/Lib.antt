@@ -1,7 +1,1 @@
-pub mod Scene
-pub mod Signing
-pub mod CeremonyRows
-pub mod CustodyRows
-pub mod RoomRows
-pub mod SheetRows
-pub mod ByRows
+pub mod RowDecision

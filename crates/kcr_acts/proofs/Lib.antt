@@ -1,0 +1,5 @@
+pub mod Unless
+pub mod BagsTold
+pub mod RoomTold
+pub mod LastStays
+pub mod Plain

@@ -1,0 +1,5 @@
+pub mod CeremonyRows
+pub mod CustodyRows
+pub mod RoomRows
+pub mod SheetRows
+pub mod ByRows

@@ -1,0 +1,262 @@
+//! Acts on bags, over the rows of a view.
+ghost use Rattle.std.specs.Prelude.{◌≡◌, ◌∷◌, ◌++◌, MatchResult, IfOk, OnOk, map};
+ghost use Rattle.kcr_base.specs.Refuse.{unless, Decides};
+ghost use Rattle.kcr_custody.specs.declared.Spot.TheVariants.{Table, Spent};
+ghost use Rattle.kcr_custody.specs.Custody;
+ghost use Rattle.kcr_history.specs.declared.commands.Act.TheVariants as Kinds;
+ghost use Rattle.kcr_history.specs.declared.views.Change.TheVariants.{PutBag, PutItem, PutMark};
+ghost use Rattle.kcr_acts.specs.ByRows.{HasChanges, HasRefusal};
+ghost use Rattle.kcr_acts.specs.CustodyRows;
+
+use kcr_base::{Facility, Moment, Place, Refusal, Role, Serial};
+use kcr_custody::{Bag, Item, Moved, Scene, Store};
+use kcr_history::{Change, Items, View};
+use kcr_scene::scene;
+use std::alloc::{AllocError, Global};
+
+/// Where a ceremony takes place.
+fn facility_in(view: &View, ceremony: u32) -> Facility
+    ensures { result ≡ CustodyRows.facility_in view.now ceremony }
+{
+    scene::facility(&scene::ceremony_row(view, ceremony))
+}
+
+/// Whether the holder of a place is in the room; false where no place is meant.
+fn has_keeper(
+    alloc: Global,
+    view: &View,
+    ceremony: u32,
+    at: Moment,
+    place: Option<Place>,
+) -> Result<bool, AllocError>
+    ensures { IfOk result (λ answer. answer ≡ CustodyRows.has_keeper_by view.now ceremony at place) }
+{
+    match place {
+        Some(place) => scene::has_holder_in(alloc, view, place, ceremony, at),
+        None => Ok(false),
+    }
+}
+
+/// The rows of items as changes, after others.
+fn add_items(changes: &mut Vec<Change>, rows: &[Item]) -> Result<(), AllocError>
+    ensures { OnOk result (changes.new.items ≡ changes.old.items ++ map PutItem rows.now) }
+{
+    for row in rows {
+        changes.push(Change::PutItem(*row))?;
+    }
+    Ok(())
+}
+
+/// The rows of a bag, of its ceremony's mark and of the items that are moved with it, as changes.
+fn moved_changes(
+    alloc: Global,
+    moved: &Moved,
+    ceremony: u32,
+    at: Moment,
+) -> Result<Vec<Change>, AllocError>
+    ensures { IfOk result (λ changes. changes.items ≡ PutBag moved.now.bag ∷ PutMark (record { ceremony = ceremony; at = at }) ∷ map PutItem moved.now.items) }
+{
+    let mut changes = scene::with_mark(alloc, Change::PutBag(moved.bag), ceremony, at)?;
+    add_items(&mut changes, moved.items.as_slice())?;
+    Ok(changes)
+}
+
+/// The rows of a seal, by the rows of the view.
+fn sealed(
+    alloc: Global,
+    view: &View,
+    scene: &Scene,
+    serial: Serial,
+    items: &Items,
+) -> Result<Moved, Refusal>
+    ensures { Decides (Custody.seal_refusal scene.now view.now.bags.items view.now.items.items serial items.now)
+        (record { bag = record { serial = serial; spot = Table scene.now.facility }; items = Custody.packed serial items.now }) result }
+{
+    kcr_custody::seal(
+        alloc,
+        scene,
+        &view.bags,
+        &view.items,
+        serial,
+        items.as_slice(),
+    )
+}
+
+/// Seals items into a new bag.
+pub(crate) fn seal(
+    alloc: Global,
+    view: &View,
+    full: bool,
+    ceremony: u32,
+    serial: Serial,
+    items: &Items,
+    at: Moment,
+) -> Result<Vec<Change>, Refusal>
+    ensures { MatchResult result
+        (λ changes. HasChanges view.now full (Kinds.Seal ceremony serial items.now at) changes.items)
+        (λ refusal. HasRefusal view.now full (Kinds.Seal ceremony serial items.now at) refusal) }
+{
+    let has_ca = scene::is_attended(alloc, view, Role::Ca, ceremony, at)?;
+    let scene = scene::scene(view, ceremony, at, full, has_ca);
+    match sealed(alloc, view, &scene, serial, items) {
+        Ok(moved) => Ok(moved_changes(alloc, &moved, ceremony, at)?),
+        Err(refusal) => Err(refusal),
+    }
+}
+
+/// The place of the box in which a bag is.
+fn place_to_take(view: &View, facility: Facility, serial: Serial) -> Option<Place>
+    ensures { result ≡ Custody.place_of view.now.boxes.items facility (Custody.box_of (Custody.spot_by view.now.bags.items serial)) }
+{
+    kcr_custody::place_for_take(&view.boxes, &view.bags, facility, serial)
+}
+
+/// Whether the holder of the place of a bag's box is in the room; false where the bag is in no box.
+fn has_keeper_to_take(
+    alloc: Global,
+    view: &View,
+    ceremony: u32,
+    serial: Serial,
+    at: Moment,
+) -> Result<bool, AllocError>
+    ensures { IfOk result (λ answer. answer ≡ CustodyRows.has_keeper_by view.now ceremony at (CustodyRows.place_to_take view.now ceremony serial)) }
+{
+    let place = place_to_take(view, facility_in(view, ceremony), serial);
+    has_keeper(alloc, view, ceremony, at, place)
+}
+
+/// The row of a bag that is taken, by the rows of the view.
+fn taken(view: &View, scene: &Scene, serial: Serial, has_holder: bool) -> Result<Bag, Refusal>
+    ensures { result ≡ unless
+        (Custody.take_refusal scene.now view.now.safes.items view.now.boxes.items view.now.bags.items serial has_holder)
+        (record { serial = serial; spot = Table scene.now.facility }) }
+{
+    kcr_custody::take(
+        scene,
+        &view.safes,
+        &view.boxes,
+        &view.bags,
+        serial,
+        has_holder,
+    )
+}
+
+/// Takes a bag out of a safe.
+#[tactic(auto, using(crate::proofs::Unless::refused, crate::proofs::Unless::accepted))]
+pub(crate) fn take(
+    alloc: Global,
+    view: &View,
+    full: bool,
+    ceremony: u32,
+    serial: Serial,
+    at: Moment,
+) -> Result<Vec<Change>, Refusal>
+    ensures { MatchResult result
+        (λ changes. HasChanges view.now full (Kinds.Take ceremony serial at) changes.items)
+        (λ refusal. HasRefusal view.now full (Kinds.Take ceremony serial at) refusal) }
+{
+    let has_holder = has_keeper_to_take(alloc, view, ceremony, serial, at)?;
+    let has_ca = scene::is_attended(alloc, view, Role::Ca, ceremony, at)?;
+    let scene = scene::scene(view, ceremony, at, full, has_ca);
+    match taken(view, &scene, serial, has_holder) {
+        Ok(bag) => Ok(scene::with_mark(alloc, Change::PutBag(bag), ceremony, at)?),
+        Err(refusal) => Err(refusal),
+    }
+}
+
+/// The place of the box into which a bag is put.
+fn place_to_put(view: &View, facility: Facility, to: Store) -> Option<Place>
+    ensures { result ≡ Custody.place_of view.now.boxes.items facility (Custody.box_of_store to) }
+{
+    kcr_custody::place_for_put(&view.boxes, facility, to)
+}
+
+/// Whether the holder of the place of the box that a bag is put into is in the room; false where it is put into no box.
+fn has_keeper_to_put(
+    alloc: Global,
+    view: &View,
+    ceremony: u32,
+    to: Store,
+    at: Moment,
+) -> Result<bool, AllocError>
+    ensures { IfOk result (λ answer. answer ≡ CustodyRows.has_keeper_by view.now ceremony at (CustodyRows.place_to_put view.now ceremony to)) }
+{
+    let place = place_to_put(view, facility_in(view, ceremony), to);
+    has_keeper(alloc, view, ceremony, at, place)
+}
+
+/// The row of a bag that is put away, by the rows of the view.
+fn put_away(
+    view: &View,
+    scene: &Scene,
+    serial: Serial,
+    to: Store,
+    has_holder: bool,
+) -> Result<Bag, Refusal>
+    ensures { result ≡ unless
+        (Custody.put_refusal scene.now view.now.safes.items view.now.boxes.items view.now.bags.items serial to has_holder)
+        (record { serial = serial; spot = Custody.spot_of_store scene.now.facility to }) }
+{
+    kcr_custody::put(
+        scene,
+        &view.safes,
+        &view.boxes,
+        &view.bags,
+        serial,
+        to,
+        has_holder,
+    )
+}
+
+/// Puts a bag into safe 1 or into a box.
+#[tactic(auto, using(crate::proofs::Unless::refused, crate::proofs::Unless::accepted))]
+pub(crate) fn put(
+    alloc: Global,
+    view: &View,
+    full: bool,
+    ceremony: u32,
+    serial: Serial,
+    to: Store,
+    at: Moment,
+) -> Result<Vec<Change>, Refusal>
+    ensures { MatchResult result
+        (λ changes. HasChanges view.now full (Kinds.Put ceremony serial to at) changes.items)
+        (λ refusal. HasRefusal view.now full (Kinds.Put ceremony serial to at) refusal) }
+{
+    let has_holder = has_keeper_to_put(alloc, view, ceremony, to, at)?;
+    let has_ca = scene::is_attended(alloc, view, Role::Ca, ceremony, at)?;
+    let scene = scene::scene(view, ceremony, at, full, has_ca);
+    match put_away(view, &scene, serial, to, has_holder) {
+        Ok(bag) => Ok(scene::with_mark(alloc, Change::PutBag(bag), ceremony, at)?),
+        Err(refusal) => Err(refusal),
+    }
+}
+
+/// The rows of a cut, by the rows of the view.
+fn cut_open(alloc: Global, view: &View, scene: &Scene, serial: Serial) -> Result<Moved, Refusal>
+    ensures { Decides (Custody.cut_refusal scene.now view.now.bags.items serial)
+        (record { bag = record { serial = serial; spot = Spent }; items = Custody.loosened view.now.items.items serial scene.now.facility }) result }
+{
+    kcr_custody::cut(alloc, scene, &view.bags, &view.items, serial)
+}
+
+/// Cuts a bag open.
+pub(crate) fn cut(
+    alloc: Global,
+    view: &View,
+    full: bool,
+    ceremony: u32,
+    serial: Serial,
+    at: Moment,
+) -> Result<Vec<Change>, Refusal>
+    ensures { MatchResult result
+        (λ changes. HasChanges view.now full (Kinds.Cut ceremony serial at) changes.items)
+        (λ refusal. HasRefusal view.now full (Kinds.Cut ceremony serial at) refusal) }
+{
+    let has_ca = scene::is_attended(alloc, view, Role::Ca, ceremony, at)?;
+    let scene = scene::scene(view, ceremony, at, full, has_ca);
+    match cut_open(alloc, view, &scene, serial) {
+        Ok(moved) => Ok(moved_changes(alloc, &moved, ceremony, at)?),
+        Err(refusal) => Err(refusal),
+    }
+}

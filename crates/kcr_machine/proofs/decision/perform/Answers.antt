@@ -1,7 +1,0 @@
-use Rattle.std.proofs.Common.{refl}
-use Rattle.kcr_machine.proofs.Plain.{plain-acted}
-use Rattle.kcr_machine.proofs.decision.perform.Goals as goal
-
-pub returns-in_ok-changes_of-in_default : goal.returns-in_ok-changes_of-in_default
-returns-in_ok-changes_of-in_default c =
-    plain-acted c.args.view.now c.args.full c.args.act.now _ c.in_default.not-Sign c.in_default.not-Except c.in_ok-changes_of-in_default.ensures refl refl refl
