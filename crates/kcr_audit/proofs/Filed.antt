@@ -24,7 +24,7 @@ use Rattle.kcr_history.specs.Conditions.{conditions, fault, no_ceremony}
 use Rattle.kcr_history.specs.Laws.{is_seated}
 use Rattle.kcr_history.specs.Machine.{answer_to, sitting, IsRegister}
 use Rattle.kcr_history.proofs.Steps.{took}
-use Rattle.kcr_audit.proofs.Done.{next_signed, next-undone}
+use Rattle.kcr_laws.proofs.Done.{next_signed, next-undone}
 
 abbrev pub is_of : ℕ → ℕ → SeatingRow → Bool
 is_of c k row = row.ceremony == c && row.step == k

@@ -1,20 +1,20 @@
 -- Who fits a seat by the rows of a register, in whatever order, is who fits it by its history.
-use Rattle.std.proofs.Common.{◌≡◌, ℕ, Bool, true, false, cond, not, ◌||◌, ◌&&◌, ◌==◌, nat_le, List, [], ◌∷◌, map, find, reverse, Option, Some, None, option_map, refl, sym, ap, ◌∙◌, subst}
+use Rattle.std.proofs.Common.{◌≡◌, ℕ, Bool, true, false, cond, not, ◌||◌, ◌&&◌, ◌==◌, List, [], ◌∷◌, map, find, reverse, Option, Some, None, option_map, refl, sym, ap, ◌∙◌}
 use Rattle.std.specs.Prelude.{is_some}
 use Rattle.std.specs.List.{list_any, AllByRecursion, cons_option}
 use Rattle.std.specs.List.Sorted.{IsPermutation}
 use Rattle.std.specs.Result.{result_unwrap_or}
-use Rattle.std.proofs.lemmas.Bool.{both_ways, and_parts, or_parts, leb-true, not-true, eqb-true}
+use Rattle.std.proofs.lemmas.Bool.{eqb-true}
 use Rattle.std.proofs.lemmas.List.Sorted.{list_any-IsPermutation, All-permutation, IsPermutation-reverse, IsPermutation-trans}
 use Rattle.std.proofs.lemmas.List.Elements.{All-from_recursion, recursion_from_All}
 use Rattle.kcr_base.specs.Days.{day_of}
 use Rattle.kcr_base.specs.Rows.{or_else}
-use Rattle.kcr_base.specs.Same.{same_text, same_place, is_this}
+use Rattle.kcr_base.specs.Same.{same_text, is_this}
 use Rattle.kcr_base.specs.declared.place.Facility.{Facility}
 use Rattle.kcr_base.specs.declared.place.Place.{Place}
 use Rattle.kcr_base.specs.declared.place.Place.TheVariants as Places
 use Rattle.kcr_people.specs.declared.Appointment.{Appointment}
-use Rattle.kcr_people.specs.People.{holder_by, holds, lasts_beyond, place_held_from_by}
+use Rattle.kcr_people.specs.People.{holder_by, holds}
 use Rattle.kcr_people.proofs.Orders.{any-same, trained-order}
 use Rattle.kcr_script.specs.Reading.{script_of}
 use Rattle.kcr_script.specs.declared.seat.Seat.{Seat}
@@ -31,48 +31,18 @@ use Rattle.kcr_history.specs.Seating.{fits, eligible, is_seating, one_to_seven}
 use Rattle.kcr_history.specs.Training.{holder, is_holder}
 use Rattle.kcr_history.specs.Tables.{appointments, trainings, withdrawals, ceremonies, ceremony_row, planned_number, tables, SameTables}
 use Rattle.kcr_history.specs.Machine.{IsRegister}
-use Rattle.kcr_history.proofs.Stacked.{stacked, place-same, free-none, find-none}
+use Rattle.kcr_history.proofs.Stacked.{find-none}
 use Rattle.kcr_history.proofs.Orderly.{orderly, holder-appointments}
 use Rattle.kcr_history.proofs.Trained.{trained-rows}
 use Rattle.kcr_audit.specs.Whole.{tables_of}
 use Rattle.kcr_audit.proofs.Alike.{alike, same-in}
-
--- A ROW IS FOUND
-
-abbrev some_if : {X : Type 0} → Bool → X → Option X
-some_if true x = Some x
-some_if false x = None
-
--- all that passes is one row: it is the one that is found
-find-all : {X : Type 0} (test : X → Bool) (v : X) (rows : List X) → AllByRecursion (λ x. test x ≡ true → x ≡ v) rows → find test rows ≡ some_if (list_any test rows) v
-find-all test v [] a = refl
-find-all test v (x ∷ rows) a = by_test (test x) a.0 (find-all test v rows a.1)
-  where
-    by_test : (b : Bool) → (b ≡ true → x ≡ v) → find test rows ≡ some_if (list_any test rows) v → cond b (Some x) (find test rows) ≡ some_if (b || list_any test rows) v
-    by_test true f ih = ap Some (f refl)
-    by_test false f ih = ih
+use Rattle.kcr_laws.proofs.Finds.{some_if, find-all, none-find, some-find, only-holder}
 
 -- in any order
 find-one : {X : Type 0} (test : X → Bool) (v : X) (table rows : List X) → IsPermutation table rows → AllByRecursion (λ x. test x ≡ true → x ≡ v) table → find test rows ≡ some_if (list_any test table) v
 find-one test v table rows p a =
     find-all test v rows (recursion_from_All (λ x. test x ≡ true → x ≡ v) rows (All-permutation (λ x. test x ≡ true → x ≡ v) table rows p (All-from_recursion (λ x. test x ≡ true → x ≡ v) table a)))
     ∙ ap (λ b. some_if b v) (sym (list_any-IsPermutation test table rows p))
-
-none-find : {X : Type 0} (test : X → Bool) (rows : List X) → find test rows ≡ None → list_any test rows ≡ false
-none-find test [] h = refl
-none-find test (row ∷ rows) h = by_test (test row) h (none-find test rows)
-  where
-    by_test : (b : Bool) → cond b (Some row) (find test rows) ≡ None → (find test rows ≡ None → list_any test rows ≡ false) → (b || list_any test rows) ≡ false
-    by_test true h ih = absurd (let e : Some row ≡ None = h in cc)
-    by_test false h ih = ih h
-
-some-find : {X : Type 0} (test : X → Bool) (r : X) (rows : List X) → find test rows ≡ Some r → list_any test rows ≡ true
-some-find test r [] h = absurd (let e : None ≡ Some r = h in cc)
-some-find test r (row ∷ rows) h = by_test (test row) h (some-find test r rows)
-  where
-    by_test : (b : Bool) → cond b (Some row) (find test rows) ≡ Some r → (find test rows ≡ Some r → list_any test rows ≡ true) → (b || list_any test rows) ≡ true
-    by_test true h ih = refl
-    by_test false h ih = ih h
 
 -- where all that passes in the table is the first that does, it is found in any order
 find-same : {X : Type 0} (test : X → Bool) (table rows : List X) → IsPermutation table rows → ((r : X) → find test table ≡ Some r → AllByRecursion (λ row. test row ≡ true → row ≡ r) table)
@@ -111,32 +81,6 @@ pub ceremony-found : (A : History) (view : View) → IsPermutation (ceremonies A
 ceremony-found A view p c k =
     find-one (λ row. row.number == c) (ceremony_row A c) (ceremonies A) view.ceremonies.items p (own-row A c (all_said planned_number A))
     ∙ ap (λ b. some_if b (ceremony_row A c)) (number-any A c (all_said planned_number A) ∙ planned-number A c ∙ k)
-
--- HOLDERS
-
--- a row that holds the place on the day is the only one of the older and it
-only-holder : (place : Place) (day : ℕ) (r : Appointment) (rows : List Appointment) → stacked rows ≡ true → find (holds place day) rows ≡ Some r → AllByRecursion (λ row. holds place day row ≡ true → row ≡ r) rows
-only-holder place day r [] s e = tt
-only-holder place day r (row ∷ rows) s e = by_test (holds place day row) refl e (only-holder place day r rows parts.1)
-  where
-    parts : (not (place_held_from_by rows row.place row.since) ≡ true) × (stacked rows ≡ true)
-    parts = and_parts (not (place_held_from_by rows row.place row.since)) (stacked rows) s
-
-    nobody_else : (olds : List Appointment) → list_any (holds place day) olds ≡ false → AllByRecursion (λ old. holds place day old ≡ true → old ≡ r) olds
-    nobody_else [] n = tt
-    nobody_else (old ∷ olds) n = let q = or_parts (holds place day old) (list_any (holds place day) olds) n in (λ k. absurd (both_ways _ q.0 k), nobody_else olds q.1)
-
-    free : holds place day row ≡ true → list_any (holds place day) rows ≡ false
-    free k =
-        let a = and_parts (same_place row.place place && nat_le row.since day) (lasts_beyond day row) k in
-        let b = and_parts (same_place row.place place) (nat_le row.since day) a.0 in
-        free-none place row.since day rows (leb-true row.since day b.1)
-        (subst (λ at. place_held_from_by rows at row.since ≡ false) (place-same row.place place b.0) (not-true (place_held_from_by rows row.place row.since) parts.0))
-
-    by_test : (b : Bool) → holds place day row ≡ b → cond b (Some row) (find (holds place day) rows) ≡ Some r → (find (holds place day) rows ≡ Some r → AllByRecursion (λ old. holds place day old ≡ true → old ≡ r) rows)
-        → (holds place day row ≡ true → row ≡ r) × AllByRecursion (λ old. holds place day old ≡ true → old ≡ r) rows
-    by_test true k g ih = (λ _. (let z : Some row ≡ Some r = g in cc), nobody_else rows (free k))
-    by_test false k g ih = (λ z. absurd (both_ways _ k z), ih g)
 
 -- who holds a place
 holder-same : (A : History) → IsRegister A → (rows : List Appointment) → IsPermutation (appointments A) rows → (place : Place) (day : ℕ) → holder_by rows place day ≡ holder A place day

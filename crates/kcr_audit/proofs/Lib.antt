@@ -2,10 +2,8 @@ pub mod Found
 pub mod Crowds
 pub mod Lengths
 pub mod Seen
-pub mod Stored
 pub mod Alike
 pub mod Passing
-pub mod Done
 pub mod Placed
 pub mod Fitting
 pub mod Filed

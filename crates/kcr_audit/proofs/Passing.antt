@@ -37,7 +37,7 @@ use Rattle.kcr_laws.proofs.Alone.{rooms}
 use Rattle.kcr_audit.proofs.Alike.{alike, same-crowds}
 use Rattle.kcr_audit.specs.Whole.{tables_of}
 use Rattle.kcr_audit.proofs.Found.{or-left, or-right, none-of}
-use Rattle.kcr_audit.proofs.Stored.{sealed_somewhere, box-there}
+use Rattle.kcr_laws.proofs.Stored.{sealed_somewhere, box-there}
 use Rattle.kcr_audit.proofs.Rightly.{no-seating}
 
 -- DOUBLED

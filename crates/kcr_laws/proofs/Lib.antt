@@ -3,6 +3,9 @@ pub mod WorkedRows
 pub mod Accepted
 pub mod Once
 pub mod Stays
+pub mod Finds
+pub mod Done
+pub mod Stored
 pub mod Rooms
 pub mod Alone
 pub mod Seated

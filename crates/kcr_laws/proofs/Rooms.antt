@@ -32,17 +32,17 @@ none_enters other last (row ∷ rows) l h = none_enters other (later last row) r
         by_test true = e
         by_test false = parts.0
 
-onto_append : (last : Option SheetRow) (rows more : List SheetRow) → last_onto last (rows ++ more) ≡ last_onto (last_onto last rows) more
+pub onto_append : (last : Option SheetRow) (rows more : List SheetRow) → last_onto last (rows ++ more) ≡ last_onto (last_onto last rows) more
 onto_append last [] more = refl
 onto_append last (row ∷ rows) more = onto_append (later last row) rows more
 
 -- new rows are not of a moment before theirs
-none_yet : (c : ℕ) (way : Way) (at : ℕ) (who : List ℕ) (t : ℕ) (people : List (List ℕ)) → nat_le at t ≡ false → filter (is_of who t) (map (new_row c way at) people) ≡ []
+pub none_yet : (c : ℕ) (way : Way) (at : ℕ) (who : List ℕ) (t : ℕ) (people : List (List ℕ)) → nat_le at t ≡ false → filter (is_of who t) (map (new_row c way at) people) ≡ []
 none_yet c way at who t [] h = refl
 none_yet c way at who t (p ∷ people) h = rw (and_right (same_text p who) (nat_le at t) h) (none_yet c way at who t people h)
 
 -- nor of somebody who is not among the people
-none_of : (c : ℕ) (way : Way) (at : ℕ) (who : List ℕ) (t : ℕ) (people : List (List ℕ)) → list_any (same_text who) people ≡ false → filter (is_of who t) (map (new_row c way at) people) ≡ []
+pub none_of : (c : ℕ) (way : Way) (at : ℕ) (who : List ℕ) (t : ℕ) (people : List (List ℕ)) → list_any (same_text who) people ≡ false → filter (is_of who t) (map (new_row c way at) people) ≡ []
 none_of c way at who t [] h = refl
 none_of c way at who t (p ∷ people) h =
     let q = or_parts (same_text who p) (list_any (same_text who) people) h in
@@ -74,7 +74,7 @@ all_of who m t (row ∷ rows) l h = by_same (same_text row.who who) h (all_of wh
 -- WHOSE TURN IT IS
 
 -- nobody's last row is later than t, where the new rows are not
-not_behind : (c : ℕ) (way : Way) (at t : ℕ) (last : Option SheetRow) → is_out_of_turn way c at last ≡ false → nat_le at t ≡ true → list_any (λ row. nat_lt t row.at) (listed last) ≡ false
+pub not_behind : (c : ℕ) (way : Way) (at t : ℕ) (last : Option SheetRow) → is_out_of_turn way c at last ≡ false → nat_le at t ≡ true → list_any (λ row. nat_lt t row.at) (listed last) ≡ false
 not_behind c way at t None h l = refl
 not_behind c way at t (Some row) h l =
     let q = or_parts (nat_le at row.at) (is_no_turn way c row) h in

@@ -32,7 +32,8 @@ use Rattle.kcr_history.specs.Tables.{bags, bag_row, sealed_serial, items, item_r
 use Rattle.kcr_history.specs.Conditions.{conditions, fault, no_bag, no_item, first_with}
 use Rattle.kcr_history.specs.Machine.{IsRegister, with_command}
 use Rattle.kcr_machine.proofs.BagsFound.{map_as, map_in, among, any_flip, put_one, put_fresh, put_rows}
-use Rattle.kcr_machine.proofs.BagsWords.{there, sealed_somewhere, items_known, added_rest}
+use Rattle.kcr_machine.proofs.BagsWords.{items_known, added_rest}
+use Rattle.kcr_laws.proofs.Stored.{there, sealed_somewhere}
 
 -- the history with an act accepted after it
 abbrev pub then_act : History → List ℕ → Act → Answer → History

@@ -22,60 +22,21 @@ use Rattle.kcr_custody.specs.declared.Rest.TheVariants.{Loose}
 use Rattle.kcr_custody.specs.declared.SafeNumber.{SafeNumber}
 use Rattle.kcr_custody.specs.declared.SafeNumber.TheVariants.{One, Two}
 use Rattle.kcr_custody.specs.declared.SafeRow.{SafeRow}
-use Rattle.kcr_custody.specs.declared.Spot.{Spot}
-use Rattle.kcr_custody.specs.declared.Spot.TheVariants.{Table, Spent}
-use Rattle.kcr_custody.specs.Custody.{spot_by, rest_by, is_open_by, opens, is_box, place_of_box_by, spot_of_store}
+use Rattle.kcr_custody.specs.declared.Spot.TheVariants.{Spent}
+use Rattle.kcr_custody.specs.Custody.{spot_by, rest_by, is_open_by, opens, is_box, place_of_box_by}
 use Rattle.kcr_history.specs.declared.commands.Act.{Act}
-use Rattle.kcr_history.specs.declared.commands.Act.TheVariants.{AddBox, AddItem, Seal, Take, Put, Cut}
+use Rattle.kcr_history.specs.declared.commands.Act.TheVariants.{AddBox, AddItem, Seal}
 use Rattle.kcr_history.specs.declared.views.ItemsOf.TheVariants as Items
 use Rattle.kcr_history.specs.History.{History, all_said, last_said, last_told}
 use Rattle.kcr_history.specs.Ceremonies.{facility_of}
-use Rattle.kcr_history.specs.Custody.{moved, spot, sealed_in, added_at, rest_in, rest, is_safe_open, boxed, place_of_box}
+use Rattle.kcr_history.specs.Custody.{spot, sealed_in, added_at, rest_in, rest, is_safe_open, boxed, place_of_box}
 use Rattle.kcr_history.specs.Tables.{bags, bag_row, sealed_serial, items, item_row, added_item, safes, boxes, box_row}
 use Rattle.kcr_history.specs.Views.{is_of_serial, is_item_of}
-use Rattle.kcr_history.specs.Conditions.{conditions, fault, no_bag, no_item, first_with}
+use Rattle.kcr_history.specs.Conditions.{conditions, fault, no_item, first_with}
 use Rattle.kcr_history.specs.Machine.{IsRegister}
 use Rattle.kcr_history.proofs.Steps.{took}
 use Rattle.kcr_machine.proofs.BagsFound.{found-shown, found-order, any-made, all-made}
-
-pub there : {X : Type 0} (o : Option X) → is_none o ≡ false → is_some o ≡ true
-there None g = absurd (true≢false g)
-there (Some x) g = refl
-
--- BAGS
-
--- a bag that was there before says no more than that it is there
-moved_there : (t s : List ℕ) (new : Spot) (old : Option Spot) (here : Bool) → (same_text t s ≡ true → is_some old ≡ true) → here ≡ is_some old
-    → here ≡ is_some (or_else (cond (same_text t s) (Some new) None) old)
-moved_there t s new old here known ih = by_test (same_text t s) refl
-  where
-    by_test : (b : Bool) → same_text t s ≡ b → here ≡ is_some (or_else (cond b (Some new) None) old)
-    by_test true e = ih ∙ known e
-    by_test false e = ih
-
--- the bag of a command is there
-bag_known : (A : History) (t s : List ℕ) → no_bag A t ≡ None → same_text t s ≡ true → is_some (spot A s) ≡ true
-bag_known A t s n e = subst (λ k. is_some (spot A k) ≡ true) (text_same t s e) (there (spot A t) (unmet _ (Unknown (Things.Bag t)) n))
-
-abbrev is_sealed : History → List ℕ → Bool
-is_sealed A s = list_any (λ k. same_text k s) (all_said sealed_serial A)
-
-sealed_after : (A : History) (act : Act) (s : List ℕ) → fault A act ≡ None → is_sealed A s ≡ is_some (spot A s)
-    → list_any (λ k. same_text k s) (cons_option (sealed_serial act) (all_said sealed_serial A)) ≡ is_some (or_else (moved (facility_of A) s act) (spot A s))
-sealed_after A (Seal c serial codes at) s f ih = by_test (same_text serial s)
-  where
-    by_test : (b : Bool) → (b || is_sealed A s) ≡ is_some (or_else (cond b (Some (Table (facility_of A c))) None) (spot A s))
-    by_test true = refl
-    by_test false = ih
-sealed_after A (Take c t at) s f ih = moved_there t s (Table (facility_of A c)) (spot A s) (is_sealed A s) (bag_known A t s (none_holds (conditions A (Take c t at)) f).1.0) ih
-sealed_after A (Put c t to at) s f ih = moved_there t s (spot_of_store (facility_of A c) to) (spot A s) (is_sealed A s) (bag_known A t s (none_holds (conditions A (Put c t to at)) f).1.0) ih
-sealed_after A (Cut c t at) s f ih = moved_there t s Spent (spot A s) (is_sealed A s) (bag_known A t s (none_holds (conditions A (Cut c t at)) f).1.0) ih
-sealed_after A act s f ih = ih
-
--- a bag is somewhere exactly where it was sealed
-pub sealed_somewhere : (A : History) → IsRegister A → (s : List ℕ) → list_any (λ k. same_text k s) (all_said sealed_serial A) ≡ is_some (spot A s)
-sealed_somewhere [] h s = refl
-sealed_somewhere (entry ∷ A) h s = sealed_after A entry.command.act s (took A entry h.0).no_fault (sealed_somewhere A h.1 s)
+use Rattle.kcr_laws.proofs.Stored.{there, sealed_somewhere, box-there}
 
 -- where the bag is, by the rows of its serial
 pub spot-shown : (A : History) → IsRegister A → (s : List ℕ) (rows : List Bag) → IsPermutation (filter (is_of_serial s) (bags A)) (filter (is_of_serial s) rows) → spot_by rows s ≡ spot A s
@@ -193,22 +154,6 @@ open-safes A West Two = or_false (is_safe_open A West Two)
 -- whether a safe is open, by the four rows in any order
 pub open-shown : (A : History) (rows : List SafeRow) → IsPermutation (safes A) rows → (facility : Facility) (safe : SafeNumber) → is_open_by rows facility safe ≡ is_safe_open A facility safe
 open-shown A rows p facility safe = sym (list_any-IsPermutation (opens facility safe) (safes A) rows p) ∙ open-safes A facility safe
-
--- BOXES
-
-box_after : (A : History) (act : Act) (f : Facility) (n : ℕ) → list_any (is_box f n) (boxes A) ≡ is_some (place_of_box A f n)
-    → list_any (is_box f n) (cons_option (box_row act) (boxes A)) ≡ is_some (or_else (boxed f n act) (place_of_box A f n))
-box_after A (AddBox facility number place) f n ih = by_test (same_facility facility f && eqb number n)
-  where
-    by_test : (b : Bool) → (b || list_any (is_box f n) (boxes A)) ≡ is_some (or_else (cond b (Some place) None) (place_of_box A f n))
-    by_test true = refl
-    by_test false = ih
-box_after A act f n ih = ih
-
--- a box is there exactly where it has a place
-pub box-there : (A : History) (f : Facility) (n : ℕ) → list_any (is_box f n) (boxes A) ≡ is_some (place_of_box A f n)
-box-there [] f n = refl
-box-there (entry ∷ A) f n = box_after A entry.command.act f n (box-there A f n)
 
 facility-same : (f g : Facility) → same_facility f g ≡ true → f ≡ g
 facility-same East East e = refl

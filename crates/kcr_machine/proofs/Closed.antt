@@ -41,12 +41,14 @@ use Rattle.kcr_acts.specs.CeremonyRows.{is_undone, is_undone_of, lies_on_table, 
 use Rattle.kcr_acts.specs.ByRows.{refusal_by, changes_by}
 use Rattle.kcr_machine.specs.RowDecision.{new_key_row}
 use Rattle.kcr_machine.proofs.Shown.{any-shown}
-use Rattle.kcr_machine.proofs.Keyed.{some_if, any-map, put-at}
+use Rattle.kcr_machine.proofs.Keyed.{any-map, put-at}
 use Rattle.kcr_machine.proofs.Scenes.{met, ShowsCeremony, ceremony-shown, planned-number, open-state, mark-shown, turned}
-use Rattle.kcr_machine.proofs.StepRows.{fate-done, keys-any, done-fate}
+use Rattle.kcr_machine.proofs.StepRows.{keys-any, done-fate}
+use Rattle.kcr_laws.proofs.Done.{fate-done}
 use Rattle.kcr_machine.proofs.BagsWords.{open-shown}
 use Rattle.kcr_machine.proofs.UsedRooms.{used-shown}
 use Rattle.kcr_machine.proofs.NewKeys.{new_key}
+use Rattle.kcr_laws.proofs.Finds.{some_if}
 
 -- STEPS THAT ARE NEITHER SIGNED NOR PASSED
 

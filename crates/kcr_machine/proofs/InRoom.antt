@@ -1,19 +1,19 @@
 -- Who is in a room, who is trained and who holds a place: by the rows that a view shows, as by the history.
-use Rattle.std.proofs.Common.{◌≡◌, ℕ, Bool, true, false, cond, not, ◌&&◌, ◌==◌, nat_le, List, [], ◌∷◌, map, filter, find, reverse, Option, Some, None, option_map, refl, sym, ap, ◌∙◌, subst}
+use Rattle.std.proofs.Common.{◌≡◌, ℕ, true, false, ◌&&◌, ◌==◌, nat_le, List, map, filter, reverse, Option, Some, None, option_map, refl, sym, ap, ◌∙◌}
 use Rattle.std.specs.Prelude.{unwrap_or}
-use Rattle.std.specs.List.{list_any, AllByRecursion}
+use Rattle.std.specs.List.{list_any}
 use Rattle.std.specs.List.Sorted.{IsPermutation}
-use Rattle.std.proofs.lemmas.Bool.{both_ways, and_parts, or_parts, leb-true, not-true}
+use Rattle.std.proofs.lemmas.Bool.{and_parts}
 use Rattle.std.proofs.lemmas.List.Sorted.{IsPermutation-reverse}
 use Rattle.kcr_base.specs.Days.{day_of}
-use Rattle.kcr_base.specs.Same.{same_text, same_place}
+use Rattle.kcr_base.specs.Same.{same_text}
 use Rattle.kcr_base.specs.declared.place.Place.{Place}
 use Rattle.kcr_base.specs.declared.place.Role.{Role}
 use Rattle.kcr_base.proofs.RowsLemmas.{filter-order}
 use Rattle.kcr_people.specs.declared.Appointment.{Appointment}
 use Rattle.kcr_people.specs.declared.Training.{Training}
 use Rattle.kcr_people.specs.declared.Withdrawal.{Withdrawal}
-use Rattle.kcr_people.specs.People.{trained_by, holder_by, holds, lasts_beyond, place_held_from_by}
+use Rattle.kcr_people.specs.People.{trained_by, holder_by, holds}
 use Rattle.kcr_people.proofs.Orders.{any-same, trained-order}
 use Rattle.kcr_room.specs.declared.Stay.{Stay}
 use Rattle.kcr_room.specs.Room.{ascending}
@@ -32,12 +32,12 @@ use Rattle.kcr_history.specs.Tables.{trainings, withdrawals, appointments}
 use Rattle.kcr_history.specs.Views.{is_stay_of}
 use Rattle.kcr_history.specs.Conditions.{has_holder_in}
 use Rattle.kcr_history.specs.Machine.{IsRegister}
-use Rattle.kcr_history.proofs.Stacked.{stacked, place-same, free-none}
 use Rattle.kcr_history.proofs.Orderly.{orderly, holder-appointments}
 use Rattle.kcr_history.proofs.Trained.{trained-rows}
 use Rattle.kcr_scene.specs.Scene.{is_in_by, is_attended_by, has_holder_in_by}
 use Rattle.kcr_machine.proofs.Shown.{find-shown}
 use Rattle.kcr_machine.proofs.Withdrawn.{ShowsTrainings, ShowsWithdrawals, trained-shown}
+use Rattle.kcr_laws.proofs.Finds.{only-holder}
 
 -- THE ROOM
 
@@ -84,32 +84,6 @@ pub attended-shown : (A : History) → IsRegister A → (view : View) (c : ℕ) 
 attended-shown A h view c s p q role t =
     any-same (λ who. trained_by view.trainings.items view.withdrawals.items who role (day_of t)) (λ who. trained A who role (day_of t)) (λ who. trained-all A h view.trainings.items view.withdrawals.items p q who role (day_of t)) (present_in_by view.stays.items c t)
     ∙ ap (list_any (λ who. trained A who role (day_of t))) (present-shown A c view.stays.items s t)
-
--- HOLDERS
-
--- a row that holds the place on the day is the only one of the older and it
-only-holder : (place : Place) (day : ℕ) (r : Appointment) (rows : List Appointment) → stacked rows ≡ true → find (holds place day) rows ≡ Some r → AllByRecursion (λ row. holds place day row ≡ true → row ≡ r) rows
-only-holder place day r [] s e = tt
-only-holder place day r (row ∷ rows) s e = by_test (holds place day row) refl e (only-holder place day r rows parts.1)
-  where
-    parts : (not (place_held_from_by rows row.place row.since) ≡ true) × (stacked rows ≡ true)
-    parts = and_parts (not (place_held_from_by rows row.place row.since)) (stacked rows) s
-
-    nobody_else : (olds : List Appointment) → list_any (holds place day) olds ≡ false → AllByRecursion (λ old. holds place day old ≡ true → old ≡ r) olds
-    nobody_else [] n = tt
-    nobody_else (old ∷ olds) n = let q = or_parts (holds place day old) (list_any (holds place day) olds) n in (λ k. absurd (both_ways _ q.0 k), nobody_else olds q.1)
-
-    free : holds place day row ≡ true → list_any (holds place day) rows ≡ false
-    free k =
-        let a = and_parts (same_place row.place place && nat_le row.since day) (lasts_beyond day row) k in
-        let b = and_parts (same_place row.place place) (nat_le row.since day) a.0 in
-        free-none place row.since day rows (leb-true row.since day b.1)
-        (subst (λ at. place_held_from_by rows at row.since ≡ false) (place-same row.place place b.0) (not-true (place_held_from_by rows row.place row.since) parts.0))
-
-    by_test : (b : Bool) → holds place day row ≡ b → cond b (Some row) (find (holds place day) rows) ≡ Some r → (find (holds place day) rows ≡ Some r → AllByRecursion (λ old. holds place day old ≡ true → old ≡ r) rows)
-        → (holds place day row ≡ true → row ≡ r) × AllByRecursion (λ old. holds place day old ≡ true → old ≡ r) rows
-    by_test true k g ih = (λ _. (let z : Some row ≡ Some r = g in cc), nobody_else rows (free k))
-    by_test false k g ih = (λ z. absurd (both_ways _ k z), ih g)
 
 -- who holds a place, by all appointments
 pub holder-shown : (A : History) → IsRegister A → (rows : List Appointment) → IsPermutation (appointments A) rows → (place : Place) (day : ℕ) → holder_by rows place day ≡ holder A place day

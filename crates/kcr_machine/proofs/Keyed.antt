@@ -7,25 +7,11 @@ use Rattle.std.proofs.lemmas.List.Sorted.{list_any-IsPermutation, All-permutatio
 use Rattle.std.proofs.lemmas.List.Elements.{All-from_recursion, recursion_from_All, All-filter}
 use Rattle.kcr_base.specs.Rows.{put}
 use Rattle.kcr_machine.proofs.Shown.{any-filter}
-
--- the value, where the test holds
-abbrev pub some_if : {X : Type 0} → Bool → X → Option X
-some_if true x = Some x
-some_if false x = None
+use Rattle.kcr_laws.proofs.Finds.{some_if, find-all}
 
 pub any-map : {X Y : Type 0} (test : Y → Bool) (f : X → Y) (xs : List X) → list_any test (map f xs) ≡ list_any (λ x. test (f x)) xs
 any-map test f [] = refl
 any-map test f (x ∷ xs) = ap (λ b. test (f x) || b) (any-map test f xs)
-
--- A ROW IS FOUND
-
-find-all : {X : Type 0} (test : X → Bool) (v : X) (rows : List X) → AllByRecursion (λ x. test x ≡ true → x ≡ v) rows → find test rows ≡ some_if (list_any test rows) v
-find-all test v [] a = refl
-find-all test v (x ∷ rows) a = by_test (test x) a.0 (find-all test v rows a.1)
-  where
-    by_test : (b : Bool) → (b ≡ true → x ≡ v) → find test rows ≡ some_if (list_any test rows) v → cond b (Some x) (find test rows) ≡ some_if (b || list_any test rows) v
-    by_test true f ih = ap Some (f refl)
-    by_test false f ih = ih
 
 unfilter : {X : Type 0} (test of : X → Bool) (v : X) → ((x : X) → test x ≡ true → of x ≡ true) → (rows : List X)
     → AllByRecursion (λ x. test x ≡ true → x ≡ v) (filter of rows) → AllByRecursion (λ x. test x ≡ true → x ≡ v) rows

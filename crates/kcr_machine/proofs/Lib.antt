@@ -3,8 +3,6 @@ pub mod Withdrawn
 pub mod Keyed
 pub mod Scenes
 pub mod InRoom
-pub mod Rooms
-pub mod Alone
 pub mod NewKeys
 pub mod StepRows
 pub mod Lift

@@ -36,9 +36,10 @@ use Rattle.kcr_scene.specs.Scene.{ceremony_by}
 use Rattle.kcr_acts.specs.CeremonyRows.{is_open_beside, opening_refusal}
 use Rattle.kcr_acts.specs.ByRows.{refusal_by, changes_by}
 use Rattle.kcr_machine.specs.RowDecision.{new_key_row}
-use Rattle.kcr_machine.proofs.Keyed.{some_if, any-map, put-at, put-first}
+use Rattle.kcr_machine.proofs.Keyed.{any-map, put-at, put-first}
 use Rattle.kcr_machine.proofs.Scenes.{met, ceremony-shown, planned-number, open-state, mark-after, marked-opened, opened-number, turned}
 use Rattle.kcr_machine.proofs.NewKeys.{new_key}
+use Rattle.kcr_laws.proofs.Finds.{some_if}
 
 pub none-of : {X : Type 0} (o : Option X) → is_some o ≡ false → o ≡ None
 none-of None h = refl

@@ -32,7 +32,8 @@ use Rattle.kcr_history.specs.Conditions.{conditions, fault, is_full, full, not_o
 use Rattle.kcr_history.specs.Machine.{IsRegister}
 use Rattle.kcr_history.proofs.Steps.{took}
 use Rattle.kcr_scene.specs.Scene.{ceremony_by, facility_by, day_by, is_open_state, is_open_row, mark_by, scene_by}
-use Rattle.kcr_machine.proofs.Keyed.{some_if, any-map, find-view, put-at, put-first}
+use Rattle.kcr_machine.proofs.Keyed.{any-map, find-view, put-at, put-first}
+use Rattle.kcr_laws.proofs.Finds.{some_if}
 
 pub met : (b : Bool) (r : Refusal) → when (not b) r ≡ None → b ≡ true
 met true r h = refl

@@ -6,6 +6,7 @@ use Rattle.std.proofs.lemmas.List.Sorted.{list_any-IsPermutation, All-permutatio
 use Rattle.std.proofs.lemmas.List.Elements.{All-from_recursion, recursion_from_All}
 use Rattle.std.proofs.lemmas.Bool.{true≢false, false≢true}
 use Rattle.kcr_base.proofs.RowsLemmas.{filter-order}
+use Rattle.kcr_laws.proofs.Finds.{none-find, some-find}
 
 -- a test that only rows asked for can pass finds the same among them
 pub any-filter : {X : Type 0} (test of : X → Bool) → ((x : X) → test x ≡ true → of x ≡ true) → (rows : List X) → list_any test (filter of rows) ≡ list_any test rows
@@ -51,22 +52,6 @@ find-none test (row ∷ rows) h = by_test (test row) h (find-none test rows)
   where
     by_test : (b : Bool) → (b || list_any test rows) ≡ false → (list_any test rows ≡ false → find test rows ≡ None) → cond b (Some row) (find test rows) ≡ None
     by_test true h ih = absurd (true≢false h)
-    by_test false h ih = ih h
-
-none-find : {X : Type 0} (test : X → Bool) (rows : List X) → find test rows ≡ None → list_any test rows ≡ false
-none-find test [] h = refl
-none-find test (row ∷ rows) h = by_test (test row) h (none-find test rows)
-  where
-    by_test : (b : Bool) → cond b (Some row) (find test rows) ≡ None → (find test rows ≡ None → list_any test rows ≡ false) → (b || list_any test rows) ≡ false
-    by_test true h ih = absurd (let e : Some row ≡ None = h in cc)
-    by_test false h ih = ih h
-
-some-find : {X : Type 0} (test : X → Bool) (r : X) (rows : List X) → find test rows ≡ Some r → list_any test rows ≡ true
-some-find test r [] h = absurd (let e : None ≡ Some r = h in cc)
-some-find test r (row ∷ rows) h = by_test (test row) h (some-find test r rows)
-  where
-    by_test : (b : Bool) → cond b (Some row) (find test rows) ≡ Some r → (find test rows ≡ Some r → list_any test rows ≡ true) → (b || list_any test rows) ≡ true
-    by_test true h ih = refl
     by_test false h ih = ih h
 
 find-only : {X : Type 0} (test : X → Bool) (r : X) (rows : List X) → AllByRecursion (λ row. test row ≡ true → row ≡ r) rows → list_any test rows ≡ true → find test rows ≡ Some r

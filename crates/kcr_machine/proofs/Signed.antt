@@ -42,15 +42,17 @@ use Rattle.kcr_history.specs.Machine.{Sitting, answer_to, with_command, IsRegist
 use Rattle.kcr_scene.specs.Scene.{ceremony_by, facility_by}
 use Rattle.kcr_scene.specs.Signing.{step_by, seats_by, next_by, sign_refusal, except_refusal, is_holder_by, fits_by, on_seat, fits_of, room_by, IsSeatedBy, IsUnseatedBy, staff, step_change, mark_change, seat_changes, exception_change}
 use Rattle.kcr_machine.specs.RowDecision.{new_key_row}
-use Rattle.kcr_machine.proofs.Alone.{rooms}
+use Rattle.kcr_laws.proofs.Alone.{rooms}
 use Rattle.kcr_machine.proofs.NewKeys.{new_key}
 use Rattle.kcr_machine.proofs.InRoom.{trained-all, holder-shown}
-use Rattle.kcr_machine.proofs.Keyed.{some_if, put-new}
+use Rattle.kcr_machine.proofs.Keyed.{put-new}
 use Rattle.kcr_machine.proofs.Lift.{any-ext}
 use Rattle.kcr_machine.proofs.Scenes.{known-shown, is_open-shown, mark-shown, marks-put}
 use Rattle.kcr_machine.proofs.Seatings.{first-of, least-of}
 use Rattle.kcr_machine.proofs.StepChanges.{changed-append, put-step, put-seats, fresh-seats, fresh-exception}
-use Rattle.kcr_machine.proofs.StepRows.{ShowsSteps, there, next_signed, step-shown, done-shown, stated-shown}
+use Rattle.kcr_machine.proofs.StepRows.{ShowsSteps, there, step-shown, done-shown, stated-shown}
+use Rattle.kcr_laws.proofs.Done.{next_signed}
+use Rattle.kcr_laws.proofs.Finds.{some_if}
 
 -- THE FIRST REFUSAL
 

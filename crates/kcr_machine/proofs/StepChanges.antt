@@ -22,7 +22,8 @@ use Rattle.kcr_history.specs.Tables.{Tables, steps, step_keys, step_row, fate_of
 use Rattle.kcr_history.proofs.Steps.{took}
 use Rattle.kcr_machine.proofs.Keyed.{put-at, put-new}
 use Rattle.kcr_machine.proofs.Seatings.{neither}
-use Rattle.kcr_machine.proofs.StepRows.{any-stacked, one_more, count-cons, next_signed, done-after, has-step}
+use Rattle.kcr_machine.proofs.StepRows.{any-stacked, has-step}
+use Rattle.kcr_laws.proofs.Done.{one_more, count-cons, next_signed, done-after}
 
 -- changes one after the other
 pub changed-append : (xs ys : List Change) (t : Tables) → changed_by (xs ++ ys) t ≡ changed_by ys (changed_by xs t)

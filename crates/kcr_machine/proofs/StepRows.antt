@@ -1,10 +1,10 @@
 -- How many steps are signed or passed, and exceptions stated: by the rows as by the history. Each step is done once and in order.
-use Rattle.std.proofs.Common.{◌≡◌, ◌≢◌, ℕ, zero, suc, ◌+◌, ◌-◌, ◌<◌, ◌≤◌, Bool, true, false, cond, ◌||◌, ◌&&◌, nat_le, List, [], ◌∷◌, map, filter, length, Option, Some, None, is_none, Result, Ok, Err, nat_lt, refl, sym, ap, ◌∙◌, arith, subst}
+use Rattle.std.proofs.Common.{◌≡◌, ◌≢◌, ℕ, zero, suc, ◌+◌, ◌-◌, ◌≤◌, Bool, true, false, cond, ◌||◌, ◌&&◌, nat_le, List, [], ◌∷◌, map, filter, length, Option, Some, None, is_none, Result, Ok, Err, nat_lt, refl, sym, ap, ◌∙◌, arith, subst}
 use Rattle.std.specs.Prelude.{is_some, slice_get, ◌==◌, unwrap_or, option_map}
 use Rattle.std.specs.List.{list_any}
 use Rattle.std.specs.List.Sorted.{IsPermutation}
 use Rattle.std.specs.Result.{result_unwrap_or}
-use Rattle.std.proofs.lemmas.Bool.{true≢false, false≢true, both_ways, leb-true, leb-false, le-leb, lt-leb, le-ltb, eqb-true, eq-eqb, ne_eqb, and_parts, and_from, and_right}
+use Rattle.std.proofs.lemmas.Bool.{true≢false, false≢true, both_ways, leb-true, leb-false, le-leb, le-ltb, eqb-true, eq-eqb, ne_eqb, and_parts}
 use Rattle.std.proofs.lemmas.List.Sorted.{sum_by-IsPermutation}
 use Rattle.std.proofs.lemmas.List.Sums.{length-filter}
 use Rattle.std.proofs.lemmas.Option.{slice_get_past}
@@ -18,7 +18,6 @@ use Rattle.kcr_script.proofs.ScriptReading.{script_has_steps}
 use Rattle.kcr_history.specs.declared.commands.Act.{Act}
 use Rattle.kcr_history.specs.declared.commands.Act.TheVariants.{Plan, Sign, Except}
 use Rattle.kcr_history.specs.declared.commands.Answer.{Answer}
-use Rattle.kcr_history.specs.declared.commands.Entry.{Entry}
 use Rattle.kcr_history.specs.declared.rows.ExceptionRow.{ExceptionRow}
 use Rattle.kcr_history.specs.declared.rows.StepRow.{StepRow}
 use Rattle.kcr_history.specs.declared.rows.StepState.{StepState}
@@ -31,8 +30,9 @@ use Rattle.kcr_history.specs.Tables.{numbered, step_keys, step_keys_after, step_
 use Rattle.kcr_history.specs.Views.{is_step_of, is_exception_of}
 use Rattle.kcr_history.proofs.Steps.{took}
 use Rattle.kcr_scene.specs.Signing.{is_done, done_by, stated_by, step_by}
-use Rattle.kcr_machine.proofs.Keyed.{some_if, find-view}
-use Rattle.kcr_machine.proofs.Scenes.{met}
+use Rattle.kcr_machine.proofs.Keyed.{find-view}
+use Rattle.kcr_laws.proofs.Done.{one_more, count-cons, next_signed, done-after, fate-done}
+use Rattle.kcr_laws.proofs.Finds.{some_if}
 
 -- COUNTING
 
@@ -59,17 +59,6 @@ count-ext p q f (x ∷ xs) = ap (λ b. length (cond b (x ∷ filter p xs) (filte
     by_test : (b : Bool) → tally p xs ≡ tally q xs → length (cond b (x ∷ filter p xs) (filter p xs)) ≡ length (cond b (x ∷ filter q xs) (filter q xs))
     by_test true h = ap suc h
     by_test false h = h
-
-abbrev pub one_more : Bool → ℕ → ℕ
-one_more true n = suc n
-one_more false n = n
-
-pub count-cons : {X : Type 0} (p : X → Bool) (x : X) (xs : List X) → tally p (x ∷ xs) ≡ one_more (p x) (tally p xs)
-count-cons p x xs = by_test (p x)
-  where
-    by_test : (b : Bool) → length (cond b (x ∷ filter p xs) (filter p xs)) ≡ one_more b (tally p xs)
-    by_test true = refl
-    by_test false = refl
 
 pub count-map : {X Y : Type 0} (p : Y → Bool) (f : X → Y) (xs : List X) → tally p (map f xs) ≡ tally (λ x. p (f x)) xs
 count-map p f [] = refl
@@ -109,70 +98,6 @@ count-order p xs ys h = length-filter p ys ∙ sum_by-IsPermutation (λ x. cond 
 
 pub count-view : {X : Type 0} (test of : X → Bool) → ((x : X) → test x ≡ true → of x ≡ true) → (table rows : List X) → IsPermutation (filter of table) (filter of rows) → tally test rows ≡ tally test table
 count-view test of inside table rows p = sym (count-filter test of inside rows) ∙ count-order test (filter of table) (filter of rows) p ∙ count-filter test of inside table
-
--- WHAT BECAME OF A STEP
-
--- the step that an accepted command does is the next one
-pub next_signed : (A : History) (d k at : ℕ) → fault A (Sign d k at) ≡ None → k ≡ suc (steps_done A d)
-next_signed A d k at f = eqb-true k (suc (steps_done A d)) (met (k == next_step A d) (Order (next_step A d)) (none_holds (conditions A (Sign d k at)) f).1.1.1.1.0)
-
-same_order : (k n : ℕ) → k ≢ suc n → nat_le k (suc n) ≡ nat_le k n
-same_order k n ne = by_test (nat_le k n) refl
-  where
-    by_test : (b : Bool) → nat_le k n ≡ b → nat_le k (suc n) ≡ nat_le k n
-    by_test true e = le-leb k (suc n) (omega (arith, leb-true k n e)) ∙ sym e
-    by_test false e = lt-leb k (suc n) (above (leb-false k n e)) ∙ sym e
-      where
-        above : n < k → suc n < k
-        above l = omega (arith, l, ne)
-
-advance : {F : Type 0} (n k step : ℕ) (m : Bool) → (step == k) ≡ m → step ≡ suc n → (fate : Option F) (new : F) → is_some fate ≡ (nat_le 1 k && nat_le k n)
-    → is_some (or_else (cond m (Some new) None) fate) ≡ (nat_le 1 k && nat_le k (suc n))
-advance n k step true e s fate new ih =
-    let h : step ≡ k = eqb-true step k e in
-    sym (and_from (nat_le 1 k) (nat_le k (suc n)) (le-leb 1 k (omega (arith, h, s))) (le-leb k (suc n) (omega (arith, h, s))))
-advance n k step false e s fate new ih =
-    ih ∙ ap (λ b. nat_le 1 k && b) (sym (same_order k n (λ q. both_ways _ e (eq-eqb step k (s ∙ sym q)))))
-
--- by one command; `said` is the step that the answer names
-fate_after : (A : History) (act : Act) (said : Option ℕ) (c k : ℕ) → fault A act ≡ None → (people : Option (List (List ℕ))) → said ≡ (answer_to A act people).step
-    → is_some (fate_of A c k) ≡ (nat_le 1 k && nat_le k (steps_done A c))
-    → is_some (or_else (step_done c k act said) (fate_of A c k)) ≡ (nat_le 1 k && nat_le k (one_more (does_step c act) (steps_done A c)))
-fate_after A (Sign d step at) said c k f people e ih = by_ceremony (d == c) refl
-  where
-    by_ceremony : (b : Bool) → (d == c) ≡ b → is_some (or_else (cond (b && step == k) (Some (Signed, at)) None) (fate_of A c k)) ≡ (nat_le 1 k && nat_le k (one_more b (steps_done A c)))
-    by_ceremony false q = ih
-    by_ceremony true q =
-        let same : d ≡ c = eqb-true d c q in
-        advance (steps_done A c) k step (step == k) refl (next_signed A d step at f ∙ ap (λ c. suc (steps_done A c)) same) (fate_of A c k) (Signed, at) ih
-fate_after A (Except d text true at) said c k f people e ih = rw e (by_ceremony (d == c) refl)
-  where
-    by_ceremony : (b : Bool) → (d == c) ≡ b → is_some (or_else (cond (b && next_step A d == k) (Some (Passed, at)) None) (fate_of A c k)) ≡ (nat_le 1 k && nat_le k (one_more (b && true) (steps_done A c)))
-    by_ceremony false q = ih
-    by_ceremony true q =
-        let same : d ≡ c = eqb-true d c q in
-        advance (steps_done A c) k (next_step A d) (next_step A d == k) refl (ap (λ c. suc (steps_done A c)) same) (fate_of A c k) (Passed, at) ih
-fate_after A (Except d text false at) said c k f people e ih = rw e (ih ∙ by_ceremony (d == c))
-  where
-    by_ceremony : (b : Bool) → (nat_le 1 k && nat_le k (steps_done A c)) ≡ (nat_le 1 k && nat_le k (one_more (b && false) (steps_done A c)))
-    by_ceremony true = refl
-    by_ceremony false = refl
-fate_after A act said c k f people e ih = ih
-
-no_step_done : (k : ℕ) → (nat_le 1 k && nat_le k 0) ≡ false
-no_step_done zero = refl
-no_step_done (suc k) = and_right (nat_le 1 (suc k)) (nat_le (suc k) 0) (lt-leb (suc k) 0 (omega arith))
-
-pub done-after : (A : History) (entry : Entry) (c : ℕ) → steps_done (entry ∷ A) c ≡ one_more (does_step c entry.command.act) (steps_done A c)
-done-after A entry c = count-cons (λ entry. does_step c entry.command.act) entry A
-
--- step k was signed or passed exactly where it is one of the steps done so far
-pub fate-done : (A : History) → IsRegister A → (c k : ℕ) → is_some (fate_of A c k) ≡ (nat_le 1 k && nat_le k (steps_done A c))
-fate-done [] h c k = sym (no_step_done k)
-fate-done (entry ∷ A) h c k =
-    let t = took A entry h.0 in
-    fate_after A entry.command.act entry.answer.step c k t.no_fault t.people (ap (λ a. a.step) t.answer) (fate-done A h.1 c k)
-    ∙ ap (λ n. nat_le 1 k && nat_le k n) (sym (done-after A entry c))
 
 -- THE STEPS OF A CEREMONY
 

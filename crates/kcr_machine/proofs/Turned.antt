@@ -12,7 +12,7 @@ use Rattle.kcr_base.specs.declared.place.Role.TheVariants.{Ssc1, Ssc2}
 use Rattle.kcr_base.specs.declared.refusal.Absentee.TheVariants as Absentees
 use Rattle.kcr_base.specs.declared.refusal.Refusal.{Refusal}
 use Rattle.kcr_base.specs.declared.refusal.Refusal.TheVariants as Refusals
-use Rattle.kcr_base.specs.declared.refusal.Refusal.TheVariants.{Unknown, Absent}
+use Rattle.kcr_base.specs.declared.refusal.Refusal.TheVariants.{Absent}
 use Rattle.kcr_people.specs.declared.Person.{Person}
 use Rattle.kcr_people.specs.People.{is_person_by}
 use Rattle.kcr_custody.specs.declared.SafeNumber.{SafeNumber}

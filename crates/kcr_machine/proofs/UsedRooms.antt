@@ -2,23 +2,20 @@
 use Rattle.std.proofs.Common.{◌≡◌, ℕ, ◌+◌, Bool, true, false, cond, not, ◌||◌, ◌&&◌, ◌==◌, nat_le, nat_lt, List, [], ◌∷◌, ◌++◌, map, filter, reverse, length, Option, Some, None, refl, sym, ap, ◌∙◌, subst, arith}
 use Rattle.std.specs.List.{list_any}
 use Rattle.std.specs.List.Sorted.{IsPermutation}
-use Rattle.std.proofs.lemmas.Bool.{true≢false, false≢true, or_parts, and_parts, and_from, and_right, not-false, eqb-true, leb-true, leb-false, le-leb, le-ltb, lt-ltb, ltb-false}
+use Rattle.std.proofs.lemmas.Bool.{true≢false, false≢true, or_parts, and_parts, and_from, not-false, eqb-true, leb-true, le-leb, le-ltb, lt-ltb, ltb-false}
 use Rattle.std.proofs.lemmas.List.Elements.{filter-append}
 use Rattle.std.proofs.lemmas.List.Folds.{list_any-append}
 use Rattle.std.proofs.lemmas.List.Sorted.{list_any-IsPermutation, IsPermutation-reverse}
 use Rattle.kcr_base.proofs.RefuseLemmas.{none_holds}
-use Rattle.kcr_base.specs.Refuse.{when}
-use Rattle.kcr_base.specs.Rows.{or_else}
 use Rattle.kcr_base.specs.Same.{same_text}
-use Rattle.kcr_base.specs.declared.refusal.Refusal.TheVariants.{Turn}
 use Rattle.kcr_room.specs.declared.SheetRow.{SheetRow}
 use Rattle.kcr_room.specs.declared.Stay.{Stay}
 use Rattle.kcr_room.specs.declared.Way.{Way}
 use Rattle.kcr_room.specs.declared.Way.TheVariants as Ways
 use Rattle.kcr_room.specs.Room.{is_enter, enters, last_onto, last_row, later, is_of, last_enters, in_by, last_row_of, present_by}
 use Rattle.kcr_room.specs.Stays.{lasts_at, holds, cut, next_onto, stay_from, stays_next, stays_onto, stays_by, crowd_in_by}
-use Rattle.kcr_room.specs.Adding.{is_no_turn, is_out_of_turn, is_out_of_turn_by, new_row}
-use Rattle.kcr_room.proofs.Agreement.{same-is, same-itself, same-turned, listed, last-above, same-crowd}
+use Rattle.kcr_room.specs.Adding.{is_out_of_turn, is_out_of_turn_by, new_row}
+use Rattle.kcr_room.proofs.Agreement.{same-itself, same-turned, listed, last-above, same-crowd}
 use Rattle.kcr_room.proofs.Keeping.{present_are_in}
 use Rattle.kcr_room.proofs.Lists as RoomLists
 use Rattle.kcr_room.proofs.Moments.{crowd-cons}
@@ -27,13 +24,15 @@ use Rattle.kcr_history.specs.declared.commands.Act.{Act}
 use Rattle.kcr_history.specs.declared.commands.Act.TheVariants.{Sheet}
 use Rattle.kcr_history.specs.History.{History}
 use Rattle.kcr_history.specs.Room.{sheet, sheet_after, present}
-use Rattle.kcr_history.specs.Conditions.{conditions, fault, first_with, out_of_turn, is_empty, is_room_used}
+use Rattle.kcr_history.specs.Conditions.{conditions, fault, is_empty, is_room_used}
 use Rattle.kcr_history.specs.Machine.{IsRegister}
 use Rattle.kcr_history.specs.Views.{is_stay_of}
 use Rattle.kcr_history.proofs.Steps.{took}
 use Rattle.kcr_acts.specs.CeremonyRows.{is_unended}
 use Rattle.kcr_machine.proofs.Keyed.{any-map}
 use Rattle.kcr_machine.proofs.Shown.{any-shown}
+use Rattle.kcr_laws.proofs.Rooms.{HaveTurns, onto_append, none_yet, none_of, not_behind}
+use Rattle.kcr_laws.proofs.Alone.{turns}
 
 -- TESTS ON LISTS
 
@@ -78,41 +77,6 @@ any-or p q (x ∷ xs) = ap (λ b. (p x || q x) || b) (any-or p q xs) ∙ turned 
     turned false false true d = refl
     turned false false false d = refl
 
--- WHO IS WHERE BEFORE AND AFTER NEW ROWS
-
--- everybody has the turn
-abbrev HaveTurns : List SheetRow → ℕ → Way → ℕ → List (List ℕ) → Type 0
-HaveTurns rows c way at people = (p : List ℕ) → list_any (same_text p) people ≡ true → is_out_of_turn_by rows c way at p ≡ false
-
--- of people of whom none is refused each has the turn
-turns : (A : History) (c : ℕ) (way : Way) (at : ℕ) (people : List (List ℕ)) → first_with (out_of_turn A c way at) people ≡ None → HaveTurns (sheet A) c way at people
-turns A c way at [] h p m = absurd (true≢false (sym m))
-turns A c way at (first ∷ people) h p m = by_first (is_out_of_turn_by (sheet A) c way at first) refl h (λ g. turns A c way at people g)
-  where
-    by_same : (b : Bool) → same_text p first ≡ b → is_out_of_turn_by (sheet A) c way at first ≡ false → (b || list_any (same_text p) people) ≡ true → HaveTurns (sheet A) c way at people → is_out_of_turn_by (sheet A) c way at p ≡ false
-    by_same true e n k ih = ap (is_out_of_turn_by (sheet A) c way at) (same-is p first e) ∙ n
-    by_same false e n k ih = ih p k
-
-    by_first : (b : Bool) → is_out_of_turn_by (sheet A) c way at first ≡ b → or_else (when b (Turn first)) (first_with (out_of_turn A c way at) people) ≡ None → (first_with (out_of_turn A c way at) people ≡ None → HaveTurns (sheet A) c way at people) → is_out_of_turn_by (sheet A) c way at p ≡ false
-    by_first true e g ih = absurd (let z : Some (Turn first) ≡ None = g in cc)
-    by_first false e g ih = by_same (same_text p first) refl e m (ih g)
-
-onto_append : (last : Option SheetRow) (rows more : List SheetRow) → last_onto last (rows ++ more) ≡ last_onto (last_onto last rows) more
-onto_append last [] more = refl
-onto_append last (row ∷ rows) more = onto_append (later last row) rows more
-
--- new rows are not of a moment before theirs
-none_yet : (c : ℕ) (way : Way) (at : ℕ) (who : List ℕ) (t : ℕ) (people : List (List ℕ)) → nat_le at t ≡ false → filter (is_of who t) (map (new_row c way at) people) ≡ []
-none_yet c way at who t [] h = refl
-none_yet c way at who t (p ∷ people) h = rw (and_right (same_text p who) (nat_le at t) h) (none_yet c way at who t people h)
-
--- nor of somebody who is not among the people
-none_of : (c : ℕ) (way : Way) (at : ℕ) (who : List ℕ) (t : ℕ) (people : List (List ℕ)) → list_any (same_text who) people ≡ false → filter (is_of who t) (map (new_row c way at) people) ≡ []
-none_of c way at who t [] h = refl
-none_of c way at who t (p ∷ people) h =
-    let q = or_parts (same_text who p) (list_any (same_text who) people) h in
-    rw (sym (same-turned who p) ∙ q.0) (none_of c way at who t people q.1)
-
 -- so they leave everybody where they were
 unchanged : (rows more : List SheetRow) (who : List ℕ) (c t : ℕ) → filter (is_of who t) more ≡ [] → in_by (rows ++ more) who c t ≡ in_by rows who c t
 unchanged rows more who c t h =
@@ -132,13 +96,6 @@ all_of who t (row ∷ rows) h = by_same (same_text row.who who) h (all_of who t 
     by_same true g ih =
         let q = or_parts (nat_lt t row.at) (list_any (λ r. nat_lt t r.at) (filter (λ r. same_text r.who who) rows)) g in
         rw (le-leb row.at t (omega (arith, ltb-false t row.at q.0)), ih q.1) refl
-
--- nobody's last row is later than t, where the new rows are not
-not_behind : (c : ℕ) (way : Way) (at t : ℕ) (last : Option SheetRow) → is_out_of_turn way c at last ≡ false → nat_le at t ≡ true → list_any (λ row. nat_lt t row.at) (listed last) ≡ false
-not_behind c way at t None h l = refl
-not_behind c way at t (Some row) h l =
-    let q = or_parts (nat_le at row.at) (is_no_turn way c row) h in
-    rw (le-ltb t row.at (omega (arith, leb-true at t l, leb-false at row.at q.0))) refl
 
 -- where all of a person's rows are at most t, the last of them is the last one at t
 last_at : (rows : List SheetRow) (who : List ℕ) (t : ℕ) → list_any (λ row. nat_lt t row.at) (listed (last_row_of rows who)) ≡ false → last_row (filter (is_of who t) rows) ≡ last_row_of rows who

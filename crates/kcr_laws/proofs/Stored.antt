@@ -22,12 +22,12 @@ use Rattle.kcr_history.specs.Conditions.{conditions, fault, no_bag}
 use Rattle.kcr_history.specs.Machine.{IsRegister}
 use Rattle.kcr_history.proofs.Steps.{took}
 
-there : {X : Type 0} (o : Option X) → is_none o ≡ false → is_some o ≡ true
+pub there : {X : Type 0} (o : Option X) → is_none o ≡ false → is_some o ≡ true
 there None g = absurd (true≢false g)
 there (Some x) g = refl
 
 -- a bag that was there before says no more than that it is there
-moved_there : (t s : List ℕ) (new : Spot) (old : Option Spot) (here : Bool) → (same_text t s ≡ true → is_some old ≡ true) → here ≡ is_some old
+pub moved_there : (t s : List ℕ) (new : Spot) (old : Option Spot) (here : Bool) → (same_text t s ≡ true → is_some old ≡ true) → here ≡ is_some old
     → here ≡ is_some (or_else (cond (same_text t s) (Some new) None) old)
 moved_there t s new old here known ih = by_test (same_text t s) refl
   where
@@ -36,13 +36,13 @@ moved_there t s new old here known ih = by_test (same_text t s) refl
     by_test false e = ih
 
 -- the bag of a command is there
-bag_known : (A : History) (t s : List ℕ) → no_bag A t ≡ None → same_text t s ≡ true → is_some (spot A s) ≡ true
+pub bag_known : (A : History) (t s : List ℕ) → no_bag A t ≡ None → same_text t s ≡ true → is_some (spot A s) ≡ true
 bag_known A t s n e = subst (λ k. is_some (spot A k) ≡ true) (same-is t s e) (there (spot A t) (unmet _ (Unknown (Things.Bag t)) n))
 
-abbrev is_sealed : History → List ℕ → Bool
+abbrev pub is_sealed : History → List ℕ → Bool
 is_sealed A s = list_any (λ k. same_text k s) (all_said sealed_serial A)
 
-sealed_after : (A : History) (act : Act) (s : List ℕ) → fault A act ≡ None → is_sealed A s ≡ is_some (spot A s)
+pub sealed_after : (A : History) (act : Act) (s : List ℕ) → fault A act ≡ None → is_sealed A s ≡ is_some (spot A s)
     → list_any (λ k. same_text k s) (cons_option (sealed_serial act) (all_said sealed_serial A)) ≡ is_some (or_else (moved (facility_of A) s act) (spot A s))
 sealed_after A (Seal c serial codes at) s f ih = by_test (same_text serial s)
   where
@@ -59,7 +59,7 @@ pub sealed_somewhere : (A : History) → IsRegister A → (s : List ℕ) → lis
 sealed_somewhere [] h s = refl
 sealed_somewhere (entry ∷ A) h s = sealed_after A entry.command.act s (took A entry h.0).no_fault (sealed_somewhere A h.1 s)
 
-box_after : (A : History) (act : Act) (f : Facility) (n : ℕ) → list_any (is_box f n) (boxes A) ≡ is_some (place_of_box A f n)
+pub box_after : (A : History) (act : Act) (f : Facility) (n : ℕ) → list_any (is_box f n) (boxes A) ≡ is_some (place_of_box A f n)
     → list_any (is_box f n) (cons_option (box_row act) (boxes A)) ≡ is_some (or_else (boxed f n act) (place_of_box A f n))
 box_after A (AddBox facility number place) f n ih = by_test (same_facility facility f && eqb number n)
   where

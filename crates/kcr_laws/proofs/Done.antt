@@ -16,11 +16,11 @@ use Rattle.kcr_history.specs.Machine.{answer_to, IsRegister}
 use Rattle.kcr_history.specs.Tables.{step_done, fate_of}
 use Rattle.kcr_history.proofs.Steps.{took}
 
-abbrev one_more : Bool → ℕ → ℕ
+abbrev pub one_more : Bool → ℕ → ℕ
 one_more true n = suc n
 one_more false n = n
 
-count-cons : {X : Type 0} (p : X → Bool) (x : X) (xs : List X) → length (filter p (x ∷ xs)) ≡ one_more (p x) (length (filter p xs))
+pub count-cons : {X : Type 0} (p : X → Bool) (x : X) (xs : List X) → length (filter p (x ∷ xs)) ≡ one_more (p x) (length (filter p xs))
 count-cons p x xs = by_test (p x)
   where
     by_test : (b : Bool) → length (cond b (x ∷ filter p xs) (filter p xs)) ≡ one_more b (length (filter p xs))
@@ -31,7 +31,7 @@ count-cons p x xs = by_test (p x)
 pub next_signed : (A : History) (d k at : ℕ) → fault A (Sign d k at) ≡ None → k ≡ suc (steps_done A d)
 next_signed A d k at f = eqb-true k (suc (steps_done A d)) (not-false (k == next_step A d) (unmet _ (Order (next_step A d)) (none_holds (conditions A (Sign d k at)) f).1.1.1.1.0))
 
-same_order : (k n : ℕ) → k ≢ suc n → nat_le k (suc n) ≡ nat_le k n
+pub same_order : (k n : ℕ) → k ≢ suc n → nat_le k (suc n) ≡ nat_le k n
 same_order k n ne = by_test (nat_le k n) refl
   where
     by_test : (b : Bool) → nat_le k n ≡ b → nat_le k (suc n) ≡ nat_le k n
@@ -41,7 +41,7 @@ same_order k n ne = by_test (nat_le k n) refl
         above : n < k → suc n < k
         above l = omega (arith, l, ne)
 
-advance : {F : Type 0} (n k step : ℕ) (m : Bool) → (step == k) ≡ m → step ≡ suc n → (fate : Option F) (new : F) → is_some fate ≡ (nat_le 1 k && nat_le k n)
+pub advance : {F : Type 0} (n k step : ℕ) (m : Bool) → (step == k) ≡ m → step ≡ suc n → (fate : Option F) (new : F) → is_some fate ≡ (nat_le 1 k && nat_le k n)
     → is_some (or_else (cond m (Some new) None) fate) ≡ (nat_le 1 k && nat_le k (suc n))
 advance n k step true e s fate new ih =
     let h : step ≡ k = eqb-true step k e in
@@ -50,7 +50,7 @@ advance n k step false e s fate new ih =
     ih ∙ ap (λ b. nat_le 1 k && b) (sym (same_order k n (λ q. both_ways _ e (eq-eqb step k (s ∙ sym q)))))
 
 -- by one command; `said` is the step that the answer names
-fate_after : (A : History) (act : Act) (said : Option ℕ) (c k : ℕ) → fault A act ≡ None → (people : Option (List (List ℕ))) → said ≡ (answer_to A act people).step
+pub fate_after : (A : History) (act : Act) (said : Option ℕ) (c k : ℕ) → fault A act ≡ None → (people : Option (List (List ℕ))) → said ≡ (answer_to A act people).step
     → is_some (fate_of A c k) ≡ (nat_le 1 k && nat_le k (steps_done A c))
     → is_some (or_else (step_done c k act said) (fate_of A c k)) ≡ (nat_le 1 k && nat_le k (one_more (does_step c act) (steps_done A c)))
 fate_after A (Sign d step at) said c k f people e ih = by_ceremony (d == c) refl
@@ -74,22 +74,22 @@ fate_after A (Except d text false at) said c k f people e ih = rw e (ih ∙ by_c
     by_ceremony false = refl
 fate_after A act said c k f people e ih = ih
 
-no_step_done : (k : ℕ) → (nat_le 1 k && nat_le k 0) ≡ false
+pub no_step_done : (k : ℕ) → (nat_le 1 k && nat_le k 0) ≡ false
 no_step_done zero = refl
 no_step_done (suc k) = and_right (nat_le 1 (suc k)) (nat_le (suc k) 0) (lt-leb (suc k) 0 (omega arith))
 
-done-after : (A : History) (entry : Entry) (c : ℕ) → steps_done (entry ∷ A) c ≡ one_more (does_step c entry.command.act) (steps_done A c)
+pub done-after : (A : History) (entry : Entry) (c : ℕ) → steps_done (entry ∷ A) c ≡ one_more (does_step c entry.command.act) (steps_done A c)
 done-after A entry c = count-cons (λ entry. does_step c entry.command.act) entry A
 
 -- step k was signed or passed exactly where it is one of the steps done so far
-fate-done : (A : History) → IsRegister A → (c k : ℕ) → is_some (fate_of A c k) ≡ (nat_le 1 k && nat_le k (steps_done A c))
+pub fate-done : (A : History) → IsRegister A → (c k : ℕ) → is_some (fate_of A c k) ≡ (nat_le 1 k && nat_le k (steps_done A c))
 fate-done [] h c k = sym (no_step_done k)
 fate-done (entry ∷ A) h c k =
     let t = took A entry h.0 in
     fate_after A entry.command.act entry.answer.step c k t.no_fault t.people (ap (λ a. a.step) t.answer) (fate-done A h.1 c k)
     ∙ ap (λ n. nat_le 1 k && nat_le k n) (sym (done-after A entry c))
 
-none-there : {X : Type 0} (o : Option X) → is_some o ≡ false → o ≡ None
+pub none-there : {X : Type 0} (o : Option X) → is_some o ≡ false → o ≡ None
 none-there None e = refl
 none-there (Some x) e = absurd (both_ways _ e refl)
 
