@@ -1,7 +1,7 @@
 //! One value of a row: read from a column, counted from 0, and made into a parameter of a statement. Each reader's
 //! error is `Disk` where the column has no such value; those that take an allocator answer `Memory` for want of memory.
 
-ghost use Rattle.std.specs.Prelude.{⊤, ◌≡◌, ◌≢◌, ◌<◌, ◌^◌, ℕ, List, IsUtf8, pos, Err, IfOk, IfErr, OnErr, Bool};
+ghost use Rattle.std.specs.Prelude.{⊤, ◌≡◌, ◌≢◌, ◌<◌, ◌^◌, ℕ, List, length, IsUtf8, pos, Err, IfOk, IfErr, OnErr, Bool, true, false};
 ghost use Rattle.sqlite.specs.declared.types.Value.TheVariants.{Null, Int, Text as Chars};
 ghost use Rattle.sqlite.specs.Order.{column};
 ghost use Rattle.sqlite.specs.Values.{bound_value};
@@ -223,45 +223,59 @@ pub fn truth_at(row: &Row, at: usize) -> Result<bool, Refusal>
     }
 }
 
+/// Whether a column is there and NULL.
+fn is_null(row: &Row, at: usize) -> bool
+    ensures yes { result ≡ true → column row.now at ≡ Null }
+    ensures no { result ≡ false → at < length row.now → column row.now at ≢ Null }
+{
+    matches!(row.get_ref(at), Ok(ValueRef::Null))
+}
+
 /// The whole number in a column, or None where it is NULL.
 pub fn number_or_null_at(row: &Row, at: usize) -> Result<Option<u32>, Refusal>
     ensures value { IfOk result (λ found. column row.now at ≡ int_or_null found) }
+    ensures null { OnErr result (at < length row.now → column row.now at ≢ Null) }
+    ensures none { OnErr result ((n : ℕ) → n < 2 ^ 32 → column row.now at ≢ Int (pos n)) }
     ensures cause { IfErr result IsFault }
 {
-    match row.get_ref(at) {
-        Ok(ValueRef::Null) => Ok(None),
-        _ => match number_at(row, at) {
-            Ok(found) => Ok(Some(found)),
-            Err(refusal) => Err(refusal),
-        },
+    if is_null(row, at) {
+        return Ok(None);
+    }
+    match number_at(row, at) {
+        Ok(found) => Ok(Some(found)),
+        Err(refusal) => Err(refusal),
     }
 }
 
 /// The day in a column, or None where it is NULL.
 pub fn day_or_null_at(row: &Row, at: usize) -> Result<Option<Day>, Refusal>
     ensures value { IfOk result (λ found. column row.now at ≡ int_or_null found) }
+    ensures null { OnErr result (at < length row.now → column row.now at ≢ Null) }
+    ensures none { OnErr result ((n : ℕ) → IsDay n → column row.now at ≢ Int (pos n)) }
     ensures cause { IfErr result IsFault }
 {
-    match row.get_ref(at) {
-        Ok(ValueRef::Null) => Ok(None),
-        _ => match day_at(row, at) {
-            Ok(found) => Ok(Some(found)),
-            Err(refusal) => Err(refusal),
-        },
+    if is_null(row, at) {
+        return Ok(None);
+    }
+    match day_at(row, at) {
+        Ok(found) => Ok(Some(found)),
+        Err(refusal) => Err(refusal),
     }
 }
 
 /// The moment in a column, or None where it is NULL.
 pub fn moment_or_null_at(row: &Row, at: usize) -> Result<Option<Moment>, Refusal>
     ensures value { IfOk result (λ found. column row.now at ≡ int_or_null found) }
+    ensures null { OnErr result (at < length row.now → column row.now at ≢ Null) }
+    ensures none { OnErr result ((n : ℕ) → IsMoment n → column row.now at ≢ Int (pos n)) }
     ensures cause { IfErr result IsFault }
 {
-    match row.get_ref(at) {
-        Ok(ValueRef::Null) => Ok(None),
-        _ => match moment_at(row, at) {
-            Ok(found) => Ok(Some(found)),
-            Err(refusal) => Err(refusal),
-        },
+    if is_null(row, at) {
+        return Ok(None);
+    }
+    match moment_at(row, at) {
+        Ok(found) => Ok(Some(found)),
+        Err(refusal) => Err(refusal),
     }
 }
 
