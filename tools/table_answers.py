@@ -58,7 +58,7 @@ returns-clause-tables g c clean m h =
         out = ""
         if r.arg:
             out += f"use Rattle.std.proofs.Common.{{[], ◌∷◌, ◌∙◌, ap, map, IfOk, subst}}\nuse Rattle.sqlite.specs.declared.types.Value.TheVariants.{{Text}}\nuse Rattle.sqlite.specs.Order.{{Row}}\n"
-        out += f"use Rattle.sqlite.specs.Held.{{state}}\nuse Rattle.sqlite.specs.State.{{Shown}}\nuse Rattle.kcr_rows.proofs.FailLemmas.{{{', '.join(used)}}}\nuse Rattle.kcr_tables.specs.Schema.{{register_schema}}\nuse Rattle.kcr_tables.specs.Rows.{{{t.row_of}}}\nuse Rattle.kcr_tables.proofs.HoldLemmas.{{still_holds}}\n"
+        out += f"use Rattle.sqlite.specs.Held.{{state}}\nuse Rattle.sqlite.specs.State.{{Shown}}\nuse Rattle.kcr_rows.proofs.FailLemmas.{{{', '.join(used)}}}\nuse Rattle.kcr_tables.specs.Schema.{{register_schema}}\nuse Rattle.kcr_cells.specs.Rows.{{{t.row_of}}}\nuse Rattle.kcr_tables.proofs.HoldLemmas.{{still_holds}}\n"
         out += f"use {L}.{{{p}_text, {p}_plain, reads_{p}}}\nuse {G}.{r.name}.Goals as goal\n"
         out += f"\npub returns-clause-rows : goal.returns-clause-rows\nreturns-clause-rows g c clean t held =\n    let old = state g.S.Store c.args.tx.now.conn.now in\n    let new = state g.S.Store c.rows_of.new.tx.conn.now in\n"
         if r.arg:

@@ -47,10 +47,10 @@ use Rattle.kcr_base.specs.Same.{same_text, same_place}
         out += "use Rattle.kcr_base.specs.declared.place.Place.{Place}\n"
     out += "use Rattle.kcr_rows.specs.Columns.{words, number, words_or_null, number_or_null}\nuse Rattle.kcr_rows.specs.Keyed.{cells, Keeps, put_in}\nuse Rattle.kcr_rows.specs.Greatest.{IsGreatest}\n"
     out += uses(t.words())
-    out += f"use {P}.specs.Schema.{{register_schema}}\nuse {P}.specs.Rows.{{{t.row_of}}}\nuse {t.declared}\n"
+    out += f"use {P}.specs.Schema.{{register_schema}}\nuse Rattle.kcr_cells.specs.Rows.{{{t.row_of}}}\nuse {t.declared}\n"
     facts = sorted({x for x in (t.is_read, t.is_stored) if x})
     if facts:
-        out += f"use {P}.specs.States.{{{', '.join(facts)}}}\n"
+        out += f"use Rattle.kcr_cells.specs.States.{{{', '.join(facts)}}}\n"
     out += f"use {P}.specs.Held.{{Tables, Kept, Holds, {', '.join(u.place for u in TABLES)}}}\n"
     out += "use Rattle.kcr_rows.proofs.ReadLemmas.{reading}\nuse Rattle.kcr_rows.proofs.FilterLemmas.{has_value, value_is, filter_as}\nuse Rattle.kcr_rows.proofs.OrderLemmas.{put_in_all}\n"
     out += "use Rattle.kcr_rows.proofs.GreatestLemmas.{greatest, shown_greatest}\n"
@@ -61,7 +61,7 @@ use Rattle.kcr_base.specs.Same.{same_text, same_place}
     if t.name == "items":
         own += ["one_rest", "within_is"]
     if own:
-        out += f"use {P}.proofs.StateLemmas.{{{', '.join(own)}}}\n"
+        out += f"use Rattle.kcr_cells.proofs.StateLemmas.{{{', '.join(own)}}}\n"
     out += "use Rattle.kcr_rows.proofs.KeyLemmas.{wider}\n"
     out += "use Rattle.kcr_rows.proofs.WriteLemmas.{cast_int}\nuse Rattle.kcr_rows.proofs.TableLemmas.{Changes, executes_put, executes_insert, keeps_still, put_in_rows, shown_values, shown_checked, shown_exact, filter_every}\n"
 

@@ -210,7 +210,7 @@ TABLES = [
     Table("exceptions", "exception", "ExceptionRow", "kcr_history", "rows.", [Column("ceremony", NUMBER), Column("exception", NUMBER), Column("text", LINE), Column("at", MOMENT), Column("passed", NUMBER_OR_NULL)], 2,
           "a script exception of a ceremony under both numbers", "All exceptions, by ceremonies, then number.", "its ceremony and number", "PutException", "same_exception",
           readings=[of_ceremony("exceptions", "is_exception_of")], asked=("u32", "is_exception_of")),
-    Table("versions", "version", "Version", "kcr_tables", "versions.", [Column("number", NUMBER)], 1,
+    Table("versions", "version", "Version", "kcr_cells", "rows.", [Column("number", NUMBER)], 1,
           "one row with the number of the schema", "All rows, in the order of their numbers: a register has one, with the number of its schema.", "its number"),
     Table("keys", "key", "KeyRow", "kcr_history", "rows.", [Column("key", KEY), Column("accepted", NUMBER), Column("command", TEXT), Column("reply", TEXT)], 1,
           "a row for each accepted command, under its key; no two rows have one number", "All accepted commands, in the order of their keys: each key is there once.", "its key",

@@ -1,6 +1,6 @@
 """Writes the module of a table."""
 from table_list import TABLES, BASE_CELLS
-from table_writer import write, codes, rust_text
+from table_writer import CELLS_CRATE, write, codes, rust_text
 
 
 NOW = "(state S.Store tx.new.conn.now)"
@@ -50,8 +50,6 @@ def source(t):
             prelude.append("◌==◌")
         if r.greatest:
             extra.append("greatest")
-    if not t.is_read:
-        prelude.insert(0, "⊤")
     if t.listed:
         machine_words.append("is_of_people" if t.name == "people" else "is_item_of")
         prelude += ["◌<◌", "[]", "length", "take", "get_or", "if◌then◌else◌"]
@@ -73,9 +71,7 @@ def source(t):
     if extra:
         out += "ghost use Rattle.kcr_rows.specs.Greatest.{IsGreatest};\n"
     out += "ghost use Rattle.kcr_tables.specs.Schema.{register_schema};\n"
-    out += f"ghost use Rattle.kcr_tables.specs.Rows.{{{t.row_of}}};\n"
-    if t.is_read:
-        out += f"ghost use Rattle.kcr_tables.specs.States.{{{t.is_read}}};\n"
+    out += f"ghost use Rattle.kcr_cells.specs.Rows.{{{t.row_of}}};\n"
     out += "ghost use Rattle.kcr_tables.specs.Held.{Tables, Holds};\n"
     if t.asked:
         asked_words = "asked_of" if t.asked[1] else ("asked_all" if not t.asked[0] else "")
@@ -90,8 +86,6 @@ def source(t):
     out += "\n"
     cells = []
     for c in t.columns:
-        if c.kind.read:
-            cells.append(c.kind.reader())
         cells.append(c.kind.cell())
         if c.kind.prelude and "(alloc" in c.kind.prelude:
             cells.append(c.kind.prelude.split("= ")[1].split("(")[0])
@@ -101,11 +95,6 @@ def source(t):
     cells = sorted(set(cells))
     own = [c for c in cells if c not in BASE_CELLS]
     base = [c for c in cells if c in BASE_CELLS]
-    if own:
-        out += f"use crate::cells::{{{', '.join(own)}}};\n"
-    if t.listed:
-        out += f"use crate::lists::{t.listed[6]};\n"
-    out += "use crate::statements::{rows_of, write};\nuse crate::stored::Stored;\n"
     base_types = {"Refusal"}
     for r in t.readings:
         for ty in ("Initials", "Place", "Serial", "ItemCode", "Key"):
@@ -116,6 +105,13 @@ def source(t):
     if t.listed:
         base_types.add(t.listed[7])
     imports = [f"use kcr_base::{{{', '.join(sorted(base_types))}}};"]
+    if is_version:
+        imports.append(f"use {t.crate}::{t.type};")
+    if own:
+        imports.append(f"use kcr_cells::cells::{{{', '.join(own)}}};")
+    if t.listed:
+        imports.append(f"use kcr_cells::lists::{t.listed[6]};")
+    imports.append("use kcr_cells::statements::{rows_of, write};")
     machine_types = set()
     if t.crate == "kcr_history":
         machine_types.add(t.type)
@@ -130,28 +126,9 @@ def source(t):
     if machine_types:
         imports.append(f"use kcr_history::{{{', '.join(sorted(machine_types))}}};")
     imports.append(f"use kcr_rows::cells::{{{', '.join(base)}}};")
-    imports.append("use sqlite::{Alter, Row, Transaction};")
+    imports.append("use sqlite::{Alter, Transaction};")
     imports.append("use std::alloc::Global;")
     out += "\n".join(imports) + "\n\n"
-    if is_version:
-        out += """/// The number of a schema, by which a later program knows which tables a file has.
-#[derive(Clone, Copy, Debug, PartialEq, Eq, Drop)]
-pub struct Version {
-    pub number: u32,
-}
-
-"""
-    # decode
-    uses_alloc = any("alloc" in (c.kind.read or "") for c in t.columns)
-    read = t.is_read or "λ _. ⊤"
-    out += f"impl Stored for {t.type} {{\n    ghost row_of = {{ {t.row_of} }};\n\n    ghost is_read = {{ {read} }};\n\n"
-    out += f"    fn decode({'alloc' if uses_alloc else '_alloc'}: Global, row: &Row) -> Result<{t.type}, Refusal> {{\n        if row.column_count() != {len(t.columns)} {{\n            return Err(Refusal::Disk);\n        }}\n"
-    fields = []
-    for i, c in enumerate(t.columns):
-        if c.kind.read:
-            out += f"        let {c.field} = {c.kind.read.format(at=i)};\n"
-            fields.append(c.field)
-    out += f"        Ok({t.type} {{ {', '.join(fields)} }})\n    }}\n}}\n\n"
     # all rows
     out += f"/// {t.all_doc}\n{FAULTS}" + signature(f"all_{t.name}", "", f"Vec<{t.type}>")
     out += clauses("same_reference") + held_clause("rows", f"(λ all. all.items ≡ t.{t.name})")
@@ -286,3 +263,45 @@ ghost use Rattle.kcr_tables.specs.Made.{text_at};
         out += f"        {t.at} => {rust_text(t.create_text())},\n"
     out += f"        _ => {rust_text(TABLES[-1].create_text())},\n    }}\n}}\n"
     write("src/texts.rt", out)
+
+
+VERSION = """/// The number of a schema, by which a later program knows which tables a file has.
+#[derive(Clone, Copy, Debug, PartialEq, Eq, Drop)]
+pub struct Version {
+    pub number: u32,
+}
+
+"""
+
+
+def decoded(t):
+    """How the row of a value is read back."""
+    uses_alloc = any("alloc" in (c.kind.read or "") for c in t.columns)
+    out = VERSION if t.name == "versions" else ""
+    out += f"impl Stored for {t.type} {{\n    ghost row_of = {{ {t.row_of} }};\n\n    ghost is_read = {{ {t.is_read or 'λ _. ⊤'} }};\n\n"
+    out += f"    fn decode({'alloc' if uses_alloc else '_alloc'}: Global, row: &Row) -> Result<{t.type}, Refusal> {{\n        if row.column_count() != {len(t.columns)} {{\n            return Err(Refusal::Disk);\n        }}\n"
+    fields = []
+    for i, c in enumerate(t.columns):
+        if c.kind.read:
+            out += f"        let {c.field} = {c.kind.read.format(at=i)};\n"
+            fields.append(c.field)
+    return out + f"        Ok({t.type} {{ {', '.join(fields)} }})\n    }}\n}}\n"
+
+
+def source_rows():
+    out = """//! The rows of the tables as values: how each is read back.
+
+ghost use Rattle.std.specs.Prelude.{⊤};
+"""
+    out += f"ghost use Rattle.kcr_cells.specs.Rows.{{{', '.join(t.row_of for t in TABLES)}}};\n"
+    out += f"ghost use Rattle.kcr_cells.specs.States.{{{', '.join(t.is_read for t in TABLES if t.is_read)}}};\n\n"
+    readers = {c.kind.reader() for t in TABLES for c in t.columns if c.kind.read}
+    types = {"kcr_base": {"Refusal"}}
+    for t in TABLES:
+        if t.crate != CELLS_CRATE:
+            types.setdefault(t.crate, set()).add(t.type)
+    imports = [f"use crate::cells::{{{', '.join(sorted(readers - BASE_CELLS))}}};", "use crate::stored::Stored;"]
+    imports += [f"use {crate}::{{{', '.join(sorted(types[crate]))}}};" for crate in sorted(types)]
+    imports += [f"use kcr_rows::cells::{{{', '.join(sorted(readers & BASE_CELLS))}}};", "use sqlite::Row;", "use std::alloc::Global;"]
+    out += "\n".join(imports) + "\n\n" + "\n".join(decoded(t) for t in TABLES)
+    write("src/rows.rt", out, CELLS_CRATE)

@@ -2,7 +2,8 @@
 import os
 import re
 
-ROOT = os.path.join("crates", "kcr_tables")
+TABLES_CRATE = "kcr_tables"
+CELLS_CRATE = "kcr_cells"
 
 
 def is_named(name, body):
@@ -32,8 +33,8 @@ def without_unused(text):
     return "\n".join(kept)
 
 
-def write(path, text):
-    path = os.path.join(ROOT, path)
+def write(path, text, crate=TABLES_CRATE):
+    path = os.path.join("crates", crate, path)
     text = without_unused(text)
     os.makedirs(os.path.dirname(path), exist_ok=True)
     with open(path, "w") as f:

@@ -1,17 +1,19 @@
 #!/usr/bin/env python3
-"""Writes the modules of the tables in crates/kcr_tables, one for each table and all alike, with their lemma files.
+"""Writes the modules of the tables in crates/kcr_tables, one for each table and all alike, with their lemma files, and
+the rows as values in crates/kcr_cells.
 
 Run it at the top of the repository, then lay the files out and check:
 
     python3 tools/tables.py
-    cd crates/kcr_tables && rt fmt && rt check
+    (cd crates/kcr_cells && rt fmt && rt check)
+    (cd crates/kcr_tables && rt fmt && rt check)
 
 With the word `schema` it writes nothing, and prints the texts that make the tables instead, one on a line and in their
 order, as `tests/sqlite3.sh` compares them with what sqlite3 reads in a register's file.
 
 What differs from table to table stands in `table_list.py`: the columns, the key, and the readings. Everything that this
 program writes is committed; edit a table here and never in the files that are written. The files that are not written
-by it (lib.rt, cells.rt, changes.rt, creation.rt, lists.rt, rooms.rt, statements.rt, stored.rt, view.rt, the tests, and the
+by it (lib.rt, changes.rt, creation.rt, rooms.rt, view.rt, all of kcr_cells but rows.rt and its specs/Rows.antt, and the
 definitions and lemmas that name no single table) are edited by hand.
 """
 import sys
@@ -22,7 +24,7 @@ from table_answers import answers
 from table_joint import lemmas_joint, lemmas_make
 from table_lemmas import lemmas
 from table_list import TABLES
-from table_source import source, source_texts
+from table_source import source, source_rows, source_texts
 from table_specs import spec_changed, spec_first, spec_held, spec_joint, spec_made, spec_rows, spec_schema
 
 
@@ -38,6 +40,7 @@ def main():
     spec_changed()
     spec_joint()
     spec_first()
+    source_rows()
     source_texts()
     lemmas_make()
     lemmas_joint()

@@ -24,7 +24,7 @@ use Rattle.kcr_history.specs.Tables.{tables}
 use Rattle.kcr_history.specs.Changes.{changed_by}
 use Rattle.kcr_history.specs.Machine.{IsRegister, IsAcceptance, IsRepeat, machine, Accepts}
 use Rattle.kcr_tables.specs.Keyed.{by_key}
-use Rattle.kcr_tables.specs.Rows.{person_row}
+use Rattle.kcr_cells.specs.Rows.{person_row}
 use Rattle.kcr_tables.specs.Held.{Holds}
 use Rattle.kcr_tables.specs.Joint.{HoldsTables}
 use Rattle.kcr_tables.proofs.JointLemmas.{same_holds}

@@ -24,15 +24,15 @@ use Rattle.kcr_rows.specs.Columns.{words}
 use Rattle.kcr_rows.specs.Keyed.{cells, Keeps, put_in}
 use Rattle.kcr_custody.specs.Spots.{spot_text}
 use Rattle.kcr_tables.specs.Schema.{register_schema}
-use Rattle.kcr_tables.specs.Rows.{bag_row}
+use Rattle.kcr_cells.specs.Rows.{bag_row}
 use Rattle.kcr_custody.specs.declared.Bag.{Bag}
-use Rattle.kcr_tables.specs.States.{HasBoxNumber}
+use Rattle.kcr_cells.specs.States.{HasBoxNumber}
 use Rattle.kcr_tables.specs.Held.{Tables, Kept, Holds, people_place, trainings_place, appointments_place, boxes_place, safes_place, bags_place, items_place, ceremonies_place, marks_place, steps_place, seatings_place, sheet_place, exceptions_place, versions_place, keys_place, stays_place, withdrawals_place}
 use Rattle.kcr_rows.proofs.ReadLemmas.{reading}
 use Rattle.kcr_rows.proofs.FilterLemmas.{has_value, value_is, filter_as}
 use Rattle.kcr_rows.proofs.OrderLemmas.{put_in_all}
 use Rattle.kcr_rows.proofs.SameLemmas.{text_ties}
-use Rattle.kcr_tables.proofs.StateLemmas.{one_spot}
+use Rattle.kcr_cells.proofs.StateLemmas.{one_spot}
 use Rattle.kcr_rows.proofs.TableLemmas.{Changes, executes_put, keeps_still, put_in_rows, shown_checked, shown_exact, filter_every}
 
 abbrev pub project : List Term

@@ -21,7 +21,7 @@ use Rattle.kcr_rows.specs.Keyed.{cells, Keeps, put_in}
 use Rattle.kcr_base.specs.Facility.{facility_text}
 use Rattle.kcr_base.specs.Place.{place_text}
 use Rattle.kcr_tables.specs.Schema.{register_schema}
-use Rattle.kcr_tables.specs.Rows.{box_row}
+use Rattle.kcr_cells.specs.Rows.{box_row}
 use Rattle.kcr_custody.specs.declared.BoxRow.{BoxRow}
 use Rattle.kcr_tables.specs.Held.{Tables, Kept, Holds, people_place, trainings_place, appointments_place, boxes_place, safes_place, bags_place, items_place, ceremonies_place, marks_place, steps_place, seatings_place, sheet_place, exceptions_place, versions_place, keys_place, stays_place, withdrawals_place}
 use Rattle.kcr_rows.proofs.ReadLemmas.{reading}

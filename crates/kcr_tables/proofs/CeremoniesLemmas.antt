@@ -22,15 +22,15 @@ use Rattle.kcr_history.specs.Views.{is_of_number}
 use Rattle.kcr_rows.specs.Columns.{words, number, number_or_null}
 use Rattle.kcr_rows.specs.Keyed.{cells, Keeps, put_in}
 use Rattle.kcr_base.specs.Facility.{facility_text}
-use Rattle.kcr_tables.specs.States.{ceremony_number}
+use Rattle.kcr_cells.specs.States.{ceremony_number}
 use Rattle.kcr_tables.specs.Schema.{register_schema}
-use Rattle.kcr_tables.specs.Rows.{ceremony_row}
+use Rattle.kcr_cells.specs.Rows.{ceremony_row}
 use Rattle.kcr_history.specs.declared.rows.CeremonyRow.{CeremonyRow}
 use Rattle.kcr_tables.specs.Held.{Tables, Kept, Holds, people_place, trainings_place, appointments_place, boxes_place, safes_place, bags_place, items_place, ceremonies_place, marks_place, steps_place, seatings_place, sheet_place, exceptions_place, versions_place, keys_place, stays_place, withdrawals_place}
 use Rattle.kcr_rows.proofs.ReadLemmas.{reading}
 use Rattle.kcr_rows.proofs.FilterLemmas.{has_value, value_is, filter_as}
 use Rattle.kcr_rows.proofs.SameLemmas.{one_facility, one_number, number_ties}
-use Rattle.kcr_tables.proofs.StateLemmas.{cast_or_null, one_ceremony_state}
+use Rattle.kcr_cells.proofs.StateLemmas.{cast_or_null, one_ceremony_state}
 use Rattle.kcr_rows.proofs.WriteLemmas.{cast_int}
 use Rattle.kcr_rows.proofs.TableLemmas.{Changes, executes_put, keeps_still, put_in_rows, shown_values, shown_exact, filter_every}
 

@@ -25,13 +25,13 @@ use Rattle.kcr_history.specs.declared.views.ItemsOf.TheVariants as Wanted
 use Rattle.kcr_rows.specs.Columns.{words, words_or_null}
 use Rattle.kcr_rows.specs.Keyed.{cells, Keeps, put_in}
 use Rattle.kcr_tables.specs.Schema.{register_schema}
-use Rattle.kcr_tables.specs.Rows.{item_row}
+use Rattle.kcr_cells.specs.Rows.{item_row}
 use Rattle.kcr_custody.specs.declared.Item.{Item}
 use Rattle.kcr_tables.specs.Held.{Tables, Kept, Holds, people_place, trainings_place, appointments_place, boxes_place, safes_place, bags_place, items_place, ceremonies_place, marks_place, steps_place, seatings_place, sheet_place, exceptions_place, versions_place, keys_place, stays_place, withdrawals_place}
 use Rattle.kcr_rows.proofs.ReadLemmas.{reading}
 use Rattle.kcr_rows.proofs.FilterLemmas.{has_value, value_is, filter_as}
 use Rattle.kcr_rows.proofs.SameLemmas.{text_ties}
-use Rattle.kcr_tables.proofs.StateLemmas.{cast_loose, cast_within, one_rest, within_is}
+use Rattle.kcr_cells.proofs.StateLemmas.{cast_loose, cast_within, one_rest, within_is}
 use Rattle.kcr_rows.proofs.KeyLemmas.{wider}
 use Rattle.kcr_rows.proofs.TableLemmas.{Changes, executes_put, keeps_still, put_in_rows, shown_values, shown_exact, filter_every}
 

@@ -16,12 +16,12 @@ use Rattle.kcr_custody.specs.Balance.{same_box, same_bag, same_item}
 use Rattle.kcr_base.specs.Role.{role_text}
 use Rattle.kcr_base.specs.Place.{place_text}
 use Rattle.kcr_base.specs.Facility.{facility_text}
-use Rattle.kcr_tables.specs.States.{safe_digit}
+use Rattle.kcr_cells.specs.States.{safe_digit}
 use Rattle.kcr_rows.specs.Keyed.{by_key}
 use Rattle.kcr_rows.proofs.OrderLemmas.{put-stands, put_in_rising}
 use Rattle.kcr_rows.proofs.SameLemmas.{text_ties, number_ties, facility_ties, role_ties, place_ties, one_column, two_columns, three_columns, four_columns, turned}
-use Rattle.kcr_tables.proofs.StateLemmas.{safe_ties}
-use Rattle.kcr_tables.specs.Rows.{person_row, training_row, appointment_row, box_row, safe_row, bag_row, item_row, ceremony_row, mark_row, step_row, seating_row, sheet_row, exception_row, key_row, stay_row, withdrawal_row}
+use Rattle.kcr_cells.proofs.StateLemmas.{safe_ties}
+use Rattle.kcr_cells.specs.Rows.{person_row, training_row, appointment_row, box_row, safe_row, bag_row, item_row, ceremony_row, mark_row, step_row, seating_row, sheet_row, exception_row, key_row, stay_row, withdrawal_row}
 use Rattle.kcr_people.specs.declared.Person.{Person}
 use Rattle.kcr_people.specs.declared.Training.{Training}
 use Rattle.kcr_people.specs.declared.Appointment.{Appointment}

@@ -18,7 +18,6 @@ pub mod SafeLemmas
 pub mod SafesLemmas
 pub mod SeatingsLemmas
 pub mod SheetLemmas
-pub mod StateLemmas
 pub mod StayLemmas
 pub mod StaysLemmas
 pub mod StepsLemmas

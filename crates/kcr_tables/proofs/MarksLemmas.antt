@@ -22,7 +22,7 @@ use Rattle.kcr_history.specs.Views.{is_mark_of}
 use Rattle.kcr_rows.specs.Columns.{number}
 use Rattle.kcr_rows.specs.Keyed.{cells, Keeps, put_in}
 use Rattle.kcr_tables.specs.Schema.{register_schema}
-use Rattle.kcr_tables.specs.Rows.{mark_row}
+use Rattle.kcr_cells.specs.Rows.{mark_row}
 use Rattle.kcr_history.specs.declared.rows.MarkRow.{MarkRow}
 use Rattle.kcr_tables.specs.Held.{Tables, Kept, Holds, people_place, trainings_place, appointments_place, boxes_place, safes_place, bags_place, items_place, ceremonies_place, marks_place, steps_place, seatings_place, sheet_place, exceptions_place, versions_place, keys_place, stays_place, withdrawals_place}
 use Rattle.kcr_rows.proofs.ReadLemmas.{reading}

@@ -6,7 +6,7 @@ use Rattle.kcr_base.specs.declared.place.Facility.TheVariants.{East, West}
 use Rattle.kcr_custody.specs.declared.SafeNumber.TheVariants.{One, Two}
 use Rattle.kcr_custody.specs.declared.SafeRow.{SafeRow}
 use Rattle.kcr_rows.specs.Keyed.{put_in}
-use Rattle.kcr_tables.specs.Rows.{safe_row, version_row}
+use Rattle.kcr_cells.specs.Rows.{safe_row, version_row}
 use Rattle.kcr_tables.specs.First.{empty_tables, first_tables, shut}
 
 -- in the order of their keys

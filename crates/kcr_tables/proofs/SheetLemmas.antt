@@ -20,15 +20,15 @@ use Rattle.sqlite_value.specs.Keys.{ascending}
 use Rattle.sqlite_tied.specs.Compute.{everything}
 use Rattle.kcr_rows.specs.Columns.{words, number}
 use Rattle.kcr_rows.specs.Keyed.{cells, Keeps, put_in}
-use Rattle.kcr_tables.specs.States.{way_number}
+use Rattle.kcr_cells.specs.States.{way_number}
 use Rattle.kcr_tables.specs.Schema.{register_schema}
-use Rattle.kcr_tables.specs.Rows.{sheet_row}
+use Rattle.kcr_cells.specs.Rows.{sheet_row}
 use Rattle.kcr_room.specs.declared.SheetRow.{SheetRow}
 use Rattle.kcr_tables.specs.Held.{Tables, Kept, Holds, people_place, trainings_place, appointments_place, boxes_place, safes_place, bags_place, items_place, ceremonies_place, marks_place, steps_place, seatings_place, sheet_place, exceptions_place, versions_place, keys_place, stays_place, withdrawals_place}
 use Rattle.kcr_rows.proofs.ReadLemmas.{reading}
 use Rattle.kcr_rows.proofs.FilterLemmas.{has_value, value_is, filter_as}
 use Rattle.kcr_rows.proofs.SameLemmas.{number_ties}
-use Rattle.kcr_tables.proofs.StateLemmas.{one_way}
+use Rattle.kcr_cells.proofs.StateLemmas.{one_way}
 use Rattle.kcr_rows.proofs.WriteLemmas.{cast_int}
 use Rattle.kcr_rows.proofs.TableLemmas.{Changes, executes_put, keeps_still, put_in_rows, shown_values, shown_exact, filter_every}
 

@@ -18,7 +18,7 @@ use Rattle.kcr_history.specs.Views.{is_stay_of, later_stay, last_of, last_stay, 
 use Rattle.kcr_rows.specs.Keyed.{by_key}
 use Rattle.kcr_rows.specs.Greatest.{IsGreatest}
 use Rattle.kcr_rows.proofs.PutLemmas.{has_same}
-use Rattle.kcr_tables.specs.Rows.{stay_row}
+use Rattle.kcr_cells.specs.Rows.{stay_row}
 use Rattle.kcr_tables.proofs.JointLemmas.{key_of_stays}
 use Rattle.kcr_tables.proofs.HasLemmas.{has_append, has_left, has_right, filter_from, filter_to, filter_is, one_key_of}
 use Rattle.kcr_tables.proofs.NamedLemmas.{twice}

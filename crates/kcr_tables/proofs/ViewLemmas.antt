@@ -13,7 +13,7 @@ use Rattle.kcr_history.specs.Views.{Shows, ShowsAll, is_of_key, row_of_key, grea
 use Rattle.kcr_rows.specs.Greatest.{IsGreatest}
 use Rattle.kcr_rows.proofs.PutLemmas.{has_same}
 use Rattle.kcr_history.specs.Tables as machine
-use Rattle.kcr_tables.specs.Rows.{key_row}
+use Rattle.kcr_cells.specs.Rows.{key_row}
 use Rattle.kcr_tables.specs.Held.{Tables}
 use Rattle.kcr_tables.specs.Asked.{asked_of, asked_all}
 use Rattle.kcr_tables.specs.Joint.{Stands}

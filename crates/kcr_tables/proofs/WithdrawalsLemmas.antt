@@ -23,7 +23,7 @@ use Rattle.kcr_rows.specs.Columns.{words, number}
 use Rattle.kcr_rows.specs.Keyed.{cells, Keeps, put_in}
 use Rattle.kcr_base.specs.Role.{role_text}
 use Rattle.kcr_tables.specs.Schema.{register_schema}
-use Rattle.kcr_tables.specs.Rows.{withdrawal_row}
+use Rattle.kcr_cells.specs.Rows.{withdrawal_row}
 use Rattle.kcr_people.specs.declared.Withdrawal.{Withdrawal}
 use Rattle.kcr_tables.specs.Held.{Tables, Kept, Holds, people_place, trainings_place, appointments_place, boxes_place, safes_place, bags_place, items_place, ceremonies_place, marks_place, steps_place, seatings_place, sheet_place, exceptions_place, versions_place, keys_place, stays_place, withdrawals_place}
 use Rattle.kcr_rows.proofs.ReadLemmas.{reading}

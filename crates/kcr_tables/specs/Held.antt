@@ -6,8 +6,8 @@ use Rattle.sqlite_catalog.specs.Listing.{IsSound}
 use Rattle.sqlite.specs.Tree.{Trees}
 use Rattle.kcr_tables.specs.Schema.{register_schema}
 use Rattle.kcr_rows.specs.Keyed.{Place, Keeps}
-use Rattle.kcr_tables.specs.Rows.{person_row, training_row, appointment_row, box_row, safe_row, bag_row, item_row, ceremony_row, mark_row, step_row, seating_row, sheet_row, exception_row, version_row, key_row, stay_row, withdrawal_row}
-use Rattle.kcr_tables.specs.States.{HasBoxNumber, HasSeatsText}
+use Rattle.kcr_cells.specs.Rows.{person_row, training_row, appointment_row, box_row, safe_row, bag_row, item_row, ceremony_row, mark_row, step_row, seating_row, sheet_row, exception_row, version_row, key_row, stay_row, withdrawal_row}
+use Rattle.kcr_cells.specs.States.{HasBoxNumber, HasSeatsText}
 use Rattle.kcr_people.specs.declared.Person.{Person}
 use Rattle.kcr_people.specs.declared.Training.{Training}
 use Rattle.kcr_people.specs.declared.Appointment.{Appointment}
@@ -21,7 +21,7 @@ use Rattle.kcr_history.specs.declared.rows.StepRow.{StepRow}
 use Rattle.kcr_history.specs.declared.rows.SeatingRow.{SeatingRow}
 use Rattle.kcr_room.specs.declared.SheetRow.{SheetRow}
 use Rattle.kcr_history.specs.declared.rows.ExceptionRow.{ExceptionRow}
-use Rattle.kcr_tables.specs.declared.versions.Version.{Version}
+use Rattle.kcr_cells.specs.declared.rows.Version.{Version}
 use Rattle.kcr_history.specs.declared.rows.KeyRow.{KeyRow}
 use Rattle.kcr_room.specs.declared.Stay.{Stay}
 use Rattle.kcr_people.specs.declared.Withdrawal.{Withdrawal}

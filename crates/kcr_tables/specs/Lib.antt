@@ -1,7 +1,5 @@
-pub mod States
 pub mod Schema
 pub mod Keyed
-pub mod Rows
 pub mod Refusals
 pub mod Held
 pub mod Made

@@ -1,6 +1,6 @@
 //! The table appointments: who holds a custodian's place, under the place and the first day.
 
-ghost use Rattle.std.specs.Prelude.{⊤, ◌≡◌, map, IsPermutation, IfOk, OnOk, IsTrue, IfErr, filter};
+ghost use Rattle.std.specs.Prelude.{◌≡◌, map, IsPermutation, IfOk, OnOk, IsTrue, IfErr, filter};
 ghost use Rattle.sqlite.specs.Held.{state};
 ghost use Rattle.sqlite.specs.State.{HasCleanDisk, KeepsCommit, Survives};
 ghost use Rattle.kcr_history.specs.Tables as machine;
@@ -9,44 +9,18 @@ ghost use Rattle.kcr_history.specs.declared.views.AppointmentsOf.TheVariants as 
 ghost use Rattle.kcr_rows.specs.Refusals.{IsFault};
 ghost use Rattle.kcr_rows.specs.Keyed.{put_in, cells};
 ghost use Rattle.kcr_tables.specs.Schema.{register_schema};
-ghost use Rattle.kcr_tables.specs.Rows.{appointment_row};
+ghost use Rattle.kcr_cells.specs.Rows.{appointment_row};
 ghost use Rattle.kcr_tables.specs.Held.{Tables, Holds};
 ghost use Rattle.kcr_tables.specs.Asked.{asked_of};
 ghost use Rattle.kcr_tables.specs.Joint.{HoldsTables};
 
-use crate::statements::{rows_of, write};
-use crate::stored::Stored;
 use kcr_base::{Initials, Place, Refusal};
+use kcr_cells::statements::{rows_of, write};
 use kcr_history::{AppointmentsOf, Rows};
 use kcr_people::Appointment;
-use kcr_rows::cells::{
-    code_cell, day_at, day_cell, day_or_null_at, day_or_null_cell, initials_at, initials_cell,
-    place_at,
-};
-use sqlite::{Alter, Row, Transaction};
+use kcr_rows::cells::{code_cell, day_cell, day_or_null_cell, initials_cell};
+use sqlite::{Alter, Transaction};
 use std::alloc::Global;
-
-impl Stored for Appointment {
-    ghost row_of = { appointment_row };
-
-    ghost is_read = { λ _. ⊤ };
-
-    fn decode(_alloc: Global, row: &Row) -> Result<Appointment, Refusal> {
-        if row.column_count() != 4 {
-            return Err(Refusal::Disk);
-        }
-        let place = place_at(row, 0)?;
-        let since = day_at(row, 1)?;
-        let who = initials_at(row, 2)?;
-        let until = day_or_null_at(row, 3)?;
-        Ok(Appointment {
-            place,
-            since,
-            who,
-            until,
-        })
-    }
-}
 
 /// All appointments, by places, then first day.
 /// Nothing is changed. The error is `Memory` for want of memory, and else `Disk`: the device failed, or a row is one

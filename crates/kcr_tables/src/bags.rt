@@ -8,36 +8,19 @@ ghost use Rattle.kcr_history.specs.Views.{is_of_serial};
 ghost use Rattle.kcr_rows.specs.Refusals.{IsFault};
 ghost use Rattle.kcr_rows.specs.Keyed.{put_in, cells};
 ghost use Rattle.kcr_tables.specs.Schema.{register_schema};
-ghost use Rattle.kcr_tables.specs.Rows.{bag_row};
-ghost use Rattle.kcr_tables.specs.States.{HasBoxNumber};
+ghost use Rattle.kcr_cells.specs.Rows.{bag_row};
 ghost use Rattle.kcr_tables.specs.Held.{Tables, Holds};
 ghost use Rattle.kcr_tables.specs.Asked.{asked_of};
 ghost use Rattle.kcr_tables.specs.Joint.{HoldsTables};
 
-use crate::cells::{spot_at, spot_words};
-use crate::statements::{rows_of, write};
-use crate::stored::Stored;
 use kcr_base::{Refusal, Serial};
+use kcr_cells::cells::spot_words;
+use kcr_cells::statements::{rows_of, write};
 use kcr_custody::Bag;
 use kcr_history::Rows;
-use kcr_rows::cells::{serial_at, serial_cell, text_cell};
-use sqlite::{Alter, Row, Transaction};
+use kcr_rows::cells::{serial_cell, text_cell};
+use sqlite::{Alter, Transaction};
 use std::alloc::Global;
-
-impl Stored for Bag {
-    ghost row_of = { bag_row };
-
-    ghost is_read = { HasBoxNumber };
-
-    fn decode(_alloc: Global, row: &Row) -> Result<Bag, Refusal> {
-        if row.column_count() != 2 {
-            return Err(Refusal::Disk);
-        }
-        let serial = serial_at(row, 0)?;
-        let spot = spot_at(row, 1)?;
-        Ok(Bag { serial, spot })
-    }
-}
 
 /// All bags, in the order of their serials.
 /// Nothing is changed. The error is `Memory` for want of memory, and else `Disk`: the device failed, or a row is one

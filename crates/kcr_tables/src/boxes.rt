@@ -1,44 +1,23 @@
 //! The table boxes: a box under its facility and number.
 
-ghost use Rattle.std.specs.Prelude.{⊤, ◌≡◌, map, IsPermutation, IfOk, OnOk, IsTrue, IfErr};
+ghost use Rattle.std.specs.Prelude.{◌≡◌, map, IsPermutation, IfOk, OnOk, IsTrue, IfErr};
 ghost use Rattle.sqlite.specs.Held.{state};
 ghost use Rattle.sqlite.specs.State.{HasCleanDisk, KeepsCommit, Survives};
 ghost use Rattle.kcr_history.specs.Tables as machine;
 ghost use Rattle.kcr_rows.specs.Refusals.{IsFault};
 ghost use Rattle.kcr_rows.specs.Keyed.{put_in, cells};
 ghost use Rattle.kcr_tables.specs.Schema.{register_schema};
-ghost use Rattle.kcr_tables.specs.Rows.{box_row};
+ghost use Rattle.kcr_cells.specs.Rows.{box_row};
 ghost use Rattle.kcr_tables.specs.Held.{Tables, Holds};
 ghost use Rattle.kcr_tables.specs.Asked.{asked_all};
 ghost use Rattle.kcr_tables.specs.Joint.{HoldsTables};
 
-use crate::statements::{rows_of, write};
-use crate::stored::Stored;
 use kcr_base::Refusal;
+use kcr_cells::statements::{rows_of, write};
 use kcr_custody::BoxRow;
-use kcr_rows::cells::{code_cell, facility_at, facility_cell, number_at, number_cell, place_at};
-use sqlite::{Alter, Row, Transaction};
+use kcr_rows::cells::{code_cell, facility_cell, number_cell};
+use sqlite::{Alter, Transaction};
 use std::alloc::Global;
-
-impl Stored for BoxRow {
-    ghost row_of = { box_row };
-
-    ghost is_read = { λ _. ⊤ };
-
-    fn decode(_alloc: Global, row: &Row) -> Result<BoxRow, Refusal> {
-        if row.column_count() != 3 {
-            return Err(Refusal::Disk);
-        }
-        let facility = facility_at(row, 0)?;
-        let number = number_at(row, 1)?;
-        let place = place_at(row, 2)?;
-        Ok(BoxRow {
-            facility,
-            number,
-            place,
-        })
-    }
-}
 
 /// All boxes, by facilities, then number.
 /// Nothing is changed. The error is `Memory` for want of memory, and else `Disk`: the device failed, or a row is one

@@ -1,6 +1,6 @@
 //! The table ceremonies: a ceremony under its number.
 
-ghost use Rattle.std.specs.Prelude.{⊤, ◌≡◌, map, IsPermutation, IfOk, OnOk, IsTrue, IfErr, filter};
+ghost use Rattle.std.specs.Prelude.{◌≡◌, map, IsPermutation, IfOk, OnOk, IsTrue, IfErr, filter};
 ghost use Rattle.sqlite.specs.Held.{state};
 ghost use Rattle.sqlite.specs.State.{HasCleanDisk, KeepsCommit, Survives};
 ghost use Rattle.kcr_history.specs.Tables as machine;
@@ -8,48 +8,18 @@ ghost use Rattle.kcr_history.specs.Views.{is_of_number};
 ghost use Rattle.kcr_rows.specs.Refusals.{IsFault};
 ghost use Rattle.kcr_rows.specs.Keyed.{put_in, cells};
 ghost use Rattle.kcr_tables.specs.Schema.{register_schema};
-ghost use Rattle.kcr_tables.specs.Rows.{ceremony_row};
+ghost use Rattle.kcr_cells.specs.Rows.{ceremony_row};
 ghost use Rattle.kcr_tables.specs.Held.{Tables, Holds};
 ghost use Rattle.kcr_tables.specs.Asked.{asked_of};
 ghost use Rattle.kcr_tables.specs.Joint.{HoldsTables};
 
-use crate::cells::{ceremony_state_at, ceremony_state_cell};
-use crate::statements::{rows_of, write};
-use crate::stored::Stored;
 use kcr_base::Refusal;
+use kcr_cells::cells::ceremony_state_cell;
+use kcr_cells::statements::{rows_of, write};
 use kcr_history::{CeremonyRow, Rows};
-use kcr_rows::cells::{
-    day_at, day_cell, facility_at, facility_cell, moment_or_null_at, moment_or_null_cell,
-    number_at, number_cell,
-};
-use sqlite::{Alter, Row, Transaction};
+use kcr_rows::cells::{day_cell, facility_cell, moment_or_null_cell, number_cell};
+use sqlite::{Alter, Transaction};
 use std::alloc::Global;
-
-impl Stored for CeremonyRow {
-    ghost row_of = { ceremony_row };
-
-    ghost is_read = { λ _. ⊤ };
-
-    fn decode(_alloc: Global, row: &Row) -> Result<CeremonyRow, Refusal> {
-        if row.column_count() != 6 {
-            return Err(Refusal::Disk);
-        }
-        let number = number_at(row, 0)?;
-        let facility = facility_at(row, 1)?;
-        let day = day_at(row, 2)?;
-        let state = ceremony_state_at(row, 3)?;
-        let opened = moment_or_null_at(row, 4)?;
-        let closed = moment_or_null_at(row, 5)?;
-        Ok(CeremonyRow {
-            number,
-            facility,
-            day,
-            state,
-            opened,
-            closed,
-        })
-    }
-}
 
 /// All ceremonies, in the order of their numbers.
 /// Nothing is changed. The error is `Memory` for want of memory, and else `Disk`: the device failed, or a row is one

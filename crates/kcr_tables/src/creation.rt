@@ -8,7 +8,7 @@ ghost use Rattle.kcr_history.specs.Tables.{tables};
 ghost use Rattle.kcr_rows.specs.Refusals.{IsFault};
 ghost use Rattle.kcr_rows.specs.Columns.{AreEmpty};
 ghost use Rattle.kcr_rows.specs.Keyed.{put_in};
-ghost use Rattle.kcr_tables.specs.Rows.{safe_row};
+ghost use Rattle.kcr_cells.specs.Rows.{safe_row};
 ghost use Rattle.kcr_tables.specs.Held.{Tables, Holds};
 ghost use Rattle.kcr_tables.specs.First.{empty_tables, first_tables, shut};
 ghost use Rattle.kcr_tables.specs.Joint.{HoldsTables};
@@ -17,10 +17,11 @@ ghost use Rattle.kcr_tables.specs.Schema.{all_tables};
 ghost use Rattle.kcr_custody.specs.declared.SafeNumber.TheVariants.{One, Two};
 
 use crate::safes::put_safe;
-use crate::statements::write;
 use crate::texts::{COUNT, create_text};
-use crate::versions::{Version, put_version};
+use crate::versions::put_version;
 use kcr_base::{Facility, Refusal};
+use kcr_cells::Version;
+use kcr_cells::statements::write;
 use kcr_custody::{SafeNumber, SafeRow};
 use sqlite::{Alter, Transaction};
 

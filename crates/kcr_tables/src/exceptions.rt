@@ -1,6 +1,6 @@
 //! The table exceptions: a script exception of a ceremony under both numbers.
 
-ghost use Rattle.std.specs.Prelude.{⊤, ◌≡◌, map, IsPermutation, IfOk, OnOk, IsTrue, IfErr, filter};
+ghost use Rattle.std.specs.Prelude.{◌≡◌, map, IsPermutation, IfOk, OnOk, IsTrue, IfErr, filter};
 ghost use Rattle.sqlite.specs.Held.{state};
 ghost use Rattle.sqlite.specs.State.{HasCleanDisk, KeepsCommit, Survives};
 ghost use Rattle.kcr_history.specs.Tables as machine;
@@ -8,45 +8,17 @@ ghost use Rattle.kcr_history.specs.Views.{is_exception_of};
 ghost use Rattle.kcr_rows.specs.Refusals.{IsFault};
 ghost use Rattle.kcr_rows.specs.Keyed.{put_in, cells};
 ghost use Rattle.kcr_tables.specs.Schema.{register_schema};
-ghost use Rattle.kcr_tables.specs.Rows.{exception_row};
+ghost use Rattle.kcr_cells.specs.Rows.{exception_row};
 ghost use Rattle.kcr_tables.specs.Held.{Tables, Holds};
 ghost use Rattle.kcr_tables.specs.Asked.{asked_of};
 ghost use Rattle.kcr_tables.specs.Joint.{HoldsTables};
 
-use crate::statements::{rows_of, write};
-use crate::stored::Stored;
 use kcr_base::Refusal;
+use kcr_cells::statements::{rows_of, write};
 use kcr_history::{ExceptionRow, Rows};
-use kcr_rows::cells::{
-    line_at, line_cell, moment_at, moment_cell, number_at, number_cell, number_or_null_at,
-    number_or_null_cell,
-};
-use sqlite::{Alter, Row, Transaction};
+use kcr_rows::cells::{line_cell, moment_cell, number_cell, number_or_null_cell};
+use sqlite::{Alter, Transaction};
 use std::alloc::Global;
-
-impl Stored for ExceptionRow {
-    ghost row_of = { exception_row };
-
-    ghost is_read = { λ _. ⊤ };
-
-    fn decode(alloc: Global, row: &Row) -> Result<ExceptionRow, Refusal> {
-        if row.column_count() != 5 {
-            return Err(Refusal::Disk);
-        }
-        let ceremony = number_at(row, 0)?;
-        let exception = number_at(row, 1)?;
-        let text = line_at(alloc, row, 2)?;
-        let at = moment_at(row, 3)?;
-        let passed = number_or_null_at(row, 4)?;
-        Ok(ExceptionRow {
-            ceremony,
-            exception,
-            text,
-            at,
-            passed,
-        })
-    }
-}
 
 /// All exceptions, by ceremonies, then number.
 /// Nothing is changed. The error is `Memory` for want of memory, and else `Disk`: the device failed, or a row is one

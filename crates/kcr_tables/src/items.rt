@@ -1,6 +1,6 @@
 //! The table items: an item under its code.
 
-ghost use Rattle.std.specs.Prelude.{⊤, ◌≡◌, map, IsPermutation, IfOk, OnOk, IsTrue, IfErr, filter, ◌<◌, [], length, take, get_or, if◌then◌else◌};
+ghost use Rattle.std.specs.Prelude.{◌≡◌, map, IsPermutation, IfOk, OnOk, IsTrue, IfErr, filter, ◌<◌, [], length, take, get_or, if◌then◌else◌};
 ghost use Rattle.sqlite.specs.Held.{state};
 ghost use Rattle.sqlite.specs.State.{HasCleanDisk, KeepsCommit, Survives};
 ghost use Rattle.kcr_history.specs.Tables as machine;
@@ -11,36 +11,20 @@ ghost use Rattle.kcr_base.specs.Same.{same_text};
 ghost use Rattle.kcr_rows.specs.Refusals.{IsFault};
 ghost use Rattle.kcr_rows.specs.Keyed.{put_in, cells};
 ghost use Rattle.kcr_tables.specs.Schema.{register_schema};
-ghost use Rattle.kcr_tables.specs.Rows.{item_row};
+ghost use Rattle.kcr_cells.specs.Rows.{item_row};
 ghost use Rattle.kcr_tables.specs.Held.{Tables, Holds};
 ghost use Rattle.kcr_history.specs.Views.{Shows};
 ghost use Rattle.kcr_tables.specs.Joint.{HoldsTables};
 
-use crate::cells::{loose_cell, rest_at, within_cell};
-use crate::lists::is_item_named;
-use crate::statements::{rows_of, write};
-use crate::stored::Stored;
 use kcr_base::{ItemCode, Refusal, Serial};
+use kcr_cells::cells::{loose_cell, within_cell};
+use kcr_cells::lists::is_item_named;
+use kcr_cells::statements::{rows_of, write};
 use kcr_custody::Item;
 use kcr_history::{Items, ItemsOf, Rows};
-use kcr_rows::cells::{item_at, item_cell, serial_cell};
-use sqlite::{Alter, Row, Transaction};
+use kcr_rows::cells::{item_cell, serial_cell};
+use sqlite::{Alter, Transaction};
 use std::alloc::Global;
-
-impl Stored for Item {
-    ghost row_of = { item_row };
-
-    ghost is_read = { λ _. ⊤ };
-
-    fn decode(_alloc: Global, row: &Row) -> Result<Item, Refusal> {
-        if row.column_count() != 3 {
-            return Err(Refusal::Disk);
-        }
-        let code = item_at(row, 0)?;
-        let rest = rest_at(row, 1)?;
-        Ok(Item { code, rest })
-    }
-}
 
 /// All items, in the order of their codes.
 /// Nothing is changed. The error is `Memory` for want of memory, and else `Disk`: the device failed, or a row is one

@@ -1,6 +1,6 @@
 //! The table keys: a row for each accepted command, under its key; no two rows have one number.
 
-ghost use Rattle.std.specs.Prelude.{⊤, ◌≡◌, map, IsPermutation, IfOk, OnOk, IsTrue, IfErr, filter};
+ghost use Rattle.std.specs.Prelude.{◌≡◌, map, IsPermutation, IfOk, OnOk, IsTrue, IfErr, filter};
 ghost use Rattle.sqlite.specs.Held.{state};
 ghost use Rattle.sqlite.specs.State.{HasCleanDisk, KeepsCommit, Survives};
 ghost use Rattle.kcr_history.specs.Tables as machine;
@@ -9,39 +9,16 @@ ghost use Rattle.kcr_rows.specs.Refusals.{IsFault};
 ghost use Rattle.kcr_rows.specs.Keyed.{put_in, cells};
 ghost use Rattle.kcr_rows.specs.Greatest.{IsGreatest};
 ghost use Rattle.kcr_tables.specs.Schema.{register_schema};
-ghost use Rattle.kcr_tables.specs.Rows.{key_row};
+ghost use Rattle.kcr_cells.specs.Rows.{key_row};
 ghost use Rattle.kcr_tables.specs.Held.{Tables, Holds};
 ghost use Rattle.kcr_tables.specs.Joint.{HoldsTables};
 
-use crate::statements::{rows_of, write};
-use crate::stored::Stored;
 use kcr_base::{Key, Refusal};
+use kcr_cells::statements::{rows_of, write};
 use kcr_history::KeyRow;
-use kcr_rows::cells::{key_at, key_cell, number_at, number_cell, text_at, text_cell};
-use sqlite::{Alter, Row, Transaction};
+use kcr_rows::cells::{key_cell, number_cell, text_cell};
+use sqlite::{Alter, Transaction};
 use std::alloc::Global;
-
-impl Stored for KeyRow {
-    ghost row_of = { key_row };
-
-    ghost is_read = { λ _. ⊤ };
-
-    fn decode(alloc: Global, row: &Row) -> Result<KeyRow, Refusal> {
-        if row.column_count() != 4 {
-            return Err(Refusal::Disk);
-        }
-        let key = key_at(row, 0)?;
-        let accepted = number_at(row, 1)?;
-        let command = text_at(alloc, row, 2)?;
-        let reply = text_at(alloc, row, 3)?;
-        Ok(KeyRow {
-            key,
-            accepted,
-            command,
-            reply,
-        })
-    }
-}
 
 /// All accepted commands, in the order of their keys: each key is there once.
 /// Nothing is changed. The error is `Memory` for want of memory, and else `Disk`: the device failed, or a row is one

@@ -1,33 +1,28 @@
-//! The tables of the register: their schema, their rows as values, and the calls that read and change them inside a
-//! transaction of the caller.
+//! The tables of the register: their schema, and the calls that read and change them inside a transaction of the
+//! caller.
 //!
-//! A table has a module of its own, and all of these are alike: how its row is read back as a value, the readings,
-//! and the change that puts one whole row under its key. Each SQL text has a function of its own. These modules are
-//! written by the program `tools/tables.py`; what is general stands in `stored`,
-//! `statements` and the crate `kcr_rows`.
+//! A table has a module of its own, and all of these are alike: the readings, and the change that puts one whole row
+//! under its key. Each SQL text has a function of its own. These modules are written by the program `tools/tables.py`;
+//! the rows as values and what is general stand in the crates `kcr_cells` and `kcr_rows`.
 #![tactic(auto)]
 
 mod appointments;
 mod bags;
 mod boxes;
-mod cells;
 mod ceremonies;
 mod changes;
 mod creation;
 mod exceptions;
 mod items;
 mod keys;
-mod lists;
 mod marks;
 mod people;
 mod rooms;
 mod safes;
 mod seatings;
 mod sheet;
-mod statements;
 mod stays;
 mod steps;
-mod stored;
 mod texts;
 mod trainings;
 mod versions;
@@ -42,6 +37,7 @@ pub use changes::make_changes;
 pub use creation::make;
 pub use exceptions::{all_exceptions, exceptions_of};
 pub use items::{all_items, item_of, items_within};
+pub use kcr_cells::Version;
 pub use keys::{all_keys, key_row_of, last_key_row};
 pub use marks::{all_marks, mark_of};
 pub use people::{all_people, person_of};
@@ -51,11 +47,6 @@ pub use sheet::{all_sheet, sheet_of};
 pub use stays::{all_stays, last_stay_of, stays_of};
 pub use steps::{all_steps, steps_of};
 pub use trainings::{all_trainings, trainings_of};
-pub use versions::{Version, all_versions};
+pub use versions::all_versions;
 pub use view::view_of;
 pub use withdrawals::{all_withdrawals, withdrawals_of};
-
-#[cfg(test)]
-mod tests;
-#[cfg(test)]
-mod view_tests;

@@ -1,6 +1,6 @@
 //! The table marks: the mark of a ceremony that was opened, under its number.
 
-ghost use Rattle.std.specs.Prelude.{⊤, ◌≡◌, map, IsPermutation, IfOk, OnOk, IsTrue, IfErr, filter};
+ghost use Rattle.std.specs.Prelude.{◌≡◌, map, IsPermutation, IfOk, OnOk, IsTrue, IfErr, filter};
 ghost use Rattle.sqlite.specs.Held.{state};
 ghost use Rattle.sqlite.specs.State.{HasCleanDisk, KeepsCommit, Survives};
 ghost use Rattle.kcr_history.specs.Tables as machine;
@@ -8,33 +8,17 @@ ghost use Rattle.kcr_history.specs.Views.{is_mark_of};
 ghost use Rattle.kcr_rows.specs.Refusals.{IsFault};
 ghost use Rattle.kcr_rows.specs.Keyed.{put_in, cells};
 ghost use Rattle.kcr_tables.specs.Schema.{register_schema};
-ghost use Rattle.kcr_tables.specs.Rows.{mark_row};
+ghost use Rattle.kcr_cells.specs.Rows.{mark_row};
 ghost use Rattle.kcr_tables.specs.Held.{Tables, Holds};
 ghost use Rattle.kcr_tables.specs.Asked.{asked_of};
 ghost use Rattle.kcr_tables.specs.Joint.{HoldsTables};
 
-use crate::statements::{rows_of, write};
-use crate::stored::Stored;
 use kcr_base::Refusal;
+use kcr_cells::statements::{rows_of, write};
 use kcr_history::{MarkRow, Rows};
-use kcr_rows::cells::{moment_at, moment_cell, number_at, number_cell};
-use sqlite::{Alter, Row, Transaction};
+use kcr_rows::cells::{moment_cell, number_cell};
+use sqlite::{Alter, Transaction};
 use std::alloc::Global;
-
-impl Stored for MarkRow {
-    ghost row_of = { mark_row };
-
-    ghost is_read = { λ _. ⊤ };
-
-    fn decode(_alloc: Global, row: &Row) -> Result<MarkRow, Refusal> {
-        if row.column_count() != 2 {
-            return Err(Refusal::Disk);
-        }
-        let ceremony = number_at(row, 0)?;
-        let at = moment_at(row, 1)?;
-        Ok(MarkRow { ceremony, at })
-    }
-}
 
 /// All marks, in the order of their ceremonies.
 /// Nothing is changed. The error is `Memory` for want of memory, and else `Disk`: the device failed, or a row is one

@@ -1,6 +1,6 @@
 //! The table people: a person under their initials.
 
-ghost use Rattle.std.specs.Prelude.{⊤, ◌≡◌, map, IsPermutation, IfOk, OnOk, IsTrue, IfErr, filter, ◌<◌, [], length, take, get_or, if◌then◌else◌};
+ghost use Rattle.std.specs.Prelude.{◌≡◌, map, IsPermutation, IfOk, OnOk, IsTrue, IfErr, filter, ◌<◌, [], length, take, get_or, if◌then◌else◌};
 ghost use Rattle.sqlite.specs.Held.{state};
 ghost use Rattle.sqlite.specs.State.{HasCleanDisk, KeepsCommit, Survives};
 ghost use Rattle.kcr_history.specs.Tables as machine;
@@ -10,35 +10,19 @@ ghost use Rattle.kcr_base.specs.Same.{same_text};
 ghost use Rattle.kcr_rows.specs.Refusals.{IsFault};
 ghost use Rattle.kcr_rows.specs.Keyed.{put_in, cells};
 ghost use Rattle.kcr_tables.specs.Schema.{register_schema};
-ghost use Rattle.kcr_tables.specs.Rows.{person_row};
+ghost use Rattle.kcr_cells.specs.Rows.{person_row};
 ghost use Rattle.kcr_tables.specs.Held.{Tables, Holds};
 ghost use Rattle.kcr_history.specs.Views.{Shows};
 ghost use Rattle.kcr_tables.specs.Joint.{HoldsTables};
 
-use crate::lists::is_person_named;
-use crate::statements::{rows_of, write};
-use crate::stored::Stored;
 use kcr_base::{Initials, Refusal};
+use kcr_cells::lists::is_person_named;
+use kcr_cells::statements::{rows_of, write};
 use kcr_history::{People, Rows};
 use kcr_people::Person;
-use kcr_rows::cells::{initials_at, initials_cell, line_at, line_cell};
-use sqlite::{Alter, Row, Transaction};
+use kcr_rows::cells::{initials_cell, line_cell};
+use sqlite::{Alter, Transaction};
 use std::alloc::Global;
-
-impl Stored for Person {
-    ghost row_of = { person_row };
-
-    ghost is_read = { λ _. ⊤ };
-
-    fn decode(alloc: Global, row: &Row) -> Result<Person, Refusal> {
-        if row.column_count() != 2 {
-            return Err(Refusal::Disk);
-        }
-        let who = initials_at(row, 0)?;
-        let name = line_at(alloc, row, 1)?;
-        Ok(Person { who, name })
-    }
-}
 
 /// All people, in the order of their initials: each person is there once.
 /// Nothing is changed. The error is `Memory` for want of memory, and else `Disk`: the device failed, or a row is one

@@ -1,45 +1,24 @@
 //! The table safes: a safe under its facility and number.
 
-ghost use Rattle.std.specs.Prelude.{⊤, ◌≡◌, map, IsPermutation, IfOk, OnOk, IsTrue, IfErr};
+ghost use Rattle.std.specs.Prelude.{◌≡◌, map, IsPermutation, IfOk, OnOk, IsTrue, IfErr};
 ghost use Rattle.sqlite.specs.Held.{state};
 ghost use Rattle.sqlite.specs.State.{HasCleanDisk, KeepsCommit, Survives};
 ghost use Rattle.kcr_history.specs.Tables as machine;
 ghost use Rattle.kcr_rows.specs.Refusals.{IsFault};
 ghost use Rattle.kcr_rows.specs.Keyed.{put_in, cells};
 ghost use Rattle.kcr_tables.specs.Schema.{register_schema};
-ghost use Rattle.kcr_tables.specs.Rows.{safe_row};
+ghost use Rattle.kcr_cells.specs.Rows.{safe_row};
 ghost use Rattle.kcr_tables.specs.Held.{Tables, Holds};
 ghost use Rattle.kcr_tables.specs.Asked.{asked_all};
 ghost use Rattle.kcr_tables.specs.Joint.{HoldsTables};
 
-use crate::cells::{safe_at, safe_cell};
-use crate::statements::{rows_of, write};
-use crate::stored::Stored;
 use kcr_base::Refusal;
+use kcr_cells::cells::safe_cell;
+use kcr_cells::statements::{rows_of, write};
 use kcr_custody::SafeRow;
-use kcr_rows::cells::{facility_at, facility_cell, truth_at, truth_cell};
-use sqlite::{Alter, Row, Transaction};
+use kcr_rows::cells::{facility_cell, truth_cell};
+use sqlite::{Alter, Transaction};
 use std::alloc::Global;
-
-impl Stored for SafeRow {
-    ghost row_of = { safe_row };
-
-    ghost is_read = { λ _. ⊤ };
-
-    fn decode(_alloc: Global, row: &Row) -> Result<SafeRow, Refusal> {
-        if row.column_count() != 3 {
-            return Err(Refusal::Disk);
-        }
-        let facility = facility_at(row, 0)?;
-        let safe = safe_at(row, 1)?;
-        let is_open = truth_at(row, 2)?;
-        Ok(SafeRow {
-            facility,
-            safe,
-            is_open,
-        })
-    }
-}
 
 /// All safes, by facilities, then number: a register has four.
 /// Nothing is changed. The error is `Memory` for want of memory, and else `Disk`: the device failed, or a row is one

@@ -1,45 +1,22 @@
 //! The table seatings: who filled a seat of a step, under the ceremony, the step and the seat.
 
-ghost use Rattle.std.specs.Prelude.{⊤, ◌≡◌, map, IsPermutation, IfOk, OnOk, IsTrue, IfErr, filter, ◌==◌};
+ghost use Rattle.std.specs.Prelude.{◌≡◌, map, IsPermutation, IfOk, OnOk, IsTrue, IfErr, filter, ◌==◌};
 ghost use Rattle.sqlite.specs.Held.{state};
 ghost use Rattle.sqlite.specs.State.{HasCleanDisk, KeepsCommit, Survives};
 ghost use Rattle.kcr_history.specs.Tables as machine;
 ghost use Rattle.kcr_rows.specs.Refusals.{IsFault};
 ghost use Rattle.kcr_rows.specs.Keyed.{put_in, cells};
 ghost use Rattle.kcr_tables.specs.Schema.{register_schema};
-ghost use Rattle.kcr_tables.specs.Rows.{seating_row};
+ghost use Rattle.kcr_cells.specs.Rows.{seating_row};
 ghost use Rattle.kcr_tables.specs.Held.{Tables, Holds};
 ghost use Rattle.kcr_tables.specs.Joint.{HoldsTables};
 
-use crate::statements::{rows_of, write};
-use crate::stored::Stored;
 use kcr_base::Refusal;
+use kcr_cells::statements::{rows_of, write};
 use kcr_history::SeatingRow;
-use kcr_rows::cells::{initials_at, initials_cell, number_at, number_cell};
-use sqlite::{Alter, Row, Transaction};
+use kcr_rows::cells::{initials_cell, number_cell};
+use sqlite::{Alter, Transaction};
 use std::alloc::Global;
-
-impl Stored for SeatingRow {
-    ghost row_of = { seating_row };
-
-    ghost is_read = { λ _. ⊤ };
-
-    fn decode(_alloc: Global, row: &Row) -> Result<SeatingRow, Refusal> {
-        if row.column_count() != 4 {
-            return Err(Refusal::Disk);
-        }
-        let ceremony = number_at(row, 0)?;
-        let step = number_at(row, 1)?;
-        let seat = number_at(row, 2)?;
-        let who = initials_at(row, 3)?;
-        Ok(SeatingRow {
-            ceremony,
-            step,
-            seat,
-            who,
-        })
-    }
-}
 
 /// All seatings, by ceremonies, then step and seat.
 /// Nothing is changed. The error is `Memory` for want of memory, and else `Disk`: the device failed, or a row is one

@@ -1,46 +1,23 @@
 //! The table sheet: a row of a ceremony's entry and exit sheet, under the person and the moment.
 
-ghost use Rattle.std.specs.Prelude.{⊤, ◌≡◌, map, IsPermutation, IfOk, OnOk, IsTrue, IfErr, filter, ◌==◌};
+ghost use Rattle.std.specs.Prelude.{◌≡◌, map, IsPermutation, IfOk, OnOk, IsTrue, IfErr, filter, ◌==◌};
 ghost use Rattle.sqlite.specs.Held.{state};
 ghost use Rattle.sqlite.specs.State.{HasCleanDisk, KeepsCommit, Survives};
 ghost use Rattle.kcr_history.specs.Tables as machine;
 ghost use Rattle.kcr_rows.specs.Refusals.{IsFault};
 ghost use Rattle.kcr_rows.specs.Keyed.{put_in, cells};
 ghost use Rattle.kcr_tables.specs.Schema.{register_schema};
-ghost use Rattle.kcr_tables.specs.Rows.{sheet_row};
+ghost use Rattle.kcr_cells.specs.Rows.{sheet_row};
 ghost use Rattle.kcr_tables.specs.Held.{Tables, Holds};
 ghost use Rattle.kcr_tables.specs.Joint.{HoldsTables};
 
-use crate::cells::{way_at, way_cell};
-use crate::statements::{rows_of, write};
-use crate::stored::Stored;
 use kcr_base::Refusal;
+use kcr_cells::cells::way_cell;
+use kcr_cells::statements::{rows_of, write};
 use kcr_room::SheetRow;
-use kcr_rows::cells::{initials_at, initials_cell, moment_at, moment_cell, number_at, number_cell};
-use sqlite::{Alter, Row, Transaction};
+use kcr_rows::cells::{initials_cell, moment_cell, number_cell};
+use sqlite::{Alter, Transaction};
 use std::alloc::Global;
-
-impl Stored for SheetRow {
-    ghost row_of = { sheet_row };
-
-    ghost is_read = { λ _. ⊤ };
-
-    fn decode(_alloc: Global, row: &Row) -> Result<SheetRow, Refusal> {
-        if row.column_count() != 4 {
-            return Err(Refusal::Disk);
-        }
-        let who = initials_at(row, 0)?;
-        let at = moment_at(row, 1)?;
-        let ceremony = number_at(row, 2)?;
-        let way = way_at(row, 3)?;
-        Ok(SheetRow {
-            who,
-            at,
-            ceremony,
-            way,
-        })
-    }
-}
 
 /// All rows, by people, then moment.
 /// Nothing is changed. The error is `Memory` for want of memory, and else `Disk`: the device failed, or a row is one

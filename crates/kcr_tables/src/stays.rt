@@ -1,6 +1,6 @@
 //! The table stays: a stay of a person in the room of a ceremony, under the person and its beginning.
 
-ghost use Rattle.std.specs.Prelude.{⊤, ◌≡◌, map, IsPermutation, IfOk, OnOk, IsTrue, IfErr, filter};
+ghost use Rattle.std.specs.Prelude.{◌≡◌, map, IsPermutation, IfOk, OnOk, IsTrue, IfErr, filter};
 ghost use Rattle.sqlite.specs.Held.{state};
 ghost use Rattle.sqlite.specs.State.{HasCleanDisk, KeepsCommit, Survives};
 ghost use Rattle.kcr_history.specs.Tables as machine;
@@ -10,42 +10,16 @@ ghost use Rattle.kcr_rows.specs.Refusals.{IsFault};
 ghost use Rattle.kcr_rows.specs.Keyed.{put_in, cells};
 ghost use Rattle.kcr_rows.specs.Greatest.{IsGreatest};
 ghost use Rattle.kcr_tables.specs.Schema.{register_schema};
-ghost use Rattle.kcr_tables.specs.Rows.{stay_row};
+ghost use Rattle.kcr_cells.specs.Rows.{stay_row};
 ghost use Rattle.kcr_tables.specs.Held.{Tables, Holds};
 ghost use Rattle.kcr_tables.specs.Joint.{HoldsTables};
 
-use crate::statements::{rows_of, write};
-use crate::stored::Stored;
 use kcr_base::{Initials, Refusal};
+use kcr_cells::statements::{rows_of, write};
 use kcr_room::Stay;
-use kcr_rows::cells::{
-    initials_at, initials_cell, moment_at, moment_cell, moment_or_null_at, moment_or_null_cell,
-    number_at, number_cell,
-};
-use sqlite::{Alter, Row, Transaction};
+use kcr_rows::cells::{initials_cell, moment_cell, moment_or_null_cell, number_cell};
+use sqlite::{Alter, Transaction};
 use std::alloc::Global;
-
-impl Stored for Stay {
-    ghost row_of = { stay_row };
-
-    ghost is_read = { λ _. ⊤ };
-
-    fn decode(_alloc: Global, row: &Row) -> Result<Stay, Refusal> {
-        if row.column_count() != 4 {
-            return Err(Refusal::Disk);
-        }
-        let who = initials_at(row, 0)?;
-        let since = moment_at(row, 1)?;
-        let ceremony = number_at(row, 2)?;
-        let until = moment_or_null_at(row, 3)?;
-        Ok(Stay {
-            who,
-            since,
-            ceremony,
-            until,
-        })
-    }
-}
 
 /// All stays, by people, then beginning.
 /// Nothing is changed. The error is `Memory` for want of memory, and else `Disk`: the device failed, or a row is one

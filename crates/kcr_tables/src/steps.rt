@@ -8,48 +8,18 @@ ghost use Rattle.kcr_history.specs.Views.{is_step_of};
 ghost use Rattle.kcr_rows.specs.Refusals.{IsFault};
 ghost use Rattle.kcr_rows.specs.Keyed.{put_in, cells};
 ghost use Rattle.kcr_tables.specs.Schema.{register_schema};
-ghost use Rattle.kcr_tables.specs.Rows.{step_row};
-ghost use Rattle.kcr_tables.specs.States.{HasOnlyTheseSeats};
+ghost use Rattle.kcr_cells.specs.Rows.{step_row};
 ghost use Rattle.kcr_tables.specs.Held.{Tables, Holds};
 ghost use Rattle.kcr_tables.specs.Asked.{asked_of};
 ghost use Rattle.kcr_tables.specs.Joint.{HoldsTables};
 
-use crate::cells::{seats_at, seats_words, step_state_at, step_state_cell};
-use crate::statements::{rows_of, write};
-use crate::stored::Stored;
 use kcr_base::Refusal;
+use kcr_cells::cells::{seats_words, step_state_cell};
+use kcr_cells::statements::{rows_of, write};
 use kcr_history::{Rows, StepRow};
-use kcr_rows::cells::{
-    line_at, line_cell, moment_or_null_at, moment_or_null_cell, number_at, number_cell, text_cell,
-};
-use sqlite::{Alter, Row, Transaction};
+use kcr_rows::cells::{line_cell, moment_or_null_cell, number_cell, text_cell};
+use sqlite::{Alter, Transaction};
 use std::alloc::Global;
-
-impl Stored for StepRow {
-    ghost row_of = { step_row };
-
-    ghost is_read = { HasOnlyTheseSeats };
-
-    fn decode(alloc: Global, row: &Row) -> Result<StepRow, Refusal> {
-        if row.column_count() != 6 {
-            return Err(Refusal::Disk);
-        }
-        let ceremony = number_at(row, 0)?;
-        let step = number_at(row, 1)?;
-        let activity = line_at(alloc, row, 2)?;
-        let seats = seats_at(alloc, row, 3)?;
-        let state = step_state_at(row, 4)?;
-        let at = moment_or_null_at(row, 5)?;
-        Ok(StepRow {
-            ceremony,
-            step,
-            activity,
-            seats,
-            state,
-            at,
-        })
-    }
-}
 
 /// All steps, by ceremonies, then number.
 /// Nothing is changed. The error is `Memory` for want of memory, and else `Disk`: the device failed, or a row is one

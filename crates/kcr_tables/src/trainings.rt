@@ -1,6 +1,6 @@
 //! The table trainings: a training of a person for a role, all of it its key.
 
-ghost use Rattle.std.specs.Prelude.{⊤, ◌≡◌, map, IsPermutation, IfOk, OnOk, IsTrue, IfErr, filter};
+ghost use Rattle.std.specs.Prelude.{◌≡◌, map, IsPermutation, IfOk, OnOk, IsTrue, IfErr, filter};
 ghost use Rattle.sqlite.specs.Held.{state};
 ghost use Rattle.sqlite.specs.State.{HasCleanDisk, KeepsCommit, Survives};
 ghost use Rattle.kcr_history.specs.Tables as machine;
@@ -8,41 +8,18 @@ ghost use Rattle.kcr_history.specs.Views.{is_training_of};
 ghost use Rattle.kcr_rows.specs.Refusals.{IsFault};
 ghost use Rattle.kcr_rows.specs.Keyed.{put_in, cells};
 ghost use Rattle.kcr_tables.specs.Schema.{register_schema};
-ghost use Rattle.kcr_tables.specs.Rows.{training_row};
+ghost use Rattle.kcr_cells.specs.Rows.{training_row};
 ghost use Rattle.kcr_tables.specs.Held.{Tables, Holds};
 ghost use Rattle.kcr_tables.specs.Asked.{asked_of};
 ghost use Rattle.kcr_tables.specs.Joint.{HoldsTables};
 
-use crate::statements::{rows_of, write};
-use crate::stored::Stored;
 use kcr_base::{Initials, Refusal};
+use kcr_cells::statements::{rows_of, write};
 use kcr_history::Rows;
 use kcr_people::Training;
-use kcr_rows::cells::{day_at, day_cell, initials_at, initials_cell, role_at, role_cell};
-use sqlite::{Alter, Row, Transaction};
+use kcr_rows::cells::{day_cell, initials_cell, role_cell};
+use sqlite::{Alter, Transaction};
 use std::alloc::Global;
-
-impl Stored for Training {
-    ghost row_of = { training_row };
-
-    ghost is_read = { λ _. ⊤ };
-
-    fn decode(_alloc: Global, row: &Row) -> Result<Training, Refusal> {
-        if row.column_count() != 4 {
-            return Err(Refusal::Disk);
-        }
-        let who = initials_at(row, 0)?;
-        let role = role_at(row, 1)?;
-        let since = day_at(row, 2)?;
-        let until = day_at(row, 3)?;
-        Ok(Training {
-            who,
-            role,
-            since,
-            until,
-        })
-    }
-}
 
 /// All trainings, by people, then role, first and last day.
 /// Nothing is changed. The error is `Memory` for want of memory, and else `Disk`: the device failed, or a row is one

@@ -1,40 +1,20 @@
 //! The table versions: one row with the number of the schema.
 
-ghost use Rattle.std.specs.Prelude.{⊤, ◌≡◌, map, IsPermutation, IfOk, OnOk, IsTrue, IfErr};
+ghost use Rattle.std.specs.Prelude.{◌≡◌, map, IsPermutation, IfOk, OnOk, IsTrue, IfErr};
 ghost use Rattle.sqlite.specs.Held.{state};
 ghost use Rattle.sqlite.specs.State.{HasCleanDisk, KeepsCommit, Survives};
 ghost use Rattle.kcr_rows.specs.Refusals.{IsFault};
 ghost use Rattle.kcr_rows.specs.Keyed.{put_in, cells};
 ghost use Rattle.kcr_tables.specs.Schema.{register_schema};
-ghost use Rattle.kcr_tables.specs.Rows.{version_row};
+ghost use Rattle.kcr_cells.specs.Rows.{version_row};
 ghost use Rattle.kcr_tables.specs.Held.{Tables, Holds};
 
-use crate::statements::{rows_of, write};
-use crate::stored::Stored;
 use kcr_base::Refusal;
-use kcr_rows::cells::{number_at, number_cell};
-use sqlite::{Alter, Row, Transaction};
+use kcr_cells::Version;
+use kcr_cells::statements::{rows_of, write};
+use kcr_rows::cells::number_cell;
+use sqlite::{Alter, Transaction};
 use std::alloc::Global;
-
-/// The number of a schema, by which a later program knows which tables a file has.
-#[derive(Clone, Copy, Debug, PartialEq, Eq, Drop)]
-pub struct Version {
-    pub number: u32,
-}
-
-impl Stored for Version {
-    ghost row_of = { version_row };
-
-    ghost is_read = { λ _. ⊤ };
-
-    fn decode(_alloc: Global, row: &Row) -> Result<Version, Refusal> {
-        if row.column_count() != 1 {
-            return Err(Refusal::Disk);
-        }
-        let number = number_at(row, 0)?;
-        Ok(Version { number })
-    }
-}
 
 /// All rows, in the order of their numbers: a register has one, with the number of its schema.
 /// Nothing is changed. The error is `Memory` for want of memory, and else `Disk`: the device failed, or a row is one

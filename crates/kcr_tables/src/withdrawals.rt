@@ -1,6 +1,6 @@
 //! The table withdrawals: from which day a training is withdrawn, under the training's key.
 
-ghost use Rattle.std.specs.Prelude.{⊤, ◌≡◌, map, IsPermutation, IfOk, OnOk, IsTrue, IfErr, filter};
+ghost use Rattle.std.specs.Prelude.{◌≡◌, map, IsPermutation, IfOk, OnOk, IsTrue, IfErr, filter};
 ghost use Rattle.sqlite.specs.Held.{state};
 ghost use Rattle.sqlite.specs.State.{HasCleanDisk, KeepsCommit, Survives};
 ghost use Rattle.kcr_history.specs.Tables as machine;
@@ -8,43 +8,18 @@ ghost use Rattle.kcr_history.specs.Views.{is_withdrawal_of};
 ghost use Rattle.kcr_rows.specs.Refusals.{IsFault};
 ghost use Rattle.kcr_rows.specs.Keyed.{put_in, cells};
 ghost use Rattle.kcr_tables.specs.Schema.{register_schema};
-ghost use Rattle.kcr_tables.specs.Rows.{withdrawal_row};
+ghost use Rattle.kcr_cells.specs.Rows.{withdrawal_row};
 ghost use Rattle.kcr_tables.specs.Held.{Tables, Holds};
 ghost use Rattle.kcr_tables.specs.Asked.{asked_of};
 ghost use Rattle.kcr_tables.specs.Joint.{HoldsTables};
 
-use crate::statements::{rows_of, write};
-use crate::stored::Stored;
 use kcr_base::{Initials, Refusal};
+use kcr_cells::statements::{rows_of, write};
 use kcr_history::Rows;
 use kcr_people::Withdrawal;
-use kcr_rows::cells::{day_at, day_cell, initials_at, initials_cell, role_at, role_cell};
-use sqlite::{Alter, Row, Transaction};
+use kcr_rows::cells::{day_cell, initials_cell, role_cell};
+use sqlite::{Alter, Transaction};
 use std::alloc::Global;
-
-impl Stored for Withdrawal {
-    ghost row_of = { withdrawal_row };
-
-    ghost is_read = { λ _. ⊤ };
-
-    fn decode(_alloc: Global, row: &Row) -> Result<Withdrawal, Refusal> {
-        if row.column_count() != 5 {
-            return Err(Refusal::Disk);
-        }
-        let who = initials_at(row, 0)?;
-        let role = role_at(row, 1)?;
-        let since = day_at(row, 2)?;
-        let until = day_at(row, 3)?;
-        let day = day_at(row, 4)?;
-        Ok(Withdrawal {
-            who,
-            role,
-            since,
-            until,
-            day,
-        })
-    }
-}
 
 /// All withdrawals, by people, then role, first and last day of the training.
 /// Nothing is changed. The error is `Memory` for want of memory, and else `Disk`: the device failed, or a row is one

@@ -4,7 +4,7 @@ use Rattle.sqlite.specs.Held.{state}
 use Rattle.sqlite.specs.State.{Shown}
 use Rattle.kcr_rows.proofs.FailLemmas.{if_both, on_ok_then, plain_in}
 use Rattle.kcr_tables.specs.Schema.{register_schema}
-use Rattle.kcr_tables.specs.Rows.{bag_row}
+use Rattle.kcr_cells.specs.Rows.{bag_row}
 use Rattle.kcr_tables.proofs.HoldLemmas.{still_holds}
 use Rattle.kcr_tables.proofs.BagsLemmas.{bag_of_text, bag_of_plain, reads_bag_of}
 use Rattle.kcr_tables.proofs.bags.bag_of.Goals as goal

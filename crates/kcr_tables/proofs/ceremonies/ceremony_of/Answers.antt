@@ -4,7 +4,7 @@ use Rattle.sqlite.specs.Held.{state}
 use Rattle.sqlite.specs.State.{Shown}
 use Rattle.kcr_rows.proofs.FailLemmas.{if_ok, on_ok_then, plain_in}
 use Rattle.kcr_tables.specs.Schema.{register_schema}
-use Rattle.kcr_tables.specs.Rows.{ceremony_row}
+use Rattle.kcr_cells.specs.Rows.{ceremony_row}
 use Rattle.kcr_tables.proofs.HoldLemmas.{still_holds}
 use Rattle.kcr_tables.proofs.CeremoniesLemmas.{ceremony_of_text, ceremony_of_plain, reads_ceremony_of}
 use Rattle.kcr_tables.proofs.ceremonies.ceremony_of.Goals as goal

@@ -4,7 +4,7 @@ use Rattle.sqlite.specs.Held.{state}
 use Rattle.sqlite.specs.State.{Shown}
 use Rattle.kcr_rows.proofs.FailLemmas.{if_ok, on_ok_then, plain_in}
 use Rattle.kcr_tables.specs.Schema.{register_schema}
-use Rattle.kcr_tables.specs.Rows.{item_row}
+use Rattle.kcr_cells.specs.Rows.{item_row}
 use Rattle.kcr_tables.proofs.HoldLemmas.{still_holds}
 use Rattle.kcr_tables.proofs.ItemsLemmas.{items_within_text, items_within_plain, reads_items_within}
 use Rattle.kcr_tables.proofs.items.items_within.Goals as goal

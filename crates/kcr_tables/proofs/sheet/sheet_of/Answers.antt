@@ -4,7 +4,7 @@ use Rattle.sqlite.specs.Held.{state}
 use Rattle.sqlite.specs.State.{Shown}
 use Rattle.kcr_rows.proofs.FailLemmas.{if_ok, on_ok_then, plain_in}
 use Rattle.kcr_tables.specs.Schema.{register_schema}
-use Rattle.kcr_tables.specs.Rows.{sheet_row}
+use Rattle.kcr_cells.specs.Rows.{sheet_row}
 use Rattle.kcr_tables.proofs.HoldLemmas.{still_holds}
 use Rattle.kcr_tables.proofs.SheetLemmas.{sheet_of_text, sheet_of_plain, reads_sheet_of}
 use Rattle.kcr_tables.proofs.sheet.sheet_of.Goals as goal

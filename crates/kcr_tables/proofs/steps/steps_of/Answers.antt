@@ -4,7 +4,7 @@ use Rattle.sqlite.specs.Held.{state}
 use Rattle.sqlite.specs.State.{Shown}
 use Rattle.kcr_rows.proofs.FailLemmas.{if_both, on_ok_then, plain_in}
 use Rattle.kcr_tables.specs.Schema.{register_schema}
-use Rattle.kcr_tables.specs.Rows.{step_row}
+use Rattle.kcr_cells.specs.Rows.{step_row}
 use Rattle.kcr_tables.proofs.HoldLemmas.{still_holds}
 use Rattle.kcr_tables.proofs.StepsLemmas.{steps_of_text, steps_of_plain, reads_steps_of}
 use Rattle.kcr_tables.proofs.steps.steps_of.Goals as goal

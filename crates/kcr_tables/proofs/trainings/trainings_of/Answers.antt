@@ -4,7 +4,7 @@ use Rattle.sqlite.specs.Held.{state}
 use Rattle.sqlite.specs.State.{Shown}
 use Rattle.kcr_rows.proofs.FailLemmas.{if_ok, on_ok_then, plain_in}
 use Rattle.kcr_tables.specs.Schema.{register_schema}
-use Rattle.kcr_tables.specs.Rows.{training_row}
+use Rattle.kcr_cells.specs.Rows.{training_row}
 use Rattle.kcr_tables.proofs.HoldLemmas.{still_holds}
 use Rattle.kcr_tables.proofs.TrainingsLemmas.{trainings_of_text, trainings_of_plain, reads_trainings_of}
 use Rattle.kcr_tables.proofs.trainings.trainings_of.Goals as goal

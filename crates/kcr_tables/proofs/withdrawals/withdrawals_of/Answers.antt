@@ -4,7 +4,7 @@ use Rattle.sqlite.specs.Held.{state}
 use Rattle.sqlite.specs.State.{Shown}
 use Rattle.kcr_rows.proofs.FailLemmas.{if_ok, on_ok_then, plain_in}
 use Rattle.kcr_tables.specs.Schema.{register_schema}
-use Rattle.kcr_tables.specs.Rows.{withdrawal_row}
+use Rattle.kcr_cells.specs.Rows.{withdrawal_row}
 use Rattle.kcr_tables.proofs.HoldLemmas.{still_holds}
 use Rattle.kcr_tables.proofs.WithdrawalsLemmas.{withdrawals_of_text, withdrawals_of_plain, reads_withdrawals_of}
 use Rattle.kcr_tables.proofs.withdrawals.withdrawals_of.Goals as goal

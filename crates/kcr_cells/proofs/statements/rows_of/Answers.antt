@@ -1,6 +1,6 @@
 use Rattle.sqlite.specs.Held.{state}
 use Rattle.kcr_rows.proofs.FailLemmas.{on_ok, shown_same, shown_opened, shown_inside, shown_keeps, failed_query_keeps}
-use Rattle.kcr_tables.proofs.statements.rows_of.Goals as goal
+use Rattle.kcr_cells.proofs.statements.rows_of.Goals as goal
 
 pub returns-in-Err-clause-kept : goal.returns-in-Err-clause-kept
 returns-in-Err-clause-kept g c clean _ = failed_query_keeps _ _ (state g.S.Store c.args.tx.now.conn.now) (state g.S.Store c.query_all.new.self.conn.now) _ (c.in-Err.ensures.err clean)

@@ -31,7 +31,7 @@ use Rattle.kcr_rows.specs.Values.{int_or_null, truth_number}
 use Rattle.kcr_rows.proofs.WriteLemmas.{cast_null, cast_int}
 use Rattle.kcr_rows.proofs.SameLemmas.{ties, text_ties, number_ties, one_facility}
 use Rattle.kcr_rows.proofs.FilterLemmas.{value_is, null_is}
-use Rattle.kcr_tables.specs.States.{safe_digit, way_number, ceremony_number, step_number, loose_value, within_value, IsNumbered}
+use Rattle.kcr_cells.specs.States.{safe_digit, way_number, ceremony_number, step_number, loose_value, within_value, IsNumbered}
 
 -- ---- numbers
 

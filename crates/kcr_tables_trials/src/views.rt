@@ -1,30 +1,16 @@
 //! Changes, views, rows that no register stores, and readings by an index.
-
-use crate::appointments::all_appointments;
-use crate::bags::all_bags;
-use crate::boxes::all_boxes;
-use crate::ceremonies::all_ceremonies;
-use crate::changes::make_changes;
-use crate::creation::make;
-use crate::exceptions::all_exceptions;
-use crate::items::{all_items, items_within, put_item};
-use crate::keys::all_keys;
-use crate::marks::all_marks;
-use crate::people::all_people;
-use crate::safes::all_safes;
-use crate::seatings::all_seatings;
-use crate::sheet::all_sheet;
-use crate::statements::write;
-use crate::stays::{all_stays, last_stay_of, put_stay, stays_of};
-use crate::steps::all_steps;
-use crate::tests::{FIRST, LAST, initials, item, key, key_row, person, place, serial, stay, step};
-use crate::trainings::all_trainings;
-use crate::versions::all_versions;
-use crate::view::view_of;
-use crate::withdrawals::all_withdrawals;
+use crate::values::{
+    FIRST, LAST, initials, item, key, key_row, person, place, put, serial, stay, step,
+};
 use kcr_base::{Facility, Key, Refusal};
 use kcr_custody::{Item, Rest};
 use kcr_history::{AppointmentsOf, Asks, Change, Items, ItemsOf, People, Rows, StaysOf};
+use kcr_tables::{
+    all_appointments, all_bags, all_boxes, all_ceremonies, all_exceptions, all_items, all_keys,
+    all_marks, all_people, all_safes, all_seatings, all_sheet, all_stays, all_steps, all_trainings,
+    all_versions, all_withdrawals, items_within, last_stay_of, make, make_changes, stays_of,
+    view_of,
+};
 use sqlite::{Alter, Connection, Transaction};
 use std::alloc::Global;
 use std::rt::HostRuntime;
@@ -104,10 +90,22 @@ fn stays_of_a_view(rt: HostRuntime) -> Result<(), Fail> {
     let mut conn = Connection::open_in_memory(alloc)?;
     let mut tx = conn.transaction();
     make(&mut tx)?;
-    put_stay(&mut tx, &stay(61, "AA", FIRST, None)?)?;
-    put_stay(&mut tx, &stay(61, "BB", FIRST, None)?)?;
-    put_stay(&mut tx, &stay(60, "CC", FIRST, None)?)?;
-    put_stay(&mut tx, &stay(60, "CC", LAST, None)?)?;
+    put(
+        alloc,
+        &mut tx,
+        Change::PutStay(stay(61, "AA", FIRST, None)?),
+    )?;
+    put(
+        alloc,
+        &mut tx,
+        Change::PutStay(stay(61, "BB", FIRST, None)?),
+    )?;
+    put(
+        alloc,
+        &mut tx,
+        Change::PutStay(stay(60, "CC", FIRST, None)?),
+    )?;
+    put(alloc, &mut tx, Change::PutStay(stay(60, "CC", LAST, None)?))?;
     let mut people = Vec::new(alloc);
     people.push(initials("CC")?)?;
     people.push(initials("AA")?)?;
@@ -135,20 +133,22 @@ fn items_of_a_view(rt: HostRuntime) -> Result<(), Fail> {
     make(&mut tx)?;
     let bag = serial("BAG1")?;
     for code in ["CARD1", "CARD2", "CARD3"] {
-        put_item(
+        put(
+            alloc,
             &mut tx,
-            &Item {
+            Change::PutItem(Item {
                 code: item(code)?,
                 rest: Rest::Within(bag),
-            },
+            }),
         )?;
     }
-    put_item(
+    put(
+        alloc,
         &mut tx,
-        &Item {
+        Change::PutItem(Item {
             code: item("HSM4")?,
             rest: Rest::Loose(Facility::East),
-        },
+        }),
     )?;
     let mut codes = Vec::new(alloc);
     for code in ["HSM4", "CARD2", "HSM4", "HSM5"] {
@@ -192,99 +192,102 @@ fn number_in<S: Alter>(alloc: Global, tx: &mut Transaction<'_, S>, table: &str) 
 fn number_after(alloc: Global, text: &str, table: &str) -> Result<u8, Fail> {
     let mut conn = Connection::open_in_memory(alloc)?;
     let mut tx = conn.transaction();
-    if make(&mut tx).is_err() || write(&mut tx, text, &[]).is_err() {
+    if make(&mut tx).is_err() || tx.execute(text, &[]).is_err() {
         return Ok(0);
     }
     Ok(number_in(alloc, &mut tx, table))
 }
 
+/// Statements after which a table has a row that no register stores.
+const NOT_STORED: [(&str, &str); 34] = [
+    ("people", "INSERT INTO people VALUES ('A', 'Ann')"),
+    ("people", "INSERT INTO people VALUES ('aa', 'Ann')"),
+    ("people", "INSERT INTO people VALUES ('AA', '')"),
+    (
+        "trainings",
+        "INSERT INTO trainings VALUES ('AA', 'XX', 10957, 10957)",
+    ),
+    (
+        "trainings",
+        "INSERT INTO trainings VALUES ('AA', 'CA', 10956, 10957)",
+    ),
+    (
+        "trainings",
+        "INSERT INTO trainings VALUES ('AA', 'CA', 10957, 47482)",
+    ),
+    (
+        "appointments",
+        "INSERT INTO appointments VALUES ('CO-EAST-8', 10957, 'AA', NULL)",
+    ),
+    (
+        "appointments",
+        "INSERT INTO appointments VALUES ('RKSH-1', 10957, 'AA', 10956)",
+    ),
+    ("boxes", "INSERT INTO boxes VALUES ('NORTH', 1, 'RKSH-1')"),
+    ("boxes", "INSERT INTO boxes VALUES ('EAST', -1, 'RKSH-1')"),
+    (
+        "boxes",
+        "INSERT INTO boxes VALUES ('EAST', 4294967296, 'RKSH-1')",
+    ),
+    ("safes", "UPDATE safes SET state = 2"),
+    ("safes", "INSERT INTO safes VALUES ('EAST', 3, 0)"),
+    ("bags", "INSERT INTO bags VALUES ('SER1', 'box 0 EAST')"),
+    ("bags", "INSERT INTO bags VALUES ('SER1', 'box 10000 EAST')"),
+    ("bags", "INSERT INTO bags VALUES ('ser1', 'spent')"),
+    ("items", "INSERT INTO items VALUES ('CODE', 'EAST', 'SER1')"),
+    ("items", "INSERT INTO items VALUES ('CODE', NULL, NULL)"),
+    (
+        "ceremonies",
+        "INSERT INTO ceremonies VALUES (1, 'EAST', 10957, 3, NULL, NULL)",
+    ),
+    (
+        "ceremonies",
+        "INSERT INTO ceremonies VALUES (1, 'EAST', 10957, 1, 946684799, NULL)",
+    ),
+    ("marks", "INSERT INTO marks VALUES (1, 4102444800)"),
+    (
+        "steps",
+        "INSERT INTO steps VALUES (1, 1, '', 'CA', 0, NULL)",
+    ),
+    (
+        "steps",
+        "INSERT INTO steps VALUES (1, 1, 'a', 'CO;CO', 0, NULL)",
+    ),
+    (
+        "steps",
+        "INSERT INTO steps VALUES (1, 1, 'a', 'XX', 0, NULL)",
+    ),
+    (
+        "steps",
+        "INSERT INTO steps VALUES (1, 1, 'a', 'CA', 3, NULL)",
+    ),
+    ("seatings", "INSERT INTO seatings VALUES (1, 1, 1, 'a')"),
+    ("sheet", "INSERT INTO sheet VALUES ('AA', 946684800, 1, 2)"),
+    (
+        "exceptions",
+        "INSERT INTO exceptions VALUES (1, 1, '', 946684800, NULL)",
+    ),
+    (
+        "exceptions",
+        "INSERT INTO exceptions VALUES (1, 1, 'a', 946684800, -1)",
+    ),
+    ("keys", "INSERT INTO keys VALUES ('a b', 1, 'c', 'r')"),
+    ("keys", "INSERT INTO keys VALUES ('k', -1, 'c', 'r')"),
+    (
+        "stays",
+        "INSERT INTO stays VALUES ('AA', 946684800, 1, 946684799)",
+    ),
+    (
+        "withdrawals",
+        "INSERT INTO withdrawals VALUES ('AA', 'CA', 10957, 10957, 10956)",
+    ),
+    ("versions", "INSERT INTO versions VALUES (-1)"),
+];
+
 #[test]
 fn no_register_stores_these(rt: HostRuntime) -> Result<(), Fail> {
     let alloc = rt.alloc();
-    for (table, text) in [
-        ("people", "INSERT INTO people VALUES ('A', 'Ann')"),
-        ("people", "INSERT INTO people VALUES ('aa', 'Ann')"),
-        ("people", "INSERT INTO people VALUES ('AA', '')"),
-        (
-            "trainings",
-            "INSERT INTO trainings VALUES ('AA', 'XX', 10957, 10957)",
-        ),
-        (
-            "trainings",
-            "INSERT INTO trainings VALUES ('AA', 'CA', 10956, 10957)",
-        ),
-        (
-            "trainings",
-            "INSERT INTO trainings VALUES ('AA', 'CA', 10957, 47482)",
-        ),
-        (
-            "appointments",
-            "INSERT INTO appointments VALUES ('CO-EAST-8', 10957, 'AA', NULL)",
-        ),
-        (
-            "appointments",
-            "INSERT INTO appointments VALUES ('RKSH-1', 10957, 'AA', 10956)",
-        ),
-        ("boxes", "INSERT INTO boxes VALUES ('NORTH', 1, 'RKSH-1')"),
-        ("boxes", "INSERT INTO boxes VALUES ('EAST', -1, 'RKSH-1')"),
-        (
-            "boxes",
-            "INSERT INTO boxes VALUES ('EAST', 4294967296, 'RKSH-1')",
-        ),
-        ("safes", "UPDATE safes SET state = 2"),
-        ("safes", "INSERT INTO safes VALUES ('EAST', 3, 0)"),
-        ("bags", "INSERT INTO bags VALUES ('SER1', 'box 0 EAST')"),
-        ("bags", "INSERT INTO bags VALUES ('SER1', 'box 10000 EAST')"),
-        ("bags", "INSERT INTO bags VALUES ('ser1', 'spent')"),
-        ("items", "INSERT INTO items VALUES ('CODE', 'EAST', 'SER1')"),
-        ("items", "INSERT INTO items VALUES ('CODE', NULL, NULL)"),
-        (
-            "ceremonies",
-            "INSERT INTO ceremonies VALUES (1, 'EAST', 10957, 3, NULL, NULL)",
-        ),
-        (
-            "ceremonies",
-            "INSERT INTO ceremonies VALUES (1, 'EAST', 10957, 1, 946684799, NULL)",
-        ),
-        ("marks", "INSERT INTO marks VALUES (1, 4102444800)"),
-        (
-            "steps",
-            "INSERT INTO steps VALUES (1, 1, '', 'CA', 0, NULL)",
-        ),
-        (
-            "steps",
-            "INSERT INTO steps VALUES (1, 1, 'a', 'CO;CO', 0, NULL)",
-        ),
-        (
-            "steps",
-            "INSERT INTO steps VALUES (1, 1, 'a', 'XX', 0, NULL)",
-        ),
-        (
-            "steps",
-            "INSERT INTO steps VALUES (1, 1, 'a', 'CA', 3, NULL)",
-        ),
-        ("seatings", "INSERT INTO seatings VALUES (1, 1, 1, 'a')"),
-        ("sheet", "INSERT INTO sheet VALUES ('AA', 946684800, 1, 2)"),
-        (
-            "exceptions",
-            "INSERT INTO exceptions VALUES (1, 1, '', 946684800, NULL)",
-        ),
-        (
-            "exceptions",
-            "INSERT INTO exceptions VALUES (1, 1, 'a', 946684800, -1)",
-        ),
-        ("keys", "INSERT INTO keys VALUES ('a b', 1, 'c', 'r')"),
-        ("keys", "INSERT INTO keys VALUES ('k', -1, 'c', 'r')"),
-        (
-            "stays",
-            "INSERT INTO stays VALUES ('AA', 946684800, 1, 946684799)",
-        ),
-        (
-            "withdrawals",
-            "INSERT INTO withdrawals VALUES ('AA', 'CA', 10957, 10957, 10956)",
-        ),
-        ("versions", "INSERT INTO versions VALUES (-1)"),
-    ] {
+    for (table, text) in NOT_STORED {
         assert_eq!(rt; number_after(alloc, text, table)?, 34, "after {text}");
     }
     Ok(())
@@ -299,7 +302,11 @@ fn readings_go_by_an_index(rt: HostRuntime) -> Result<(), Fail> {
     make(&mut tx)?;
     let bag = serial("BAG1")?;
     for n in 0..300_u32 {
-        put_stay(&mut tx, &stay(1 + n / 3, "AA", FIRST + u64::from(n), None)?)?;
+        put(
+            alloc,
+            &mut tx,
+            Change::PutStay(stay(1 + n / 3, "AA", FIRST + u64::from(n), None)?),
+        )?;
         let text = format!(in alloc; "ITEM{}", n + 1000)?;
         let rest = if n % 100 == 0 {
             Rest::Within(bag)
@@ -307,7 +314,7 @@ fn readings_go_by_an_index(rt: HostRuntime) -> Result<(), Fail> {
             Rest::Loose(Facility::East)
         };
         let code = item(text.as_str())?;
-        put_item(&mut tx, &Item { code, rest })?;
+        put(alloc, &mut tx, Change::PutItem(Item { code, rest }))?;
     }
     assert!(rt; all_stays(alloc, &mut tx).is_err());
     assert_eq!(rt; stays_of(alloc, &mut tx, 50)?.len(), 3);

@@ -6,7 +6,7 @@ use Rattle.kcr_base.specs.Role.{role_text}
 use Rattle.kcr_base.specs.Place.{place_text}
 use Rattle.kcr_rows.specs.Values.{int_or_null, truth_number}
 use Rattle.kcr_base.specs.Facility.{facility_text}
-use Rattle.kcr_tables.specs.States.{safe_digit, loose_value, within_value, ceremony_number, step_number, way_number}
+use Rattle.kcr_cells.specs.States.{safe_digit, loose_value, within_value, ceremony_number, step_number, way_number}
 use Rattle.kcr_custody.specs.Spots.{spot_text}
 use Rattle.kcr_script.specs.Seats.{written}
 use Rattle.kcr_people.specs.declared.Person.{Person}
@@ -22,7 +22,7 @@ use Rattle.kcr_history.specs.declared.rows.StepRow.{StepRow}
 use Rattle.kcr_history.specs.declared.rows.SeatingRow.{SeatingRow}
 use Rattle.kcr_room.specs.declared.SheetRow.{SheetRow}
 use Rattle.kcr_history.specs.declared.rows.ExceptionRow.{ExceptionRow}
-use Rattle.kcr_tables.specs.declared.versions.Version.{Version}
+use Rattle.kcr_cells.specs.declared.rows.Version.{Version}
 use Rattle.kcr_history.specs.declared.rows.KeyRow.{KeyRow}
 use Rattle.kcr_room.specs.declared.Stay.{Stay}
 use Rattle.kcr_people.specs.declared.Withdrawal.{Withdrawal}

@@ -1,132 +1,26 @@
 //! Rows come back from each table.
-
-use crate::appointments::{all_appointments, appointments_of, appointments_to, put_appointment};
-use crate::bags::{all_bags, bag_of, put_bag};
-use crate::boxes::{all_boxes, put_box};
-use crate::ceremonies::{all_ceremonies, ceremony_of, put_ceremony};
-use crate::creation::make;
-use crate::exceptions::{all_exceptions, exceptions_of, put_exception};
-use crate::items::{all_items, item_of, items_within, put_item};
-use crate::keys::{all_keys, key_row_of, last_key_row, put_key_row};
-use crate::marks::{all_marks, mark_of, put_mark};
-use crate::people::{all_people, person_of, put_person};
-use crate::safes::{all_safes, put_safe};
-use crate::seatings::{all_seatings, put_seating, seatings_of};
-use crate::sheet::{all_sheet, put_sheet_row, sheet_of};
-use crate::stays::{all_stays, last_stay_of, put_stay, stays_of};
-use crate::steps::{all_steps, put_step, steps_of};
-use crate::trainings::{all_trainings, put_training, trainings_of};
-use crate::versions::{Version, all_versions, put_version};
-use crate::withdrawals::{all_withdrawals, put_withdrawal, withdrawals_of};
-use kcr_base::{
-    Activity, Day, Facility, Initials, ItemCode, Key, Moment, Name, Place, Remark, Role, Serial,
-    Text,
+use crate::values::{
+    FIRST, LAST, day, exception, initials, item, key, key_row, moment, person, place, put, serial,
+    stay, step,
 };
+use kcr_base::{Day, Facility, Initials, Place, Role, Serial};
 use kcr_custody::{Bag, BoxRow, Item, Rest, SafeNumber, SafeRow, Spot};
-use kcr_history::{
-    CeremonyRow, CeremonyState, ExceptionRow, KeyRow, MarkRow, SeatingRow, StepRow, StepState,
+use kcr_history::{CeremonyRow, CeremonyState, Change, MarkRow, SeatingRow, StepState};
+use kcr_people::{Appointment, Training, Withdrawal};
+use kcr_room::{SheetRow, Way};
+use kcr_script::write_seats;
+use kcr_tables::{
+    Version, all_appointments, all_bags, all_boxes, all_ceremonies, all_exceptions, all_items,
+    all_keys, all_marks, all_people, all_safes, all_seatings, all_sheet, all_stays, all_steps,
+    all_trainings, all_versions, all_withdrawals, appointments_of, appointments_to, bag_of,
+    ceremony_of, exceptions_of, item_of, items_within, key_row_of, last_key_row, last_stay_of,
+    make, mark_of, person_of, seatings_of, sheet_of, stays_of, steps_of, trainings_of,
+    withdrawals_of,
 };
-use kcr_people::{Appointment, Person, Training, Withdrawal};
-use kcr_room::{SheetRow, Stay, Way};
-use kcr_script::{read_seats, write_seats};
-use sqlite::Connection;
+use sqlite::{Alter, Connection, Transaction};
 use std::alloc::Global;
 use std::rt::HostRuntime;
 use std::test::Fail;
-
-/// The first and the last moment that there is.
-pub const FIRST: u64 = 946_684_800;
-
-pub const LAST: u64 = 4_102_444_799;
-
-pub fn initials(text: &str) -> Result<Initials, Fail> {
-    Ok(Initials::read(text.as_bytes()).ok_or("no initials")?)
-}
-
-pub fn key(text: &str) -> Result<Key, Fail> {
-    Ok(Key::read(text.as_bytes()).ok_or("no key")?)
-}
-
-pub fn serial(text: &str) -> Result<Serial, Fail> {
-    Ok(Serial::read(text.as_bytes()).ok_or("no serial")?)
-}
-
-pub fn item(text: &str) -> Result<ItemCode, Fail> {
-    Ok(ItemCode::read(text.as_bytes()).ok_or("no item")?)
-}
-
-pub fn place(text: &str) -> Result<Place, Fail> {
-    Ok(Place::read(text.as_bytes()).ok_or("no place")?)
-}
-
-pub fn day(number: u16) -> Result<Day, Fail> {
-    Ok(Day::from_number(number).ok_or("no day")?)
-}
-
-pub fn moment(number: u64) -> Result<Moment, Fail> {
-    Ok(Moment::from_number(number).ok_or("no moment")?)
-}
-
-pub fn person(alloc: Global, who: &str, name: &str) -> Result<Person, Fail> {
-    let who = initials(who)?;
-    let name = Name::read(alloc, name.as_bytes())?.ok_or("no name")?;
-    Ok(Person { who, name })
-}
-
-pub fn key_row(alloc: Global, text: &str, accepted: u32, reply: &str) -> Result<KeyRow, Fail> {
-    Ok(KeyRow {
-        key: key(text)?,
-        accepted,
-        command: Text::copy_of(alloc, "enter AA 'x'")?,
-        reply: Text::copy_of(alloc, reply)?,
-    })
-}
-
-pub fn step(
-    alloc: Global,
-    ceremony: u32,
-    step: u32,
-    activity: &str,
-    seats: &str,
-) -> Result<StepRow, Fail> {
-    let activity = Activity::read(alloc, activity.as_bytes())?.ok_or("no activity")?;
-    let seats = read_seats(alloc, seats.as_bytes())?.ok_or("no seats")?;
-    Ok(StepRow {
-        ceremony,
-        step,
-        activity,
-        seats,
-        state: StepState::Undone,
-        at: None,
-    })
-}
-
-pub fn exception(
-    alloc: Global,
-    ceremony: u32,
-    exception: u32,
-    text: &str,
-    passed: Option<u32>,
-) -> Result<ExceptionRow, Fail> {
-    let text = Remark::read(alloc, text.as_bytes())?.ok_or("no remark")?;
-    let at = moment(LAST)?;
-    Ok(ExceptionRow {
-        ceremony,
-        exception,
-        text,
-        at,
-        passed,
-    })
-}
-
-pub fn stay(ceremony: u32, who: &str, since: u64, until: Option<Moment>) -> Result<Stay, Fail> {
-    Ok(Stay {
-        ceremony,
-        who: initials(who)?,
-        since: moment(since)?,
-        until,
-    })
-}
 
 #[test]
 fn a_new_register(rt: HostRuntime) -> Result<(), Fail> {
@@ -155,10 +49,22 @@ fn people_come_back(rt: HostRuntime) -> Result<(), Fail> {
     let mut conn = Connection::open_in_memory(alloc)?;
     let mut tx = conn.transaction();
     make(&mut tx)?;
-    put_person(&mut tx, &person(alloc, "ZZ", "Zoë Ångström 名")?)?;
-    put_person(&mut tx, &person(alloc, "AAAA", "O'Brien \"Q\"; --")?)?;
-    put_person(&mut tx, &person(alloc, "AA", "a")?)?;
-    put_person(&mut tx, &person(alloc, "ZZ", "Zoe")?)?;
+    put(
+        alloc,
+        &mut tx,
+        Change::PutPerson(person(alloc, "ZZ", "Zoë Ångström 名")?),
+    )?;
+    put(
+        alloc,
+        &mut tx,
+        Change::PutPerson(person(alloc, "AAAA", "O'Brien \"Q\"; --")?),
+    )?;
+    put(alloc, &mut tx, Change::PutPerson(person(alloc, "AA", "a")?))?;
+    put(
+        alloc,
+        &mut tx,
+        Change::PutPerson(person(alloc, "ZZ", "Zoe")?),
+    )?;
     tx.commit()?;
     let mut tx = conn.transaction();
     let people = all_people(alloc, &mut tx)?;
@@ -193,21 +99,33 @@ fn trainings_come_back(rt: HostRuntime) -> Result<(), Fail> {
         since: last,
         until: last,
     };
-    put_training(&mut tx, &wide)?;
-    put_training(&mut tx, &short)?;
-    put_training(&mut tx, &wide)?;
-    put_training(
+    put(alloc, &mut tx, Change::PutTraining(wide))?;
+    put(alloc, &mut tx, Change::PutTraining(short))?;
+    put(alloc, &mut tx, Change::PutTraining(wide))?;
+    put(
+        alloc,
         &mut tx,
-        &Training {
+        Change::PutTraining(Training {
             who: other,
             role: Role::Rkos,
             since: first,
             until: first,
-        },
+        }),
     )?;
     assert_eq!(rt; all_trainings(alloc, &mut tx)?.len(), 3);
     let rows = trainings_of(alloc, &mut tx, &who)?;
     assert_eq!(rt; rows.as_slice(), [short, wide].as_slice());
+    Ok(())
+}
+
+#[test]
+fn withdrawals_come_back(rt: HostRuntime) -> Result<(), Fail> {
+    let alloc = rt.alloc();
+    let mut conn = Connection::open_in_memory(alloc)?;
+    let mut tx = conn.transaction();
+    make(&mut tx)?;
+    let (first, last) = (day(10957)?, day(47481)?);
+    let (who, other) = (initials("AA")?, initials("ZZZZ")?);
     let gone = Withdrawal {
         who,
         role: Role::Ca,
@@ -222,8 +140,8 @@ fn trainings_come_back(rt: HostRuntime) -> Result<(), Fail> {
         until: last,
         day: last,
     };
-    put_withdrawal(&mut tx, &later)?;
-    put_withdrawal(&mut tx, &gone)?;
+    put(alloc, &mut tx, Change::PutWithdrawal(later))?;
+    put(alloc, &mut tx, Change::PutWithdrawal(gone))?;
     assert_eq!(rt;
         all_withdrawals(alloc, &mut tx)?.as_slice(),
         [gone].as_slice()
@@ -236,6 +154,16 @@ fn trainings_come_back(rt: HostRuntime) -> Result<(), Fail> {
     Ok(())
 }
 
+/// Who holds the place from the first day on, to the last day or without end.
+fn appointment(place: Place, who: Initials, since: Day, until: Option<Day>) -> Appointment {
+    Appointment {
+        place,
+        who,
+        since,
+        until,
+    }
+}
+
 #[test]
 fn appointments_come_back(rt: HostRuntime) -> Result<(), Fail> {
     let alloc = rt.alloc();
@@ -245,34 +173,14 @@ fn appointments_come_back(rt: HostRuntime) -> Result<(), Fail> {
     let (first, last) = (day(10957)?, day(47481)?);
     let (who, other) = (initials("AA")?, initials("BB")?);
     let (east, holder) = (place("CO-EAST-7")?, place("RKSH-1")?);
-    let open = Appointment {
-        place: east,
-        who,
-        since: first,
-        until: None,
-    };
-    let ended = Appointment {
-        place: east,
-        who,
-        since: first,
-        until: Some(last),
-    };
-    let next = Appointment {
-        place: east,
-        who: other,
-        since: last,
-        until: None,
-    };
-    let share = Appointment {
-        place: holder,
-        who,
-        since: first,
-        until: None,
-    };
-    put_appointment(&mut tx, &open)?;
-    put_appointment(&mut tx, &ended)?;
-    put_appointment(&mut tx, &share)?;
-    put_appointment(&mut tx, &next)?;
+    let open = appointment(east, who, first, None);
+    let ended = appointment(east, who, first, Some(last));
+    let next = appointment(east, other, last, None);
+    let share = appointment(holder, who, first, None);
+    put(alloc, &mut tx, Change::PutAppointment(open))?;
+    put(alloc, &mut tx, Change::PutAppointment(ended))?;
+    put(alloc, &mut tx, Change::PutAppointment(share))?;
+    put(alloc, &mut tx, Change::PutAppointment(next))?;
     assert_eq!(rt;
         all_appointments(alloc, &mut tx)?.as_slice(),
         [ended, next, share].as_slice()
@@ -289,7 +197,7 @@ fn appointments_come_back(rt: HostRuntime) -> Result<(), Fail> {
 }
 
 #[test]
-fn boxes_and_safes_come_back(rt: HostRuntime) -> Result<(), Fail> {
+fn boxes_come_back(rt: HostRuntime) -> Result<(), Fail> {
     let alloc = rt.alloc();
     let mut conn = Connection::open_in_memory(alloc)?;
     let mut tx = conn.transaction();
@@ -305,18 +213,27 @@ fn boxes_and_safes_come_back(rt: HostRuntime) -> Result<(), Fail> {
         number: 9_999,
         place: place("CO-WEST-2")?,
     };
-    put_box(&mut tx, &last)?;
-    put_box(&mut tx, &one)?;
+    put(alloc, &mut tx, Change::PutBox(last))?;
+    put(alloc, &mut tx, Change::PutBox(one))?;
     assert_eq!(rt;
         all_boxes(alloc, &mut tx)?.as_slice(),
         [one, last].as_slice()
     );
+    Ok(())
+}
+
+#[test]
+fn safes_come_back(rt: HostRuntime) -> Result<(), Fail> {
+    let alloc = rt.alloc();
+    let mut conn = Connection::open_in_memory(alloc)?;
+    let mut tx = conn.transaction();
+    make(&mut tx)?;
     let open = SafeRow {
         facility: Facility::West,
         safe: SafeNumber::One,
         is_open: true,
     };
-    put_safe(&mut tx, &open)?;
+    put(alloc, &mut tx, Change::PutSafe(open))?;
     let safes = all_safes(alloc, &mut tx)?;
     assert_eq!(rt; safes.len(), 4);
     assert_eq!(rt; safes[2], open);
@@ -324,31 +241,27 @@ fn boxes_and_safes_come_back(rt: HostRuntime) -> Result<(), Fail> {
     Ok(())
 }
 
+/// The bag in this spot.
+fn in_spot(serial: Serial, spot: Spot) -> Bag {
+    Bag { serial, spot }
+}
+
 #[test]
-fn bags_and_items_come_back(rt: HostRuntime) -> Result<(), Fail> {
+fn bags_come_back(rt: HostRuntime) -> Result<(), Fail> {
     let alloc = rt.alloc();
     let mut conn = Connection::open_in_memory(alloc)?;
     let mut tx = conn.transaction();
     make(&mut tx)?;
     let (bag, other) = (serial("BB51184287")?, serial("0000")?);
-    let boxed = Bag {
-        serial: bag,
-        spot: Spot::InBox(Facility::West, 9_999),
-    };
-    let spent = Bag {
-        serial: other,
-        spot: Spot::Spent,
-    };
-    put_bag(
+    let boxed = in_spot(bag, Spot::InBox(Facility::West, 9_999));
+    let spent = in_spot(other, Spot::Spent);
+    put(
         alloc,
         &mut tx,
-        &Bag {
-            serial: bag,
-            spot: Spot::Table(Facility::East),
-        },
+        Change::PutBag(in_spot(bag, Spot::Table(Facility::East))),
     )?;
-    put_bag(alloc, &mut tx, &boxed)?;
-    put_bag(alloc, &mut tx, &spent)?;
+    put(alloc, &mut tx, Change::PutBag(boxed))?;
+    put(alloc, &mut tx, Change::PutBag(spent))?;
     assert_eq!(rt;
         all_bags(alloc, &mut tx)?.as_slice(),
         [spent, boxed].as_slice()
@@ -357,17 +270,21 @@ fn bags_and_items_come_back(rt: HostRuntime) -> Result<(), Fail> {
         bag_of(alloc, &mut tx, &bag)?.as_slice(),
         [boxed].as_slice()
     );
-    put_bag(
-        alloc,
-        &mut tx,
-        &Bag {
-            serial: bag,
-            spot: Spot::Equipment(Facility::East),
-        },
-    )?;
+    let moved = in_spot(bag, Spot::Equipment(Facility::East));
+    put(alloc, &mut tx, Change::PutBag(moved))?;
     let moved = bag_of(alloc, &mut tx, &bag)?;
     assert_eq!(rt; moved.len(), 1);
     assert_eq!(rt; moved[0].spot, Spot::Equipment(Facility::East));
+    Ok(())
+}
+
+#[test]
+fn items_come_back(rt: HostRuntime) -> Result<(), Fail> {
+    let alloc = rt.alloc();
+    let mut conn = Connection::open_in_memory(alloc)?;
+    let mut tx = conn.transaction();
+    make(&mut tx)?;
+    let (bag, other) = (serial("BB51184287")?, serial("0000")?);
     let loose = Item {
         code: item("HSM4")?,
         rest: Rest::Loose(Facility::East),
@@ -376,15 +293,16 @@ fn bags_and_items_come_back(rt: HostRuntime) -> Result<(), Fail> {
         code: item("CARD1")?,
         rest: Rest::Within(bag),
     };
-    put_item(
+    put(
+        alloc,
         &mut tx,
-        &Item {
+        Change::PutItem(Item {
             code: loose.code,
             rest: Rest::Within(other),
-        },
+        }),
     )?;
-    put_item(&mut tx, &packed)?;
-    put_item(&mut tx, &loose)?;
+    put(alloc, &mut tx, Change::PutItem(packed))?;
+    put(alloc, &mut tx, Change::PutItem(loose))?;
     assert_eq!(rt;
         all_items(alloc, &mut tx)?.as_slice(),
         [packed, loose].as_slice()
@@ -423,8 +341,8 @@ fn ceremonies_come_back(rt: HostRuntime) -> Result<(), Fail> {
         opened: Some(moment(FIRST)?),
         closed: Some(moment(LAST)?),
     };
-    put_ceremony(&mut tx, &planned)?;
-    put_ceremony(&mut tx, &closed)?;
+    put(alloc, &mut tx, Change::PutCeremony(planned))?;
+    put(alloc, &mut tx, Change::PutCeremony(closed))?;
     assert_eq!(rt;
         all_ceremonies(alloc, &mut tx)?.as_slice(),
         [closed, planned].as_slice()
@@ -434,18 +352,28 @@ fn ceremonies_come_back(rt: HostRuntime) -> Result<(), Fail> {
         [planned].as_slice()
     );
     assert!(rt; ceremony_of(alloc, &mut tx, 2)?.is_empty());
+    Ok(())
+}
+
+#[test]
+fn marks_come_back(rt: HostRuntime) -> Result<(), Fail> {
+    let alloc = rt.alloc();
+    let mut conn = Connection::open_in_memory(alloc)?;
+    let mut tx = conn.transaction();
+    make(&mut tx)?;
     let mark = MarkRow {
         ceremony: 1,
         at: moment(LAST)?,
     };
-    put_mark(
+    put(
+        alloc,
         &mut tx,
-        &MarkRow {
+        Change::PutMark(MarkRow {
             ceremony: 1,
             at: moment(FIRST)?,
-        },
+        }),
     )?;
-    put_mark(&mut tx, &mark)?;
+    put(alloc, &mut tx, Change::PutMark(mark))?;
     assert_eq!(rt; all_marks(alloc, &mut tx)?.as_slice(), [mark].as_slice());
     assert_eq!(rt; mark_of(alloc, &mut tx, 1)?.as_slice(), [mark].as_slice());
     assert!(rt; mark_of(alloc, &mut tx, 9_999)?.is_empty());
@@ -458,27 +386,45 @@ fn steps_come_back(rt: HostRuntime) -> Result<(), Fail> {
     let mut conn = Connection::open_in_memory(alloc)?;
     let mut tx = conn.transaction();
     make(&mut tx)?;
-    put_step(
+    put(
         alloc,
         &mut tx,
-        &step(alloc, 61, 400, "Count; 'n' check 名", "CO*7;CO*2;RKSH/7")?,
+        Change::PutStep(step(alloc, 61, 400, "Count; 'n' check 名", "CO*7;CO*2;RKSH/7")?),
     )?;
-    put_step(alloc, &mut tx, &step(alloc, 61, 1, "Check bags", "IW;CA")?)?;
+    put(
+        alloc,
+        &mut tx,
+        Change::PutStep(step(alloc, 61, 1, "Check bags", "IW;CA")?),
+    )?;
+    let signed_at = Some(moment(LAST)?);
     let mut signed = step(alloc, 61, 1, "Check bags", "CA;IW")?;
     signed.state = StepState::Signed;
-    signed.at = Some(moment(LAST)?);
-    put_step(alloc, &mut tx, &signed)?;
-    put_step(alloc, &mut tx, &step(alloc, 62, 1, "Other", "CO")?)?;
+    signed.at = signed_at;
+    put(alloc, &mut tx, Change::PutStep(signed))?;
+    put(
+        alloc,
+        &mut tx,
+        Change::PutStep(step(alloc, 62, 1, "Other", "CO")?),
+    )?;
     assert_eq!(rt; all_steps(alloc, &mut tx)?.len(), 3);
     let rows = steps_of(alloc, &mut tx, 61)?;
     assert_eq!(rt; rows.len(), 2);
     assert_eq!(rt; rows[0].state, StepState::Signed);
-    assert_eq!(rt; rows[0].at, signed.at);
+    assert_eq!(rt; rows[0].at, signed_at);
     assert_eq!(rt; rows[1].activity.as_str(), "Count; 'n' check 名");
     assert_eq!(rt;
         write_seats(alloc, &rows[1].seats)?.as_str(),
         "CO*7;CO*2;RKSH/7"
     );
+    Ok(())
+}
+
+#[test]
+fn seatings_come_back(rt: HostRuntime) -> Result<(), Fail> {
+    let alloc = rt.alloc();
+    let mut conn = Connection::open_in_memory(alloc)?;
+    let mut tx = conn.transaction();
+    make(&mut tx)?;
     let first = SeatingRow {
         ceremony: 61,
         step: 1,
@@ -497,9 +443,9 @@ fn steps_come_back(rt: HostRuntime) -> Result<(), Fail> {
         seat: 1,
         who: initials("AA")?,
     };
-    put_seating(&mut tx, &other)?;
-    put_seating(&mut tx, &second)?;
-    put_seating(&mut tx, &first)?;
+    put(alloc, &mut tx, Change::PutSeating(other))?;
+    put(alloc, &mut tx, Change::PutSeating(second))?;
+    put(alloc, &mut tx, Change::PutSeating(first))?;
     assert_eq!(rt;
         all_seatings(alloc, &mut tx)?.as_slice(),
         [first, second, other].as_slice()
@@ -517,12 +463,21 @@ fn exceptions_come_back(rt: HostRuntime) -> Result<(), Fail> {
     let mut conn = Connection::open_in_memory(alloc)?;
     let mut tx = conn.transaction();
     make(&mut tx)?;
-    put_exception(&mut tx, &exception(alloc, 61, 200, "Read twice", None)?)?;
-    put_exception(
+    put(
+        alloc,
         &mut tx,
-        &exception(alloc, 61, 1, "\"Lamp\" wasn't lit", Some(400))?,
+        Change::PutException(exception(alloc, 61, 200, "Read twice", None)?),
     )?;
-    put_exception(&mut tx, &exception(alloc, 1, 1, "名", None)?)?;
+    put(
+        alloc,
+        &mut tx,
+        Change::PutException(exception(alloc, 61, 1, "\"Lamp\" wasn't lit", Some(400))?),
+    )?;
+    put(
+        alloc,
+        &mut tx,
+        Change::PutException(exception(alloc, 1, 1, "名", None)?),
+    )?;
     assert_eq!(rt; all_exceptions(alloc, &mut tx)?.len(), 3);
     let rows = exceptions_of(alloc, &mut tx, 61)?;
     assert_eq!(rt; rows.len(), 2);
@@ -534,7 +489,7 @@ fn exceptions_come_back(rt: HostRuntime) -> Result<(), Fail> {
 }
 
 #[test]
-fn sheet_and_stays_come_back(rt: HostRuntime) -> Result<(), Fail> {
+fn sheet_comes_back(rt: HostRuntime) -> Result<(), Fail> {
     let alloc = rt.alloc();
     let mut conn = Connection::open_in_memory(alloc)?;
     let mut tx = conn.transaction();
@@ -552,8 +507,8 @@ fn sheet_and_stays_come_back(rt: HostRuntime) -> Result<(), Fail> {
         way: Way::Leave,
         at: moment(LAST)?,
     };
-    put_sheet_row(&mut tx, &leaves)?;
-    put_sheet_row(&mut tx, &enters)?;
+    put(alloc, &mut tx, Change::PutSheet(leaves))?;
+    put(alloc, &mut tx, Change::PutSheet(enters))?;
     assert_eq!(rt;
         all_sheet(alloc, &mut tx)?.as_slice(),
         [enters, leaves].as_slice()
@@ -563,13 +518,27 @@ fn sheet_and_stays_come_back(rt: HostRuntime) -> Result<(), Fail> {
         [enters, leaves].as_slice()
     );
     assert!(rt; sheet_of(alloc, &mut tx, 62)?.is_empty());
+    Ok(())
+}
+
+#[test]
+fn stays_come_back(rt: HostRuntime) -> Result<(), Fail> {
+    let alloc = rt.alloc();
+    let mut conn = Connection::open_in_memory(alloc)?;
+    let mut tx = conn.transaction();
+    make(&mut tx)?;
+    let who = initials("AA")?;
     let early = stay(61, "AA", FIRST, Some(moment(FIRST + 9)?))?;
     let late = stay(62, "AA", LAST - 1, None)?;
     let other = stay(61, "BB", FIRST, None)?;
-    put_stay(&mut tx, &late)?;
-    put_stay(&mut tx, &stay(61, "AA", FIRST, None)?)?;
-    put_stay(&mut tx, &early)?;
-    put_stay(&mut tx, &other)?;
+    put(alloc, &mut tx, Change::PutStay(late))?;
+    put(
+        alloc,
+        &mut tx,
+        Change::PutStay(stay(61, "AA", FIRST, None)?),
+    )?;
+    put(alloc, &mut tx, Change::PutStay(early))?;
+    put(alloc, &mut tx, Change::PutStay(other))?;
     assert_eq!(rt;
         all_stays(alloc, &mut tx)?.as_slice(),
         [early, late, other].as_slice()
@@ -586,26 +555,42 @@ fn sheet_and_stays_come_back(rt: HostRuntime) -> Result<(), Fail> {
     Ok(())
 }
 
+/// Puts three accepted commands.
+fn put_keys<S: Alter>(alloc: Global, tx: &mut Transaction<'_, S>) -> Result<(), Fail> {
+    let greatest = key_row(alloc, "a", 4_294_967_295, "{\"name\":\"名\"}")?;
+    put(alloc, tx, Change::PutKey(key_row(alloc, "z-9", 1, "")?))?;
+    put(alloc, tx, Change::PutKey(greatest))?;
+    put(alloc, tx, Change::PutKey(key_row(alloc, "Z", 9, "{}")?))?;
+    Ok(())
+}
+
 #[test]
 fn keys_come_back(rt: HostRuntime) -> Result<(), Fail> {
     let alloc = rt.alloc();
     let mut conn = Connection::open_in_memory(alloc)?;
     let mut tx = conn.transaction();
     make(&mut tx)?;
-    put_key_row(&mut tx, &key_row(alloc, "z-9", 1, "")?)?;
-    put_key_row(
-        &mut tx,
-        &key_row(alloc, "a", 4_294_967_295, "{\"name\":\"名\"}")?,
-    )?;
-    put_key_row(&mut tx, &key_row(alloc, "Z", 9, "{}")?)?;
-    assert!(rt; put_key_row(&mut tx, &key_row(alloc, "a", 2, "{}")?).is_err());
-    assert!(rt; put_key_row(&mut tx, &key_row(alloc, "b", 9, "{}")?).is_err());
+    put_keys(alloc, &mut tx)?;
+    let same_key = Change::PutKey(key_row(alloc, "a", 2, "{}")?);
+    assert!(rt; put(alloc, &mut tx, same_key).is_err());
+    let same_number = Change::PutKey(key_row(alloc, "b", 9, "{}")?);
+    assert!(rt; put(alloc, &mut tx, same_number).is_err());
     let rows = all_keys(alloc, &mut tx)?;
     assert_eq!(rt; rows.len(), 3);
     assert_eq!(rt; rows[0].key.as_str(), "Z");
     assert_eq!(rt; rows[1].accepted, 4_294_967_295);
     assert_eq!(rt; rows[1].reply.as_str(), "{\"name\":\"名\"}");
     assert_eq!(rt; rows[2].reply.as_str(), "");
+    Ok(())
+}
+
+#[test]
+fn one_key_comes_back(rt: HostRuntime) -> Result<(), Fail> {
+    let alloc = rt.alloc();
+    let mut conn = Connection::open_in_memory(alloc)?;
+    let mut tx = conn.transaction();
+    make(&mut tx)?;
+    put_keys(alloc, &mut tx)?;
     let last = last_key_row(alloc, &mut tx)?;
     assert_eq!(rt; last.len(), 1);
     assert_eq!(rt; last[0].key.as_str(), "a");
@@ -622,8 +607,8 @@ fn another_version(rt: HostRuntime) -> Result<(), Fail> {
     let mut conn = Connection::open_in_memory(alloc)?;
     let mut tx = conn.transaction();
     make(&mut tx)?;
-    put_version(&mut tx, &Version { number: 0 })?;
-    put_version(&mut tx, &Version { number: 3 })?;
+    tx.execute("INSERT OR REPLACE INTO versions (number) VALUES (0)", &[])?;
+    tx.execute("INSERT OR REPLACE INTO versions (number) VALUES (3)", &[])?;
     let versions = all_versions(alloc, &mut tx)?;
     assert_eq!(rt;
         versions.as_slice(),

@@ -1,7 +1,7 @@
 use Rattle.std.proofs.Common.{rules, inl, inr}
 use Rattle.std.proofs.lemmas.Bool.{cases_Bool}
 use Rattle.sqlite.specs.Held.{state}
-use Rattle.kcr_tables.proofs.statements.write.Goals as goal
+use Rattle.kcr_cells.proofs.statements.write.Goals as goal
 
 pub returns-in-Ok-clause-runs : goal.returns-in-Ok-clause-runs
 returns-in-Ok-clause-runs g c clean =
