@@ -11,6 +11,7 @@ use std::alloc::Global;
 /// What an act that is accepted comes to: the rows that it puts, and what it is answered beside its number.
 #[derive(Drop)]
 pub struct Acted {
+    /// The rows to put, in this order.
     pub changes: Vec<Change>,
     /// The number of an exception in its ceremony.
     pub exception: Option<u32>,

@@ -43,7 +43,7 @@ fn stated(rows: &[ExceptionRow], ceremony: u32) -> usize
     rows.iter().filter(|row| row.ceremony == ceremony).count()
 }
 
-/// The row of a step.
+/// The row of a step, counted from 1; None where the ceremony has no such step.
 pub fn step_row(rows: &[StepRow], ceremony: u32, step: u32) -> Option<&StepRow>
     ensures { option_copied result ≡ Signing.step_by rows.now ceremony step }
 {
@@ -51,7 +51,8 @@ pub fn step_row(rows: &[StepRow], ceremony: u32, step: u32) -> Option<&StepRow>
         .find(|row| row.ceremony == ceremony && row.step == step)
 }
 
-/// The number of the step that is next. Where more steps are done than a script has, the database gave wrong rows.
+/// The number, counted from 1, of the step that is next: one more than are signed or passed. The refusal is 34, where
+/// more steps are done than a script has: no register has such rows.
 pub fn next(view: &View, ceremony: u32) -> Result<u32, Refusal>
     ensures { MatchResult result
         (λ step. step ≡ Signing.next_by view.now.steps.items ceremony)
@@ -64,7 +65,9 @@ pub fn next(view: &View, ceremony: u32) -> Result<u32, Refusal>
     Ok(done as u32 + 1)
 }
 
-/// Whether the step may be signed, but for its seats, or the first refusal.
+/// Whether the step may be signed, but for its seats, or the first refusal: there is no such ceremony or step (12), the
+/// ceremony is not open (20), the moment is before its mark (22), another step is next (23), or the register is full
+/// (27). It is 34 where `next` is.
 pub fn may_sign(
     view: &View,
     full: bool,
@@ -105,7 +108,9 @@ pub fn may_sign(
     Ok(())
 }
 
-/// The number of the exception where it may be stated, but for the seats of one that passes a step, or the first refusal.
+/// The number of the exception, counted from 1, where it may be stated, but for the seats of one that passes a step, or
+/// the first refusal: there is no such ceremony (12), it is not open (20), the moment is before its mark (22), no step is
+/// left to pass (23), or the ceremony has 200 exceptions or the register is full (27). It is 34 where `next` is.
 pub fn may_except(
     view: &View,
     full: bool,
@@ -186,7 +191,7 @@ fn add_seats(
     Ok(())
 }
 
-/// The changes of a step that is signed or passed.
+/// The changes of a step that is signed or passed: its row, those of its seats in order, and the mark.
 pub fn seat_changes(
     alloc: Global,
     view: &View,
@@ -207,7 +212,7 @@ pub fn seat_changes(
     Ok(changes)
 }
 
-/// The seats of the step's row.
+/// The seats of the step's row, 16 at most; none where there is no row.
 pub fn seats_of(row: Option<&StepRow>) -> &[Seat]
     ensures is { result.now ≡ Signing.seats_by (option_copied row.entry) }
     ensures few { length result.now ≤ 16 }
@@ -218,7 +223,7 @@ pub fn seats_of(row: Option<&StepRow>) -> &[Seat]
     }
 }
 
-/// Adds an exception's row.
+/// Adds an exception's row, with the step that it passes. The error is want of memory; the changes are then of no use.
 pub fn add_exception(
     changes: &mut Vec<Change>,
     view: &View,
