@@ -121,12 +121,15 @@ impl<S: Alter + Drop> Register<S> {
 }
 
 impl Register<MemStore> {
+    ghost use Rattle.std.specs.Prelude.{◌⊎◌};
     ghost use Rattle.sqlite.specs.Steps.{over_memory};
     ghost use Rattle.kcr_store.specs.Register.{IsKept};
 
-    /// A new register in memory, with no command. It is lost with the process. Where memory is wanting there is none.
+    /// A new register in memory, with no command. It is lost with the process. Where memory is wanting there is none;
+    /// it is never foreign, and never of another version.
     pub fn in_memory(alloc: Global) -> Result<Register<MemStore>, OpenFault>
-        ensures { IfOk result (λ r. (r.is_founded ≡ true) × (r.accepted ≡ []) × (r.torn ≡ None) × IsKept over_memory r) }
+        ensures new { IfOk result (λ r. (r.is_founded ≡ true) × (r.accepted ≡ []) × (r.torn ≡ None) × IsKept over_memory r) }
+        ensures fault { IfErr result (λ e. (e ≡ OpenFault.Memory) ⊎ (e ≡ OpenFault.Disk)) }
     {
         let Ok(connection) = Connection::open_in_memory(alloc) else {
             return Err(OpenFault::Memory);

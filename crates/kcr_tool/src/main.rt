@@ -4,6 +4,8 @@
 //! memory that is empty at first.
 #![tactic(auto)]
 
+ghost use Rattle.std.specs.Prelude.{◌≡◌, ◌⊎◌, ◌≤◌};
+
 mod act;
 #[cfg(test)]
 mod tests;
@@ -24,14 +26,18 @@ fn words_of(rt: &HostRuntime) -> io::Result<Vec<String>> {
 }
 
 // Does what the words say.
-fn act_on(rt: &HostRuntime, words: &[String]) -> u8 {
+fn act_on(rt: &HostRuntime, words: &[String]) -> u8
+    ensures { result ≤ 2 }
+{
     let mut input = Counted::new(rt.stdin());
     let mut output = Counted::new(rt.stdout());
     act(rt, words, &mut input, &mut output, &mut rt.stderr())
 }
 
 // The status where the words could not be read: a word is not UTF-8, or memory ran out.
-fn without_words(rt: &HostRuntime, error: io::Error) -> u8 {
+fn without_words(rt: &HostRuntime, error: io::Error) -> u8
+    ensures { (result ≡ 1) ⊎ (result ≡ 2) }
+{
     match error.kind() {
         io::ErrorKind::InvalidData => {
             let _ = eprintln!(rt; "error: a word is not UTF-8");

@@ -1,5 +1,5 @@
 //! The words of the command line, and the task that they hold.
-ghost use Rattle.std.specs.Prelude.{◌≡◌, ◌≢◌, [], codes, false, Some, IfSome, IfOk, IfErr, map, string_bytes};
+ghost use Rattle.std.specs.Prelude.{◌≡◌, ◌≢◌, [], codes, false, Some, IfOk, IfErr, map, string_bytes};
 ghost use Rattle.clap.specs.Words.{App, app_of, new_app, with_subcommand, rows_of, found_of, subcommand_rows_of};
 ghost use Rattle.clap.specs.declared.builder.command.Command.TheViews.{out-Command};
 ghost use Rattle.kcr_tool.specs.Commands.{run_app, requiring, tool_app};
@@ -74,7 +74,7 @@ fn parse<'a>(alloc: Global, words: &'a [String]) -> Result<ArgMatches<'a>, Words
 
 // The task of a subcommand.
 fn read_task(name: &str, matches: &ArgMatches<'_>) -> Option<Task>
-    ensures { IfSome result (λ t. task_at (name.now, rows_of (found_of matches.now)) ≡ Some t) }
+    ensures { result ≡ task_at (name.now, rows_of (found_of matches.now)) }
 {
     let _ = matches;
     match name {
