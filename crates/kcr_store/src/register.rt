@@ -125,8 +125,8 @@ impl Register<MemStore> {
     ghost use Rattle.sqlite.specs.Steps.{over_memory};
     ghost use Rattle.kcr_store.specs.Register.{IsKept};
 
-    /// A new register in memory, with no command. It is lost with the process. Where memory is wanting there is none;
-    /// it is never foreign, and never of another version.
+    /// A new register in memory, with no command. It is lost with the process. Where memory is wanting there is none:
+    /// the fault is `Memory`, or `Disk` as the store tells it, and never `Foreign` or `Version`.
     pub fn in_memory(alloc: Global) -> Result<Register<MemStore>, OpenFault>
         ensures new { IfOk result (λ r. (r.is_founded ≡ true) × (r.accepted ≡ []) × (r.torn ≡ None) × IsKept over_memory r) }
         ensures fault { IfErr result (λ e. (e ≡ OpenFault.Memory) ⊎ (e ≡ OpenFault.Disk)) }
