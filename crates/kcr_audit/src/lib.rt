@@ -14,6 +14,3 @@ mod seating;
 
 pub use findings::audit;
 pub use laws::registers_pass;
-
-#[cfg(test)]
-mod tests;

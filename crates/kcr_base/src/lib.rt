@@ -37,6 +37,3 @@ pub use same::{
 pub use serial::{ItemCode, Serial};
 pub use tally::Tally;
 pub use text::Text;
-
-#[cfg(test)]
-mod tests;

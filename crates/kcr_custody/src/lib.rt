@@ -166,6 +166,3 @@ pub struct Moved {
     pub bag: Bag,
     pub items: ItemRows,
 }
-
-#[cfg(test)]
-mod tests;

@@ -33,6 +33,3 @@ pub use rows::{
 };
 pub use texts::command_text;
 pub use views::{AppointmentsOf, Asks, Change, Finding, ItemsOf, Rows, StaysOf, Verdict, View};
-
-#[cfg(test)]
-mod tests;

@@ -9,6 +9,3 @@ mod decision;
 mod keys;
 
 pub use decision::decide;
-
-#[cfg(test)]
-mod tests;

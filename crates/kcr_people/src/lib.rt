@@ -6,8 +6,6 @@ pub mod custodians;
 pub mod laws;
 pub mod people;
 pub mod rows;
-#[cfg(test)]
-mod tests;
 pub mod withdrawals;
 
 pub use custodians::{appoint, release, replace};

@@ -8,8 +8,6 @@ pub mod listing;
 pub mod presence;
 pub mod sheet;
 pub mod stays;
-#[cfg(test)]
-mod tests;
 mod traffic;
 
 ghost use Rattle.std.specs.Prelude.{⊤, codes, ◌≡◌};

@@ -14,6 +14,3 @@ pub use script::{Script, Step};
 pub use seat::Seat;
 pub use seats::{Seats, read_seats, write_seats};
 pub use steps::read_script;
-
-#[cfg(test)]
-mod tests;

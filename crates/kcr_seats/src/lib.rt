@@ -104,6 +104,3 @@ pub fn hall()
     ensures either { SeatingOrShort }
     ensures not_both { NotBoth }
 {}
-
-#[cfg(test)]
-mod tests;

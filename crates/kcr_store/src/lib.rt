@@ -17,6 +17,3 @@ mod register;
 pub use open::OpenFault;
 pub use question::{Question, Shown};
 pub use register::Register;
-
-#[cfg(test)]
-mod tests;

@@ -1,4 +1,5 @@
 //! Rows come back from each table.
+use crate::asserts::{counts, holds, same};
 use crate::values::{
     FIRST, LAST, day, exception, initials, item, key, key_row, moment, person, place, put, serial,
     stay, step,
@@ -31,15 +32,23 @@ fn a_new_register(rt: HostRuntime) -> Result<(), Fail> {
     tx.commit()?;
     let mut tx = conn.transaction();
     let versions = all_versions(alloc, &mut tx)?;
-    assert_eq!(rt; versions.as_slice(), [Version { number: 3 }].as_slice());
+    same(
+        &rt,
+        &versions.as_slice(),
+        &[Version { number: 3 }].as_slice(),
+    );
     let safes = all_safes(alloc, &mut tx)?;
-    assert_eq!(rt; safes.len(), 4);
-    assert_eq!(rt; safes[0].safe, SafeNumber::One);
-    assert_eq!(rt; safes[3].facility, Facility::West);
-    assert!(rt; !safes[1].is_open && !safes[2].is_open);
-    assert!(rt; all_people(alloc, &mut tx)?.is_empty());
-    assert!(rt; all_keys(alloc, &mut tx)?.is_empty());
-    assert!(rt; last_key_row(alloc, &mut tx)?.is_empty());
+    counts(&rt, safes.len(), 4);
+    same(&rt, &safes[0].safe, &SafeNumber::One);
+    same(&rt, &safes[3].facility, &Facility::West);
+    holds(
+        &rt,
+        !safes[1].is_open && !safes[2].is_open,
+        "two shut safes",
+    );
+    holds(&rt, all_people(alloc, &mut tx)?.is_empty(), "nobody");
+    holds(&rt, all_keys(alloc, &mut tx)?.is_empty(), "no keys");
+    holds(&rt, last_key_row(alloc, &mut tx)?.is_empty(), "no last key");
     Ok(())
 }
 
@@ -68,14 +77,18 @@ fn people_come_back(rt: HostRuntime) -> Result<(), Fail> {
     tx.commit()?;
     let mut tx = conn.transaction();
     let people = all_people(alloc, &mut tx)?;
-    assert_eq!(rt; people.len(), 3);
-    assert_eq!(rt; people[0].who.as_str(), "AA");
-    assert_eq!(rt; people[1].name.as_str(), "O'Brien \"Q\"; --");
-    assert_eq!(rt; people[2].name.as_str(), "Zoe");
+    counts(&rt, people.len(), 3);
+    same(&rt, &people[0].who.as_str(), &"AA");
+    same(&rt, &people[1].name.as_str(), &"O'Brien \"Q\"; --");
+    same(&rt, &people[2].name.as_str(), &"Zoe");
     let one = person_of(alloc, &mut tx, &initials("AAAA")?)?;
-    assert_eq!(rt; one.len(), 1);
-    assert_eq!(rt; one[0].who.as_str(), "AAAA");
-    assert!(rt; person_of(alloc, &mut tx, &initials("AAA")?)?.is_empty());
+    counts(&rt, one.len(), 1);
+    same(&rt, &one[0].who.as_str(), &"AAAA");
+    holds(
+        &rt,
+        person_of(alloc, &mut tx, &initials("AAA")?)?.is_empty(),
+        "nobody under AAA",
+    );
     Ok(())
 }
 
@@ -112,9 +125,9 @@ fn trainings_come_back(rt: HostRuntime) -> Result<(), Fail> {
             until: first,
         }),
     )?;
-    assert_eq!(rt; all_trainings(alloc, &mut tx)?.len(), 3);
+    counts(&rt, all_trainings(alloc, &mut tx)?.len(), 3);
     let rows = trainings_of(alloc, &mut tx, &who)?;
-    assert_eq!(rt; rows.as_slice(), [short, wide].as_slice());
+    same(&rt, &rows.as_slice(), &[short, wide].as_slice());
     Ok(())
 }
 
@@ -142,15 +155,21 @@ fn withdrawals_come_back(rt: HostRuntime) -> Result<(), Fail> {
     };
     put(alloc, &mut tx, Change::PutWithdrawal(later))?;
     put(alloc, &mut tx, Change::PutWithdrawal(gone))?;
-    assert_eq!(rt;
-        all_withdrawals(alloc, &mut tx)?.as_slice(),
-        [gone].as_slice()
+    same(
+        &rt,
+        &all_withdrawals(alloc, &mut tx)?.as_slice(),
+        &[gone].as_slice(),
     );
-    assert_eq!(rt;
-        withdrawals_of(alloc, &mut tx, &who)?.as_slice(),
-        [gone].as_slice()
+    same(
+        &rt,
+        &withdrawals_of(alloc, &mut tx, &who)?.as_slice(),
+        &[gone].as_slice(),
     );
-    assert!(rt; withdrawals_of(alloc, &mut tx, &other)?.is_empty());
+    holds(
+        &rt,
+        withdrawals_of(alloc, &mut tx, &other)?.is_empty(),
+        "no withdrawals of another",
+    );
     Ok(())
 }
 
@@ -181,17 +200,20 @@ fn appointments_come_back(rt: HostRuntime) -> Result<(), Fail> {
     put(alloc, &mut tx, Change::PutAppointment(ended))?;
     put(alloc, &mut tx, Change::PutAppointment(share))?;
     put(alloc, &mut tx, Change::PutAppointment(next))?;
-    assert_eq!(rt;
-        all_appointments(alloc, &mut tx)?.as_slice(),
-        [ended, next, share].as_slice()
+    same(
+        &rt,
+        &all_appointments(alloc, &mut tx)?.as_slice(),
+        &[ended, next, share].as_slice(),
     );
-    assert_eq!(rt;
-        appointments_to(alloc, &mut tx, east)?.as_slice(),
-        [ended, next].as_slice()
+    same(
+        &rt,
+        &appointments_to(alloc, &mut tx, east)?.as_slice(),
+        &[ended, next].as_slice(),
     );
-    assert_eq!(rt;
-        appointments_of(alloc, &mut tx, &who)?.as_slice(),
-        [ended, share].as_slice()
+    same(
+        &rt,
+        &appointments_of(alloc, &mut tx, &who)?.as_slice(),
+        &[ended, share].as_slice(),
     );
     Ok(())
 }
@@ -215,9 +237,10 @@ fn boxes_come_back(rt: HostRuntime) -> Result<(), Fail> {
     };
     put(alloc, &mut tx, Change::PutBox(last))?;
     put(alloc, &mut tx, Change::PutBox(one))?;
-    assert_eq!(rt;
-        all_boxes(alloc, &mut tx)?.as_slice(),
-        [one, last].as_slice()
+    same(
+        &rt,
+        &all_boxes(alloc, &mut tx)?.as_slice(),
+        &[one, last].as_slice(),
     );
     Ok(())
 }
@@ -235,9 +258,9 @@ fn safes_come_back(rt: HostRuntime) -> Result<(), Fail> {
     };
     put(alloc, &mut tx, Change::PutSafe(open))?;
     let safes = all_safes(alloc, &mut tx)?;
-    assert_eq!(rt; safes.len(), 4);
-    assert_eq!(rt; safes[2], open);
-    assert!(rt; !safes[0].is_open);
+    counts(&rt, safes.len(), 4);
+    same(&rt, &safes[2], &open);
+    holds(&rt, !safes[0].is_open, "a shut safe");
     Ok(())
 }
 
@@ -262,19 +285,21 @@ fn bags_come_back(rt: HostRuntime) -> Result<(), Fail> {
     )?;
     put(alloc, &mut tx, Change::PutBag(boxed))?;
     put(alloc, &mut tx, Change::PutBag(spent))?;
-    assert_eq!(rt;
-        all_bags(alloc, &mut tx)?.as_slice(),
-        [spent, boxed].as_slice()
+    same(
+        &rt,
+        &all_bags(alloc, &mut tx)?.as_slice(),
+        &[spent, boxed].as_slice(),
     );
-    assert_eq!(rt;
-        bag_of(alloc, &mut tx, &bag)?.as_slice(),
-        [boxed].as_slice()
+    same(
+        &rt,
+        &bag_of(alloc, &mut tx, &bag)?.as_slice(),
+        &[boxed].as_slice(),
     );
     let moved = in_spot(bag, Spot::Equipment(Facility::East));
     put(alloc, &mut tx, Change::PutBag(moved))?;
     let moved = bag_of(alloc, &mut tx, &bag)?;
-    assert_eq!(rt; moved.len(), 1);
-    assert_eq!(rt; moved[0].spot, Spot::Equipment(Facility::East));
+    counts(&rt, moved.len(), 1);
+    same(&rt, &moved[0].spot, &Spot::Equipment(Facility::East));
     Ok(())
 }
 
@@ -303,19 +328,26 @@ fn items_come_back(rt: HostRuntime) -> Result<(), Fail> {
     )?;
     put(alloc, &mut tx, Change::PutItem(packed))?;
     put(alloc, &mut tx, Change::PutItem(loose))?;
-    assert_eq!(rt;
-        all_items(alloc, &mut tx)?.as_slice(),
-        [packed, loose].as_slice()
+    same(
+        &rt,
+        &all_items(alloc, &mut tx)?.as_slice(),
+        &[packed, loose].as_slice(),
     );
-    assert_eq!(rt;
-        item_of(alloc, &mut tx, &loose.code)?.as_slice(),
-        [loose].as_slice()
+    same(
+        &rt,
+        &item_of(alloc, &mut tx, &loose.code)?.as_slice(),
+        &[loose].as_slice(),
     );
-    assert_eq!(rt;
-        items_within(alloc, &mut tx, &bag)?.as_slice(),
-        [packed].as_slice()
+    same(
+        &rt,
+        &items_within(alloc, &mut tx, &bag)?.as_slice(),
+        &[packed].as_slice(),
     );
-    assert!(rt; items_within(alloc, &mut tx, &other)?.is_empty());
+    holds(
+        &rt,
+        items_within(alloc, &mut tx, &other)?.is_empty(),
+        "no items in the other bag",
+    );
     Ok(())
 }
 
@@ -343,15 +375,21 @@ fn ceremonies_come_back(rt: HostRuntime) -> Result<(), Fail> {
     };
     put(alloc, &mut tx, Change::PutCeremony(planned))?;
     put(alloc, &mut tx, Change::PutCeremony(closed))?;
-    assert_eq!(rt;
-        all_ceremonies(alloc, &mut tx)?.as_slice(),
-        [closed, planned].as_slice()
+    same(
+        &rt,
+        &all_ceremonies(alloc, &mut tx)?.as_slice(),
+        &[closed, planned].as_slice(),
     );
-    assert_eq!(rt;
-        ceremony_of(alloc, &mut tx, 9_999)?.as_slice(),
-        [planned].as_slice()
+    same(
+        &rt,
+        &ceremony_of(alloc, &mut tx, 9_999)?.as_slice(),
+        &[planned].as_slice(),
     );
-    assert!(rt; ceremony_of(alloc, &mut tx, 2)?.is_empty());
+    holds(
+        &rt,
+        ceremony_of(alloc, &mut tx, 2)?.is_empty(),
+        "no ceremony 2",
+    );
     Ok(())
 }
 
@@ -374,9 +412,21 @@ fn marks_come_back(rt: HostRuntime) -> Result<(), Fail> {
         }),
     )?;
     put(alloc, &mut tx, Change::PutMark(mark))?;
-    assert_eq!(rt; all_marks(alloc, &mut tx)?.as_slice(), [mark].as_slice());
-    assert_eq!(rt; mark_of(alloc, &mut tx, 1)?.as_slice(), [mark].as_slice());
-    assert!(rt; mark_of(alloc, &mut tx, 9_999)?.is_empty());
+    same(
+        &rt,
+        &all_marks(alloc, &mut tx)?.as_slice(),
+        &[mark].as_slice(),
+    );
+    same(
+        &rt,
+        &mark_of(alloc, &mut tx, 1)?.as_slice(),
+        &[mark].as_slice(),
+    );
+    holds(
+        &rt,
+        mark_of(alloc, &mut tx, 9_999)?.is_empty(),
+        "no mark of 9999",
+    );
     Ok(())
 }
 
@@ -406,15 +456,16 @@ fn steps_come_back(rt: HostRuntime) -> Result<(), Fail> {
         &mut tx,
         Change::PutStep(step(alloc, 62, 1, "Other", "CO")?),
     )?;
-    assert_eq!(rt; all_steps(alloc, &mut tx)?.len(), 3);
+    counts(&rt, all_steps(alloc, &mut tx)?.len(), 3);
     let rows = steps_of(alloc, &mut tx, 61)?;
-    assert_eq!(rt; rows.len(), 2);
-    assert_eq!(rt; rows[0].state, StepState::Signed);
-    assert_eq!(rt; rows[0].at, signed_at);
-    assert_eq!(rt; rows[1].activity.as_str(), "Count; 'n' check 名");
-    assert_eq!(rt;
-        write_seats(alloc, &rows[1].seats)?.as_str(),
-        "CO*7;CO*2;RKSH/7"
+    counts(&rt, rows.len(), 2);
+    same(&rt, &rows[0].state, &StepState::Signed);
+    same(&rt, &rows[0].at, &signed_at);
+    same(&rt, &rows[1].activity.as_str(), &"Count; 'n' check 名");
+    same(
+        &rt,
+        &write_seats(alloc, &rows[1].seats)?.as_str(),
+        &"CO*7;CO*2;RKSH/7",
     );
     Ok(())
 }
@@ -446,13 +497,15 @@ fn seatings_come_back(rt: HostRuntime) -> Result<(), Fail> {
     put(alloc, &mut tx, Change::PutSeating(other))?;
     put(alloc, &mut tx, Change::PutSeating(second))?;
     put(alloc, &mut tx, Change::PutSeating(first))?;
-    assert_eq!(rt;
-        all_seatings(alloc, &mut tx)?.as_slice(),
-        [first, second, other].as_slice()
+    same(
+        &rt,
+        &all_seatings(alloc, &mut tx)?.as_slice(),
+        &[first, second, other].as_slice(),
     );
-    assert_eq!(rt;
-        seatings_of(alloc, &mut tx, 61)?.as_slice(),
-        [first, second].as_slice()
+    same(
+        &rt,
+        &seatings_of(alloc, &mut tx, 61)?.as_slice(),
+        &[first, second].as_slice(),
     );
     Ok(())
 }
@@ -478,13 +531,13 @@ fn exceptions_come_back(rt: HostRuntime) -> Result<(), Fail> {
         &mut tx,
         Change::PutException(exception(alloc, 1, 1, "名", None)?),
     )?;
-    assert_eq!(rt; all_exceptions(alloc, &mut tx)?.len(), 3);
+    counts(&rt, all_exceptions(alloc, &mut tx)?.len(), 3);
     let rows = exceptions_of(alloc, &mut tx, 61)?;
-    assert_eq!(rt; rows.len(), 2);
-    assert_eq!(rt; rows[0].text.as_str(), "\"Lamp\" wasn't lit");
-    assert_eq!(rt; rows[0].passed, Some(400));
-    assert_eq!(rt; rows[1].passed, None);
-    assert_eq!(rt; rows[1].at, moment(LAST)?);
+    counts(&rt, rows.len(), 2);
+    same(&rt, &rows[0].text.as_str(), &"\"Lamp\" wasn't lit");
+    same(&rt, &rows[0].passed, &Some(400));
+    same(&rt, &rows[1].passed, &None);
+    same(&rt, &rows[1].at, &moment(LAST)?);
     Ok(())
 }
 
@@ -509,15 +562,21 @@ fn sheet_comes_back(rt: HostRuntime) -> Result<(), Fail> {
     };
     put(alloc, &mut tx, Change::PutSheet(leaves))?;
     put(alloc, &mut tx, Change::PutSheet(enters))?;
-    assert_eq!(rt;
-        all_sheet(alloc, &mut tx)?.as_slice(),
-        [enters, leaves].as_slice()
+    same(
+        &rt,
+        &all_sheet(alloc, &mut tx)?.as_slice(),
+        &[enters, leaves].as_slice(),
     );
-    assert_eq!(rt;
-        sheet_of(alloc, &mut tx, 61)?.as_slice(),
-        [enters, leaves].as_slice()
+    same(
+        &rt,
+        &sheet_of(alloc, &mut tx, 61)?.as_slice(),
+        &[enters, leaves].as_slice(),
     );
-    assert!(rt; sheet_of(alloc, &mut tx, 62)?.is_empty());
+    holds(
+        &rt,
+        sheet_of(alloc, &mut tx, 62)?.is_empty(),
+        "no sheet of 62",
+    );
     Ok(())
 }
 
@@ -539,19 +598,26 @@ fn stays_come_back(rt: HostRuntime) -> Result<(), Fail> {
     )?;
     put(alloc, &mut tx, Change::PutStay(early))?;
     put(alloc, &mut tx, Change::PutStay(other))?;
-    assert_eq!(rt;
-        all_stays(alloc, &mut tx)?.as_slice(),
-        [early, late, other].as_slice()
+    same(
+        &rt,
+        &all_stays(alloc, &mut tx)?.as_slice(),
+        &[early, late, other].as_slice(),
     );
-    assert_eq!(rt;
-        stays_of(alloc, &mut tx, 61)?.as_slice(),
-        [early, other].as_slice()
+    same(
+        &rt,
+        &stays_of(alloc, &mut tx, 61)?.as_slice(),
+        &[early, other].as_slice(),
     );
-    assert_eq!(rt;
-        last_stay_of(alloc, &mut tx, &who)?.as_slice(),
-        [late].as_slice()
+    same(
+        &rt,
+        &last_stay_of(alloc, &mut tx, &who)?.as_slice(),
+        &[late].as_slice(),
     );
-    assert!(rt; last_stay_of(alloc, &mut tx, &initials("CC")?)?.is_empty());
+    holds(
+        &rt,
+        last_stay_of(alloc, &mut tx, &initials("CC")?)?.is_empty(),
+        "no stay of CC",
+    );
     Ok(())
 }
 
@@ -572,15 +638,19 @@ fn keys_come_back(rt: HostRuntime) -> Result<(), Fail> {
     make(&mut tx)?;
     put_keys(alloc, &mut tx)?;
     let same_key = Change::PutKey(key_row(alloc, "a", 2, "{}")?);
-    assert!(rt; put(alloc, &mut tx, same_key).is_err());
+    holds(&rt, put(alloc, &mut tx, same_key).is_err(), "a key twice");
     let same_number = Change::PutKey(key_row(alloc, "b", 9, "{}")?);
-    assert!(rt; put(alloc, &mut tx, same_number).is_err());
+    holds(
+        &rt,
+        put(alloc, &mut tx, same_number).is_err(),
+        "a number twice",
+    );
     let rows = all_keys(alloc, &mut tx)?;
-    assert_eq!(rt; rows.len(), 3);
-    assert_eq!(rt; rows[0].key.as_str(), "Z");
-    assert_eq!(rt; rows[1].accepted, 4_294_967_295);
-    assert_eq!(rt; rows[1].reply.as_str(), "{\"name\":\"名\"}");
-    assert_eq!(rt; rows[2].reply.as_str(), "");
+    counts(&rt, rows.len(), 3);
+    same(&rt, &rows[0].key.as_str(), &"Z");
+    same(&rt, &rows[1].accepted, &4_294_967_295);
+    same(&rt, &rows[1].reply.as_str(), &"{\"name\":\"名\"}");
+    same(&rt, &rows[2].reply.as_str(), &"");
     Ok(())
 }
 
@@ -592,12 +662,16 @@ fn one_key_comes_back(rt: HostRuntime) -> Result<(), Fail> {
     make(&mut tx)?;
     put_keys(alloc, &mut tx)?;
     let last = last_key_row(alloc, &mut tx)?;
-    assert_eq!(rt; last.len(), 1);
-    assert_eq!(rt; last[0].key.as_str(), "a");
+    counts(&rt, last.len(), 1);
+    same(&rt, &last[0].key.as_str(), &"a");
     let found = key_row_of(alloc, &mut tx, &key("Z")?)?;
-    assert_eq!(rt; found.len(), 1);
-    assert_eq!(rt; found[0].command.as_str(), "enter AA 'x'");
-    assert!(rt; key_row_of(alloc, &mut tx, &key("y")?)?.is_empty());
+    counts(&rt, found.len(), 1);
+    same(&rt, &found[0].command.as_str(), &"enter AA 'x'");
+    holds(
+        &rt,
+        key_row_of(alloc, &mut tx, &key("y")?)?.is_empty(),
+        "no key y",
+    );
     Ok(())
 }
 
@@ -610,9 +684,10 @@ fn another_version(rt: HostRuntime) -> Result<(), Fail> {
     tx.execute("INSERT OR REPLACE INTO versions (number) VALUES (0)", &[])?;
     tx.execute("INSERT OR REPLACE INTO versions (number) VALUES (3)", &[])?;
     let versions = all_versions(alloc, &mut tx)?;
-    assert_eq!(rt;
-        versions.as_slice(),
-        [Version { number: 0 }, Version { number: 3 }].as_slice()
+    same(
+        &rt,
+        &versions.as_slice(),
+        &[Version { number: 0 }, Version { number: 3 }].as_slice(),
     );
     Ok(())
 }

@@ -1,4 +1,5 @@
 //! Changes, views, rows that no register stores, and readings by an index.
+use crate::asserts::{counts, holds, same};
 use crate::values::{
     FIRST, LAST, initials, item, key, key_row, person, place, put, serial, stay, step,
 };
@@ -71,16 +72,20 @@ fn changes_and_views(rt: HostRuntime) -> Result<(), Fail> {
     asks.people = Rows::Under(People::new(named));
     asks.steps = Rows::Under(61);
     let view = view_of(alloc, &mut tx, &asks)?;
-    assert_eq!(rt; view.people.len(), 2);
-    assert_eq!(rt; view.people[0].name.as_str(), "Bob");
-    assert_eq!(rt; view.keys.len(), 2);
-    assert_eq!(rt; view.keys[0].key.as_str(), "k-1");
-    assert_eq!(rt; view.keys[1].accepted, 2);
-    assert_eq!(rt; view.steps.len(), 1);
-    assert!(rt; view.stays.is_empty() && view.safes.is_empty());
+    counts(&rt, view.people.len(), 2);
+    same(&rt, &view.people[0].name.as_str(), &"Bob");
+    counts(&rt, view.keys.len(), 2);
+    same(&rt, &view.keys[0].key.as_str(), &"k-1");
+    same(&rt, &view.keys[1].accepted, &2);
+    counts(&rt, view.steps.len(), 1);
+    holds(
+        &rt,
+        view.stays.is_empty() && view.safes.is_empty(),
+        "neither stays nor safes",
+    );
     let view = view_of(alloc, &mut tx, &nothing(key("k-3")?))?;
-    assert!(rt; view.people.is_empty());
-    assert_eq!(rt; view.keys.len(), 1);
+    holds(&rt, view.people.is_empty(), "nobody");
+    counts(&rt, view.keys.len(), 1);
     Ok(())
 }
 
@@ -117,11 +122,11 @@ fn stays_of_a_view(rt: HostRuntime) -> Result<(), Fail> {
     asks.safes = true;
     asks.boxes = true;
     let view = view_of(alloc, &mut tx, &asks)?;
-    assert_eq!(rt; view.stays.len(), 3);
-    assert_eq!(rt; view.stays[2], stay(60, "CC", LAST, None)?);
-    assert_eq!(rt; view.safes.len(), 4);
+    counts(&rt, view.stays.len(), 3);
+    same(&rt, &view.stays[2], &stay(60, "CC", LAST, None)?);
+    counts(&rt, view.safes.len(), 4);
     asks.stays = Rows::All;
-    assert_eq!(rt; view_of(alloc, &mut tx, &asks)?.stays.len(), 4);
+    counts(&rt, view_of(alloc, &mut tx, &asks)?.stays.len(), 4);
     Ok(())
 }
 
@@ -156,12 +161,12 @@ fn items_of_a_view(rt: HostRuntime) -> Result<(), Fail> {
     }
     let mut asks = nothing(key("k")?);
     asks.items = Rows::Under(ItemsOf::Codes(Items::new(codes)));
-    assert_eq!(rt; view_of(alloc, &mut tx, &asks)?.items.len(), 2);
+    counts(&rt, view_of(alloc, &mut tx, &asks)?.items.len(), 2);
     asks.items = Rows::Under(ItemsOf::Bag(bag));
-    assert_eq!(rt; view_of(alloc, &mut tx, &asks)?.items.len(), 3);
+    counts(&rt, view_of(alloc, &mut tx, &asks)?.items.len(), 3);
     asks.items = Rows::All;
     asks.appointments = Rows::Under(AppointmentsOf::Place(place("RKSH-1")?));
-    assert_eq!(rt; view_of(alloc, &mut tx, &asks)?.items.len(), 4);
+    counts(&rt, view_of(alloc, &mut tx, &asks)?.items.len(), 4);
     Ok(())
 }
 
@@ -288,7 +293,7 @@ const NOT_STORED: [(&str, &str); 34] = [
 fn no_register_stores_these(rt: HostRuntime) -> Result<(), Fail> {
     let alloc = rt.alloc();
     for (table, text) in NOT_STORED {
-        assert_eq!(rt; number_after(alloc, text, table)?, 34, "after {text}");
+        holds(&rt, number_after(alloc, text, table)? == 34, text);
     }
     Ok(())
 }
@@ -316,11 +321,15 @@ fn readings_go_by_an_index(rt: HostRuntime) -> Result<(), Fail> {
         let code = item(text.as_str())?;
         put(alloc, &mut tx, Change::PutItem(Item { code, rest }))?;
     }
-    assert!(rt; all_stays(alloc, &mut tx).is_err());
-    assert_eq!(rt; stays_of(alloc, &mut tx, 50)?.len(), 3);
+    holds(
+        &rt,
+        all_stays(alloc, &mut tx).is_err(),
+        "a reading of all, past the limit of steps",
+    );
+    counts(&rt, stays_of(alloc, &mut tx, 50)?.len(), 3);
     let last = last_stay_of(alloc, &mut tx, &initials("AA")?)?;
-    assert_eq!(rt; last.len(), 1);
-    assert_eq!(rt; last[0].ceremony, 100);
-    assert_eq!(rt; items_within(alloc, &mut tx, &bag)?.len(), 3);
+    counts(&rt, last.len(), 1);
+    same(&rt, &last[0].ceremony, &100);
+    counts(&rt, items_within(alloc, &mut tx, &bag)?.len(), 3);
     Ok(())
 }

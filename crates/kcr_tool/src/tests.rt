@@ -1,6 +1,9 @@
 //! The program's words and rows by example, over memory.
+mod asserts;
+
 use crate::act::act;
 use crate::words::{Task, WordsFault, read_words};
+use asserts::{holds, same};
 use kcr_base::Counted;
 use std::alloc::Global;
 use std::io;
@@ -19,33 +22,35 @@ fn owned(alloc: Global, words: &[&str]) -> Result<Vec<String>, Fail> {
 #[test]
 fn words(rt: HostRuntime) -> Result<(), Fail> {
     let alloc = rt.alloc();
-    assert_eq!(rt;
-        read_words(alloc, &owned(alloc, &["kcr", "run"])?),
-        Ok(Task::Run)
+    same(
+        &rt,
+        &read_words(alloc, &owned(alloc, &["kcr", "run"])?),
+        &Ok(Task::Run),
     );
     let none: [&str; 0] = [];
-    assert_eq!(rt;
-        read_words(alloc, &owned(alloc, &none)?),
-        Err(WordsFault::Line)
+    same(
+        &rt,
+        &read_words(alloc, &owned(alloc, &none)?),
+        &Err(WordsFault::Line),
     );
     for word in ["serve", "Run", "--help", "help", "run run", ""] {
-        assert_eq!(rt;
-            read_words(alloc, &owned(alloc, &["kcr", word])?),
-            Err(WordsFault::Line),
-            "{word}"
-        );
+        let got = read_words(alloc, &owned(alloc, &["kcr", word])?);
+        holds(&rt, got == Err(WordsFault::Line), word);
     }
-    assert_eq!(rt;
-        read_words(alloc, &owned(alloc, &["kcr"])?),
-        Err(WordsFault::Line)
+    same(
+        &rt,
+        &read_words(alloc, &owned(alloc, &["kcr"])?),
+        &Err(WordsFault::Line),
     );
-    assert_eq!(rt;
-        read_words(alloc, &owned(alloc, &["kcr", "run", "now"])?),
-        Err(WordsFault::Line)
+    same(
+        &rt,
+        &read_words(alloc, &owned(alloc, &["kcr", "run", "now"])?),
+        &Err(WordsFault::Line),
     );
-    assert_eq!(rt;
-        read_words(alloc, &owned(alloc, &["kcr", "run", "--file", "F"])?),
-        Err(WordsFault::Line)
+    same(
+        &rt,
+        &read_words(alloc, &owned(alloc, &["kcr", "run", "--file", "F"])?),
+        &Err(WordsFault::Line),
     );
     Ok(())
 }
@@ -97,9 +102,9 @@ const LISTED: &str = "{\"people\":[{\"name\":\"Ann Abel\",\"roles\":[],\"who\":\
 #[test]
 fn nothing_asked(rt: HostRuntime) -> Result<(), Fail> {
     let left = run_with(&rt, &["kcr", "run"], "")?;
-    assert_eq!(rt; left.status, 0);
-    assert_eq!(rt; left.output.as_str(), "");
-    assert_eq!(rt; left.faults.as_str(), "");
+    same(&rt, &left.status, &0);
+    same(&rt, &left.output.as_str(), &"");
+    same(&rt, &left.faults.as_str(), &"");
     Ok(())
 }
 
@@ -112,8 +117,8 @@ fn a_repeat_gets_the_same_answer(rt: HostRuntime) -> Result<(), Fail> {
     let input = format!(in alloc; "{ann}{ann}{LIST}")?;
     let output = format!(in alloc; "{accepted}{accepted}{listed}")?;
     let left = run_with(&rt, &["kcr", "run"], input.as_str())?;
-    assert_eq!(rt; left.status, 0);
-    assert_eq!(rt; left.output.as_str(), output.as_str());
+    same(&rt, &left.status, &0);
+    same(&rt, &left.output.as_str(), &output.as_str());
     Ok(())
 }
 
@@ -132,7 +137,7 @@ fn another_command_under_the_key(rt: HostRuntime) -> Result<(), Fail> {
     let input = format!(in alloc; "{ann}{other}{LIST}")?;
     let output = format!(in alloc; "{accepted}{refused}{listed}")?;
     let left = run_with(&rt, &["kcr", "run"], input.as_str())?;
-    assert_eq!(rt; left.output.as_str(), output.as_str());
+    same(&rt, &left.output.as_str(), &output.as_str());
     Ok(())
 }
 
@@ -153,10 +158,11 @@ fn requests_refused(rt: HostRuntime) -> Result<(), Fail> {
     ];
     for (body, status, refusal) in cases {
         let left = run_with(&rt, &["kcr", "run"], post(alloc, "/people", body)?.as_str())?;
-        assert_eq!(rt; left.status, 0);
-        assert_eq!(rt;
-            left.output.as_str(),
-            answer(alloc, status, refusal)?.as_str()
+        same(&rt, &left.status, &0);
+        same(
+            &rt,
+            &left.output.as_str(),
+            &answer(alloc, status, refusal)?.as_str(),
         );
     }
     Ok(())
@@ -169,18 +175,20 @@ fn methods(rt: HostRuntime) -> Result<(), Fail> {
         &["kcr", "run"],
         "HEAD /people HTTP/1.1\r\nHost: l\r\n\r\n",
     )?;
-    assert_eq!(rt;
-        head.output.as_str(),
-        "HTTP/1.1 200 OK\r\ncontent-type: application/json\r\ncontent-length: 13\r\n\r\n"
+    same(
+        &rt,
+        &head.output.as_str(),
+        &"HTTP/1.1 200 OK\r\ncontent-type: application/json\r\ncontent-length: 13\r\n\r\n",
     );
     let delete = run_with(
         &rt,
         &["kcr", "run"],
         "DELETE /people HTTP/1.1\r\nHost: l\r\n\r\n",
     )?;
-    assert_eq!(rt;
-        delete.output.as_str(),
-        "HTTP/1.1 405 Method Not Allowed\r\ncontent-type: application/json\r\ncontent-length: 31\r\nallow: GET, HEAD, POST\r\n\r\n{\"number\":8,\"refusal\":\"method\"}"
+    same(
+        &rt,
+        &delete.output.as_str(),
+        &"HTTP/1.1 405 Method Not Allowed\r\ncontent-type: application/json\r\ncontent-length: 31\r\nallow: GET, HEAD, POST\r\n\r\n{\"number\":8,\"refusal\":\"method\"}",
     );
     Ok(())
 }
@@ -213,16 +221,30 @@ fn healthy(rt: HostRuntime) -> Result<(), Fail> {
     )?;
     let no_json = post(alloc, "/people", "[")?;
     let rows = format!(in alloc; "{ann}{ann}{other}{malformed}{no_json}{LIST}")?;
-    assert!(rt; is_healthy(&rt, "")?);
-    assert!(rt; is_healthy(&rt, rows.as_str())?);
-    assert!(rt; is_healthy(&rt, "HEAD /people HTTP/1.1\r\nHost: l\r\n\r\n")?);
-    assert!(rt; is_healthy(&rt, "DELETE /people HTTP/1.1\r\nHost: l\r\n\r\n")?);
-    assert!(rt; is_healthy(&rt, "GET /people HTTP/1.1\r\n")?);
-    assert!(rt;
+    holds(&rt, is_healthy(&rt, "")?, "no input");
+    holds(&rt, is_healthy(&rt, rows.as_str())?, "rows");
+    holds(
+        &rt,
+        is_healthy(&rt, "HEAD /people HTTP/1.1\r\nHost: l\r\n\r\n")?,
+        "HEAD",
+    );
+    holds(
+        &rt,
+        is_healthy(&rt, "DELETE /people HTTP/1.1\r\nHost: l\r\n\r\n")?,
+        "DELETE",
+    );
+    holds(
+        &rt,
+        is_healthy(&rt, "GET /people HTTP/1.1\r\n")?,
+        "a head cut short",
+    );
+    holds(
+        &rt,
         is_healthy(
             &rt,
-            "POST /people HTTP/1.1\r\nHost: l\r\nContent-Length: 131073\r\n\r\n"
-        )?
+            "POST /people HTTP/1.1\r\nHost: l\r\nContent-Length: 131073\r\n\r\n",
+        )?,
+        "a body that is too long",
     );
     Ok(())
 }
@@ -261,9 +283,9 @@ fn faults(rt: HostRuntime) -> Result<(), Fail> {
         &mut output,
         &mut told,
     );
-    assert_eq!(rt; status, 1);
-    assert_eq!(rt; told.as_slice(), b"fault: read\n".as_slice());
-    assert_eq!(rt; output.into_inner().len(), 0);
+    same(&rt, &status, &1);
+    same(&rt, &told.as_slice(), &b"fault: read\n".as_slice());
+    same(&rt, &output.into_inner().len(), &0);
     let mut told = Vec::new(rt.alloc());
     let mut input = Counted::new(LIST.as_bytes());
     let status = act(
@@ -273,8 +295,8 @@ fn faults(rt: HostRuntime) -> Result<(), Fail> {
         &mut Counted::new(Failing),
         &mut told,
     );
-    assert_eq!(rt; status, 1);
-    assert_eq!(rt; told.as_slice(), b"fault: write\n".as_slice());
+    same(&rt, &status, &1);
+    same(&rt, &told.as_slice(), &b"fault: write\n".as_slice());
     Ok(())
 }
 
@@ -282,12 +304,12 @@ fn faults(rt: HostRuntime) -> Result<(), Fail> {
 fn usage(rt: HostRuntime) -> Result<(), Fail> {
     for words in [["kcr", "serve"], ["kcr", "--help"]] {
         let left = run_with(&rt, &words, LIST)?;
-        assert_eq!(rt; left.status, 2);
-        assert_eq!(rt; left.output.as_str(), "");
-        assert!(rt;
+        same(&rt, &left.status, &2);
+        same(&rt, &left.output.as_str(), &"");
+        holds(
+            &rt,
             left.faults.as_str().contains("Usage: kcr"),
-            "{}",
-            left.faults
+            left.faults.as_str(),
         );
     }
     Ok(())

@@ -3,6 +3,8 @@
 #![tactic(auto)]
 
 #[cfg(test)]
+mod asserts;
+#[cfg(test)]
 mod ceremonies;
 #[cfg(test)]
 mod custody;
@@ -18,3 +20,7 @@ mod people;
 mod room;
 #[cfg(test)]
 mod signatures;
+#[cfg(test)]
+mod store;
+#[cfg(test)]
+mod wire;

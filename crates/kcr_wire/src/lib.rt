@@ -17,6 +17,3 @@ pub use method::Method;
 pub use question::read_question;
 pub use show::{write_refusal, write_shown};
 pub use target::Paths;
-
-#[cfg(test)]
-mod tests;

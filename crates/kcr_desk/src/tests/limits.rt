@@ -1,4 +1,5 @@
 //! Heads, bodies, rests and streams that are as long as they may be, and longer.
+use super::asserts::{holds, same};
 use super::desk::{BYTES, Narrow, People, REFUSED_HEAD, WHOLE, joined, run};
 use crate::fault::DeskFault;
 use crate::stream::serve_stream;
@@ -30,12 +31,12 @@ fn head(alloc: Global, length: usize, fields: usize) -> Result<Vec<u8>, Fail> {
 fn limits_of_a_head(rt: HostRuntime) -> Result<(), Fail> {
     for (length, fields, want) in [(8192, 0, 1), (8193, 0, 0), (400, 62, 1), (400, 63, 0)] {
         let bytes = head(rt.alloc(), length, fields)?;
-        assert!(rt; bytes.len() >= length);
+        holds(&rt, bytes.len() >= length, "a head as long as that");
         for streams in [WHOLE, BYTES] {
             let got = run(rt.alloc(), &bytes, streams);
             assert_eq!(rt; got.result, Ok(want), "{length} bytes, {fields} fields");
-            assert_eq!(rt; got.asked, want);
-            assert_eq!(rt; got.written.as_slice() == REFUSED_HEAD, want == 0);
+            same(&rt, &got.asked, &want);
+            same(&rt, &(got.written.as_slice() == REFUSED_HEAD), &(want == 0));
         }
     }
     Ok(())
@@ -50,13 +51,13 @@ fn limits_of_a_quiet_rest(rt: HostRuntime) -> Result<(), Fail> {
         }
         for streams in [WHOLE, BYTES] {
             let got = run(rt.alloc(), &bytes, streams);
-            assert_eq!(rt; got.result, Ok(0));
+            same(&rt, &got.result, &Ok(0));
             assert_eq!(rt; got.written.is_empty(), is_quiet, "{length} empty lines");
-            assert_eq!(rt; got.written.as_slice() == REFUSED_HEAD, !is_quiet);
+            same(&rt, &(got.written.as_slice() == REFUSED_HEAD), &!is_quiet);
         }
     }
     let got = run(rt.alloc(), b"\r\n\r", WHOLE);
-    assert_eq!(rt; got.written.as_slice(), REFUSED_HEAD);
+    same(&rt, &got.written.as_slice(), &REFUSED_HEAD);
     Ok(())
 }
 
@@ -92,7 +93,7 @@ fn a_stream_without_end(rt: HostRuntime) -> Result<(), Fail> {
     for _ in 0..131_072 {
         message.push(0)?;
     }
-    assert_eq!(rt; message.len(), 131_129);
+    same(&rt, &message.len(), &131_129);
     let written = Cell::new(0);
     let mut reader = Counted::new(Endless {
         message: &message,
@@ -103,9 +104,9 @@ fn a_stream_without_end(rt: HostRuntime) -> Result<(), Fail> {
     let result = serve_stream(rt.alloc(), &mut reader, &mut writer, &mut people).map(
         |served| served.requests,
     );
-    assert_eq!(rt; result, Err(DeskFault::Read));
-    assert_eq!(rt; people.asked, 7);
-    assert_eq!(rt; writer.into_inner().called, 7);
+    same(&rt, &result, &Err(DeskFault::Read));
+    same(&rt, &people.asked, &7);
+    same(&rt, &writer.into_inner().called, &7);
     Ok(())
 }
 
@@ -121,8 +122,8 @@ fn empty_lines_without_end(rt: HostRuntime) -> Result<(), Fail> {
     let result = serve_stream(rt.alloc(), &mut reader, &mut writer, &mut people).map(
         |served| served.requests,
     );
-    assert_eq!(rt; result, Ok(0));
-    assert_eq!(rt; people.asked, 0);
-    assert_eq!(rt; writer.into_inner().bytes.as_slice(), REFUSED_HEAD);
+    same(&rt, &result, &Ok(0));
+    same(&rt, &people.asked, &0);
+    same(&rt, &writer.into_inner().bytes.as_slice(), &REFUSED_HEAD);
     Ok(())
 }

@@ -1,4 +1,5 @@
 //! Streams over a register in memory.
+use super::asserts::same;
 use super::desk::{ACCEPTED, GET, POST, SHOWN, joined};
 use crate::desk::serve;
 use kcr_base::Counted;
@@ -18,21 +19,21 @@ fn answered(alloc: Global, input: &[u8]) -> Result<(Vec<u8>, u64), Fail> {
 #[test]
 fn people_are_entered_and_shown(rt: HostRuntime) -> Result<(), Fail> {
     let (written, requests) = answered(rt.alloc(), b"")?;
-    assert_eq!(rt; written.is_empty(), true);
-    assert_eq!(rt; requests, 0);
+    same(&rt, &written.is_empty(), &true);
+    same(&rt, &requests, &0);
 
     let input = joined(rt.alloc(), &[POST, GET])?;
     let want = joined(rt.alloc(), &[ACCEPTED, SHOWN])?;
     let (written, requests) = answered(rt.alloc(), &input)?;
-    assert_eq!(rt; written.as_slice(), want.as_slice());
-    assert_eq!(rt; requests, 2);
+    same(&rt, &written.as_slice(), &want.as_slice());
+    same(&rt, &requests, &2);
 
     // The same command under the same key gets the reply that was kept.
     let input = joined(rt.alloc(), &[POST, POST, GET])?;
     let want = joined(rt.alloc(), &[ACCEPTED, ACCEPTED, SHOWN])?;
     let (written, requests) = answered(rt.alloc(), &input)?;
-    assert_eq!(rt; written.as_slice(), want.as_slice());
-    assert_eq!(rt; requests, 3);
+    same(&rt, &written.as_slice(), &want.as_slice());
+    same(&rt, &requests, &3);
     Ok(())
 }
 
@@ -68,8 +69,8 @@ fn refusals_of_commands(rt: HostRuntime) -> Result<(), Fail> {
         let input = joined(rt.alloc(), &[POST, refused, GET])?;
         let want = joined(rt.alloc(), &[ACCEPTED, answer, SHOWN])?;
         let (written, requests) = answered(rt.alloc(), &input)?;
-        assert_eq!(rt; written.as_slice(), want.as_slice());
-        assert_eq!(rt; requests, 3);
+        same(&rt, &written.as_slice(), &want.as_slice());
+        same(&rt, &requests, &3);
     }
     Ok(())
 }
@@ -88,8 +89,8 @@ fn questions_of_an_empty_register(rt: HostRuntime) -> Result<(), Fail> {
     ];
     for (input, want) in rows {
         let (written, requests) = answered(rt.alloc(), input)?;
-        assert_eq!(rt; written.as_slice(), want);
-        assert_eq!(rt; requests, 1);
+        same(&rt, &written.as_slice(), &want);
+        same(&rt, &requests, &1);
     }
     Ok(())
 }

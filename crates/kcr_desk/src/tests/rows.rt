@@ -1,4 +1,5 @@
 //! The bytes of answers.
+use super::asserts::same;
 use super::desk::{
     ACCEPTED, BYTES, GET, POST, REFUSED_CUT, REFUSED_HEAD, SHOWN, Streams, WHOLE, joined, run,
 };
@@ -9,14 +10,14 @@ fn a_person_is_entered_and_shown(rt: HostRuntime) -> Result<(), Fail> {
     let input = joined(rt.alloc(), &[POST, GET])?;
     let want = joined(rt.alloc(), &[ACCEPTED, SHOWN])?;
     let got = run(rt.alloc(), &input, WHOLE);
-    assert_eq!(rt; got.written.as_slice(), want.as_slice());
-    assert_eq!(rt; got.result, Ok(2));
+    same(&rt, &got.written.as_slice(), &want.as_slice());
+    same(&rt, &got.result, &Ok(2));
 
     // A line feed behind the last message gets nothing.
     let longer = joined(rt.alloc(), &[&input, b"\n"])?;
     let got = run(rt.alloc(), &longer, WHOLE);
-    assert_eq!(rt; got.written.as_slice(), want.as_slice());
-    assert_eq!(rt; got.result, Ok(2));
+    same(&rt, &got.written.as_slice(), &want.as_slice());
+    same(&rt, &got.result, &Ok(2));
     Ok(())
 }
 
@@ -29,7 +30,7 @@ fn any_cut_into_reads_is_answered_alike(rt: HostRuntime) -> Result<(), Fail> {
         assert_eq!(rt; got.written.as_slice(), want.as_slice(), "cut at {cut}");
     }
     let got = run(rt.alloc(), &input, BYTES);
-    assert_eq!(rt; got.written.as_slice(), want.as_slice());
+    same(&rt, &got.written.as_slice(), &want.as_slice());
     Ok(())
 }
 
@@ -89,9 +90,9 @@ fn faulty_items(rt: HostRuntime) -> Result<(), Fail> {
     for (input, want) in rows {
         for streams in [WHOLE, BYTES] {
             let got = run(rt.alloc(), input, streams);
-            assert_eq!(rt; got.written.as_slice(), want);
-            assert_eq!(rt; got.result, Ok(0));
-            assert_eq!(rt; got.asked, 0);
+            same(&rt, &got.written.as_slice(), &want);
+            same(&rt, &got.result, &Ok(0));
+            same(&rt, &got.asked, &0);
         }
     }
     Ok(())
@@ -102,8 +103,8 @@ fn a_refused_rest_is_answered_once(rt: HostRuntime) -> Result<(), Fail> {
     let rest = joined(rt.alloc(), &[b"GET /people HTTP/1.1\r\n\x00", GET, GET])?;
     for streams in [WHOLE, BYTES] {
         let got = run(rt.alloc(), &rest, streams);
-        assert_eq!(rt; got.written.as_slice(), REFUSED_HEAD);
-        assert_eq!(rt; got.asked, 0);
+        same(&rt, &got.written.as_slice(), &REFUSED_HEAD);
+        same(&rt, &got.asked, &0);
     }
     Ok(())
 }
@@ -130,15 +131,15 @@ fn methods(rt: HostRuntime) -> Result<(), Fail> {
     ];
     for (input, want) in rows {
         let got = run(rt.alloc(), input, WHOLE);
-        assert_eq!(rt; got.written.as_slice(), want);
-        assert_eq!(rt; got.result, Ok(1));
+        same(&rt, &got.written.as_slice(), &want);
+        same(&rt, &got.result, &Ok(1));
     }
 
     // A refused item has no body either where its method is HEAD.
     let got = run(rt.alloc(), b"HEAD /people HTTP/1.1\r\n\r\n", WHOLE);
     let want =
         b"HTTP/1.1 400 Bad Request\r\ncontent-type: application/json\r\ncontent-length: 29\r\nconnection: close\r\n\r\n";
-    assert_eq!(rt; got.written.as_slice(), want.as_slice());
+    same(&rt, &got.written.as_slice(), &want.as_slice());
     Ok(())
 }
 
@@ -148,12 +149,16 @@ fn expectations_and_closing(rt: HostRuntime) -> Result<(), Fail> {
         b"POST /people HTTP/1.1\r\nHost: l\r\nExpect: x, 100-Continue \r\nContent-Length: 2\r\n\r\n{}";
     let got = run(rt.alloc(), expecting, BYTES);
     let want = joined(rt.alloc(), &[b"HTTP/1.1 100 Continue\r\n\r\n", ACCEPTED])?;
-    assert_eq!(rt; got.written.as_slice(), want.as_slice());
+    same(&rt, &got.written.as_slice(), &want.as_slice());
 
     // It is written before the body is asked for: the last read, at the end of the input, saw it.
     let got = run(rt.alloc(), &expecting[..expecting.len() - 1], BYTES);
-    assert_eq!(rt; got.at_last_read, b"HTTP/1.1 100 Continue\r\n\r\n".len());
-    assert_eq!(rt; got.result, Ok(0));
+    same(
+        &rt,
+        &got.at_last_read,
+        &b"HTTP/1.1 100 Continue\r\n\r\n".len(),
+    );
+    same(&rt, &got.result, &Ok(0));
 
     let closing =
         b"HTTP/1.1 200 OK\r\ncontent-type: application/json\r\ncontent-length: 13\r\nconnection: close\r\n\r\n{\"people\":[]}";
@@ -164,9 +169,9 @@ fn expectations_and_closing(rt: HostRuntime) -> Result<(), Fail> {
     for row in rows {
         let input = joined(rt.alloc(), &[row, POST])?;
         let got = run(rt.alloc(), &input, WHOLE);
-        assert_eq!(rt; got.written.as_slice(), closing.as_slice());
-        assert_eq!(rt; got.result, Ok(1));
-        assert_eq!(rt; got.accepted, 0);
+        same(&rt, &got.written.as_slice(), &closing.as_slice());
+        same(&rt, &got.result, &Ok(1));
+        same(&rt, &got.accepted, &0);
     }
     Ok(())
 }

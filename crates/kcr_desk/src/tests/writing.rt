@@ -1,4 +1,5 @@
 //! When answers are written, and what stands after a write that failed.
+use super::asserts::same;
 use super::desk::{ACCEPTED, BYTES, GET, POST, Streams, WHOLE, joined, run};
 use crate::fault::DeskFault;
 use std::test::Fail;
@@ -6,7 +7,7 @@ use std::test::Fail;
 #[test]
 fn answers_before_it_reads_on(rt: HostRuntime) -> Result<(), Fail> {
     let got = run(rt.alloc(), POST, BYTES);
-    assert_eq!(rt; got.at_last_read, ACCEPTED.len());
+    same(&rt, &got.at_last_read, &ACCEPTED.len());
     Ok(())
 }
 
@@ -14,7 +15,7 @@ fn answers_before_it_reads_on(rt: HostRuntime) -> Result<(), Fail> {
 fn an_answer_is_one_write(rt: HostRuntime) -> Result<(), Fail> {
     let input = joined(rt.alloc(), &[POST, GET])?;
     let got = run(rt.alloc(), &input, WHOLE);
-    assert_eq!(rt; got.writes, 2);
+    same(&rt, &got.writes, &2);
     Ok(())
 }
 
@@ -22,12 +23,12 @@ fn an_answer_is_one_write(rt: HostRuntime) -> Result<(), Fail> {
 fn each_write_fails(rt: HostRuntime) -> Result<(), Fail> {
     for writes in 0..ACCEPTED.len() {
         let got = run(rt.alloc(), POST, Streams { writes, ..BYTES });
-        assert_eq!(rt; got.result, Err(DeskFault::Write));
-        assert_eq!(rt; got.written.as_slice(), &ACCEPTED[..writes]);
-        assert_eq!(rt; got.accepted, 1);
+        same(&rt, &got.result, &Err(DeskFault::Write));
+        same(&rt, &got.written.as_slice(), &&ACCEPTED[..writes]);
+        same(&rt, &got.accepted, &1);
     }
     let got = run(rt.alloc(), POST, Streams { writes: 0, ..WHOLE });
-    assert_eq!(rt; got.result, Err(DeskFault::Write));
-    assert_eq!(rt; got.accepted, 1);
+    same(&rt, &got.result, &Err(DeskFault::Write));
+    same(&rt, &got.accepted, &1);
     Ok(())
 }

@@ -1,6 +1,7 @@
 ghost use Rattle.std.specs.Prelude.{◌≡◌, ◌≤◌, ◌+◌, ◌*◌, ◌<◌, ◌==◌, ◌||◌, ◌&&◌, length, nat_lt, slice_index_or, false};
 
-use super::*;
+use kcr_seats::*;
+use std::alloc::{AllocError, Global};
 use std::cell::Cell;
 use std::process::Abort;
 use std::test::Fail;

@@ -1,5 +1,6 @@
-use crate::{read_again, read_script, read_seats, write_seats};
+use crate::asserts::{counts, holds, same};
 use kcr_base::Refusal;
+use kcr_script::{read_again, read_script, read_seats, write_seats};
 use std::test::Fail;
 
 /// The row of refusal 19, 0 where the text is a script.
@@ -25,9 +26,9 @@ fn seat_texts(rt: HostRuntime) -> Result<(), Fail> {
         ("RKSH*7;RKSH*7;RKSH*2", "RKSH*7;RKSH*7;RKSH*2"),
     ] {
         let seats = read_seats(alloc, text.as_bytes())?.ok_or("seats")?;
-        assert_eq!(rt; write_seats(alloc, &seats)?.as_str(), written);
+        same(&rt, &write_seats(alloc, &seats)?.as_str(), &written);
         let again = read_again(alloc, &seats)?.ok_or("again")?;
-        assert_eq!(rt; again.as_slice().len(), seats.as_slice().len());
+        same(&rt, &again.as_slice().len(), &seats.as_slice().len());
     }
     for text in [
         "",
@@ -46,7 +47,7 @@ fn seat_texts(rt: HostRuntime) -> Result<(), Fail> {
         "CA;;IW",
         "CO*7;CO*7;CO*3",
     ] {
-        assert!(rt; read_seats(alloc, text.as_bytes())?.is_none(), "{text}");
+        holds(&rt, read_seats(alloc, text.as_bytes())?.is_none(), text);
     }
     Ok(())
 }
@@ -60,9 +61,13 @@ fn scripts(rt: HostRuntime) -> Result<(), Fail> {
         Err(_) => return Err(Fail::from("script")),
     };
     let steps = script.as_slice();
-    assert_eq!(rt; steps.len(), 1);
-    assert_eq!(rt; steps[0].activity.as_str(), "Read, and check");
-    assert_eq!(rt; write_seats(alloc, &steps[0].seats)?.as_str(), "CA;IW");
+    counts(&rt, steps.len(), 1);
+    same(&rt, &steps[0].activity.as_str(), &"Read, and check");
+    same(
+        &rt,
+        &write_seats(alloc, &steps[0].seats)?.as_str(),
+        &"CA;IW",
+    );
     for (text, row) in [
         ("", 1),
         ("step,activity,seats\n", 2),
@@ -84,7 +89,7 @@ fn scripts(rt: HostRuntime) -> Result<(), Fail> {
         ("step,activity,seats\n1,A,CO*7;CO*7;CO*2\n", 0),
         ("step,activity,seats\n1,A,CO*7;CO*7;CO*3\n", 2),
     ] {
-        assert_eq!(rt; row_of(alloc, text), row, "{text}");
+        same(&rt, &row_of(alloc, text), &row);
     }
     Ok(())
 }
@@ -96,9 +101,10 @@ fn ends_of_ranges(rt: HostRuntime) -> Result<(), Fail> {
     for k in 1..=401u32 {
         write!(text, "{k},A,CA\n")?;
         if k >= 399 {
-            assert_eq!(rt;
-                row_of(alloc, text.as_str()),
-                if k == 401 { 402 } else { 0 }
+            same(
+                &rt,
+                &row_of(alloc, text.as_str()),
+                &(if k == 401 { 402 } else { 0 }),
             );
         }
     }
@@ -108,7 +114,7 @@ fn ends_of_ranges(rt: HostRuntime) -> Result<(), Fail> {
             text.push('a')?;
         }
         text.push_str(",CA\n")?;
-        assert_eq!(rt; row_of(alloc, text.as_str()), row);
+        same(&rt, &row_of(alloc, text.as_str()), &row);
     }
     Ok(())
 }

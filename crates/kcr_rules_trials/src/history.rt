@@ -1,24 +1,18 @@
 //! Texts of commands and answers, and what commands ask for.
-use crate::{
-    Act, Answer, Command, Items, People, Rows, answer_text, asks, command_text, fixed_text,
-    refusal_text,
-};
+use crate::asserts::{holds, same};
+use crate::values::{day, initials};
 use kcr_base::{
     Absentee, Day, Facility, Initials, ItemCode, Key, Member, Moment, Part, Place, Positions,
     Refusal, Remark, Role, Serial, Text, Thing,
 };
 use kcr_custody::{SafeNumber, Store};
+use kcr_history::{
+    Act, Answer, Command, Items, People, Rows, answer_text, asks, command_text, fixed_text,
+    refusal_text,
+};
 use kcr_room::Way;
 use std::alloc::Global;
 use std::test::Fail;
-
-fn initials(text: &str) -> Result<Initials, Fail> {
-    Ok(Initials::read(text.as_bytes()).ok_or("initials")?)
-}
-
-fn day(text: &str) -> Result<Day, Fail> {
-    Ok(Day::read(text.as_bytes()).ok_or("a day")?)
-}
 
 fn evening() -> Result<Moment, Fail> {
     Ok(Moment::read(b"2025-02-13T20:05:00Z").ok_or("a moment")?)
@@ -52,9 +46,10 @@ fn texts_of_commands_on_people(rt: HostRuntime) -> Result<(), Fail> {
         until: day("2025-02-13")?,
     };
     let text = command_text(alloc, &trained)?;
-    assert_eq!(rt;
-        text.as_str(),
-        "/people/AA/roles\nSSC1\n2025-01-01\n2025-02-13"
+    same(
+        &rt,
+        &text.as_str(),
+        &"/people/AA/roles\nSSC1\n2025-01-01\n2025-02-13",
     );
     let withdrawn = Act::Withdraw {
         who: initials("AA")?,
@@ -62,16 +57,21 @@ fn texts_of_commands_on_people(rt: HostRuntime) -> Result<(), Fail> {
         day: day("2025-02-14")?,
     };
     let text = command_text(alloc, &withdrawn)?;
-    assert_eq!(rt; text.as_str(), "/people/AA/withdrawals\nCA\n2025-02-14");
+    same(
+        &rt,
+        &text.as_str(),
+        &"/people/AA/withdrawals\nCA\n2025-02-14",
+    );
     let replaced = Act::Replace {
         place: Place::read(b"CO-EAST-2").ok_or("a place")?,
         who: initials("CC")?,
         day: day("2025-02-14")?,
     };
     let text = command_text(alloc, &replaced)?;
-    assert_eq!(rt;
-        text.as_str(),
-        "/custodians/CO-EAST-2/replacement\nCC\n2025-02-14"
+    same(
+        &rt,
+        &text.as_str(),
+        &"/custodians/CO-EAST-2/replacement\nCC\n2025-02-14",
     );
     Ok(())
 }
@@ -86,9 +86,10 @@ fn texts_of_commands_in_a_ceremony(rt: HostRuntime) -> Result<(), Fail> {
         at: evening()?,
     };
     let text = command_text(alloc, &sheet)?;
-    assert_eq!(rt;
-        text.as_str(),
-        "/ceremonies/61/sheet\nin\nBB,AA\n2025-02-13T20:05:00Z"
+    same(
+        &rt,
+        &text.as_str(),
+        &"/ceremonies/61/sheet\nin\nBB,AA\n2025-02-13T20:05:00Z",
     );
     let excepted = Act::Except {
         ceremony: 61,
@@ -97,9 +98,10 @@ fn texts_of_commands_in_a_ceremony(rt: HostRuntime) -> Result<(), Fail> {
         at: evening()?,
     };
     let text = command_text(alloc, &excepted)?;
-    assert_eq!(rt;
-        text.as_str(),
-        "/ceremonies/61/exceptions\nRead twice\ntrue\n2025-02-13T20:05:00Z"
+    same(
+        &rt,
+        &text.as_str(),
+        &"/ceremonies/61/exceptions\nRead twice\ntrue\n2025-02-13T20:05:00Z",
     );
     let signed = Act::Sign {
         ceremony: 61,
@@ -107,9 +109,10 @@ fn texts_of_commands_in_a_ceremony(rt: HostRuntime) -> Result<(), Fail> {
         at: evening()?,
     };
     let text = command_text(alloc, &signed)?;
-    assert_eq!(rt;
-        text.as_str(),
-        "/ceremonies/61/steps/400/signature\n2025-02-13T20:05:00Z"
+    same(
+        &rt,
+        &text.as_str(),
+        &"/ceremonies/61/steps/400/signature\n2025-02-13T20:05:00Z",
     );
     Ok(())
 }
@@ -125,9 +128,10 @@ fn texts_of_commands_on_custody(rt: HostRuntime) -> Result<(), Fail> {
         at: evening()?,
     };
     let text = command_text(alloc, &turned)?;
-    assert_eq!(rt;
-        text.as_str(),
-        "/ceremonies/61/safes/2\nfalse\nDD\n2025-02-13T20:05:00Z"
+    same(
+        &rt,
+        &text.as_str(),
+        &"/ceremonies/61/safes/2\nfalse\nDD\n2025-02-13T20:05:00Z",
     );
     let sealed = Act::Seal {
         ceremony: 61,
@@ -136,9 +140,10 @@ fn texts_of_commands_on_custody(rt: HostRuntime) -> Result<(), Fail> {
         at: evening()?,
     };
     let text = command_text(alloc, &sealed)?;
-    assert_eq!(rt;
-        text.as_str(),
-        "/ceremonies/61/bags/BB51184287/seal\nHSM4,CARD7\n2025-02-13T20:05:00Z"
+    same(
+        &rt,
+        &text.as_str(),
+        &"/ceremonies/61/bags/BB51184287/seal\nHSM4,CARD7\n2025-02-13T20:05:00Z",
     );
     let put = Act::Put {
         ceremony: 61,
@@ -147,9 +152,10 @@ fn texts_of_commands_on_custody(rt: HostRuntime) -> Result<(), Fail> {
         at: evening()?,
     };
     let text = command_text(alloc, &put)?;
-    assert_eq!(rt;
-        text.as_str(),
-        "/ceremonies/61/bags/BB51184287/put\n9999\n2025-02-13T20:05:00Z"
+    same(
+        &rt,
+        &text.as_str(),
+        &"/ceremonies/61/bags/BB51184287/put\n9999\n2025-02-13T20:05:00Z",
     );
     Ok(())
 }
@@ -164,7 +170,7 @@ fn texts_of_answers(rt: HostRuntime) -> Result<(), Fail> {
         step: None,
     };
     let text = answer_text(alloc, &plain)?;
-    assert_eq!(rt; text.as_str(), "{\"accepted\":4000000000}");
+    same(&rt, &text.as_str(), &"{\"accepted\":4000000000}");
     let passed = Answer {
         accepted: 19,
         exception: Some(1),
@@ -172,9 +178,10 @@ fn texts_of_answers(rt: HostRuntime) -> Result<(), Fail> {
         step: Some(2),
     };
     let text = answer_text(alloc, &passed)?;
-    assert_eq!(rt;
-        text.as_str(),
-        "{\"accepted\":19,\"exception\":1,\"seating\":[\"BB\",\"AA\"],\"step\":2}"
+    same(
+        &rt,
+        &text.as_str(),
+        &"{\"accepted\":19,\"exception\":1,\"seating\":[\"BB\",\"AA\"],\"step\":2}",
     );
     Ok(())
 }
@@ -200,14 +207,14 @@ fn what_commands_ask_for(rt: HostRuntime) -> Result<(), Fail> {
         who: two_people(alloc)?,
         at: evening()?,
     };
-    assert_eq!(rt; asks_for_people(alloc, sheet)?, 2);
+    same(&rt, &asks_for_people(alloc, sheet)?, &2);
     let planned = Act::Plan {
         number: 61,
         facility: Facility::East,
         day: day("2025-02-13")?,
         script: Text::copy_of(alloc, "step,activity,seats")?,
     };
-    assert_eq!(rt; asks_for_people(alloc, planned)?, 0);
+    same(&rt, &asks_for_people(alloc, planned)?, &0);
     Ok(())
 }
 
@@ -216,10 +223,10 @@ fn lists_keep_their_order(rt: HostRuntime) -> Result<(), Fail> {
     let alloc = rt.alloc();
     let people = two_people(alloc)?.into_vec();
     let first = people.first().ok_or("a person")?;
-    assert_eq!(rt; first.as_str(), "BB");
+    same(&rt, &first.as_str(), &"BB");
     let items = two_items(alloc)?.into_vec();
     let last = items.last().ok_or("an item")?;
-    assert_eq!(rt; last.as_str(), "CARD7");
+    same(&rt, &last.as_str(), &"CARD7");
     Ok(())
 }
 
@@ -283,20 +290,27 @@ fn texts_of_refusals(rt: HostRuntime) -> Result<(), Fail> {
             "{\"number\":32,\"refusal\":\"short\",\"seats\":[1,2]}",
         ),
     ] {
-        assert_eq!(rt; refusal_text(alloc, &refusal)?.as_str(), text);
+        same(&rt, &refusal_text(alloc, &refusal)?.as_str(), &text);
     }
-    assert_eq!(rt;
-        fixed_text(&Refusal::Memory).ok_or("33")?,
-        "{\"number\":33,\"refusal\":\"memory\"}"
+    same(
+        &rt,
+        &fixed_text(&Refusal::Memory).ok_or("33")?,
+        &"{\"number\":33,\"refusal\":\"memory\"}",
     );
-    assert_eq!(rt;
-        fixed_text(&Refusal::Disk).ok_or("34")?,
-        "{\"number\":34,\"refusal\":\"disk\"}"
+    same(
+        &rt,
+        &fixed_text(&Refusal::Disk).ok_or("34")?,
+        &"{\"number\":34,\"refusal\":\"disk\"}",
     );
-    assert_eq!(rt;
-        fixed_text(&Refusal::Broken).ok_or("35")?,
-        "{\"number\":35,\"refusal\":\"broken\"}"
+    same(
+        &rt,
+        &fixed_text(&Refusal::Broken).ok_or("35")?,
+        &"{\"number\":35,\"refusal\":\"broken\"}",
     );
-    assert!(rt; fixed_text(&Refusal::Turn { who }).is_none());
+    holds(
+        &rt,
+        fixed_text(&Refusal::Turn { who }).is_none(),
+        "a refusal that names someone",
+    );
     Ok(())
 }

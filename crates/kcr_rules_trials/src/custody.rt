@@ -1,10 +1,11 @@
 ghost use Rattle.std.specs.Prelude.{◌<◌};
 
-use crate::{
+use crate::asserts::{counts, holds, same};
+use kcr_base::{Absentee, Facility, Initials, ItemCode, Moment, Place, Refusal, Serial, Thing};
+use kcr_custody::{
     Bag, BoxRow, Item, Keeper, Moved, Rest, SafeNumber, SafeRow, Scene, Spot, Store, add_box,
     add_item, cut, open_safe, place_for_put, place_for_take, put, seal, shut_safe, take,
 };
-use kcr_base::{Absentee, Facility, Initials, ItemCode, Moment, Place, Refusal, Serial, Thing};
 use std::test::Fail;
 
 /// 2025-02-13T20:00:00Z.
@@ -96,46 +97,65 @@ fn a_serial_is_sealed_once(rt: HostRuntime) -> Result<(), Fail> {
     let second = Serial::read(b"BB51184288").ok_or("serial")?;
     let code = ItemCode::read(b"HSM4").ok_or("item")?;
     let added = add_item(&scene(6, 0)?, &[], code).ok().ok_or("item")?;
-    assert!(rt; added.rest == Rest::Loose(Facility::East));
-    assert_eq!(rt;
-        told_of_item(&add_item(&scene(6, 6)?, &[added], code)),
-        "taken"
+    holds(
+        &rt,
+        added.rest == Rest::Loose(Facility::East),
+        "a new item lies loose",
+    );
+    same(
+        &rt,
+        &told_of_item(&add_item(&scene(6, 6)?, &[added], code)),
+        &"taken",
     );
     let sealed = seal(alloc, &scene(7, 6)?, &[], &[added], first, &[code])
         .ok()
         .ok_or("seal")?;
-    assert!(rt; sealed.bag.spot == Spot::Table(Facility::East));
-    assert_eq!(rt; sealed.items.as_slice().len(), 1);
-    assert!(rt; sealed.items.as_slice()[0].rest == Rest::Within(first));
+    holds(
+        &rt,
+        sealed.bag.spot == Spot::Table(Facility::East),
+        "a sealed bag lies on the table",
+    );
+    counts(&rt, sealed.items.as_slice().len(), 1);
+    holds(
+        &rt,
+        sealed.items.as_slice()[0].rest == Rest::Within(first),
+        "its item lies within",
+    );
     let bags = [sealed.bag];
-    assert_eq!(rt;
-        told_of_items(&seal(
+    same(
+        &rt,
+        &told_of_items(&seal(
             alloc,
             &scene(7, 6)?,
             &bags,
             sealed.items.as_slice(),
             second,
-            &[code]
+            &[code],
         )),
-        "where"
+        &"where",
     );
     let spent = cut(alloc, &scene(8, 7)?, &bags, sealed.items.as_slice(), first)
         .ok()
         .ok_or("cut")?;
-    assert!(rt; spent.bag.spot == Spot::Spent);
-    assert_eq!(rt; spent.items.as_slice().len(), 1);
-    assert!(rt; spent.items.as_slice()[0].rest == Rest::Loose(Facility::East));
+    holds(&rt, spent.bag.spot == Spot::Spent, "a cut bag is spent");
+    counts(&rt, spent.items.as_slice().len(), 1);
+    holds(
+        &rt,
+        spent.items.as_slice()[0].rest == Rest::Loose(Facility::East),
+        "its item lies loose",
+    );
     let bags = [spent.bag];
-    assert_eq!(rt;
-        told_of_items(&seal(
+    same(
+        &rt,
+        &told_of_items(&seal(
             alloc,
             &scene(9, 8)?,
             &bags,
             spent.items.as_slice(),
             first,
-            &[code]
+            &[code],
         )),
-        "taken"
+        &"taken",
     );
     let anew = seal(
         alloc,
@@ -147,9 +167,13 @@ fn a_serial_is_sealed_once(rt: HostRuntime) -> Result<(), Fail> {
     )
     .ok()
     .ok_or("seal")?;
-    assert!(rt; anew.bag.spot == Spot::Table(Facility::East));
+    holds(
+        &rt,
+        anew.bag.spot == Spot::Table(Facility::East),
+        "a bag sealed anew lies on the table",
+    );
     let rows = anew.items.into_vec();
-    assert_eq!(rt; rows.len(), 1);
+    counts(&rt, rows.len(), 1);
     Ok(())
 }
 
@@ -169,9 +193,9 @@ fn boxes_are_added(rt: HostRuntime) -> Result<(), Fail> {
     let row = box_row(Facility::East, 3, b"CO-EAST-1").ok_or("place")?;
     let boxes = [added(&[], row).ok_or("box")?];
     let second = box_row(Facility::West, 4, b"CO-EAST-1").ok_or("place")?;
-    assert_eq!(rt; told_of_adding(&boxes, second), "taken");
+    same(&rt, &told_of_adding(&boxes, second), &"taken");
     let third = box_row(Facility::East, 4, b"CO-WEST-3").ok_or("place")?;
-    assert_eq!(rt; told_of_adding(&boxes, third), "range");
+    same(&rt, &told_of_adding(&boxes, third), &"range");
     Ok(())
 }
 
@@ -218,7 +242,7 @@ fn told_of_shutting(scene: &Scene, safes: &[SafeRow]) -> &'static str {
 #[test]
 fn safes_are_turned(rt: HostRuntime) -> Result<(), Fail> {
     let opening = Moment::from_number(OPENING).ok_or("moment")?;
-    assert_eq!(rt; opening.text(), *b"2025-02-13T20:00:00Z");
+    same(&rt, &opening.text(), b"2025-02-13T20:00:00Z");
     let closed = [
         safe_row(SafeNumber::One, false),
         safe_row(SafeNumber::Two, false),
@@ -227,24 +251,28 @@ fn safes_are_turned(rt: HostRuntime) -> Result<(), Fail> {
         safe_row(SafeNumber::One, false),
         safe_row(SafeNumber::Two, true),
     ];
-    assert_eq!(rt;
-        told_of_opening(&scene(8, 7)?, &closed, SafeNumber::Two, false),
-        "absent person"
+    same(
+        &rt,
+        &told_of_opening(&scene(8, 7)?, &closed, SafeNumber::Two, false),
+        &"absent person",
     );
-    assert_eq!(rt;
-        told_of_opening(&scene(8, 7)?, &closed, SafeNumber::One, true),
-        "absent person"
+    same(
+        &rt,
+        &told_of_opening(&scene(8, 7)?, &closed, SafeNumber::One, true),
+        &"absent person",
     );
-    assert_eq!(rt;
-        told_of_opening(&scene(8, 7)?, &closed, SafeNumber::Two, true),
-        ""
+    same(
+        &rt,
+        &told_of_opening(&scene(8, 7)?, &closed, SafeNumber::Two, true),
+        &"",
     );
-    assert_eq!(rt;
-        told_of_opening(&scene(8, 7)?, &open, SafeNumber::Two, true),
-        "safe"
+    same(
+        &rt,
+        &told_of_opening(&scene(8, 7)?, &open, SafeNumber::Two, true),
+        &"safe",
     );
-    assert_eq!(rt; told_of_shutting(&scene(8, 7)?, &open), "");
-    assert_eq!(rt; told_of_shutting(&scene(8, 7)?, &closed), "safe");
+    same(&rt, &told_of_shutting(&scene(8, 7)?, &open), &"");
+    same(&rt, &told_of_shutting(&scene(8, 7)?, &closed), &"safe");
     Ok(())
 }
 
@@ -260,30 +288,36 @@ fn a_bag_goes_into_a_box(rt: HostRuntime) -> Result<(), Fail> {
         serial,
         spot: Spot::Table(Facility::East),
     }];
-    assert!(rt; place_for_put(&boxes, Facility::East, Store::Boxed(3)).is_some());
-    assert_eq!(rt;
-        told_of_bag(&put(
+    holds(
+        &rt,
+        place_for_put(&boxes, Facility::East, Store::Boxed(3)).is_some(),
+        "a box for the bag",
+    );
+    same(
+        &rt,
+        &told_of_bag(&put(
             &scene(8, 7)?,
             &shut,
             &boxes,
             &bags,
             serial,
             Store::Boxed(3),
-            true
+            true,
         )),
-        "safe"
+        &"safe",
     );
-    assert_eq!(rt;
-        told_of_bag(&put(
+    same(
+        &rt,
+        &told_of_bag(&put(
             &scene(8, 7)?,
             &shut,
             &boxes,
             &bags,
             serial,
             Store::Boxed(5),
-            true
+            true,
         )),
-        "unknown box"
+        &"unknown box",
     );
     let stored = put(
         &scene(9, 8)?,
@@ -296,33 +330,49 @@ fn a_bag_goes_into_a_box(rt: HostRuntime) -> Result<(), Fail> {
     )
     .ok()
     .ok_or("put")?;
-    assert!(rt; stored.spot == Spot::InBox(Facility::East, 3));
+    holds(
+        &rt,
+        stored.spot == Spot::InBox(Facility::East, 3),
+        "a bag that is put lies in its box",
+    );
     let bags = [stored];
     let items = [Item {
         code,
         rest: Rest::Within(serial),
     }];
-    assert_eq!(rt;
-        told_of_items(&cut(alloc, &scene(9, 9)?, &bags, &items, serial)),
-        "where"
+    same(
+        &rt,
+        &told_of_items(&cut(alloc, &scene(9, 9)?, &bags, &items, serial)),
+        &"where",
     );
-    assert!(rt; place_for_take(&boxes, &bags, Facility::East, serial).is_some());
-    assert_eq!(rt;
-        told_of_bag(&take(&scene(11, 9)?, &open, &boxes, &bags, serial, false)),
-        "absent place"
+    holds(
+        &rt,
+        place_for_take(&boxes, &bags, Facility::East, serial).is_some(),
+        "a bag that can be taken",
     );
-    assert_eq!(rt;
-        told_of_bag(&take(&scene(11, 9)?, &shut, &boxes, &bags, serial, true)),
-        "safe"
+    same(
+        &rt,
+        &told_of_bag(&take(&scene(11, 9)?, &open, &boxes, &bags, serial, false)),
+        &"absent place",
     );
-    assert_eq!(rt;
-        told_of_bag(&take(&scene(8, 9)?, &open, &boxes, &bags, serial, true)),
-        "late"
+    same(
+        &rt,
+        &told_of_bag(&take(&scene(11, 9)?, &shut, &boxes, &bags, serial, true)),
+        &"safe",
+    );
+    same(
+        &rt,
+        &told_of_bag(&take(&scene(8, 9)?, &open, &boxes, &bags, serial, true)),
+        &"late",
     );
     let taken = take(&scene(11, 9)?, &open, &boxes, &bags, serial, true)
         .ok()
         .ok_or("take")?;
-    assert!(rt; taken.spot == Spot::Table(Facility::East));
+    holds(
+        &rt,
+        taken.spot == Spot::Table(Facility::East),
+        "a taken bag lies on the table",
+    );
     Ok(())
 }
 
@@ -336,8 +386,8 @@ fn spots_are_written_and_read(rt: HostRuntime) -> Result<(), Fail> {
         (Spot::InBox(Facility::West, 9999), "box 9999 WEST"),
         (Spot::Spent, "spent"),
     ] {
-        assert_eq!(rt; spot.text(alloc)?.as_str(), text);
-        assert!(rt; Spot::read(text.as_bytes()) == Some(spot));
+        same(&rt, &spot.text(alloc)?.as_str(), &text);
+        holds(&rt, Spot::read(text.as_bytes()) == Some(spot), text);
     }
     for text in [
         "box 0 EAST",
@@ -348,7 +398,7 @@ fn spots_are_written_and_read(rt: HostRuntime) -> Result<(), Fail> {
         "table",
         "spent ",
     ] {
-        assert!(rt; Spot::read(text.as_bytes()).is_none());
+        holds(&rt, Spot::read(text.as_bytes()).is_none(), text);
     }
     Ok(())
 }

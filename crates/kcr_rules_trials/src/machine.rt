@@ -1,43 +1,12 @@
 //! Commands decided one after the other, the rows of each put into the view for the next.
-use crate::decide;
+use crate::asserts::{counts, holds, same};
+use crate::values::{day, empty_view, initials, place};
 use kcr_base::{Day, Initials, Key, Moment, Name, Place, Refusal, Role};
 use kcr_history::{Act, Change, Command, MarkRow, Verdict, View};
+use kcr_machine::decide;
 use kcr_people::{Appointment, Withdrawal};
 use std::alloc::Global;
 use std::test::Fail;
-
-fn empty(alloc: Global) -> View {
-    View {
-        people: Vec::new(alloc),
-        trainings: Vec::new(alloc),
-        withdrawals: Vec::new(alloc),
-        appointments: Vec::new(alloc),
-        boxes: Vec::new(alloc),
-        safes: Vec::new(alloc),
-        bags: Vec::new(alloc),
-        items: Vec::new(alloc),
-        ceremonies: Vec::new(alloc),
-        marks: Vec::new(alloc),
-        steps: Vec::new(alloc),
-        seatings: Vec::new(alloc),
-        sheet: Vec::new(alloc),
-        stays: Vec::new(alloc),
-        exceptions: Vec::new(alloc),
-        keys: Vec::new(alloc),
-    }
-}
-
-fn initials(text: &str) -> Result<Initials, Fail> {
-    Ok(Initials::read(text.as_bytes()).ok_or("initials")?)
-}
-
-fn place(text: &str) -> Result<Place, Fail> {
-    Ok(Place::read(text.as_bytes()).ok_or("a place")?)
-}
-
-fn day(text: &str) -> Result<Day, Fail> {
-    Ok(Day::read(text.as_bytes()).ok_or("a day")?)
-}
 
 fn enter(alloc: Global, who: &str, name: &str) -> Result<Act, Fail> {
     Ok(Act::Enter {
@@ -156,7 +125,7 @@ fn number_of(refusal: &Refusal) -> u8 {
 
 /// Three people; AA is trained, CC holds CO-EAST-1.
 fn with_a_holder(alloc: Global) -> Result<View, Fail> {
-    let mut view = empty(alloc);
+    let mut view = empty_view(alloc);
     told(alloc, &mut view, "k1", enter(alloc, "AA", "Ann Abel")?)?;
     told(alloc, &mut view, "k2", enter(alloc, "CC", "Cole, Cy")?)?;
     told(alloc, &mut view, "k3", enter(alloc, "DD", "Dan Dahl")?)?;
@@ -179,38 +148,39 @@ fn with_a_holder(alloc: Global) -> Result<View, Fail> {
 fn custodians(rt: HostRuntime) -> Result<(), Fail> {
     let alloc = rt.alloc();
     let mut view = with_a_holder(alloc)?;
-    assert_eq!(rt; view.keys.len(), 5);
+    counts(&rt, view.keys.len(), 5);
     let apart = told(
         alloc,
         &mut view,
         "n1",
         appoint("CO-EAST-2", "AA", "2025-02-01")?,
     )?;
-    assert_eq!(rt; apart, -15);
+    same(&rt, &apart, &-15);
     let held = told(
         alloc,
         &mut view,
         "n2",
         replace("CO-EAST-1", "CC", "2025-02-01")?,
     )?;
-    assert_eq!(rt; held, -16);
+    same(&rt, &held, &-16);
     let vacant = told(
         alloc,
         &mut view,
         "n3",
         replace("CO-EAST-3", "DD", "2025-02-01")?,
     )?;
-    assert_eq!(rt; vacant, -17);
+    same(&rt, &vacant, &-17);
     let range = told(
         alloc,
         &mut view,
         "n4",
         replace("CO-EAST-1", "DD", "2025-01-01")?,
     )?;
-    assert_eq!(rt; range, -14);
-    assert_eq!(rt;
-        told(alloc, &mut view, "k6", release("CO-EAST-1", "2025-03-01")?)?,
-        6
+    same(&rt, &range, &-14);
+    same(
+        &rt,
+        &(told(alloc, &mut view, "k6", release("CO-EAST-1", "2025-03-01")?)?),
+        &6,
     );
     let still_held = told(
         alloc,
@@ -218,19 +188,28 @@ fn custodians(rt: HostRuntime) -> Result<(), Fail> {
         "n5",
         appoint("CO-EAST-1", "DD", "2025-02-01")?,
     )?;
-    assert_eq!(rt; still_held, -16);
-    assert_eq!(rt;
-        told(
+    same(&rt, &still_held, &-16);
+    same(
+        &rt,
+        &(told(
             alloc,
             &mut view,
             "k7",
-            appoint("CO-EAST-1", "DD", "2025-03-01")?
-        )?,
-        7
+            appoint("CO-EAST-1", "DD", "2025-03-01")?,
+        )?),
+        &7,
     );
-    assert_eq!(rt; view.appointments.len(), 2);
-    assert!(rt; view.appointments[0].until == Some(day("2025-03-01")?));
-    assert!(rt; view.appointments[1].until.is_none());
+    counts(&rt, view.appointments.len(), 2);
+    holds(
+        &rt,
+        view.appointments[0].until == Some(day("2025-03-01")?),
+        "the end of the old row",
+    );
+    holds(
+        &rt,
+        view.appointments[1].until.is_none(),
+        "the new row is open",
+    );
     Ok(())
 }
 
@@ -238,18 +217,23 @@ fn custodians(rt: HostRuntime) -> Result<(), Fail> {
 fn a_replacement_ends_the_row_before_it(rt: HostRuntime) -> Result<(), Fail> {
     let alloc = rt.alloc();
     let mut view = with_a_holder(alloc)?;
-    assert_eq!(rt;
-        told(
+    same(
+        &rt,
+        &(told(
             alloc,
             &mut view,
             "k6",
-            replace("CO-EAST-1", "DD", "2025-02-14")?
-        )?,
-        6
+            replace("CO-EAST-1", "DD", "2025-02-14")?,
+        )?),
+        &6,
     );
-    assert_eq!(rt; view.appointments.len(), 2);
-    assert!(rt; view.appointments[0].until == Some(day("2025-02-14")?));
-    assert_eq!(rt; view.appointments[1].who.as_str(), "DD");
+    counts(&rt, view.appointments.len(), 2);
+    holds(
+        &rt,
+        view.appointments[0].until == Some(day("2025-02-14")?),
+        "the end of the old row",
+    );
+    same(&rt, &view.appointments[1].who.as_str(), &"DD");
     Ok(())
 }
 
@@ -271,15 +255,16 @@ fn a_settled_day_is_refused(rt: HostRuntime) -> Result<(), Fail> {
         "n1",
         replace("CO-EAST-1", "DD", "2025-02-13")?,
     )?;
-    assert_eq!(rt; settled, -18);
-    assert_eq!(rt;
-        told(
+    same(&rt, &settled, &-18);
+    same(
+        &rt,
+        &(told(
             alloc,
             &mut view,
             "k6",
-            replace("CO-EAST-1", "DD", "2025-02-14")?
-        )?,
-        6
+            replace("CO-EAST-1", "DD", "2025-02-14")?,
+        )?),
+        &6,
     );
     Ok(())
 }
@@ -288,61 +273,84 @@ fn a_settled_day_is_refused(rt: HostRuntime) -> Result<(), Fail> {
 fn a_withdrawal_bears_on_what_ends_later(rt: HostRuntime) -> Result<(), Fail> {
     let alloc = rt.alloc();
     let mut view = with_a_holder(alloc)?;
-    assert_eq!(rt;
-        told(
+    same(
+        &rt,
+        &(told(
             alloc,
             &mut view,
             "k6",
-            train("AA", "2025-06-01", "2025-12-31")?
-        )?,
-        6
+            train("AA", "2025-06-01", "2025-12-31")?,
+        )?),
+        &6,
     );
-    assert_eq!(rt;
-        told(
+    same(
+        &rt,
+        &(told(
             alloc,
             &mut view,
             "k7",
-            withdraw("AA", Role::Ca, "2025-02-14")?
-        )?,
-        7
+            withdraw("AA", Role::Ca, "2025-02-14")?,
+        )?),
+        &7,
     );
-    assert_eq!(rt; view.withdrawals.len(), 1);
-    assert!(rt; view.withdrawals[0].since == day("2025-06-01")?);
-    assert!(rt; view.withdrawals[0].day == day("2025-02-14")?);
-    assert_eq!(rt;
-        told(
+    counts(&rt, view.withdrawals.len(), 1);
+    holds(
+        &rt,
+        view.withdrawals[0].since == day("2025-06-01")?,
+        "the later training is the first row",
+    );
+    holds(
+        &rt,
+        view.withdrawals[0].day == day("2025-02-14")?,
+        "its withdrawal from 14 February",
+    );
+    same(
+        &rt,
+        &(told(
             alloc,
             &mut view,
             "k8",
-            withdraw("AA", Role::Ca, "2025-02-01")?
-        )?,
-        8
+            withdraw("AA", Role::Ca, "2025-02-01")?,
+        )?),
+        &8,
     );
-    assert_eq!(rt; view.withdrawals.len(), 2);
-    assert!(rt; view.withdrawals[0].day == day("2025-02-01")?);
-    assert!(rt; view.withdrawals[1].since == day("2025-01-01")?);
-    assert!(rt; view.withdrawals[1].day == day("2025-02-01")?);
+    counts(&rt, view.withdrawals.len(), 2);
+    holds(
+        &rt,
+        view.withdrawals[0].day == day("2025-02-01")?,
+        "its withdrawal from 1 February",
+    );
+    holds(
+        &rt,
+        view.withdrawals[1].since == day("2025-01-01")?,
+        "the earlier training is the second row",
+    );
+    holds(
+        &rt,
+        view.withdrawals[1].day == day("2025-02-01")?,
+        "its withdrawal from 1 February",
+    );
     let vacant = told(
         alloc,
         &mut view,
         "n1",
         withdraw("AA", Role::Ca, "2025-02-01")?,
     )?;
-    assert_eq!(rt; vacant, -17);
+    same(&rt, &vacant, &-17);
     let other_role = told(
         alloc,
         &mut view,
         "n1",
         withdraw("AA", Role::Iw, "2025-01-15")?,
     )?;
-    assert_eq!(rt; other_role, -17);
+    same(&rt, &other_role, &-17);
     let unknown = told(
         alloc,
         &mut view,
         "n1",
         withdraw("BB", Role::Ca, "2025-01-15")?,
     )?;
-    assert_eq!(rt; unknown, -12);
+    same(&rt, &unknown, &-12);
     Ok(())
 }
 
@@ -360,75 +368,83 @@ fn a_withdrawal_is_not_before_a_settled_day(rt: HostRuntime) -> Result<(), Fail>
         "n1",
         withdraw("AA", Role::Ca, "2025-02-12")?,
     )?;
-    assert_eq!(rt; settled, -18);
+    same(&rt, &settled, &-18);
     let vacant = told(
         alloc,
         &mut view,
         "n1",
         withdraw("DD", Role::Ca, "2025-02-12")?,
     )?;
-    assert_eq!(rt; vacant, -17);
-    assert_eq!(rt;
-        told(
+    same(&rt, &vacant, &-17);
+    same(
+        &rt,
+        &(told(
             alloc,
             &mut view,
             "k6",
-            withdraw("AA", Role::Ca, "2025-02-13")?
-        )?,
-        6
+            withdraw("AA", Role::Ca, "2025-02-13")?,
+        )?),
+        &6,
     );
-    assert_eq!(rt; view.withdrawals.len(), 1);
+    counts(&rt, view.withdrawals.len(), 1);
     Ok(())
 }
 
 #[test]
 fn keys(rt: HostRuntime) -> Result<(), Fail> {
     let alloc = rt.alloc();
-    let mut view = empty(alloc);
-    assert_eq!(rt;
-        told(alloc, &mut view, "k1", enter(alloc, "AA", "Ann Abel")?)?,
-        1
+    let mut view = empty_view(alloc);
+    same(
+        &rt,
+        &(told(alloc, &mut view, "k1", enter(alloc, "AA", "Ann Abel")?)?),
+        &1,
     );
-    assert_eq!(rt;
-        told(alloc, &mut view, "k1", enter(alloc, "AA", "Ann Abel")?)?,
-        0
+    same(
+        &rt,
+        &(told(alloc, &mut view, "k1", enter(alloc, "AA", "Ann Abel")?)?),
+        &0,
     );
-    assert_eq!(rt;
-        told(alloc, &mut view, "k1", enter(alloc, "AA", "Ann B")?)?,
-        -11
+    same(
+        &rt,
+        &(told(alloc, &mut view, "k1", enter(alloc, "AA", "Ann B")?)?),
+        &-11,
     );
-    assert_eq!(rt;
-        told(alloc, &mut view, "k2", enter(alloc, "AA", "Ann B")?)?,
-        -13
+    same(
+        &rt,
+        &(told(alloc, &mut view, "k2", enter(alloc, "AA", "Ann B")?)?),
+        &-13,
     );
-    assert_eq!(rt;
-        told(
+    same(
+        &rt,
+        &(told(
             alloc,
             &mut view,
             "k2",
-            train("BB", "2025-01-01", "2025-02-13")?
-        )?,
-        -12
+            train("BB", "2025-01-01", "2025-02-13")?,
+        )?),
+        &-12,
     );
-    assert_eq!(rt;
-        told(
+    same(
+        &rt,
+        &(told(
             alloc,
             &mut view,
             "k2",
-            train("AA", "2025-01-01", "2025-02-13")?
-        )?,
-        2
+            train("AA", "2025-01-01", "2025-02-13")?,
+        )?),
+        &2,
     );
-    assert_eq!(rt;
-        told(
+    same(
+        &rt,
+        &(told(
             alloc,
             &mut view,
             "k3",
-            train("AA", "2025-01-01", "2025-02-13")?
-        )?,
-        -13
+            train("AA", "2025-01-01", "2025-02-13")?,
+        )?),
+        &-13,
     );
-    assert_eq!(rt; view.people.len(), 1);
-    assert_eq!(rt; view.keys.len(), 2);
+    counts(&rt, view.people.len(), 1);
+    counts(&rt, view.keys.len(), 2);
     Ok(())
 }

@@ -1,6 +1,8 @@
-use super::*;
+//! The register itself: its first commands, databases that are not its own, and stops at calls of its files.
+use crate::asserts::{counts, holds, same};
 use kcr_base::{Initials, Key, Name, Refusal};
 use kcr_history::{Act, Command};
+use kcr_store::{OpenFault, Question, Register, Shown};
 use sqlite::{Alter, Connection, FileStore, Files, MemStore, Options};
 use sqlite_disk::{Crash, Fuse, Memory};
 use std::alloc::Global;
@@ -33,22 +35,26 @@ fn first_commands(rt: HostRuntime) -> Result<(), Fail> {
     let alloc = rt.alloc();
     let mut register = Register::in_memory(alloc)?;
     let ann = enter(alloc, "k1", "AB", "Ann Abel")?;
-    assert_eq!(rt; told(&register.apply(&ann)), ("{\"accepted\":1}", 0));
-    assert_eq!(rt; told(&register.apply(&ann)), ("{\"accepted\":1}", 0));
+    same(&rt, &told(&register.apply(&ann)), &("{\"accepted\":1}", 0));
+    same(&rt, &told(&register.apply(&ann)), &("{\"accepted\":1}", 0));
     let Shown::People(people) = register.look(&Question::People)?;
-    assert_eq!(rt; people.len(), 1);
-    assert_eq!(rt; people[0].who.as_str(), "AB");
-    assert_eq!(rt; people[0].name.as_str(), "Ann Abel");
+    counts(&rt, people.len(), 1);
+    same(&rt, &people[0].who.as_str(), &"AB");
+    same(&rt, &people[0].name.as_str(), &"Ann Abel");
     let other = enter(alloc, "k1", "AB", "Ann B")?;
-    assert_eq!(rt; told(&register.apply(&other)), ("", 11));
+    same(&rt, &told(&register.apply(&other)), &("", 11));
     let again = enter(alloc, "k2", "AB", "Ann B")?;
-    assert_eq!(rt; told(&register.apply(&again)), ("", 13));
+    same(&rt, &told(&register.apply(&again)), &("", 13));
     let aaron = enter(alloc, "k2", "AA", "Aaron Ames")?;
-    assert_eq!(rt; told(&register.apply(&aaron)), ("{\"accepted\":2}", 0));
+    same(
+        &rt,
+        &told(&register.apply(&aaron)),
+        &("{\"accepted\":2}", 0),
+    );
     let Shown::People(people) = register.look(&Question::People)?;
-    assert_eq!(rt; people.len(), 2);
-    assert_eq!(rt; people[0].who.as_str(), "AA");
-    assert_eq!(rt; people[1].who.as_str(), "AB");
+    counts(&rt, people.len(), 2);
+    same(&rt, &people[0].who.as_str(), &"AA");
+    same(&rt, &people[1].who.as_str(), &"AB");
     Ok(())
 }
 
@@ -57,11 +63,11 @@ fn first_commands(rt: HostRuntime) -> Result<(), Fail> {
 fn a_broken_register(rt: HostRuntime) -> Result<(), Fail> {
     let alloc = rt.alloc();
     let mut register = Register::in_memory(alloc)?;
-    assert!(rt; !register.is_broken());
+    holds(&rt, !register.is_broken(), "no broken register");
     register.mark_broken();
-    assert!(rt; register.is_broken());
+    holds(&rt, register.is_broken(), "a register marked broken");
     let ann = enter(alloc, "k1", "AA", "Ann Abel")?;
-    assert_eq!(rt; told(&register.apply(&ann)), ("", 35));
+    same(&rt, &told(&register.apply(&ann)), &("", 35));
     Ok(())
 }
 
@@ -92,16 +98,18 @@ fn fault_over(alloc: Global, made: &str) -> Result<Option<OpenFault>, Fail> {
 #[test]
 fn other_databases(rt: HostRuntime) -> Result<(), Fail> {
     let alloc = rt.alloc();
-    assert_eq!(rt;
-        fault_over(alloc, "CREATE TABLE t (a INT)")?,
-        Some(OpenFault::Foreign)
+    same(
+        &rt,
+        &fault_over(alloc, "CREATE TABLE t (a INT)")?,
+        &Some(OpenFault::Foreign),
     );
-    assert_eq!(rt;
-        fault_over(
+    same(
+        &rt,
+        &(fault_over(
             alloc,
-            "CREATE TABLE versions (number INT NOT NULL, PRIMARY KEY (number)) STRICT; INSERT INTO versions VALUES (9)"
-        )?,
-        Some(OpenFault::Version)
+            "CREATE TABLE versions (number INT NOT NULL, PRIMARY KEY (number)) STRICT; INSERT INTO versions VALUES (9)",
+        )?),
+        &Some(OpenFault::Version),
     );
     Ok(())
 }
@@ -154,9 +162,9 @@ fn is_entered<S: Alter>(rt: &impl Abort, register: &mut Register<S>, command: &C
     if answer.is_ok() {
         return true;
     }
-    assert_eq!(rt; told(&answer), ("", 34));
-    assert!(rt; register.is_broken());
-    assert_eq!(rt; told(&register.apply(command)), ("", 35));
+    same(rt, &told(&answer), &("", 34));
+    holds(rt, register.is_broken(), "a broken register");
+    same(rt, &told(&register.apply(command)), &("", 35));
     false
 }
 
@@ -170,11 +178,19 @@ fn one_stop(rt: &impl Abort, alloc: Global, log: u64, db: u64) -> Result<Option<
     let is_accepted = is_entered(rt, &mut register, &bob);
     let mut again = reopen(alloc, files_of(register)).ok_or("the open after the crash")?;
     let Shown::People(there) = again.look(&Question::People)?;
-    assert!(rt; there.len() == 1 || there.len() == 2);
-    assert!(rt; there.len() == 2 || !is_accepted);
-    assert_eq!(rt; told(&again.apply(&bob)), ("{\"accepted\":2}", 0));
+    holds(
+        rt,
+        there.len() == 1 || there.len() == 2,
+        "one person, or two",
+    );
+    holds(
+        rt,
+        there.len() == 2 || !is_accepted,
+        "two where it was accepted",
+    );
+    same(rt, &told(&again.apply(&bob)), &("{\"accepted\":2}", 0));
     let Shown::People(there) = again.look(&Question::People)?;
-    assert_eq!(rt; there.len(), 2);
+    counts(rt, there.len(), 2);
     Ok(Some(is_accepted))
 }
 
@@ -200,13 +216,13 @@ fn sweep(rt: &impl Abort, alloc: Global, is_log: bool) -> Result<u64, Fail> {
 #[test]
 fn a_stop_at_calls_of_the_log(rt: HostRuntime) -> Result<(), Fail> {
     let stops = sweep(&rt, rt.alloc(), true)?;
-    assert!(rt; stops > 0);
+    holds(&rt, stops > 0, "some stops");
     Ok(())
 }
 
 // The command writes to the log alone.
 #[test]
 fn a_stop_at_calls_of_the_database(rt: HostRuntime) -> Result<(), Fail> {
-    assert_eq!(rt; sweep(&rt, rt.alloc(), false)?, 0);
+    same(&rt, &sweep(&rt, rt.alloc(), false)?, &0);
     Ok(())
 }

@@ -1,9 +1,10 @@
 //! Requests and answers by example.
-use crate::{Allow, Method, Paths, read_command, read_question, write_refusal, write_shown};
+use crate::asserts::{holds, same};
 use kcr_base::{Initials, Member, Name, Refusal};
 use kcr_history::Act;
 use kcr_people::Person;
 use kcr_store::{Question, Shown};
+use kcr_wire::{Allow, Method, Paths, read_command, read_question, write_refusal, write_shown};
 use std::alloc::Global;
 use std::test::Fail;
 
@@ -11,19 +12,33 @@ use std::test::Fail;
 fn questions(rt: HostRuntime) -> Result<(), Fail> {
     let paths = Paths::new(rt.alloc())?;
     let people = Ok(Question::People);
-    assert_eq!(rt; paths.read_question(Method::Get, b"/people"), people);
-    assert_eq!(rt; paths.read_question(Method::Head, b"/people"), people);
-    assert_eq!(rt; paths.read_question(Method::Get, b"/people?x=1"), people);
-    assert_eq!(rt; paths.read_question(Method::Get, b"/people?/?"), people);
-    assert_eq!(rt;
-        paths.read_question(Method::Post, b"/people"),
-        Err(Refusal::Method)
+    same(&rt, &paths.read_question(Method::Get, b"/people"), &people);
+    same(&rt, &paths.read_question(Method::Head, b"/people"), &people);
+    same(
+        &rt,
+        &paths.read_question(Method::Get, b"/people?x=1"),
+        &people,
     );
-    assert_eq!(rt;
-        paths.read_question(Method::Other, b"/people"),
-        Err(Refusal::Method)
+    same(
+        &rt,
+        &paths.read_question(Method::Get, b"/people?/?"),
+        &people,
     );
-    assert_eq!(rt; read_question(rt.alloc(), Method::Get, b"/people"), people);
+    same(
+        &rt,
+        &paths.read_question(Method::Post, b"/people"),
+        &Err(Refusal::Method),
+    );
+    same(
+        &rt,
+        &paths.read_question(Method::Other, b"/people"),
+        &Err(Refusal::Method),
+    );
+    same(
+        &rt,
+        &read_question(rt.alloc(), Method::Get, b"/people"),
+        &people,
+    );
     for target in [
         "",
         "/",
@@ -35,15 +50,13 @@ fn questions(rt: HostRuntime) -> Result<(), Fail> {
         "/%70eople",
         "http://l/people",
     ] {
-        assert_eq!(rt;
-            paths.read_question(Method::Get, target.as_bytes()),
-            Err(Refusal::Path),
-            "at {target}"
-        );
+        let question = paths.read_question(Method::Get, target.as_bytes());
+        holds(&rt, question == Err(Refusal::Path), target);
     }
-    assert_eq!(rt;
-        paths.read_question(Method::Other, b"/people\xff"),
-        Err(Refusal::Path)
+    same(
+        &rt,
+        &paths.read_question(Method::Other, b"/people\xff"),
+        &Err(Refusal::Path),
     );
     Ok(())
 }
@@ -51,11 +64,11 @@ fn questions(rt: HostRuntime) -> Result<(), Fail> {
 #[test]
 fn allowed_methods(rt: HostRuntime) -> Result<(), Fail> {
     let paths = Paths::new(rt.alloc())?;
-    assert_eq!(rt; paths.allow(b"/people?x=1"), Some(Allow::GetHeadPost));
-    assert_eq!(rt; paths.allow(b"/peoples"), None);
-    assert_eq!(rt; Allow::GetHeadPost.text(), "GET, HEAD, POST");
-    assert_eq!(rt; Allow::GetHead.text(), "GET, HEAD");
-    assert_eq!(rt; Allow::Post.text(), "POST");
+    same(&rt, &paths.allow(b"/people?x=1"), &Some(Allow::GetHeadPost));
+    same(&rt, &paths.allow(b"/peoples"), &None);
+    same(&rt, &Allow::GetHeadPost.text(), &"GET, HEAD, POST");
+    same(&rt, &Allow::GetHead.text(), &"GET, HEAD");
+    same(&rt, &Allow::Post.text(), &"POST");
     Ok(())
 }
 
@@ -72,8 +85,8 @@ fn a_person_entered(rt: HostRuntime) -> Result<(), Fail> {
     let paths = Paths::new(rt.alloc())?;
     let body = b"{\"key\":\"k1\",\"who\":\"AA\",\"name\":\"Ann Abel\"}";
     let command = paths.read_command(rt.alloc(), Method::Post, b"/people", body)?;
-    assert_eq!(rt; command.key.as_str(), "k1");
-    assert_eq!(rt; entered(&command.act), ("AA", "Ann Abel"));
+    same(&rt, &command.key.as_str(), &"k1");
+    same(&rt, &entered(&command.act), &("AA", "Ann Abel"));
     Ok(())
 }
 
@@ -86,18 +99,21 @@ fn refusal_of(alloc: Global, body: &[u8]) -> Option<Refusal> {
 fn requests_that_are_no_command(rt: HostRuntime) {
     let alloc = rt.alloc();
     let post = Method::Post;
-    assert_eq!(rt;
-        read_command(alloc, post, b"/peoples", b"[").err(),
-        Some(Refusal::Path)
+    same(
+        &rt,
+        &read_command(alloc, post, b"/peoples", b"[").err(),
+        &Some(Refusal::Path),
     );
-    assert_eq!(rt;
-        read_command(alloc, post, b"/people/", b"[").err(),
-        Some(Refusal::Path)
+    same(
+        &rt,
+        &read_command(alloc, post, b"/people/", b"[").err(),
+        &Some(Refusal::Path),
     );
     for method in [Method::Get, Method::Head, Method::Other] {
-        assert_eq!(rt;
-            read_command(alloc, method, b"/people?x=1", b"[").err(),
-            Some(Refusal::Method)
+        same(
+            &rt,
+            &read_command(alloc, method, b"/people?x=1", b"[").err(),
+            &Some(Refusal::Method),
         );
     }
     for body in [
@@ -108,15 +124,16 @@ fn requests_that_are_no_command(rt: HostRuntime) {
         "{\"key\":1e999}",
         "{'key':1}",
     ] {
-        assert_eq!(rt;
-            refusal_of(alloc, body.as_bytes()),
-            Some(Refusal::Json),
-            "{body}"
+        holds(
+            &rt,
+            refusal_of(alloc, body.as_bytes()) == Some(Refusal::Json),
+            body,
         );
     }
-    assert_eq!(rt;
-        refusal_of(alloc, b"{\"key\":\"k2\",\"who\":\"AA\",\"name\":\"\xff\"}"),
-        Some(Refusal::Json)
+    same(
+        &rt,
+        &refusal_of(alloc, b"{\"key\":\"k2\",\"who\":\"AA\",\"name\":\"\xff\"}"),
+        &Some(Refusal::Json),
     );
 }
 
@@ -177,11 +194,8 @@ fn members(rt: HostRuntime) {
         ),
     ];
     for (body, member) in cases {
-        assert_eq!(rt;
-            refusal_of(alloc, body.as_bytes()),
-            member.map(|member| Refusal::Form { member }),
-            "{body}"
-        );
+        let wanted = member.map(|member| Refusal::Form { member });
+        holds(&rt, refusal_of(alloc, body.as_bytes()) == wanted, body);
     }
 }
 
@@ -201,10 +215,15 @@ fn nested(alloc: Global, depth: usize) -> Result<String, Fail> {
 #[test]
 fn depths(rt: HostRuntime) -> Result<(), Fail> {
     let alloc = rt.alloc();
-    assert_eq!(rt; refusal_of(alloc, nested(alloc, 127)?.as_bytes()), None);
-    assert_eq!(rt;
-        refusal_of(alloc, nested(alloc, 128)?.as_bytes()),
-        Some(Refusal::Json)
+    same(
+        &rt,
+        &refusal_of(alloc, nested(alloc, 127)?.as_bytes()),
+        &None,
+    );
+    same(
+        &rt,
+        &refusal_of(alloc, nested(alloc, 128)?.as_bytes()),
+        &Some(Refusal::Json),
     );
     Ok(())
 }
@@ -222,18 +241,20 @@ fn answers(rt: HostRuntime) -> Result<(), Fail> {
     let alloc = rt.alloc();
     let mut people = Vec::new(alloc);
     let none = write_shown(alloc, &Shown::People(Vec::new(alloc)))?;
-    assert_eq!(rt; none.as_str(), "{\"people\":[]}");
+    same(&rt, &none.as_str(), &"{\"people\":[]}");
     people.push(person(alloc, "AA", "Ann Abel")?)?;
     let one = write_shown(alloc, &Shown::People(people.clone()?))?;
-    assert_eq!(rt;
-        one.as_str(),
-        "{\"people\":[{\"name\":\"Ann Abel\",\"roles\":[],\"who\":\"AA\"}]}"
+    same(
+        &rt,
+        &one.as_str(),
+        &"{\"people\":[{\"name\":\"Ann Abel\",\"roles\":[],\"who\":\"AA\"}]}",
     );
     people.push(person(alloc, "BBC", "B \"\\\u{e9}")?)?;
     let two = write_shown(alloc, &Shown::People(people))?;
-    assert_eq!(rt;
-        two.as_str(),
-        "{\"people\":[{\"name\":\"Ann Abel\",\"roles\":[],\"who\":\"AA\"},{\"name\":\"B \\\"\\\\\u{e9}\",\"roles\":[],\"who\":\"BBC\"}]}"
+    same(
+        &rt,
+        &two.as_str(),
+        &"{\"people\":[{\"name\":\"Ann Abel\",\"roles\":[],\"who\":\"AA\"},{\"name\":\"B \\\"\\\\\u{e9}\",\"roles\":[],\"who\":\"BBC\"}]}",
     );
     Ok(())
 }
@@ -254,7 +275,7 @@ fn refusals(rt: HostRuntime) -> Result<(), Fail> {
     ];
     for (refusal, text) in cases {
         let written = write_refusal(alloc, &refusal)?;
-        assert_eq!(rt; written.as_str(), text);
+        same(&rt, &written.as_str(), &text);
     }
     Ok(())
 }

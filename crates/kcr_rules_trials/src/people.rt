@@ -1,20 +1,10 @@
 //! Worked examples, from outside.
-use crate::*;
+use crate::asserts::{holds, same};
+use crate::values::{day, initials as who, place};
 use kcr_base::{Day, Initials, Name, Place, Refusal, Role, Thing};
+use kcr_people::*;
 use std::alloc::Global;
 use std::test::Fail;
-
-fn day(text: &str) -> Result<Day, Fail> {
-    Ok(Day::read(text.as_bytes()).ok_or("no day")?)
-}
-
-fn who(text: &str) -> Result<Initials, Fail> {
-    Ok(Initials::read(text.as_bytes()).ok_or("no initials")?)
-}
-
-fn place(text: &str) -> Result<Place, Fail> {
-    Ok(Place::read(text.as_bytes()).ok_or("no place")?)
-}
 
 fn person(alloc: Global, code: &str, name: &str) -> Result<Person, Fail> {
     let name = Name::read(alloc, name.as_bytes())?.ok_or("no name")?;
@@ -40,12 +30,12 @@ fn enters_a_person_once(rt: HostRuntime) -> Result<(), Fail> {
     let ann = enter(&none, false, person(alloc, "AA", "Ann Abel")?)
         .ok()
         .ok_or("refused")?;
-    assert_eq!(rt; ann, person(alloc, "AA", "Ann Abel")?);
+    same(&rt, &ann, &person(alloc, "AA", "Ann Abel")?);
     let full = enter(&none, true, person(alloc, "AA", "Ann Abel")?);
-    assert_eq!(rt; full.err(), Some(Refusal::Full));
+    same(&rt, &full.err(), &Some(Refusal::Full));
     let people = vec![in alloc; ann]?;
     let again = enter(&people, true, person(alloc, "AA", "Ann B")?);
-    assert_eq!(rt; again.err(), Some(Refusal::Taken));
+    same(&rt, &again.err(), &Some(Refusal::Taken));
     Ok(())
 }
 
@@ -67,47 +57,54 @@ fn keeps_training_and_custodians_apart(rt: HostRuntime) -> Result<(), Fail> {
     let february = day("2025-02-01")?;
     let march = day("2025-03-01")?;
     let row = training("AA", Role::Ca, "2025-01-01", "2025-02-13")?;
-    assert_eq!(rt; train(&people, &[], &[], false, row), Ok(row));
+    same(&rt, &train(&people, &[], &[], false, row), &Ok(row));
     let trainings = [row];
-    assert_eq!(rt;
-        train(&people, &trainings, &[], false, row),
-        Err(Refusal::Taken)
+    same(
+        &rt,
+        &train(&people, &trainings, &[], false, row),
+        &Err(Refusal::Taken),
     );
     let cole = appoint(&people, &trainings, &[], None, false, first, cc, january)
         .ok()
         .ok_or("refused")?;
     let held = [cole];
-    assert_eq!(rt;
-        appoint(&people, &trainings, &held, None, false, second, aa, january),
-        Err(Refusal::Apart)
+    same(
+        &rt,
+        &appoint(&people, &trainings, &held, None, false, second, aa, january),
+        &Err(Refusal::Apart),
     );
-    assert_eq!(rt;
-        train(
+    same(
+        &rt,
+        &train(
             &people,
             &trainings,
             &held,
             false,
-            training("CC", Role::Sw, "2025-01-01", "2025-02-13")?
+            training("CC", Role::Sw, "2025-01-01", "2025-02-13")?,
         ),
-        Err(Refusal::Apart)
+        &Err(Refusal::Apart),
     );
-    assert_eq!(rt;
-        replace(&people, &trainings, &held, None, false, first, cc, february),
-        Err(Refusal::Held)
+    same(
+        &rt,
+        &replace(&people, &trainings, &held, None, false, first, cc, february),
+        &Err(Refusal::Held),
     );
-    assert_eq!(rt;
-        replace(&people, &trainings, &held, None, false, third, dd, february),
-        Err(Refusal::Vacant)
+    same(
+        &rt,
+        &replace(&people, &trainings, &held, None, false, third, dd, february),
+        &Err(Refusal::Vacant),
     );
-    assert_eq!(rt;
-        replace(&people, &trainings, &held, None, false, first, dd, january),
-        Err(Refusal::Range)
+    same(
+        &rt,
+        &replace(&people, &trainings, &held, None, false, first, dd, january),
+        &Err(Refusal::Range),
     );
     let zz = Refusal::Unknown {
         thing: Thing::Person(who("ZZ")?),
     };
-    assert_eq!(rt;
-        replace(
+    same(
+        &rt,
+        &replace(
             &people,
             &trainings,
             &held,
@@ -115,25 +112,26 @@ fn keeps_training_and_custodians_apart(rt: HostRuntime) -> Result<(), Fail> {
             false,
             first,
             who("ZZ")?,
-            january
+            january,
         ),
-        Err(zz)
+        &Err(zz),
     );
     let ended = release(&held, None, false, first, march)
         .ok()
         .ok_or("refused")?;
     let held = [ended];
-    assert_eq!(rt;
-        appoint(&people, &trainings, &held, None, false, first, dd, february),
-        Err(Refusal::Held)
+    same(
+        &rt,
+        &appoint(&people, &trainings, &held, None, false, first, dd, february),
+        &Err(Refusal::Held),
     );
     let dahl = appoint(&people, &trainings, &held, None, false, first, dd, march)
         .ok()
         .ok_or("refused")?;
     let held = [dahl, ended];
-    assert_eq!(rt; holder(&held, first, day("2025-02-28")?), Some(cc));
-    assert_eq!(rt; holder(&held, first, march), Some(dd));
-    assert_eq!(rt; holder(&held, first, day("2024-12-31")?), None);
+    same(&rt, &holder(&held, first, day("2025-02-28")?), &Some(cc));
+    same(&rt, &holder(&held, first, march), &Some(dd));
+    same(&rt, &holder(&held, first, day("2024-12-31")?), &None);
     Ok(())
 }
 
@@ -151,33 +149,46 @@ fn changes_nothing_on_a_settled_day(rt: HostRuntime) -> Result<(), Fail> {
     let held = [Appointment::new(second, eb, day("2025-01-01")?)];
     let settled = Some(last);
     let refusal = Refusal::Settled { day: last };
-    assert_eq!(rt;
-        appoint(&people, &[], &held, settled, false, third, cc, last),
-        Err(refusal)
+    same(
+        &rt,
+        &appoint(&people, &[], &held, settled, false, third, cc, last),
+        &Err(refusal),
     );
-    assert_eq!(rt;
-        replace(&people, &[], &held, settled, false, second, cc, last),
-        Err(refusal)
+    same(
+        &rt,
+        &replace(&people, &[], &held, settled, false, second, cc, last),
+        &Err(refusal),
     );
-    assert_eq!(rt; release(&held, settled, false, second, last), Err(refusal));
+    same(
+        &rt,
+        &release(&held, settled, false, second, last),
+        &Err(refusal),
+    );
     let ended = Appointment {
         until: Some(next),
         ..held[0]
     };
     let new = Appointment::new(second, cc, next);
-    assert_eq!(rt;
-        appoint(&people, &[], &held, settled, false, third, cc, next),
-        Ok(Appointment::new(third, cc, next))
+    same(
+        &rt,
+        &appoint(&people, &[], &held, settled, false, third, cc, next),
+        &Ok(Appointment::new(third, cc, next)),
     );
-    assert_eq!(rt;
-        replace(&people, &[], &held, settled, false, second, cc, next),
-        Ok((ended, new))
+    same(
+        &rt,
+        &replace(&people, &[], &held, settled, false, second, cc, next),
+        &Ok((ended, new)),
     );
-    assert_eq!(rt;
-        replace(&people, &[], &held, settled, true, second, cc, next),
-        Err(Refusal::Full)
+    same(
+        &rt,
+        &replace(&people, &[], &held, settled, true, second, cc, next),
+        &Err(Refusal::Full),
     );
-    assert_eq!(rt; release(&held, settled, false, second, next), Ok(ended));
+    same(
+        &rt,
+        &release(&held, settled, false, second, next),
+        &Ok(ended),
+    );
     Ok(())
 }
 
@@ -204,7 +215,7 @@ fn withdraws_from_a_day_on(rt: HostRuntime) -> Result<(), Fail> {
         Role::Iw,
         last,
     );
-    assert_eq!(rt; early.err(), Some(Refusal::Settled { day: last }));
+    same(&rt, &early.err(), &Some(Refusal::Settled { day: last }));
     let vacant = withdraw(
         alloc,
         &people,
@@ -216,7 +227,7 @@ fn withdraws_from_a_day_on(rt: HostRuntime) -> Result<(), Fail> {
         Role::Iw,
         next,
     );
-    assert_eq!(rt; vacant.err(), Some(Refusal::Vacant));
+    same(&rt, &vacant.err(), &Some(Refusal::Vacant));
     let new = training("AA", Role::Iw, "2025-02-01", "2025-12-31")?;
     let trainings = [new, old[0], old[1]];
     let rows = withdraw(
@@ -239,11 +250,23 @@ fn withdraws_from_a_day_on(rt: HostRuntime) -> Result<(), Fail> {
         until: new.until,
         day: next,
     };
-    assert_eq!(rt; rows.as_slice(), [row].as_slice());
+    same(&rt, &rows.as_slice(), &[row].as_slice());
     let withdrawn = rows.into_vec();
-    assert!(rt; trained(&trainings, &withdrawn, aa, Role::Iw, last));
-    assert!(rt; !trained(&trainings, &withdrawn, aa, Role::Iw, next));
-    assert!(rt; trained(&trainings, &[], aa, Role::Iw, next));
+    holds(
+        &rt,
+        trained(&trainings, &withdrawn, aa, Role::Iw, last),
+        "IW until the last day",
+    );
+    holds(
+        &rt,
+        !trained(&trainings, &withdrawn, aa, Role::Iw, next),
+        "IW after the withdrawal",
+    );
+    holds(
+        &rt,
+        trained(&trainings, &[], aa, Role::Iw, next),
+        "IW without the withdrawal",
+    );
     let june = day("2025-06-01")?;
     let again = withdraw(
         alloc,
@@ -256,13 +279,15 @@ fn withdraws_from_a_day_on(rt: HostRuntime) -> Result<(), Fail> {
         Role::Iw,
         june,
     );
-    assert_eq!(rt; again.err(), Some(Refusal::Vacant));
-    assert_eq!(rt;
-        train(&people, &trainings, &[], false, new),
-        Err(Refusal::Taken)
+    same(&rt, &again.err(), &Some(Refusal::Vacant));
+    same(
+        &rt,
+        &train(&people, &trainings, &[], false, new),
+        &Err(Refusal::Taken),
     );
-    assert_eq!(rt;
-        appoint(
+    same(
+        &rt,
+        &appoint(
             &people,
             &trainings,
             &[],
@@ -270,9 +295,9 @@ fn withdraws_from_a_day_on(rt: HostRuntime) -> Result<(), Fail> {
             false,
             place("RKSH-1")?,
             aa,
-            june
+            june,
         ),
-        Err(Refusal::Apart)
+        &Err(Refusal::Apart),
     );
 
     // A training of later days is withdrawn too, also from a day before it begins; an earlier day
@@ -297,6 +322,6 @@ fn withdraws_from_a_day_on(rt: HostRuntime) -> Result<(), Fail> {
         day: june,
         ..row
     };
-    assert_eq!(rt; rows.as_slice(), [first, row].as_slice());
+    same(&rt, &rows.as_slice(), &[first, row].as_slice());
     Ok(())
 }

@@ -1,6 +1,7 @@
-use crate::place::{Facility, Place, Role};
-use crate::refusal::{Absentee, Member, Part, Refusal, Thing};
-use crate::{
+use crate::asserts::{holds, same};
+use kcr_base::place::{Facility, Place, Role};
+use kcr_base::refusal::{Absentee, Member, Part, Refusal, Thing};
+use kcr_base::{
     Counted, Day, Initials, ItemCode, Key, Line, Moment, Name, Positions, Serial, Text, read_number,
 };
 use std::io::{Read, Write};
@@ -16,8 +17,8 @@ fn days(rt: HostRuntime) -> Result<(), Fail> {
         ("2099-12-31", 47481),
     ] {
         let day = Day::read(text.as_bytes()).ok_or("day")?;
-        assert_eq!(rt; day.number(), number, "at {text}");
-        assert_eq!(rt; day.code().as_str(), text);
+        same(&rt, &day.number(), &number);
+        same(&rt, &day.code().as_str(), &text);
     }
     for text in [
         "2025-02-29",
@@ -36,7 +37,7 @@ fn days(rt: HostRuntime) -> Result<(), Fail> {
         "2025/02/13",
         "+2025-02-13",
     ] {
-        assert!(rt; Day::read(text.as_bytes()).is_none(), "at {text}");
+        holds(&rt, Day::read(text.as_bytes()).is_none(), text);
     }
     Ok(())
 }
@@ -49,11 +50,11 @@ fn moments(rt: HostRuntime) -> Result<(), Fail> {
         ("2099-12-31T23:59:59Z", 4102444799),
     ] {
         let moment = Moment::read(text.as_bytes()).ok_or("moment")?;
-        assert_eq!(rt; moment.number(), number, "at {text}");
-        assert_eq!(rt; moment.code().as_str(), text);
+        same(&rt, &moment.number(), &number);
+        same(&rt, &moment.code().as_str(), &text);
     }
     let moment = Moment::read(b"2025-02-13T23:59:59Z").ok_or("moment")?;
-    assert_eq!(rt; moment.day().code().as_str(), "2025-02-13");
+    same(&rt, &moment.day().code().as_str(), &"2025-02-13");
     for text in [
         "2025-02-29T00:00:00Z",
         "2025-02-13T20:00:60Z",
@@ -67,7 +68,7 @@ fn moments(rt: HostRuntime) -> Result<(), Fail> {
         "2025-02-13 20:00:00Z",
         "",
     ] {
-        assert!(rt; Moment::read(text.as_bytes()).is_none(), "at {text}");
+        holds(&rt, Moment::read(text.as_bytes()).is_none(), text);
     }
     Ok(())
 }
@@ -85,10 +86,10 @@ fn codes(rt: HostRuntime) -> Result<(), Fail> {
         ("A\u{c4}", false),
         ("A\n", false),
     ] {
-        assert_eq!(rt;
-            Initials::read(text.as_bytes()).is_some(),
-            is_code,
-            "at {text:?}"
+        holds(
+            &rt,
+            Initials::read(text.as_bytes()).is_some() == is_code,
+            text,
         );
     }
     for (text, is_code) in [
@@ -103,15 +104,15 @@ fn codes(rt: HostRuntime) -> Result<(), Fail> {
         ("ABC\u{e9}", false),
         ("ABC\0", false),
     ] {
-        assert_eq!(rt;
-            Serial::read(text.as_bytes()).is_some(),
-            is_code,
-            "at {text:?}"
+        holds(
+            &rt,
+            Serial::read(text.as_bytes()).is_some() == is_code,
+            text,
         );
-        assert_eq!(rt;
-            ItemCode::read(text.as_bytes()).is_some(),
-            is_code,
-            "at {text:?}"
+        holds(
+            &rt,
+            ItemCode::read(text.as_bytes()).is_some() == is_code,
+            text,
         );
     }
     for (text, is_code) in [
@@ -124,26 +125,30 @@ fn codes(rt: HostRuntime) -> Result<(), Fail> {
         ("a b", false),
         ("\u{e9}", false),
     ] {
-        assert_eq!(rt;
-            Key::read(text.as_bytes()).is_some(),
-            is_code,
-            "at {text:?}"
-        );
+        holds(&rt, Key::read(text.as_bytes()).is_some() == is_code, text);
     }
     let who = Initials::read(b"AA").ok_or("initials")?;
-    assert!(rt; who < Initials::read(b"AAA").ok_or("initials")?);
-    assert!(rt;
-        Initials::read(b"AZ").ok_or("initials")? < Initials::read(b"BA").ok_or("initials")?
+    holds(
+        &rt,
+        who < Initials::read(b"AAA").ok_or("initials")?,
+        "AA before AAA",
     );
-    assert_eq!(rt; who.as_str(), "AA");
-    assert_eq!(rt; Key::read(b"k1").ok_or("key")?.as_str(), "k1");
-    assert_eq!(rt;
-        Serial::read(b"HSM4").ok_or("serial")?.as_bytes(),
-        b"HSM4".as_slice()
+    holds(
+        &rt,
+        Initials::read(b"AZ").ok_or("initials")? < Initials::read(b"BA").ok_or("initials")?,
+        "AZ before BA",
     );
-    assert_eq!(rt;
-        ItemCode::read(b"HSM4").ok_or("item")?.as_bytes(),
-        b"HSM4".as_slice()
+    same(&rt, &who.as_str(), &"AA");
+    same(&rt, &Key::read(b"k1").ok_or("key")?.as_str(), &"k1");
+    same(
+        &rt,
+        &Serial::read(b"HSM4").ok_or("serial")?.as_bytes(),
+        &b"HSM4".as_slice(),
+    );
+    same(
+        &rt,
+        &ItemCode::read(b"HSM4").ok_or("item")?.as_bytes(),
+        &b"HSM4".as_slice(),
     );
     Ok(())
 }
@@ -167,21 +172,22 @@ fn lines(rt: HostRuntime) -> Result<(), Fail> {
         ("12345\u{fc}x".as_bytes(), true),
     ] {
         let line: Option<Line<8>> = Line::read(alloc, bytes)?;
-        assert_eq!(rt; line.is_some(), is_line, "at {bytes:?}");
+        same(&rt, &line.is_some(), &is_line);
         if let Some(line) = &line {
-            assert_eq!(rt; line.as_str().as_bytes(), bytes);
-            assert!(rt; line.clone()? == *line);
+            same(&rt, &line.as_str().as_bytes(), &bytes);
+            holds(&rt, line.clone()? == *line, "a clone");
         }
     }
     let longest = vec![in alloc; b'x'; 120]?;
-    assert!(rt; Name::read(alloc, &longest)?.is_some());
+    holds(&rt, Name::read(alloc, &longest)?.is_some(), "120 bytes");
     let longer = vec![in alloc; b'x'; 121]?;
-    assert!(rt; Name::read(alloc, &longer)?.is_none());
+    holds(&rt, Name::read(alloc, &longer)?.is_none(), "121 bytes");
     let text = Text::copy_of(alloc, "step,activity,seats\n")?;
-    assert_eq!(rt; text.clone()?.as_str(), text.as_str());
-    assert_eq!(rt;
-        Text::from_string(String::from_str(alloc, "x")?).as_bytes(),
-        b"x".as_slice()
+    same(&rt, &text.clone()?.as_str(), &text.as_str());
+    same(
+        &rt,
+        &Text::from_string(String::from_str(alloc, "x")?).as_bytes(),
+        &b"x".as_slice(),
     );
     Ok(())
 }
@@ -205,9 +211,9 @@ fn numbers(rt: HostRuntime) {
         ("99999999999999999999", 9999, None),
         ("\u{661}", 400, None),
     ] {
-        assert_eq!(rt; read_number(text.as_bytes(), limit), number, "at {text}");
+        same(&rt, &read_number(text.as_bytes(), limit), &number);
     }
-    assert_eq!(rt; read_number(b"\xff", 400), None);
+    same(&rt, &read_number(b"\xff", 400), &None);
 }
 
 #[test]
@@ -221,7 +227,7 @@ fn places(rt: HostRuntime) -> Result<(), Fail> {
         "RKSH-7",
     ] {
         let place = Place::read(text.as_bytes()).ok_or("place")?;
-        assert_eq!(rt; place.text().as_str(), text);
+        same(&rt, &place.text().as_str(), &text);
     }
     for text in [
         "",
@@ -234,39 +240,55 @@ fn places(rt: HostRuntime) -> Result<(), Fail> {
         "co-EAST-1",
         "CO-NORTH-1",
     ] {
-        assert!(rt; Place::read(text.as_bytes()).is_none(), "at {text}");
+        holds(&rt, Place::read(text.as_bytes()).is_none(), text);
     }
     let east = Place::read(b"CO-EAST-7").ok_or("place")?;
     let west = Place::read(b"CO-WEST-1").ok_or("place")?;
-    assert!(rt; east < west);
-    assert!(rt; west < Place::read(b"RKSH-1").ok_or("place")?);
+    holds(&rt, east < west, "EAST before WEST");
+    holds(
+        &rt,
+        west < Place::read(b"RKSH-1").ok_or("place")?,
+        "WEST before RKSH",
+    );
     for text in ["EAST", "WEST"] {
-        assert_eq!(rt;
-            Facility::read(text.as_bytes()).ok_or("facility")?.text(),
-            text
+        same(
+            &rt,
+            &Facility::read(text.as_bytes()).ok_or("facility")?.text(),
+            &text,
         );
     }
-    assert!(rt; Facility::read(b"East").is_none());
+    holds(&rt, Facility::read(b"East").is_none(), "East");
     for text in ["CA", "IW", "SA", "SSC1", "SSC2", "RKOS", "SW"] {
-        assert_eq!(rt; Role::read(text.as_bytes()).ok_or("role")?.text(), text);
+        same(
+            &rt,
+            &Role::read(text.as_bytes()).ok_or("role")?.text(),
+            &text,
+        );
     }
-    assert!(rt; Role::read(b"SSC3").is_none());
+    holds(&rt, Role::read(b"SSC3").is_none(), "SSC3");
     Ok(())
 }
 
 #[test]
 fn positions(rt: HostRuntime) -> Result<(), Fail> {
     let all = [1, 2, 3, 4, 5, 6, 7, 8, 9, 10, 11, 12, 13, 14, 15, 16];
-    assert_eq!(rt;
-        Positions::new(&all).ok_or("positions")?.as_slice(),
-        all.as_slice()
+    same(
+        &rt,
+        &Positions::new(&all).ok_or("positions")?.as_slice(),
+        &all.as_slice(),
     );
-    for list in [[0, 1].as_slice(), &[1, 1], &[2, 1], &[16, 17]] {
-        assert!(rt; Positions::new(list).is_none(), "at {list:?}");
+    for (list, of) in [
+        ([0, 1].as_slice(), "0"),
+        (&[1, 1], "1 twice"),
+        (&[2, 1], "2 before 1"),
+        (&[16, 17], "17"),
+    ] {
+        holds(&rt, Positions::new(list).is_none(), of);
     }
-    assert_eq!(rt;
-        Positions::from_indices(&[0, 15]).as_slice(),
-        [1, 16].as_slice()
+    same(
+        &rt,
+        &Positions::from_indices(&[0, 15]).as_slice(),
+        &[1, 16].as_slice(),
     );
     Ok(())
 }
@@ -333,9 +355,9 @@ fn refusals(rt: HostRuntime) -> Result<(), Fail> {
         (Refusal::Broken, "broken", 500),
     ];
     for (before, (refusal, word, status)) in table.iter().enumerate() {
-        assert_eq!(rt; refusal.number() as usize, before + 1);
-        assert_eq!(rt; refusal.word(), *word);
-        assert_eq!(rt; refusal.status(), *status, "at {word}");
+        same(&rt, &(refusal.number() as usize), &(before + 1));
+        same(&rt, &refusal.word(), word);
+        same(&rt, &refusal.status(), status);
     }
     Ok(())
 }
@@ -354,7 +376,7 @@ fn carried(rt: HostRuntime) -> Result<(), Fail> {
         (Thing::Box(3), "box 3"),
         (Thing::Item(item), "item HSM4"),
     ] {
-        assert_eq!(rt; thing.text(alloc)?.as_str(), text);
+        same(&rt, &thing.text(alloc)?.as_str(), &text);
     }
     let place = Place::read(b"CO-EAST-1").ok_or("place")?;
     for (absentee, text) in [
@@ -362,11 +384,11 @@ fn carried(rt: HostRuntime) -> Result<(), Fail> {
         (Absentee::Place(place), "CO-EAST-1"),
         (Absentee::Role(Role::Ssc1), "SSC1"),
     ] {
-        assert_eq!(rt; absentee.text().as_str(), text);
+        same(&rt, &absentee.text().as_str(), &text);
     }
-    assert_eq!(rt; Member::From.text(), "from");
-    assert_eq!(rt; Member::Box.text(), "box");
-    assert_eq!(rt; Part::Table.text(), "table");
+    same(&rt, &Member::From.text(), &"from");
+    same(&rt, &Member::Box.text(), &"box");
+    same(&rt, &Part::Table.text(), &"table");
     Ok(())
 }
 
@@ -374,12 +396,12 @@ fn carried(rt: HostRuntime) -> Result<(), Fail> {
 fn streams(rt: HostRuntime) -> Result<(), Fail> {
     let mut reader = Counted::new(b"abc".as_slice());
     let mut piece = [0; 2];
-    assert_eq!(rt; reader.read(&mut piece)?, 2);
-    assert_eq!(rt; piece, *b"ab");
-    assert_eq!(rt; reader.into_inner(), b"c".as_slice());
+    same(&rt, &reader.read(&mut piece)?, &2);
+    same(&rt, &piece, b"ab");
+    same(&rt, &reader.into_inner(), &b"c".as_slice());
     let mut writer = Counted::new(Vec::new(rt.alloc()));
-    assert_eq!(rt; writer.write(b"ab")?, 2);
+    same(&rt, &writer.write(b"ab")?, &2);
     writer.flush()?;
-    assert_eq!(rt; writer.into_inner().as_slice(), b"ab".as_slice());
+    same(&rt, &writer.into_inner().as_slice(), &b"ab".as_slice());
     Ok(())
 }

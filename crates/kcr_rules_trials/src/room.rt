@@ -1,12 +1,10 @@
 //! Worked examples, from outside, and small sheets against presence told anew at every moment.
-use crate::*;
+use crate::asserts::{counts, holds, same};
+use crate::values::initials as who;
 use kcr_base::{Initials, Moment, Refusal};
+use kcr_room::*;
 use std::alloc::Global;
 use std::test::Fail;
-
-fn who(text: &str) -> Result<Initials, Fail> {
-    Ok(Initials::read(text.as_bytes()).ok_or("no initials")?)
-}
 
 // The moment with this clock on the day of the worked examples.
 fn at(clock: &str) -> Result<Moment, Fail> {
@@ -77,38 +75,45 @@ fn late_turn_and_lone(rt: HostRuntime) -> Result<(), Fail> {
     let opened = at("20:00:00")?;
     let five = at("20:05:00")?;
     let none: [SheetRow; 0] = [];
-    assert_eq!(rt;
-        request(alloc, &none, opened, Way::Enter, &[aa], opened),
-        Err(Refusal::Late { mark: opened })
+    same(
+        &rt,
+        &request(alloc, &none, opened, Way::Enter, &[aa], opened),
+        &Err(Refusal::Late { mark: opened }),
     );
-    assert_eq!(rt;
-        request(alloc, &none, opened, Way::Enter, &[aa], five),
-        Err(Refusal::Lone { moment: five })
+    same(
+        &rt,
+        &request(alloc, &none, opened, Way::Enter, &[aa], five),
+        &Err(Refusal::Lone { moment: five }),
     );
-    assert_eq!(rt;
-        request(alloc, &none, opened, Way::Enter, &[aa, bb], five),
-        Ok(())
+    same(
+        &rt,
+        &request(alloc, &none, opened, Way::Enter, &[aa, bb], five),
+        &Ok(()),
     );
     let two = [
         row(61, "AA", Way::Enter, "20:05:00")?,
         row(61, "BB", Way::Enter, "20:05:00")?,
     ];
-    assert_eq!(rt;
-        request(alloc, &two, opened, Way::Enter, &[cc, aa], at("20:06:00")?),
-        Err(Refusal::Turn { who: aa })
+    same(
+        &rt,
+        &request(alloc, &two, opened, Way::Enter, &[cc, aa], at("20:06:00")?),
+        &Err(Refusal::Turn { who: aa }),
     );
-    assert_eq!(rt;
-        request(alloc, &two, opened, Way::Leave, &[aa, bb], five),
-        Err(Refusal::Turn { who: aa })
+    same(
+        &rt,
+        &request(alloc, &two, opened, Way::Leave, &[aa, bb], five),
+        &Err(Refusal::Turn { who: aa }),
     );
     let signed = at("20:10:00")?;
-    assert_eq!(rt;
-        request(alloc, &two, signed, Way::Enter, &[cc], signed),
-        Err(Refusal::Late { mark: signed })
+    same(
+        &rt,
+        &request(alloc, &two, signed, Way::Enter, &[cc], signed),
+        &Err(Refusal::Late { mark: signed }),
     );
-    assert_eq!(rt;
-        request(alloc, &two, signed, Way::Enter, &[cc], at("20:10:01")?),
-        Ok(())
+    same(
+        &rt,
+        &request(alloc, &two, signed, Way::Enter, &[cc], at("20:10:01")?),
+        &Ok(()),
     );
     let three = [
         row(61, "AA", Way::Enter, "20:05:00")?,
@@ -116,26 +121,30 @@ fn late_turn_and_lone(rt: HostRuntime) -> Result<(), Fail> {
         row(61, "CC", Way::Enter, "20:05:00")?,
     ];
     let twenty = at("20:20:00")?;
-    assert_eq!(rt;
-        request(alloc, &three, opened, Way::Leave, &[aa, bb], twenty),
-        Err(Refusal::Lone { moment: twenty })
+    same(
+        &rt,
+        &request(alloc, &three, opened, Way::Leave, &[aa, bb], twenty),
+        &Err(Refusal::Lone { moment: twenty }),
     );
-    assert_eq!(rt;
-        request(alloc, &three, opened, Way::Leave, &[aa, bb, cc], twenty),
-        Ok(())
+    same(
+        &rt,
+        &request(alloc, &three, opened, Way::Leave, &[aa, bb, cc], twenty),
+        &Ok(()),
     );
     // Into a room from another one, and out of one that they are not in.
     let others = [
         row(62, "AA", Way::Enter, "20:05:00")?,
         row(62, "BB", Way::Enter, "20:05:00")?,
     ];
-    assert_eq!(rt;
-        request(alloc, &others, opened, Way::Enter, &[cc, bb], twenty),
-        Err(Refusal::Turn { who: bb })
+    same(
+        &rt,
+        &request(alloc, &others, opened, Way::Enter, &[cc, bb], twenty),
+        &Err(Refusal::Turn { who: bb }),
     );
-    assert_eq!(rt;
-        request(alloc, &others, opened, Way::Leave, &[aa, bb], twenty),
-        Err(Refusal::Turn { who: aa })
+    same(
+        &rt,
+        &request(alloc, &others, opened, Way::Leave, &[aa, bb], twenty),
+        &Err(Refusal::Turn { who: aa }),
     );
     Ok(())
 }
@@ -160,18 +169,18 @@ fn rows_out_of_order(rt: HostRuntime) -> Result<(), Fail> {
         row(61, "BB", Way::Leave, "20:20:00")?,
     ];
     let later = present(alloc, &rows, 61, at("20:25:00")?)?;
-    assert_eq!(rt; codes(alloc, &later)?.as_str(), "AACCEA");
+    same(&rt, &codes(alloc, &later)?.as_str(), &"AACCEA");
     let stays = stays_of(alloc, &rows)?;
     let twenty = at("20:20:00")?;
     let gone = present_in(alloc, &stays, 61, twenty)?;
-    assert_eq!(rt; codes(alloc, &gone)?.as_str(), "AACCEA");
+    same(&rt, &codes(alloc, &gone)?.as_str(), &"AACCEA");
     let there = present_in(alloc, &stays, 61, at("20:19:59")?)?;
-    assert_eq!(rt; codes(alloc, &there)?.as_str(), "AABBCCEA");
-    assert_eq!(rt; present_in(alloc, &stays, 62, twenty)?.len(), 0);
-    assert_eq!(rt; first_lone(alloc, &rows, 61)?, None);
-    assert_eq!(rt; is_crowded(alloc, &rows, 61)?, false);
+    same(&rt, &codes(alloc, &there)?.as_str(), &"AABBCCEA");
+    counts(&rt, present_in(alloc, &stays, 62, twenty)?.len(), 0);
+    same(&rt, &first_lone(alloc, &rows, 61)?, &None);
+    same(&rt, &is_crowded(alloc, &rows, 61)?, &false);
     let listed = attendance(alloc, &rows, 61)?;
-    assert_eq!(rt; listed.len(), 4);
+    counts(&rt, listed.len(), 4);
     let five = at("20:05:00")?;
     let half = at("20:30:00")?;
     let wanted = [
@@ -180,7 +189,11 @@ fn rows_out_of_order(rt: HostRuntime) -> Result<(), Fail> {
         stay("CC", five, Some(half))?,
         stay("EA", five, None)?,
     ];
-    assert!(rt; listed.as_slice() == wanted.as_slice());
+    holds(
+        &rt,
+        listed.as_slice() == wanted.as_slice(),
+        "presence told in order",
+    );
     Ok(())
 }
 
@@ -206,9 +219,14 @@ fn rooms_and_sheets_fill_up(rt: HostRuntime) -> Result<(), Fail> {
         })?;
     }
     let (last, more) = (numbered(127)?, numbered(128)?);
-    assert!(rt; add_stays(alloc, &stays, 61, opened, false, Way::Enter, &[last], six).is_ok());
-    assert_eq!(rt;
-        add_stays(
+    holds(
+        &rt,
+        add_stays(alloc, &stays, 61, opened, false, Way::Enter, &[last], six).is_ok(),
+        "enters while one row is free",
+    );
+    same(
+        &rt,
+        &add_stays(
             alloc,
             &stays,
             61,
@@ -216,14 +234,15 @@ fn rooms_and_sheets_fill_up(rt: HostRuntime) -> Result<(), Fail> {
             false,
             Way::Enter,
             &[last, more],
-            six
+            six,
         )
         .err(),
-        Some(Refusal::Crowd)
+        &Some(Refusal::Crowd),
     );
-    assert_eq!(rt;
-        add_stays(alloc, &stays, 61, opened, true, Way::Enter, &[last], six).err(),
-        Some(Refusal::Full)
+    same(
+        &rt,
+        &add_stays(alloc, &stays, 61, opened, true, Way::Enter, &[last], six).err(),
+        &Some(Refusal::Full),
     );
     Ok(())
 }
@@ -246,15 +265,21 @@ fn a_thousand_rows_are_enough(rt: HostRuntime) -> Result<(), Fail> {
     let mark = moment(0)?;
     let later = moment(10_000)?;
     let (aa, bb, cc, dd) = (who("AA")?, who("BB")?, who("CC")?, who("DD")?);
-    assert_eq!(rt;
-        add_stays(alloc, &stays, 61, mark, false, Way::Enter, &[cc], later).err(),
-        Some(Refusal::Full)
+    same(
+        &rt,
+        &add_stays(alloc, &stays, 61, mark, false, Way::Enter, &[cc], later).err(),
+        &Some(Refusal::Full),
     );
-    assert_eq!(rt;
-        add_stays(alloc, &stays, 61, mark, false, Way::Enter, &[cc, dd], later).err(),
-        Some(Refusal::Full)
+    same(
+        &rt,
+        &add_stays(alloc, &stays, 61, mark, false, Way::Enter, &[cc, dd], later).err(),
+        &Some(Refusal::Full),
     );
-    assert!(rt; add_stays(alloc, &stays, 61, mark, false, Way::Leave, &[aa, bb], later).is_ok());
+    holds(
+        &rt,
+        add_stays(alloc, &stays, 61, mark, false, Way::Leave, &[aa, bb], later).is_ok(),
+        "both leave a full sheet",
+    );
     Ok(())
 }
 
@@ -329,10 +354,10 @@ fn small_sheets(rt: HostRuntime) -> Result<(), Fail> {
             one_row(Way::Leave, 61, people[1], 1 + code / 512 % 4)?,
             one_row(Way::Leave, 61, people[0], 1 + code / 2048)?,
         ];
-        assert!(rt; agrees(alloc, &rows, &people)?);
+        assert!(rt; agrees(alloc, &rows, &people)?, "at {code}");
         let mut turned = rows;
         turned.reverse();
-        assert!(rt; agrees(alloc, &turned, &people)?);
+        assert!(rt; agrees(alloc, &turned, &people)?, "turned, at {code}");
     }
     Ok(())
 }

@@ -1,5 +1,7 @@
 //! The audit over views made by hand.
-use crate::audit;
+use crate::asserts::{holds, same};
+use crate::values::{day, empty_view, initials as who, item, moment as at, serial};
+use kcr_audit::audit;
 use kcr_base::{Day, Facility, Initials, ItemCode, Key, Moment, Role, Serial, Text};
 use kcr_custody::{Bag, Item, Rest, Spot};
 use kcr_history::{
@@ -10,47 +12,6 @@ use kcr_room::{SheetRow, Way};
 use kcr_script::read_seats;
 use std::alloc::Global;
 use std::test::Fail;
-
-fn empty(alloc: Global) -> View {
-    View {
-        people: Vec::new(alloc),
-        trainings: Vec::new(alloc),
-        withdrawals: Vec::new(alloc),
-        appointments: Vec::new(alloc),
-        boxes: Vec::new(alloc),
-        safes: Vec::new(alloc),
-        bags: Vec::new(alloc),
-        items: Vec::new(alloc),
-        ceremonies: Vec::new(alloc),
-        marks: Vec::new(alloc),
-        steps: Vec::new(alloc),
-        seatings: Vec::new(alloc),
-        sheet: Vec::new(alloc),
-        stays: Vec::new(alloc),
-        exceptions: Vec::new(alloc),
-        keys: Vec::new(alloc),
-    }
-}
-
-fn who(text: &str) -> Result<Initials, Fail> {
-    Ok(Initials::read(text.as_bytes()).ok_or("initials")?)
-}
-
-fn at(text: &str) -> Result<Moment, Fail> {
-    Ok(Moment::read(text.as_bytes()).ok_or("a moment")?)
-}
-
-fn day(text: &str) -> Result<Day, Fail> {
-    Ok(Day::read(text.as_bytes()).ok_or("a day")?)
-}
-
-fn serial(text: &str) -> Result<Serial, Fail> {
-    Ok(Serial::read(text.as_bytes()).ok_or("a serial")?)
-}
-
-fn item(text: &str) -> Result<ItemCode, Fail> {
-    Ok(ItemCode::read(text.as_bytes()).ok_or("an item")?)
-}
 
 /// Puts a row of the sheet of ceremony 61.
 fn passes(view: &mut View, who: Initials, way: Way, at: Moment) -> Result<(), Fail> {
@@ -114,7 +75,7 @@ fn found(alloc: Global, view: &View) -> Result<u32, Fail> {
 
 /// AA and BB, trained as CA, are in the room of ceremony 61 for an hour, and AA signs its step 1.
 fn with_a_step(alloc: Global, text: &str) -> Result<View, Fail> {
-    let mut view = empty(alloc);
+    let mut view = empty_view(alloc);
     train(&mut view, "AA")?;
     train(&mut view, "BB")?;
     train(&mut view, "CC")?;
@@ -160,8 +121,8 @@ fn with_a_step(alloc: Global, text: &str) -> Result<View, Fail> {
 #[test]
 fn nothing_in_nothing(rt: HostRuntime) -> Result<(), Fail> {
     let alloc = rt.alloc();
-    let view = empty(alloc);
-    assert_eq!(rt; found(alloc, &view)?, 0);
+    let view = empty_view(alloc);
+    same(&rt, &found(alloc, &view)?, &0);
     Ok(())
 }
 
@@ -169,73 +130,73 @@ fn nothing_in_nothing(rt: HostRuntime) -> Result<(), Fail> {
 fn a_seating_by_somebody_absent(rt: HostRuntime) -> Result<(), Fail> {
     let alloc = rt.alloc();
     let present = with_a_step(alloc, "BB")?;
-    assert_eq!(rt; found(alloc, &present)?, 0);
+    same(&rt, &found(alloc, &present)?, &0);
     let absent = with_a_step(alloc, "CC")?;
-    assert_eq!(rt; found(alloc, &absent)?, 1);
+    same(&rt, &found(alloc, &absent)?, &1);
     Ok(())
 }
 
 #[test]
 fn an_item_within_a_spent_bag(rt: HostRuntime) -> Result<(), Fail> {
     let alloc = rt.alloc();
-    let mut view = empty(alloc);
+    let mut view = empty_view(alloc);
     bag(&mut view, "BB46584400", Spot::Table(Facility::East))?;
     bag(&mut view, "BB46584401", Spot::Spent)?;
     view.items.push(Item {
         code: item("HSM6E")?,
         rest: Rest::Within(serial("BB46584400")?),
     })?;
-    assert_eq!(rt; found(alloc, &view)?, 0);
+    same(&rt, &found(alloc, &view)?, &0);
     view.items.push(Item {
         code: item("HSM7E")?,
         rest: Rest::Within(serial("BB46584401")?),
     })?;
-    assert_eq!(rt; found(alloc, &view)?, 2);
+    same(&rt, &found(alloc, &view)?, &2);
     Ok(())
 }
 
 #[test]
 fn an_item_in_two_rows(rt: HostRuntime) -> Result<(), Fail> {
     let alloc = rt.alloc();
-    let mut view = empty(alloc);
+    let mut view = empty_view(alloc);
     let row = Item {
         code: item("HSM6E")?,
         rest: Rest::Loose(Facility::West),
     };
     view.items.push(row)?;
-    assert_eq!(rt; found(alloc, &view)?, 0);
+    same(&rt, &found(alloc, &view)?, &0);
     view.items.push(row)?;
-    assert_eq!(rt; found(alloc, &view)?, 2);
+    same(&rt, &found(alloc, &view)?, &2);
     Ok(())
 }
 
 #[test]
 fn a_bag_in_a_box_that_is_missing(rt: HostRuntime) -> Result<(), Fail> {
     let alloc = rt.alloc();
-    let mut view = empty(alloc);
+    let mut view = empty_view(alloc);
     bag(&mut view, "BB46584400", Spot::Equipment(Facility::East))?;
-    assert_eq!(rt; found(alloc, &view)?, 0);
+    same(&rt, &found(alloc, &view)?, &0);
     bag(&mut view, "BB46584401", Spot::InBox(Facility::East, 1068))?;
-    assert_eq!(rt; found(alloc, &view)?, 3);
+    same(&rt, &found(alloc, &view)?, &3);
     Ok(())
 }
 
 #[test]
 fn one_key_in_two_rows(rt: HostRuntime) -> Result<(), Fail> {
     let alloc = rt.alloc();
-    let mut view = empty(alloc);
+    let mut view = empty_view(alloc);
     accept(alloc, &mut view, "k-1", 1)?;
     accept(alloc, &mut view, "k-2", 2)?;
-    assert_eq!(rt; found(alloc, &view)?, 0);
+    same(&rt, &found(alloc, &view)?, &0);
     accept(alloc, &mut view, "k-1", 3)?;
-    assert_eq!(rt; found(alloc, &view)?, 4);
+    same(&rt, &found(alloc, &view)?, &4);
     Ok(())
 }
 
 #[test]
 fn one_person_alone(rt: HostRuntime) -> Result<(), Fail> {
     let alloc = rt.alloc();
-    let mut view = empty(alloc);
+    let mut view = empty_view(alloc);
     passes(
         &mut view,
         who("AA")?,
@@ -248,7 +209,7 @@ fn one_person_alone(rt: HostRuntime) -> Result<(), Fail> {
         Way::Enter,
         at("2025-02-13T10:00:00Z")?,
     )?;
-    assert_eq!(rt; found(alloc, &view)?, 0);
+    same(&rt, &found(alloc, &view)?, &0);
     passes(
         &mut view,
         who("BB")?,
@@ -256,8 +217,12 @@ fn one_person_alone(rt: HostRuntime) -> Result<(), Fail> {
         at("2025-02-13T10:30:00Z")?,
     )?;
     let finding = audit(alloc, &view)?;
-    assert!(rt; matches!(&finding, Some(Finding::Lone(61, _))));
-    assert_eq!(rt; kind(&finding), 5);
+    holds(
+        &rt,
+        matches!(&finding, Some(Finding::Lone(61, _))),
+        "one alone in the room",
+    );
+    same(&rt, &kind(&finding), &5);
     Ok(())
 }
 
@@ -270,13 +235,13 @@ fn initials(number: u8) -> Result<Initials, Fail> {
 #[test]
 fn too_many_at_one_moment(rt: HostRuntime) -> Result<(), Fail> {
     let alloc = rt.alloc();
-    let mut view = empty(alloc);
+    let mut view = empty_view(alloc);
     let since = at("2025-02-13T10:00:00Z")?;
     for number in 0..128u8 {
         passes(&mut view, initials(number)?, Way::Enter, since)?;
     }
-    assert_eq!(rt; found(alloc, &view)?, 0);
+    same(&rt, &found(alloc, &view)?, &0);
     passes(&mut view, initials(128)?, Way::Enter, since)?;
-    assert_eq!(rt; found(alloc, &view)?, 6);
+    same(&rt, &found(alloc, &view)?, &6);
     Ok(())
 }
