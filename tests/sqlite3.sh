@@ -2,8 +2,12 @@
 # tests/sqlite3.sh FILE: sqlite3 reads a register's file. Its schema is the one that `tools/tables.py schema` prints,
 # each table can be read whole, the file is sound, and the rows of `kcr_sample` read as they were put: `rt ci` sees that
 # crates/kcr_sample/stdout is what that program writes. It ends with status 0 where all of that holds.
+# It reads a copy, since sqlite3 writes files of its own beside a database in WAL mode.
 set -eu
-file=$1
+room=$(mktemp -d)
+trap 'rm -rf "$room"' EXIT
+file=$room/register
+cp "$1" "$file"
 ask() { sqlite3 -readonly "$file" "$1"; }
 is() { test "$(ask "$1")" = "$2" || { echo "$1 gives $(ask "$1") and not $2"; exit 1; }; }
 diff <(python3 "$(dirname "$0")/../tools/tables.py" schema) <(ask .schema)
@@ -24,4 +28,4 @@ is "SELECT opened IS NULL, closed IS NULL FROM ceremonies WHERE number = 1" "1|1
 is "SELECT seats, at IS NULL FROM steps WHERE step = 400" "CO*7;CA|1"
 is "SELECT passed FROM exceptions WHERE exception = 200" 400
 is "SELECT accepted, reply FROM keys" '4000000000|{"accepted":4000000000}'
-echo "sqlite3 reads $file"
+echo "sqlite3 reads $1"
