@@ -1,3 +1,4 @@
+//! Values by their texts, the refusals, and counted streams.
 use crate::asserts::{holds, same};
 use kcr_base::place::{Facility, Place, Role};
 use kcr_base::refusal::{Absentee, Member, Part, Refusal, Thing};

@@ -1,3 +1,4 @@
+//! Safes, boxes, items and bags, and the texts of their spots.
 ghost use Rattle.std.specs.Prelude.{◌<◌};
 
 use crate::asserts::{counts, holds, same};

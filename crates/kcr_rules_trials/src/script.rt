@@ -1,3 +1,4 @@
+//! Seat texts and scripts.
 use crate::asserts::{counts, holds, same};
 use kcr_base::Refusal;
 use kcr_script::{read_again, read_script, read_seats, write_seats};

@@ -1,3 +1,4 @@
+//! The search for seats against every list of people and every set of seats, and its largest rooms.
 ghost use Rattle.std.specs.Prelude.{◌≡◌, ◌≤◌, ◌+◌, ◌*◌, ◌<◌, ◌==◌, ◌||◌, ◌&&◌, length, nat_lt, slice_index_or, false};
 
 use kcr_seats::*;
