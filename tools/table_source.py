@@ -266,7 +266,7 @@ ghost use Rattle.kcr_tables.specs.Made.{text_at};
 
 
 VERSION = """/// The number of a schema, by which a later program knows which tables a file has.
-#[derive(Clone, Copy, Debug, PartialEq, Eq, Drop)]
+#[derive(Clone, Copy, PartialEq, Eq, Drop)]
 pub struct Version {
     pub number: u32,
 }
