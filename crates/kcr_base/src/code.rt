@@ -11,7 +11,7 @@ ghost use Rattle.kcr_base.specs.Code.{filled};
 use std::cmp::Ordering;
 use std::hash::{Hash, Hasher};
 use std::marker::Model;
-use std::{fmt, str};
+use std::str;
 
 /// ASCII text of at most `N` bytes, which lies in the value itself: it takes no memory, and it is `Copy`.
 /// Clauses see its bytes. The cells behind them are zero, so that equal texts are equal values.
@@ -125,8 +125,3 @@ impl<const N: usize> Ord for Code<N> {
     }
 }
 
-impl<const N: usize> fmt::Debug for Code<N> {
-    fn fmt<W: fmt::Write>(&self, f: &mut fmt::Formatter<W>) -> fmt::Result {
-        write!(f, "{:?}", self.as_str())
-    }
-}

@@ -10,7 +10,7 @@ use std::marker::Model;
 
 /// A day of the years 2000 to 2099 of the Gregorian calendar. Clauses see its number, in days from 1970-01-01.
 /// Days are ordered by their numbers.
-#[derive(Clone, Copy, Debug, PartialEq, Eq, PartialOrd, Ord, Hash)]
+#[derive(Clone, Copy, PartialEq, Eq, PartialOrd, Ord)]
 pub struct Day {
     number: u16,
 }

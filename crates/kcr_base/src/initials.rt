@@ -6,7 +6,7 @@ use crate::code::Code;
 use std::marker::Model;
 
 /// A person's code: two to four capital letters A to Z. Their order is that of the bytes.
-#[derive(Clone, Copy, Debug, PartialEq, Eq, PartialOrd, Ord, Hash)]
+#[derive(Clone, Copy, PartialEq, Eq, PartialOrd, Ord, Hash)]
 pub struct Initials {
     code: Code<4>,
 }

@@ -6,7 +6,7 @@ use crate::code::Code;
 use std::marker::Model;
 
 /// The key of a command: one to forty letters, digits and dashes, all ASCII.
-#[derive(Clone, Copy, Debug, PartialEq, Eq, PartialOrd, Ord, Hash)]
+#[derive(Clone, Copy, PartialEq, Eq, Hash)]
 pub struct Key {
     code: Code<40>,
 }

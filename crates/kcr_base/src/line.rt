@@ -18,7 +18,7 @@ pub type Activity = Line<500>;
 pub type Remark = Line<1000>;
 
 /// 1 to `LIMIT` bytes of UTF-8 with no character below U+0020 and no U+007F. Clauses see the bytes.
-#[derive(Debug, Drop)]
+#[derive(Drop)]
 pub struct Line<const LIMIT: usize> {
     text: String,
 }

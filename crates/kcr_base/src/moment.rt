@@ -12,7 +12,7 @@ use std::marker::Model;
 
 /// A second of the years 2000 to 2099, in UTC, without leap seconds. Clauses see its number, in seconds from
 /// 1970-01-01T00:00:00Z: its day's number times 86,400, plus the second of the day. Moments are ordered by it.
-#[derive(Clone, Copy, Debug, PartialEq, Eq, PartialOrd, Ord, Hash)]
+#[derive(Clone, Copy, PartialEq, Eq, PartialOrd, Ord)]
 pub struct Moment {
     second: u64,
 }

@@ -9,7 +9,7 @@ use crate::code::Code;
 use std::marker::Model;
 
 /// A key management facility: East is Culpeper, Virginia, and West is El Segundo, California.
-#[derive(Clone, Copy, Debug, PartialEq, Eq, PartialOrd, Ord, Hash)]
+#[derive(Clone, Copy, PartialEq, Eq)]
 pub enum Facility {
     East,
     West,
@@ -17,7 +17,7 @@ pub enum Facility {
 
 /// A role of the operator's staff: Ceremony Administrator, Internal Witness, System Administrator, the Safe Security
 /// Controllers of the two safes, operations security, and Staff Witness.
-#[derive(Clone, Copy, Debug, PartialEq, Eq, PartialOrd, Ord, Hash)]
+#[derive(Clone, Copy, PartialEq, Eq)]
 pub enum Role {
     Ca,
     Iw,
@@ -29,7 +29,7 @@ pub enum Role {
 }
 
 /// The number of a place among those of its kind, from 1 to 7.
-#[derive(Clone, Copy, Debug, PartialEq, Eq, PartialOrd, Ord, Hash)]
+#[derive(Clone, Copy, PartialEq, Eq)]
 pub struct PlaceNumber {
     number: u8,
 }
@@ -48,7 +48,7 @@ impl Model for PlaceNumber {
 
 /// A custodian's place: that of a Crypto Officer at a facility, or that of a Recovery Key Share Holder. The order is
 /// CO-EAST-1 to 7, CO-WEST-1 to 7, RKSH-1 to 7.
-#[derive(Clone, Copy, Debug, PartialEq, Eq, PartialOrd, Ord, Hash)]
+#[derive(Clone, Copy, PartialEq, Eq)]
 pub enum Place {
     Co(Facility, PlaceNumber),
     Rksh(PlaceNumber),

@@ -4,11 +4,10 @@ ghost use Rattle.std.specs.List.Sorted.{IsStrictlyIncreasing};
 ghost use Rattle.kcr_base.specs.Positions.{IsPositions};
 
 use crate::code::Code;
-use std::fmt;
 use std::marker::Model;
 
 /// Positions of a step's seats, counted from 1: at most sixteen rising numbers of 1 to 16.
-#[derive(Clone, Copy, PartialEq, Eq, Hash)]
+#[derive(Clone, Copy, PartialEq, Eq)]
 pub struct Positions {
     code: Code<16>,
 }
@@ -64,11 +63,6 @@ impl Positions {
     }
 }
 
-impl fmt::Debug for Positions {
-    fn fmt<W: fmt::Write>(&self, f: &mut fmt::Formatter<W>) -> fmt::Result {
-        write!(f, "{:?}", self.as_slice())
-    }
-}
 
 /// Whether each number is below the next.
 fn is_rising(numbers: &[u8]) -> bool

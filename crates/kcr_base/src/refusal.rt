@@ -13,7 +13,7 @@ use crate::serial::{ItemCode, Serial};
 use std::alloc::{AllocError, AllocFailed, Global};
 
 /// A member of a command's JSON object.
-#[derive(Clone, Copy, Debug, PartialEq, Eq)]
+#[derive(Clone, Copy, PartialEq, Eq)]
 pub enum Member {
     Key,
     Who,
@@ -40,7 +40,7 @@ pub enum Member {
 }
 
 /// A thing that a command names: a person, a ceremony, a step of one, a bag, a box of a facility, or an item.
-#[derive(Clone, Copy, Debug, PartialEq, Eq)]
+#[derive(Clone, Copy, PartialEq, Eq)]
 pub enum Thing {
     Person(Initials),
     Ceremony(u32),
@@ -51,7 +51,7 @@ pub enum Thing {
 }
 
 /// Who is not in the room: a person, the holder of a place, or anybody trained for a role.
-#[derive(Clone, Copy, Debug, PartialEq, Eq)]
+#[derive(Clone, Copy, PartialEq, Eq)]
 pub enum Absentee {
     Person(Initials),
     Place(Place),
@@ -59,7 +59,7 @@ pub enum Absentee {
 }
 
 /// What keeps a ceremony from closing: an open step, somebody in the room, an open safe, a bag on the table.
-#[derive(Clone, Copy, Debug, PartialEq, Eq)]
+#[derive(Clone, Copy, PartialEq, Eq)]
 pub enum Part {
     Steps,
     Room,
@@ -69,7 +69,7 @@ pub enum Part {
 
 /// Why a request is refused. The variants stand in the order of their numbers, 1 to 35, which is the order in which
 /// the conditions are tested. A refusal takes no memory.
-#[derive(Clone, Copy, Debug, PartialEq, Eq)]
+#[derive(Clone, Copy, PartialEq, Eq)]
 pub enum Refusal {
     /// No message head stands at the front of the rest of the stream.
     Head,

@@ -6,7 +6,7 @@ use crate::code::Code;
 use std::marker::Model;
 
 /// The serial of a tamper-evident bag: four to sixteen capital letters and digits.
-#[derive(Clone, Copy, Debug, PartialEq, Eq, PartialOrd, Ord, Hash)]
+#[derive(Clone, Copy, PartialEq, Eq)]
 pub struct Serial {
     code: Code<16>,
 }
@@ -55,7 +55,7 @@ impl Serial {
 }
 
 /// The code of an item: four to sixteen capital letters and digits.
-#[derive(Clone, Copy, Debug, PartialEq, Eq, PartialOrd, Ord, Hash)]
+#[derive(Clone, Copy, PartialEq, Eq)]
 pub struct ItemCode {
     code: Code<16>,
 }

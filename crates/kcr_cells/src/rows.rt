@@ -284,7 +284,7 @@ impl Stored for ExceptionRow {
 }
 
 /// The number of a schema, by which a later program knows which tables a file has.
-#[derive(Clone, Copy, Debug, PartialEq, Eq, Drop)]
+#[derive(Clone, Copy, PartialEq, Eq, Drop)]
 pub struct Version {
     pub number: u32,
 }

@@ -18,14 +18,14 @@ pub use acts::{add_box, add_item, cut, open_safe, put, seal, shut_safe, take};
 pub use rows::{place_for_put, place_for_take};
 
 /// Which safe of a facility: safe 1 holds equipment, safe 2 credentials in deposit boxes.
-#[derive(Clone, Copy, Debug, PartialEq, Eq)]
+#[derive(Clone, Copy, PartialEq, Eq)]
 pub enum SafeNumber {
     One,
     Two,
 }
 
 /// A safe, and whether it is open.
-#[derive(Clone, Copy, Debug, PartialEq, Eq)]
+#[derive(Clone, Copy, PartialEq, Eq)]
 pub struct SafeRow {
     pub facility: Facility,
     pub safe: SafeNumber,
@@ -33,7 +33,7 @@ pub struct SafeRow {
 }
 
 /// A box: it lies in safe 2 of its facility, has a number of 1 to 9,999 there, and belongs to a place.
-#[derive(Clone, Copy, Debug, PartialEq, Eq)]
+#[derive(Clone, Copy, PartialEq, Eq)]
 pub struct BoxRow {
     pub facility: Facility,
     pub number: u32,
@@ -41,7 +41,7 @@ pub struct BoxRow {
 }
 
 /// Where a bag is.
-#[derive(Clone, Copy, Debug, PartialEq, Eq)]
+#[derive(Clone, Copy, PartialEq, Eq)]
 pub enum Spot {
     /// On the facility's table.
     Table(Facility),
@@ -54,7 +54,7 @@ pub enum Spot {
 }
 
 /// Where an item is.
-#[derive(Clone, Copy, Debug, PartialEq, Eq)]
+#[derive(Clone, Copy, PartialEq, Eq)]
 pub enum Rest {
     /// At the facility, in no bag.
     Loose(Facility),
@@ -63,21 +63,21 @@ pub enum Rest {
 }
 
 /// A tamper-evident bag, named by its serial, and where it is.
-#[derive(Clone, Copy, Debug, PartialEq, Eq)]
+#[derive(Clone, Copy, PartialEq, Eq)]
 pub struct Bag {
     pub serial: Serial,
     pub spot: Spot,
 }
 
 /// An item, named by its code, and where it is.
-#[derive(Clone, Copy, Debug, PartialEq, Eq)]
+#[derive(Clone, Copy, PartialEq, Eq)]
 pub struct Item {
     pub code: ItemCode,
     pub rest: Rest,
 }
 
 /// Where a bag is put, at the ceremony's facility.
-#[derive(Clone, Copy, Debug, PartialEq, Eq)]
+#[derive(Clone, Copy, PartialEq, Eq)]
 pub enum Store {
     /// In safe 1.
     SafeOne,

@@ -6,7 +6,7 @@ use std::alloc::AllocError;
 use std::marker::Model;
 
 /// People, in an order.
-#[derive(Debug, Drop)]
+#[derive(Drop)]
 pub struct People {
     list: Vec<Initials>,
 }
@@ -53,7 +53,7 @@ impl Clone for People {
 }
 
 /// Items, in an order.
-#[derive(Debug, Drop)]
+#[derive(Drop)]
 pub struct Items {
     list: Vec<ItemCode>,
 }

@@ -3,7 +3,7 @@ use kcr_base::{Activity, Day, Facility, Initials, Key, Moment, Remark, Text};
 use kcr_script::Seats;
 
 /// How far a ceremony is.
-#[derive(Clone, Copy, Debug, PartialEq, Eq)]
+#[derive(Clone, Copy, PartialEq, Eq)]
 pub enum CeremonyState {
     Planned,
     Open,
@@ -11,7 +11,7 @@ pub enum CeremonyState {
 }
 
 /// A ceremony, under its number.
-#[derive(Clone, Copy, Debug, PartialEq, Eq)]
+#[derive(Clone, Copy, PartialEq, Eq)]
 pub struct CeremonyRow {
     pub number: u32,
     pub facility: Facility,
@@ -26,14 +26,14 @@ pub struct CeremonyRow {
 
 /// The mark of a ceremony, there once it was opened: the greatest moment of its opening, signatures, exceptions and
 /// custody commands.
-#[derive(Clone, Copy, Debug, PartialEq, Eq)]
+#[derive(Clone, Copy, PartialEq, Eq)]
 pub struct MarkRow {
     pub ceremony: u32,
     pub at: Moment,
 }
 
 /// What became of a step.
-#[derive(Clone, Copy, Debug, PartialEq, Eq)]
+#[derive(Clone, Copy, PartialEq, Eq)]
 pub enum StepState {
     /// Neither signed nor passed.
     Undone,
@@ -55,7 +55,7 @@ pub struct StepRow {
 }
 
 /// Who filled a seat of a step, under the ceremony, the step and the seat's position, both counted from 1.
-#[derive(Clone, Copy, Debug, PartialEq, Eq)]
+#[derive(Clone, Copy, PartialEq, Eq)]
 pub struct SeatingRow {
     pub ceremony: u32,
     pub step: u32,

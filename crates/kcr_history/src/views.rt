@@ -37,7 +37,7 @@ pub enum Rows<K> {
 }
 
 /// Which appointments are asked for.
-#[derive(Clone, Copy, Debug, PartialEq, Eq)]
+#[derive(Clone, Copy, PartialEq, Eq)]
 pub enum AppointmentsOf {
     /// Those to the place.
     Place(Place),

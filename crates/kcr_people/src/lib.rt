@@ -15,7 +15,7 @@ pub use rows::{holder, trained};
 pub use withdrawals::WithdrawalRows;
 
 /// A person of the register.
-#[derive(Clone, Debug, PartialEq, Eq, Drop)]
+#[derive(Clone, PartialEq, Eq, Drop)]
 pub struct Person {
     /// The person's code, which nobody else has.
     pub who: Initials,
@@ -23,7 +23,7 @@ pub struct Person {
 }
 
 /// A person is trained for a role, from `since` until `until`, both days inclusive.
-#[derive(Clone, Copy, Debug, PartialEq, Eq)]
+#[derive(Clone, Copy, PartialEq, Eq)]
 pub struct Training {
     pub who: Initials,
     pub role: Role,
@@ -33,7 +33,7 @@ pub struct Training {
 
 /// The training with these four values is withdrawn from `day` on. The day is at most `until`; it
 /// can be before `since`.
-#[derive(Clone, Copy, Debug, PartialEq, Eq)]
+#[derive(Clone, Copy, PartialEq, Eq)]
 pub struct Withdrawal {
     pub who: Initials,
     pub role: Role,
@@ -44,7 +44,7 @@ pub struct Withdrawal {
 }
 
 /// A person holds a place from `since` on.
-#[derive(Clone, Copy, Debug, PartialEq, Eq)]
+#[derive(Clone, Copy, PartialEq, Eq)]
 pub struct Appointment {
     pub place: Place,
     pub who: Initials,

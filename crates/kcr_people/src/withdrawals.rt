@@ -5,7 +5,7 @@ use crate::Withdrawal;
 use std::marker::Model;
 
 /// Rows of withdrawals, seen as their list.
-#[derive(Debug, Drop)]
+#[derive(Drop)]
 pub struct WithdrawalRows {
     rows: Vec<Withdrawal>,
 }

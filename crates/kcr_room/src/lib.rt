@@ -24,7 +24,7 @@ pub use sheet::{add_rows, last_row_of};
 pub use stays::stays_of;
 
 /// Whether people come into a room or go out of it.
-#[derive(Clone, Copy, Debug, PartialEq, Eq)]
+#[derive(Clone, Copy, PartialEq, Eq)]
 pub enum Way {
     /// `in`
     Enter,
@@ -57,7 +57,7 @@ impl Way {
 }
 
 /// A row of the sheet: a person came into the room of a ceremony at a moment, or went out of it.
-#[derive(Clone, Copy, Debug, PartialEq, Eq)]
+#[derive(Clone, Copy, PartialEq, Eq)]
 pub struct SheetRow {
     /// The ceremony's number.
     pub ceremony: u32,
@@ -67,7 +67,7 @@ pub struct SheetRow {
 }
 
 /// A person was in the room of a ceremony from `since` on.
-#[derive(Clone, Copy, Debug, PartialEq, Eq)]
+#[derive(Clone, Copy, PartialEq, Eq)]
 pub struct Stay {
     /// The ceremony's number.
     pub ceremony: u32,

@@ -20,7 +20,7 @@ pub(crate) fn is_enter(way: Way) -> bool
 
 /// A row of a sheet by its moment, its place among the rows, and its person. In this order each
 /// person's rows come one after another, also where two are at one moment.
-#[derive(Clone, Copy, Debug, PartialEq, Eq, PartialOrd, Ord)]
+#[derive(Clone, Copy, PartialEq, Eq, PartialOrd, Ord)]
 struct Step {
     at: Moment,
     place: usize,

@@ -6,7 +6,7 @@ ghost use Rattle.kcr_script.specs.Seat.{seat_text, IsSeat, can_repeat};
 use kcr_base::{PlaceNumber, Role, after};
 
 /// A seat of a step: what one person in the room has to be, so that the step may be signed.
-#[derive(Clone, Copy, Debug, PartialEq, Eq)]
+#[derive(Clone, Copy, PartialEq, Eq)]
 pub enum Seat {
     /// Trained for this role on the day.
     Staff(Role),

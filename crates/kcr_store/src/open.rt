@@ -15,7 +15,7 @@ use sqlite::{Alter, Connection, Error, ErrorCode};
 use std::alloc::Global;
 
 /// Why a database is not taken.
-#[derive(Clone, Copy, Debug, PartialEq, Eq, Drop)]
+#[derive(Clone, Copy, PartialEq, Eq, Drop)]
 pub enum OpenFault {
     /// Memory was refused. The database is as it was, or has the tables of an empty register.
     Memory,

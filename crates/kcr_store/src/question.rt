@@ -2,7 +2,7 @@
 use kcr_people::Person;
 
 /// A question about a register. It changes nothing.
-#[derive(Clone, Copy, Debug, PartialEq, Eq)]
+#[derive(Clone, Copy, PartialEq, Eq)]
 pub enum Question {
     /// Everybody who was entered.
     People,

@@ -4,7 +4,7 @@ ghost use Rattle.kcr_wire.specs.Targets.{allow_text};
 
 /// The methods that a path takes: those of a question, of both a question and a command, or of a
 /// command.
-#[derive(Clone, Copy, Debug, PartialEq, Eq)]
+#[derive(Clone, Copy, PartialEq, Eq)]
 pub enum Allow {
     GetHead,
     GetHeadPost,

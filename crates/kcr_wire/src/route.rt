@@ -6,7 +6,7 @@ use matchit::{InsertError, Router};
 use std::alloc::Global;
 
 /// A kind of path, with its parts in braces left out.
-#[derive(Clone, Copy, Debug, PartialEq, Eq)]
+#[derive(Clone, Copy, PartialEq, Eq)]
 pub enum Route {
     People,
 }

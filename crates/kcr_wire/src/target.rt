@@ -11,7 +11,7 @@ use std::marker::Model;
 use std::str;
 
 /// A path with its parts in braces read.
-#[derive(Clone, Copy, Debug, PartialEq, Eq)]
+#[derive(Clone, Copy, PartialEq, Eq)]
 pub enum Target {
     People,
 }
