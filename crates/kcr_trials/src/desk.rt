@@ -1,159 +1,175 @@
-//! A register in memory, to which deeds are told one after the other.
-use crate::deeds::{Deed, act_of};
-use itoa::Buffer;
-use kcr_base::{Key, Text};
-use kcr_history::{Command, refusal_text};
+//! Streams whose reader or writer fails.
+use crate::asserts::{holds, same};
+use kcr_base::Counted;
+use kcr_desk::{DeskFault, serve};
 use kcr_store::Register;
-use sqlite::MemStore;
+use sqlite::Alter;
 use std::alloc::Global;
+use std::io;
+use std::io::{ErrorKind, Read, Write};
 use std::process::Abort;
+use std::rt::HostRuntime;
 use std::test::Fail;
 
-/// A script of one step with the seats CA and IW.
-pub(crate) const ONE_CA_IW: &str = "step,activity,seats\n1,Check bags,CA;IW\n";
+/// Ann is to enter.
+pub(crate) const ANN: &[u8] =
+    b"POST /people HTTP/1.1\r\nHost: l\r\nContent-Length: 41\r\n\r\n{\"key\":\"k1\",\"who\":\"AA\",\"name\":\"Ann Abel\"}";
 
-/// A script of one step with the seat IW.
-pub(crate) const ONE_IW: &str = "step,activity,seats\n1,Check bags,IW\n";
+/// Who is there?
+pub(crate) const LIST: &[u8] = b"GET /people HTTP/1.1\r\nHost: l\r\n\r\n";
 
-/// A register in memory, and how many keys its deeds have had.
+/// The answer to the first command.
+pub(crate) const ACCEPTED: &[u8] =
+    b"HTTP/1.1 200 OK\r\ncontent-type: application/json\r\ncontent-length: 14\r\n\r\n{\"accepted\":1}";
+
+/// Ann is there.
+pub(crate) const LISTED: &[u8] =
+    b"HTTP/1.1 200 OK\r\ncontent-type: application/json\r\ncontent-length: 54\r\n\r\n{\"people\":[{\"name\":\"Ann Abel\",\"roles\":[],\"who\":\"AA\"}]}";
+
+/// It gives these bytes, and then it ends or fails.
 #[derive(Drop)]
-pub(crate) struct Desk {
-    alloc: Global,
-    register: Register<MemStore>,
-    keys: u32,
+struct Front<'a> {
+    bytes: &'a [u8],
+    fails: bool,
 }
 
-impl Desk {
-    /// A desk over an empty register.
-    pub(crate) fn new(alloc: Global) -> Result<Desk, Fail> {
-        Ok(Desk {
-            alloc,
-            register: Register::in_memory(alloc)?,
-            keys: 0,
-        })
-    }
-
-    /// The text of the reply or of the refusal that the deed gets under this key.
-    pub(crate) fn told(&mut self, key: Key, deed: Deed) -> Result<Text, Fail> {
-        let command = Command {
-            key,
-            act: act_of(self.alloc, deed)?,
-        };
-        match self.register.apply(&command) {
-            Ok(reply) => Ok(reply.text),
-            Err(refusal) => Ok(refusal_text(self.alloc, &refusal)?),
+impl Read for Front<'_> {
+    fn read(&mut self, buf: &mut [u8]) -> io::Result<usize> {
+        if self.fails && self.bytes.is_empty() {
+            return Err(ErrorKind::BrokenPipe.into());
         }
-    }
-
-    /// The text of the reply or of the refusal that the deed gets under a new key.
-    pub(crate) fn answer(&mut self, deed: Deed) -> Result<Text, Fail> {
-        self.keys = self.keys.saturating_add(1);
-        let key = key_of(self.alloc, self.keys)?;
-        self.told(key, deed)
+        self.bytes.read(buf)
     }
 }
 
-/// The key `kN`.
-pub(crate) fn key_of(alloc: Global, number: u32) -> Result<Key, Fail> {
-    let mut text = String::from_str(alloc, "k")?;
-    text.push_str(Buffer::new().format(number))?;
-    Ok(Key::read(text.as_bytes()).ok_or("a key")?)
+/// It takes at most `width` bytes a call, and fails once it has taken so many calls.
+#[derive(Drop)]
+struct Narrow {
+    bytes: Vec<u8>,
+    width: usize,
+    left: usize,
 }
 
-/// The reply's text where nothing but the number of accepted commands is told.
-pub(crate) fn accepted(alloc: Global, count: u32) -> Result<String, Fail> {
-    let mut text = String::from_str(alloc, "{\"accepted\":")?;
-    text.push_str(Buffer::new().format(count))?;
-    text.push_str("}")?;
-    Ok(text)
+impl Write for Narrow {
+    fn write(&mut self, buf: &[u8]) -> io::Result<usize> {
+        if self.left == 0 {
+            return Err(ErrorKind::BrokenPipe.into());
+        }
+        let count = buf.len().min(self.width);
+        self.bytes.extend_from_slice(&buf[..count])?;
+        self.left -= 1;
+        Ok(count)
+    }
+
+    fn flush(&mut self) -> io::Result<()> {
+        Ok(())
+    }
 }
 
-/// Tells the deeds one after the other, each under a new key, and asserts that each gets the text beside it.
-pub(crate) fn says(
-    rt: &impl Abort,
-    desk: &mut Desk,
-    dialogue: &[(Deed, &str)],
-) -> Result<(), Fail> {
-    for (i, (deed, expected)) in dialogue.iter().enumerate() {
-        let text = desk.answer(*deed)?;
-        assert_eq!(rt; text.as_str(), *expected, "at deed {i} of the dialogue");
+/// What a stream leaves: the bytes that were written, and the fault, if there was one.
+#[derive(Drop)]
+struct Left {
+    bytes: Vec<u8>,
+    fault: Option<DeskFault>,
+}
+
+/// Has the register answer a stream.
+fn served<S: Alter>(
+    alloc: Global,
+    register: &mut Register<S>,
+    front: Front<'_>,
+    writer: Narrow,
+) -> Left {
+    let mut reader = Counted::new(front);
+    let mut writer = Counted::new(writer);
+    let fault = serve(alloc, &mut reader, &mut writer, register).err();
+    let Narrow {
+        bytes,
+        width: _,
+        left: _,
+    } = writer.into_inner();
+    Left { bytes, fault }
+}
+
+/// Has the register answer these bytes, and then the end of the stream or a fault of the reader, by one write of any
+/// length each.
+fn told<S: Alter>(alloc: Global, register: &mut Register<S>, bytes: &[u8], fails: bool) -> Left {
+    let writer = Narrow {
+        bytes: Vec::new(alloc),
+        width: 4096,
+        left: 1,
+    };
+    served(alloc, register, Front { bytes, fails }, writer)
+}
+
+/// The one answer to a message, which is written at once.
+pub(crate) fn answer<S: Alter>(
+    alloc: Global,
+    register: &mut Register<S>,
+    message: &[u8],
+) -> Vec<u8> {
+    told(alloc, register, message, false).bytes
+}
+
+/// Ann is there, and her command, sent again, gets the answer that it had.
+fn is_entered<S: Alter>(rt: &impl Abort, alloc: Global, register: &mut Register<S>) {
+    same(rt, &answer(alloc, register, LIST), LISTED);
+    same(rt, &answer(alloc, register, ANN), ACCEPTED);
+}
+
+/// Has Ann entered where so many writes of one byte succeed: what was written is a beginning of the answer.
+fn is_cut_off<S: Alter>(rt: &impl Abort, alloc: Global, register: &mut Register<S>, left: usize) {
+    let writer = Narrow {
+        bytes: Vec::new(alloc),
+        width: 1,
+        left,
+    };
+    let front = Front {
+        bytes: ANN,
+        fails: false,
+    };
+    let Left { bytes, fault } = served(alloc, register, front, writer);
+    holds(rt, fault == Some(DeskFault::Write), "a fault of the writer");
+    holds(rt, bytes.len() == left, "each write that succeeds");
+    holds(
+        rt,
+        ACCEPTED.starts_with(&bytes),
+        "a beginning of the answer",
+    );
+}
+
+#[test]
+fn each_write_fails(rt: HostRuntime) -> Result<(), Fail> {
+    for left in 0..ACCEPTED.len() {
+        let mut register = Register::in_memory(rt.alloc()).ok().ok_or("a register")?;
+        is_cut_off(&rt, rt.alloc(), &mut register, left);
+        is_entered(&rt, rt.alloc(), &mut register);
     }
     Ok(())
 }
 
-/// A desk to which the dialogue was told from the beginning.
-pub(crate) fn after(
+/// What is told before the reader fails, behind these bytes.
+fn is_told_before<S: Alter>(
     rt: &impl Abort,
     alloc: Global,
-    dialogue: &[(Deed, &str)],
-) -> Result<Desk, Fail> {
-    let mut desk = Desk::new(alloc)?;
-    says(rt, &mut desk, dialogue)?;
-    Ok(desk)
-}
-
-/// A desk at which ceremony 61 was opened at 20:00:00, when sixteen commands had been accepted: seven people entered,
-/// two of them trained, four put in places, the ceremony planned with the script, and opened.
-pub(crate) fn opened_with(rt: &impl Abort, alloc: Global, script: &str) -> Result<Desk, Fail> {
-    let mut desk = after(rt, alloc, &people_entered())?;
-    says(rt, &mut desk, &people_placed())?;
-    says(
+    register: &mut Register<S>,
+    bytes: &[u8],
+    wanted: &[u8],
+) {
+    let left = told(alloc, register, bytes, true);
+    same(rt, &left.bytes, wanted);
+    holds(
         rt,
-        &mut desk,
-        &[
-            (
-                Deed::Plan(61, "EAST", "2025-02-13", script),
-                "{\"accepted\":15}",
-            ),
-            (Deed::Open(61, "20:00:00"), "{\"accepted\":16}"),
-        ],
-    )?;
-    Ok(desk)
+        left.fault == Some(DeskFault::Read),
+        "a fault of the reader",
+    );
 }
 
-/// Seven people enter.
-fn people_entered() -> [(Deed<'static>, &'static str); 7] {
-    [
-        (Deed::Enter("AA", "Ann Abel"), "{\"accepted\":1}"),
-        (Deed::Enter("BB", "Bob Berg"), "{\"accepted\":2}"),
-        (Deed::Enter("CC", "Cole, Cy"), "{\"accepted\":3}"),
-        (Deed::Enter("EA", "Eva Ames"), "{\"accepted\":4}"),
-        (Deed::Enter("EB", "Eli Boon"), "{\"accepted\":5}"),
-        (Deed::Enter("EE", "Eda East"), "{\"accepted\":6}"),
-        (Deed::Enter("WC", "Wim Cobb"), "{\"accepted\":7}"),
-    ]
-}
-
-/// Two of them are trained, and four are put in places.
-fn people_placed() -> [(Deed<'static>, &'static str); 7] {
-    [
-        (
-            Deed::Train("AA", "CA", "2025-01-01", "2025-02-13"),
-            "{\"accepted\":8}",
-        ),
-        (
-            Deed::Train("AA", "IW", "2025-01-01", "2025-02-13"),
-            "{\"accepted\":9}",
-        ),
-        (
-            Deed::Train("BB", "CA", "2025-01-01", "2025-02-13"),
-            "{\"accepted\":10}",
-        ),
-        (
-            Deed::Appoint("CO-EAST-1", "EA", "2025-01-01"),
-            "{\"accepted\":11}",
-        ),
-        (
-            Deed::Appoint("CO-EAST-2", "EB", "2025-01-01"),
-            "{\"accepted\":12}",
-        ),
-        (
-            Deed::Appoint("CO-EAST-5", "EE", "2025-01-01"),
-            "{\"accepted\":13}",
-        ),
-        (
-            Deed::Appoint("CO-WEST-3", "WC", "2025-01-01"),
-            "{\"accepted\":14}",
-        ),
-    ]
+#[test]
+fn a_read_fails(rt: HostRuntime) -> Result<(), Fail> {
+    let mut register = Register::in_memory(rt.alloc()).ok().ok_or("a register")?;
+    is_told_before(&rt, rt.alloc(), &mut register, b"", b"");
+    is_told_before(&rt, rt.alloc(), &mut register, ANN, ACCEPTED);
+    is_entered(&rt, rt.alloc(), &mut register);
+    Ok(())
 }

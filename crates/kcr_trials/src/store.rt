@@ -1,8 +1,7 @@
-//! The register itself: its first commands, databases that are not its own, and stops at calls of its files.
-use crate::asserts::{counts, holds, same};
-use kcr_base::{Initials, Key, Name, Refusal};
-use kcr_history::{Act, Command};
-use kcr_store::{OpenFault, Question, Register, Shown};
+//! A register whose files stop, one that is broken, and databases that are not its own.
+use crate::asserts::{holds, same};
+use crate::desk::{ACCEPTED, ANN, LIST, LISTED, answer};
+use kcr_store::{OpenFault, Register};
 use sqlite::{Alter, Connection, FileStore, Files, MemStore, Options};
 use sqlite_disk::{Crash, Fuse, Memory};
 use std::alloc::Global;
@@ -10,64 +9,38 @@ use std::process::Abort;
 use std::rt::HostRuntime;
 use std::test::Fail;
 
-/// A command that enters a person.
-fn enter(alloc: Global, key: &str, who: &str, name: &str) -> Result<Command, Fail> {
-    Ok(Command {
-        key: Key::read(key.as_bytes()).ok_or("a key")?,
-        act: Act::Enter {
-            who: Initials::read(who.as_bytes()).ok_or("initials")?,
-            name: Name::read(alloc, name.as_bytes())?.ok_or("a name")?,
-        },
-    })
+/// Bob is to enter.
+const BOB: &[u8] =
+    b"POST /people HTTP/1.1\r\nHost: l\r\nContent-Length: 41\r\n\r\n{\"key\":\"k2\",\"who\":\"BB\",\"name\":\"Bob Berg\"}";
+
+/// The answer to the second command.
+const SECOND: &[u8] =
+    b"HTTP/1.1 200 OK\r\ncontent-type: application/json\r\ncontent-length: 14\r\n\r\n{\"accepted\":2}";
+
+/// Ann and Bob are there.
+const BOTH: &[u8] =
+    b"HTTP/1.1 200 OK\r\ncontent-type: application/json\r\ncontent-length: 96\r\n\r\n{\"people\":[{\"name\":\"Ann Abel\",\"roles\":[],\"who\":\"AA\"},{\"name\":\"Bob Berg\",\"roles\":[],\"who\":\"BB\"}]}";
+
+/// The device failed.
+const DISK: &[u8] =
+    b"HTTP/1.1 500 Internal Server Error\r\ncontent-type: application/json\r\ncontent-length: 30\r\n\r\n{\"number\":34,\"refusal\":\"disk\"}";
+
+/// The device failed before.
+const BROKEN: &[u8] =
+    b"HTTP/1.1 500 Internal Server Error\r\ncontent-type: application/json\r\ncontent-length: 32\r\n\r\n{\"number\":35,\"refusal\":\"broken\"}";
+
+/// A broken register answers commands and questions alike.
+fn is_mute<S: Alter>(rt: &impl Abort, alloc: Global, register: &mut Register<S>) {
+    same(rt, &answer(alloc, register, ANN), BROKEN);
+    same(rt, &answer(alloc, register, LIST), BROKEN);
 }
 
-/// The reply's text, or the number of the refusal.
-fn told(outcome: &Result<kcr_history::Reply, Refusal>) -> (&str, u8) {
-    match outcome {
-        Ok(reply) => (reply.text.as_str(), 0),
-        Err(refusal) => ("", refusal.number()),
-    }
-}
-
-// One person, the repeat of the command, the same key for another command, and a second person under an earlier code.
-#[test]
-fn first_commands(rt: HostRuntime) -> Result<(), Fail> {
-    let alloc = rt.alloc();
-    let mut register = Register::in_memory(alloc)?;
-    let ann = enter(alloc, "k1", "AB", "Ann Abel")?;
-    same(&rt, &told(&register.apply(&ann)), &("{\"accepted\":1}", 0));
-    same(&rt, &told(&register.apply(&ann)), &("{\"accepted\":1}", 0));
-    let Shown::People(people) = register.look(&Question::People)?;
-    counts(&rt, people.len(), 1);
-    same(&rt, &people[0].who.as_str(), &"AB");
-    same(&rt, &people[0].name.as_str(), &"Ann Abel");
-    let other = enter(alloc, "k1", "AB", "Ann B")?;
-    same(&rt, &told(&register.apply(&other)), &("", 11));
-    let again = enter(alloc, "k2", "AB", "Ann B")?;
-    same(&rt, &told(&register.apply(&again)), &("", 13));
-    let aaron = enter(alloc, "k2", "AA", "Aaron Ames")?;
-    same(
-        &rt,
-        &told(&register.apply(&aaron)),
-        &("{\"accepted\":2}", 0),
-    );
-    let Shown::People(people) = register.look(&Question::People)?;
-    counts(&rt, people.len(), 2);
-    same(&rt, &people[0].who.as_str(), &"AA");
-    same(&rt, &people[1].who.as_str(), &"AB");
-    Ok(())
-}
-
-// Once it is broken it answers nothing else.
 #[test]
 fn a_broken_register(rt: HostRuntime) -> Result<(), Fail> {
-    let alloc = rt.alloc();
-    let mut register = Register::in_memory(alloc)?;
+    let mut register = Register::in_memory(rt.alloc()).ok().ok_or("a register")?;
     holds(&rt, !register.is_broken(), "no broken register");
     register.mark_broken();
-    holds(&rt, register.is_broken(), "a register marked broken");
-    let ann = enter(alloc, "k1", "AA", "Ann Abel")?;
-    same(&rt, &told(&register.apply(&ann)), &("", 35));
+    is_mute(&rt, rt.alloc(), &mut register);
     Ok(())
 }
 
@@ -86,43 +59,46 @@ fn take<S: Alter + Drop>(
 }
 
 /// Takes a database in memory that these statements made.
-fn fault_over(alloc: Global, made: &str) -> Result<Option<OpenFault>, Fail> {
-    let mut connection: Connection<MemStore> = Connection::open_in_memory(alloc)?;
-    connection.execute_batch(made)?;
-    match take(alloc, connection) {
-        Ok(_) => Ok(None),
-        Err(fault) => Ok(fault),
+fn fault_over(alloc: Global, made: &str) -> Option<OpenFault> {
+    let mut connection: Connection<MemStore> = Connection::open_in_memory(alloc).ok()?;
+    if connection.execute_batch(made).is_err() {
+        return None;
     }
+    take(alloc, connection).err()?
 }
 
 #[test]
-fn other_databases(rt: HostRuntime) -> Result<(), Fail> {
-    let alloc = rt.alloc();
-    same(
-        &rt,
-        &fault_over(alloc, "CREATE TABLE t (a INT)")?,
-        &Some(OpenFault::Foreign),
+fn other_databases(rt: HostRuntime) {
+    let foreign = fault_over(rt.alloc(), "CREATE TABLE t (a INT)");
+    holds(&rt, foreign == Some(OpenFault::Foreign), "another's tables");
+    let version = fault_over(
+        rt.alloc(),
+        "CREATE TABLE versions (number INT NOT NULL, PRIMARY KEY (number)) STRICT; INSERT INTO versions VALUES (9)",
     );
-    same(
+    holds(
         &rt,
-        &(fault_over(
-            alloc,
-            "CREATE TABLE versions (number INT NOT NULL, PRIMARY KEY (number)) STRICT; INSERT INTO versions VALUES (9)",
-        )?),
-        &Some(OpenFault::Version),
+        version == Some(OpenFault::Version),
+        "a version to come",
     );
-    Ok(())
 }
 
-/// Opens what a crash left.
-fn reopen<D: Crash + Drop>(alloc: Global, files: Files<D>) -> Option<Register<FileStore<D>>> {
-    let Files { mut log, mut db } = files;
-    log.crash();
-    db.crash();
-    match Connection::open_files(alloc, Files { log, db }, Options::new(7)) {
+/// Opens the files; none where that fails.
+fn open<D: Crash + Drop>(alloc: Global, files: Files<D>) -> Option<Register<FileStore<D>>> {
+    if !files.may_be_used() {
+        return None;
+    }
+    match Connection::open_files(alloc, files, Options::new(7)) {
         Ok(connection) => take(alloc, connection).ok(),
         Err(_) => None,
     }
+}
+
+/// What a crash leaves of the files.
+fn crashed<D: Crash>(files: Files<D>) -> Files<D> {
+    let Files { mut log, mut db } = files;
+    log.crash();
+    db.crash();
+    Files { log, db }
 }
 
 /// The files as they are, with no copy of the log into the database.
@@ -130,72 +106,87 @@ fn files_of<D: Crash + Drop>(register: Register<FileStore<D>>) -> Files<D> {
     register.close().into_store().close()
 }
 
-/// Files with one person, of which one passes so many calls on.
-fn fused(
+/// The files of the register once Ann is entered.
+fn with_ann<D: Crash + Drop>(
+    rt: &impl Abort,
     alloc: Global,
-    log: u64,
-    db: u64,
-) -> Result<Option<Register<FileStore<Fuse<Memory>>>>, Fail> {
-    let files = Files {
-        log: Memory::new(alloc),
-        db: Memory::new(alloc),
-    };
-    let mut register = reopen(alloc, files).ok_or("the first open")?;
-    register.apply(&enter(alloc, "k1", "AA", "Ann Abel")?)?;
-    let files = files_of(register);
-    let files = Files {
+    register: Register<FileStore<D>>,
+) -> Files<D> {
+    let mut register = register;
+    same(rt, &answer(alloc, &mut register, ANN), ACCEPTED);
+    files_of(register)
+}
+
+/// A register over empty files.
+fn new_register(alloc: Global) -> Option<Register<FileStore<Memory>>> {
+    let log = Memory::new(alloc);
+    let db = Memory::new(alloc);
+    open(alloc, Files { log, db })
+}
+
+/// The files, of which one passes so many calls on.
+fn fused(files: Files<Memory>, log: u64, db: u64) -> Files<Fuse<Memory>> {
+    Files {
         log: Fuse::new(files.log, log),
         db: Fuse::new(files.db, db),
-    };
-    if !files.may_be_used() {
-        return Err(Fail::from("a file that may not be used"));
-    }
-    match Connection::open_files(alloc, files, Options::new(7)) {
-        Ok(connection) => Ok(take(alloc, connection).ok()),
-        Err(_) => Ok(None),
     }
 }
 
-/// Whether the command is accepted. Where it is not, the device failed, and the register is broken.
-fn is_entered<S: Alter>(rt: &impl Abort, register: &mut Register<S>, command: &Command) -> bool {
-    let answer = register.apply(command);
-    if answer.is_ok() {
+/// Whether Bob is entered. Where he is not, the device failed, and the register is broken.
+fn is_accepted<S: Alter>(rt: &impl Abort, alloc: Global, register: &mut Register<S>) -> bool {
+    let told = answer(alloc, register, BOB);
+    if told.as_slice() == SECOND {
         return true;
     }
-    same(rt, &told(&answer), &("", 34));
-    holds(rt, register.is_broken(), "a broken register");
-    same(rt, &told(&register.apply(command)), &("", 35));
+    same(rt, &told, DISK);
+    is_mute(rt, alloc, register);
     false
 }
 
-/// Whether the command met no stop. Afterwards the tables are those before it or after it, and sent again it gets
-/// the reply that it would have had.
-fn one_stop(rt: &impl Abort, alloc: Global, log: u64, db: u64) -> Result<Option<bool>, Fail> {
-    let Some(mut register) = fused(alloc, log, db)? else {
-        return Ok(None);
-    };
-    let bob = enter(alloc, "k2", "BB", "Bob Berg")?;
-    let is_accepted = is_entered(rt, &mut register, &bob);
-    let mut again = reopen(alloc, files_of(register)).ok_or("the open after the crash")?;
-    let Shown::People(there) = again.look(&Question::People)?;
-    holds(
-        rt,
-        there.len() == 1 || there.len() == 2,
-        "one person, or two",
-    );
-    holds(
-        rt,
-        there.len() == 2 || !is_accepted,
-        "two where it was accepted",
-    );
-    same(rt, &told(&again.apply(&bob)), &("{\"accepted\":2}", 0));
-    let Shown::People(there) = again.look(&Question::People)?;
-    counts(rt, there.len(), 2);
-    Ok(Some(is_accepted))
+/// The tables are those before the command or after it, and sent again it gets the answer that it would have had.
+fn is_whole<S: Alter>(
+    rt: &impl Abort,
+    alloc: Global,
+    register: &mut Register<S>,
+    was_accepted: bool,
+) {
+    let there = answer(alloc, register, LIST);
+    if was_accepted || there.as_slice() != LISTED {
+        same(rt, &there, BOTH);
+    }
+    same(rt, &answer(alloc, register, BOB), SECOND);
+    same(rt, &answer(alloc, register, LIST), BOTH);
+}
+
+/// The files, opened again, have the whole register.
+fn are_whole<D: Crash + Drop>(rt: &impl Abort, alloc: Global, files: Files<D>, was_accepted: bool) {
+    match open(alloc, files) {
+        Some(mut register) => is_whole(rt, alloc, &mut register, was_accepted),
+        None => holds(rt, false, "the opening after the crash"),
+    }
+}
+
+/// Whether Bob is entered. The register is whole after a crash.
+fn outlives_a_crash<D: Crash + Drop>(
+    rt: &impl Abort,
+    alloc: Global,
+    register: Register<FileStore<D>>,
+) -> bool {
+    let mut register = register;
+    let was_accepted = is_accepted(rt, alloc, &mut register);
+    are_whole(rt, alloc, crashed(files_of(register)), was_accepted);
+    was_accepted
+}
+
+/// Whether Bob is entered where a file stops after so many calls, none where the register cannot be opened.
+fn one_stop(rt: &impl Abort, alloc: Global, log: u64, db: u64) -> Option<bool> {
+    let files = with_ann(rt, alloc, new_register(alloc)?);
+    let register = open(alloc, fused(files, log, db))?;
+    Some(outlives_a_crash(rt, alloc, register))
 }
 
 /// The number of runs that a stop cut short, at every fifth call from the first on until a run meets none.
-fn sweep(rt: &impl Abort, alloc: Global, is_log: bool) -> Result<u64, Fail> {
+fn sweep(rt: &impl Abort, alloc: Global, is_log: bool) -> u64 {
     let mut stops = 0u64;
     for round in 0..400u64 {
         let calls = round.saturating_mul(5);
@@ -204,25 +195,27 @@ fn sweep(rt: &impl Abort, alloc: Global, is_log: bool) -> Result<u64, Fail> {
         } else {
             (u64::MAX, calls)
         };
-        match one_stop(rt, alloc, log, db)? {
+        match one_stop(rt, alloc, log, db) {
             None => {}
             Some(false) => stops = stops.saturating_add(1),
-            Some(true) => return Ok(stops),
+            Some(true) => return stops,
         }
     }
-    Err(Fail::from("no run without a stop"))
+    holds(rt, false, "a run without a stop");
+    stops
 }
 
+// The command writes to the log alone, so no stop at calls of the database meets it.
 #[test]
-fn a_stop_at_calls_of_the_log(rt: HostRuntime) -> Result<(), Fail> {
-    let stops = sweep(&rt, rt.alloc(), true)?;
-    holds(&rt, stops > 0, "some stops");
-    Ok(())
-}
-
-// The command writes to the log alone.
-#[test]
-fn a_stop_at_calls_of_the_database(rt: HostRuntime) -> Result<(), Fail> {
-    same(&rt, &sweep(&rt, rt.alloc(), false)?, &0);
-    Ok(())
+fn stops_at_calls(rt: HostRuntime) {
+    holds(
+        &rt,
+        sweep(&rt, rt.alloc(), true) > 0,
+        "some stops of the log",
+    );
+    holds(
+        &rt,
+        sweep(&rt, rt.alloc(), false) == 0,
+        "no stop of the database",
+    );
 }
