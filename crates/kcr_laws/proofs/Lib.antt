@@ -13,3 +13,10 @@ pub mod Balance
 pub mod Runs
 pub mod Halves
 pub mod Fixed
+pub mod Firsts
+pub mod Signing
+pub mod Crowding
+pub mod Places
+pub mod Hall
+pub mod Shortages
+pub mod Answered

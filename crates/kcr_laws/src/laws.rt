@@ -1,26 +1,35 @@
 //! What holds of every history that the machine leads to: functions that do nothing, whose contracts say it.
-ghost use Rattle.std.specs.Prelude.{◌≡◌, ◌∷◌, ◌++◌, ◌==◌, ℕ, ◌≤◌, nat_lt, Bool, true, List, Some, IsTrue, ◌⊎◌};
+ghost use Rattle.std.specs.Prelude.{◌≡◌, ◌∷◌, ◌++◌, ◌==◌, map, option_map, ℕ, suc, ◌<◌, ◌≤◌, nat_lt, Bool, true, List, length, Option, Some, None, IsTrue, ◌⊎◌, ◌↔◌};
 ghost use Rattle.kcr_base.specs.declared.place.Place.{Place};
 ghost use Rattle.kcr_base.specs.declared.place.Role.{Role};
 ghost use Rattle.kcr_base.specs.declared.refusal.Refusal.{Refusal};
-ghost use Rattle.kcr_base.specs.declared.refusal.Refusal.TheVariants.{Short};
+ghost use Rattle.kcr_base.specs.declared.refusal.Refusal.TheVariants.{Short, Crowd, Lone, Range, Vacant};
+ghost use Rattle.kcr_people.specs.People.{person_holds_from_by, trained_from_by, open_row_by};
+ghost use Rattle.kcr_room.specs.declared.Way.{Way};
 ghost use Rattle.kcr_room.specs.Moments.{IsFirst, IsEver};
 ghost use Rattle.kcr_room.specs.Room.{crowd_by};
 ghost use Rattle.kcr_room.specs.Stays.{stays_by, first_lone_in_by, is_crowded_in_by};
 ghost use Rattle.kcr_history.specs.declared.commands.Act.{Act};
+ghost use Rattle.kcr_history.specs.declared.commands.Act.TheVariants.{Sheet};
 ghost use Rattle.kcr_history.specs.Runs.{Request, Answered, State, AreRegisters, run};
 ghost use Rattle.kcr_history.specs.declared.commands.Answer.{Answer};
 ghost use Rattle.kcr_history.specs.declared.commands.Command.{Command};
 ghost use Rattle.kcr_history.specs.declared.commands.Entry.{Entry};
 ghost use Rattle.kcr_history.specs.History.{History, entry_of};
 ghost use Rattle.kcr_history.specs.Training.{holder, trained};
-ghost use Rattle.kcr_history.specs.Ceremonies.{settled};
+ghost use Rattle.kcr_history.specs.Ceremonies.{is_ceremony, settled, steps_of, next};
+ghost use Rattle.kcr_history.specs.Seating as Seatings;
+ghost use Rattle.kcr_history.specs.Seating.{IsLeast};
 ghost use Rattle.kcr_history.specs.Room.{sheet, sheet_after};
-ghost use Rattle.kcr_history.specs.Conditions.{fault};
+ghost use Rattle.kcr_history.specs.Tables.{trainings, withdrawals, appointments, seats_at};
+ghost use Rattle.kcr_history.specs.Conditions.{fault, crowded, lone, place_or_person_holds, not_after_first_day, vacant};
 ghost use Rattle.kcr_history.specs.Texts.{same_command};
 ghost use Rattle.kcr_history.specs.Machine.{Outcome, Accepts, Refuses, machine, IsRegister};
 ghost use Rattle.kcr_history.specs.Laws.{IsOnce, IsSound, IsBalanced};
+ghost use Rattle.kcr_laws.specs.Conditions.{signature, IsAccepted, CanFill, IsShortOf, IsEverCrowded, IsFirstAlone, IsNeverAlone, IsHeldFrom, HoldsFrom, IsTrainedFrom, BeginsFrom, held_since};
 ghost use Rattle.kcr_laws.specs.Examples.{AreAnswered};
+
+use kcr_people::laws::{person_holds_from_a_day, place_held_from_a_day, trained_from_a_day};
 
 /// No key was accepted twice.
 pub fn keys_stand_once()
@@ -94,3 +103,85 @@ pub fn registers_are_sound()
 pub fn registers_are_balanced()
     ensures { (A : History) → IsRegister A → IsBalanced A }
 {}
+
+/// A step is signed exactly when it is next and distinct people then in the room can fill its seats: under a new key, and
+/// before the register is full, a signature is accepted exactly where the ceremony is open, the step is the next one of its
+/// script, the moment is not before the ceremony's mark, and some people, all distinct and in the room at the moment, are
+/// each eligible for one of the step's seats. Such a ceremony is planned, and the answer names the first such people.
+pub fn steps_are_signed_by_who_fill_their_seats()
+    ensures signed { (A : History) (key : List ℕ) (ceremony step at : ℕ) → entry_of A key ≡ None → length A < 4000000000 →
+        IsAccepted A (signature key ceremony step at) ↔ (IsTrue (next A ceremony step at) × CanFill A ceremony step at) }
+    ensures known { (A : History) (ceremony step at : ℕ) → IsTrue (next A ceremony step at) → IsTrue (is_ceremony A ceremony) }
+    ensures first { (A : History) (key : List ℕ) (ceremony step at : ℕ) (answer : Answer) (after : History) → entry_of A key ≡ None →
+        machine A (signature key ceremony step at) (Accepts answer) after →
+        (people : List (List ℕ)) × Seatings.IsFirst A ceremony at (seats_at (steps_of A ceremony) step) people × (answer.seating ≡ Some people) }
+{}
+
+/// A step is short of people exactly when it is next and nobody can fill its seats: under a new key, and before the register is
+/// full, a signature is refused with a least set of the step's seats, which fewer people in the room fit than it has seats,
+/// exactly where the step is next and no people, all distinct, are each eligible for one of its seats. The refusal `short` of
+/// a signature always names such a set, its positions counted from 1.
+pub fn steps_are_short_where_nobody_fills_their_seats()
+    ensures short { (A : History) (key : List ℕ) (ceremony step at : ℕ) → entry_of A key ≡ None → length A < 4000000000 →
+        IsShortOf A key ceremony step at ↔ (IsTrue (next A ceremony step at) × (CanFill A ceremony step at → ⊥)) }
+    ensures named { (A : History) (key : List ℕ) (ceremony step at : ℕ) (named : List ℕ) (after : History) → entry_of A key ≡ None →
+        machine A (signature key ceremony step at) (Refuses (Short named)) after →
+        (positions : List ℕ) × IsLeast A ceremony at (seats_at (steps_of A ceremony) step) positions × (named ≡ map suc positions) }
+{}
+
+/// Every command gets an answer: from every history the machine has a step, whatever it is told.
+pub fn every_command_is_answered()
+    ensures { (A : History) (x : Command) → (outcome : Outcome) × (after : History) × machine A x outcome after }
+{}
+
+/// The refusal `crowd` holds of a sheet request exactly where at some moment more than 128 people would be in the room, by
+/// the sheet with its rows; and a request that is answered so would have such a moment.
+pub fn sheets_are_refused_at_a_crowded_moment()
+    ensures holds { (A : History) (act : Act) (ceremony : ℕ) →
+        crowded (sheet_after act (sheet A)) ceremony ≡ Some Crowd ↔ IsEverCrowded (sheet_after act (sheet A)) ceremony }
+    ensures refused { (A : History) (ceremony : ℕ) (way : Way) (people : List (List ℕ)) (at : ℕ) →
+        fault A (Sheet ceremony way people at) ≡ Some Crowd → IsEverCrowded (sheet_after (Sheet ceremony way people at) (sheet A)) ceremony }
+{}
+
+/// The refusal `lone` holds of a sheet request with a moment exactly where that is the first one at which exactly one person
+/// would be in the room, by the sheet with its rows, and it does not hold exactly where there is no such moment; and a
+/// request that is answered so would have that first moment.
+pub fn sheets_are_refused_at_a_lone_moment()
+    ensures holds { (A : History) (act : Act) (ceremony t : ℕ) →
+        lone (sheet_after act (sheet A)) ceremony ≡ Some (Lone t) ↔ IsFirstAlone (sheet_after act (sheet A)) ceremony t }
+    ensures never { (A : History) (act : Act) (ceremony : ℕ) →
+        lone (sheet_after act (sheet A)) ceremony ≡ None ↔ IsNeverAlone (sheet_after act (sheet A)) ceremony }
+    ensures refused { (A : History) (ceremony : ℕ) (way : Way) (people : List (List ℕ)) (at t : ℕ) →
+        fault A (Sheet ceremony way people at) ≡ Some (Lone t) → IsFirstAlone (sheet_after (Sheet ceremony way people at) (sheet A)) ceremony t }
+{}
+
+/// In every register the refusal `held` holds of an appointment exactly where on its day or a later one somebody holds the
+/// place, or the person holds some place; of a replacement exactly where the person does.
+pub fn places_are_held_on_some_day()
+    ensures appointment { (A : History) → IsRegister A → (place : Place) (who : List ℕ) (day : ℕ) →
+        IsTrue (place_or_person_holds A place who day) ↔ (IsHeldFrom A place day ⊎ HoldsFrom A who day) }
+    ensures replacement { (A : History) → IsRegister A → (who : List ℕ) (day : ℕ) →
+        IsTrue (person_holds_from_by (appointments A) who day) ↔ HoldsFrom A who day }
+{
+    place_held_from_a_day();
+    person_holds_from_a_day();
+}
+
+/// Whether somebody may follow in a place, or give it up, is told by its last command: the row that has no end, if there is
+/// one, begins on the day from which on that command puts somebody there. So of a replacement and of a release `range` holds
+/// exactly where the last command of the place puts somebody there from that very day or a later one on, and `vacant` exactly
+/// where it is a release, or where there is none.
+pub fn places_are_as_their_last_command_says()
+    ensures rows { (A : History) (place : Place) → option_map (λ row. row.since) (open_row_by (appointments A) place) ≡ held_since A place }
+    ensures range { (A : History) (place : Place) (day : ℕ) → not_after_first_day A place day ≡ Some Range ↔ BeginsFrom A place day }
+    ensures vacant { (A : History) (place : Place) → vacant A place ≡ Some Vacant ↔ held_since A place ≡ None }
+{}
+
+/// In every register the test of a withdrawal, whether there is something to withdraw, passes exactly where on its day or a
+/// later one the person is trained for the role.
+pub fn trainings_are_there_on_some_day()
+    ensures { (A : History) → IsRegister A → (who : List ℕ) (role : Role) (day : ℕ) →
+        IsTrue (trained_from_by (trainings A) (withdrawals A) who role day) ↔ IsTrainedFrom A who role day }
+{
+    trained_from_a_day();
+}

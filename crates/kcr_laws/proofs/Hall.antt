@@ -1,0 +1,271 @@
+-- Of some seats and people either each seat gets a person of its own who fits it, or fewer people fit some of the seats than
+-- those are: the theorem of Philip Hall, by one person after the other.
+use Rattle.std.proofs.Common.{◌≡◌, ℕ, ◌+◌, ◌<◌, ◌≤◌, Bool, true, false, cond, not, ◌||◌, ◌&&◌, ◌==◌, nat_lt, List, [], ◌∷◌, ◌⊎◌, inl, inr, refl, sym, ap, ◌∙◌, subst, arith}
+use Rattle.std.specs.List.{list_any}
+use Rattle.std.proofs.lemmas.Bool.{false≢true, both_ways, and_parts, and_from, and_cases, or_cases, or_left, or_right, not-true, not_from_false, cases_Bool, eqb-true, eq-eqb, ltb-true, ltb-false}
+use Rattle.kcr_base.specs.Same.{same_text}
+use Rattle.kcr_room.proofs.Agreement.{same-itself}
+
+-- SETS OF SEATS
+
+-- the number is one of the list
+abbrev pub is_one : ℕ → List ℕ → Bool
+is_one p ps = list_any (λ q. q == p) ps
+
+-- one for yes, none for no
+abbrev pub bit : Bool → ℕ
+bit true = 1
+bit false = 0
+
+-- how many of the numbers are in the set
+abbrev pub count : List ℕ → (ℕ → Bool) → ℕ
+count [] s = 0
+count (i ∷ is) s = bit (s i) + count is s
+
+-- in either of two sets, and in both
+abbrev pub either : (ℕ → Bool) → (ℕ → Bool) → ℕ → Bool
+either s t i = s i || t i
+
+abbrev pub both : (ℕ → Bool) → (ℕ → Bool) → ℕ → Bool
+both s t i = s i && t i
+
+-- where some number of a list passes a test there is such a number, and the other way round
+some_at : (test : ℕ → Bool) (is : List ℕ) → list_any test is ≡ true → (i : ℕ) × (is_one i is ≡ true) × (test i ≡ true)
+some_at test [] h = absurd (false≢true h)
+some_at test (i ∷ is) h = elim (or_cases (test i) (list_any test is) h) [
+  | inl e ↦ (i, or_left (i == i) (is_one i is) (eq-eqb i i refl), e)
+  | inr e ↦ let w = some_at test is e in (w.0, or_right (i == w.0) (is_one w.0 is) w.1, w.2)
+]
+
+some_from : (test : ℕ → Bool) (is : List ℕ) (i : ℕ) → is_one i is ≡ true → test i ≡ true → list_any test is ≡ true
+some_from test [] i h e = absurd (false≢true h)
+some_from test (j ∷ is) i h e = elim (or_cases (j == i) (is_one i is) h) [
+  | inl q ↦ or_left (test j) (list_any test is) (ap test (eqb-true j i q) ∙ e)
+  | inr q ↦ or_right (test j) (list_any test is) (some_from test is i q e)
+]
+
+bit_parts : (a b : Bool) → bit (a || b) + bit (a && b) ≡ bit a + bit b
+bit_parts true true = refl
+bit_parts true false = refl
+bit_parts false true = refl
+bit_parts false false = refl
+
+-- as many are in either and in both as in the one and in the other
+count_parts : (is : List ℕ) (s t : ℕ → Bool) → count is (either s t) + count is (both s t) ≡ count is s + count is t
+count_parts [] s t = refl
+count_parts (i ∷ is) s t = omega (arith, bit_parts (s i) (t i), count_parts is s t)
+
+some_counts : (is : List ℕ) (s : ℕ → Bool) → list_any s is ≡ true → 0 < count is s
+some_counts [] s h = absurd (false≢true h)
+some_counts (i ∷ is) s h = by_test (s i) h (some_counts is s)
+  where
+    by_test : (b : Bool) → (b || list_any s is) ≡ true → (list_any s is ≡ true → 0 < count is s) → 0 < bit b + count is s
+    by_test true g ih = omega arith
+    by_test false g ih = omega (arith, ih g)
+
+-- each of the people stands once
+abbrev pub stand_once : List (List ℕ) → Bool
+stand_once [] = true
+stand_once (who ∷ people) = not (list_any (same_text who) people) && stand_once people
+
+module _ (all : List ℕ) (fits : ℕ → List ℕ → Bool) where
+  -- the person fits a seat of the set
+  abbrev pub takes : (ℕ → Bool) → List ℕ → Bool
+  takes s who = list_any (λ i. s i && fits i who) all
+
+  -- how many of the people do
+  abbrev pub takers : (ℕ → Bool) → List (List ℕ) → ℕ
+  takers s [] = 0
+  takers s (who ∷ people) = bit (takes s who) + takers s people
+
+  -- each seat of the set has a person who fits it, and nobody two of them
+  pub record IsAssigned (people : List (List ℕ)) (need : ℕ → Bool) (w : ℕ → List ℕ) : Type 0 where
+    pub fit : (i : ℕ) → is_one i all ≡ true → need i ≡ true → fits i (w i) ≡ true
+    pub there : (i : ℕ) → is_one i all ≡ true → need i ≡ true → list_any (same_text (w i)) people ≡ true
+    pub apart : (i j : ℕ) → is_one i all ≡ true → is_one j all ≡ true → need i ≡ true → need j ≡ true → w i ≡ w j → i ≡ j
+
+  -- fewer people fit a part of the set than it has seats
+  pub record IsScarce (people : List (List ℕ)) (need s : ℕ → Bool) : Type 0 where
+    pub part : (i : ℕ) → s i ≡ true → need i ≡ true
+    pub few : takers s people < count all s
+
+  -- the seats of the set have people, or some of them are scarce
+  abbrev pub OneOfTwo : List (List ℕ) → (ℕ → Bool) → Type 0
+  OneOfTwo people need = ((w : ℕ → List ℕ) × IsAssigned people need w) ⊎ ((s : ℕ → Bool) × IsScarce people need s)
+
+  bits_most : (e b s t : Bool) → (e ≡ true → (s || t) ≡ true) → (b ≡ true → s ≡ true) → (b ≡ true → t ≡ true) → bit e + bit b ≤ bit s + bit t
+  bits_most false false s t f g h = omega arith
+  bits_most true false true t f g h = omega arith
+  bits_most true false false true f g h = omega arith
+  bits_most true false false false f g h = absurd (false≢true (f refl))
+  bits_most e true false t f g h = absurd (false≢true (g refl))
+  bits_most e true true false f g h = absurd (false≢true (h refl))
+  bits_most true true true true f g h = omega arith
+  bits_most false true true true f g h = omega arith
+
+  -- who fits a seat of either set fits one of the one or of the other; who fits one of both fits one of each
+  takes_most : (s t : ℕ → Bool) (who : List ℕ) → bit (takes (either s t) who) + bit (takes (both s t) who) ≤ bit (takes s who) + bit (takes t who)
+  takes_most s t who = bits_most (takes (either s t) who) (takes (both s t) who) (takes s who) (takes t who) of_either left right
+    where
+      of_either : takes (either s t) who ≡ true → (takes s who || takes t who) ≡ true
+      of_either h =
+          let w = some_at (λ i. (s i || t i) && fits i who) all h in
+          let p = and_parts (s w.0 || t w.0) (fits w.0 who) w.2 in
+          elim (or_cases (s w.0) (t w.0) p.0) [
+            | inl e ↦ or_left (takes s who) (takes t who) (some_from (λ i. s i && fits i who) all w.0 w.1 (and_from (s w.0) (fits w.0 who) e p.1))
+            | inr e ↦ or_right (takes s who) (takes t who) (some_from (λ i. t i && fits i who) all w.0 w.1 (and_from (t w.0) (fits w.0 who) e p.1))
+          ]
+
+      left : takes (both s t) who ≡ true → takes s who ≡ true
+      left h =
+          let w = some_at (λ i. (s i && t i) && fits i who) all h in
+          let p = and_parts (s w.0 && t w.0) (fits w.0 who) w.2 in
+          some_from (λ i. s i && fits i who) all w.0 w.1 (and_from (s w.0) (fits w.0 who) (and_parts (s w.0) (t w.0) p.0).0 p.1)
+
+      right : takes (both s t) who ≡ true → takes t who ≡ true
+      right h =
+          let w = some_at (λ i. (s i && t i) && fits i who) all h in
+          let p = and_parts (s w.0 && t w.0) (fits w.0 who) w.2 in
+          some_from (λ i. t i && fits i who) all w.0 w.1 (and_from (t w.0) (fits w.0 who) (and_parts (s w.0) (t w.0) p.0).1 p.1)
+
+  takers_most : (s t : ℕ → Bool) (people : List (List ℕ)) → takers (either s t) people + takers (both s t) people ≤ takers s people + takers t people
+  takers_most s t [] = omega arith
+  takers_most s t (who ∷ people) = omega (arith, takes_most s t who, takers_most s t people)
+
+  -- of two sets that are scarce both together are so by two, or what they share is scarce
+  two_scarce : (s t : ℕ → Bool) (people : List (List ℕ)) → takers s people < count all s → takers t people < count all t
+      → (takers (both s t) people < count all (both s t)) ⊎ (takers (either s t) people + 1 < count all (either s t))
+  two_scarce s t people f g = elim (cases_Bool (nat_lt (takers (both s t) people) (count all (both s t)))) [
+    | inl e ↦ inl (ltb-true (takers (both s t) people) (count all (both s t)) e)
+    | inr e ↦ inr (omega (arith, ltb-false (takers (both s t) people) (count all (both s t)) e, takers_most s t people, count_parts all s t, f, g))
+  ]
+
+  bit_one : (b : Bool) → bit b ≤ 1
+  bit_one true = omega arith
+  bit_one false = omega arith
+
+  -- ONE PERSON MORE
+
+  -- a scarce set of the others, none of whose seats of a list the person fits
+  record IsClear (people : List (List ℕ)) (need : ℕ → Bool) (p : List ℕ) (seen : List ℕ) (s : ℕ → Bool) : Type 0 where
+    pub scarce : IsScarce people need s
+    pub clear : (i : ℕ) → is_one i seen ≡ true → s i ≡ true → fits i p ≡ false
+
+  more_there : (p : List ℕ) (people : List (List ℕ)) (need : ℕ → Bool) (w : ℕ → List ℕ) → IsAssigned people need w → IsAssigned (p ∷ people) need w
+  more_there p people need w a = record { fit = a.fit; there = λ i o n. or_right (same_text (w i) p) (list_any (same_text (w i)) people) (a.there i o n); apart = a.apart }
+
+  -- the set without a seat, and who sits where once the person has that seat
+  abbrev without : ℕ → (ℕ → Bool) → ℕ → Bool
+  without k need i = need i && not (i == k)
+
+  abbrev given : ℕ → List ℕ → (ℕ → List ℕ) → ℕ → List ℕ
+  given k p w i = cond (i == k) p (w i)
+
+  module _ (p : List ℕ) (people : List (List ℕ)) (need : ℕ → Bool) (k : ℕ) (w : ℕ → List ℕ)
+      (alone : list_any (same_text p) people ≡ false) (f : fits k p ≡ true) (a : IsAssigned people (without k need) w) where
+    kept : (i : ℕ) → (i == k) ≡ false → need i ≡ true → without k need i ≡ true
+    kept i e n = and_from (need i) (not (i == k)) n (not_from_false (i == k) e)
+
+    given_fit : (i : ℕ) → is_one i all ≡ true → need i ≡ true → fits i (given k p w i) ≡ true
+    given_fit i o n = by_seat (i == k) refl
+      where
+        by_seat : (b : Bool) → (i == k) ≡ b → fits i (cond b p (w i)) ≡ true
+        by_seat true e = ap (λ j. fits j p) (eqb-true i k e) ∙ f
+        by_seat false e = a.fit i o (kept i e n)
+
+    given_there : (i : ℕ) → is_one i all ≡ true → need i ≡ true → list_any (same_text (given k p w i)) (p ∷ people) ≡ true
+    given_there i o n = by_seat (i == k) refl
+      where
+        by_seat : (b : Bool) → (i == k) ≡ b → list_any (same_text (cond b p (w i))) (p ∷ people) ≡ true
+        by_seat true e = or_left (same_text p p) (list_any (same_text p) people) (same-itself p)
+        by_seat false e = or_right (same_text (w i) p) (list_any (same_text (w i)) people) (a.there i o (kept i e n))
+
+    -- the person has no other seat
+    no_other : (j : ℕ) → is_one j all ≡ true → need j ≡ true → (j == k) ≡ false → p ≡ w j → ⊥
+    no_other j o n e q = both_ways (list_any (same_text p) people) alone (subst (λ x. list_any (same_text x) people ≡ true) (sym q) (a.there j o (kept j e n)))
+
+    given_apart : (i j : ℕ) → is_one i all ≡ true → is_one j all ≡ true → need i ≡ true → need j ≡ true → given k p w i ≡ given k p w j → i ≡ j
+    given_apart i j o u n m = by_seats (i == k) refl (j == k) refl
+      where
+        by_seats : (b : Bool) → (i == k) ≡ b → (d : Bool) → (j == k) ≡ d → cond b p (w i) ≡ cond d p (w j) → i ≡ j
+        by_seats true e true g q = eqb-true i k e ∙ sym (eqb-true j k g)
+        by_seats true e false g q = absurd (no_other j u m g q)
+        by_seats false e true g q = absurd (no_other i o n e (sym q))
+        by_seats false e false g q = a.apart i j o u (kept i e n) (kept j g m) q
+
+    give : IsAssigned (p ∷ people) need (given k p w)
+    give = record { fit = given_fit; there = given_there; apart = given_apart }
+
+  -- the seat k, which the person fits, is taken out of the scarce set, or the person gets it, or a set is scarce by two
+  clear_one : (p : List ℕ) (people : List (List ℕ)) (need : ℕ → Bool) (k : ℕ) (seen : List ℕ) (s : ℕ → Bool) → list_any (same_text p) people ≡ false → fits k p ≡ true
+      → IsClear people need p seen s → OneOfTwo people (without k need) → OneOfTwo (p ∷ people) need ⊎ ((t : ℕ → Bool) × IsClear people need p (k ∷ seen) t)
+  clear_one p people need k seen s alone f c (inl a) = inl (inl (given k p a.0, give p people need k a.0 alone f a.1))
+  clear_one p people need k seen s alone f c (inr (t, d)) = elim (two_scarce s t people c.scarce.few d.few) [
+    | inl few ↦ inr (both s t, record { scarce = record { part = λ i h. c.scarce.part i (and_parts (s i) (t i) h).0; few = few }; clear = λ i o h. cleared i o (and_parts (s i) (t i) h) })
+    | inr few ↦ inl (inr (either s t, record { part = λ i h. needed i (or_cases (s i) (t i) h); few = omega (arith, few, bit_one (takes (either s t) p)) }))
+  ]
+    where
+      needed : (i : ℕ) → (s i ≡ true) ⊎ (t i ≡ true) → need i ≡ true
+      needed i (inl e) = c.scarce.part i e
+      needed i (inr e) = (and_parts (need i) (not (i == k)) (d.part i e)).0
+
+      cleared : (i : ℕ) → is_one i (k ∷ seen) ≡ true → (s i ≡ true) × (t i ≡ true) → fits i p ≡ false
+      cleared i o h = elim (or_cases (k == i) (is_one i seen) o) [
+        | inl e ↦ absurd (both_ways (i == k) (not-true (i == k) (and_parts (need i) (not (i == k)) (d.part i h.1)).1) (eq-eqb i k (sym (eqb-true k i e))))
+        | inr e ↦ c.clear i e h.0
+      ]
+
+  -- so for one seat after the other
+  clear_all : (p : List ℕ) (people : List (List ℕ)) (need : ℕ → Bool) (seen : List ℕ) → list_any (same_text p) people ≡ false → ((less : ℕ → Bool) → OneOfTwo people less)
+      → OneOfTwo (p ∷ people) need ⊎ ((s : ℕ → Bool) × IsClear people need p seen s)
+  clear_all p people need [] alone hall = by_others (hall need)
+    where
+      by_others : OneOfTwo people need → OneOfTwo (p ∷ people) need ⊎ ((s : ℕ → Bool) × IsClear people need p [] s)
+      by_others (inl a) = inl (inl (a.0, more_there p people need a.0 a.1))
+      by_others (inr d) = inr (d.0, record { scarce = d.1; clear = λ i o h. absurd (false≢true o) })
+  clear_all p people need (k ∷ seen) alone hall = by_rest (clear_all p people need seen alone hall)
+    where
+      passed : (s : ℕ → Bool) → IsClear people need p seen s → (s k && fits k p) ≡ false → IsClear people need p (k ∷ seen) s
+      passed s c e = record { scarce = c.scarce; clear = λ i o h. by_seat i h (or_cases (k == i) (is_one i seen) o) }
+        where
+          by_seat : (i : ℕ) → s i ≡ true → ((k == i) ≡ true) ⊎ (is_one i seen ≡ true) → fits i p ≡ false
+          by_seat i h (inr o) = c.clear i o h
+          by_seat i h (inl o) = elim (and_cases (s k) (fits k p) e) [
+            | inl g ↦ absurd (both_ways (s k) g (ap s (eqb-true k i o) ∙ h))
+            | inr g ↦ ap (λ j. fits j p) (sym (eqb-true k i o)) ∙ g
+          ]
+
+      by_rest : OneOfTwo (p ∷ people) need ⊎ ((s : ℕ → Bool) × IsClear people need p seen s) → OneOfTwo (p ∷ people) need ⊎ ((s : ℕ → Bool) × IsClear people need p (k ∷ seen) s)
+      by_rest (inl done) = inl done
+      by_rest (inr (s, c)) = elim (cases_Bool (s k && fits k p)) [
+        | inl e ↦ clear_one p people need k seen s alone (and_parts (s k) (fits k p) e).1 c (hall (without k need))
+        | inr e ↦ inr (s, passed s c e)
+      ]
+
+  -- a scarce set of the others none of whose seats the person fits is scarce still
+  still_scarce : (p : List ℕ) (people : List (List ℕ)) (need s : ℕ → Bool) → IsClear people need p all s → IsScarce (p ∷ people) need s
+  still_scarce p people need s c = record { part = c.scarce.part; few = by_test (takes s p) refl }
+    where
+      by_test : (b : Bool) → takes s p ≡ b → bit b + takers s people < count all s
+      by_test false e = omega (arith, c.scarce.few)
+      by_test true e =
+          let w = some_at (λ i. s i && fits i p) all e in
+          let h = and_parts (s w.0) (fits w.0 p) w.2 in
+          absurd (both_ways (fits w.0 p) (c.clear w.0 w.1 h.0) h.1)
+
+  -- the seats of a set can be filled, or are scarce
+  pub hall : (people : List (List ℕ)) → stand_once people ≡ true → (need : ℕ → Bool) → OneOfTwo people need
+  hall [] once need = elim (cases_Bool (list_any need all)) [
+    | inl e ↦ inr (need, record { part = λ i h. h; few = some_counts all need e })
+    | inr e ↦
+        let none : (i : ℕ) → is_one i all ≡ true → need i ≡ true → ⊥ = λ i o n. both_ways (list_any need all) e (some_from need all i o n) in
+        inl ((λ i. []), record { fit = λ i o n. absurd (none i o n); there = λ i o n. absurd (none i o n); apart = λ i j o u n m q. absurd (none i o n) })
+  ]
+  hall (p ∷ people) once need = by_clear (clear_all p people need all (not-true (list_any (same_text p) people) parts.0) (hall people parts.1))
+    where
+      parts : (not (list_any (same_text p) people) ≡ true) × (stand_once people ≡ true)
+      parts = and_parts (not (list_any (same_text p) people)) (stand_once people) once
+
+      by_clear : OneOfTwo (p ∷ people) need ⊎ ((s : ℕ → Bool) × IsClear people need p all s) → OneOfTwo (p ∷ people) need
+      by_clear (inl done) = done
+      by_clear (inr (s, c)) = inr (s, still_scarce p people need s c)

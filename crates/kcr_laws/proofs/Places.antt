@@ -1,0 +1,209 @@
+-- Who holds a place from a day on, and since when, by the rows and by the commands.
+use Rattle.std.proofs.Common.{◌≡◌, ℕ, ◌≤◌, Bool, true, false, cond, not, ◌&&◌, nat_le, List, [], ◌∷◌, map, find, Option, Some, None, option_map, is_some, is_none, inl, inr, refl, sym, ap, ◌∙◌, subst}
+use Rattle.std.specs.Prelude.{unwrap_or}
+use Rattle.std.specs.List.{list_any}
+use Rattle.std.proofs.lemmas.Bool.{false≢true, both_ways, and_parts, and_from, or_cases, or_left, or_right, not-true, leb-true, le-leb}
+use Rattle.kcr_base.specs.Refuse.{when}
+use Rattle.kcr_base.specs.Rows.{or_else}
+use Rattle.kcr_base.specs.Same.{same_text, same_place, is_this}
+use Rattle.kcr_base.specs.declared.place.Place.{Place}
+use Rattle.kcr_base.specs.declared.place.Role.{Role}
+use Rattle.kcr_base.specs.declared.refusal.Refusal.TheVariants.{Range, Vacant}
+use Rattle.kcr_people.specs.declared.Appointment.{Appointment}
+use Rattle.kcr_people.specs.People.{holds, holder_by, lasts_beyond, place_held_from_by, holds_some_by, open_row_by, begins_too_late, trained_by}
+use Rattle.kcr_history.specs.declared.commands.Act.{Act}
+use Rattle.kcr_history.specs.declared.commands.Act.TheVariants.{Appoint, Replace, Release}
+use Rattle.kcr_history.specs.History.{History, last_said}
+use Rattle.kcr_history.specs.Tables.{trainings, withdrawals, appointments, appointments_after, ended, end_at}
+use Rattle.kcr_history.specs.Conditions.{not_after_first_day, vacant}
+use Rattle.kcr_history.specs.Machine.{IsRegister}
+use Rattle.kcr_history.proofs.Stacked.{stacked, place-same, place-refl, free-none}
+use Rattle.kcr_history.proofs.Orderly.{orderly, holder-appointments}
+use Rattle.kcr_history.proofs.Trained.{trained-rows}
+use Rattle.kcr_laws.specs.Conditions.{IsHeldFrom, HoldsFrom, IsTrainedFrom, says_since, held_since, BeginsFrom}
+use Rattle.kcr_laws.proofs.Finds.{some-find}
+
+-- A PLACE FROM A DAY ON
+
+-- the same by the rows
+abbrev pub RowsHold : History → Place → ℕ → Type 0
+RowsHold A place day = (d : ℕ) × (day ≤ d) × (is_some (holder_by (appointments A) place d) ≡ true)
+
+pub place_told : (A : History) → IsRegister A → (place : Place) (day : ℕ) → RowsHold A place day → IsHeldFrom A place day
+place_told A r place day (d, l, h) = (d, l, ap is_some (sym (holder-appointments A r place d)) ∙ h)
+
+pub place_holds : (A : History) → IsRegister A → (place : Place) (day : ℕ) → IsHeldFrom A place day → RowsHold A place day
+place_holds A r place day (d, l, h) = (d, l, ap is_some (holder-appointments A r place d) ∙ h)
+
+-- A PERSON FROM A DAY ON
+
+-- the place has one holder on the day: who is found by an older row is found by all
+older_holder : (row : Appointment) (rows : List Appointment) (place : Place) (d : ℕ) (who : List ℕ) → stacked (row ∷ rows) ≡ true → is_this who (holder_by rows place d) ≡ true → is_this who (holder_by (row ∷ rows) place d) ≡ true
+older_holder row rows place d who s h = by_test (holds place d row) refl
+  where
+    found : (o : Option Appointment) → find (holds place d) rows ≡ o → is_this who (option_map (λ old. old.who) o) ≡ true → list_any (holds place d) rows ≡ true
+    found None e g = absurd (false≢true g)
+    found (Some old) e g = some-find (holds place d) old rows e
+
+    free : holds place d row ≡ true → list_any (holds place d) rows ≡ false
+    free k =
+        let a = and_parts (same_place row.place place && nat_le row.since d) (lasts_beyond d row) k in
+        let b = and_parts (same_place row.place place) (nat_le row.since d) a.0 in
+        let n = not-true (place_held_from_by rows row.place row.since) (and_parts (not (place_held_from_by rows row.place row.since)) (stacked rows) s).0 in
+        free-none place row.since d rows (leb-true row.since d b.1) (subst (λ p. place_held_from_by rows p row.since ≡ false) (place-same row.place place b.0) n)
+
+    by_test : (b : Bool) → holds place d row ≡ b → is_this who (option_map (λ old. old.who) (cond b (Some row) (find (holds place d) rows))) ≡ true
+    by_test false e = h
+    by_test true e = absurd (both_ways (list_any (holds place d) rows) (free e) (found (find (holds place d) rows) refl h))
+
+-- whoever holds by some row is the holder of its place
+its_holder : (rows : List Appointment) (who : List ℕ) (d : ℕ) → stacked rows ≡ true → holds_some_by rows who d ≡ true → (place : Place) × (is_this who (holder_by rows place d) ≡ true)
+its_holder [] who d s h = absurd (false≢true h)
+its_holder (row ∷ rows) who d s h = elim (or_cases (same_text row.who who && nat_le row.since d && lasts_beyond d row) (holds_some_by rows who d) h) [
+  | inl e ↦
+      let a = and_parts (same_text row.who who && nat_le row.since d) (lasts_beyond d row) e in
+      let b = and_parts (same_text row.who who) (nat_le row.since d) a.0 in
+      let k = and_from (same_place row.place row.place && nat_le row.since d) (lasts_beyond d row) (and_from (same_place row.place row.place) (nat_le row.since d) (place-refl row.place) b.1) a.1 in
+      (row.place, ap (λ x. is_this who (option_map (λ old. old.who) (cond x (Some row) (find (holds row.place d) rows)))) k ∙ b.0)
+  | inr e ↦
+      let w = its_holder rows who d (and_parts (not (place_held_from_by rows row.place row.since)) (stacked rows) s).1 e in
+      (w.0, older_holder row rows w.0 d who s w.1)
+]
+
+-- the holder of a place holds by some row
+by_some_row : (rows : List Appointment) (place : Place) (d : ℕ) (who : List ℕ) → is_this who (holder_by rows place d) ≡ true → holds_some_by rows who d ≡ true
+by_some_row [] place d who h = absurd (false≢true h)
+by_some_row (row ∷ rows) place d who h = by_test (holds place d row) refl h (by_some_row rows place d who)
+  where
+    by_test : (b : Bool) → holds place d row ≡ b → is_this who (option_map (λ old. old.who) (cond b (Some row) (find (holds place d) rows))) ≡ true
+        → (is_this who (holder_by rows place d) ≡ true → holds_some_by rows who d ≡ true) → holds_some_by (row ∷ rows) who d ≡ true
+    by_test false e g ih = or_right (same_text row.who who && nat_le row.since d && lasts_beyond d row) (holds_some_by rows who d) (ih g)
+    by_test true e g ih =
+        let a = and_parts (same_place row.place place && nat_le row.since d) (lasts_beyond d row) e in
+        let b = and_parts (same_place row.place place) (nat_le row.since d) a.0 in
+        or_left (same_text row.who who && nat_le row.since d && lasts_beyond d row) (holds_some_by rows who d)
+        (and_from (same_text row.who who && nat_le row.since d) (lasts_beyond d row) (and_from (same_text row.who who) (nat_le row.since d) g b.1) a.1)
+
+-- the same by the rows
+abbrev pub RowsPut : History → List ℕ → ℕ → Type 0
+RowsPut A who day = (d : ℕ) × (day ≤ d) × (holds_some_by (appointments A) who d ≡ true)
+
+pub person_told : (A : History) → IsRegister A → (who : List ℕ) (day : ℕ) → RowsPut A who day → HoldsFrom A who day
+person_told A r who day (d, l, h) =
+    let p = its_holder (appointments A) who d (orderly A r).0 h in
+    (d, l, (p.0, ap (is_this who) (sym (holder-appointments A r p.0 d)) ∙ p.1))
+
+pub person_holds : (A : History) → IsRegister A → (who : List ℕ) (day : ℕ) → HoldsFrom A who day → RowsPut A who day
+person_holds A r who day (d, l, p) = (d, l, by_some_row (appointments A) p.0 d who (ap (is_this who) (holder-appointments A r p.0 d) ∙ p.1))
+
+-- SINCE WHEN
+
+-- the first day of an open row
+abbrev since_of : Option Appointment → Option ℕ
+since_of o = option_map (λ row. row.since) o
+
+-- an end of another place leaves the open row's first day as it is
+other_end : (at place : Place) (day : ℕ) (rows : List Appointment) → same_place at place ≡ false → since_of (open_row_by (map (ended at day) rows) place) ≡ since_of (open_row_by rows place)
+other_end at place day [] d = refl
+other_end at place day (row ∷ rows) d = by_tests (same_place row.place place) refl (same_place row.place at) refl row.until refl (other_end at place day rows d)
+  where
+    clash : same_place row.place place ≡ true → same_place row.place at ≡ true → ⊥
+    clash p q =
+        let e : row.place ≡ place = place-same row.place place p in
+        let f : row.place ≡ at = place-same row.place at q in
+        both_ways (same_place at place) d (ap (λ x. same_place x place) (sym f) ∙ ap (λ x. same_place x place) e ∙ place-refl place)
+
+    by_tests : (s : Bool) → same_place row.place place ≡ s → (z : Bool) → same_place row.place at ≡ z → (u : Option ℕ) → row.until ≡ u → since_of (open_row_by (map (ended at day) rows) place) ≡ since_of (open_row_by rows place)
+        → since_of (cond (s && is_none (end_at z u day)) (Some (ended at day row)) (open_row_by (map (ended at day) rows) place)) ≡ since_of (cond (s && is_none u) (Some row) (open_row_by rows place))
+    by_tests false p z q u e ih = ih
+    by_tests true p true q u e ih = absurd (clash p q)
+    by_tests true p false q None e ih = refl
+    by_tests true p false q (Some v) e ih = ih
+
+-- after an end of the place it has no open row
+own_end : (at place : Place) (day : ℕ) (rows : List Appointment) → same_place at place ≡ true → open_row_by (map (ended at day) rows) place ≡ None
+own_end at place day [] d = refl
+own_end at place day (row ∷ rows) d = by_tests (same_place row.place place) refl (same_place row.place at) refl row.until (own_end at place day rows d)
+  where
+    same : same_place row.place place ≡ true → same_place row.place at ≡ true
+    same p =
+        let e : row.place ≡ place = place-same row.place place p in
+        let f : at ≡ place = place-same at place d in
+        ap (λ x. same_place x at) (e ∙ sym f) ∙ place-refl at
+
+    by_tests : (s : Bool) → same_place row.place place ≡ s → (z : Bool) → same_place row.place at ≡ z → (u : Option ℕ) → open_row_by (map (ended at day) rows) place ≡ None
+        → cond (s && is_none (end_at z u day)) (Some (ended at day row)) (open_row_by (map (ended at day) rows) place) ≡ None
+    by_tests false p z q u ih = ih
+    by_tests true p false q u ih = absurd (both_ways (same_place row.place at) q (same p))
+    by_tests true p true q None ih = ih
+    by_tests true p true q (Some v) ih = ih
+
+-- what is said of the place, or what was said before
+abbrev said_since : Option (Option ℕ) → Option (Option ℕ) → Option ℕ
+said_since now before = unwrap_or (or_else now before) None
+
+since_after : (A : History) (act : Act) (place : Place) → since_of (open_row_by (appointments A) place) ≡ held_since A place
+    → since_of (open_row_by (appointments_after act (appointments A)) place) ≡ said_since (says_since place act) (last_said (says_since place) A)
+since_after A (Appoint at who day) place ih = by_place (same_place at place)
+  where
+    by_place : (s : Bool) → since_of (cond (s && true) (Some (record { place = at; who = who; since = day; until = None })) (open_row_by (appointments A) place)) ≡ said_since (cond s (Some (Some day)) None) (last_said (says_since place) A)
+    by_place true = refl
+    by_place false = ih
+since_after A (Replace at who day) place ih = by_place (same_place at place) refl
+  where
+    by_place : (s : Bool) → same_place at place ≡ s → since_of (cond (s && true) (Some (record { place = at; who = who; since = day; until = None })) (open_row_by (map (ended at day) (appointments A)) place)) ≡ said_since (cond s (Some (Some day)) None) (last_said (says_since place) A)
+    by_place true e = refl
+    by_place false e = other_end at place day (appointments A) e ∙ ih
+since_after A (Release at day) place ih = by_place (same_place at place) refl
+  where
+    by_place : (s : Bool) → same_place at place ≡ s → since_of (open_row_by (map (ended at day) (appointments A)) place) ≡ said_since (cond s (Some None) None) (last_said (says_since place) A)
+    by_place true e = ap since_of (own_end at place day (appointments A) e)
+    by_place false e = other_end at place day (appointments A) e ∙ ih
+since_after A act place ih = ih
+
+pub since_said : (A : History) (place : Place) → since_of (open_row_by (appointments A) place) ≡ held_since A place
+since_said [] place = refl
+since_said (entry ∷ A) place = since_after A entry.command.act place (since_said A place)
+
+-- TOO EARLY, AND VACANT
+
+pub early_told : (A : History) (place : Place) (day : ℕ) → not_after_first_day A place day ≡ Some Range → BeginsFrom A place day
+early_told A place day h = by_row (open_row_by (appointments A) place) h (since_said A place)
+  where
+    by_since : (since : ℕ) (b : Bool) → nat_le day since ≡ b → when b Range ≡ Some Range → held_since A place ≡ Some since → BeginsFrom A place day
+    by_since since false e g s = absurd (let z : None ≡ Some Range = g in cc)
+    by_since since true e g s = (since, s, leb-true day since e)
+
+    by_row : (o : Option Appointment) → when (begins_too_late o day) Range ≡ Some Range → since_of o ≡ held_since A place → BeginsFrom A place day
+    by_row None g s = absurd (let z : None ≡ Some Range = g in cc)
+    by_row (Some row) g s = by_since row.since (nat_le day row.since) refl g (sym s)
+
+pub early_holds : (A : History) (place : Place) (day : ℕ) → BeginsFrom A place day → not_after_first_day A place day ≡ Some Range
+early_holds A place day (since, s, l) = by_row (open_row_by (appointments A) place) (since_said A place ∙ s)
+  where
+    by_row : (o : Option Appointment) → since_of o ≡ Some since → when (begins_too_late o day) Range ≡ Some Range
+    by_row None e = absurd (let z : None ≡ Some since = e in cc)
+    by_row (Some row) e = let same : row.since ≡ since = (let z : Some row.since ≡ Some since = e in cc) in ap (λ b. when b Range) (ap (nat_le day) same ∙ le-leb day since l)
+
+pub vacant_told : (A : History) (place : Place) → vacant A place ≡ Some Vacant → held_since A place ≡ None
+vacant_told A place h = by_row (open_row_by (appointments A) place) h (since_said A place)
+  where
+    by_row : (o : Option Appointment) → when (is_none o) Vacant ≡ Some Vacant → since_of o ≡ held_since A place → held_since A place ≡ None
+    by_row None g s = sym s
+    by_row (Some row) g s = absurd (let z : None ≡ Some Vacant = g in cc)
+
+pub vacant_holds : (A : History) (place : Place) → held_since A place ≡ None → vacant A place ≡ Some Vacant
+vacant_holds A place e = by_row (open_row_by (appointments A) place) (since_said A place ∙ e)
+  where
+    by_row : (o : Option Appointment) → since_of o ≡ None → when (is_none o) Vacant ≡ Some Vacant
+    by_row None g = refl
+    by_row (Some row) g = absurd (let z : Some row.since ≡ None = g in cc)
+
+-- TRAINED FROM A DAY ON
+
+-- the same by the rows
+abbrev pub RowsTrain : History → List ℕ → Role → ℕ → Type 0
+RowsTrain A who role day = (d : ℕ) × (day ≤ d) × (trained_by (trainings A) (withdrawals A) who role d ≡ true)
+
+pub trained_told : (A : History) → IsRegister A → (who : List ℕ) (role : Role) (day : ℕ) → RowsTrain A who role day → IsTrainedFrom A who role day
+trained_told A r who role day (d, l, h) = (d, l, sym (trained-rows A r who role d) ∙ h)

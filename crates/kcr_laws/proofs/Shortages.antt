@@ -1,0 +1,169 @@
+-- Where nobody can fill the seats of a step there is a least set of them that too few people fit.
+use Rattle.std.proofs.Common.{◌≡◌, ℕ, zero, suc, ◌+◌, ◌<◌, ◌≤◌, Bool, true, false, cond, not, ◌||◌, ◌&&◌, ◌==◌, nat_lt, nat_le, List, [], ◌∷◌, filter, length, ◌⊎◌, inl, inr, refl, sym, ap, ◌∙◌, arith}
+use Rattle.std.specs.List.{list_any, list_all}
+use Rattle.std.proofs.lemmas.Bool.{true≢false, false≢true, and_parts, and_from, and_cases, or_from, not-false, not_from_false, eqb-false, lt-ltb, le-leb}
+use Rattle.kcr_base.specs.Same.{same_text, is_before}
+use Rattle.kcr_room.specs.Laws.{are_rising}
+use Rattle.kcr_room.proofs.Agreement.{same-is}
+use Rattle.kcr_room.proofs.Lists.{any-filter}
+use Rattle.kcr_room.proofs.Orders.{before-turned}
+use Rattle.kcr_room.proofs.Rising.{present_are_rising}
+use Rattle.kcr_script.specs.declared.seat.Seat.{Seat}
+use Rattle.kcr_history.specs.History.{History}
+use Rattle.kcr_history.specs.Room.{sheet, present}
+use Rattle.kcr_history.specs.Seating.{eligible, is_seating, is_eligible_at, who_fit, rise, is_short, IsLeast}
+use Rattle.kcr_laws.proofs.Hall.{is_one, bit, count, takes, takers, IsAssigned, IsScarce, stand_once, hall}
+use Rattle.kcr_laws.proofs.Trials.{one_of, every, every_shorter, least_by_trial}
+
+-- LEAST SHORTAGES
+
+-- a test that not every list passes fails for one
+every_fails : {X : Type 0} (test : List X → Bool) (xs : List X) (n : ℕ) → every test xs n ≡ false → (ys : List X) × (length ys ≡ n) × (test ys ≡ false)
+every_fails test xs zero h = ([], refl, h)
+every_fails {X = X} test xs (suc n) h = by_member xs h (λ x. every_fails (λ rest. test (x ∷ rest)) xs n)
+  where
+    by_member : (ms : List X) → list_all (λ x. every (λ rest. test (x ∷ rest)) xs n) ms ≡ false
+        → ((x : X) → every (λ rest. test (x ∷ rest)) xs n ≡ false → (ys : List X) × (length ys ≡ n) × (test (x ∷ ys) ≡ false))
+        → (ys : List X) × (length ys ≡ suc n) × (test ys ≡ false)
+    by_member [] g ih = absurd (true≢false g)
+    by_member (m ∷ ms) g ih = elim (and_cases (every (λ rest. test (m ∷ rest)) xs n) (list_all (λ x. every (λ rest. test (x ∷ rest)) xs n) ms) g) [
+      | inl e ↦ let w = ih m e in (m ∷ w.0, ap suc w.1, w.2)
+      | inr e ↦ by_member ms e ih
+    ]
+
+shorter_fails : {X : Type 0} (test : List X → Bool) (xs : List X) (n : ℕ) → every_shorter test xs n ≡ false → (ys : List X) × (length ys < n) × (test ys ≡ false)
+shorter_fails test xs zero h = absurd (true≢false h)
+shorter_fails test xs (suc n) h = elim (and_cases (every test xs n) (every_shorter test xs n) h) [
+  | inl e ↦ let w = every_fails test xs n e in (w.0, omega (arith, w.1), w.2)
+  | inr e ↦ let w = shorter_fails test xs n e in (w.0, omega (arith, w.1), w.2)
+]
+
+trial : (A : History) (c t : ℕ) (seats : List Seat) (positions : List ℕ) → is_short A c t seats positions ≡ true
+    → ((part : List ℕ) → length part < length positions → is_short A c t seats part ≡ true → (least : List ℕ) × IsLeast A c t seats least) → (least : List ℕ) × IsLeast A c t seats least
+trial A c t seats positions h ih = by_trial (every_shorter (λ part. not (is_short A c t seats part)) positions (length positions)) refl
+  where
+    by_trial : (b : Bool) → every_shorter (λ part. not (is_short A c t seats part)) positions (length positions) ≡ b → (least : List ℕ) × IsLeast A c t seats least
+    by_trial true e = (positions, least_by_trial A c t seats positions (and_from (is_short A c t seats positions) (every_shorter (λ part. not (is_short A c t seats part)) positions (length positions)) h e))
+    by_trial false e = let w = shorter_fails (λ part. not (is_short A c t seats part)) positions (length positions) e in ih w.0 w.1 (not-false (is_short A c t seats w.0) w.2)
+
+-- where some positions are short, some are a least shortage
+least_of_short : (fuel : ℕ) (A : History) (c t : ℕ) (seats : List Seat) (positions : List ℕ) → length positions ≤ fuel → is_short A c t seats positions ≡ true → (least : List ℕ) × IsLeast A c t seats least
+least_of_short zero A c t seats positions l h = trial A c t seats positions h (λ part m g. absurd (omega (arith, l, m)))
+least_of_short (suc fuel) A c t seats positions l h = trial A c t seats positions h (λ part m g. least_of_short fuel A c t seats part (omega (arith, l, m)) g)
+
+-- POSITIONS
+
+-- so many numbers from the first one on
+abbrev from : ℕ → ℕ → List ℕ
+from low zero = []
+from low (suc n) = low ∷ from (suc low) n
+
+in_from : (n low i : ℕ) → low ≤ i → i < low + n → is_one i (from low n) ≡ true
+in_from zero low i l m = absurd (omega (arith, l, m))
+in_from (suc n) low i l m = by_first (low == i) refl (in_from n (suc low) i)
+  where
+    by_first : (b : Bool) → (low == i) ≡ b → (suc low ≤ i → i < suc low + n → is_one i (from (suc low) n) ≡ true) → (b || is_one i (from (suc low) n)) ≡ true
+    by_first true e ih = refl
+    by_first false e ih = let ne : low ≡ i → ⊥ = eqb-false low i e in ih (omega (arith, l, ne)) (omega (arith, m))
+
+rise_from : (s : ℕ → Bool) (n low first high : ℕ) → first ≤ low → low + n ≤ high → rise first high (filter s (from low n)) ≡ true
+rise_from s zero low first high l m = refl
+rise_from s (suc n) low first high l m = by_test (s low) (rise_from s n (suc low) (suc low) high (omega arith) (omega (arith, m))) (rise_from s n (suc low) first high (omega (arith, l)) (omega (arith, m)))
+  where
+    by_test : (b : Bool) → rise (suc low) high (filter s (from (suc low) n)) ≡ true → rise first high (filter s (from (suc low) n)) ≡ true → rise first high (cond b (low ∷ filter s (from (suc low) n)) (filter s (from (suc low) n))) ≡ true
+    by_test false g h = h
+    by_test true g h =
+        and_from (nat_le first low && nat_lt low high) (rise (suc low) high (filter s (from (suc low) n)))
+        (and_from (nat_le first low) (nat_lt low high) (le-leb first low l) (lt-ltb low high (omega (arith, m)))) g
+
+count_filter : (is : List ℕ) (s : ℕ → Bool) → count is s ≡ length (filter s is)
+count_filter [] s = refl
+count_filter (i ∷ is) s = by_test (s i) (count_filter is s)
+  where
+    by_test : (b : Bool) → count is s ≡ length (filter s is) → bit b + count is s ≡ length (cond b (i ∷ filter s is) (filter s is))
+    by_test true ih = omega (arith, ih)
+    by_test false ih = omega (arith, ih)
+
+-- those who fit a seat of a set are those who fit one of a list
+abbrev fit_one : (ℕ → List ℕ → Bool) → List ℕ → List ℕ → Bool
+fit_one fits is who = list_any (λ i. fits i who) is
+
+takers_filter : (all : List ℕ) (fits : ℕ → List ℕ → Bool) (s : ℕ → Bool) (people : List (List ℕ)) → takers all fits s people ≡ length (filter (fit_one fits (filter s all)) people)
+takers_filter all fits s [] = refl
+takers_filter all fits s (who ∷ people) = by_test (takes all fits s who) (fit_one fits (filter s all) who) (any-filter s (λ i. fits i who) all) (takers_filter all fits s people)
+  where
+    by_test : (x y : Bool) → y ≡ x → takers all fits s people ≡ length (filter (fit_one fits (filter s all)) people)
+        → bit x + takers all fits s people ≡ length (cond y (who ∷ filter (fit_one fits (filter s all)) people) (filter (fit_one fits (filter s all)) people))
+    by_test true true e ih = omega (arith, ih)
+    by_test false false e ih = omega (arith, ih)
+    by_test true false e ih = absurd (false≢true e)
+    by_test false true e ih = absurd (true≢false e)
+
+-- SEATINGS
+
+-- the people of the first n numbers
+abbrev list_by : ℕ → (ℕ → List ℕ) → List (List ℕ)
+list_by zero w = []
+list_by (suc n) w = w 0 ∷ list_by n (λ i. w (suc i))
+
+not_among : (x : List ℕ) (n : ℕ) (w : ℕ → List ℕ) → ((i : ℕ) → i < n → x ≡ w i → ⊥) → list_any (same_text x) (list_by n w) ≡ false
+not_among x zero w f = refl
+not_among x (suc n) w f = or_from (same_text x (w 0)) (list_any (same_text x) (list_by n (λ i. w (suc i)))) (by_test (same_text x (w 0)) refl) (not_among x n (λ i. w (suc i)) (λ i l. f (suc i) (omega (arith, l))))
+  where
+    by_test : (b : Bool) → same_text x (w 0) ≡ b → b ≡ false
+    by_test false e = refl
+    by_test true e = absurd (f 0 (omega arith) (same-is x (w 0) e))
+
+seated_by : (A : History) (c t : ℕ) (seats : List Seat) (w : ℕ → List ℕ) → ((i : ℕ) → i < length seats → is_eligible_at A c t seats (w i) i ≡ true)
+    → ((i j : ℕ) → i < length seats → j < length seats → w i ≡ w j → i ≡ j) → is_seating A c t seats (list_by (length seats) w) ≡ true
+seated_by A c t [] w fit apart = refl
+seated_by A c t (seat ∷ seats) w fit apart =
+    and_from (eligible A c t seat (w 0) && not (list_any (same_text (w 0)) (list_by (length seats) (λ i. w (suc i))))) (is_seating A c t seats (list_by (length seats) (λ i. w (suc i))))
+    (and_from (eligible A c t seat (w 0)) (not (list_any (same_text (w 0)) (list_by (length seats) (λ i. w (suc i))))) (fit 0 (omega arith))
+    (not_from_false (list_any (same_text (w 0)) (list_by (length seats) (λ i. w (suc i))))
+    (not_among (w 0) (length seats) (λ i. w (suc i)) (λ i l e. let same : 0 ≡ suc i = apart 0 (suc i) (omega arith) (omega (arith, l)) e in omega (arith, same)))))
+    (seated_by A c t seats (λ i. w (suc i)) (λ i l. fit (suc i) (omega (arith, l))) (λ i j l m e. let same : suc i ≡ suc j = apart (suc i) (suc j) (omega (arith, l)) (omega (arith, m)) e in omega (arith, same)))
+
+-- ONE OF THE TWO
+
+-- whoever comes before some others is none of them
+not_itself : (x : List ℕ) (xs : List (List ℕ)) → list_all (is_before x) xs ≡ true → list_any (same_text x) xs ≡ false
+not_itself x xs h = by_test (list_any (same_text x) xs) refl
+  where
+    by_test : (b : Bool) → list_any (same_text x) xs ≡ b → b ≡ false
+    by_test false e = refl
+    by_test true e =
+        let k = one_of same_text same-is x (is_before x) xs e h in
+        absurd (true≢false (sym k ∙ before-turned x x k))
+
+rising_once : (people : List (List ℕ)) → are_rising people ≡ true → stand_once people ≡ true
+rising_once [] r = refl
+rising_once (who ∷ people) r =
+    let p = and_parts (list_all (is_before who) people) (are_rising people) r in
+    and_from (not (list_any (same_text who) people)) (stand_once people) (not_from_false (list_any (same_text who) people) (not_itself who people p.0)) (rising_once people p.1)
+
+module _ (A : History) (c t : ℕ) (seats : List Seat) where
+  abbrev positions_of : List ℕ
+  positions_of = from 0 (length seats)
+
+  abbrev fits_at : ℕ → List ℕ → Bool
+  fits_at i who = is_eligible_at A c t seats who i
+
+  seated_so : (w : ℕ → List ℕ) → IsAssigned positions_of fits_at (present A c t) (λ i. true) w → is_seating A c t seats (list_by (length seats) w) ≡ true
+  seated_so w a =
+      seated_by A c t seats w (λ i l. a.fit i (in_from (length seats) 0 i (omega arith) (omega (arith, l))) refl)
+      (λ i j l m e. a.apart i j (in_from (length seats) 0 i (omega arith) (omega (arith, l))) (in_from (length seats) 0 j (omega arith) (omega (arith, m))) refl refl e)
+
+  short_so : (s : ℕ → Bool) → IsScarce positions_of fits_at (present A c t) (λ i. true) s → is_short A c t seats (filter s positions_of) ≡ true
+  short_so s d =
+      and_from (rise 0 (length seats) (filter s positions_of)) (nat_lt (length (who_fit A c t seats (filter s positions_of))) (length (filter s positions_of)))
+      (rise_from s (length seats) 0 0 (length seats) (omega arith) (omega arith))
+      (lt-ltb (length (who_fit A c t seats (filter s positions_of))) (length (filter s positions_of))
+      (omega (arith, d.few, takers_filter positions_of fits_at s (present A c t), count_filter positions_of s)))
+
+  -- the seats can be filled, or some of them are a least shortage
+  pub seating_or_least : ((people : List (List ℕ)) × (is_seating A c t seats people ≡ true)) ⊎ ((least : List ℕ) × IsLeast A c t seats least)
+  seating_or_least = elim (hall positions_of fits_at (present A c t) (rising_once (present A c t) (present_are_rising (sheet A) c t)) (λ i. true)) [
+    | inl (w, a) ↦ inl (list_by (length seats) w, seated_so w a)
+    | inr (s, d) ↦ inr (least_of_short (length (filter s positions_of)) A c t seats (filter s positions_of) (omega arith) (short_so s d))
+  ]
