@@ -1,5 +1,5 @@
 -- The rows of a step's seats, in whatever order they come, are those people once they are put in order.
-use Rattle.std.proofs.Common.{◌≡◌, ℕ, suc, ◌+◌, ◌<◌, ◌≤◌, Bool, true, false, cond, ◌==◌, nat_lt, List, [], ◌∷◌, ◌++◌, map, refl, sym, ap, subst, ◌∙◌, arith, inl, inr, append_assoc}
+use Rattle.std.proofs.Common.{◌≡◌, ℕ, suc, ◌+◌, ◌<◌, ◌≤◌, Bool, true, false, cond, ◌==◌, ◌&&◌, nat_lt, List, [], ◌∷◌, ◌++◌, map, refl, sym, ap, subst, ◌∙◌, arith, inl, inr, append_assoc}
 use Rattle.std.specs.Prelude.{◌⊎◌}
 use Rattle.std.specs.List.{count_by}
 use Rattle.std.specs.List.Sorted.{IsPermutation}
@@ -11,6 +11,7 @@ use Rattle.kcr_history.specs.declared.rows.SeatingRow.{SeatingRow}
 use Rattle.kcr_history.specs.History.{stacked_on}
 use Rattle.kcr_history.specs.Prints.{put_in_order, in_order}
 use Rattle.kcr_history.specs.Tables.{seat_rows}
+use Rattle.kcr_history.specs.Audit.{are_numbered}
 use Rattle.kcr_audit.proofs.Alike.{In, in-order}
 
 -- STACKED
@@ -210,3 +211,9 @@ seats-in-order c k i people rows p =
 pub people-of-seats : (c k i : ℕ) (people : List (List ℕ)) → map (λ row. row.who) (seat_rows c k i people) ≡ people
 people-of-seats c k i [] = refl
 people-of-seats c k i (who ∷ people) = ap (λ rest. who ∷ rest) (people-of-seats c k (suc i) people)
+
+-- they are numbered one after the other
+pub seats-numbered : (c k i : ℕ) (people : List (List ℕ)) → are_numbered (suc i) (seat_rows c k i people) ≡ true
+seats-numbered c k i [] = refl
+seats-numbered c k i (who ∷ people) =
+    ap (λ b. b && are_numbered (suc (suc i)) (seat_rows c k (suc i) people)) (eq-eqb (suc i) (suc i) refl) ∙ seats-numbered c k (suc i) people

@@ -255,18 +255,36 @@ fn rows_of(
         .collect(alloc)
 }
 
-/// The people who are recorded at the step, seat by seat.
-fn people_at(
+/// The rows of the step's seating, seat by seat.
+fn seatings_at(
     alloc: Global,
     rows: &[SeatingRow],
     ceremony: u32,
     step: u32,
-) -> Result<Vec<Initials>, AllocError>
-    ensures { IfOk result (λ people. people.items ≡ Prints.seated_at rows.now ceremony step) }
+) -> Result<Vec<SeatingRow>, AllocError>
+    ensures { IfOk result (λ sorted. sorted.items ≡ Prints.seatings_at rows.now ceremony step) }
 {
     let found = rows_of(alloc, rows, ceremony, step)?;
-    let sorted = in_order(alloc, &found)?;
-    sorted.iter().map(|row| row.who).collect(alloc)
+    in_order(alloc, &found)
+}
+
+/// The people of these rows.
+fn people_of(alloc: Global, rows: &[SeatingRow]) -> Result<Vec<Initials>, AllocError>
+    ensures { IfOk result (λ people. people.items ≡ map (λ row. row.who) rows.now) }
+{
+    rows.iter().map(|row| row.who).collect(alloc)
+}
+
+/// Whether the rows are of seat 1, of seat 2, and so on.
+fn are_numbered(rows: &[SeatingRow]) -> bool
+    ensures { result ≡ Audit.are_numbered 1 rows.now }
+{
+    for (index, row) in rows.iter().enumerate() {
+        if row.seat as usize != index + 1 {
+            return false;
+        }
+    }
+    true
 }
 
 /// The seats that were filled: the step's own, or those of an exception where it was passed.
@@ -299,14 +317,16 @@ fn ceremony_in(view: &View, number: u32) -> Option<CeremonyRow>
         .find(|row| row.number == number)
 }
 
-/// Whether the recorded people fill the step's seats, in its ceremony and at its moment.
+/// Whether the recorded seats are numbered from 1, and the recorded people fill the step's seats, in its ceremony and at
+/// its moment.
 fn is_well_seated(alloc: Global, view: &View, row: &StepRow) -> Result<bool, AllocError>
     ensures { IfOk result (λ well. well ≡ Audit.is_well_seated view.now row.now (Audit.ceremony_in view.now row.now.ceremony) row.now.at) }
 {
     match (ceremony_in(view, row.ceremony), row.at) {
         (Some(ceremony), Some(at)) => {
-            let people = people_at(alloc, &view.seatings, row.ceremony, row.step)?;
-            Ok(is_seating(view, &ceremony, at, seats_filled(row), &people))
+            let rows = seatings_at(alloc, &view.seatings, row.ceremony, row.step)?;
+            let people = people_of(alloc, &rows)?;
+            Ok(are_numbered(&rows) && is_seating(view, &ceremony, at, seats_filled(row), &people))
         }
         _ => Ok(false),
     }

@@ -1,5 +1,5 @@
 -- What an audit may find in rows, whether a register has stored them or not.
-use Rattle.std.specs.Prelude.{◌≡◌, ℕ, ◌<◌, ◌==◌, Bool, true, false, not, ◌&&◌, ◌||◌, nat_lt, List, [], ◌∷◌, find, Option, Some, None, IsTrue}
+use Rattle.std.specs.Prelude.{◌≡◌, ℕ, suc, ◌<◌, ◌==◌, Bool, true, false, not, ◌&&◌, ◌||◌, nat_lt, List, [], ◌∷◌, find, Option, Some, None, IsTrue}
 use Rattle.std.specs.List.{list_any, count_by}
 use Rattle.kcr_base.specs.Days.{day_of}
 use Rattle.kcr_base.specs.Same.{same_text, is_this}
@@ -17,13 +17,14 @@ use Rattle.kcr_custody.specs.declared.Spot.TheVariants.{InBox}
 use Rattle.kcr_script.specs.declared.seat.Seat.{Seat}
 use Rattle.kcr_script.specs.declared.seat.Seat.TheVariants.{Staff, AnyCo, AnyRksh, Co, Rksh}
 use Rattle.kcr_history.specs.declared.rows.CeremonyRow.{CeremonyRow}
+use Rattle.kcr_history.specs.declared.rows.SeatingRow.{SeatingRow}
 use Rattle.kcr_history.specs.declared.rows.StepRow.{StepRow}
 use Rattle.kcr_history.specs.declared.rows.StepState.{StepState}
 use Rattle.kcr_history.specs.declared.rows.StepState.TheVariants.{Undone}
 use Rattle.kcr_history.specs.declared.views.Finding.{Finding}
 use Rattle.kcr_history.specs.declared.views.Finding.TheVariants as Findings
 use Rattle.kcr_history.specs.declared.views.View.{View}
-use Rattle.kcr_history.specs.Prints.{seated_at, seats_filled}
+use Rattle.kcr_history.specs.Prints.{seatings_at, seated_at, seats_filled}
 use Rattle.kcr_history.specs.Seating.{one_to_seven}
 
 -- SEATINGS, BY THE ROWS
@@ -56,10 +57,16 @@ abbrev pub is_done : StepState → Bool
 is_done Undone = false
 is_done other = true
 
--- the recorded people fill the step's seats, in its ceremony and at its moment
+-- the rows are of this seat, of the next one, and so on
+abbrev pub are_numbered : ℕ → List SeatingRow → Bool
+are_numbered seat [] = true
+are_numbered seat (row ∷ rows) = row.seat == seat && are_numbered (suc seat) rows
+
+-- the recorded seats are numbered from 1, and the recorded people fill the step's seats, in its ceremony and at its moment
 abbrev pub is_well_seated : View → StepRow → Option CeremonyRow → Option ℕ → Bool
 is_well_seated view row (Some ceremony) (Some t) =
-    is_seating_by view ceremony t (seats_filled row) (seated_at view.seatings.items row.ceremony row.step)
+    are_numbered 1 (seatings_at view.seatings.items row.ceremony row.step)
+    && is_seating_by view ceremony t (seats_filled row) (seated_at view.seatings.items row.ceremony row.step)
 is_well_seated view row ceremony at = false
 
 -- the row of the ceremony

@@ -71,10 +71,13 @@ abbrev pub moment_line : List ℕ → Option ℕ → List ℕ
 moment_line word None = []
 moment_line word (Some at) = line_of (word ∷ moment_text at ∷ [])
 
+-- the rows of the step's seating, seat by seat
+abbrev pub seatings_at : List SeatingRow → ℕ → ℕ → List SeatingRow
+seatings_at rows ceremony step = in_order (λ a b. nat_lt a.seat b.seat) (filter (λ row. row.ceremony == ceremony && row.step == step) rows)
+
 -- the people of the step, seat by seat
 abbrev pub seated_at : List SeatingRow → ℕ → ℕ → List (List ℕ)
-seated_at rows ceremony step =
-    map (λ row. row.who) (in_order (λ a b. nat_lt a.seat b.seat) (filter (λ row. row.ceremony == ceremony && row.step == step) rows))
+seated_at rows ceremony step = map (λ row. row.who) (seatings_at rows ceremony step)
 
 -- the seats that were filled: the step's own, or CA and IW where it was passed
 abbrev pub seats_filled : StepRow → List Seat
