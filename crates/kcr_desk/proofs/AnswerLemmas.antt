@@ -1,23 +1,38 @@
 -- What the register answers to one message.
 use Rattle.std.proofs.Common.{◌≡◌, ℕ, List, refl, sym, ap, ◌∙◌, subst, inl, inr}
-use Rattle.std.specs.Prelude.{◌⊎◌, ◌≢◌, true, false, Option, Some, None, Result, Ok, Err, MatchOption, MatchResult, IsSome, IsTrue}
+use Rattle.std.specs.Prelude.{◌⊎◌, ◌≢◌, ◌↔◌, true, false, Option, Some, None, Result, Ok, Err, MatchOption, MatchResult, IsSome, IsTrue}
 use Rattle.kcr_base.specs.declared.refusal.Refusal.{Refusal}
 use Rattle.kcr_base.specs.declared.refusal.Refusal.TheVariants as Refusals
 use Rattle.kcr_history.specs.History.{History}
-use Rattle.kcr_history.specs.Refusals.{carries}
+use Rattle.kcr_base.specs.Refusal.{status_of}
+use Rattle.kcr_history.specs.Refusals.{carries, refusal_text}
 use Rattle.kcr_history.specs.declared.commands.Command.{Command}
 use Rattle.kcr_history.specs.declared.commands.Reply.{Reply}
 use Rattle.kcr_store.specs.Steps.{Steps}
 use Rattle.kcr_store.specs.declared.question.Question.{Question}
 use Rattle.kcr_store.specs.declared.question.Shown.{Shown}
 use Rattle.kcr_wire.specs.Shows.{shown_text}
-use Rattle.kcr_desk.specs.Answers.{Standing, told_text, told_refusal, told_reply, told_shown, Performs, Inquires, IsRefused}
+use Rattle.kcr_wire.specs.declared.allow.Allow.{Allow}
+use Rattle.kcr_desk.specs.declared.reply.Heading.{Heading}
+use Rattle.kcr_desk.specs.declared.reply.Kind.TheVariants.{Json}
+use Rattle.kcr_desk.specs.Answers.{Standing, allowed, told_text, told_refusal, told_reply, told_shown, Performs, Inquires, IsRefused}
 use Rattle.kcr_desk.specs.Texts.{Told}
 
 -- a refusal is told, or want of memory in the place of one that carries something
 abbrev pub TellsRefusal : List ℕ → Refusal → Told → Type 0
 TellsRefusal target refusal told =
     (told ≡ told_refusal target refusal) ⊎ (IsTrue (carries refusal) × (told ≡ told_refusal target Refusals.Memory))
+
+-- a refusal is told by its heading and its text
+abbrev pub heading_of : Refusal → Option Allow → Heading
+heading_of refusal allow = record { status = status_of refusal; kind = Json; allow = allow }
+
+pub told_as_refusal : (target : List ℕ) (refusal : Refusal) (allow : Option Allow) (heading : Heading) (body : List ℕ)
+    → allow ≡ allowed target refusal → heading ≡ heading_of refusal allow → body ≡ refusal_text refusal
+    → record { heading = heading; body = body } ≡ told_refusal target refusal
+told_as_refusal target refusal allow heading body a h b =
+    let headed : heading ≡ heading_of refusal (allowed target refusal) = h ∙ ap (heading_of refusal) a in
+    λ i. record { heading = headed i; body = b i }
 
 -- what a command's result is told as
 abbrev pub TellsReply : List ℕ → Result Reply Refusal → Told → Type 0
@@ -132,3 +147,44 @@ module _ {Request : Type 0} (before after : Standing) (target : List ℕ) (told 
       → IsRefused before target told after Refusals.Memory ⊎ MatchResult expected Takes (IsRefused before target told after)
   taken expected request reads (inl m) = inl m
   taken expected request reads (inr t) = inr (subst (λ t. MatchResult t Takes (IsRefused before target told after)) (sym reads) t)
+
+-- WHATEVER THE REGISTER IS
+
+-- a result is told, or want of memory in the place of one that is no fault of the device and not of a broken register
+abbrev pub TellsOrMemory : {Value : Type 0} → (Result Value Refusal → Told) → List ℕ → Result Value Refusal → Told → Type 0
+TellsOrMemory {Value} told_as target result told =
+    (told ≡ told_as result) ⊎ ((told ≡ told_refusal target Refusals.Memory) × (result ≢ Err Refusals.Disk) × (result ≢ Err Refusals.Broken))
+
+same_error : {Value : Type 0} (r q : Refusal) → ◌≡◌ {A = Result Value Refusal} (Err r) (Err q) → r ≡ q
+same_error r q e = cc
+
+pub reply_or_memory : (target : List ℕ) (told : Told) (result : Result Reply Refusal) → TellsReply target result told
+    → TellsOrMemory (told_reply target) target result told
+reply_or_memory target told (Ok reply) tells = inl tells
+reply_or_memory target told (Err r) (inl e) = inl e
+reply_or_memory target told (Err r) (inr c) =
+    inr (c.1, (λ e. carries_no_disk r c.0 (same_error r Refusals.Disk e)), (λ e. carries_no_broken r c.0 (same_error r Refusals.Broken e)))
+
+pub shown_or_memory : (target : List ℕ) (told : Told) (result : Result Shown Refusal) → TellsShown target result told
+    → TellsOrMemory (told_shown target) target result told
+shown_or_memory target told (Ok shown) (inl e) = inl e
+shown_or_memory target told (Ok shown) (inr e) = inr (e, (λ is. cc), (λ is. cc))
+shown_or_memory target told (Err r) (inl e) = inl e
+shown_or_memory target told (Err r) (inr c) =
+    inr (c.1, (λ e. carries_no_disk r c.0 (same_error r Refusals.Disk e)), (λ e. carries_no_broken r c.0 (same_error r Refusals.Broken e)))
+
+-- what is told of a result, where a broken register says so and a fault of the device alone breaks it
+module _ {Value : Type 0} (told_as : Result Value Refusal → Told) (before after : Standing) (target : List ℕ) (told : Told)
+    (as_refusal : (r : Refusal) → told_as (Err r) ≡ told_refusal target r) where
+  pub replied : (torn : Option History) (result : Result Value Refusal)
+      → (IsSome torn → (result ≡ Err Refusals.Broken) × (after ≡ before)) → (torn ≡ None → IsSome after.torn ↔ (result ≡ Err Refusals.Disk))
+      → TellsOrMemory told_as target result told
+      → IsRefused before target told after Refusals.Memory
+      ⊎ MatchOption torn ((r : Result Value Refusal) × (told ≡ told_as r) × (IsSome after.torn ↔ (r ≡ Err Refusals.Disk)))
+      (λ _. IsRefused before target told after Refusals.Broken)
+  replied None result broken breaks (inl tells) = inr (result, tells, breaks refl)
+  replied None result broken breaks (inr m) =
+      inr (Err Refusals.Memory, m.0 ∙ sym (as_refusal Refusals.Memory), ((λ some. absurd (m.1 ((breaks refl).0 some))), (λ is. cc)))
+  replied (Some t) result broken breaks (inl tells) =
+      inr (tells ∙ ap told_as (broken refl).0 ∙ as_refusal Refusals.Broken, (broken refl).1)
+  replied (Some t) result broken breaks (inr m) = absurd (m.2 (broken refl).0)

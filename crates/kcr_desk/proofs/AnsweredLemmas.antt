@@ -15,10 +15,10 @@ use Rattle.kcr_store.specs.declared.question.Shown.{Shown}
 use Rattle.kcr_wire.specs.Questions.{question_of}
 use Rattle.kcr_wire.specs.declared.method.Method.{Method}
 use Rattle.kcr_wire.specs.declared.method.Method.TheVariants.{Get, Head, Post, Other}
-use Rattle.kcr_desk.specs.Answers.{Standing, standing, told_refusal, IsRefused, TakesCommand, TakesQuestion, AnswersBy, Answered}
+use Rattle.kcr_desk.specs.Answers.{Standing, standing, told_refusal, told_reply, told_shown, IsRefused, TakesCommand, TakesQuestion, Replies, Answered, AnswersCommand, AnswersQuestion, AnswersAs}
 use Rattle.kcr_desk.specs.Run.{Asked}
 use Rattle.kcr_desk.specs.Texts.{Told}
-use Rattle.kcr_desk.proofs.AnswerLemmas.{TellsRefusal, TellsReply, TellsShown, took_command, took_question, refused, taken}
+use Rattle.kcr_desk.proofs.AnswerLemmas.{TellsRefusal, TellsReply, TellsShown, took_command, took_question, refused, taken, reply_or_memory, shown_or_memory, replied}
 
 module _ {S : Type 0} (g : Ghosts S) (before after : Seen S) (target : List ℕ) (told : Told) where
   abbrev ends_clean : Type 0
@@ -31,10 +31,12 @@ module _ {S : Type 0} (g : Ghosts S) (before after : Seen S) (target : List ℕ)
       → (IsTrue before.is_founded → before.torn ≡ None → ends_clean → IsNext before.accepted x (unwrap_or after.torn after.accepted))
       → (ends_clean → HasCleanDisk (state g before.conn)) → after.is_founded ≡ before.is_founded
       → TellsReply target result told
-      → Answered g before target told after (λ old new. TakesCommand old target told new x)
+      → AnswersCommand g before target told after x
   command_answered x result broken step breaks tried clean founded tells = record {
     founded = founded;
     clean = clean;
+    reply = replied (told_reply target) (standing before) (standing after) target told (λ r. refl) before.torn result
+        (λ some. let b = broken some in (b.0, ap standing b.1)) breaks (reply_or_memory target told result tells);
     answer = λ is_founded is_clean.
         took_command (standing before) (standing after) x target told before.torn refl result
         (λ some. let b = broken some in (b.0, ap standing b.1))
@@ -54,10 +56,12 @@ module _ {S : Type 0} (g : Ghosts S) (before after : Seen S) (target : List ℕ)
       → (before.torn ≡ None → unwrap_or after.torn after.accepted ≡ before.accepted)
       → (ends_clean → HasCleanDisk (state g before.conn)) → after.is_founded ≡ before.is_founded
       → TellsShown target result told
-      → Answered g before target told after (λ old new. TakesQuestion old target told new question)
+      → AnswersQuestion g before target told after question
   question_answered question result broken shown breaks same tried clean founded tells = record {
     founded = founded;
     clean = clean;
+    reply = replied (told_shown target) (standing before) (standing after) target told (λ r. refl) before.torn result
+        (λ some. let b = broken some in (b.0, ap standing b.1)) breaks (shown_or_memory target told result tells);
     answer = λ is_founded is_clean.
         took_question (standing before) (standing after) question target told before.torn refl result
         (λ some. let b = broken some in (b.0, ap standing b.1))
@@ -71,42 +75,44 @@ module _ {S : Type 0} (g : Ghosts S) (before after : Seen S) (target : List ℕ)
   }
 
   -- what was read is the request
-  pub taken_answered : {Request : Type 0} (Takes : Standing → Standing → Request → Type 0) (expected : Result Request Refusal) (request : Request)
-      → expected ≡ Ok request → Answered g before target told after (λ old new. Takes old new request)
+  pub taken_answered : {Request : Type 0} (Takes : Standing → Standing → Request → Type 0) (Reply : Standing → Standing → Type 0)
+      (expected : Result Request Refusal) (request : Request)
+      → expected ≡ Ok request → Answered g before target told after (λ old new. Takes old new request) Reply
       → Answered g before target told after (λ old new. MatchResult expected (Takes old new) (IsRefused old target told new))
-  taken_answered Takes expected request reads answered = record {
+      (λ old new. MatchResult expected (λ _. Reply old new) (IsRefused old target told new))
+  taken_answered {Request} Takes Reply expected request reads answered = record {
     founded = answered.founded;
     clean = answered.clean;
+    reply =
+        let Replying : Request → Type 0 = λ _. Reply (standing before) (standing after) in
+        taken (standing before) (standing after) target told Replying expected request reads answered.reply;
     answer = λ is_founded is_clean.
         taken (standing before) (standing after) target told (Takes (standing before) (standing after)) expected request reads
         (answered.answer is_founded is_clean);
   }
 
-  -- a message by its method, where it is no POST
-  pub answered_by : (method : Method) (asked : Asked) → asked.target ≡ target → (method ≡ Post → ⊥)
-      → Answered g before target told after (λ old new. MatchResult (question_of method asked.target) (TakesQuestion old asked.target told new) (IsRefused old asked.target told new))
-      → Answered g before target told after (λ old new. AnswersBy method old asked told new)
-  answered_by Post asked same other answered = absurd (other refl)
-  answered_by Get asked same other answered = answered
-  answered_by Head asked same other answered = answered
-  answered_by Other asked same other answered = answered
-
 -- nothing was asked of the register
 module _ {S : Type 0} (g : Ghosts S) (before : Seen S) (target : List ℕ) (told : Told) where
-  pub refused_answered : {Request : Type 0} (Takes : Standing → Standing → Request → Type 0) (expected : Result Request Refusal) (r : Refusal)
+  pub refused_answered : {Request : Type 0} (Takes : Standing → Standing → Request → Type 0) (Reply : Standing → Standing → Type 0)
+      (expected : Result Request Refusal) (r : Refusal)
       → (r ≢ Refusals.Memory → expected ≡ Err r) → TellsRefusal target r told
       → Answered g before target told before (λ old new. MatchResult expected (Takes old new) (IsRefused old target told new))
-  refused_answered Takes expected r reads tells = record {
+      (λ old new. MatchResult expected (λ _. Reply old new) (IsRefused old target told new))
+  refused_answered {Request} Takes Reply expected r reads tells = record {
     founded = refl;
     clean = λ is_clean. is_clean;
+    reply =
+        let Replying : Request → Type 0 = λ _. Reply (standing before) (standing before) in
+        refused (standing before) (standing before) target told Replying expected r reads tells refl;
     answer = λ is_founded is_clean.
         refused (standing before) (standing before) target told (Takes (standing before) (standing before)) expected r reads tells refl;
   }
 
-  pub memory_answered : (Answer : Standing → Standing → Type 0) → told ≡ told_refusal target Refusals.Memory
-      → Answered g before target told before Answer
-  memory_answered Answer tells = record {
+  pub memory_answered : (Answer Reply : Standing → Standing → Type 0) → told ≡ told_refusal target Refusals.Memory
+      → Answered g before target told before Answer Reply
+  memory_answered Answer Reply tells = record {
     founded = refl;
     clean = λ is_clean. is_clean;
+    reply = inl (tells, refl);
     answer = λ is_founded is_clean. inl (tells, refl);
   }

@@ -13,4 +13,5 @@ pub mod PhraseLemmas
 pub mod AnswerLemmas
 pub mod AnsweredLemmas
 pub mod StandingLemmas
+pub mod RegisterLemmas
 pub mod PlainLemmas

@@ -8,6 +8,7 @@ use Rattle.kcr_base.specs.Refusal.{status_of}
 use Rattle.kcr_base.specs.declared.refusal.Refusal.{Refusal}
 use Rattle.kcr_base.specs.declared.refusal.Refusal.TheVariants as Refusals
 use Rattle.kcr_history.specs.History.{History}
+use Rattle.kcr_history.specs.Machine.{IsRegister}
 use Rattle.kcr_history.specs.Refusals.{refusal_text}
 use Rattle.kcr_history.specs.declared.commands.Command.{Command}
 use Rattle.kcr_history.specs.declared.commands.Reply.{Reply}
@@ -112,15 +113,62 @@ abbrev pub IsAnswer : Standing → Asked → Told → Standing → Type 0
 IsAnswer before asked told after =
     IsRefused before asked.target told after Refusals.Memory ⊎ AnswersBy (method_of asked.method) before asked told after
 
--- the same of a register over a database that was empty or a register's at first, as long as its disk is clean
+-- WHATEVER THE REGISTER IS
+
+-- a request that could be read is told its result, and a fault of the device alone breaks the register; of its history nothing is said. A broken one says so, and stays as it was
+abbrev pub Replies : {Value : Type 0} → (Result Value Refusal → Told) → Standing → List ℕ → Told → Standing → Type 0
+Replies {Value} told_as before target told after =
+    MatchOption before.torn
+    ((result : Result Value Refusal) × (told ≡ told_as result) × (IsSome after.torn ↔ (result ≡ Err Refusals.Disk)))
+    (λ _. IsRefused before target told after Refusals.Broken)
+
+-- a POST is a command, and all else a question, or refused for its path, its method, its text or its form
+abbrev pub RepliesBy : Method → Standing → Asked → Told → Standing → Type 0
+RepliesBy Post before asked told after =
+    MatchResult (command_of Post asked.target asked.body)
+    (λ _. Replies (told_reply asked.target) before asked.target told after) (IsRefused before asked.target told after)
+RepliesBy method before asked told after =
+    MatchResult (question_of method asked.target)
+    (λ _. Replies (told_shown asked.target) before asked.target told after) (IsRefused before asked.target told after)
+
+-- what a message is told by any register, whatever its database holds and whatever its disk does
+abbrev pub IsReply : Standing → Asked → Told → Standing → Type 0
+IsReply before asked told after =
+    IsRefused before asked.target told after Refusals.Memory ⊎ RepliesBy (method_of asked.method) before asked told after
+
+-- REGISTERS
+
+-- its history, and the one that a crash may have left in its place, are ones that the machine leads to
+abbrev pub AreRegisters : Standing → Type 0
+AreRegisters s = IsRegister s.accepted × IsRegister (unwrap_or s.torn s.accepted)
+
+-- a message is answered by a register: in any case a reply; and over a database that was empty or a register's at first, as long as its disk is clean, the answer
 pub record Answered
     {S : Type 0} (g : Ghosts S) (before : Seen S) (target : List ℕ) (told : Told) (after : Seen S)
-    (Answer : Standing → Standing → Type 0) : Type 0 where
+    (Answer Reply : Standing → Standing → Type 0) : Type 0 where
   pub founded : after.is_founded ≡ before.is_founded
   pub clean : HasCleanDisk (state g after.conn) → HasCleanDisk (state g before.conn)
+  pub reply : IsRefused (standing before) target told (standing after) Refusals.Memory ⊎ Reply (standing before) (standing after)
   pub answer : IsTrue before.is_founded → HasCleanDisk (state g after.conn)
       → IsRefused (standing before) target told (standing after) Refusals.Memory ⊎ Answer (standing before) (standing after)
 
+-- a command
+abbrev pub AnswersCommand : {S : Type 0} → Ghosts S → Seen S → List ℕ → Told → Seen S → Command → Type 0
+AnswersCommand g before target told after x =
+    Answered g before target told after
+    (λ old new. TakesCommand old target told new x) (λ old new. Replies (told_reply target) old target told new)
+
+-- a question
+abbrev pub AnswersQuestion : {S : Type 0} → Ghosts S → Seen S → List ℕ → Told → Seen S → Question → Type 0
+AnswersQuestion g before target told after question =
+    Answered g before target told after
+    (λ old new. TakesQuestion old target told new question) (λ old new. Replies (told_shown target) old target told new)
+
+-- a message by its method
+abbrev pub AnswersAs : {S : Type 0} → Method → Ghosts S → Seen S → Asked → Told → Seen S → Type 0
+AnswersAs method g before asked told after =
+    Answered g before asked.target told after
+    (λ old new. AnswersBy method old asked told new) (λ old new. RepliesBy method old asked told new)
+
 abbrev pub Answers : {S : Type 0} → Ghosts S → Seen S → Asked → Told → Seen S → Type 0
-Answers g before asked told after =
-    Answered g before asked.target told after (λ old new. AnswersBy (method_of asked.method) old asked told new)
+Answers g before asked told after = AnswersAs (method_of asked.method) g before asked told after

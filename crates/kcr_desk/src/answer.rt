@@ -7,7 +7,7 @@ ghost use Rattle.kcr_wire.specs.Questions.{question_of};
 ghost use Rattle.kcr_wire.specs.declared.method.Method.TheVariants.{Post};
 ghost use Rattle.kcr_history.specs.Refusals.{carries};
 ghost use Rattle.kcr_base.specs.declared.refusal.Refusal.TheVariants as Refusals;
-ghost use Rattle.kcr_desk.specs.Answers.{Answers, Answered, standing, method_of, told_text, told_refusal, allowed, IsRefused, TakesCommand, TakesQuestion, AnswersBy};
+ghost use Rattle.kcr_desk.specs.Answers.{Answers, AnswersAs, Answered, AnswersCommand, AnswersQuestion, method_of, told_text, told_refusal, told_shown, allowed, IsRefused, TakesQuestion, Replies};
 ghost use Rattle.kcr_desk.specs.Told.{told};
 
 use crate::reply::{Body, Heading, Kind, Reply, refusal_heading};
@@ -64,9 +64,12 @@ fn allowed(paths: &Paths, target: &[u8], refusal: &Refusal) -> Option<Allow>
 fn memory_reply() -> Reply
     ensures { (target : List ℕ) → told result ≡ told_refusal target Refusals.Memory }
 {
+    let Some(text) = fixed_text(&Refusal::Memory) else {
+        unreachable!()
+    };
     Reply {
         heading: refusal_heading(&Refusal::Memory, None),
-        body: Body::Fixed(fixed_text(&Refusal::Memory).unwrap_or("")),
+        body: Body::Fixed(text),
     }
 }
 
@@ -100,7 +103,7 @@ fn take_command<S: Alter>(
     target: &[u8],
     command: &Command,
 ) -> Reply
-    ensures { Answered S.Store register.old target.now (told result) register.new (λ before after. TakesCommand before target.now (told result) after command.now) }
+    ensures { AnswersCommand S.Store register.old target.now (told result) register.new command.now }
 {
     match register.apply(command) {
         Ok(reply) => text_reply(reply.text),
@@ -116,7 +119,7 @@ fn take_question<S: Alter>(
     target: &[u8],
     question: &Question,
 ) -> Reply
-    ensures { Answered S.Store register.old target.now (told result) register.new (λ before after. TakesQuestion before target.now (told result) after question.now) }
+    ensures { AnswersQuestion S.Store register.old target.now (told result) register.new question.now }
 {
     match register.look(question) {
         Ok(shown) => {
@@ -137,7 +140,7 @@ fn answer_post<S: Alter>(
     target: &[u8],
     body: &[u8],
 ) -> Reply
-    ensures { Answered S.Store register.old target.now (told result) register.new (λ before after. AnswersBy Post before (record { method = []; target = target.now; body = body.now }) (told result) after) }
+    ensures { AnswersAs Post S.Store register.old (record { method = []; target = target.now; body = body.now }) (told result) register.new }
 {
     match paths.read_command(alloc, Method::Post, target, body) {
         Ok(command) => take_command(alloc, register, paths, target, &command),
@@ -153,8 +156,9 @@ fn answer_question<S: Alter>(
     method: Method,
     target: &[u8],
 ) -> Reply
-    ensures { Answered S.Store register.old target.now (told result) register.new (λ before after.
-        MatchResult (question_of method target.now) (TakesQuestion before target.now (told result) after) (IsRefused before target.now (told result) after)) }
+    ensures { Answered S.Store register.old target.now (told result) register.new
+        (λ before after. MatchResult (question_of method target.now) (TakesQuestion before target.now (told result) after) (IsRefused before target.now (told result) after))
+        (λ before after. MatchResult (question_of method target.now) (λ _. Replies (told_shown target.now) before target.now (told result) after) (IsRefused before target.now (told result) after)) }
 {
     match paths.read_question(method, target) {
         Ok(question) => take_question(alloc, register, paths, target, &question),

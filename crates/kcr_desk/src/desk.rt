@@ -1,11 +1,12 @@
 //! The desk over a register.
-ghost use Rattle.std.specs.Prelude.{◌≡◌, ◌+◌, ◌<◌, ◌≤◌, ◌⊎◌, IfOk, OnErr, IsErrOf, IsTrue, false};
+ghost use Rattle.std.specs.Prelude.{◌≡◌, ◌+◌, ◌<◌, ◌≤◌, ◌⊎◌, ℕ, List, Option, IfOk, OnErr, IsErrOf, IsTrue, false};
 ghost use Rattle.sqlite.specs.Held.{state};
 ghost use Rattle.sqlite.specs.State.{HasCleanDisk};
 ghost use Rattle.kcr_base.specs.Counted.{inner_of, failures_of, gifts_of};
 ghost use Rattle.kcr_base.specs.declared.refusal.Refusal.{Refusal};
 ghost use Rattle.kcr_history.specs.Refusals.{carries, refusal_text};
-ghost use Rattle.kcr_desk.specs.Answers.{IsAnswer, standing};
+ghost use Rattle.kcr_store.specs.Register.{IsKept};
+ghost use Rattle.kcr_desk.specs.Answers.{Standing, IsAnswer, IsReply, AreRegisters, standing};
 ghost use Rattle.kcr_desk.specs.Run.{IsServed, IsBroken};
 ghost use Rattle.kcr_desk.specs.Texts.{plain_text};
 
@@ -18,6 +19,10 @@ use std::alloc::Global;
 use std::io::{Read, Write};
 
 /// Answers a stream of messages by a register, until the stream ends or a message closes it.
+///
+/// Refusals are answers. `Read` comes where a read failed or 1,000,000 reads gave a byte, `Write` where a write failed,
+/// `Memory` where the bytes of a message found no room. What was written then is a beginning of the answers, the register
+/// stands after the commands that it took, and another stream may be served.
 pub fn serve<R: Read, W: Write, S: Alter>(
     alloc: Global,
     reader: &mut Counted<R>,
@@ -33,16 +38,41 @@ pub fn serve<R: Read, W: Write, S: Alter>(
     ensures broken { IsTrue register.old.is_founded → HasCleanDisk (state S.Store register.new.conn) → OnErr result
         (IsBroken IsAnswer (R.remaining (inner_of reader.old)) (W.contents (inner_of writer.old)) (W.contents (inner_of writer.new))
         (standing register.old) (standing register.new)) }
+
+    // Whatever the database held and whatever its disk does, each message gets one answer, in their order, and it is a reply to it.
+    ensures answered { IfOk result (λ served.
+        IsServed IsReply (R.remaining (inner_of reader.old)) (W.contents (inner_of writer.old)) (W.contents (inner_of writer.new))
+        (standing register.old) (standing register.new) served.requests) }
+    ensures answered_in_part { OnErr result
+        (IsBroken IsReply (R.remaining (inner_of reader.old)) (W.contents (inner_of writer.old)) (W.contents (inner_of writer.new))
+        (standing register.old) (standing register.new)) }
+
+    // The register is whole, and stays as founded as it was. A disk that is clean at the end was so at the beginning.
+    ensures kept { IsKept S.Store register.new }
+    ensures founded { register.new.is_founded ≡ register.old.is_founded }
+    ensures clean { HasCleanDisk (state S.Store register.new.conn) → HasCleanDisk (state S.Store register.old.conn) }
     ensures read_fault { IsErrOf result DeskFault.Read
         → (failures_of reader.old < failures_of reader.new) ⊎ (gifts_of reader.new ≡ gifts_of reader.old + 1000000) }
     ensures write_fault { IsErrOf result DeskFault.Write → failures_of writer.old < failures_of writer.new }
     ensures bound { gifts_of reader.new ≤ gifts_of reader.old + 1000000 }
 {
-    serve_stream(alloc, reader, writer, register)
+    let result = serve_stream(alloc, reader, writer, register);
+    // Any use of a register tells that it is whole, also of one that no message reached.
+    let _ = register.is_broken();
+    result
 }
 
 /// A faulty item is told the JSON that every refusal with nothing to carry has: its number and its word.
 #[tactic(auto, using(crate::proofs::PlainLemmas::plain_refusal))]
 pub fn one_text_of_a_refusal()
     ensures { (r : Refusal) → carries r ≡ false → plain_text r ≡ refusal_text r }
+{}
+
+/// Every stream leads from registers to registers, whether it was served whole or in part. So what holds of every
+/// register holds of the history that a stream leaves, and of the one that a crash may leave in its place.
+pub fn streams_keep_registers()
+    ensures served { (input old new : Option (List ℕ)) (before after : Standing) (count : ℕ) → AreRegisters before →
+        IsServed IsAnswer input old new before after count → AreRegisters after }
+    ensures broken { (input old new : Option (List ℕ)) (before after : Standing) → AreRegisters before →
+        IsBroken IsAnswer input old new before after → AreRegisters after }
 {}

@@ -2,7 +2,7 @@
 use std::alloc::AllocError;
 
 /// Why a stream was not answered to its end. What was written is a beginning of the answers of its messages.
-#[derive(Clone, Copy, Debug, PartialEq, Eq)]
+#[derive(Clone, Copy, PartialEq, Eq)]
 pub enum DeskFault {
     /// A read failed, or more than 1,000,000 reads would be needed.
     Read,

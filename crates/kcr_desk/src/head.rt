@@ -15,7 +15,7 @@ use httparse::spans::{EMPTY_HEADER_SPAN, HeaderSpan, RequestSpans, Span, parse_r
 use kcr_base::Refusal;
 
 /// What a head asks for.
-#[derive(Clone, Copy, Debug)]
+#[derive(Clone, Copy)]
 pub struct Plan {
     /// The body's length in bytes (RFC 9112, section 6.2), at most 131,072.
     pub length: usize,
@@ -27,7 +27,7 @@ pub struct Plan {
 }
 
 /// The values of the fields of one name.
-#[derive(Clone, Copy, Debug)]
+#[derive(Clone, Copy)]
 pub(crate) enum Named {
     Absent,
     One(Span),
@@ -160,7 +160,7 @@ pub const MAX_BODY: usize = 131_072;
 pub const MAX_HEAD: usize = 8192;
 
 /// What the bytes at the front of a stream are.
-#[derive(Clone, Copy, Debug)]
+#[derive(Clone, Copy)]
 pub(crate) enum Tried {
     /// A whole head, and what it asks for or the refusal of its first test that fails.
     Whole(RequestSpans, Result<Plan, Refusal>),

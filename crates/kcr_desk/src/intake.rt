@@ -15,7 +15,7 @@ use std::io::Read;
 pub const MAX_READS: u32 = 1_000_000;
 
 /// What stands at the front of a stream.
-#[derive(Clone, Copy, Debug)]
+#[derive(Clone, Copy)]
 pub(crate) enum Found {
     Whole(RequestSpans, Plan),
     /// A faulty item, and whether its method is HEAD.

@@ -15,9 +15,7 @@ mod put;
 pub mod reply;
 mod responder;
 pub mod stream;
-#[cfg(test)]
-mod tests;
 
-pub use desk::{one_text_of_a_refusal, serve};
+pub use desk::{one_text_of_a_refusal, serve, streams_keep_registers};
 pub use fault::DeskFault;
 pub use stream::{Served, broken_begins_output, one_cut};

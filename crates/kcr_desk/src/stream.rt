@@ -3,7 +3,7 @@ ghost use Rattle.std.specs.Prelude.{◌≡◌, ℕ, List, ◌++◌, ◌+◌, ◌
 ghost use Rattle.std.specs.Io.KnownBytes.{prepend_known};
 ghost use Rattle.kcr_base.specs.Counted.{inner_of, failures_of, gifts_of};
 ghost use Rattle.kcr_desk.specs.Intake.{Stays};
-ghost use Rattle.kcr_desk.specs.Found.{IsReady};
+ghost use Rattle.kcr_desk.specs.Found.{IsReady, HasPlan};
 ghost use Rattle.kcr_desk.specs.Plans.{is_head};
 ghost use Rattle.kcr_desk.specs.Texts.{Told, answer_text};
 ghost use Rattle.kcr_desk.specs.Written.{Writes};
@@ -24,19 +24,53 @@ use std::alloc::Global;
 use std::io::{Read, Write};
 
 /// A stream that was answered whole: to its end, or to a message or a faulty item that closes it.
-#[derive(Clone, Copy, Debug, PartialEq, Eq)]
+#[derive(Clone, Copy, PartialEq, Eq)]
 pub struct Served {
     /// How many whole messages were answered. One that closes is counted, a faulty item is not.
     pub requests: u64,
 }
 
 /// What stands next in a stream.
-#[derive(Clone, Copy, Debug)]
+#[derive(Clone, Copy)]
 pub(crate) enum Turn {
     /// A whole message, which is to be answered.
     Message(RequestSpans, Plan),
     /// The end, which was answered.
     Ended,
+}
+
+/// Takes in the body behind the head of a message, or answers that the input ends inside it.
+fn take_message<R: Read, W: Write>(
+    intake: &mut Intake,
+    reader: &mut Counted<R>,
+    writer: &mut Counted<W>,
+    spans: RequestSpans,
+    plan: Plan,
+) -> Result<Turn, DeskFault>
+    requires { HasPlan intake.old.buffer.items spans plan }
+    ensures turn { IfOk result (IsTurn
+        (prepend_known intake.old.buffer.items (R.remaining (inner_of reader.old)))
+        intake.new.buffer.items (W.contents (inner_of writer.old)) (W.contents (inner_of writer.new))) }
+    ensures kept { OnOk result (Stays
+        (prepend_known intake.old.buffer.items (R.remaining (inner_of reader.old)))
+        (prepend_known intake.new.buffer.items (R.remaining (inner_of reader.new)))) }
+    ensures breaks { OnErr result (BreaksTurn
+        (prepend_known intake.old.buffer.items (R.remaining (inner_of reader.old)))
+        (W.contents (inner_of writer.old)) (W.contents (inner_of writer.new))) }
+    ensures room { OnOk result (vec_len intake.new.buffer + 4096 * intake.old.reads ≤ vec_len intake.old.buffer + 4096 * intake.new.reads) }
+    ensures calm { OnOk result ((failures_of reader.new ≡ failures_of reader.old) × (failures_of writer.new ≡ failures_of writer.old)) }
+    ensures counted { gifts_of reader.new + intake.old.reads ≡ gifts_of reader.old + intake.new.reads }
+    ensures read_fault { IsErrOf result DeskFault.Read
+        → (failures_of reader.old < failures_of reader.new) ⊎ (intake.new.reads ≡ 1000000) }
+    ensures write_fault { IsErrOf result DeskFault.Write → failures_of writer.old < failures_of writer.new }
+{
+    put_continue(writer, plan)?;
+    if intake.take_body(reader, spans.len + plan.length)? {
+        return Ok(Turn::Message(spans, plan));
+    }
+    let bare = is_head_method(spans.method.of(&intake.buffer));
+    put_refusal(writer, Refusal::Cut, bare)?;
+    Ok(Turn::Ended)
 }
 
 /// Takes in the next message, or answers the end of the stream.
@@ -61,21 +95,14 @@ fn next_turn<R: Read, W: Write>(
         → (failures_of reader.old < failures_of reader.new) ⊎ (intake.new.reads ≡ 1000000) }
     ensures write_fault { IsErrOf result DeskFault.Write → failures_of writer.old < failures_of writer.new }
 {
-    let (spans, plan) = match intake.take_head(reader)? {
-        Found::Quiet => return Ok(Turn::Ended),
+    match intake.take_head(reader)? {
+        Found::Quiet => Ok(Turn::Ended),
         Found::Refused(refusal, bare) => {
             put_refusal(writer, refusal, bare)?;
-            return Ok(Turn::Ended);
+            Ok(Turn::Ended)
         }
-        Found::Whole(spans, plan) => (spans, plan),
-    };
-    put_continue(writer, plan)?;
-    if intake.take_body(reader, spans.len + plan.length)? {
-        return Ok(Turn::Message(spans, plan));
+        Found::Whole(spans, plan) => take_message(intake, reader, writer, spans, plan),
     }
-    let bare = is_head_method(spans.method.of(&intake.buffer));
-    put_refusal(writer, Refusal::Cut, bare)?;
-    Ok(Turn::Ended)
 }
 
 /// Has the message at the front answered.

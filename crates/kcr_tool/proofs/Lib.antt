@@ -1,3 +1,5 @@
 pub mod Parses
+pub mod Taken
+pub mod Causes
 mod Examples
 pub mod Empty

@@ -1,3 +1,4 @@
 pub mod Commands
 pub mod Tasks
 pub mod Runs
+pub mod Faults

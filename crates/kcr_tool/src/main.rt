@@ -7,8 +7,6 @@
 ghost use Rattle.std.specs.Prelude.{◌≡◌, ◌⊎◌, ◌≤◌};
 
 mod act;
-#[cfg(test)]
-mod tests;
 mod words;
 
 use act::act;

@@ -10,14 +10,14 @@ use clap::{ArgMatches, Command};
 use std::alloc::{AllocError, Global};
 
 /// What the program is to do.
-#[derive(Clone, Copy, Debug, PartialEq, Eq)]
+#[derive(Clone, Copy, PartialEq, Eq)]
 pub enum Task {
     /// Answers the stream of requests on standard input on standard output.
     Run,
 }
 
 /// Why the words are no task.
-#[derive(Clone, Copy, Debug, PartialEq, Eq)]
+#[derive(Clone, Copy, PartialEq, Eq)]
 pub enum WordsFault {
     /// `clap` refuses the words, or they ask for help.
     Line,
@@ -83,8 +83,9 @@ fn read_task(name: &str, matches: &ArgMatches<'_>) -> Option<Task>
     }
 }
 
-/// The task that the words hold, the first of which is the program's name. `Line` comes only where
-/// `clap` refuses the words or they ask for help, and where it does, no task comes.
+/// The task that the words hold, the first of which is the program's name: every list of words that
+/// `clap` takes holds one. `Line` comes only where `clap` refuses the words or they ask for help, and
+/// where it does, no task comes. `Memory` comes only where memory was refused.
 pub fn read_words(alloc: Global, words: &[String]) -> Result<Task, WordsFault>
     ensures task { IfOk result (λ task. task_of (map string_bytes words.now) ≡ Some task) }
     ensures taken { IfOk result (λ _. faults_of (map string_bytes words.now) ≡ []) }
@@ -92,11 +93,11 @@ pub fn read_words(alloc: Global, words: &[String]) -> Result<Task, WordsFault>
 {
     let matches = parse(alloc, words)?;
     let Some((name, inner)) = matches.subcommand() else {
-        return Err(WordsFault::Memory);
+        unreachable!()
     };
     match read_task(name, inner) {
         Some(task) => Ok(task),
-        None => Err(WordsFault::Memory),
+        None => unreachable!(),
     }
 }
 

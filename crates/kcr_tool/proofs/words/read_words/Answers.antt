@@ -1,9 +1,19 @@
 use Rattle.std.proofs.Common.{sym}
 use Rattle.clap.specs.Words.{rows_of, found_of}
 use Rattle.kcr_tool.proofs.Parses.{met_is, task_is}
+use Rattle.kcr_tool.proofs.Taken.{never_none, never_other}
 use Rattle.kcr_tool.proofs.words.read_words.Goals as goal
 
-pub returns-in-Some-read_task-clause-task : goal.returns-in-Some-read_task-clause-task
-returns-in-Some-read_task-clause-task c =
+pub unreachable-requires : goal.unreachable-requires
+unreachable-requires c = never_none _ c.in_ok-matches.matches c.in_ok-matches.ensures.taken c.in_ok-matches.ensures.found c.in_default.ensures.rows
+
+pub unreachable-requires-in-None : goal.unreachable-requires-in-None
+unreachable-requires-in-None c =
+    never_other _ (c.in-Some.name.now, rows_of (found_of c.in-Some.inner.now)) c.in_ok-matches.ensures.taken
+    (met_is _ c.in_ok-matches.matches c.in-Some.name.now (rows_of (found_of c.in-Some.inner.now)) c.in_ok-matches.ensures.found c.in-Some.ensures.name c.in-Some.ensures.rows)
+    c.in-None.ensures
+
+pub returns-clause-task : goal.returns-clause-task
+returns-clause-task c =
     task_is _ _ _ c.in-Some-read_task.task (met_is _ c.in_ok-matches.matches c.in-Some.name.now (rows_of (found_of c.in-Some.inner.now)) c.in_ok-matches.ensures.found c.in-Some.ensures.name c.in-Some.ensures.rows)
     (sym c.in-Some-read_task.ensures)

@@ -1,0 +1,116 @@
+-- Runs lead from registers to registers.
+use Rattle.std.proofs.Common.{◌≡◌, ℕ, List, [], ◌∷◌, ◌⊎◌, inl, inr, Option, Some, None, Result, Ok, Err, sym, subst}
+use Rattle.std.specs.Prelude.{MatchOption, MatchResult, unwrap_or}
+use Rattle.kcr_base.specs.declared.refusal.Refusal.{Refusal}
+use Rattle.kcr_base.specs.declared.refusal.Refusal.TheVariants as Refusals
+use Rattle.kcr_history.specs.declared.commands.Answer.{Answer}
+use Rattle.kcr_history.specs.declared.commands.Command.{Command}
+use Rattle.kcr_history.specs.declared.commands.Entry.{Entry}
+use Rattle.kcr_history.specs.declared.commands.Reply.{Reply}
+use Rattle.kcr_history.specs.History.{History, entry_of}
+use Rattle.kcr_history.specs.Conditions.{fault}
+use Rattle.kcr_history.specs.Machine.{Outcome, Accepts, Sitting, sitting, answer_to, with_command, accepts, seats, acts, repeats, machine, IsRegister}
+use Rattle.kcr_store.specs.Steps.{Steps, IsNext}
+use Rattle.kcr_store.specs.declared.question.Question.{Question}
+use Rattle.kcr_store.specs.declared.question.Shown.{Shown}
+use Rattle.kcr_wire.specs.Commands.{command_of}
+use Rattle.kcr_wire.specs.Questions.{question_of}
+use Rattle.kcr_wire.specs.declared.method.Method.{Method}
+use Rattle.kcr_wire.specs.declared.method.Method.TheVariants.{Get, Head, Post, Other}
+use Rattle.kcr_desk.specs.Answers.{Standing, AreRegisters, IsRefused, Performs, Inquires, told_reply, told_shown, TakesCommand, TakesQuestion, AnswersBy, IsAnswer, method_of}
+use Rattle.kcr_desk.specs.Run.{Asked, asked_of, Exchange, Run, IsServed, IsBroken}
+use Rattle.kcr_desk.specs.Texts.{Told}
+
+-- ONE STEP OF THE MACHINE
+
+stays : (A A' : History) → IsRegister A → A' ≡ A → IsRegister A'
+stays A A' r e = subst IsRegister (sym e) r
+
+grows : (A : History) (x : Command) (answer : Answer) (outcome : Outcome) (A' : History) → IsRegister A → machine A x outcome A'
+    → outcome ≡ Accepts answer → A' ≡ with_command A x answer → IsRegister A'
+grows A x answer outcome A' r h o e =
+    let step : machine A x (Accepts answer) (with_command A x answer) = subst (λ (B : History). machine A x (Accepts answer) B) e (subst (λ (z : Outcome). machine A x z A') o h) in
+    subst IsRegister (sym e) (step, r)
+
+step_keeps : (A : History) (x : Command) (outcome : Outcome) (A' : History) → IsRegister A → machine A x outcome A' → IsRegister A'
+step_keeps A x outcome A' r h = by_entry (entry_of A x.key) (fault A x.act) h
+  where
+    seated : (s : Option Sitting) → MatchOption s (accepts A x (answer_to A x.act None) outcome A') (λ q. seats A x q outcome A') → IsRegister A'
+    seated None g = grows A x (answer_to A x.act None) outcome A' r h g.0 g.1
+    seated (Some s) (inl w) = grows A x (answer_to A x.act (Some w.0)) outcome A' r h w.2.0 w.2.1
+    seated (Some s) (inr w) = stays A A' r w.2.1
+
+    by_entry : (k : Option Entry) (f : Option Refusal) → MatchOption k (acts A x f outcome A') (λ old. repeats A x old outcome A') → IsRegister A'
+    by_entry (Some old) f g = stays A A' r g.1
+    by_entry None (Some refusal) g = stays A A' r g.1
+    by_entry None None g = seated (sitting A x.act) g
+
+-- ONE MESSAGE
+
+taken_keeps : (A : History) (x : Command) (result : Result Reply Refusal) (A' : History) → IsRegister A → Steps A x result A' → IsRegister A'
+taken_keeps A x (Ok reply) A' r h = step_keeps A x (Accepts h.0) A' r h.1
+taken_keeps A x (Err refusal) A' r h = stays A A' r h.0
+
+tried_keeps : (A : History) (x : Command) (A' : History) → IsRegister A → IsNext A x A' → IsRegister A'
+tried_keeps A x A' r (inl e) = stays A A' r e
+tried_keeps A x A' r (inr w) = step_keeps A x (Accepts w.0) A' r w.1
+
+module _ (before after : Standing) (target : List ℕ) (told : Told) (are : AreRegisters before) where
+  refused_keeps : (refusal : Refusal) → IsRefused before target told after refusal → AreRegisters after
+  refused_keeps refusal h = subst AreRegisters (sym h.1) are
+
+  command_keeps : (x : Command) → TakesCommand before target told after x → AreRegisters after
+  command_keeps x h = by_torn before.torn h
+    where
+      by_torn : (torn : Option History)
+          → MatchOption torn ((result : Result Reply Refusal) × (told ≡ told_reply target result) × Performs before.accepted x result after)
+          (λ _. IsRefused before target told after Refusals.Broken) → AreRegisters after
+      by_torn None h = (taken_keeps before.accepted x h.0 after.accepted are.0 h.2.step, tried_keeps before.accepted x (unwrap_or after.torn after.accepted) are.0 h.2.tried)
+      by_torn (Some t) h = refused_keeps Refusals.Broken h
+
+  question_keeps : (question : Question) → TakesQuestion before target told after question → AreRegisters after
+  question_keeps question h = by_torn before.torn h
+    where
+      by_torn : (torn : Option History)
+          → MatchOption torn ((result : Result Shown Refusal) × (told ≡ told_shown target result) × Inquires before.accepted question result after)
+          (λ _. IsRefused before target told after Refusals.Broken) → AreRegisters after
+      by_torn None h = (stays before.accepted after.accepted are.0 h.2.same, stays before.accepted (unwrap_or after.torn after.accepted) are.0 h.2.tried)
+      by_torn (Some t) h = refused_keeps Refusals.Broken h
+
+  read_keeps : {Request : Type 0} (Takes : Request → Type 0) → ((request : Request) → Takes request → AreRegisters after)
+      → (expected : Result Request Refusal) → MatchResult expected Takes (IsRefused before target told after) → AreRegisters after
+  read_keeps Takes keeps (Ok request) h = keeps request h
+  read_keeps Takes keeps (Err refusal) h = refused_keeps refusal h
+
+message_keeps : (before : Standing) (asked : Asked) (told : Told) (after : Standing) → AreRegisters before → (method : Method)
+    → AnswersBy method before asked told after → AreRegisters after
+message_keeps before asked told after are Post h =
+    read_keeps before after asked.target told are (TakesCommand before asked.target told after)
+    (command_keeps before after asked.target told are) (command_of Post asked.target asked.body) h
+message_keeps before asked told after are Get h =
+    read_keeps before after asked.target told are (TakesQuestion before asked.target told after)
+    (question_keeps before after asked.target told are) (question_of Get asked.target) h
+message_keeps before asked told after are Head h =
+    read_keeps before after asked.target told are (TakesQuestion before asked.target told after)
+    (question_keeps before after asked.target told are) (question_of Head asked.target) h
+message_keeps before asked told after are Other h =
+    read_keeps before after asked.target told are (TakesQuestion before asked.target told after)
+    (question_keeps before after asked.target told are) (question_of Other asked.target) h
+
+answer_keeps : (before : Standing) (asked : Asked) (told : Told) (after : Standing) → AreRegisters before → IsAnswer before asked told after → AreRegisters after
+answer_keeps before asked told after are (inl h) = refused_keeps before after asked.target told are Refusals.Memory h
+answer_keeps before asked told after are (inr h) = message_keeps before asked told after are (method_of asked.method) h
+
+-- A STREAM
+
+run_keeps : (before : Standing) (xs : List Exchange) (after : Standing) → AreRegisters before → Run IsAnswer before xs after → AreRegisters after
+run_keeps before [] after are run = subst AreRegisters run are
+run_keeps before (x ∷ xs) after are run = run_keeps run.0 xs after (answer_keeps before (asked_of x.message) x.reply run.0 are run.1) run.2
+
+pub served_keeps : (input old new : Option (List ℕ)) (before after : Standing) (count : ℕ) → AreRegisters before
+    → IsServed IsAnswer input old new before after count → AreRegisters after
+served_keeps input old new before after count are served = run_keeps before served.exchanges after are served.run
+
+pub broken_keeps : (input old new : Option (List ℕ)) (before after : Standing) → AreRegisters before
+    → IsBroken IsAnswer input old new before after → AreRegisters after
+broken_keeps input old new before after are broken = run_keeps before broken.exchanges after are broken.run
