@@ -1,11 +1,11 @@
 -- The steps of the search keep what is known of it.
-use Rattle.std.proofs.Common.{◌≡◌, ◌≢◌, ℕ, zero, suc, ◌+◌, ◌<◌, ◌≤◌, ◌⊎◌, inl, inr, Bool, true, false, List, [], ◌∷◌, ◌++◌, length, get_or, set, refl, arith, sym, ◌∙◌, ap, subst, length-append}
+use Rattle.std.proofs.Common.{◌≡◌, ◌≢◌, ℕ, zero, suc, ◌+◌, ◌<◌, ◌≤◌, ◌⊎◌, inl, inr, Bool, true, false, List, [], ◌∷◌, ◌++◌, length, get_or, set, replicate, refl, arith, sym, ◌∙◌, ap, subst, length-append}
 use Rattle.std.specs.Prelude.{SomeIndex}
-use Rattle.std.proofs.lemmas.List.{length-set, set-set, set-get_or, get_or-set_same, get_or-set_other}
+use Rattle.std.proofs.lemmas.List.{length-set, length-replicate, get_or-replicate, set-set, set-get_or, get_or-set_same, get_or-set_other}
 use Rattle.std.proofs.Math.ListN.{get_or-append}
 use Rattle.std.proofs.Math.Seq.{get_or-append_seam}
 use Rattle.kcr_seats.specs.Seating.{can_take}
-use Rattle.kcr_seats.specs.Search.{IsSeatedBut, IsReached, IsMarked, IsClosed, IsWay, IsRow}
+use Rattle.kcr_seats.specs.Search.{IsSeatedBut, IsRootAlone, IsReached, IsMarked, IsClosed, IsWay, IsRow}
 use Rattle.kcr_seats.specs.Tried.{IsPlaced}
 use Rattle.kcr_seats.proofs.Counting.{pigeonhole, true_or_false, same_or_not}
 
@@ -116,6 +116,55 @@ pub closed_more : (fits : ℕ → ℕ → Bool) (fixed next high other : ℕ) (w
 closed_more fits fixed next high other w order marked ne lo c = λ i j l f h k.
     let m : i < length order = omega arith in
     still j other marked lo (c i j l f h (rw (get_or-append order (other ∷ []) 0 i m) at k))
+
+-- the root alone is reached from the root
+pub root_reached : (fits : ℕ → ℕ → Bool) (root fixed : ℕ) (w order from : List ℕ) (marked : List Bool)
+    → IsRootAlone (length w) root order from marked → root < length w → fixed ≤ root → IsReached fits root fixed w order from
+root_reached fits root fixed w order from marked alone lo fi =
+    let first : (i : ℕ) → i < 1 → i ≡ 0 = λ (i : ℕ) (l : i < 1). omega arith in
+    rw (alone.order_is, alone.from_is) (record {
+      some = omega arith;
+      starts = refl;
+      linked = refl;
+      low = λ i l. rw (first i l) fi;
+      high = λ i l. rw (first i l) lo;
+      distinct = λ i j l k e. first i l ∙ sym (first j k);
+      before = λ i p l. absurd (omega arith);
+      edge = λ i p l. absurd (omega arith);
+    })
+
+pub root_marked : (root : ℕ) (w order from : List ℕ) (marked : List Bool)
+    → IsRootAlone (length w) root order from marked → root < length w → IsMarked w order marked
+root_marked root w order from marked alone lo =
+    let within : root < length (replicate (length w) false) = rw length-replicate lo in
+    rw (alone.order_is, alone.marked_is) (record {
+      table = length-set (replicate (length w) false) root true ∙ length-replicate (length w) false;
+      all = λ i l. (let z : i ≡ 0 = omega arith in rw z (get_or-set_same (replicate (length w) false) root true false within));
+      only = λ j l h. elim (same_or_not j root) [
+        | inl e ↦ (0, omega arith, sym e)
+        | inr ne ↦ absurd (let no : get_or (replicate (length w) false) j false ≡ false = get_or-replicate (length w) j false false l in let yes : get_or (replicate (length w) false) j false ≡ true = sym (get_or-set_other (replicate (length w) false) root j true false ne) ∙ h in cc)
+      ];
+    })
+
+-- the root is marked
+pub not_root : (fits : ℕ → ℕ → Bool) (root fixed other : ℕ) (w order from : List ℕ) (marked : List Bool)
+    → IsReached fits root fixed w order from → IsMarked w order marked → get_or marked other false ≡ false → other ≢ root
+not_root fits root fixed other w order from marked r m unmarked = λ e.
+    let yes : get_or marked (get_or order 0 0) false ≡ true = m.all 0 r.some in
+    let starts : get_or order 0 0 ≡ root = r.starts in cc
+
+-- no seat has been asked yet at the next index
+pub row_start : (fits : ℕ → ℕ → Bool) (root fixed next seat : ℕ) (w order from : List ℕ) (marked : List Bool)
+    → IsReached fits root fixed w order from → IsMarked w order marked → IsClosed fits fixed next (length w) w order marked
+    → next < length order → get_or order next 0 ≡ seat → IsRow fits root fixed next fixed seat w order from marked
+row_start fits root fixed next seat w order from marked r m closed inside here = record {
+  reached = r;
+  marks = m;
+  closed = closed;
+  row = λ j f l. absurd (omega arith);
+  inside = inside;
+  here = here;
+}
 
 -- the row goes on by a seat that is marked now, or was, or whose person does not fit
 pub row_more : (fits : ℕ → ℕ → Bool) (root fixed next other seat : ℕ) (w order from order' from' : List ℕ) (marked marked' : List Bool)

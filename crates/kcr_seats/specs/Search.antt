@@ -1,8 +1,9 @@
 -- What the search knows in between.
-use Rattle.std.specs.Prelude.{◌≡◌, ◌≢◌, ℕ, ◌+◌, ◌*◌, ◌<◌, ◌≤◌, Bool, true, false, IsTrue, List, length, slice_index, slice_index_or, SomeIndex}
+use Rattle.std.specs.Prelude.{◌≡◌, ◌≢◌, ℕ, ◌+◌, ◌*◌, ◌<◌, ◌≤◌, Bool, true, false, IsTrue, List, [], ◌∷◌, ◌++◌, length, replicate, slice_index, slice_index_or, slice_set, SomeIndex}
 use Rattle.kcr_seats.specs.Seating.{IsSeating}
 use Rattle.kcr_seats.specs.People.{contains}
 use Rattle.kcr_seats.specs.declared.people.People.{People}
+use Rattle.kcr_seats.specs.declared.search.Reached.{Reached}
 use Rattle.std.specs.List.Sorted.{IsStrictlyIncreasing}
 
 -- each seat of the list but the root has a person who fits it, and nobody has two of them
@@ -21,6 +22,18 @@ pub record IsReached (fits : ℕ → ℕ → Bool) (root fixed : ℕ) (w order f
   pub distinct : (i j : ℕ) → i < length order → j < length order → slice_index order i ≡ slice_index order j → i ≡ j
   pub before : (i : ℕ) → 0 < i → i < length order → slice_index from i < i
   pub edge : (i : ℕ) → 0 < i → i < length order → IsTrue (fits (slice_index order (slice_index from i)) (slice_index w (slice_index order i)))
+
+-- of so many seats the root alone is reached, and marked
+pub record IsRootAlone (seats root : ℕ) (order from : List ℕ) (marked : List Bool) : Type 0 where
+  pub order_is : order ≡ root ∷ []
+  pub from_is : from ≡ 0 ∷ []
+  pub marked_is : marked ≡ slice_set (replicate seats false) root true
+
+-- the seat is put last, as reached from the seat at the index, and marked
+pub record IsPut (seat from : ℕ) (old new : Reached) : Type 0 where
+  pub order_is : new.order.items ≡ old.order.items ++ seat ∷ []
+  pub from_is : new.from.items ≡ old.from.items ++ from ∷ []
+  pub marked_is : new.marked.items ≡ slice_set old.marked.items seat true
 
 -- the table marks the seats of the list, and no others
 pub record IsMarked (w order : List ℕ) (marked : List Bool) : Type 0 where

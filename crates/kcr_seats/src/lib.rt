@@ -53,7 +53,7 @@ pub enum Answer {
     Short(Vec<usize>),
 }
 
-/// Seats people, or says which seats too few people fit. It asks `fits` at most once for each seat and person.
+/// Seats people, or says which seats too few people fit. It calls `fits` at most seats times people times.
 ///
 /// The only error is want of memory. A step is a call of `fits` or a turn of a loop; `steps` counts both, also where memory runs out.
 pub fn seat<F: Fits, L: Ledger>(

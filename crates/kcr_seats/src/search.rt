@@ -5,7 +5,7 @@ ghost use Rattle.kcr_seats.specs.People.{contains};
 ghost use Rattle.kcr_seats.specs.Table.{fits_of, seats_of, people_of};
 ghost use Rattle.kcr_seats.specs.Tried.{IsTried};
 ghost use Rattle.kcr_seats.specs.Answer.{IsAnswer};
-ghost use Rattle.kcr_seats.specs.Search.{IsSeatedBut, IsReached, IsMarked, IsClosed, IsBusy, IsListed, IsGiven, IsRefused, IsLowered, all_steps, lower_steps, search_steps};
+ghost use Rattle.kcr_seats.specs.Search.{IsSeatedBut, IsRootAlone, IsPut, IsReached, IsMarked, IsClosed, IsBusy, IsListed, IsGiven, IsRefused, IsLowered, all_steps, lower_steps, search_steps};
 
 use crate::Answer;
 use crate::people::People;
@@ -20,6 +20,37 @@ struct Reached {
     order: Vec<usize>,
     from: Vec<usize>,
     marked: Vec<bool>,
+}
+
+impl Reached {
+    /// The root alone, among so many seats.
+    fn of_root(alloc: Global, seats: usize, root: usize) -> Result<Reached, AllocError>
+        requires { root < seats }
+        ensures { IfOk result (λ r. IsRootAlone seats root r.order.items r.from.items r.marked.items) }
+    {
+        let mut order = Vec::with_capacity(alloc, seats)?;
+        order.push(root)?;
+        let mut from = Vec::with_capacity(alloc, seats)?;
+        from.push(0)?;
+        let mut marked = vec![in alloc; false; seats]?;
+        marked[root] = true;
+        Ok(Reached {
+            order,
+            from,
+            marked,
+        })
+    }
+
+    /// Puts a seat last, which was reached from the seat at the index, and marks it.
+    fn put(&mut self, seat: usize, from: usize) -> Result<(), AllocError>
+        requires { seat < vec_len self.old.marked }
+        ensures { OnOk result (IsPut seat from self.old self.new) }
+    {
+        self.marked[seat] = true;
+        self.order.push(seat)?;
+        self.from.push(from)?;
+        Ok(())
+    }
 }
 
 /// Goes from the root to the seats whose people fit a seat that was reached.
@@ -43,32 +74,21 @@ fn reach<L: Ledger>(
         seating.now r.order.items r.marked.items) }
     ensures cost { turns.new ≤ turns.old + length seating.now * (1 + length seating.now) }
 {
-    let mut order = Vec::with_capacity(alloc, seating.len())?;
-    order.push(root)?;
-    let mut from = Vec::with_capacity(alloc, seating.len())?;
-    from.push(0)?;
-    let mut marked = vec![in alloc; false; seating.len()]?;
-    marked[root] = true;
+    let mut reached = Reached::of_root(alloc, seating.len(), root)?;
     let mut next = 0;
-    'queue: while next < order.len() {
+    'queue: while next < reached.order.len() {
         turns.tick();
-        let seat = order[next];
+        let seat = reached.order[next];
         let fitting = table.row(seat);
         'row: for other in fixed..seating.len() {
             turns.tick();
-            if !marked[other] && fitting.contains(seating[other]) {
-                marked[other] = true;
-                order.push(other)?;
-                from.push(next)?;
+            if !reached.marked[other] && fitting.contains(seating[other]) {
+                reached.put(other, next)?;
             }
         }
         next += 1;
     }
-    Ok(Reached {
-        order,
-        from,
-        marked,
-    })
+    Ok(reached)
 }
 
 /// The people who have a seat other than the root.

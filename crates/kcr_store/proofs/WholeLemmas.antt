@@ -27,6 +27,9 @@ begins g accepted old begun is w = rw is (record { inside = refl; shows = λ cle
 pub was_clean : (old new : State) (P : Trees → Type 0) → Survives old new P → HasCleanDisk new → HasCleanDisk old
 was_clean old new P s clean = omega (arith, s.clean)
 
+pub begun_clean : {S : Type 0} (g : Ghosts S) (old begun : Held S) → begun ≡ record old { in_transaction = true } → HasCleanDisk (state g begun) → HasCleanDisk (state g old)
+begun_clean g old begun is clean = rw is at clean
+
 pub leaves : (accepted : History) (old new : State) → Leaves accepted old → Survives old new (λ _. ⊥) → Leaves accepted new
 leaves accepted old new had s clean db may = elim (s.crash clean db may) [ inl before ↦ had (was_clean old new _ s clean) db before | inr none ↦ absurd none ]
 

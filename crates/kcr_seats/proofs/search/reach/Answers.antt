@@ -1,34 +1,49 @@
-use Rattle.std.proofs.Common.{◌≡◌, get_or, ◌<◌, ◌≤◌, ◌+◌, ◌*◌, arith, length, ap}
+use Rattle.std.proofs.Common.{◌≡◌, false, get_or, ◌<◌, ◌≤◌, ◌+◌, ◌*◌, arith, length, ap}
 use Rattle.std.proofs.lemmas.Grind.{common_steps}
-use Rattle.kcr_seats.proofs.SearchLemmas.{order_short, row_closed, row_more, row_less}
+use Rattle.kcr_seats.proofs.SearchLemmas.{order_short, root_reached, root_marked, not_root, row_start, row_closed, row_more, row_less}
 use Rattle.kcr_seats.proofs.Turns.{in_row, after_rows}
 use Rattle.kcr_seats.proofs.search.reach.Goals as goal
 use Rattle.kcr_seats.specs.People.{contains}
-use Rattle.kcr_seats.specs.Table.{fits_of}
-use Rattle.kcr_seats.proofs.search.reach.Goals.{then-not-index+then-contains+in_ok-push-3+in_ok-push-4, else-not-index, else-not-index-via-then-not-index+else-contains, else-not-index-via-else-not-index}
+use Rattle.kcr_seats.specs.Table.{fits_of, people_of}
+use Rattle.kcr_seats.proofs.search.reach.Goals.{then-not-index+then-contains+in_ok-put, else-not-index, else-not-index-via-then-not-index+else-contains, else-not-index-via-else-not-index}
 
 pub queue-smaller : goal.queue-smaller
 queue-smaller g c =
-    let short : length c.row.order.items ≤ length c.args.seating.now = order_short (fits_of c.args.table.now) c.args.root c.args.fixed c.args.seating.now c.row.order.items c.row.from.items c.row.invariant.row.reached in
+    let short : length c.row.reached.order.items ≤ length c.args.seating.now = order_short (fits_of c.args.table.now) c.args.root c.args.fixed c.args.seating.now c.row.reached.order.items c.row.reached.from.items c.row.invariant.row.reached in
     omega arith
+
+pub queue-init : goal.queue-init
+queue-init g c = record {
+  reached = root_reached (fits_of c.args.table.now) c.args.root c.args.fixed c.args.seating.now c.in_ok-reached.reached.order.items c.in_ok-reached.reached.from.items c.in_ok-reached.reached.marked.items c.in_ok-reached.ensures c.requires.root c.requires.fixed;
+  marks = root_marked c.args.root c.args.seating.now c.in_ok-reached.reached.order.items c.in_ok-reached.reached.from.items c.in_ok-reached.reached.marked.items c.in_ok-reached.ensures c.requires.root;
+  closed = λ i j l. absurd (omega arith);
+  inside = omega arith;
+  cost = omega arith;
+}
+
+pub row-init : goal.row-init
+row-init g c = record {
+  row = row_start (fits_of c.args.table.now) c.args.root c.args.fixed c.queue.next c.index-seat.result.now c.args.seating.now c.queue.reached.order.items c.queue.reached.from.items c.queue.reached.marked.items c.queue.invariant.reached c.queue.invariant.marks c.queue.invariant.closed (omega arith) (grind (arith, common_steps));
+  cost = omega arith;
+}
 
 pub row-preserved : goal.row-preserved
 row-preserved g c =
     let told : contains c.row-fitting.result (get_or c.args.seating.now c.row.other 0) ≡ fits_of c.args.table.now c.index-seat.result.now (get_or c.args.seating.now c.row.other 0) = c.row-fitting.ensures.each (get_or c.args.seating.now c.row.other 0) in
     record {
-      cost = elim c.if-not-index.branch [ then-not-index+then-contains+in_ok-push-3+in_ok-push-4 w ↦ omega arith | else-not-index w ↦ omega arith ];
+      cost = omega arith;
       row = elim c.if-not-index.branch [
-        | then-not-index+then-contains+in_ok-push-3+in_ok-push-4 w ↦
-            row_more (fits_of c.args.table.now) c.args.root c.args.fixed c.queue.next c.row.other c.index-seat.result.now c.args.seating.now c.row.order.items c.row.from.items c.if-not-index.order.items c.if-not-index.from.items c.row.marked.items c.if-not-index.marked.items
-            c.row.invariant.row (omega arith) (omega arith) (grind (arith, common_steps)) (cc (told, w.if-contains.ensures)) (cc (w.in_ok-push-3.ensures.items)) (cc (w.in_ok-push-4.ensures.items)) (ap (λ v. v.items) w.marked-is)
+        | then-not-index+then-contains+in_ok-put w ↦
+            row_more (fits_of c.args.table.now) c.args.root c.args.fixed c.queue.next c.row.other c.index-seat.result.now c.args.seating.now c.row.reached.order.items c.row.reached.from.items c.if-not-index.reached.order.items c.if-not-index.reached.from.items c.row.reached.marked.items c.if-not-index.reached.marked.items
+            c.row.invariant.row (omega arith) (omega arith) (grind (arith, common_steps)) (cc (told, w.if-contains.ensures)) (cc (w.in_ok-put.ensures.order_is)) (cc (w.in_ok-put.ensures.from_is)) (cc (w.in_ok-put.ensures.marked_is))
         | else-not-index w ↦
-            row_less (fits_of c.args.table.now) c.args.root c.args.fixed c.queue.next c.row.other c.index-seat.result.now c.args.seating.now c.row.order.items c.row.from.items c.if-not-index.order.items c.if-not-index.from.items c.row.marked.items c.if-not-index.marked.items
+            row_less (fits_of c.args.table.now) c.args.root c.args.fixed c.queue.next c.row.other c.index-seat.result.now c.args.seating.now c.row.reached.order.items c.row.reached.from.items c.if-not-index.reached.order.items c.if-not-index.reached.from.items c.row.reached.marked.items c.if-not-index.reached.marked.items
             c.row.invariant.row
             (λ h. elim w.else-not-index.branch [
               | else-not-index-via-then-not-index+else-contains v ↦ absurd (cc (told, v.if-contains.ensures))
               | else-not-index-via-else-not-index v ↦ grind (arith, common_steps)
             ])
-            (ap (λ v. v.items) w.order-is) (ap (λ v. v.items) w.from-is) (ap (λ v. v.items) w.marked-is)
+            (ap (λ v. v.order.items) w.reached-is) (ap (λ v. v.from.items) w.reached-is) (ap (λ v. v.marked.items) w.reached-is)
       ];
     }
 
@@ -36,27 +51,48 @@ pub queue-preserved : goal.queue-preserved
 queue-preserved g c = record {
   reached = c.row.invariant.row.reached;
   marks = c.row.invariant.row.marks;
-  closed = row_closed (fits_of c.args.table.now) c.args.root c.args.fixed c.queue.next c.row.other c.index-seat.result.now c.args.seating.now c.row.order.items c.row.from.items c.row.marked.items c.row.invariant.row (omega arith);
-  inside = (let h : c.queue.next < length c.row.order.items = c.row.invariant.row.inside in omega arith);
+  closed = row_closed (fits_of c.args.table.now) c.args.root c.args.fixed c.queue.next c.row.other c.index-seat.result.now c.args.seating.now c.row.reached.order.items c.row.reached.from.items c.row.reached.marked.items c.row.invariant.row (omega arith);
+  inside = (let h : c.queue.next < length c.row.reached.order.items = c.row.invariant.row.inside in omega arith);
   cost = (let e : c.row.other ≤ length c.args.seating.now = c.row.auto.other-end (omega arith) in omega arith);
 }
 
-pub returns-in_err-push-3-clause-cost : goal.returns-in_err-push-3-clause-cost
-returns-in_err-push-3-clause-cost g c =
-    let short : length c.row.order.items ≤ length c.args.seating.now = order_short (fits_of c.args.table.now) c.args.root c.args.fixed c.args.seating.now c.row.order.items c.row.from.items c.row.invariant.row.reached in
-    let inside : c.queue.next < length c.row.order.items = c.row.invariant.row.inside in
-    let turns : c.queue.next * (1 + length c.args.seating.now) + 1 + c.row.other + 1 ≤ length c.args.seating.now * (1 + length c.args.seating.now) = in_row (length c.args.seating.now) c.queue.next c.row.other (omega arith) (omega arith) in
-    omega arith
-
-pub returns-in_err-push-4-clause-cost : goal.returns-in_err-push-4-clause-cost
-returns-in_err-push-4-clause-cost g c =
-    let short : length c.row.order.items ≤ length c.args.seating.now = order_short (fits_of c.args.table.now) c.args.root c.args.fixed c.args.seating.now c.row.order.items c.row.from.items c.row.invariant.row.reached in
-    let inside : c.queue.next < length c.row.order.items = c.row.invariant.row.inside in
+pub returns-in_err-put-clause-cost : goal.returns-in_err-put-clause-cost
+returns-in_err-put-clause-cost g c =
+    let short : length c.row.reached.order.items ≤ length c.args.seating.now = order_short (fits_of c.args.table.now) c.args.root c.args.fixed c.args.seating.now c.row.reached.order.items c.row.reached.from.items c.row.invariant.row.reached in
+    let inside : c.queue.next < length c.row.reached.order.items = c.row.invariant.row.inside in
     let turns : c.queue.next * (1 + length c.args.seating.now) + 1 + c.row.other + 1 ≤ length c.args.seating.now * (1 + length c.args.seating.now) = in_row (length c.args.seating.now) c.queue.next c.row.other (omega arith) (omega arith) in
     omega arith
 
 pub returns-clause-cost : goal.returns-clause-cost
 returns-clause-cost g c =
-    let short : length c.queue.order.items ≤ length c.args.seating.now = order_short (fits_of c.args.table.now) c.args.root c.args.fixed c.args.seating.now c.queue.order.items c.queue.from.items c.queue.invariant.reached in
+    let short : length c.queue.reached.order.items ≤ length c.args.seating.now = order_short (fits_of c.args.table.now) c.args.root c.args.fixed c.args.seating.now c.queue.reached.order.items c.queue.reached.from.items c.queue.invariant.reached in
     let turns : c.queue.next * (1 + length c.args.seating.now) ≤ length c.args.seating.now * (1 + length c.args.seating.now) = after_rows (length c.args.seating.now) c.queue.next (omega arith) in
     omega arith
+
+pub row-fitting-requires : goal.row-fitting-requires
+row-fitting-requires g c =
+    let high : get_or c.queue.reached.order.items c.queue.next 0 < length c.args.seating.now = c.queue.invariant.reached.high c.queue.next (omega arith) in
+    let here : c.index-seat.result.now ≡ get_or c.queue.reached.order.items c.queue.next 0 = grind (arith, common_steps) in
+    omega arith
+
+pub index-requires : goal.index-requires
+index-requires g c = let table : length c.row.reached.marked.items ≡ length c.args.seating.now = c.row.invariant.row.marks.table in omega arith
+
+pub contains-requires : goal.contains-requires
+contains-requires g c =
+    let unmarked : get_or c.row.reached.marked.items c.row.other false ≡ false = grind (arith, common_steps) in
+    let seated : get_or c.args.seating.now c.row.other 0 < people_of c.args.table.now = c.requires.seated.in_range c.row.other (omega arith)
+    (not_root (fits_of c.args.table.now) c.args.root c.args.fixed c.row.other c.args.seating.now c.row.reached.order.items c.row.reached.from.items c.row.reached.marked.items c.row.invariant.row.reached c.row.invariant.row.marks unmarked) in
+    omega arith
+
+pub put-requires : goal.put-requires
+put-requires g c = let table : length c.row.reached.marked.items ≡ length c.args.seating.now = c.row.invariant.row.marks.table in omega arith
+
+pub returns-clause-reached : goal.returns-clause-reached
+returns-clause-reached g c = c.queue.invariant.reached
+
+pub returns-clause-marked : goal.returns-clause-marked
+returns-clause-marked g c = c.queue.invariant.marks
+
+pub returns-clause-closed : goal.returns-clause-closed
+returns-clause-closed g c = λ i j l. c.queue.invariant.closed i j (omega arith)

@@ -5,16 +5,16 @@ use Rattle.kcr_seats.proofs.search.reach.Given as goal
 
 abbrev pub invariant-row : goal.invariant-row
 invariant-row g l = record {
-  row : IsRow (fits_of l.table) l.root l.fixed l.next l.other l.seat l.seating l.order.items l.from.items l.marked.items;
+  row : IsRow (fits_of l.table) l.root l.fixed l.next l.other l.seat l.seating l.reached.order.items l.reached.from.items l.reached.marked.items;
   cost : l.turns ≤ l.fn.turns + l.next * (1 + length l.seating) + 1 + l.other;
 }
 
 abbrev pub invariant-queue : goal.invariant-queue
 invariant-queue g l = record {
-  reached : IsReached (fits_of l.table) l.root l.fixed l.seating l.order.items l.from.items;
-  marks : IsMarked l.seating l.order.items l.marked.items;
-  closed : IsClosed (fits_of l.table) l.fixed l.next (length l.seating) l.seating l.order.items l.marked.items;
-  inside : l.next ≤ length l.order.items;
+  reached : IsReached (fits_of l.table) l.root l.fixed l.seating l.reached.order.items l.reached.from.items;
+  marks : IsMarked l.seating l.reached.order.items l.reached.marked.items;
+  closed : IsClosed (fits_of l.table) l.fixed l.next (length l.seating) l.seating l.reached.order.items l.reached.marked.items;
+  inside : l.next ≤ length l.reached.order.items;
   cost : l.turns ≤ l.fn.turns + l.next * (1 + length l.seating);
 }
 

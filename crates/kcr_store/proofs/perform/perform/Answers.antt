@@ -5,7 +5,7 @@ use Rattle.kcr_store.specs.Stored.{Stores}
 use Rattle.kcr_store.specs.Steps.{Steps}
 use Rattle.kcr_store.specs.Register.{IsWhole, LeavesEither}
 use Rattle.kcr_store.proofs.StoreLemmas.{candidate_of}
-use Rattle.kcr_store.proofs.WholeLemmas.{Began, begins, was_clean, whole_undone, whole_done, either, either_last, whole_stands}
+use Rattle.kcr_store.proofs.WholeLemmas.{Began, begins, begun_clean, was_clean, whole_undone, whole_done, either, either_last, whole_stands}
 use Rattle.kcr_store.proofs.perform.perform.Goals as goal
 
 pub returns-in-Err-clause-whole : goal.returns-in-Err-clause-whole
@@ -126,3 +126,55 @@ returns-in-Ok-commit-clause-step g c was clean =
     let before : HasCleanDisk mid = was_clean mid (state S c.commit.new.self.0) _ c.commit.ensures.survives (search rules) in
     let done = c.in-Ok.ensures.done before b.inside accepted (λ live. (b.shows (was_clean begun mid _ c.prepare.ensures.survives before) live).now) in
     subst (λ h. Steps accepted c.args.command.now (Ok c.in-Ok.prepared.reply) h) (sym c.after-after.ensures.entries) done.0
+
+pub returns-in-Err-clause-clean : goal.returns-in-Err-clause-clean
+returns-in-Err-clause-clean g c clean =
+    let S = g.S.Store in
+    let begun = state S c.transaction-tx.result.conn.now in
+    let mid = state S c.prepare.new.tx.conn.now in
+    begun_clean S c.args.conn.now c.transaction-tx.result.conn.now c.transaction-tx.ensures.begun
+    (was_clean begun mid _ c.prepare.ensures.survives (was_clean mid (state S c.drop-tx.new.self.0) _ c.drop-tx.ensures.survives (search rules)))
+
+pub returns-in-Ok-commit-clause-clean : goal.returns-in-Ok-commit-clause-clean
+returns-in-Ok-commit-clause-clean g c clean =
+    let S = g.S.Store in
+    let begun = state S c.transaction-tx.result.conn.now in
+    let mid = state S c.prepare.new.tx.conn.now in
+    begun_clean S c.args.conn.now c.transaction-tx.result.conn.now c.transaction-tx.ensures.begun
+    (was_clean begun mid _ c.prepare.ensures.survives (was_clean mid (state S c.commit.new.self.0) _ c.commit.ensures.survives (search rules)))
+
+pub returns-clause-clean : goal.returns-clause-clean
+returns-clause-clean g c clean =
+    let S = g.S.Store in
+    let begun = state S c.transaction-tx.result.conn.now in
+    let mid = state S c.prepare.new.tx.conn.now in
+    begun_clean S c.args.conn.now c.transaction-tx.result.conn.now c.transaction-tx.ensures.begun
+    (was_clean begun mid _ c.prepare.ensures.survives (was_clean mid (state S c.commit.new.self.0) _ c.commit.ensures.survives (search rules)))
+
+pub returns-in-Err-clause-step : goal.returns-in-Err-clause-step
+returns-in-Err-clause-step g c was clean =
+    let S = g.S.Store in
+    let accepted = c.args.past.now.entries in
+    let b = begins S accepted c.args.conn.now c.transaction-tx.result.conn.now c.transaction-tx.ensures.begun was in
+    let begun = state S c.transaction-tx.result.conn.now in
+    let mid = state S c.prepare.new.tx.conn.now in
+    let before : HasCleanDisk mid = was_clean mid (state S c.drop-tx.new.self.0) _ c.drop-tx.ensures.survives (search rules) in
+    c.in-Err.ensures.denied before accepted (λ live. (b.shows (was_clean begun mid _ c.prepare.ensures.survives before) live).now)
+
+pub returns-clause-step : goal.returns-clause-step
+returns-clause-step g c was clean = (refl, λ memory disk. absurd (disk refl))
+
+pub returns-in-Err-SqliteFailure-OutOfMemory-clause-step : goal.returns-in-Err-SqliteFailure-OutOfMemory-clause-step
+returns-in-Err-SqliteFailure-OutOfMemory-clause-step g c was clean = (refl, λ memory disk. absurd (disk refl))
+
+pub returns-in-Ok-prepare-clause-step : goal.returns-in-Ok-prepare-clause-step
+returns-in-Ok-prepare-clause-step g c was clean = (refl, λ memory disk. absurd (memory refl))
+
+pub returns-in-Err-clause-candidate : goal.returns-in-Err-clause-candidate
+returns-in-Err-clause-candidate g c was clean = inl refl
+
+pub returns-in-Ok-prepare-clause-candidate : goal.returns-in-Ok-prepare-clause-candidate
+returns-in-Ok-prepare-clause-candidate g c was clean = inl refl
+
+pub returns-in-Err-clause-tried : goal.returns-in-Err-clause-tried
+returns-in-Err-clause-tried g c was clean db may = inl ((returns-in-Err-clause-whole g c was refl).crash clean db may)

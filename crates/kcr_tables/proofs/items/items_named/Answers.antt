@@ -1,6 +1,6 @@
-use Rattle.std.proofs.Common.{rules, ◌≡◌, ◌<◌, [], ◌∙◌, List, ℕ, length, take, get_or, filter, refl, sym, subst, subst₂, IsPermutation, if◌then◌else◌}
+use Rattle.std.proofs.Common.{rules, arith, ◌≡◌, ◌<◌, ◌≤◌, [], ◌∙◌, List, ℕ, length, take, get_or, filter, refl, sym, ap, subst, subst₂, IsPermutation, if◌then◌else◌}
 use Rattle.std.specs.List.{list_any}
-use Rattle.std.proofs.lemmas.List.{take_more}
+use Rattle.std.proofs.lemmas.List.{take_all, take_more}
 use Rattle.kcr_base.specs.Same.{same_text}
 use Rattle.sqlite.specs.Held.{state}
 use Rattle.kcr_history.specs.Views.{is_item_of}
@@ -43,3 +43,45 @@ loop-at-preserved g c =
                 (named_more (λ (x : Item). x.code) (take i keys) key t.items c.loop-at.rows.items c.in_ok-found.found.items was.1 rows),
           );
     }
+
+pub returns-in_err-found-clause-kept : goal.returns-in_err-found-clause-kept
+returns-in_err-found-clause-kept g c clean inside =
+    let mid = state g.S.Store c.loop-at.tx.conn.now in
+    let new = state g.S.Store c.item_once.new.tx.conn.now in
+    let was = c.loop-at.invariant.goes_on (was_clean mid new _ c.in_err-found.ensures.survives clean) inside in
+    keeps_then (state g.S.Store c.args.tx.now.conn.now) mid new was.1 (c.in_err-found.ensures.kept clean was.0)
+
+pub returns-in_err-found-clause-survives : goal.returns-in_err-found-clause-survives
+returns-in_err-found-clause-survives g c =
+    survives_on (state g.S.Store c.args.tx.now.conn.now) (state g.S.Store c.loop-at.tx.conn.now) (state g.S.Store c.item_once.new.tx.conn.now)
+    c.loop-at.invariant.survives c.in_err-found.ensures.survives
+
+pub returns-in_err-append-clause-kept : goal.returns-in_err-append-clause-kept
+returns-in_err-append-clause-kept g c clean inside =
+    let mid = state g.S.Store c.loop-at.tx.conn.now in
+    let new = state g.S.Store c.item_once.new.tx.conn.now in
+    let was = c.loop-at.invariant.goes_on (was_clean mid new _ c.in_ok-found.ensures.survives clean) inside in
+    keeps_then (state g.S.Store c.args.tx.now.conn.now) mid new was.1 (c.in_ok-found.ensures.kept clean was.0)
+
+pub returns-in_err-append-clause-survives : goal.returns-in_err-append-clause-survives
+returns-in_err-append-clause-survives g c =
+    survives_on (state g.S.Store c.args.tx.now.conn.now) (state g.S.Store c.loop-at.tx.conn.now) (state g.S.Store c.item_once.new.tx.conn.now)
+    c.loop-at.invariant.survives c.in_ok-found.ensures.survives
+
+pub returns-clause-rows : goal.returns-clause-rows
+returns-clause-rows g c clean t held =
+    let keys = c.args.codes.now in
+    let all : length keys ≤ c.loop-at.at = omega (arith, ap length c.as_slice-named.ensures) in
+    subst (λ (ks : List (List ℕ)). IsPermutation (filter (is_item_of (Codes (ks))) t.items) c.loop-at.rows.items) (take_all c.loop-at.at keys all) (c.loop-at.invariant.read clean t held).1
+
+pub returns-clause-holds : goal.returns-clause-holds
+returns-clause-holds g c clean t held = (c.loop-at.invariant.read clean t held).0
+
+pub returns-clause-inside : goal.returns-clause-inside
+returns-clause-inside g c clean inside = (c.loop-at.invariant.goes_on clean inside).0
+
+pub returns-clause-kept : goal.returns-clause-kept
+returns-clause-kept g c clean inside = (c.loop-at.invariant.goes_on clean inside).1
+
+pub returns-clause-survives : goal.returns-clause-survives
+returns-clause-survives g c = c.loop-at.invariant.survives

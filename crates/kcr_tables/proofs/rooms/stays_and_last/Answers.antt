@@ -39,3 +39,39 @@ returns-clause-rows g c clean t held =
     let had = c.loop-who.invariant.read clean t held in
     gathered_shows c.args.asked.now t.stays c.loop-who.rows.items (apart_of t.stays held.kept.stays.rising)
     (subst (λ (ks : List (List ℕ)). Gathered c.args.asked.now.ceremony ks t.stays c.loop-who.rows.items) (take_all c.loop-who.who-index people (omega arith) ∙ c.as_slice-people.ensures) had.1)
+
+pub returns-in_err-last-clause-kept : goal.returns-in_err-last-clause-kept
+returns-in_err-last-clause-kept g c clean inside =
+    let mid = state g.S.Store c.loop-who.tx.conn.now in
+    let new = state g.S.Store c.last_elsewhere.new.tx.conn.now in
+    let was = c.loop-who.invariant.goes_on (was_clean mid new _ c.in_err-last.ensures.survives clean) inside in
+    keeps_then (state g.S.Store c.args.tx.now.conn.now) mid new was.1 (c.in_err-last.ensures.kept clean was.0)
+
+pub returns-in_err-last-clause-survives : goal.returns-in_err-last-clause-survives
+returns-in_err-last-clause-survives g c =
+    survives_on (state g.S.Store c.args.tx.now.conn.now) (state g.S.Store c.loop-who.tx.conn.now) (state g.S.Store c.last_elsewhere.new.tx.conn.now)
+    c.loop-who.invariant.survives c.in_err-last.ensures.survives
+
+pub returns-in_err-append-clause-kept : goal.returns-in_err-append-clause-kept
+returns-in_err-append-clause-kept g c clean inside =
+    let mid = state g.S.Store c.loop-who.tx.conn.now in
+    let new = state g.S.Store c.last_elsewhere.new.tx.conn.now in
+    let was = c.loop-who.invariant.goes_on (was_clean mid new _ c.in_ok-last.ensures.survives clean) inside in
+    keeps_then (state g.S.Store c.args.tx.now.conn.now) mid new was.1 (c.in_ok-last.ensures.kept clean was.0)
+
+pub returns-in_err-append-clause-survives : goal.returns-in_err-append-clause-survives
+returns-in_err-append-clause-survives g c =
+    survives_on (state g.S.Store c.args.tx.now.conn.now) (state g.S.Store c.loop-who.tx.conn.now) (state g.S.Store c.last_elsewhere.new.tx.conn.now)
+    c.loop-who.invariant.survives c.in_ok-last.ensures.survives
+
+pub returns-clause-holds : goal.returns-clause-holds
+returns-clause-holds g c clean t held = (c.loop-who.invariant.read clean t held).0
+
+pub returns-clause-inside : goal.returns-clause-inside
+returns-clause-inside g c clean inside = (c.loop-who.invariant.goes_on clean inside).0
+
+pub returns-clause-kept : goal.returns-clause-kept
+returns-clause-kept g c clean inside = (c.loop-who.invariant.goes_on clean inside).1
+
+pub returns-clause-survives : goal.returns-clause-survives
+returns-clause-survives g c = c.loop-who.invariant.survives
