@@ -124,4 +124,3 @@ impl<const N: usize> Ord for Code<N> {
         self.as_bytes().cmp(other.as_bytes())
     }
 }
-

@@ -63,7 +63,6 @@ impl Positions {
     }
 }
 
-
 /// Whether each number is below the next.
 fn is_rising(numbers: &[u8]) -> bool
     ensures { IsTrue result ↔ IsStrictlyIncreasing numbers.now }
