@@ -12,11 +12,7 @@ use Rattle.kcr_store.specs.Register.{Seen}
 use Rattle.kcr_store.specs.Steps.{Steps, IsNext, IsAsked}
 use Rattle.kcr_store.specs.declared.question.Question.{Question}
 use Rattle.kcr_store.specs.declared.question.Shown.{Shown}
-use Rattle.kcr_wire.specs.Questions.{question_of}
-use Rattle.kcr_wire.specs.declared.method.Method.{Method}
-use Rattle.kcr_wire.specs.declared.method.Method.TheVariants.{Get, Head, Post, Other}
-use Rattle.kcr_desk.specs.Answers.{Standing, standing, told_refusal, told_reply, told_shown, IsRefused, TakesCommand, TakesQuestion, Replies, Answered, AnswersCommand, AnswersQuestion, AnswersAs}
-use Rattle.kcr_desk.specs.Run.{Asked}
+use Rattle.kcr_desk.specs.Answers.{Standing, standing, told_refusal, told_reply, told_shown, IsRefused, Answered, AnswersCommand, AnswersQuestion}
 use Rattle.kcr_desk.specs.Texts.{Told}
 use Rattle.kcr_desk.proofs.AnswerLemmas.{TellsRefusal, TellsReply, TellsShown, took_command, took_question, refused, taken, reply_or_memory, shown_or_memory, replied}
 

@@ -1,5 +1,5 @@
--- What holds of every history that the machine leads to, and what is found after a crash.
-use Rattle.std.specs.Prelude.{ℕ, Bool, true, false, ◌&&◌, List, [], ◌∷◌, map, Option, Some, None, is_some, ◌⊎◌, ◌↔◌, IsTrue}
+-- What holds of every history that the machine leads to.
+use Rattle.std.specs.Prelude.{ℕ, Bool, true, false, ◌&&◌, List, [], ◌∷◌, map, Option, Some, None, is_some, ◌↔◌, IsTrue}
 use Rattle.std.specs.List.{list_any, list_all}
 use Rattle.kcr_base.specs.Same.{same_text}
 use Rattle.kcr_custody.specs.Balance.{all_differ, holds_items}
@@ -17,7 +17,7 @@ use Rattle.kcr_history.specs.Ceremonies.{facility_of}
 use Rattle.kcr_history.specs.Room.{sheet}
 use Rattle.kcr_history.specs.Custody.{spot, rest, place_of_box}
 use Rattle.kcr_history.specs.Seating.{is_seating}
-use Rattle.kcr_history.specs.Tables.{Tables, tables, SameTables, sealed_serial, added_item}
+use Rattle.kcr_history.specs.Tables.{sealed_serial, added_item}
 use Rattle.kcr_history.specs.Machine.{Sitting, sitting}
 
 -- ONCE
@@ -79,9 +79,3 @@ pub record IsBalanced (A : History) : Type 0 where
   pub sealed_once : IsTrue (all_differ (all_said sealed_serial A))
   pub in_place : IsTrue (were_in_place A)
   pub boxed : (serial : List ℕ) → IsTrue (has_its_box A (spot A serial))
-
--- AFTER A CRASH
-
--- what an opening finds: the tables of A, or those of A', which has the command in hand accepted after A
-abbrev pub AfterCrash : History → History → Tables → Type 0
-AfterCrash A A' found = SameTables found (tables A) ⊎ SameTables found (tables A')

@@ -1,5 +1,5 @@
 -- What a stream's fault was caused by.
-use Rattle.std.proofs.Common.{◌≡◌, ◌+◌, ◌<◌, ◌⊎◌, Result, Err, refl}
+use Rattle.std.proofs.Common.{◌≡◌, ◌+◌, ◌<◌, ◌⊎◌, Err, refl}
 use Rattle.std.specs.Prelude.{IsErrOf}
 use Rattle.kcr_base.specs.Counted.{failures_of, gifts_of}
 use Rattle.kcr_base.specs.declared.counted.Counted.{Counted}
