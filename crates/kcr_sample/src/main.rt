@@ -6,11 +6,10 @@ ghost use Rattle.std.specs.Prelude.{◌≡◌, false};
 
 mod rows;
 
-use kcr_base::Refusal;
 use kcr_history::Change;
 use kcr_tables::{make, make_changes};
 use rows::all_rows;
-use sqlite::{Connection, FileStore, Files, Options};
+use sqlite::{Alter, Connection, FileStore, Files, Options, Transaction};
 use sqlite_disk::Memory;
 use std::alloc::Global;
 use std::io::Write;
@@ -27,37 +26,50 @@ fn open(alloc: Global) -> Option<Connection<FileStore<Memory>>> {
     Connection::open_files(alloc, Files { log, db }, Options::new(KEY)).ok()
 }
 
-/// Makes the tables and puts the rows, in one transaction.
-fn fill(
-    alloc: Global,
-    conn: &mut Connection<FileStore<Memory>>,
-    rows: &[Change],
-) -> Result<(), Refusal>
+/// Makes the tables and puts the rows; whether both could be done.
+fn is_made<S: Alter>(alloc: Global, tx: &mut Transaction<'_, S>, rows: &[Change]) -> bool
+    ensures same_reference { tx.new.conn.ghost_name ≡ tx.old.conn.ghost_name }
+{
+    make(tx).is_ok() && make_changes(alloc, tx, rows).is_ok()
+}
+
+/// Makes the tables and puts the rows, in one transaction; whether that could be done.
+fn is_filled<S: Alter>(alloc: Global, conn: &mut Connection<S>, rows: &[Change]) -> bool
     requires { conn.old.in_transaction ≡ false }
 {
     let mut tx = conn.transaction();
-    make(&mut tx)?;
-    make_changes(alloc, &mut tx, rows)?;
-    match tx.commit() {
-        Ok(()) => Ok(()),
-        Err(_) => Err(Refusal::Disk),
+    if is_made(alloc, &mut tx, rows) {
+        tx.commit().is_ok()
+    } else {
+        false
     }
 }
 
-/// The database's file.
+/// The database with these rows.
+fn filled<S: Alter + Drop>(
+    alloc: Global,
+    conn: Connection<S>,
+    rows: &[Change],
+) -> Option<Connection<S>> {
+    let mut conn = conn;
+    if conn.is_autocommit() && is_filled(alloc, &mut conn, rows) {
+        Some(conn)
+    } else {
+        None
+    }
+}
+
+/// The database's file, with no log behind it.
+fn closed(conn: Connection<FileStore<Memory>>) -> Option<Memory> {
+    let Files { log: _, db } = conn.close_files().ok()?;
+    Some(db)
+}
+
+/// The file of a database with all rows.
 fn file(alloc: Global) -> Option<Memory> {
-    let rows = all_rows(alloc).ok()?;
-    let mut conn = open(alloc)?;
-    if !conn.is_autocommit() {
-        return None;
-    }
-    match fill(alloc, &mut conn, rows.as_slice()) {
-        Ok(()) => {
-            let Files { log: _, db } = conn.close_files().ok()?;
-            Some(db)
-        }
-        Err(_) => None,
-    }
+    let rows = all_rows(alloc)?;
+    let conn = filled(alloc, open(alloc)?, &rows)?;
+    closed(conn)
 }
 
 fn main(rt: HostRuntime) -> ExitCode {

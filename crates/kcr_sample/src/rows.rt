@@ -12,28 +12,7 @@ use kcr_history::{
 use kcr_people::{Appointment, Person, Training, Withdrawal};
 use kcr_room::{SheetRow, Stay, Way};
 use kcr_script::read_seats;
-use std::alloc::{AllocError, AllocFailed, Global};
-
-/// Why there are no rows.
-#[derive(Clone, Copy, Drop)]
-pub(crate) enum Fault {
-    /// Memory was refused.
-    Memory,
-    /// A text or a number is not one of a value.
-    Value,
-}
-
-impl From<AllocError> for Fault {
-    fn from(_error: AllocError) -> Fault {
-        Fault::Memory
-    }
-}
-
-impl<T: Drop> From<AllocFailed<T>> for Fault {
-    fn from(_error: AllocFailed<T>) -> Fault {
-        Fault::Memory
-    }
-}
+use std::alloc::Global;
 
 /// The first and the last day that there is, as days since 1970-01-01.
 const DAYS: (u16, u16) = (10_957, 47_481);
@@ -41,137 +20,137 @@ const DAYS: (u16, u16) = (10_957, 47_481);
 /// The first and the last moment that there is, as seconds since then.
 const MOMENTS: (u64, u64) = (946_684_800, 4_102_444_799);
 
-fn initials(text: &str) -> Result<Initials, Fault> {
-    Initials::read(text.as_bytes()).ok_or(Fault::Value)
+/// Puts the row behind the others, where there is one and there is room.
+fn put(rows: &mut Vec<Change>, row: Option<Change>) -> bool {
+    match row {
+        Some(row) => rows.push(row).is_ok(),
+        None => false,
+    }
 }
 
-fn place(text: &str) -> Result<Place, Fault> {
-    Place::read(text.as_bytes()).ok_or(Fault::Value)
+fn person(alloc: Global, who: &str, name: &str) -> Option<Change> {
+    let who = Initials::read(who.as_bytes())?;
+    match Name::read(alloc, name.as_bytes()) {
+        Ok(Some(name)) => Some(Change::PutPerson(Person { who, name })),
+        _ => None,
+    }
 }
 
-fn serial(text: &str) -> Result<Serial, Fault> {
-    Serial::read(text.as_bytes()).ok_or(Fault::Value)
-}
-
-fn item(text: &str) -> Result<ItemCode, Fault> {
-    ItemCode::read(text.as_bytes()).ok_or(Fault::Value)
-}
-
-fn day(number: u16) -> Result<Day, Fault> {
-    Day::from_number(number).ok_or(Fault::Value)
-}
-
-fn moment(number: u64) -> Result<Moment, Fault> {
-    Moment::from_number(number).ok_or(Fault::Value)
-}
-
-fn person(alloc: Global, who: &str, name: &str) -> Result<Change, Fault> {
-    let who = initials(who)?;
-    let name = Name::read(alloc, name.as_bytes())?.ok_or(Fault::Value)?;
-    Ok(Change::PutPerson(Person { who, name }))
-}
-
-/// A training for all days, withdrawn on the last.
-fn trained(who: &str, role: Role) -> Result<(Change, Change), Fault> {
-    let who = initials(who)?;
-    let since = day(DAYS.0)?;
-    let until = day(DAYS.1)?;
-    let training = Training {
-        who,
+/// A training for all days.
+fn training(who: &str, role: Role) -> Option<Training> {
+    Some(Training {
+        who: Initials::read(who.as_bytes())?,
         role,
-        since,
-        until,
-    };
-    let withdrawal = Withdrawal {
-        who,
-        role,
-        since,
-        until,
-        day: until,
-    };
-    Ok((
-        Change::PutTraining(training),
-        Change::PutWithdrawal(withdrawal),
-    ))
+        since: Day::from_number(DAYS.0)?,
+        until: Day::from_number(DAYS.1)?,
+    })
 }
 
-fn appointment(at: &str, who: &str, until: Option<Day>) -> Result<Change, Fault> {
-    Ok(Change::PutAppointment(Appointment {
-        place: place(at)?,
-        who: initials(who)?,
-        since: day(DAYS.0)?,
+fn trained(who: &str, role: Role) -> Option<Change> {
+    Some(Change::PutTraining(training(who, role)?))
+}
+
+/// That training, withdrawn on its last day.
+fn withdrawn(who: &str, role: Role) -> Option<Change> {
+    let row = training(who, role)?;
+    Some(Change::PutWithdrawal(Withdrawal {
+        who: row.who,
+        role: row.role,
+        since: row.since,
+        until: row.until,
+        day: row.until,
+    }))
+}
+
+fn appointment(at: &str, who: &str, until: Option<Day>) -> Option<Change> {
+    Some(Change::PutAppointment(Appointment {
+        place: Place::read(at.as_bytes())?,
+        who: Initials::read(who.as_bytes())?,
+        since: Day::from_number(DAYS.0)?,
         until,
     }))
 }
 
-fn people(alloc: Global, rows: &mut Vec<Change>) -> Result<(), Fault> {
-    rows.push(person(alloc, "AA", "O'Brien \"Q\"; --")?)?;
-    rows.push(person(alloc, "ZZZZ", "Zoë Ångström 名")?)?;
-    let (training, withdrawal) = trained("AA", Role::Ssc2)?;
-    rows.push(training)?;
-    rows.push(withdrawal)?;
-    rows.push(appointment("CO-WEST-1", "ZZZZ", None)?)?;
-    rows.push(appointment("RKSH-7", "AA", Some(day(DAYS.1)?))?)?;
-    Ok(())
+fn people(alloc: Global, rows: &mut Vec<Change>) -> bool {
+    put(rows, person(alloc, "AA", "O'Brien \"Q\"; --"))
+        && put(rows, person(alloc, "ZZZZ", "Zoë Ångström 名"))
+        && put(rows, trained("AA", Role::Ssc2))
+        && put(rows, withdrawn("AA", Role::Ssc2))
+        && put(rows, appointment("CO-WEST-1", "ZZZZ", None))
+        && put(rows, appointment("RKSH-7", "AA", Day::from_number(DAYS.1)))
 }
 
-fn safes(rows: &mut Vec<Change>) -> Result<(), Fault> {
-    rows.push(Change::PutBox(BoxRow {
+fn last_box() -> Option<Change> {
+    Some(Change::PutBox(BoxRow {
         facility: Facility::West,
         number: 9_999,
-        place: place("CO-WEST-1")?,
-    }))?;
-    rows.push(Change::PutSafe(SafeRow {
+        place: Place::read(b"CO-WEST-1")?,
+    }))
+}
+
+fn open_safe() -> Change {
+    Change::PutSafe(SafeRow {
         facility: Facility::West,
         safe: SafeNumber::Two,
         is_open: true,
-    }))?;
-    Ok(())
+    })
 }
 
-fn bags(rows: &mut Vec<Change>) -> Result<(), Fault> {
-    let bag = serial("BB51184287")?;
-    rows.push(Change::PutBag(Bag {
-        serial: bag,
-        spot: Spot::InBox(Facility::West, 9_999),
-    }))?;
-    rows.push(Change::PutBag(Bag {
-        serial: serial("BB51184288")?,
-        spot: Spot::Spent,
-    }))?;
-    rows.push(Change::PutItem(Item {
-        code: item("HSM4")?,
+fn bag(serial: &str, spot: Spot) -> Option<Change> {
+    let serial = Serial::read(serial.as_bytes())?;
+    Some(Change::PutBag(Bag { serial, spot }))
+}
+
+fn loose(code: &str) -> Option<Change> {
+    Some(Change::PutItem(Item {
+        code: ItemCode::read(code.as_bytes())?,
         rest: Rest::Loose(Facility::East),
-    }))?;
-    rows.push(Change::PutItem(Item {
-        code: item("CARD1")?,
-        rest: Rest::Within(bag),
-    }))?;
-    Ok(())
+    }))
 }
 
-fn ceremonies(rows: &mut Vec<Change>) -> Result<(), Fault> {
-    rows.push(Change::PutCeremony(CeremonyRow {
+fn within(code: &str, bag: &str) -> Option<Change> {
+    Some(Change::PutItem(Item {
+        code: ItemCode::read(code.as_bytes())?,
+        rest: Rest::Within(Serial::read(bag.as_bytes())?),
+    }))
+}
+
+fn custody(rows: &mut Vec<Change>) -> bool {
+    put(rows, last_box())
+        && put(rows, Some(open_safe()))
+        && put(rows, bag("BB51184287", Spot::InBox(Facility::West, 9_999)))
+        && put(rows, bag("BB51184288", Spot::Spent))
+        && put(rows, loose("HSM4"))
+        && put(rows, within("CARD1", "BB51184287"))
+}
+
+fn planned() -> Option<Change> {
+    Some(Change::PutCeremony(CeremonyRow {
         number: 1,
         facility: Facility::East,
-        day: day(DAYS.0)?,
+        day: Day::from_number(DAYS.0)?,
         state: CeremonyState::Planned,
         opened: None,
         closed: None,
-    }))?;
-    rows.push(Change::PutCeremony(CeremonyRow {
+    }))
+}
+
+fn closed() -> Option<Change> {
+    Some(Change::PutCeremony(CeremonyRow {
         number: 9_999,
         facility: Facility::West,
-        day: day(DAYS.1)?,
+        day: Day::from_number(DAYS.1)?,
         state: CeremonyState::Closed,
-        opened: Some(moment(MOMENTS.0)?),
-        closed: Some(moment(MOMENTS.1)?),
-    }))?;
-    rows.push(Change::PutMark(MarkRow {
+        opened: Some(Moment::from_number(MOMENTS.0)?),
+        closed: Some(Moment::from_number(MOMENTS.1)?),
+    }))
+}
+
+fn mark() -> Option<Change> {
+    Some(Change::PutMark(MarkRow {
         ceremony: 9_999,
-        at: moment(MOMENTS.1)?,
-    }))?;
-    Ok(())
+        at: Moment::from_number(MOMENTS.1)?,
+    }))
 }
 
 fn step(
@@ -180,82 +159,110 @@ fn step(
     activity: &str,
     state: StepState,
     at: Option<Moment>,
-) -> Result<Change, Fault> {
-    let activity = Activity::read(alloc, activity.as_bytes())?.ok_or(Fault::Value)?;
-    let seats = read_seats(alloc, b"CO*7;CA")?.ok_or(Fault::Value)?;
-    Ok(Change::PutStep(StepRow {
-        ceremony: 9_999,
-        step: number,
-        activity,
-        seats,
-        state,
-        at,
-    }))
+) -> Option<Change> {
+    let Ok(Some(activity)) = Activity::read(alloc, activity.as_bytes()) else {
+        return None;
+    };
+    match read_seats(alloc, b"CO*7;CA") {
+        Ok(Some(seats)) => Some(Change::PutStep(StepRow {
+            ceremony: 9_999,
+            step: number,
+            activity,
+            seats,
+            state,
+            at,
+        })),
+        _ => None,
+    }
 }
 
-fn steps(alloc: Global, rows: &mut Vec<Change>) -> Result<(), Fault> {
-    let at = moment(MOMENTS.0)?;
-    rows.push(step(alloc, 1, "Say \"go\", then", StepState::Signed, Some(at))?)?;
-    rows.push(step(alloc, 400, "後で", StepState::Undone, None)?)?;
-    rows.push(Change::PutSeating(SeatingRow {
+fn seating() -> Option<Change> {
+    Some(Change::PutSeating(SeatingRow {
         ceremony: 9_999,
         step: 1,
         seat: 16,
-        who: initials("ZZZZ")?,
-    }))?;
-    Ok(())
-}
-
-fn room(rows: &mut Vec<Change>) -> Result<(), Fault> {
-    let who = initials("AA")?;
-    let since = moment(MOMENTS.0)?;
-    rows.push(Change::PutSheet(SheetRow {
-        ceremony: 9_999,
-        who,
-        way: Way::Enter,
-        at: since,
-    }))?;
-    rows.push(Change::PutStay(Stay {
-        ceremony: 9_999,
-        who,
-        since,
-        until: None,
-    }))?;
-    Ok(())
-}
-
-fn exception(alloc: Global, number: u32, passed: Option<u32>) -> Result<Change, Fault> {
-    let text = Remark::read(alloc, "It's late: \"skip\"".as_bytes())?.ok_or(Fault::Value)?;
-    Ok(Change::PutException(ExceptionRow {
-        ceremony: 9_999,
-        exception: number,
-        text,
-        at: moment(MOMENTS.1)?,
-        passed,
+        who: Initials::read(b"ZZZZ")?,
     }))
 }
 
-fn keys(alloc: Global, rows: &mut Vec<Change>) -> Result<(), Fault> {
-    rows.push(exception(alloc, 1, None)?)?;
-    rows.push(exception(alloc, 200, Some(400))?)?;
-    rows.push(Change::PutKey(KeyRow {
-        key: Key::read(b"k-1").ok_or(Fault::Value)?,
-        accepted: 4_000_000_000,
-        command: Text::copy_of(alloc, "/people\nAA\nO'Brien \"Q\"; --")?,
-        reply: Text::copy_of(alloc, "{\"accepted\":4000000000}")?,
-    }))?;
-    Ok(())
+fn ceremonies(alloc: Global, rows: &mut Vec<Change>) -> bool {
+    let at = Moment::from_number(MOMENTS.0);
+    put(rows, planned())
+        && put(rows, closed())
+        && put(rows, mark())
+        && put(
+            rows,
+            step(alloc, 1, "Say \"go\", then", StepState::Signed, at),
+        )
+        && put(rows, step(alloc, 400, "後で", StepState::Undone, None))
+        && put(rows, seating())
 }
 
-/// The rows, of every table.
-pub(crate) fn all_rows(alloc: Global) -> Result<Vec<Change>, Fault> {
+fn entered() -> Option<Change> {
+    Some(Change::PutSheet(SheetRow {
+        ceremony: 9_999,
+        who: Initials::read(b"AA")?,
+        way: Way::Enter,
+        at: Moment::from_number(MOMENTS.0)?,
+    }))
+}
+
+fn stay() -> Option<Change> {
+    Some(Change::PutStay(Stay {
+        ceremony: 9_999,
+        who: Initials::read(b"AA")?,
+        since: Moment::from_number(MOMENTS.0)?,
+        until: None,
+    }))
+}
+
+fn exception(alloc: Global, number: u32, passed: Option<u32>) -> Option<Change> {
+    let at = Moment::from_number(MOMENTS.1)?;
+    match Remark::read(alloc, b"It's late: \"skip\"") {
+        Ok(Some(text)) => Some(Change::PutException(ExceptionRow {
+            ceremony: 9_999,
+            exception: number,
+            text,
+            at,
+            passed,
+        })),
+        _ => None,
+    }
+}
+
+fn accepted(alloc: Global) -> Option<Change> {
+    let key = Key::read(b"k-1")?;
+    let command = Text::copy_of(alloc, "/people\nAA\nO'Brien \"Q\"; --");
+    let reply = Text::copy_of(alloc, "{\"accepted\":4000000000}");
+    match (command, reply) {
+        (Ok(command), Ok(reply)) => Some(Change::PutKey(KeyRow {
+            key,
+            accepted: 4_000_000_000,
+            command,
+            reply,
+        })),
+        _ => None,
+    }
+}
+
+fn room(alloc: Global, rows: &mut Vec<Change>) -> bool {
+    put(rows, entered())
+        && put(rows, stay())
+        && put(rows, exception(alloc, 1, None))
+        && put(rows, exception(alloc, 200, Some(400)))
+        && put(rows, accepted(alloc))
+}
+
+/// The rows, of every table; none where memory was refused.
+pub(crate) fn all_rows(alloc: Global) -> Option<Vec<Change>> {
     let mut rows = Vec::new(alloc);
-    people(alloc, &mut rows)?;
-    safes(&mut rows)?;
-    bags(&mut rows)?;
-    ceremonies(&mut rows)?;
-    steps(alloc, &mut rows)?;
-    room(&mut rows)?;
-    keys(alloc, &mut rows)?;
-    Ok(rows)
+    if people(alloc, &mut rows)
+        && custody(&mut rows)
+        && ceremonies(alloc, &mut rows)
+        && room(alloc, &mut rows)
+    {
+        Some(rows)
+    } else {
+        None
+    }
 }
