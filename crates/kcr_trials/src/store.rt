@@ -205,17 +205,15 @@ fn sweep(rt: &impl Abort, alloc: Global, is_log: bool) -> u64 {
     stops
 }
 
-// The command writes to the log alone, so no stop at calls of the database meets it.
 #[test]
-fn stops_at_calls(rt: HostRuntime) {
-    holds(
-        &rt,
-        sweep(&rt, rt.alloc(), true) > 0,
-        "some stops of the log",
-    );
-    holds(
-        &rt,
-        sweep(&rt, rt.alloc(), false) == 0,
-        "no stop of the database",
-    );
+fn stops_at_calls_of_the_log(rt: HostRuntime) {
+    let stops = sweep(&rt, rt.alloc(), true);
+    holds(&rt, stops > 0, "some stops of the log");
+}
+
+// The command writes to the log alone.
+#[test]
+fn stops_at_calls_of_the_database(rt: HostRuntime) {
+    let stops = sweep(&rt, rt.alloc(), false);
+    holds(&rt, stops == 0, "no stop of the database");
 }
