@@ -3,3 +3,4 @@ pub mod BagsTold
 pub mod RoomTold
 pub mod LastStays
 pub mod Plain
+pub mod NotFull

@@ -85,12 +85,6 @@ changes_by view act = []
 -- SEATS AND ANSWERS: a signature fills the seats of its step, an exception that passes a step those of two of the staff; other
 -- acts need no seats, and are answered their number alone
 
--- the act needs no seats and states no exception
-abbrev pub is_plain : Act → Bool
-is_plain (Sign ceremony step at) = false
-is_plain (Except ceremony text pass at) = false
-is_plain act = true
-
 -- the seats that an act needs
 abbrev pub sitting_by : View → Act → Option Sitting
 sitting_by view (Sign ceremony step at) = Some (record { ceremony = ceremony; at = at; seats = seats_by (step_by view.steps.items ceremony step) })

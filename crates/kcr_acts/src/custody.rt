@@ -8,9 +8,9 @@ ghost use Rattle.kcr_history.specs.declared.views.Change.TheVariants.{PutBag, Pu
 ghost use Rattle.kcr_acts.specs.ByRows.{HasChanges, HasRefusal};
 ghost use Rattle.kcr_acts.specs.CustodyRows;
 
-use kcr_base::{Facility, Moment, Place, Refusal, Role, Serial};
+use kcr_base::{Facility, Items, Moment, Place, Refusal, Role, Serial};
 use kcr_custody::{Bag, Item, Moved, Scene, Store};
-use kcr_history::{Change, Items, View};
+use kcr_history::{Change, View};
 use kcr_scene::scene;
 use std::alloc::{AllocError, Global};
 
@@ -168,7 +168,7 @@ pub(crate) fn take(
 fn place_to_put(view: &View, facility: Facility, to: Store) -> Option<Place>
     ensures { result ≡ Custody.place_of view.now.boxes.items facility (Custody.box_of_store to) }
 {
-    kcr_custody::place_for_put(&view.boxes, facility, to)
+    kcr_custody::place_for_put(&view.boxes, facility, &to)
 }
 
 /// Whether the holder of the place of the box that a bag is put into is in the room; false where it is put into no box.

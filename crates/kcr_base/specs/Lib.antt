@@ -7,7 +7,9 @@ pub mod Facility
 pub mod Initials
 pub mod Key
 pub mod Line
+pub mod Lists
 pub mod Moment
+pub mod Number
 pub mod Place
 pub mod Positions
 pub mod Reads

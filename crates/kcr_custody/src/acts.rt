@@ -226,8 +226,9 @@ pub fn put(
             thing: Thing::Bag(serial),
         });
     }
-    let place = rows::place_for_put(boxes, scene.facility, to);
-    if let Some(number) = rows::box_of_store(to)
+    let number = rows::box_of_store(&to);
+    let place = rows::place_for_put(boxes, scene.facility, &to);
+    if let Some(number) = number
         && place.is_none()
     {
         return Err(Refusal::Unknown {
@@ -237,7 +238,7 @@ pub fn put(
     if let Some(refusal) = not_ready(scene) {
         return Err(refusal);
     }
-    if !rows::is_open(safes, scene.facility, rows::safe_of_store(to)) {
+    if !rows::is_open(safes, scene.facility, rows::safe_of_store(&to)) {
         return Err(Refusal::Safe);
     }
     if !rows::is_on_table(scene.facility, spot) {
@@ -257,7 +258,7 @@ pub fn put(
     }
     Ok(Bag {
         serial,
-        spot: rows::spot_of_store(scene.facility, to),
+        spot: rows::spot_of_store(scene.facility, &to),
     })
 }
 

@@ -6,7 +6,7 @@
 //! refusals' numbers; nothing is changed in place.
 #![tactic(auto)]
 
-use kcr_base::{Facility, Initials, ItemCode, Moment, Place, Serial};
+use kcr_base::{BoxNumber, Facility, Initials, ItemCode, Moment, Place, Serial};
 use std::marker::Model;
 
 pub mod acts;
@@ -82,7 +82,7 @@ pub enum Store {
     /// In safe 1.
     SafeOne,
     /// In the box with this number.
-    Boxed(u32),
+    Boxed(BoxNumber),
 }
 
 /// What an act takes from elsewhere: its ceremony at its moment.

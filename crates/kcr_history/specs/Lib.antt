@@ -17,4 +17,3 @@ pub mod Prints
 pub mod Questions
 pub mod Laws
 pub mod Audit
-pub mod Runs

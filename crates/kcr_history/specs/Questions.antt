@@ -1,11 +1,7 @@
--- What a question is shown, as a text; for the first four kinds a JSON text.
-use Rattle.std.specs.Prelude.{ℕ, ◌==◌, Bool, ◌&&◌, ◌||◌, nat_lt, List, [], ◌∷◌, ◌++◌, map, filter, find, codes, Option, Some, None, option_map, Result, Ok, Err, if◌then◌else◌}
-use Rattle.std.specs.List.{filter_map, flat_map}
-use Rattle.kcr_base.specs.Day.{day_text}
-use Rattle.kcr_base.specs.Moment.{moment_text}
-use Rattle.kcr_base.specs.Place.{place_text}
-use Rattle.kcr_base.specs.Role.{role_text}
-use Rattle.kcr_base.specs.Same.{same_text, is_before, role_number}
+-- What a question is shown by a register with a history.
+use Rattle.std.specs.Prelude.{◌≡◌, ℕ, ◌==◌, Bool, false, ◌&&◌, ◌||◌, nat_lt, List, ◌++◌, map, filter, find, All, AllPairs, IsPermutation, IsTrue, Option, Some, None, option_map}
+use Rattle.std.specs.List.{filter_map}
+use Rattle.kcr_base.specs.Same.{is_before, role_number}
 use Rattle.kcr_base.specs.declared.place.Facility.TheVariants.{East, West}
 use Rattle.kcr_base.specs.declared.place.Place.{Place}
 use Rattle.kcr_base.specs.declared.place.Place.TheVariants as Places
@@ -17,62 +13,64 @@ use Rattle.kcr_people.specs.declared.Person.{Person}
 use Rattle.kcr_people.specs.declared.Training.{Training}
 use Rattle.kcr_people.specs.declared.Withdrawal.{Withdrawal}
 use Rattle.kcr_custody.specs.Custody.{lies_in}
-use Rattle.kcr_custody.specs.Spots.{spot_text}
-use Rattle.kcr_custody.specs.declared.Spot.{Spot}
 use Rattle.kcr_history.specs.History.{History}
 use Rattle.kcr_history.specs.Training.{holder}
 use Rattle.kcr_history.specs.Ceremonies.{is_ceremony}
 use Rattle.kcr_history.specs.Room.{present}
 use Rattle.kcr_history.specs.Custody.{spot}
 use Rattle.kcr_history.specs.Seating.{one_to_seven}
-use Rattle.kcr_history.specs.Tables.{Tables, tables, people, trainings, withdrawals}
-use Rattle.kcr_history.specs.Json.{quoted, member, object, array}
-use Rattle.kcr_history.specs.Texts.{member_if, people_array}
-use Rattle.kcr_history.specs.Prints.{in_order, items_in_order, annotated, attendance, custody}
+use Rattle.kcr_history.specs.Tables.{people, trainings, withdrawals, items}
+use Rattle.kcr_history.specs.Views.{is_training_of}
+use Rattle.kcr_history.specs.declared.questions.Question.{Question}
+use Rattle.kcr_history.specs.declared.questions.Question.TheVariants as asked
+use Rattle.kcr_history.specs.declared.questions.Shown.{Shown}
+use Rattle.kcr_history.specs.declared.questions.Shown.TheVariants as shown
+use Rattle.kcr_history.specs.declared.questions.RoleShown.{RoleShown}
+use Rattle.kcr_history.specs.declared.questions.PersonShown.{PersonShown}
+use Rattle.kcr_history.specs.declared.questions.HolderShown.{HolderShown}
+use Rattle.kcr_history.specs.declared.questions.CustodiansShown.{CustodiansShown}
+use Rattle.kcr_history.specs.declared.questions.BagShown.{BagShown}
+use Rattle.kcr_history.specs.declared.questions.RoomShown.{RoomShown}
 
 -- PEOPLE
-
--- a text as JSON writes it: a backslash before each quote and backslash. A name has no control character
-abbrev pub escaped : List ℕ → List ℕ
-escaped text = flat_map (λ c. if c == 34 || c == 92 then 92 ∷ c ∷ [] else c ∷ []) text
 
 -- the day from which the training is withdrawn
 abbrev pub withdrawn_day : List Withdrawal → Training → Option ℕ
 withdrawn_day rows row = option_map (λ withdrawal. withdrawal.day) (find (is_of row) rows)
 
--- a training: its first day, its role, its last day, and the day from which it is withdrawn, where it is
-abbrev pub role_json : List Withdrawal → Training → List ℕ
-role_json rows row =
-    object
-    (member (codes "from") (quoted (day_text row.since))
-    ∷ member (codes "role") (quoted (role_text row.role))
-    ∷ member (codes "until") (quoted (day_text row.until))
-    ∷ member_if (codes "withdrawn") (option_map (λ day. quoted (day_text day)) (withdrawn_day rows row)))
+-- a training as it is shown, by the rows of the withdrawals
+abbrev pub role_shown : List Withdrawal → Training → RoleShown
+role_shown rows row = record { since = row.since; role = row.role; until = row.until; withdrawn = withdrawn_day rows row }
 
--- by first day, then role, then last day
-abbrev pub training_before : Training → Training → Bool
-training_before a b =
+-- the first stands before the second: by first day, then role, then last day
+abbrev pub is_role_before : RoleShown → RoleShown → Bool
+is_role_before a b =
     nat_lt a.since b.since
     || (a.since == b.since && (nat_lt (role_number a.role) (role_number b.role) || (role_number a.role == role_number b.role && nat_lt a.until b.until)))
 
--- the person's trainings in that order
-abbrev pub roles_of : History → List ℕ → List Training
-roles_of A who = in_order training_before (filter (λ row. same_text row.who who) (trainings A))
+-- the trainings of the person as they are shown, by the rows of the trainings and of the withdrawals
+abbrev pub roles_of : List Training → List Withdrawal → List ℕ → List RoleShown
+roles_of taught withdrawn who = map (role_shown withdrawn) (filter (is_training_of who) taught)
 
-abbrev pub person_json : History → Person → List ℕ
-person_json A person =
-    object
-    (member (codes "name") (quoted (escaped person.name))
-    ∷ member (codes "roles") (array (map (role_json (withdrawals A)) (roles_of A person.who)))
-    ∷ member (codes "who") (quoted person.who)
-    ∷ [])
+-- the person of whom this is shown
+abbrev pub person_of : PersonShown → Person
+person_of shown = record { who = shown.who; name = shown.name }
 
--- everybody by initials
-abbrev pub people_in_order : History → List Person
-people_in_order A = in_order (λ a b. is_before a.who b.who) (people A)
+-- of the person each training of the history is shown once, with the day from which it is withdrawn, by first day, then
+-- role, then last day
+pub record IsPersonShown (A : History) (shown : PersonShown) : Type 0 where
+  pub roles : IsPermutation (roles_of (trainings A) (withdrawals A) shown.who) shown.roles.items
+  pub order : AllPairs (λ a b. IsTrue (is_role_before a b)) shown.roles.items
 
-abbrev pub people_json : History → List ℕ
-people_json A = object (member (codes "people") (array (map (person_json A) (people_in_order A))) ∷ [])
+-- of two people the one who stands first has the lower initials, in byte order
+abbrev pub IsByInitials : List Person → Type 0
+IsByInitials rows = AllPairs (λ a b. IsTrue (is_before a.who b.who)) rows
+
+-- everybody of the history is shown once, by initials, each with their trainings
+pub record ArePeopleShown (A : History) (rows : List PersonShown) : Type 0 where
+  pub people : IsPermutation (people A) (map person_of rows)
+  pub order : IsByInitials (map person_of rows)
+  pub each : All (IsPersonShown A) rows
 
 -- CUSTODIANS
 
@@ -80,70 +78,62 @@ people_json A = object (member (codes "people") (array (map (person_json A) (peo
 abbrev pub all_places : List Place
 all_places = map (Places.Co East) one_to_seven ++ map (Places.Co West) one_to_seven ++ map Places.Rksh one_to_seven
 
--- a place that is held on the day
-abbrev pub place_json : History → ℕ → Place → Option (List ℕ)
-place_json A day place =
-    option_map (λ who. object (member (codes "place") (quoted (place_text place)) ∷ member (codes "who") (quoted who) ∷ [])) (holder A place day)
+-- a place with whoever holds it, where somebody does
+abbrev pub holder_shown : Option (List ℕ) → Place → Option HolderShown
+holder_shown holds place = option_map (λ who. record { place = place; who = who }) holds
 
--- the places that are held on the day, with their holders
-abbrev pub custodians_json : History → ℕ → List ℕ
-custodians_json A day =
-    object (member (codes "day") (quoted (day_text day)) ∷ member (codes "places") (array (filter_map (place_json A day) all_places)) ∷ [])
+-- the places that are held, in their order, with their holders
+abbrev pub holders_by : (Place → Option (List ℕ)) → List HolderShown
+holders_by holds = filter_map (λ place. holder_shown (holds place) place) all_places
 
--- BAGS AND ROOMS
+-- those that are held on the day
+abbrev pub holders_on : History → ℕ → List HolderShown
+holders_on A day = holders_by (λ place. holder A place day)
 
--- the items within the bag, by code
-abbrev pub items_within : History → List ℕ → List (List ℕ)
-items_within A serial = map (λ item. item.code) (filter (lies_in serial) (items_in_order A))
+-- who holds which place on the day
+pub record AreCustodiansShown (A : History) (asked : ℕ) (shown : CustodiansShown) : Type 0 where
+  pub day : shown.day ≡ asked
+  pub holders : shown.holders.items ≡ holders_on A asked
 
-abbrev pub bag_at_json : History → List ℕ → Option Spot → Result (List ℕ) Refusal
-bag_at_json A serial None = Err (Unknown (Things.Bag serial))
-bag_at_json A serial (Some here) =
-    Ok (object (member (codes "items") (people_array (items_within A serial)) ∷ member (codes "serial") (quoted serial) ∷ member (codes "spot") (quoted (spot_text here)) ∷ []))
+-- A BAG
 
--- the bag, its items, and where it is; refused where no such bag was sealed
-abbrev pub bag_json : History → List ℕ → Result (List ℕ) Refusal
-bag_json A serial = bag_at_json A serial (spot A serial)
+-- the codes of the items within the bag
+abbrev pub codes_within : History → List ℕ → List (List ℕ)
+codes_within A serial = map (λ item. item.code) (filter (lies_in serial) (items A))
 
--- of a planned ceremony the text; another is unknown
-abbrev pub of_ceremony : History → ℕ → List ℕ → Result (List ℕ) Refusal
-of_ceremony A ceremony text = if is_ceremony A ceremony then Ok text else Err (Unknown (Things.Ceremony ceremony))
+-- the bag lies there, and each item within is shown once, in byte order
+pub record IsBagShown (A : History) (asked : List ℕ) (shown : BagShown) : Type 0 where
+  pub serial : shown.serial ≡ asked
+  pub spot : spot A asked ≡ Some shown.spot
+  pub items : IsPermutation (codes_within A asked) shown.items.items
+  pub order : AllPairs (λ a b. IsTrue (is_before a b)) shown.items.items
 
--- who is in the room at the moment, by initials
-abbrev pub room_json : History → ℕ → ℕ → Result (List ℕ) Refusal
-room_json A ceremony at =
-    of_ceremony A ceremony (object (member (codes "at") (quoted (moment_text at)) ∷ member (codes "in") (people_array (present A ceremony at)) ∷ []))
+-- A ROOM
+
+-- of a planned ceremony, who is in the room at the moment, in byte order
+pub record IsRoomShown (A : History) (ceremony moment : ℕ) (shown : RoomShown) : Type 0 where
+  pub planned : IsTrue (is_ceremony A ceremony)
+  pub at : shown.at ≡ moment
+  pub people : shown.people.items ≡ present A ceremony moment
 
 -- QUESTIONS
 
--- what may be asked: for people with their training; for the custodians of a day; for a bag; for who is in the room of a
--- ceremony at a moment; for the three reports; for all rows
-pub data Question : Type 0 where
-  People : Question
-  Custodians : ℕ → Question
-  Bag : List ℕ → Question
-  Room : ℕ → ℕ → Question
-  Steps : ℕ → Question
-  Sheet : ℕ → Question
-  Custody : Question
-  All : Question
+-- what a register with this history shows
+abbrev pub IsShown : History → Question → Shown → Type 0
+IsShown A asked.People (shown.People rows) = ArePeopleShown A rows.items
+IsShown A (asked.Custodians day) (shown.Custodians custodians) = AreCustodiansShown A day custodians
+IsShown A (asked.Bag serial) (shown.Bag bag) = IsBagShown A serial bag
+IsShown A (asked.Room ceremony at) (shown.Room room) = IsRoomShown A ceremony at room
+IsShown A question shown = ⊥
 
--- what is shown: a text, all rows, or a refusal where the thing is unknown
-pub data Shown : Type 0 where
-  Text : List ℕ → Shown
-  Rows : Tables → Shown
-  Refused : Refusal → Shown
+-- the refusal names the bag or the ceremony that is asked for
+abbrev pub NamesAsked : Question → Refusal → Type 0
+NamesAsked (asked.Bag serial) refusal = refusal ≡ Unknown (Things.Bag serial)
+NamesAsked (asked.Room ceremony at) refusal = refusal ≡ Unknown (Things.Ceremony ceremony)
+NamesAsked question refusal = ⊥
 
-abbrev pub shown_text : Result (List ℕ) Refusal → Shown
-shown_text (Ok text) = Text text
-shown_text (Err refusal) = Refused refusal
-
-abbrev pub shown : History → Question → Shown
-shown A People = Text (people_json A)
-shown A (Custodians day) = Text (custodians_json A day)
-shown A (Bag serial) = shown_text (bag_json A serial)
-shown A (Room ceremony at) = shown_text (room_json A ceremony at)
-shown A (Steps ceremony) = shown_text (of_ceremony A ceremony (annotated A ceremony))
-shown A (Sheet ceremony) = shown_text (of_ceremony A ceremony (attendance A ceremony))
-shown A Custody = Text (custody A)
-shown A All = Rows (tables A)
+-- and it is not there: no such bag was sealed, no such ceremony planned
+abbrev pub IsMissing : History → Question → Refusal → Type 0
+IsMissing A (asked.Bag serial) refusal = (spot A serial ≡ None) × NamesAsked (asked.Bag serial) refusal
+IsMissing A (asked.Room ceremony at) refusal = (is_ceremony A ceremony ≡ false) × NamesAsked (asked.Room ceremony at) refusal
+IsMissing A question refusal = ⊥

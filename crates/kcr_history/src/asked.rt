@@ -3,9 +3,9 @@ ghost use Rattle.std.specs.Prelude.{◌≡◌, [], ◌∷◌, IfOk};
 ghost use Rattle.kcr_history.specs.Asked;
 
 use crate::commands::{Act, Command};
-use crate::lists::{Items, People};
+use crate::lists::{InitialsList, ItemList};
 use crate::views::{AppointmentsOf, Asks, ItemsOf, Rows, StaysOf};
-use kcr_base::{Initials, ItemCode, Key, Place, Serial};
+use kcr_base::{CeremonyNumber, Initials, ItemCode, Items, Key, People, Place, Serial};
 use std::alloc::{AllocError, Global};
 
 /// No rows but those of the key.
@@ -31,46 +31,49 @@ fn asks_nothing(key: &Key) -> Asks
 }
 
 /// One person as a list.
-fn only(alloc: Global, who: Initials) -> Result<People, AllocError>
+fn only(alloc: Global, who: Initials) -> Result<InitialsList, AllocError>
     ensures { IfOk result (λ people. people ≡ who ∷ []) }
 {
     let mut list = Vec::new(alloc);
     list.push(who)?;
-    Ok(People::new(list))
+    Ok(InitialsList::new(list))
 }
 
 /// One item as a list.
-fn only_item(alloc: Global, item: ItemCode) -> Result<Items, AllocError>
+fn only_item(alloc: Global, item: ItemCode) -> Result<ItemList, AllocError>
     ensures { IfOk result (λ items. items ≡ item ∷ []) }
 {
     let mut list = Vec::new(alloc);
     list.push(item)?;
-    Ok(Items::new(list))
+    Ok(ItemList::new(list))
 }
 
 /// The ceremony with its mark, the stays in its room, and of these people the last stay anywhere.
-fn asks_room(key: &Key, ceremony: u32, people: People) -> Asks
+fn asks_room(key: &Key, ceremony: CeremonyNumber, people: InitialsList) -> Asks
     ensures { result ≡ Asked.asks_room key.now ceremony people }
 {
     let mut asks = asks_nothing(key);
-    asks.ceremonies = Rows::Under(ceremony);
-    asks.marks = Rows::Under(ceremony);
-    asks.stays = Rows::Under(StaysOf { ceremony, people });
+    asks.ceremonies = Rows::Under(ceremony.get());
+    asks.marks = Rows::Under(ceremony.get());
+    asks.stays = Rows::Under(StaysOf {
+        ceremony: ceremony.get(),
+        people,
+    });
     asks
 }
 
 /// The same of nobody in particular, and whatever tells who in the room is trained.
-fn asks_trained(alloc: Global, key: &Key, ceremony: u32) -> Asks
+fn asks_trained(alloc: Global, key: &Key, ceremony: CeremonyNumber) -> Asks
     ensures { result ≡ Asked.asks_trained key.now ceremony }
 {
-    let mut asks = asks_room(key, ceremony, People::new(Vec::new(alloc)));
+    let mut asks = asks_room(key, ceremony, InitialsList::new(Vec::new(alloc)));
     asks.trainings = Rows::All;
     asks.withdrawals = Rows::All;
     asks
 }
 
 /// The bag, the safes, the boxes and the holders of their places.
-fn asks_bag(alloc: Global, key: &Key, ceremony: u32, serial: Serial) -> Asks
+fn asks_bag(alloc: Global, key: &Key, ceremony: CeremonyNumber, serial: Serial) -> Asks
     ensures { result ≡ Asked.asks_bag key.now ceremony serial }
 {
     let mut asks = asks_trained(alloc, key, ceremony);
@@ -142,7 +145,12 @@ fn asks_boxes(key: &Key) -> Asks
 }
 
 /// The item, beside who in the room is trained.
-fn asks_to_add(alloc: Global, key: &Key, ceremony: u32, item: ItemCode) -> Result<Asks, AllocError>
+fn asks_to_add(
+    alloc: Global,
+    key: &Key,
+    ceremony: CeremonyNumber,
+    item: ItemCode,
+) -> Result<Asks, AllocError>
     ensures { IfOk result (λ asks. asks ≡ Asked.asks_to_add key.now ceremony item) }
 {
     let mut asks = asks_trained(alloc, key, ceremony);
@@ -160,50 +168,61 @@ fn asks_ceremonies(key: &Key, ceremonies: Rows<u32>) -> Asks
 }
 
 /// The room, the steps, the safes and the bags.
-fn asks_to_close(alloc: Global, key: &Key, ceremony: u32) -> Asks
+fn asks_to_close(alloc: Global, key: &Key, ceremony: CeremonyNumber) -> Asks
     ensures { result ≡ Asked.asks_to_close key.now ceremony }
 {
-    let mut asks = asks_room(key, ceremony, People::new(Vec::new(alloc)));
-    asks.steps = Rows::Under(ceremony);
+    let mut asks = asks_room(key, ceremony, InitialsList::new(Vec::new(alloc)));
+    asks.steps = Rows::Under(ceremony.get());
     asks.safes = true;
     asks.bags = Rows::All;
     asks
 }
 
 /// The people, with the room and their last stays anywhere.
-fn asks_sheet(key: &Key, ceremony: u32, people: &People) -> Result<Asks, AllocError>
+fn asks_sheet(
+    alloc: Global,
+    key: &Key,
+    ceremony: CeremonyNumber,
+    people: &People,
+) -> Result<Asks, AllocError>
     ensures { IfOk result (λ asks. asks ≡ Asked.asks_sheet key.now ceremony people.now) }
 {
-    let mut asks = asks_room(key, ceremony, people.clone()?);
-    asks.people = Rows::Under(people.clone()?);
+    let people = people.as_slice();
+    let mut asks = asks_room(key, ceremony, InitialsList::copy_of(alloc, people)?);
+    asks.people = Rows::Under(InitialsList::copy_of(alloc, people)?);
     Ok(asks)
 }
 
 /// The steps and the appointments, beside who in the room is trained.
-fn asks_to_sign(alloc: Global, key: &Key, ceremony: u32) -> Asks
+fn asks_to_sign(alloc: Global, key: &Key, ceremony: CeremonyNumber) -> Asks
     ensures { result ≡ Asked.asks_to_sign key.now ceremony }
 {
     let mut asks = asks_trained(alloc, key, ceremony);
-    asks.steps = Rows::Under(ceremony);
+    asks.steps = Rows::Under(ceremony.get());
     asks.appointments = Rows::All;
     asks
 }
 
 /// The steps and the exceptions, beside who in the room is trained.
-fn asks_to_except(alloc: Global, key: &Key, ceremony: u32) -> Asks
+fn asks_to_except(alloc: Global, key: &Key, ceremony: CeremonyNumber) -> Asks
     ensures { result ≡ Asked.asks_to_except key.now ceremony }
 {
     let mut asks = asks_trained(alloc, key, ceremony);
-    asks.steps = Rows::Under(ceremony);
-    asks.exceptions = Rows::Under(ceremony);
+    asks.steps = Rows::Under(ceremony.get());
+    asks.exceptions = Rows::Under(ceremony.get());
     asks
 }
 
 /// Who opens or shuts a safe, with their trainings, the room and the safes.
-fn asks_to_turn(alloc: Global, key: &Key, ceremony: u32, by: Initials) -> Result<Asks, AllocError>
+fn asks_to_turn(
+    alloc: Global,
+    key: &Key,
+    ceremony: CeremonyNumber,
+    by: Initials,
+) -> Result<Asks, AllocError>
     ensures { IfOk result (λ asks. asks ≡ Asked.asks_to_turn key.now ceremony by) }
 {
-    let mut asks = asks_room(key, ceremony, People::new(Vec::new(alloc)));
+    let mut asks = asks_room(key, ceremony, InitialsList::new(Vec::new(alloc)));
     asks.people = Rows::Under(only(alloc, by)?);
     asks.trainings = Rows::Under(by);
     asks.withdrawals = Rows::Under(by);
@@ -212,7 +231,13 @@ fn asks_to_turn(alloc: Global, key: &Key, ceremony: u32, by: Initials) -> Result
 }
 
 /// The bag and the items asked for, beside who in the room is trained.
-fn asks_items(alloc: Global, key: &Key, ceremony: u32, serial: Serial, items: ItemsOf) -> Asks
+fn asks_items(
+    alloc: Global,
+    key: &Key,
+    ceremony: CeremonyNumber,
+    serial: Serial,
+    items: ItemsOf,
+) -> Asks
     ensures { result ≡ Asked.asks_items key.now ceremony serial items }
 {
     let mut asks = asks_trained(alloc, key, ceremony);
@@ -225,13 +250,13 @@ fn asks_items(alloc: Global, key: &Key, ceremony: u32, serial: Serial, items: It
 fn asks_sealed(
     alloc: Global,
     key: &Key,
-    ceremony: u32,
+    ceremony: CeremonyNumber,
     serial: Serial,
     items: &Items,
 ) -> Result<Asks, AllocError>
     ensures { IfOk result (λ asks. asks ≡ Asked.asks_sealed key.now ceremony serial items.now) }
 {
-    let codes = ItemsOf::Codes(items.clone()?);
+    let codes = ItemsOf::Codes(ItemList::copy_of(alloc, items.as_slice())?);
     Ok(asks_items(alloc, key, ceremony, serial, codes))
 }
 
@@ -248,10 +273,10 @@ fn asks_by(alloc: Global, key: &Key, act: &Act) -> Result<Asks, AllocError>
         Act::Release { place, .. } => Ok(asks_to_release(key, *place)),
         Act::AddBox { .. } => Ok(asks_boxes(key)),
         Act::AddItem { ceremony, item, .. } => asks_to_add(alloc, key, *ceremony, *item),
-        Act::Plan { number, .. } => Ok(asks_ceremonies(key, Rows::Under(*number))),
+        Act::Plan { number, .. } => Ok(asks_ceremonies(key, Rows::Under(number.get()))),
         Act::Open { .. } => Ok(asks_ceremonies(key, Rows::All)),
         Act::Close { ceremony, .. } => Ok(asks_to_close(alloc, key, *ceremony)),
-        Act::Sheet { ceremony, who, .. } => asks_sheet(key, *ceremony, who),
+        Act::Sheet { ceremony, who, .. } => asks_sheet(alloc, key, *ceremony, who),
         Act::Sign { ceremony, .. } => Ok(asks_to_sign(alloc, key, *ceremony)),
         Act::Except { ceremony, .. } => Ok(asks_to_except(alloc, key, *ceremony)),
         Act::TurnSafe { ceremony, by, .. } => asks_to_turn(alloc, key, *ceremony, *by),

@@ -1,13 +1,13 @@
 //! Commands, and what an accepted one is answered.
-use crate::lists::{Items, People};
+use crate::lists::InitialsList;
 use kcr_base::{
-    Day, Facility, Initials, ItemCode, Key, Moment, Name, Place, Remark, Role, Serial, Text,
+    BoxNumber, CeremonyNumber, Day, Facility, Initials, ItemCode, Items, Key, Moment, Name, People,
+    Place, Remark, Role, Serial, StepNumber, Text,
 };
 use kcr_custody::{SafeNumber, Store};
 use kcr_room::Way;
 
-/// What a command does to the register. Days and moments are in UTC; ceremonies and boxes have numbers of 1 to 9,999,
-/// steps of 1 to 400.
+/// What a command does to the register. Days and moments are in UTC.
 #[derive(Drop)]
 pub enum Act {
     /// Enters a person under initials that nobody has yet.
@@ -48,55 +48,55 @@ pub enum Act {
     /// Adds the box of a Crypto Officer's place to safe 2 of its facility.
     AddBox {
         facility: Facility,
-        number: u32,
+        number: BoxNumber,
         place: Place,
     },
     /// Adds an item, loose at the ceremony's facility.
     AddItem {
-        ceremony: u32,
+        ceremony: CeremonyNumber,
         item: ItemCode,
         at: Moment,
     },
     /// Plans a ceremony with the steps of its script, a CSV text.
     Plan {
-        number: u32,
+        number: CeremonyNumber,
         facility: Facility,
         day: Day,
         script: Text,
     },
     /// Opens a planned ceremony.
     Open {
-        ceremony: u32,
+        ceremony: CeremonyNumber,
         at: Moment,
     },
     /// Closes an open ceremony, for good.
     Close {
-        ceremony: u32,
+        ceremony: CeremonyNumber,
         at: Moment,
     },
     /// Lists people who come into the room of a ceremony, or go out of it, all at one moment.
     Sheet {
-        ceremony: u32,
+        ceremony: CeremonyNumber,
         way: Way,
         who: People,
         at: Moment,
     },
     /// Signs the next step: distinct people in the room fill its seats.
     Sign {
-        ceremony: u32,
-        step: u32,
+        ceremony: CeremonyNumber,
+        step: StepNumber,
         at: Moment,
     },
     /// States a script exception. With `pass` it passes over the next step, and then a CA and an IW are needed.
     Except {
-        ceremony: u32,
+        ceremony: CeremonyNumber,
         text: Remark,
         pass: bool,
         at: Moment,
     },
     /// Opens or shuts a safe of the ceremony's facility.
     TurnSafe {
-        ceremony: u32,
+        ceremony: CeremonyNumber,
         safe: SafeNumber,
         is_open: bool,
         by: Initials,
@@ -104,27 +104,27 @@ pub enum Act {
     },
     /// Seals loose items of the ceremony's facility into a bag with a new serial, on its table.
     Seal {
-        ceremony: u32,
+        ceremony: CeremonyNumber,
         serial: Serial,
         items: Items,
         at: Moment,
     },
     /// Takes a bag out of a safe, to the table.
     Take {
-        ceremony: u32,
+        ceremony: CeremonyNumber,
         serial: Serial,
         at: Moment,
     },
     /// Puts a bag from the table into safe 1 or into a box.
     Put {
-        ceremony: u32,
+        ceremony: CeremonyNumber,
         serial: Serial,
         to: Store,
         at: Moment,
     },
     /// Cuts a bag on the table: its items are loose there, and the bag is spent.
     Cut {
-        ceremony: u32,
+        ceremony: CeremonyNumber,
         serial: Serial,
         at: Moment,
     },
@@ -146,7 +146,7 @@ pub struct Answer {
     /// The number of an exception in its ceremony, counted from 1.
     pub exception: Option<u32>,
     /// Of a signature or a passing exception: who sits in each seat, in the seats' order.
-    pub seating: Option<People>,
+    pub seating: Option<InitialsList>,
     /// The step that is signed or passed, counted from 1.
     pub step: Option<u32>,
 }

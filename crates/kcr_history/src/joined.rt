@@ -2,7 +2,7 @@
 ghost use Rattle.std.specs.Prelude.{◌≡◌, IfOk, string_bytes};
 ghost use Rattle.kcr_history.specs.Texts;
 
-use crate::lists::{Items, People};
+use kcr_base::{Items, People};
 use std::alloc::{AllocError, Global};
 
 /// People with commas between them.

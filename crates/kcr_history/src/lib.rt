@@ -12,6 +12,7 @@ mod commands;
 mod joined;
 mod lists;
 mod paths;
+mod questions;
 mod refusals;
 mod replies;
 mod row_laws;
@@ -22,7 +23,10 @@ mod views;
 pub use asked::asks;
 pub use commands::{Act, Answer, Command, Entry, Reply};
 pub use kcr_base::Text;
-pub use lists::{Items, People};
+pub use lists::{InitialsList, ItemList};
+pub use questions::{
+    BagShown, CustodiansShown, HolderShown, PersonShown, Question, RoleShown, RoomShown, Shown,
+};
 pub use refusals::{fixed_text, refusal_text};
 pub use replies::answer_text;
 pub use row_laws::{

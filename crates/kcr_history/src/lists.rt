@@ -1,17 +1,17 @@
-//! Lists of people and of items, as values of their own: contracts see the list alone.
-ghost use Rattle.std.specs.Prelude.{◌≡◌};
+//! Lists of people and of items of any length, as values of their own: contracts see the list alone.
+ghost use Rattle.std.specs.Prelude.{◌≡◌, IfOk};
 
 use kcr_base::{Initials, ItemCode};
-use std::alloc::AllocError;
+use std::alloc::{AllocError, Global};
 use std::marker::Model;
 
-/// People, in an order.
+/// InitialsList, in an order.
 #[derive(Drop)]
-pub struct People {
+pub struct InitialsList {
     list: Vec<Initials>,
 }
 
-impl Model for People {
+impl Model for InitialsList {
     ghost use Rattle.std.specs.Prelude.{List, ℕ};
 
     ghost Value = { List (List ℕ) };
@@ -19,12 +19,21 @@ impl Model for People {
     ghost view = { λ s. s.list.items };
 }
 
-impl People {
+impl InitialsList {
     /// These people, in their order.
-    pub fn new(list: Vec<Initials>) -> People
+    pub fn new(list: Vec<Initials>) -> InitialsList
         ensures { result ≡ list.items }
     {
-        People { list }
+        InitialsList { list }
+    }
+
+    /// A copy of these people, in their order. The error is want of memory.
+    pub fn copy_of(alloc: Global, people: &[Initials]) -> Result<InitialsList, AllocError>
+        ensures { IfOk result (λ list. list ≡ people.now) }
+    {
+        Ok(InitialsList {
+            list: people.to_vec(alloc)?,
+        })
     }
 
     /// The people, in their order.
@@ -42,23 +51,23 @@ impl People {
     }
 }
 
-impl Clone for People {
+impl Clone for InitialsList {
     ghost is_clone = { λ a b. b ≡ a };
 
     fn clone(&self) -> Result<Self, AllocError> {
-        Ok(People {
+        Ok(InitialsList {
             list: self.list.clone()?,
         })
     }
 }
 
-/// Items, in an order.
+/// ItemList, in an order.
 #[derive(Drop)]
-pub struct Items {
+pub struct ItemList {
     list: Vec<ItemCode>,
 }
 
-impl Model for Items {
+impl Model for ItemList {
     ghost use Rattle.std.specs.Prelude.{List, ℕ};
 
     ghost Value = { List (List ℕ) };
@@ -66,12 +75,21 @@ impl Model for Items {
     ghost view = { λ s. s.list.items };
 }
 
-impl Items {
+impl ItemList {
     /// These items, in their order.
-    pub fn new(list: Vec<ItemCode>) -> Items
+    pub fn new(list: Vec<ItemCode>) -> ItemList
         ensures { result ≡ list.items }
     {
-        Items { list }
+        ItemList { list }
+    }
+
+    /// A copy of these items, in their order. The error is want of memory.
+    pub fn copy_of(alloc: Global, items: &[ItemCode]) -> Result<ItemList, AllocError>
+        ensures { IfOk result (λ list. list ≡ items.now) }
+    {
+        Ok(ItemList {
+            list: items.to_vec(alloc)?,
+        })
     }
 
     /// The items, in their order.
@@ -89,11 +107,11 @@ impl Items {
     }
 }
 
-impl Clone for Items {
+impl Clone for ItemList {
     ghost is_clone = { λ a b. b ≡ a };
 
     fn clone(&self) -> Result<Self, AllocError> {
-        Ok(Items {
+        Ok(ItemList {
             list: self.list.clone()?,
         })
     }

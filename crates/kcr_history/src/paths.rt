@@ -7,7 +7,7 @@ ghost use Rattle.kcr_base.specs.Place.{place_text};
 ghost use Rattle.kcr_history.specs.Texts;
 
 use itoa::Buffer;
-use kcr_base::{Day, Initials, Moment, Place, Serial};
+use kcr_base::{CeremonyNumber, Day, Initials, Moment, Place, Serial, StepNumber};
 use kcr_custody::SafeNumber;
 use std::alloc::{AllocError, Global};
 
@@ -35,12 +35,16 @@ pub(crate) fn at_place(alloc: Global, place: Place, rest: &str) -> Result<String
 }
 
 /// `/ceremonies/`, the ceremony's number, a slash, and the rest of the path.
-pub(crate) fn at_ceremony(alloc: Global, ceremony: u32, rest: &str) -> Result<String, AllocError>
+pub(crate) fn at_ceremony(
+    alloc: Global,
+    ceremony: CeremonyNumber,
+    rest: &str,
+) -> Result<String, AllocError>
     ensures { IfOk result (λ text. string_bytes text ≡ Texts.at_ceremony ceremony rest.now) }
 {
     let mut number = Buffer::new();
     let mut text = String::from_str(alloc, "/ceremonies/")?;
-    text.push_str(number.format(ceremony))?;
+    text.push_str(number.format(ceremony.get()))?;
     text.push_str("/")?;
     text.push_str(rest)?;
     Ok(text)
@@ -49,7 +53,7 @@ pub(crate) fn at_ceremony(alloc: Global, ceremony: u32, rest: &str) -> Result<St
 /// The same for a bag: `bags/`, its serial, a slash, and the rest.
 pub(crate) fn at_bag(
     alloc: Global,
-    ceremony: u32,
+    ceremony: CeremonyNumber,
     serial: &Serial,
     rest: &str,
 ) -> Result<String, AllocError>
@@ -63,12 +67,16 @@ pub(crate) fn at_bag(
 }
 
 /// The same for a step: `steps/`, its number, and `/signature`.
-pub(crate) fn at_step(alloc: Global, ceremony: u32, step: u32) -> Result<String, AllocError>
+pub(crate) fn at_step(
+    alloc: Global,
+    ceremony: CeremonyNumber,
+    step: StepNumber,
+) -> Result<String, AllocError>
     ensures { IfOk result (λ text. string_bytes text ≡ Texts.at_step ceremony step) }
 {
     let mut number = Buffer::new();
     let mut text = at_ceremony(alloc, ceremony, "steps/")?;
-    text.push_str(number.format(step))?;
+    text.push_str(number.format(step.get()))?;
     text.push_str("/signature")?;
     Ok(text)
 }
@@ -116,7 +124,11 @@ pub(crate) fn with_place(text: String, value: Place) -> Result<String, AllocErro
 }
 
 /// The same for a safe: `safes/`, and its number.
-pub(crate) fn at_safe(alloc: Global, ceremony: u32, safe: SafeNumber) -> Result<String, AllocError>
+pub(crate) fn at_safe(
+    alloc: Global,
+    ceremony: CeremonyNumber,
+    safe: SafeNumber,
+) -> Result<String, AllocError>
     ensures { IfOk result (λ text. string_bytes text ≡ Texts.at_safe ceremony safe) }
 {
     match safe {

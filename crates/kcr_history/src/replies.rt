@@ -7,7 +7,7 @@ ghost use Rattle.kcr_history.specs.Json;
 ghost use Rattle.kcr_history.specs.Texts;
 
 use crate::commands::Answer;
-use crate::lists::People;
+use crate::lists::InitialsList;
 use itoa::Buffer;
 use kcr_base::Text;
 use std::alloc::{AllocError, Global};
@@ -45,7 +45,11 @@ fn with_count(text: String, name: &str, count: Option<u32>) -> Result<String, Al
 }
 
 /// The text with a comma and the seating, as `,"seating":["BB","AA"]`, where there is one.
-fn with_seating(alloc: Global, text: String, seating: &Option<People>) -> Result<String, AllocError>
+fn with_seating(
+    alloc: Global,
+    text: String,
+    seating: &Option<InitialsList>,
+) -> Result<String, AllocError>
     ensures { IfOk result (λ longer.
         string_bytes longer ≡ string_bytes text
         ++ flat_map (λ member. codes "," ++ member)
@@ -74,7 +78,7 @@ fn with_member(text: String, name: &str, value: &str) -> Result<String, AllocErr
 }
 
 /// The JSON text of a list of people, as `["BB","AA"]`.
-fn people_array(alloc: Global, people: &People) -> Result<String, AllocError>
+fn people_array(alloc: Global, people: &InitialsList) -> Result<String, AllocError>
     ensures { IfOk result (λ text. string_bytes text ≡ Texts.people_array people.now) }
 {
     let mut text = String::from_str(alloc, "[")?;

@@ -5,13 +5,13 @@ ghost use Rattle.kcr_history.specs.declared.commands.Act.TheVariants as Kinds;
 
 use crate::commands::Act;
 use crate::joined::{items_text, people_text};
-use crate::lists::{Items, People};
 use crate::paths::{
     at_bag, at_ceremony, at_person, at_place, at_safe, at_step, with_day, with_line, with_moment,
     with_number, with_place,
 };
 use kcr_base::{
-    Day, Facility, Initials, ItemCode, Moment, Name, Place, Remark, Role, Serial, Text,
+    BoxNumber, CeremonyNumber, Day, Facility, Initials, ItemCode, Items, Moment, Name, People,
+    Place, Remark, Role, Serial, StepNumber, Text,
 };
 use kcr_custody::{SafeNumber, Store};
 use kcr_room::Way;
@@ -75,34 +75,34 @@ fn release_text(alloc: Global, place: Place, day: Day) -> Result<String, AllocEr
 fn add_box_text(
     alloc: Global,
     facility: Facility,
-    number: u32,
+    number: BoxNumber,
     place: Place,
 ) -> Result<String, AllocError>
     ensures { IfOk result (λ text. string_bytes text ≡ Texts.command_text (Kinds.AddBox facility number place)) }
 {
     let text = String::from_str(alloc, "/boxes")?;
     let text = with_line(text, facility.text())?;
-    let text = with_number(text, number)?;
+    let text = with_number(text, number.get())?;
     with_place(text, place)
 }
 
 fn add_item_text(
     alloc: Global,
-    ceremony: u32,
+    ceremony: CeremonyNumber,
     item: ItemCode,
     at: Moment,
 ) -> Result<String, AllocError>
     ensures { IfOk result (λ text. string_bytes text ≡ Texts.command_text (Kinds.AddItem ceremony item at)) }
 {
     let text = String::from_str(alloc, "/items")?;
-    let text = with_number(text, ceremony)?;
+    let text = with_number(text, ceremony.get())?;
     let text = with_line(text, item.as_str())?;
     with_moment(text, at)
 }
 
 fn plan_text(
     alloc: Global,
-    number: u32,
+    number: CeremonyNumber,
     facility: Facility,
     day: Day,
     script: &Text,
@@ -110,20 +110,20 @@ fn plan_text(
     ensures { IfOk result (λ text. string_bytes text ≡ Texts.command_text (Kinds.Plan number facility day script.now)) }
 {
     let text = String::from_str(alloc, "/ceremonies")?;
-    let text = with_number(text, number)?;
+    let text = with_number(text, number.get())?;
     let text = with_line(text, facility.text())?;
     let text = with_day(text, day)?;
     with_line(text, script.as_str())
 }
 
-fn open_text(alloc: Global, ceremony: u32, at: Moment) -> Result<String, AllocError>
+fn open_text(alloc: Global, ceremony: CeremonyNumber, at: Moment) -> Result<String, AllocError>
     ensures { IfOk result (λ text. string_bytes text ≡ Texts.command_text (Kinds.Open ceremony at)) }
 {
     let text = at_ceremony(alloc, ceremony, "opening")?;
     with_moment(text, at)
 }
 
-fn close_text(alloc: Global, ceremony: u32, at: Moment) -> Result<String, AllocError>
+fn close_text(alloc: Global, ceremony: CeremonyNumber, at: Moment) -> Result<String, AllocError>
     ensures { IfOk result (λ text. string_bytes text ≡ Texts.command_text (Kinds.Close ceremony at)) }
 {
     let text = at_ceremony(alloc, ceremony, "closing")?;
@@ -132,7 +132,7 @@ fn close_text(alloc: Global, ceremony: u32, at: Moment) -> Result<String, AllocE
 
 fn sheet_text(
     alloc: Global,
-    ceremony: u32,
+    ceremony: CeremonyNumber,
     way: Way,
     who: &People,
     at: Moment,
@@ -146,7 +146,12 @@ fn sheet_text(
     with_moment(text, at)
 }
 
-fn sign_text(alloc: Global, ceremony: u32, step: u32, at: Moment) -> Result<String, AllocError>
+fn sign_text(
+    alloc: Global,
+    ceremony: CeremonyNumber,
+    step: StepNumber,
+    at: Moment,
+) -> Result<String, AllocError>
     ensures { IfOk result (λ text. string_bytes text ≡ Texts.command_text (Kinds.Sign ceremony step at)) }
 {
     let text = at_step(alloc, ceremony, step)?;
@@ -162,7 +167,7 @@ fn truth_text(truth: bool) -> &'static str
 
 fn except_text(
     alloc: Global,
-    ceremony: u32,
+    ceremony: CeremonyNumber,
     remark: &Remark,
     pass: bool,
     at: Moment,
@@ -177,7 +182,7 @@ fn except_text(
 
 fn turn_text(
     alloc: Global,
-    ceremony: u32,
+    ceremony: CeremonyNumber,
     safe: SafeNumber,
     is_open: bool,
     by: Initials,
@@ -193,7 +198,7 @@ fn turn_text(
 
 fn seal_text(
     alloc: Global,
-    ceremony: u32,
+    ceremony: CeremonyNumber,
     serial: Serial,
     items: &Items,
     at: Moment,
@@ -206,7 +211,12 @@ fn seal_text(
     with_moment(text, at)
 }
 
-fn take_text(alloc: Global, ceremony: u32, serial: Serial, at: Moment) -> Result<String, AllocError>
+fn take_text(
+    alloc: Global,
+    ceremony: CeremonyNumber,
+    serial: Serial,
+    at: Moment,
+) -> Result<String, AllocError>
     ensures { IfOk result (λ text. string_bytes text ≡ Texts.command_text (Kinds.Take ceremony serial at)) }
 {
     let text = at_bag(alloc, ceremony, &serial, "take")?;
@@ -219,13 +229,13 @@ fn with_store(text: String, to: Store) -> Result<String, AllocError>
 {
     match to {
         Store::SafeOne => with_line(text, "safe1"),
-        Store::Boxed(number) => with_number(text, number),
+        Store::Boxed(number) => with_number(text, number.get()),
     }
 }
 
 fn put_text(
     alloc: Global,
-    ceremony: u32,
+    ceremony: CeremonyNumber,
     serial: Serial,
     to: Store,
     at: Moment,
@@ -237,7 +247,12 @@ fn put_text(
     with_moment(text, at)
 }
 
-fn cut_text(alloc: Global, ceremony: u32, serial: Serial, at: Moment) -> Result<String, AllocError>
+fn cut_text(
+    alloc: Global,
+    ceremony: CeremonyNumber,
+    serial: Serial,
+    at: Moment,
+) -> Result<String, AllocError>
     ensures { IfOk result (λ text. string_bytes text ≡ Texts.command_text (Kinds.Cut ceremony serial at)) }
 {
     let text = at_bag(alloc, ceremony, &serial, "cut")?;

@@ -1,6 +1,6 @@
 //! The rows that a decision reads, and those that it puts.
 use crate::commands::{Answer, Reply};
-use crate::lists::{Items, People};
+use crate::lists::{InitialsList, ItemList};
 use crate::rows::{CeremonyRow, ExceptionRow, KeyRow, MarkRow, SeatingRow, StepRow};
 use kcr_base::{Initials, Key, Moment, Place, Serial};
 use kcr_custody::{Bag, BoxRow, Item, SafeRow};
@@ -49,7 +49,7 @@ pub enum AppointmentsOf {
 #[derive(Drop)]
 pub enum ItemsOf {
     /// These, by their codes.
-    Codes(Items),
+    Codes(ItemList),
     /// Those within the bag.
     Bag(Serial),
 }
@@ -59,7 +59,7 @@ pub enum ItemsOf {
 #[derive(Drop)]
 pub struct StaysOf {
     pub ceremony: u32,
-    pub people: People,
+    pub people: InitialsList,
 }
 
 /// The rows that a decision reads. Of the accepted commands these are always two: the row of the key, if there is
@@ -67,7 +67,7 @@ pub struct StaysOf {
 #[derive(Drop)]
 pub struct Asks {
     /// People, under their initials.
-    pub people: Rows<People>,
+    pub people: Rows<InitialsList>,
     /// Trainings of a person.
     pub trainings: Rows<Initials>,
     /// Withdrawals of a person's trainings.

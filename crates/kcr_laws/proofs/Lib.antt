@@ -10,7 +10,6 @@ pub mod Rooms
 pub mod Alone
 pub mod Seated
 pub mod Balance
-pub mod Runs
 pub mod Halves
 pub mod Fixed
 pub mod Firsts

@@ -251,3 +251,7 @@ abbrev pub closed_in_order : History
 closed_in_order =
     with_acts (with_act (attended_by (script_of_one (codes "IW")) (AA ∷ BB ∷ [])) (Sign 61 1 (clock 20 10 0)) (Some (AA ∷ [])))
     (leave (AA ∷ BB ∷ []) (clock 20 15 0) ∷ Close 61 (clock 20 15 0) ∷ [])
+
+-- a person, and nothing else
+abbrev pub entered : History
+entered = with_acts [] (Enter AA (codes "Ann Abel") ∷ [])

@@ -11,7 +11,6 @@ ghost use Rattle.kcr_room.specs.Room.{crowd_by};
 ghost use Rattle.kcr_room.specs.Stays.{stays_by, first_lone_in_by, is_crowded_in_by};
 ghost use Rattle.kcr_history.specs.declared.commands.Act.{Act};
 ghost use Rattle.kcr_history.specs.declared.commands.Act.TheVariants.{Sheet};
-ghost use Rattle.kcr_history.specs.Runs.{Request, Answered, State, AreRegisters, run};
 ghost use Rattle.kcr_history.specs.declared.commands.Answer.{Answer};
 ghost use Rattle.kcr_history.specs.declared.commands.Command.{Command};
 ghost use Rattle.kcr_history.specs.declared.commands.Entry.{Entry};
@@ -48,13 +47,6 @@ pub fn repeats_change_nothing()
 pub fn steps_keep_registers()
     ensures one { (A : History) (x : Command) (outcome : Outcome) (A' : History) → IsRegister A → machine A x outcome A' → IsRegister A' }
     ensures many { (A A' : History) (said : List (Act × List ℕ)) → IsRegister A → AreAnswered A said A' → IsRegister A' }
-{}
-
-/// Whatever is asked for and answered, with want of memory and faults of the device, a run leads from registers to
-/// registers; so what holds of every register holds at every moment of a run.
-pub fn runs_keep_registers()
-    ensures { (s : State) (requests : List Request) (answers : List Answered) (after : State) →
-        AreRegisters s → run s requests answers after → AreRegisters after }
 {}
 
 /// What the machine answers is fixed, apart from which of several least shortages it names: a command is accepted with

@@ -19,14 +19,15 @@ ghost use Rattle.kcr_history.specs.declared.commands.Act.TheVariants.{Enter, Tra
 ghost use Rattle.kcr_history.specs.History.{History};
 ghost use Rattle.kcr_history.specs.Machine.{Accepts, Refuses, answer_to, machine};
 ghost use Rattle.kcr_history.specs.Prints.{annotated, attendance, custody};
-ghost use Rattle.kcr_history.specs.Questions.{people_json, person_json, custodians_json, bag_json, room_json};
+ghost use Rattle.kcr_history.specs.Questions.{roles_of, holders_on, codes_within};
 ghost use Rattle.kcr_history.specs.Refusals.{refusal_text};
-ghost use Rattle.kcr_history.specs.Room.{is_in};
+ghost use Rattle.kcr_history.specs.Room.{is_in, present};
+ghost use Rattle.kcr_history.specs.Custody.{spot};
 ghost use Rattle.kcr_history.specs.Seating.{IsLeast};
-ghost use Rattle.kcr_history.specs.Ceremonies.{steps_of};
-ghost use Rattle.kcr_history.specs.Tables.{seats_at, tables};
+ghost use Rattle.kcr_history.specs.Ceremonies.{is_ceremony, steps_of};
+ghost use Rattle.kcr_history.specs.Tables.{people, seats_at, tables, trainings, withdrawals};
 ghost use Rattle.kcr_history.specs.Texts.{answer_text, command_text};
-ghost use Rattle.kcr_laws.specs.Examples.{AA, BB, CC, DD, EA, EB, EE, WC, new_year, that_day, february, march, june, december, clock, come, leave, new_command, with_act, with_acts, lines, AreAnswered, accepted_from, script_of_one, script_of_two, script_of_three, opening_acts, opened_with, attended_by, signed_by_two, signed_by_officers, three_steps_done, two_left, signed_at_midnight, withdrawn_from, bag_7, bag_8, HSM4, bag_on_table, bag_sealed, bag_in_box, one_officer, another_officer, three_planned, closed_in_order};
+ghost use Rattle.kcr_laws.specs.Examples.{AA, BB, CC, DD, EA, EB, EE, WC, new_year, that_day, february, march, june, december, clock, come, leave, new_command, with_act, with_acts, lines, AreAnswered, accepted_from, script_of_one, script_of_two, script_of_three, opening_acts, opened_with, attended_by, signed_by_two, signed_by_officers, three_steps_done, two_left, signed_at_midnight, withdrawn_from, bag_7, bag_8, HSM4, bag_on_table, bag_sealed, bag_in_box, one_officer, another_officer, three_planned, closed_in_order, entered};
 
 /// The days that the examples speak of.
 pub fn days_of_the_examples()
@@ -396,15 +397,19 @@ pub fn custody_of_two_bags()
 
 /// What questions are shown.
 pub fn what_is_shown()
-    ensures people { people_json (with_acts [] (Enter AA (codes "Ann Abel") ∷ [])) ≡ codes "{\"people\":[{\"name\":\"Ann Abel\",\"roles\":[],\"who\":\"AA\"}]}" }
-    ensures roles { person_json (withdrawn_from (february 14)) (record { who = AA; name = codes "Ann Abel" })
-        ≡ codes "{\"name\":\"Ann Abel\",\"roles\":[{\"from\":\"2025-01-01\",\"role\":\"CA\",\"until\":\"2025-02-13\"},{\"from\":\"2025-01-01\",\"role\":\"IW\",\"until\":\"2025-02-13\"},{\"from\":\"2025-02-01\",\"role\":\"IW\",\"until\":\"2025-12-31\",\"withdrawn\":\"2025-02-14\"}],\"who\":\"AA\"}" }
-    ensures custodian { custodians_json another_officer (february 28) ≡ codes "{\"day\":\"2025-02-28\",\"places\":[{\"place\":\"CO-EAST-1\",\"who\":\"CC\"}]}" }
-    ensures other_custodian { custodians_json another_officer (march 1) ≡ codes "{\"day\":\"2025-03-01\",\"places\":[{\"place\":\"CO-EAST-1\",\"who\":\"DD\"}]}" }
-    ensures bag { bag_json bag_in_box bag_7 ≡ Ok (codes "{\"items\":[\"HSM4\"],\"serial\":\"BB51184287\",\"spot\":\"box 3 EAST\"}") }
-    ensures no_bag { bag_json bag_in_box bag_8 ≡ Err (Refusals.Unknown (Things.Bag bag_8)) }
-    ensures room { room_json two_left 61 (clock 20 25 0) ≡ Ok (codes "{\"at\":\"2025-02-13T20:25:00Z\",\"in\":[\"AA\",\"CC\",\"EA\"]}") }
-    ensures no_room { room_json [] 61 (clock 20 25 0) ≡ Err (Refusals.Unknown (Things.Ceremony 61)) }
+    ensures people { people entered ≡ record { who = AA; name = codes "Ann Abel" } ∷ [] }
+    ensures no_roles { roles_of (trainings entered) (withdrawals entered) AA ≡ [] }
+    ensures roles { roles_of (trainings (withdrawn_from (february 14))) (withdrawals (withdrawn_from (february 14))) AA ≡
+        record { since = february 1; role = Iw; until = december 31; withdrawn = Some (february 14) }
+        ∷ record { since = new_year; role = Iw; until = that_day; withdrawn = None }
+        ∷ record { since = new_year; role = Ca; until = that_day; withdrawn = None } ∷ [] }
+    ensures custodian { holders_on another_officer (february 28) ≡ record { place = Co East 1; who = CC } ∷ [] }
+    ensures other_custodian { holders_on another_officer (march 1) ≡ record { place = Co East 1; who = DD } ∷ [] }
+    ensures bag { spot bag_in_box bag_7 ≡ Some (Spots.InBox East 3) }
+    ensures within { codes_within bag_in_box bag_7 ≡ HSM4 ∷ [] }
+    ensures no_bag { spot bag_in_box bag_8 ≡ None }
+    ensures room { present two_left 61 (clock 20 25 0) ≡ AA ∷ CC ∷ EA ∷ [] }
+    ensures no_room { is_ceremony [] 61 ≡ false }
 {}
 
 /// Whoever left at a moment is not in the room at it, and was a second before.

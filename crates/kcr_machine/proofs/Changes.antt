@@ -34,7 +34,8 @@ use Rattle.kcr_history.proofs.Words.{is_person-people, is_training-trainings}
 use Rattle.kcr_history.proofs.Stacked.{or_parts, closing, lasts-ended, no_begin, put-ended, open-order}
 use Rattle.kcr_history.proofs.Orderly.{standing, orderly}
 use Rattle.kcr_history.proofs.Distinct.{trainings-apart}
-use Rattle.kcr_acts.specs.ByRows.{refusal_by, changes_by, is_plain, new_appointment}
+use Rattle.kcr_acts.specs.ByRows.{refusal_by, changes_by, new_appointment}
+use Rattle.kcr_acts.specs.Kinds.{is_plain}
 use Rattle.kcr_machine.specs.RowDecision.{new_key_row}
 use Rattle.kcr_machine.proofs.NewKeys.{new_key}
 use Rattle.kcr_machine.proofs.Refusals.{open-shown}

@@ -23,7 +23,8 @@ use Rattle.kcr_room.specs.declared.Way.TheVariants as Ways
 use Rattle.kcr_room.specs.Room.{is_enter, enters, entries_by}
 use Rattle.kcr_room.specs.Stays.{cut, stay_from, next_onto, stays_next, stays_onto, stays_by, first_lone_in_by}
 use Rattle.kcr_room.specs.Adding.{is_out_of_turn_in, is_out_of_turn_by, new_row, new_stay, closed, of_ceremony, after, later_refusal, stays_refusal, rows_refusal, turn_refusal, lone_refusal, entries, is_overfull_by}
-use Rattle.kcr_room.specs.Laws.{IsSheet, are_apart}
+use Rattle.kcr_base.specs.Lists.{are_apart}
+use Rattle.kcr_room.specs.Laws.{IsSheet}
 use Rattle.kcr_room.proofs.Lists.{filter-kept, count-cons}
 use Rattle.kcr_room.proofs.Keeping.{turns_keep}
 use Rattle.kcr_room.proofs.Orders.{refusal-order}

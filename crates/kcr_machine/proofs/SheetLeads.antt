@@ -13,7 +13,8 @@ use Rattle.kcr_room.specs.declared.Way.TheVariants.{Enter, Leave}
 use Rattle.kcr_room.specs.Room.{later, last_onto, last_row_of}
 use Rattle.kcr_room.specs.Stays.{stays_by}
 use Rattle.kcr_room.specs.Adding.{is_open, is_inside, is_inside_of, is_out_of_turn_in, is_out_of_turn_by, new_row, new_stay, is_among, closed, of_ceremony, ends_by, changed_stays, reaches, turn_refusal}
-use Rattle.kcr_room.specs.Laws.{IsSheet, are_apart}
+use Rattle.kcr_base.specs.Lists.{are_apart}
+use Rattle.kcr_room.specs.Laws.{IsSheet}
 use Rattle.kcr_room.proofs.Agreement.{same-is, same-itself, same-turned}
 use Rattle.kcr_room.proofs.Keeping.{none-found}
 use Rattle.kcr_room.proofs.Sheets.{last_reaches, earlier-last, tells-sheet, same-turns, stays-append, added, added-onto}

@@ -28,10 +28,6 @@ fn decide_new(alloc: Global, view: &View, command: &Command, text: Text) -> Resu
     let greatest = greatest_number(&view.keys);
     let full = MOST_COMMANDS <= greatest;
     let acted = perform(alloc, view, full, &command.act)?;
-    // Of a register there are never more commands than a number can count.
-    let Some(accepted) = greatest.checked_add(1) else {
-        return Err(Refusal::Memory);
-    };
     let Acted {
         mut changes,
         exception,
@@ -39,7 +35,8 @@ fn decide_new(alloc: Global, view: &View, command: &Command, text: Text) -> Resu
         step,
     } = acted;
     let answer = Answer {
-        accepted,
+        // A full register accepts no act, so there is a next number.
+        accepted: greatest + 1,
         exception,
         seating,
         step,

@@ -15,7 +15,8 @@ use Rattle.kcr_room.specs.Moments.{IsFirst, IsEver}
 use Rattle.kcr_room.specs.Room.{enters, last_row, last_enters, last_row_of, is_of, in_force, ascending_onto, put_person}
 use Rattle.kcr_room.specs.Stays.{crowd_in_by, is_lone_in_by, is_crowd_in_by, first_lone_in_by, is_crowded_in_by, stays_by}
 use Rattle.kcr_room.specs.Adding.{turn_refusal, lone_refusal, later_refusal, sheet_refusal, after, is_out_of_turn, is_out_of_turn_by, is_out_of_turn_in, new_row}
-use Rattle.kcr_room.specs.Laws.{IsAllowed, in_turn_onto, are_apart, RowsKeep, StaysKeep, TurnsKeep, PresentAreIn}
+use Rattle.kcr_base.specs.Lists.{are_apart}
+use Rattle.kcr_room.specs.Laws.{IsAllowed, in_turn_onto, RowsKeep, StaysKeep, TurnsKeep, PresentAreIn}
 use Rattle.kcr_room.proofs.Lists.{any-filter, any-same}
 use Rattle.kcr_room.proofs.Agreement.{same-crowd, same-turned, listed, of_person, force-last}
 use Rattle.kcr_room.proofs.Moments.{first_lone-is_first, crowded-is_ever}

@@ -11,7 +11,8 @@ use Rattle.std.proofs.lemmas.Cmp.{nat_list_cmp_total, same_from_slice_cmp}
 use Rattle.kcr_base.specs.Same.{same_text, is_before}
 use Rattle.kcr_room.specs.declared.SheetRow.{SheetRow}
 use Rattle.kcr_room.specs.Room.{enters, in_force, last_row, is_of, ascending_onto, put_person}
-use Rattle.kcr_room.specs.Laws.{are_apart, are_rising, PresentAreRising}
+use Rattle.kcr_base.specs.Lists.{are_apart}
+use Rattle.kcr_room.specs.Laws.{are_rising, PresentAreRising}
 use Rattle.kcr_room.proofs.Agreement.{same-turned, same-itself, listed, of_person, force-last}
 
 tied-same : (a b : List ℕ) (o : Ordering) → o ≡ slice_cmp nat_cmp a b → is_eq o ≡ same_text a b

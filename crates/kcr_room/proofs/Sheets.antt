@@ -14,7 +14,8 @@ use Rattle.kcr_room.specs.declared.Stay.{Stay}
 use Rattle.kcr_room.specs.Room.{is_enter, later, last_onto, last_row, last_enters, last_row_of, is_ahead}
 use Rattle.kcr_room.specs.Stays.{sooner, cut, next_onto, stay_from, stays_next, stays_onto, stays_by}
 use Rattle.kcr_room.specs.Adding.{is_open, ends_from, reaches, is_inside, is_inside_of, is_out_of_turn_in, is_among, new_stay, closed, of_ceremony, after, turn_refusal, is_no_turn, is_out_of_turn, is_out_of_turn_by, new_row}
-use Rattle.kcr_room.specs.Laws.{in_turn_onto, IsSheet, are_apart}
+use Rattle.kcr_base.specs.Lists.{are_apart}
+use Rattle.kcr_room.specs.Laws.{in_turn_onto, IsSheet}
 use Rattle.kcr_room.proofs.Lists.{any-filter}
 use Rattle.kcr_room.proofs.Agreement.{same-is, same-itself, same-turned, listed, of_person, last-above}
 use Rattle.kcr_room.proofs.Keeping.{last-other, none-found, turn-others, and-assoc}

@@ -1,5 +1,5 @@
 -- Which rows of a table have the key of a new row.
-use Rattle.std.proofs.Common.{◌≡◌, inl, inr, Some, ℕ, ℤ, zero, suc, ◌&&◌, ◌||◌, not, Bool, true, false, List, [], ◌∷◌, true≢false, None, Ordering, Less, Equal, Greater, refl, sym, ap, ap₂, ◌∙◌}
+use Rattle.std.proofs.Common.{◌≡◌, inl, inr, Some, ℕ, ℤ, zero, suc, ◌&&◌, not, Bool, true, false, List, [], ◌∷◌, true≢false, Ordering, Less, Equal, Greater, refl, sym, ap, ◌∙◌}
 use Rattle.std.specs.List.{list_any}
 use Rattle.std.specs.Ordering.{is_eq, is_ne, ordering_then}
 use Rattle.std.proofs.lemmas.Bool.{and_parts, or_parts, not-true}
@@ -10,12 +10,9 @@ use Rattle.sqlite.specs.Ops.{is_null, is_true, from_truth, binary}
 use Rattle.sqlite.specs.Query.{key_cmp}
 use Rattle.sqlite.specs.Collation.TheVariants.{Binary}
 use Rattle.sqlite.specs.Tree.{rowid}
-use Rattle.sqlite.specs.Table.{Table}
-use Rattle.sqlite_schema.specs.declared.schema.Index.{Index}
 use Rattle.sqlite_schema.specs.Rules.{equal, differ, agree}
 use Rattle.sqlite_value.specs.Keys.{plain, first_key, rising}
 use Rattle.sqlite_value.proofs.KeyLemmas.{first_key-plain}
-use Rattle.sqlite_rules.specs.Keys.{conflicts, shares}
 use Rattle.sqlite_rules.specs.Lists.{Has}
 use Rattle.sqlite_rules.specs.Edit.{id_in, is_taken}
 use Rattle.kcr_rows.specs.Keyed.{cells, by_key, is_full}
@@ -61,16 +58,6 @@ pub differ_is : (a b : Value) → is_null a ≡ false → is_null b ≡ false �
 unfolding binary
 differ_is a b there here = rw (there, here) (truth_is (is_ne (value_cmp a b)) ∙ other_is (value_cmp a b))
 
--- what holds only where the first does adds nothing to it
-or_within : (a b : Bool) → (a ≡ false → b ≡ false) → (a || b) ≡ a
-or_within true b h = refl
-or_within false b h = h refl
-
--- rows that agree on the key and more agree on the key
-pub wider : (a b : Bool) → b ≡ false → ((a && b) || false) ≡ false
-wider true b h = ap (λ x. x || false) h
-wider false b h = refl
-
 pub not_any : {X : Type 0} (p : X → Bool) (xs : List X) (x : X) → list_any p xs ≡ false → Has xs x → p x ≡ false
 not_any p [] x none h = absurd h
 not_any p (y ∷ xs) x none (inl same) = ap p same ∙ (or_parts _ _ none).0
@@ -96,22 +83,3 @@ module _ (keys width : ℕ) (entries : List Row) (id : ℤ) (values : Row)
       let new_full : full 1 keys new ≡ true = sym (fulls new) ∙ ap (is_full keys) shown ∙ filled in
       let keyed : is_eq (key_cmp 1 (rising keys []) r new) ≡ false = sym (agree_is keys 1 r new (sym (fulls r) ∙ whole) new_full) ∙ no_both _ _ none other in
       sym (ap (λ v. is_eq (by_key keys (cells 1 width r) v)) shown) ∙ ap is_eq (compares r new) ∙ keyed
-
-module _ (keys width : ℕ) (indexes : List Index) (table : Table) (entries : List Row) (id : ℤ) (values : Row)
-    (more : Row → Row → Bool)
-    (shared : (a b : Row) → list_any (shares None table a b) indexes ≡ (agree plain (places_from 1 keys) b (places_from 1 keys) a || more b a))
-    (within : (a b : Row) → agree plain (places_from 1 keys) b (places_from 1 keys) a ≡ false → more b a ≡ false)
-    (compares : (a b : Row) → by_key keys (cells 1 width a) (cells 1 width b) ≡ key_cmp 1 (rising keys []) a b)
-    (fulls : (a : Row) → is_full keys (cells 1 width a) ≡ full 1 keys a)
-    (shown : cells 1 width (Int id ∷ values) ≡ values)
-    (free : is_taken entries (Int id ∷ values) ≡ false) where
-  pub meets : (r : Row) → Has entries r → rowid r ≡ Int (id_in (rowid r)) → is_full keys (cells 1 width r) ≡ true → is_full keys values ≡ true
-      → conflicts None indexes table (Int id ∷ values) r ≡ is_eq (by_key keys (cells 1 width r) values)
-  meets r h own whole filled =
-      let new = Int id ∷ values in
-      let apart : is_eq (value_cmp (rowid r) (Int id)) ≡ false = not_any (λ x. is_eq (value_cmp (rowid x) (rowid new))) entries r free h in
-      let thing : is_null (rowid r) ≡ false = ap is_null own in
-      let rowids : agree plain (0 ∷ []) r (0 ∷ []) new ≡ false = rw (first_key-plain, equal_is (rowid r) (Int id) thing refl, apart) in
-      let new_full : full 1 keys new ≡ true = sym (fulls new) ∙ ap (is_full keys) shown ∙ filled in
-      let keyed = shared new r ∙ or_within _ _ (within new r) ∙ agree_is keys 1 r new (sym (fulls r) ∙ whole) new_full in
-      ap₂ ◌||◌ rowids (keyed ∙ ap is_eq (sym (compares r new)) ∙ ap (λ v. is_eq (by_key keys (cells 1 width r) v)) shown)

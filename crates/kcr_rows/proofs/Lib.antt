@@ -6,8 +6,8 @@ pub mod TableLemmas
 pub mod FailLemmas
 pub mod InsideLemmas
 pub mod FilterLemmas
-pub mod OneLemmas
 pub mod SameLemmas
 pub mod OrderLemmas
 pub mod GreatestLemmas
 pub mod CreateLemmas
+pub mod UpsertLemmas

@@ -1,7 +1,7 @@
 -- What one statement on a table with a key does to what the trees keep.
-use Rattle.std.proofs.Common.{◌≡◌, ◌≢◌, inl, inr, ◌==◌, not, ℕ, ℤ, zero, suc, ◌/◌, ◌^◌, nat_le, ◌||◌, ◌&&◌, Bool, true, false, List, [], ◌∷◌, ◌++◌, map, filter, length, slice_get, Some, None, Ok, Less, Equal, Greater, IsTrue, cond, eq-eqb, refl, sym, ap, subst, ◌∙◌, true≢false}
+use Rattle.std.proofs.Common.{◌≡◌, ◌≢◌, inl, inr, ◌==◌, not, ℕ, ℤ, zero, suc, ◌/◌, ◌^◌, nat_le, ◌&&◌, Bool, true, false, List, [], ◌∷◌, ◌++◌, map, filter, length, slice_get, Some, None, Ok, Less, Equal, Greater, IsTrue, cond, eq-eqb, refl, sym, ap, subst, ◌∙◌, true≢false}
 use Rattle.std.specs.Bool.{⊤}
-use Rattle.std.specs.List.{AllByRecursion, list_any, list_all}
+use Rattle.std.specs.List.{AllByRecursion, list_all}
 use Rattle.std.specs.Ordering.{match_ordering, is_eq}
 use Rattle.std.specs.List.Sorted.{IsPermutation}
 use Rattle.std.proofs.lemmas.Bool.{and_parts, not-true}
@@ -15,11 +15,9 @@ use Rattle.sqlite.specs.Table.{Table}
 use Rattle.sqlite.specs.Schema.{Schema}
 use Rattle.sqlite.specs.Command.{Command}
 use Rattle.sqlite.specs.Source.TheVariants.{Values}
-use Rattle.sqlite.specs.Command.TheVariants.{Insert, InsertOr, Select}
-use Rattle.sqlite.specs.Edit.{id_in, next_rowid, without_all, IsNoIndex}
-use Rattle.sqlite.specs.Rowids.TheVariants.{Chosen}
+use Rattle.sqlite.specs.Command.TheVariants.{Insert, Select}
+use Rattle.sqlite.specs.Edit.{id_in, next_rowid, IsNoIndex}
 use Rattle.sqlite.specs.Effect.{value_rows}
-use Rattle.sqlite.specs.Rows.{mended_from}
 use Rattle.sqlite.specs.Does.{Does}
 use Rattle.sqlite.specs.State.{State, mode_of, Executes, Shown}
 use Rattle.sqlite.specs.Listing.{understood, reads_listing}
@@ -31,25 +29,21 @@ use Rattle.sqlite_catalog.specs.Listing.{IsSound}
 use Rattle.sqlite_schema.specs.declared.schema.Column.{Column}
 use Rattle.sqlite_schema.specs.declared.schema.Index.{Index}
 use Rattle.sqlite_schema.specs.declared.schema.Keys.TheVariants.{Enforced}
-use Rattle.sqlite_schema.specs.declared.command.Conflict.TheVariants.{Replace}
 use Rattle.sqlite_schema.specs.declared.schema.Constraint.{Constraint}
 use Rattle.sqlite_schema.specs.declared.schema.Constraint.TheVariants.{Unique}
 use Rattle.sqlite_schema.specs.Rules.{agree, clashes, differ, guards, passes, Keeps as Obeyed}
 use Rattle.sqlite_value.specs.declared.keys.Key.{Key}
 use Rattle.sqlite_value.specs.Keys.{plain, rising}
 use Rattle.sqlite_rules.specs.Lists.{Has}
-use Rattle.sqlite_rules.specs.Keys.{shares}
-use Rattle.sqlite_rules.specs.Calls.{ids_of}
 use Rattle.sqlite_rules.specs.Action.{works}
 use Rattle.sqlite_rules.proofs.ListLemmas.{all_has, all_from}
 use Rattle.sqlite_rules.proofs.TableLemmas.{int_is}
-use Rattle.sqlite_rules.proofs.PlaceLemmas.{next_is_free}
 use Rattle.kcr_rows.specs.Columns.{keyed}
 use Rattle.kcr_rows.specs.Keyed.{cells, by_key, is_full, Place, Keeps, put, put_in}
 use Rattle.kcr_rows.proofs.ReadLemmas.{reading, with_key, reads_rows, reads_exact}
-use Rattle.kcr_rows.proofs.PutLemmas.{left_is, keeps_put, put_row_same, has_same}
-use Rattle.kcr_rows.proofs.KeyLemmas.{places_from, full, meets, fresh_key, not_any}
-use Rattle.kcr_rows.proofs.WriteLemmas.{IsPut, IsInserted, stored, puts, inserts}
+use Rattle.kcr_rows.proofs.PutLemmas.{keeps_put, put_row_same, has_same}
+use Rattle.kcr_rows.proofs.KeyLemmas.{places_from, full, fresh_key, not_any}
+use Rattle.kcr_rows.proofs.WriteLemmas.{IsInserted, stored, inserts}
 
 -- one row was put, and what lies in other trees is as it was
 pub record Changes (place : Place) (schema : Schema) (values : Row) (old new : Trees) : Type 0 where
@@ -87,34 +81,6 @@ module _ (place : Place) (schema : Schema) (at : ℕ) (name : List ℕ) (columns
 
   own_id : (db : Trees) (rows : List Row) → Keeps place db rows → (r : Row) → Has (db place.tree) r → rowid r ≡ Int (id_in (rowid r))
   own_id db rows keeps r h = int_is (rowid r) (all_has (λ x. IsTrue (is_int (rowid x))) (db place.tree) r keeps.shaped.1 h)
-
-  -- ---- INSERT OR REPLACE, where rows that agree on other places that are unique agree on the key too
-
-  module _ (more : Row → Row → Bool)
-      (shared : (a b : Row) → list_any (shares None table a b) schema.indexes ≡ (agree plain (places_from 1 place.keys) b (places_from 1 place.keys) a || more b a))
-      (within : (a b : Row) → agree plain (places_from 1 place.keys) b (places_from 1 place.keys) a ≡ false → more b a ≡ false)
-      (mends : mended_from None 0 columns values ≡ values)
-      (is : command_of (understood schema sql) ≡ InsertOr at Replace (Values terms (suc place.width)) []) where
-    put_keeps : (old new : Trees) → IsPut schema table old new values → (rows : List Row) → Keeps place old rows → Keeps place new (put place.keys values rows)
-    put_keeps old new p rows keeps =
-        let entries = old place.tree in
-        let id = next_rowid entries in
-        let left = left_is place schema.indexes table old (stored entries values) values p.found keeps.shaped
-        (λ r h. meets place.keys place.width schema.indexes table entries id values more shared within compares fulls (shown id) (next_is_free Chosen entries values keeps.shaped.0 keeps.shaped.1) r h (own_id old rows keeps r h)
-        (all_has (λ x. is_full place.keys (cells 1 place.width x) ≡ true) entries r (whole old rows keeps) h) filled) p.are in
-        keeps_put place old (stored entries values) values (without_all entries (ids_of p.found)) keeps.shaped left rows keeps new filled (shown id) refl p.free p.is
-
-    abbrev Replaces : Command
-    Replaces = InsertOr at Replace (Values terms (suc place.width)) []
-
-    -- the statement makes the change
-    pub executes_put : (old new : State) (count : ℕ) → old.now.schema ≡ schema → Executes sql values old new (Ok count) → (new.now.schema ≡ schema) × Changes place schema values old.now.trees new.now.trees
-    executes_put old new count has h =
-        let w = runs_as sql values old new schema has Replaces is bare count h in
-        let text = statement_of sql (understood schema sql) in
-        let p = puts schema at name place.tree columns (places_from 1 place.keys) others terms place.width values here alone given casts mends old.step_limit old.now.trees text w.tally new.now
-        (subst (λ s. Does old.step_limit (mode_of old) values (record old.now { schema = s }) text None Replaces (Ok (w.tally, new.now))) has w.changed) in
-        (p.0, record { sound = subst (λ s. IsSound s new.now.trees) p.0 w.sound; rows = put_keeps old.now.trees new.now.trees p.1; others = p.1.others })
 
   -- ---- INSERT, which is refused where a row has the key, or agrees on other places that are unique
 
@@ -214,11 +180,6 @@ module _ (place : Place) (schema : Schema) (sql : List ℕ) (params : Row) (test
       let it = reads_as sql params old new schema has _ is.0 bare is.1 (map row_of xs) h in
       let rows = reads_rows place test project order params passes shows tests sorts low old.now.trees (map row_of xs) (map row_of ys) keeps (it.answer Null) in
       same_values row_of IsRead IsStored one xs (filter (λ y. passes (row_of y)) ys) read (all_filter IsStored (λ y. passes (row_of y)) ys held) (rows ∙ filter-map passes row_of ys)
-
-  -- where no two values at all have one row
-  pub shown_values : ((x y : X) → row_of x ≡ row_of y → x ≡ y) → (old new : State) (xs : List X) → old.now.schema ≡ schema → Shown sql params old new (map row_of xs) → (ys : List X) → Keeps place old.now.trees (map row_of ys)
-      → xs ≡ filter (λ y. passes (row_of y)) ys
-  shown_values one old new xs has h ys keeps = shown_checked (λ _. ⊤) (λ _. ⊤) (λ x y _ _. one x y) old new xs has h (each_is xs) ys (each_is ys) keeps
 
   -- also where the tree is no register's
   pub shown_exact : (old new : State) (xs : List X) → old.now.schema ≡ schema → Shown sql params old new (map row_of xs) → IsPermutation (filter passes (map (cells 1 place.width) (old.now.trees place.tree))) (map row_of xs)

@@ -13,7 +13,7 @@ ghost use Rattle.kcr_scene.specs.Signing;
 
 use crate::scene;
 use kcr_base::{Day, Facility, Initials, Moment, Place, Positions, Refusal, same_person};
-use kcr_history::{People, View};
+use kcr_history::{InitialsList, View};
 use kcr_people::{Appointment, Training, Withdrawal};
 use kcr_script::Seat;
 use kcr_seats::{Answer, Fits};
@@ -204,7 +204,7 @@ fn search(
 }
 
 /// The people with these numbers.
-fn named(alloc: Global, people: &[Initials], numbers: &[usize]) -> Result<People, AllocError>
+fn named(alloc: Global, people: &[Initials], numbers: &[usize]) -> Result<InitialsList, AllocError>
     requires { EachIndex numbers.now (λ i. slice_index numbers.now i < length people.now) }
     ensures { IfOk result (λ list. list ≡ map (λ person. get_or people.now person []) numbers.now) }
 {
@@ -212,7 +212,7 @@ fn named(alloc: Global, people: &[Initials], numbers: &[usize]) -> Result<People
     for number in numbers {
         list.push(people[*number])?;
     }
-    Ok(People::new(list))
+    Ok(InitialsList::new(list))
 }
 
 /// Fills the seats in the room of a ceremony: the people seat by seat, or the refusal that names seats that too few
@@ -223,7 +223,7 @@ pub fn seat(
     ceremony: u32,
     at: Moment,
     seats: &[Seat],
-) -> Result<People, Refusal>
+) -> Result<InitialsList, Refusal>
     requires few { length seats.now ≤ 16 }
     ensures { let s : Sitting = record { ceremony = ceremony; at = at; seats = seats.now } in MatchResult result
         (λ people. Signing.IsSeatedBy view.now s people × (length people ≤ 16))

@@ -7,7 +7,9 @@ ghost use Rattle.kcr_scene.specs.Signing;
 
 use crate::scene;
 use kcr_base::{Initials, Moment, Refusal, Remark, Thing};
-use kcr_history::{Change, ExceptionRow, MarkRow, People, SeatingRow, StepRow, StepState, View};
+use kcr_history::{
+    Change, ExceptionRow, InitialsList, MarkRow, SeatingRow, StepRow, StepState, View,
+};
 use kcr_script::Seat;
 use std::alloc::{AllocError, Global};
 
@@ -199,7 +201,7 @@ pub fn seat_changes(
     ceremony: u32,
     step: u32,
     at: Moment,
-    people: &People,
+    people: &InitialsList,
 ) -> Result<Vec<Change>, AllocError>
     requires { length people.now ≤ 16 }
     ensures { IfOk result (λ changes. changes.items ≡ Signing.seat_changes view.now state ceremony step at people.now) }

@@ -3,35 +3,27 @@ use Rattle.std.specs.Fmt.{decimal}
 use Rattle.std.proofs.lemmas.Fmt.{parse-decimal, IsAscii-decimal}
 use Rattle.std.proofs.lemmas.Str.{IsUtf8-from_ascii}
 use Rattle.kcr_base.proofs.number.read_number.Goals as goal
-use Rattle.kcr_base.proofs.number.read_number.Goals.{then-number-lt1-via-then-number-lt1, then-number-lt1-via-else-number-lt1+then-number-limit, then-number-lt1-via-else-number-lt1+else-number-limit+then-not-is_decimal}
 
 pub returns-in-Err-clause-only : goal.returns-in-Err-clause-only
-returns-in-Err-clause-only c n low high e =
-    let small : n < 2 ^ 64 = omega arith in
-    let ascii = IsAscii-decimal n small in
+returns-in-Err-clause-only c n small e =
+    let wide : n < 2 ^ 64 = omega arith in
+    let ascii = IsAscii-decimal n wide in
     absurd (c.in-Err.ensures.cases.0 (IsUtf8-from_ascii _ (rw e at ascii)))
 
 pub returns-in-Err-parse-clause-only : goal.returns-in-Err-parse-clause-only
-returns-in-Err-parse-clause-only c n low high e =
-    let small : n < 2 ^ 32 = omega arith in
+returns-in-Err-parse-clause-only c n small e =
     let wide : n < 2 ^ 64 = omega arith in
     absurd (cc (parse-decimal 32 n _ _ small wide (c.in-Ok.ensures.cases.0 ∙ sym e) c.parse.ensures.value.0))
 
-pub returns-then-number-lt1-clause-only : goal.returns-then-number-lt1-clause-only
-returns-then-number-lt1-clause-only c n low high e =
-    let small : n < 2 ^ 32 = omega arith in
+pub returns-then-not-is_decimal-clause-only : goal.returns-then-not-is_decimal-clause-only
+returns-then-not-is_decimal-clause-only c n small e =
     let wide : n < 2 ^ 64 = omega arith in
     let p = parse-decimal 32 n _ _ small wide (c.in-Ok.ensures.cases.0 ∙ sym e) c.parse.ensures.value.0 in
     let same : c.in-Ok-parse.number ≡ n = cc p in
-    elim c.then-number-lt1.branch [
-      | then-number-lt1-via-then-number-lt1 w ↦ absurd (omega arith)
-      | then-number-lt1-via-else-number-lt1+then-number-limit w ↦ absurd (omega arith)
-      | then-number-lt1-via-else-number-lt1+else-number-limit+then-not-is_decimal w ↦ absurd (true≢false (sym (w.if-not-is_decimal.ensures.1 (sym e ∙ ap decimal (sym same)))))
-    ]
+    absurd (true≢false (sym (c.if-not-is_decimal.ensures.1 (sym e ∙ ap decimal (sym same)))))
 
 pub returns-clause-only : goal.returns-clause-only
-returns-clause-only c n low high e =
-    let small : n < 2 ^ 32 = omega arith in
+returns-clause-only c n small e =
     let wide : n < 2 ^ 64 = omega arith in
     let p = parse-decimal 32 n _ _ small wide (c.in-Ok.ensures.cases.0 ∙ sym e) c.parse.ensures.value.0 in
     let same : c.in-Ok-parse.number ≡ n = cc p in

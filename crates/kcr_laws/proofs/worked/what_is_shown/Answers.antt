@@ -6,6 +6,10 @@ pub returns-clause-people : goal.returns-clause-people
 unfolding rows_on_literals
 returns-clause-people c = refl
 
+pub returns-clause-no_roles : goal.returns-clause-no_roles
+unfolding rows_on_literals
+returns-clause-no_roles c = refl
+
 pub returns-clause-roles : goal.returns-clause-roles
 unfolding rows_on_literals
 returns-clause-roles c = refl
@@ -21,6 +25,10 @@ returns-clause-other_custodian c = refl
 pub returns-clause-bag : goal.returns-clause-bag
 unfolding rows_on_literals
 returns-clause-bag c = refl
+
+pub returns-clause-within : goal.returns-clause-within
+unfolding rows_on_literals
+returns-clause-within c = refl
 
 pub returns-clause-no_bag : goal.returns-clause-no_bag
 unfolding rows_on_literals

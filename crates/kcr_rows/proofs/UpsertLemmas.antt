@@ -1,0 +1,374 @@
+-- What INSERT .. ON CONFLICT (key) DO UPDATE, which sets each column, does to a table with a key.
+use Rattle.std.proofs.Common.{◌≡◌, ◌≢◌, inl, inr, ℕ, ℤ, suc, ◌/◌, ◌≤◌, ◌^◌, nat_le, ◌&&◌, ◌||◌, not, Bool, true, false, cond, List, [], ◌∷◌, ◌++◌, map, filter, length, slice_get, Option, Some, None, Ok, Ordering, Less, Equal, Greater, IsTrue, refl, sym, ap, ap₂, subst, ◌∙◌, arith}
+use Rattle.std.specs.List.{list_any, list_all}
+use Rattle.std.specs.Ordering.{is_eq, ordering_reverse}
+use Rattle.std.specs.Cmp.{both_ways}
+use Rattle.std.proofs.lemmas.Bool.{and_parts, and_right, not-true, false_from_ne_true}
+use Rattle.std.specs.List.Sorted.{IsPermutation}
+use Rattle.std.proofs.lemmas.List.Sorted.{length_permutation}
+use Rattle.std.proofs.lemmas.List.{length-map}
+use Rattle.std.proofs.lemmas.Cmp.{tied_itself}
+use Rattle.sqlite.specs.declared.types.Value.TheVariants.{Null, Int}
+use Rattle.sqlite.specs.Order.{Row, value_cmp}
+use Rattle.sqlite.specs.Ops.{is_null}
+use Rattle.sqlite.specs.Term.{Term, eval_all, holds}
+use Rattle.sqlite.specs.Query.{Query, Output, output, IsAnswer, key_cmp}
+use Rattle.sqlite.specs.Program.{overlay}
+use Rattle.sqlite.specs.Cast.{cast_all, cast_row}
+use Rattle.sqlite.specs.Tree.{Trees, IsAscending, IsTable, rowid, has_rowid, put_row, without_rowid}
+use Rattle.sqlite.specs.Table.{Table}
+use Rattle.sqlite.specs.Schema.{Schema}
+use Rattle.sqlite.specs.Source.TheVariants.{Values}
+use Rattle.sqlite.specs.Command.TheVariants.{InsertOr}
+use Rattle.sqlite.specs.Edit.{Edit, id_in, edit_of, left_by, edited, with_rowid, next_rowid, is_taken, are_fresh, IsNoIndex, taken_by}
+use Rattle.sqlite.specs.Rowids.TheVariants.{Chosen, Given}
+use Rattle.sqlite_trees.specs.View.{is_int}
+use Rattle.sqlite_trees.proofs.ListLemmas.{filter-map, filter_all, filter_none, filter_same, all-permutation, all_from_map, IsPermutation-filter}
+use Rattle.sqlite_schema.specs.Rules.{equal, agree}
+use Rattle.sqlite_schema.specs.declared.schema.Column.{Column}
+use Rattle.sqlite_schema.specs.declared.schema.Index.{Index}
+use Rattle.sqlite_schema.specs.declared.schema.Keys.TheVariants.{Enforced}
+use Rattle.sqlite_schema.specs.declared.command.Conflict.TheVariants.{Abort}
+use Rattle.sqlite_schema.specs.declared.command.Upsert.{Upsert}
+use Rattle.sqlite_value.specs.Keys.{plain, rising}
+use Rattle.sqlite_value.proofs.KeyLemmas.{first_key-plain}
+use Rattle.sqlite_value.proofs.OrderLemmas.{value_cmp_total}
+use Rattle.sqlite.specs.Collation.TheVariants.{Binary}
+use Rattle.sqlite_rules.specs.declared.error.Refusal.{Refusal}
+use Rattle.sqlite_rules.specs.Lists.{Has}
+use Rattle.sqlite_rules.specs.Keys.{AreConflicts, conflicts, shares, aims}
+use Rattle.sqlite_rules.specs.Edit.{put_all}
+use Rattle.sqlite_rules.specs.Calls.{ids_of}
+use Rattle.sqlite_rules.specs.Action.{works}
+use Rattle.sqlite_rules.proofs.ListLemmas.{all_has, all_from, has_kept}
+use Rattle.sqlite_rules.proofs.TableLemmas.{int_is}
+use Rattle.sqlite_rules.proofs.PlaceLemmas.{tied_same, next_is_free}
+use Rattle.sqlite.specs.Does.{Tally, Does}
+use Rattle.sqlite.specs.Effect.{Database, value_rows}
+use Rattle.sqlite.specs.Rows.{Written, Task, nothing, count_of, mended, shown, Puts, Clears, Meets, Upserts, Judged, Tries, TriesEach}
+use Rattle.sqlite.specs.Listing.{understood}
+use Rattle.sqlite.specs.Command.{Command}
+use Rattle.sqlite.specs.State.{State, mode_of, Executes}
+use Rattle.sqlite.proofs.Callers.{IsPlain, command_of, statement_of, runs_as, one_step, one_permutation}
+use Rattle.sqlite_catalog.specs.Listing.{IsSound}
+use Rattle.kcr_rows.specs.Columns.{keyed}
+use Rattle.kcr_rows.specs.Keyed.{cells, by_key, is_full, Place, Keeps, put}
+use Rattle.kcr_rows.proofs.ReadLemmas.{reading, matched}
+use Rattle.kcr_rows.proofs.PutLemmas.{by_key_total, keeps_put}
+use Rattle.kcr_rows.proofs.KeyLemmas.{places_from, full, equal_is, agree_is, not_any}
+use Rattle.kcr_rows.proofs.WriteLemmas.{cast_null, cast_int, went, same_value, stored}
+use Rattle.kcr_rows.proofs.TableLemmas.{Changes}
+
+-- what the update reads: the parameters, the rowid of the row that is there, and the row that is not put in
+abbrev pub seen : Table → List Row → Row → Row → Row
+seen table entries values there = values ++ rowid there ∷ shown table (stored entries values)
+
+-- the row of the table that the update finds, with the new values
+abbrev pub finding : ℕ → List Term → List Term → Query
+finding tree test sets = reading tree test sets []
+
+-- the edit of an update
+abbrev pub rewriting : Trees → Table → List Row → Edit
+rewriting db table rows = edit_of db table (ids_of rows) Given 1 rows
+
+-- Where no row has the key the new one goes in beside those that were there, and else an update is run at the first that has it.
+abbrev pub Goes : Table → ℕ → List Term → List Term → Trees → Trees → Row → List Row → Type 0
+Goes table tree test sets old new values [] = (is_taken (old tree) (stored (old tree) values) ≡ false) × (new tree ≡ put_row (stored (old tree) values) (old tree))
+Goes table tree test sets old new values (there ∷ more) =
+    (rows : List Row) × IsAnswer (finding tree test sets) (overlay old []) (seen table (old tree) values there) rows
+    × (are_fresh (left_by old (rewriting old table rows)) (rewriting old table rows).news ≡ true) × (new tree ≡ edited old (rewriting old table rows))
+
+pub record IsUpserted (schema : Schema) (table : Table) (tree : ℕ) (target : List ℕ) (test sets : List Term) (old new : Trees) (values : Row) : Type 0 where
+  pub found : List Row
+  pub are : AreConflicts (Some target) schema.indexes table (old tree) (stored (old tree) values) found
+  pub goes : Goes table tree test sets old new values found
+  pub others : (t : ℕ) → t ≢ tree → IsNoIndex schema t → new t ≡ old t
+
+module _ (schema : Schema) (at : ℕ) (name : List ℕ) (tree : ℕ) (columns : List Column) (places : List ℕ) (others : List (List ℕ)) (terms : List Term) (width : ℕ) (values : Row)
+    (here : slice_get schema.tables at ≡ Some (keyed name tree columns places others))
+    (alone : (olds news : List Row) → works schema Enforced 0 tree olds news ≡ [])
+    (given : value_rows (values ++ []) (suc width) (length terms / suc width) terms ≡ (Null ∷ values) ∷ [])
+    (casts : cast_all columns values ≡ values)
+    (test sets : List Term) where
+  abbrev table : Table
+  table = keyed name tree columns places others
+
+  abbrev task : Option ℕ → Task
+  task limit = record { limit = limit; keys = Enforced; schema = schema; table = table; params = values }
+
+  abbrev new : Trees → Row
+  new trees = stored (trees tree) values
+
+  abbrev pub clause : Upsert
+  clause = record { target = Some places; update = Some (record { lets = []; body = finding tree test sets }) }
+
+  abbrev Is : Trees → Trees → Type 0
+  Is trees next = IsUpserted schema table tree places test sets trees next values
+
+  new_is : (trees : Trees) → with_rowid Chosen (trees tree) (cast_row table (mended Abort table (Null ∷ values))) ≡ new trees
+  new_is trees = rw (casts, cast_null)
+
+  again_is : (trees : Trees) → cast_row table (new trees) ≡ new trees
+  again_is trees = rw (casts, cast_int (next_rowid (trees tree)))
+
+  -- with no other clause a row that conflicts is no reason to do anything but INSERT
+  cleared : (limit : Option ℕ) (trees : Trees) (one : Written) (found : List Row) → Clears (task limit) Abort (new trees) trees found (Ok one) → Puts (task limit) (new trees) trees (Ok one)
+  cleared limit trees one [] h = h
+  cleared limit trees one (x ∷ more) h = h
+
+  met : (limit : Option ℕ) (trees : Trees) (one : Written) (found : List Row) → AreConflicts (Some places) schema.indexes table (trees tree) (new trees) found
+      → Meets (task limit) (Upserts (task limit) Abort (new trees) trees []) (new trees) trees clause found (Ok one) → Is trees one.trees
+  met limit trees one [] are h =
+      let edit = edit_of trees table [] Given 0 (new trees ∷ []) in
+      let all = went (cleared limit trees one h.0 h.2) in
+      let written = one_step schema Enforced trees all.0 edit (alone (taken_by trees edit) edit.news) all.1 in
+      let is : one.trees ≡ all.0 = ap (λ (w : Written). w.trees) (same_value all.2) in
+      let free : is_taken (trees tree) (cast_row table (new trees)) ≡ false = not-true _ (and_parts _ _ written.fresh).0 in
+      record {
+        found = [];
+        are = are;
+        goes = (
+          subst (λ r. is_taken (trees tree) r ≡ false) (again_is trees) free,
+          ap (λ (t : Trees). t tree) is ∙ written.rows ∙ ap (λ r. put_row r (trees tree)) (again_is trees),
+        );
+        others = λ t other bare. ap (λ (all : Trees). all t) is ∙ written.others t other bare;
+      }
+  met limit trees one (there ∷ more) are h =
+      let asked = went h in
+      let all = went asked.2 in
+      let edit = rewriting trees table asked.0 in
+      let written = one_step schema Enforced trees all.0 edit (alone (taken_by trees edit) edit.news) all.1 in
+      let is : one.trees ≡ all.0 = ap (λ (w : Written). w.trees) (same_value all.2) in
+      record {
+        found = there ∷ more;
+        are = are;
+        goes = (asked.0, asked.1.answer Null, written.fresh, ap (λ (t : Trees). t tree) is ∙ written.rows);
+        others = λ t other bare. ap (λ (all : Trees). all t) is ∙ written.others t other bare;
+      }
+
+  judged : (limit : Option ℕ) (trees : Trees) (one : Written) (verdict : Option Refusal) → Judged (task limit) Abort (clause ∷ []) (new trees) trees verdict (Ok one) → Is trees one.trees
+  judged limit trees one None h = met limit trees one h.0 h.1 h.2
+  judged limit trees one (Some why) h = absurd (let e = h in cc)
+
+  tried : (limit : Option ℕ) (trees : Trees) (one : Written) → Tries (task limit) Abort (clause ∷ []) (new trees) trees (Ok one) → Is trees one.trees
+  tried limit trees one (inl refused) = absurd (let e = refused.1 in cc)
+  tried limit trees one (inr verdict) = judged limit trees one verdict.0 verdict.2
+
+  pub upserts : (limit : Option ℕ) (trees : Trees) (text : List ℕ) (tally : Tally) (next : Database)
+      → Does limit (record { keys = Enforced; in_doubt = false; may_wait = false }) values (record { schema = schema; trees = trees }) text None (InsertOr at Abort (Values terms (suc width)) (clause ∷ [])) (Ok (tally, next))
+      → (next.schema ≡ schema) × Is trees next.trees
+  upserts limit trees text tally next h =
+      let on = rw here at h in
+      let done = went on in
+      let now = ap (λ (p : Tally × Database). p.1) (same_value (went (went done.2).2).2) in
+      let wrote = went done.1 in
+      let rows_is : wrote.0 ≡ (Null ∷ values) ∷ [] = wrote.1.1 ∙ given in
+      let counted = went wrote.2 in
+      let each = went counted.2 in
+      let one = went (subst (λ rows. TriesEach (task limit) Abort (clause ∷ []) rows (count_of counted.0) (nothing trees) (Ok each.0)) rows_is each.1) in
+      let last = went each.2 in
+      let made : Is trees one.0.trees = tried limit trees one.0 (subst (λ r. Tries (task limit) Abort (clause ∷ []) r trees (Ok one.0)) (new_is trees) one.1) in
+      let joined_is : each.0.0.trees ≡ one.0.trees = ap (λ (d : Written × ℤ). d.0.trees) (same_value one.2) in
+      let trees_is : next.trees ≡ one.0.trees = ap (λ (d : Database). d.trees) now ∙ ap (λ (w : Written). w.trees) (same_value last.2) ∙ same_value last.1 ∙ joined_is in
+      (ap (λ (d : Database). d.schema) now, subst (λ t. Is trees t) (sym trees_is) made)
+
+-- ---- one row of each key
+
+at_most : {X : Type 0} (xs : List X) (x y : X) → length xs ≤ 1 → Has xs x → Has xs y → x ≡ y
+at_most [] x y few h k = absurd h
+at_most (z ∷ []) x y few (inl h) (inl k) = h ∙ sym k
+at_most (z ∷ []) x y few (inl h) (inr k) = absurd k
+at_most (z ∷ []) x y few (inr h) k = absurd h
+at_most (z ∷ w ∷ more) x y few h k = absurd (omega (arith, few))
+
+tie_is : (o : Ordering) → is_eq o ≡ true → o ≡ Equal
+tie_is Less h = absurd (cc)
+tie_is Equal h = refl
+tie_is Greater h = absurd (cc)
+
+module _ (keys : ℕ) (values : Row) where
+  abbrev has_key : Row → Bool
+  has_key row = is_eq (by_key keys row values)
+
+  later_apart : (row y : Row) → by_key keys row values ≡ Equal → by_key keys row y ≡ Less → has_key y ≡ false
+  later_apart row y tie up =
+      let total = by_key_total keys in
+      let above : by_key keys values y ≡ Less = sym (total.congr row values y tie) ∙ up in
+      ap is_eq (total.antisymm y values ∙ ap ordering_reverse above)
+
+  few : (rows : List Row) → IsAscending (λ a b. by_key keys a b ≡ Less) rows → length (filter has_key rows) ≤ 1
+  few [] up = omega arith
+  few (row ∷ rows) up = go (has_key row) refl (few rows up.1)
+    where
+      go : (b : Bool) → has_key row ≡ b → length (filter has_key rows) ≤ 1 → length (cond b (row ∷ filter has_key rows) (filter has_key rows)) ≤ 1
+      go true is more =
+          rw (filter_none has_key rows (all_from _ rows (λ y h. later_apart row y (tie_is _ is) (all_has _ rows y up.0 h)))) (omega arith)
+      go false is more = more
+
+-- the one row that passes a test, of those that rise by their rowids
+module _ (p : Row → Bool) (r : Row) where
+  only : (rows : List Row) → IsTable rows → Has rows r → p r ≡ true → ((x : Row) → Has rows x → p x ≡ true → x ≡ r) → filter p rows ≡ r ∷ []
+  only [] up h is one = absurd h
+  only (y ∷ rows) up (inl same) is one =
+      let here : p y ≡ true = ap p (sym same) ∙ is in
+      rw (
+        here,
+        filter_none p rows (all_from _ rows (λ x h. false_from_ne_true _ (λ also.
+            let equal_to : y ≡ x = sym same ∙ sym (one x (inr h) also) in
+            let below = all_has _ rows x up.0 h in
+            let e = sym (tied_itself value_cmp_total (rowid x)) ∙ subst (λ z. value_cmp (rowid z) (rowid x) ≡ Less) equal_to below in cc))),
+      )
+      (ap (λ z. z ∷ []) (sym same))
+  only (y ∷ rows) up (inr later) is one =
+      let out : p y ≡ false = false_from_ne_true _ (λ also.
+      let equal_to : y ≡ r = one y (inl refl) also in
+      let below = all_has _ rows r up.0 later in
+      let e = sym (tied_itself value_cmp_total (rowid r)) ∙ subst (λ z. value_cmp (rowid z) (rowid r) ≡ Less) equal_to below in cc) in
+      rw out (only rows up.1 later is (λ x h. one x (inr h)))
+
+-- the row that has the key, among the entries that a tree keeps
+module _ (place : Place) (db : Trees) (rows : List Row) (keeps : Keeps place db rows) (values : Row) where
+  abbrev has : Row → Bool
+  has r = has_key place.keys values (cells 1 place.width r)
+
+  one_row : (x y : Row) → Has (db place.tree) x → Has (db place.tree) y → has x ≡ true → has y ≡ true → x ≡ y
+  one_row x y h k p q =
+      let entries = db place.tree in
+      let shows = cells 1 place.width in
+      let same : IsPermutation (filter (has_key place.keys values) rows) (map shows (filter has entries)) =
+      subst (IsPermutation (filter (has_key place.keys values) rows)) (filter-map (has_key place.keys values) shows entries) (IsPermutation-filter (has_key place.keys values) _ _ keeps.same) in
+      let long : length (filter has entries) ≡ length (filter (has_key place.keys values) rows) = sym (length-map (filter has entries) shows) ∙ length_permutation _ _ same in
+      let low : length (filter has entries) ≤ 1 = rw long (few place.keys values rows keeps.rising) in
+      at_most (filter has entries) x y low (has_kept has entries x h p) (has_kept has entries y k q)
+
+-- which rows conflict with the new one at the key
+module _ (keys width : ℕ) (indexes : List Index) (table : Table) (entries : List Row) (id : ℤ) (values : Row)
+    (shared : (a b : Row) → list_any (shares (Some (places_from 1 keys)) table a b) indexes ≡ (agree plain (places_from 1 keys) b (places_from 1 keys) a || false))
+    (compares : (a b : Row) → by_key keys (cells 1 width a) (cells 1 width b) ≡ key_cmp 1 (rising keys []) a b)
+    (fulls : (a : Row) → is_full keys (cells 1 width a) ≡ full 1 keys a)
+    (shown : cells 1 width (Int id ∷ values) ≡ values)
+    (free : is_taken entries (Int id ∷ values) ≡ false) where
+  or_false : (b : Bool) → (b || false) ≡ b
+  or_false true = refl
+  or_false false = refl
+
+  meets_key : (r : Row) → Has entries r → rowid r ≡ Int (id_in (rowid r)) → is_full keys (cells 1 width r) ≡ true → is_full keys values ≡ true
+      → conflicts (Some (places_from 1 keys)) indexes table (Int id ∷ values) r ≡ is_eq (by_key keys (cells 1 width r) values)
+  meets_key r h own whole filled =
+      let new = Int id ∷ values in
+      let apart : is_eq (value_cmp (rowid r) (Int id)) ≡ false = not_any (λ x. is_eq (value_cmp (rowid x) (rowid new))) entries r free h in
+      let rowids : agree plain (0 ∷ []) r (0 ∷ []) new ≡ false = rw (first_key-plain, equal_is (rowid r) (Int id) (ap is_null own) refl, apart) in
+      let new_full : full 1 keys new ≡ true = sym (fulls new) ∙ ap (is_full keys) shown ∙ filled in
+      let keyed = shared new r ∙ or_false _ ∙ agree_is keys 1 r new (sym (fulls r) ∙ whole) new_full in
+      ap₂ ◌||◌ (and_right (aims (Some (places_from 1 keys)) (0 ∷ [])) _ rowids) (keyed ∙ ap is_eq (sym (compares r new)) ∙ ap (λ v. is_eq (by_key keys (cells 1 width r) v)) shown)
+
+module _ (place : Place) (schema : Schema) (at : ℕ) (name : List ℕ) (columns : List Column) (others : List (List ℕ))
+    (here : slice_get schema.tables at ≡ Some (keyed name place.tree columns (places_from 1 place.keys) others))
+    (alone : (olds news : List Row) → works schema Enforced 0 place.tree olds news ≡ [])
+    (compares : (a b : Row) → by_key place.keys (cells 1 place.width a) (cells 1 place.width b) ≡ key_cmp 1 (rising place.keys []) a b)
+    (fulls : (a : Row) → is_full place.keys (cells 1 place.width a) ≡ full 1 place.keys a)
+    (sql : List ℕ) (terms : List Term)
+    (bare : IsPlain (understood schema sql))
+    (values : Row)
+    (given : value_rows (values ++ []) (suc place.width) (length terms / suc place.width) terms ≡ (Null ∷ values) ∷ [])
+    (casts : cast_all columns values ≡ values)
+    (shown_as : (id : ℤ) → cells 1 place.width (Int id ∷ values) ≡ values)
+    (filled : is_full place.keys values ≡ true)
+    (test sets : List Term)
+    (tests : (entries : List Row) (there r : Row) → list_all (holds (seen (keyed name place.tree columns (places_from 1 place.keys) others) entries values there ∷ r ∷ [])) test ≡ (equal Binary (rowid r) (rowid there) && true))
+    (gives : (entries : List Row) (there r : Row) → eval_all sets (seen (keyed name place.tree columns (places_from 1 place.keys) others) entries values there ∷ r ∷ []) ≡ rowid r ∷ rowid r ∷ values)
+    (low : nat_le (2 ^ 31) place.tree ≡ false)
+    (shared : (a b : Row) → list_any (shares (Some (places_from 1 place.keys)) (keyed name place.tree columns (places_from 1 place.keys) others) a b) schema.indexes
+    ≡ (agree plain (places_from 1 place.keys) b (places_from 1 place.keys) a || false))
+    (is : command_of (understood schema sql)
+    ≡ InsertOr at Abort (Values terms (suc place.width)) (record { target = Some (places_from 1 place.keys); update = Some (record { lets = []; body = finding place.tree test sets }) } ∷ [])) where
+  abbrev that : Table
+  that = keyed name place.tree columns (places_from 1 place.keys) others
+
+  own : (db : Trees) (rows : List Row) → Keeps place db rows → (r : Row) → Has (db place.tree) r → rowid r ≡ Int (id_in (rowid r))
+  own db rows keeps r h = int_is (rowid r) (all_has (λ x. IsTrue (is_int (rowid x))) (db place.tree) r keeps.shaped.1 h)
+
+  and_yes : (b : Bool) → (b && true) ≡ b
+  and_yes true = refl
+  and_yes false = refl
+
+  -- the update finds the row and gives it the new values
+  found_is : (db : Trees) (rows : List Row) → Keeps place db rows → (there r : Row) → Has (db place.tree) r → rowid there ≡ rowid r → (answer : List Row)
+      → IsAnswer (finding place.tree test sets) (overlay db []) (seen that (db place.tree) values there) answer → answer ≡ (rowid r ∷ rowid r ∷ values) ∷ []
+  found_is db rows keeps there r h id_is answer a =
+      let entries = db place.tree in
+      let q = finding place.tree test sets in
+      let params = seen that entries values there in
+      let p = λ (x : Row). list_all (holds (params ∷ x ∷ [])) test in
+      let thing = λ (x : Row) (k : Has entries x). ap is_null (own db rows keeps x k) in
+      let p_is = λ (x : Row) (k : Has entries x). tests entries there x ∙ and_yes _ ∙ ap (equal Binary (rowid x)) id_is ∙ equal_is (rowid x) (rowid r) (thing x k) (thing r h) in
+      let one : filter p entries ≡ r ∷ [] =
+      only p r entries keeps.shaped.0 h (p_is r h ∙ ap is_eq (tied_itself value_cmp_total (rowid r))) (λ x k yes. tied_same entries x r keeps.shaped.0 k h (tie_is _ (sym (p_is x k) ∙ yes))) in
+      let over : overlay db [] place.tree ≡ entries = rw low in
+      let staged : a.staged ≡ (params ∷ r ∷ []) ∷ [] =
+      a.grouped ∙ matched p (λ x. params ∷ x ∷ []) (overlay db [] place.tree) ∙ ap (λ l. map (λ x. params ∷ x ∷ []) (filter p l)) over ∙ ap (map (λ x. params ∷ x ∷ [])) one in
+      let kept : a.kept ≡ output q (params ∷ r ∷ []) ∷ [] = a.distinct ∙ ap (map (output q)) staged in
+      let ordered : a.ordered ≡ output q (params ∷ r ∷ []) ∷ [] = one_permutation _ a.ordered (subst (λ l. IsPermutation l a.ordered) kept a.same) in
+      a.shown ∙ ap (map (λ (o : Output). o.1)) ordered ∙ ap (λ v. v ∷ []) (gives entries there r)
+
+  abbrev Goal : Trees → Trees → Type 0
+  Goal old new = (rows : List Row) → Keeps place old rows → Keeps place new (put place.keys values rows)
+
+  -- a row conflicts at the key exactly where it has the key of the new one
+  conflicts_is : (old : Trees) (rows : List Row) → Keeps place old rows → (r : Row) → Has (old place.tree) r
+      → conflicts (Some (places_from 1 place.keys)) schema.indexes that (stored (old place.tree) values) r ≡ is_eq (by_key place.keys (cells 1 place.width r) values)
+  conflicts_is old rows keeps r h =
+      let entries = old place.tree in
+      let whole = all_from_map (λ row. is_full place.keys row ≡ true) (cells 1 place.width) entries (all-permutation (λ row. is_full place.keys row ≡ true) _ _ keeps.same keeps.full) in
+      meets_key place.keys place.width schema.indexes that entries (next_rowid entries) values shared compares fulls (shown_as (next_rowid entries)) (next_is_free Chosen entries values keeps.shaped.0 keeps.shaped.1)
+      r h (own old rows keeps r h) (all_has (λ x. is_full place.keys (cells 1 place.width x) ≡ true) entries r whole h) filled
+
+  keeps_new : (old new : Trees) → AreConflicts (Some (places_from 1 place.keys)) schema.indexes that (old place.tree) (stored (old place.tree) values) []
+      → Goes that place.tree test sets old new values [] → Goal old new
+  keeps_new old new are goes rows keeps =
+      let entries = old place.tree in
+      let left = sym (filter_all (λ r. not (is_eq (by_key place.keys (cells 1 place.width r) values))) entries
+      (all_from _ entries (λ r h. ap not (false_from_ne_true _ (λ same. are.complete r h (conflicts_is old rows keeps r h ∙ same)))))) in
+      keeps_put place old (stored entries values) values entries keeps.shaped left rows keeps new filled (shown_as (next_rowid entries)) refl goes.0 goes.1
+
+  keeps_over : (old new : Trees) (there : Row) (more : List Row) → AreConflicts (Some (places_from 1 place.keys)) schema.indexes that (old place.tree) (stored (old place.tree) values) (there ∷ more)
+      → Goes that place.tree test sets old new values (there ∷ more) → Goal old new
+  keeps_over old new there more are goes rows keeps =
+      let entries = old place.tree in
+      let s = are.sound there (inl refl) in
+      let r = s.0 in
+      let id = id_in (rowid r) in
+      let own_id = own old rows keeps r s.1 in
+      let has_it = sym (conflicts_is old rows keeps r s.1) ∙ s.2 in
+      let answer = found_is old rows keeps there r s.1 (ap rowid s.3) goes.0 goes.1 in
+      let edit = λ (found : List Row). rewriting old that found in
+      let cast_is : cast_row that (rowid r ∷ values) ≡ Int id ∷ values = ap (λ v. cast_row that (v ∷ values)) own_id ∙ rw (casts, cast_int id) in
+      let news_is : (edit goes.0).news ≡ (Int id ∷ values) ∷ [] = ap (λ found. (edit found).news) answer ∙ ap (λ x. x ∷ []) cast_is in
+      let left_is : left_by old (edit goes.0) ≡ without_rowid id entries = ap (λ found. left_by old (edit found)) answer in
+      let fresh : are_fresh (without_rowid id entries) ((Int id ∷ values) ∷ []) ≡ true = subst (λ l. are_fresh l ((Int id ∷ values) ∷ []) ≡ true) left_is (subst (λ l. are_fresh (left_by old (edit goes.0)) l ≡ true) news_is goes.2) in
+      let free : is_taken (without_rowid id entries) (Int id ∷ values) ≡ false = not-true _ (and_parts _ _ fresh).0 in
+      let is : new place.tree ≡ put_row (Int id ∷ values) (without_rowid id entries) = goes.3 ∙ ap (put_all (left_by old (edit goes.0))) news_is ∙ ap (put_row (Int id ∷ values)) left_is in
+      let at_id = λ (x : Row) (h : Has entries x).
+      both_ways (has_rowid id x) (is_eq (by_key place.keys (cells 1 place.width x) values))
+      (λ yes. subst (λ y. is_eq (by_key place.keys (cells 1 place.width y) values) ≡ true) (sym (tied_same entries x r keeps.shaped.0 h s.1 (subst (λ v. value_cmp (rowid x) v ≡ Equal) (sym own_id) (tie_is _ yes)))) has_it)
+      (λ yes. subst (λ y. has_rowid id y ≡ true) (one_row place old rows keeps values r x s.1 h has_it yes) (subst (λ v. is_eq (value_cmp (rowid r) v) ≡ true) own_id (ap is_eq (tied_itself value_cmp_total (rowid r))))) in
+      let left : without_rowid id entries ≡ filter (λ x. not (is_eq (by_key place.keys (cells 1 place.width x) values))) entries =
+      filter_same _ (λ x. not (is_eq (by_key place.keys (cells 1 place.width x) values))) entries (all_from _ entries (λ x h. ap not (at_id x h))) in
+      keeps_put place old (Int id ∷ values) values (without_rowid id entries) keeps.shaped left rows keeps new filled (shown_as id) refl free is
+
+  keeps_either : (old new : Trees) (found : List Row) → AreConflicts (Some (places_from 1 place.keys)) schema.indexes that (old place.tree) (stored (old place.tree) values) found
+      → Goes that place.tree test sets old new values found → Goal old new
+  keeps_either old new [] are goes = keeps_new old new are goes
+  keeps_either old new (there ∷ more) are goes = keeps_over old new there more are goes
+
+  abbrev Upserts_it : Command
+  Upserts_it = InsertOr at Abort (Values terms (suc place.width)) (record { target = Some (places_from 1 place.keys); update = Some (record { lets = []; body = finding place.tree test sets }) } ∷ [])
+
+  -- the statement makes the change
+  pub executes_upsert : (old new : State) (count : ℕ) → old.now.schema ≡ schema → Executes sql values old new (Ok count) → (new.now.schema ≡ schema) × Changes place schema values old.now.trees new.now.trees
+  executes_upsert old new count has h =
+      let w = runs_as sql values old new schema has Upserts_it is bare count h in
+      let text = statement_of sql (understood schema sql) in
+      let p = upserts schema at name place.tree columns (places_from 1 place.keys) others terms place.width values here alone given casts test sets old.step_limit old.now.trees text w.tally new.now
+      (subst (λ s. Does old.step_limit (mode_of old) values (record old.now { schema = s }) text None Upserts_it (Ok (w.tally, new.now))) has w.changed) in
+      (p.0, record { sound = subst (λ s. IsSound s new.now.trees) p.0 w.sound; rows = keeps_either old.now.trees new.now.trees p.1.found p.1.are p.1.goes; others = p.1.others })
