@@ -129,9 +129,10 @@ class Table:
         return f"SELECT {self.names()} FROM {self.name}{where} ORDER BY {order}"
 
     def put_text(self):
-        verb = "INSERT" if self.insert else "INSERT OR REPLACE"
         marks = ", ".join(f"?{i + 1}" for i in range(len(self.columns)))
-        return f"{verb} INTO {self.name} ({self.names()}) VALUES ({marks})"
+        sets = ", ".join(f"{c.sql} = ?{i + 1}" for i, c in enumerate(self.columns))
+        over = "" if self.insert else f" ON CONFLICT ({self.order()}) DO UPDATE SET {sets}"
+        return f"INSERT INTO {self.name} ({self.names()}) VALUES ({marks}){over}"
 
     def create_text(self):
         columns = ", ".join(f"{c.sql} {c.kind.sql}" for c in self.columns)
@@ -167,7 +168,7 @@ TABLES = [
           "a person under their initials", "All people, in the order of their initials: each person is there once.", "their initials",
           "PutPerson", "same_person",
           readings=[Reading("person_of", "The row of the person with these initials, alone, or none", "who", "who", "&Initials", INITIALS, "same_text {x}.who {v}")],
-          asked=("People", None), listed=("people_named", "person_of", "People", "people", "who", "is_of_people", "is_person_named", "Initials")),
+          asked=("InitialsList", None), listed=("people_named", "person_of", "InitialsList", "people", "who", "is_of_people", "is_person_named", "Initials")),
     Table("trainings", "training", "Training", "kcr_people", "", [Column("who", INITIALS), Column("role", ROLE), Column("since", DAY), Column("until", DAY)], 4,
           "a training of a person for a role, all of it its key", "All trainings, by people, then role, first and last day.", "its key",
           "PutTraining", "same_training", turned=True, readings=[of_person("trainings", "is_training_of")], asked=("Initials", "is_training_of")),
@@ -189,7 +190,7 @@ TABLES = [
           "an item under its code", "All items, in the order of their codes.", "its code", "PutItem", "same_item", others=[[2, 0]],
           readings=[Reading("item_of", "The row of the item with this code, alone, or none", "code", "code", "&ItemCode", ITEM, "same_text {x}.code {v}"),
                     Reading("items_within", "The rows of the items in the bag with this serial", "serial", "serial", "&Serial", SERIAL, "lies_in {v} {x}", ask="is_item_of (Wanted.Bag {v})")],
-          asked=("ItemsOf", None), listed=("items_named", "item_of", "Items", "codes", "code", "is_item_of ∘ Codes", "is_item_named", "ItemCode")),
+          asked=("ItemsOf", None), listed=("items_named", "item_of", "ItemList", "codes", "code", "is_item_of ∘ Codes", "is_item_named", "ItemCode")),
     Table("ceremonies", "ceremony", "CeremonyRow", "kcr_history", "rows.", [Column("number", NUMBER), Column("facility", FACILITY), Column("day", DAY), Column("state", CEREMONY_STATE), Column("opened", MOMENT_OR_NULL), Column("closed", MOMENT_OR_NULL)], 1,
           "a ceremony under its number", "All ceremonies, in the order of their numbers.", "its number", "PutCeremony", "same_ceremony",
           readings=[Reading("ceremony_of", "The row of the ceremony with this number, alone, or none", "number", "number", "u32", NUMBER, "{x}.number == {v}", ask="is_of_number {v}")],

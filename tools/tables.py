@@ -1,6 +1,6 @@
 #!/usr/bin/env python3
-"""Writes the modules of the tables in crates/kcr_tables, one for each table and all alike, with their lemma files, and
-the rows as values in crates/kcr_cells.
+"""Writes the modules of the tables in crates/kcr_tables, one for each table and all alike, with what each proves of its
+texts, and the rows as values in crates/kcr_cells.
 
 Run it at the top of the repository, then lay the files out and check:
 
@@ -13,8 +13,8 @@ order, as `tests/sqlite3.sh` compares them with what sqlite3 reads in a register
 
 What differs from table to table stands in `table_list.py`: the columns, the key, and the readings. Everything that this
 program writes is committed; edit a table here and never in the files that are written. The files that are not written
-by it (lib.rt, changes.rt, creation.rt, rooms.rt, view.rt, all of kcr_cells but rows.rt and its specs/Rows.antt, and the
-definitions and lemmas that name no single table) are edited by hand.
+by it (lib.rt, table.rt, last.rt, several.rt, rooms.rt, view.rt, changes.rt, creation.rt, all of kcr_cells but rows.rt
+and its specs/Rows.antt, and the definitions and lemmas that name no single table) are edited by hand.
 """
 import sys
 
@@ -22,7 +22,7 @@ sys.dont_write_bytecode = True  # no files beside these
 
 from table_answers import answers
 from table_joint import lemmas_joint, lemmas_make
-from table_lemmas import lemmas
+from table_laws import laws
 from table_list import TABLES
 from table_source import source, source_rows, source_texts
 from table_specs import spec_changed, spec_first, spec_held, spec_joint, spec_made, spec_rows, spec_schema
@@ -46,7 +46,7 @@ def main():
     lemmas_joint()
     for t in TABLES:
         source(t)
-        lemmas(t)
+        laws(t)
         answers(t)
 
 

@@ -20,7 +20,6 @@ use Rattle.sqlite_schema.specs.Names.{same_name}
 use Rattle.sqlite_schema.specs.declared.schema.Index.{Index}
 use Rattle.sqlite_rules.specs.Lists.{Has}
 use Rattle.sqlite_rules.proofs.ListLemmas.{all_has}
-use Rattle.kcr_tables.specs.Made.{first}
 
 zip_same : {A B : Type 0} (R : A → B → Type 0) → ((x : A) (a b : B) → R x a → R x b → a ≡ b) → (xs : List A) (ys bs : List B) → AllZip R xs ys → AllZip R xs bs → ys ≡ bs
 zip_same R same [] [] [] p q = refl
@@ -101,18 +100,3 @@ one_schema s t db plain p q =
     let indexes : s.indexes ≡ t.indexes = zip_same (IsIndexRow t.tables) (index_same t.tables b.named) (filter is_index_row (db catalog_tree)) s.indexes t.indexes theirs b.indexes in
     let views : s.views ≡ [] = zip_nil IsViewRow IsViewRow (filter is_view_row (db catalog_tree)) s.views (rw plain at b.views) a.views in
     ap (λ x. record s { tables = x }) tables ∙ ap (λ x. record s { tables = t.tables; indexes = x }) indexes ∙ ap (λ x. record t { views = x }) (views ∙ sym plain)
-
--- ---- trees without tables
-
-nothing_zips : {A B : Type 0} (R : A → B → Type 0) (ys : List B) → AllZip R [] ys → ys ≡ []
-nothing_zips R [] p = refl
-nothing_zips R (y ∷ ys) p = absurd p
-
--- trees that list nothing have no schema
-pub bare_schema : (s : Schema) (db : Trees) → db catalog_tree ≡ [] → IsSound s db → s ≡ first 0
-bare_schema s db none p =
-    let a = p.lists.listed in
-    let tables : s.tables ≡ [] = nothing_zips IsTableRow s.tables (rw none at a.tables) in
-    let indexes : s.indexes ≡ [] = nothing_zips (IsIndexRow s.tables) s.indexes (rw none at a.indexes) in
-    let views : s.views ≡ [] = nothing_zips IsViewRow s.views (rw none at a.views) in
-    ap (λ x. record s { tables = x }) tables ∙ ap (λ x. record s { tables = []; indexes = x }) indexes ∙ ap (λ x. record (first 0) { views = x }) views

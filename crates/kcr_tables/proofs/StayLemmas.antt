@@ -143,9 +143,6 @@ pub record Gathered (ceremony : ℕ) (people : List (List ℕ)) (table rows : Li
   pub there : (x : Stay) → Has more x → Has table x
   pub last : AllByRecursion (HasLast table rows) people
 
-pub first_gathered : (ceremony : ℕ) (table rows : List Stay) → rows ≡ filter (is_stay_of ceremony) table → Gathered ceremony [] table rows
-first_gathered ceremony table rows is = record { more = []; are = is ∙ sym (append-nil _); elsewhere = refl; there = λ x h. absurd h; last = tt }
-
 filter_more : {X : Type 0} (p : X → Bool) (xs ys : List X) → filter p (xs ++ ys) ≡ filter p xs ++ filter p ys
 filter_more p [] ys = refl
 filter_more p (x ∷ xs) ys = elim (p x) as (λ b. cond b (x ∷ filter p (xs ++ ys)) (filter p (xs ++ ys)) ≡ cond b (x ∷ filter p xs) (filter p xs) ++ filter p ys) [ true ↦ ap (λ l. x ∷ l) (filter_more p xs ys) | false ↦ filter_more p xs ys ]

@@ -1,71 +1,59 @@
 //! The table boxes: a box under its facility and number.
 
-ghost use Rattle.std.specs.Prelude.{◌≡◌, map, IsPermutation, IfOk, OnOk, IsTrue, IfErr};
+ghost use Rattle.std.specs.Prelude.{⊤, ◌≡◌, OnOk};
 ghost use Rattle.sqlite.specs.Held.{state};
-ghost use Rattle.sqlite.specs.State.{HasCleanDisk, KeepsCommit, Survives};
-ghost use Rattle.kcr_history.specs.Tables as machine;
-ghost use Rattle.kcr_rows.specs.Refusals.{IsFault};
-ghost use Rattle.kcr_rows.specs.Keyed.{put_in, cells};
-ghost use Rattle.kcr_tables.specs.Schema.{register_schema};
+ghost use Rattle.sqlite.specs.State.{HasCleanDisk};
+ghost use Rattle.kcr_rows.specs.Keyed.{put_in};
+ghost use Rattle.kcr_rows.proofs.TableLemmas.{each_is};
 ghost use Rattle.kcr_cells.specs.Rows.{box_row};
-ghost use Rattle.kcr_tables.specs.Held.{Tables, Holds};
-ghost use Rattle.kcr_tables.specs.Asked.{asked_all};
-ghost use Rattle.kcr_tables.specs.Joint.{HoldsTables};
+ghost use Rattle.kcr_tables.specs.Held.{boxes_place, Tables, Holds};
+ghost use Rattle.kcr_tables.specs.Frame.{Writes};
+ghost use Rattle.kcr_tables.specs.BoxesLaws as laws;
 
+use crate::table::{Listed, Puts, put_cells};
 use kcr_base::Refusal;
-use kcr_cells::statements::{rows_of, write};
 use kcr_custody::BoxRow;
 use kcr_rows::cells::{code_cell, facility_cell, number_cell};
 use sqlite::{Alter, Transaction};
-use std::alloc::Global;
 
-/// All boxes, by facilities, then number.
-/// Nothing is changed. The error is `Memory` for want of memory, and else `Disk`: the device failed, or a row is one
-/// that no register stores.
-pub fn all_boxes<S: Alter>(
-    alloc: Global,
-    tx: &mut Transaction<'_, S>,
-) -> Result<Vec<BoxRow>, Refusal>
-    ensures same_reference { tx.new.conn.ghost_name ≡ tx.old.conn.ghost_name }
-    ensures rows { HasCleanDisk (state S.Store tx.new.conn.now) → (t : Tables) → Holds (state S.Store tx.old.conn.now).now t → IfOk result (λ all. all.items ≡ t.boxes) }
-    ensures boxes { HasCleanDisk (state S.Store tx.new.conn.now) → (m : machine.Tables) → HoldsTables m (state S.Store tx.old.conn.now).now → IfOk result (λ all. IsPermutation m.boxes all.items) }
-    ensures tables { HasCleanDisk (state S.Store tx.new.conn.now) → (m : machine.Tables) → HoldsTables m (state S.Store tx.old.conn.now).now → OnOk result (HoldsTables m (state S.Store tx.new.conn.now).now) }
-    ensures exact { HasCleanDisk (state S.Store tx.new.conn.now) → (state S.Store tx.old.conn.now).now.schema ≡ register_schema
-        → IfOk result (λ all. IsPermutation (map (cells 1 3) ((state S.Store tx.old.conn.now).now.trees 6)) (map box_row all.items)) }
-    ensures holds { HasCleanDisk (state S.Store tx.new.conn.now) → (t : Tables) → Holds (state S.Store tx.old.conn.now).now t → OnOk result (Holds (state S.Store tx.new.conn.now).now t) }
-    ensures opened { HasCleanDisk (state S.Store tx.new.conn.now) → OnOk result (IsTrue (state S.Store tx.old.conn.now).is_open) }
-    ensures inside { HasCleanDisk (state S.Store tx.new.conn.now) → IsTrue (state S.Store tx.old.conn.now).in_transaction → OnOk result (IsTrue (state S.Store tx.new.conn.now).in_transaction) }
-    ensures kept { HasCleanDisk (state S.Store tx.new.conn.now) → IsTrue (state S.Store tx.old.conn.now).in_transaction → KeepsCommit (state S.Store tx.old.conn.now) (state S.Store tx.new.conn.now) }
-    ensures survives { Survives (state S.Store tx.old.conn.now) (state S.Store tx.new.conn.now) (λ _. ⊥) }
-    ensures cause { IfErr result IsFault }
-{
-    rows_of(
-        alloc,
-        tx,
-        "SELECT facility, box, place FROM boxes ORDER BY facility, box",
-        &[],
-    )
+impl Listed for BoxRow {
+    ghost rows_in = { λ t. t.boxes };
+
+    ghost machine_rows = { λ m. m.boxes };
+
+    ghost place = { boxes_place };
+
+    ghost is_stored = { λ _. ⊤ };
+
+    ghost with_rows = { λ rows t. record t { boxes = rows } };
+
+    ghost all_sql = { laws.all_sql };
+
+    fn all_text() -> &'static str {
+        "SELECT facility, box, place FROM boxes ORDER BY facility, box"
+    }
+
+    ghost lists = { laws.lists };
+
+    ghost one = { laws.one };
+
+    ghost keeps = { λ db t k. k.boxes };
+
+    ghost stores = { λ db t k. each_is t.boxes };
+
+    ghost still = { laws.still };
+
+    ghost stands = { λ m t s. s.boxes };
 }
 
-/// All rows, where they are asked for.
-pub fn asked_boxes<S: Alter>(
-    alloc: Global,
-    tx: &mut Transaction<'_, S>,
-    asked: bool,
-) -> Result<Vec<BoxRow>, Refusal>
-    ensures same_reference { tx.new.conn.ghost_name ≡ tx.old.conn.ghost_name }
-    ensures rows { HasCleanDisk (state S.Store tx.new.conn.now) → (t : Tables) → Holds (state S.Store tx.old.conn.now).now t → IfOk result (λ all. all.items ≡ asked_all asked t.boxes) }
-    ensures holds { HasCleanDisk (state S.Store tx.new.conn.now) → (t : Tables) → Holds (state S.Store tx.old.conn.now).now t → OnOk result (Holds (state S.Store tx.new.conn.now).now t) }
-    ensures inside { HasCleanDisk (state S.Store tx.new.conn.now) → IsTrue (state S.Store tx.old.conn.now).in_transaction → OnOk result (IsTrue (state S.Store tx.new.conn.now).in_transaction) }
-    ensures kept { HasCleanDisk (state S.Store tx.new.conn.now) → IsTrue (state S.Store tx.old.conn.now).in_transaction → KeepsCommit (state S.Store tx.old.conn.now) (state S.Store tx.new.conn.now) }
-    ensures survives { Survives (state S.Store tx.old.conn.now) (state S.Store tx.new.conn.now) (λ _. ⊥) }
-    ensures cause { IfErr result IsFault }
-{
-    if asked {
-        all_boxes(alloc, tx)
-    } else {
-        Ok(Vec::new(alloc))
+impl Puts for BoxRow {
+    ghost put_sql = { laws.put_sql };
+
+    fn put_text() -> &'static str {
+        "INSERT INTO boxes (facility, box, place) VALUES (?1, ?2, ?3) ON CONFLICT (facility, box) DO UPDATE SET facility = ?1, box = ?2, place = ?3"
     }
+
+    ghost puts = { laws.puts };
 }
 
 /// Puts the row under its facility and number, new or in place of the row there; every other row stays. The error is `Memory` or
@@ -73,18 +61,11 @@ pub fn asked_boxes<S: Alter>(
 pub fn put_box<S: Alter>(tx: &mut Transaction<'_, S>, row: &BoxRow) -> Result<(), Refusal>
     ensures same_reference { tx.new.conn.ghost_name ≡ tx.old.conn.ghost_name }
     ensures holds { HasCleanDisk (state S.Store tx.new.conn.now) → (t : Tables) → Holds (state S.Store tx.old.conn.now).now t → OnOk result (Holds (state S.Store tx.new.conn.now).now (record t { boxes = put_in 2 box_row row.now t.boxes })) }
-    ensures inside { HasCleanDisk (state S.Store tx.new.conn.now) → IsTrue (state S.Store tx.old.conn.now).in_transaction → OnOk result (IsTrue (state S.Store tx.new.conn.now).in_transaction) }
-    ensures kept { HasCleanDisk (state S.Store tx.new.conn.now) → IsTrue (state S.Store tx.old.conn.now).in_transaction → KeepsCommit (state S.Store tx.old.conn.now) (state S.Store tx.new.conn.now) }
-    ensures survives { Survives (state S.Store tx.old.conn.now) (state S.Store tx.new.conn.now) (λ _. ⊥) }
-    ensures cause { IfErr result IsFault }
+    ensures frame { Writes (state S.Store tx.old.conn.now) (state S.Store tx.new.conn.now) result }
 {
     let c0 = facility_cell(row.facility);
     let c1 = number_cell(row.number);
     let place = row.place.text();
     let c2 = code_cell(&place);
-    write(
-        tx,
-        "INSERT OR REPLACE INTO boxes (facility, box, place) VALUES (?1, ?2, ?3)",
-        &[c0, c1, c2],
-    )
+    put_cells(tx, row, &[c0, c1, c2])
 }

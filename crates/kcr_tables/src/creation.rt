@@ -9,6 +9,7 @@ ghost use Rattle.kcr_rows.specs.Refusals.{IsFault};
 ghost use Rattle.kcr_rows.specs.Columns.{AreEmpty};
 ghost use Rattle.kcr_rows.specs.Keyed.{put_in};
 ghost use Rattle.kcr_cells.specs.Rows.{safe_row};
+ghost use Rattle.kcr_tables.specs.Frame.{Writes};
 ghost use Rattle.kcr_tables.specs.Held.{Tables, Holds};
 ghost use Rattle.kcr_tables.specs.First.{empty_tables, first_tables, shut};
 ghost use Rattle.kcr_tables.specs.Joint.{HoldsTables};
@@ -35,10 +36,7 @@ fn create_one<S: Alter>(tx: &mut Transaction<'_, S>, at: usize) -> Result<(), Re
     ensures schema { HasCleanDisk (state S.Store tx.new.conn.now) → (state S.Store tx.old.conn.now).now.schema ≡ first at → AreEmpty (take at all_tables) (state S.Store tx.old.conn.now).now.trees → OnOk result ((state S.Store tx.new.conn.now).now.schema ≡ first (at + 1)) }
     ensures empty { HasCleanDisk (state S.Store tx.new.conn.now) → (state S.Store tx.old.conn.now).now.schema ≡ first at → AreEmpty (take at all_tables) (state S.Store tx.old.conn.now).now.trees → OnOk result (AreEmpty (take (at + 1) all_tables) (state S.Store tx.new.conn.now).now.trees) }
     ensures sound { HasCleanDisk (state S.Store tx.new.conn.now) → (state S.Store tx.old.conn.now).now.schema ≡ first at → AreEmpty (take at all_tables) (state S.Store tx.old.conn.now).now.trees → OnOk result (IsSound (first (at + 1)) (state S.Store tx.new.conn.now).now.trees) }
-    ensures inside { HasCleanDisk (state S.Store tx.new.conn.now) → IsTrue (state S.Store tx.old.conn.now).in_transaction → OnOk result (IsTrue (state S.Store tx.new.conn.now).in_transaction) }
-    ensures kept { HasCleanDisk (state S.Store tx.new.conn.now) → IsTrue (state S.Store tx.old.conn.now).in_transaction → KeepsCommit (state S.Store tx.old.conn.now) (state S.Store tx.new.conn.now) }
-    ensures survives { Survives (state S.Store tx.old.conn.now) (state S.Store tx.new.conn.now) (λ _. ⊥) }
-    ensures cause { IfErr result IsFault }
+    ensures frame { Writes (state S.Store tx.old.conn.now) (state S.Store tx.new.conn.now) result }
 {
     let text = create_text(at);
     write(tx, text, &[])
@@ -48,10 +46,7 @@ fn create_one<S: Alter>(tx: &mut Transaction<'_, S>, at: usize) -> Result<(), Re
 fn create_all<S: Alter>(tx: &mut Transaction<'_, S>) -> Result<(), Refusal>
     ensures same_reference { tx.new.conn.ghost_name ≡ tx.old.conn.ghost_name }
     ensures holds { HasCleanDisk (state S.Store tx.new.conn.now) → (state S.Store tx.old.conn.now).now.schema ≡ first 0 → OnOk result (Holds (state S.Store tx.new.conn.now).now empty_tables) }
-    ensures inside { HasCleanDisk (state S.Store tx.new.conn.now) → IsTrue (state S.Store tx.old.conn.now).in_transaction → OnOk result (IsTrue (state S.Store tx.new.conn.now).in_transaction) }
-    ensures kept { HasCleanDisk (state S.Store tx.new.conn.now) → IsTrue (state S.Store tx.old.conn.now).in_transaction → KeepsCommit (state S.Store tx.old.conn.now) (state S.Store tx.new.conn.now) }
-    ensures survives { Survives (state S.Store tx.old.conn.now) (state S.Store tx.new.conn.now) (λ _. ⊥) }
-    ensures cause { IfErr result IsFault }
+    ensures frame { Writes (state S.Store tx.old.conn.now) (state S.Store tx.new.conn.now) result }
 {
     for at in 0..COUNT {
         create_one(tx, at)?;
@@ -64,10 +59,7 @@ fn put_pair<S: Alter>(tx: &mut Transaction<'_, S>, facility: Facility) -> Result
     ensures same_reference { tx.new.conn.ghost_name ≡ tx.old.conn.ghost_name }
     ensures holds { HasCleanDisk (state S.Store tx.new.conn.now) → (t : Tables) → Holds (state S.Store tx.old.conn.now).now t
         → OnOk result (Holds (state S.Store tx.new.conn.now).now (record t { safes = put_in 2 safe_row (shut facility Two) (put_in 2 safe_row (shut facility One) t.safes) })) }
-    ensures inside { HasCleanDisk (state S.Store tx.new.conn.now) → IsTrue (state S.Store tx.old.conn.now).in_transaction → OnOk result (IsTrue (state S.Store tx.new.conn.now).in_transaction) }
-    ensures kept { HasCleanDisk (state S.Store tx.new.conn.now) → IsTrue (state S.Store tx.old.conn.now).in_transaction → KeepsCommit (state S.Store tx.old.conn.now) (state S.Store tx.new.conn.now) }
-    ensures survives { Survives (state S.Store tx.old.conn.now) (state S.Store tx.new.conn.now) (λ _. ⊥) }
-    ensures cause { IfErr result IsFault }
+    ensures frame { Writes (state S.Store tx.old.conn.now) (state S.Store tx.new.conn.now) result }
 {
     let equipment = SafeRow {
         facility,
@@ -83,6 +75,19 @@ fn put_pair<S: Alter>(tx: &mut Transaction<'_, S>, facility: Facility) -> Result
     put_safe(tx, &credentials)
 }
 
+/// The tables and rows of `make`.
+fn make_rows<S: Alter>(tx: &mut Transaction<'_, S>) -> Result<(), Refusal>
+    ensures same_reference { tx.new.conn.ghost_name ≡ tx.old.conn.ghost_name }
+    ensures holds { HasCleanDisk (state S.Store tx.new.conn.now) → (state S.Store tx.old.conn.now).now.schema ≡ first 0 → OnOk result (Holds (state S.Store tx.new.conn.now).now first_tables) }
+    ensures frame { Writes (state S.Store tx.old.conn.now) (state S.Store tx.new.conn.now) result }
+{
+    create_all(tx)?;
+    put_pair(tx, Facility::East)?;
+    put_pair(tx, Facility::West)?;
+    let version = Version { number: VERSION };
+    put_version(tx, &version)
+}
+
 /// Makes the tables of a new register in an empty database: the four safes, which are shut, one row with the
 /// number of the schema, and no others. The error is `Memory` for want of memory, and else `Disk`. It leaves a part of the tables in the
 /// transaction, which the caller rolls back; what was committed before stays.
@@ -95,9 +100,5 @@ pub fn make<S: Alter>(tx: &mut Transaction<'_, S>) -> Result<(), Refusal>
     ensures survives { Survives (state S.Store tx.old.conn.now) (state S.Store tx.new.conn.now) (λ _. ⊥) }
     ensures cause { IfErr result IsFault }
 {
-    create_all(tx)?;
-    put_pair(tx, Facility::East)?;
-    put_pair(tx, Facility::West)?;
-    let version = Version { number: VERSION };
-    put_version(tx, &version)
+    make_rows(tx)
 }

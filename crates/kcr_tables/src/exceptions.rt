@@ -1,98 +1,77 @@
 //! The table exceptions: a script exception of a ceremony under both numbers.
 
-ghost use Rattle.std.specs.Prelude.{◌≡◌, map, IsPermutation, IfOk, OnOk, IsTrue, IfErr, filter};
+ghost use Rattle.std.specs.Prelude.{⊤, ◌≡◌, OnOk};
 ghost use Rattle.sqlite.specs.Held.{state};
-ghost use Rattle.sqlite.specs.State.{HasCleanDisk, KeepsCommit, Survives};
-ghost use Rattle.kcr_history.specs.Tables as machine;
+ghost use Rattle.sqlite.specs.State.{HasCleanDisk};
 ghost use Rattle.kcr_history.specs.Views.{is_exception_of};
-ghost use Rattle.kcr_rows.specs.Refusals.{IsFault};
-ghost use Rattle.kcr_rows.specs.Keyed.{put_in, cells};
-ghost use Rattle.kcr_tables.specs.Schema.{register_schema};
+ghost use Rattle.kcr_rows.specs.Keyed.{put_in};
+ghost use Rattle.kcr_rows.proofs.TableLemmas.{each_is};
 ghost use Rattle.kcr_cells.specs.Rows.{exception_row};
-ghost use Rattle.kcr_tables.specs.Held.{Tables, Holds};
-ghost use Rattle.kcr_tables.specs.Asked.{asked_of};
-ghost use Rattle.kcr_tables.specs.Joint.{HoldsTables};
+ghost use Rattle.kcr_tables.specs.Held.{exceptions_place, Tables, Holds};
+ghost use Rattle.kcr_tables.specs.Frame.{Writes};
+ghost use Rattle.kcr_tables.specs.ExceptionsLaws as laws;
 
+use crate::table::{Finds, Listed, Puts, put_cells};
 use kcr_base::Refusal;
-use kcr_cells::statements::{rows_of, write};
-use kcr_history::{ExceptionRow, Rows};
+use kcr_history::ExceptionRow;
 use kcr_rows::cells::{line_cell, moment_cell, number_cell, number_or_null_cell};
 use sqlite::{Alter, Transaction};
-use std::alloc::Global;
 
-/// All exceptions, by ceremonies, then number.
-/// Nothing is changed. The error is `Memory` for want of memory, and else `Disk`: the device failed, or a row is one
-/// that no register stores.
-pub fn all_exceptions<S: Alter>(
-    alloc: Global,
-    tx: &mut Transaction<'_, S>,
-) -> Result<Vec<ExceptionRow>, Refusal>
-    ensures same_reference { tx.new.conn.ghost_name ≡ tx.old.conn.ghost_name }
-    ensures rows { HasCleanDisk (state S.Store tx.new.conn.now) → (t : Tables) → Holds (state S.Store tx.old.conn.now).now t → IfOk result (λ all. all.items ≡ t.exceptions) }
-    ensures exceptions { HasCleanDisk (state S.Store tx.new.conn.now) → (m : machine.Tables) → HoldsTables m (state S.Store tx.old.conn.now).now → IfOk result (λ all. IsPermutation m.exceptions all.items) }
-    ensures tables { HasCleanDisk (state S.Store tx.new.conn.now) → (m : machine.Tables) → HoldsTables m (state S.Store tx.old.conn.now).now → OnOk result (HoldsTables m (state S.Store tx.new.conn.now).now) }
-    ensures exact { HasCleanDisk (state S.Store tx.new.conn.now) → (state S.Store tx.old.conn.now).now.schema ≡ register_schema
-        → IfOk result (λ all. IsPermutation (map (cells 1 5) ((state S.Store tx.old.conn.now).now.trees 25)) (map exception_row all.items)) }
-    ensures holds { HasCleanDisk (state S.Store tx.new.conn.now) → (t : Tables) → Holds (state S.Store tx.old.conn.now).now t → OnOk result (Holds (state S.Store tx.new.conn.now).now t) }
-    ensures opened { HasCleanDisk (state S.Store tx.new.conn.now) → OnOk result (IsTrue (state S.Store tx.old.conn.now).is_open) }
-    ensures inside { HasCleanDisk (state S.Store tx.new.conn.now) → IsTrue (state S.Store tx.old.conn.now).in_transaction → OnOk result (IsTrue (state S.Store tx.new.conn.now).in_transaction) }
-    ensures kept { HasCleanDisk (state S.Store tx.new.conn.now) → IsTrue (state S.Store tx.old.conn.now).in_transaction → KeepsCommit (state S.Store tx.old.conn.now) (state S.Store tx.new.conn.now) }
-    ensures survives { Survives (state S.Store tx.old.conn.now) (state S.Store tx.new.conn.now) (λ _. ⊥) }
-    ensures cause { IfErr result IsFault }
-{
-    rows_of(
-        alloc,
-        tx,
-        "SELECT ceremony, exception, text, at, passed FROM exceptions ORDER BY ceremony, exception",
-        &[],
-    )
-}
+impl Listed for ExceptionRow {
+    ghost rows_in = { λ t. t.exceptions };
 
-/// The rows of one ceremony, in the order of their keys.
-/// Nothing is changed. The error is `Memory` for want of memory, and else `Disk`: the device failed, or a row is one
-/// that no register stores.
-pub fn exceptions_of<S: Alter>(
-    alloc: Global,
-    tx: &mut Transaction<'_, S>,
-    ceremony: u32,
-) -> Result<Vec<ExceptionRow>, Refusal>
-    ensures same_reference { tx.new.conn.ghost_name ≡ tx.old.conn.ghost_name }
-    ensures rows { HasCleanDisk (state S.Store tx.new.conn.now) → (t : Tables) → Holds (state S.Store tx.old.conn.now).now t → IfOk result (λ all. all.items ≡ filter (is_exception_of ceremony) t.exceptions) }
-    ensures holds { HasCleanDisk (state S.Store tx.new.conn.now) → (t : Tables) → Holds (state S.Store tx.old.conn.now).now t → OnOk result (Holds (state S.Store tx.new.conn.now).now t) }
-    ensures opened { HasCleanDisk (state S.Store tx.new.conn.now) → OnOk result (IsTrue (state S.Store tx.old.conn.now).is_open) }
-    ensures inside { HasCleanDisk (state S.Store tx.new.conn.now) → IsTrue (state S.Store tx.old.conn.now).in_transaction → OnOk result (IsTrue (state S.Store tx.new.conn.now).in_transaction) }
-    ensures kept { HasCleanDisk (state S.Store tx.new.conn.now) → IsTrue (state S.Store tx.old.conn.now).in_transaction → KeepsCommit (state S.Store tx.old.conn.now) (state S.Store tx.new.conn.now) }
-    ensures survives { Survives (state S.Store tx.old.conn.now) (state S.Store tx.new.conn.now) (λ _. ⊥) }
-    ensures cause { IfErr result IsFault }
-{
-    let c0 = number_cell(ceremony);
-    rows_of(
-        alloc,
-        tx,
-        "SELECT ceremony, exception, text, at, passed FROM exceptions WHERE ceremony = ?1 ORDER BY ceremony, exception",
-        &[c0],
-    )
-}
+    ghost machine_rows = { λ m. m.exceptions };
 
-/// The rows that are asked for.
-pub fn asked_exceptions<S: Alter>(
-    alloc: Global,
-    tx: &mut Transaction<'_, S>,
-    asked: &Rows<u32>,
-) -> Result<Vec<ExceptionRow>, Refusal>
-    ensures same_reference { tx.new.conn.ghost_name ≡ tx.old.conn.ghost_name }
-    ensures rows { HasCleanDisk (state S.Store tx.new.conn.now) → (t : Tables) → Holds (state S.Store tx.old.conn.now).now t → IfOk result (λ all. all.items ≡ asked_of is_exception_of asked.now t.exceptions) }
-    ensures holds { HasCleanDisk (state S.Store tx.new.conn.now) → (t : Tables) → Holds (state S.Store tx.old.conn.now).now t → OnOk result (Holds (state S.Store tx.new.conn.now).now t) }
-    ensures inside { HasCleanDisk (state S.Store tx.new.conn.now) → IsTrue (state S.Store tx.old.conn.now).in_transaction → OnOk result (IsTrue (state S.Store tx.new.conn.now).in_transaction) }
-    ensures kept { HasCleanDisk (state S.Store tx.new.conn.now) → IsTrue (state S.Store tx.old.conn.now).in_transaction → KeepsCommit (state S.Store tx.old.conn.now) (state S.Store tx.new.conn.now) }
-    ensures survives { Survives (state S.Store tx.old.conn.now) (state S.Store tx.new.conn.now) (λ _. ⊥) }
-    ensures cause { IfErr result IsFault }
-{
-    match asked {
-        Rows::Nothing => Ok(Vec::new(alloc)),
-        Rows::Under(ceremony) => exceptions_of(alloc, tx, *ceremony),
-        Rows::All => all_exceptions(alloc, tx),
+    ghost place = { exceptions_place };
+
+    ghost is_stored = { λ _. ⊤ };
+
+    ghost with_rows = { λ rows t. record t { exceptions = rows } };
+
+    ghost all_sql = { laws.all_sql };
+
+    fn all_text() -> &'static str {
+        "SELECT ceremony, exception, text, at, passed FROM exceptions ORDER BY ceremony, exception"
     }
+
+    ghost lists = { laws.lists };
+
+    ghost one = { laws.one };
+
+    ghost keeps = { λ db t k. k.exceptions };
+
+    ghost stores = { λ db t k. each_is t.exceptions };
+
+    ghost still = { laws.still };
+
+    ghost stands = { λ m t s. s.exceptions };
+}
+
+/// The rows of one ceremony.
+impl Finds<u32> for ExceptionRow {
+    ghost is_under = { λ ceremony x. is_exception_of ceremony x };
+
+    ghost column = { 0 };
+
+    ghost find_sql = { laws.exceptions_of_sql };
+
+    fn find_text() -> &'static str {
+        "SELECT ceremony, exception, text, at, passed FROM exceptions WHERE ceremony = ?1 ORDER BY ceremony, exception"
+    }
+
+    ghost finds = { laws.shows_exceptions_of };
+
+    ghost under = { laws.under_exceptions_of };
+}
+
+impl Puts for ExceptionRow {
+    ghost put_sql = { laws.put_sql };
+
+    fn put_text() -> &'static str {
+        "INSERT INTO exceptions (ceremony, exception, text, at, passed) VALUES (?1, ?2, ?3, ?4, ?5) ON CONFLICT (ceremony, exception) DO UPDATE SET ceremony = ?1, exception = ?2, text = ?3, at = ?4, passed = ?5"
+    }
+
+    ghost puts = { laws.puts };
 }
 
 /// Puts the row under its ceremony and number, new or in place of the row there; every other row stays. The error is `Memory` or
@@ -103,19 +82,12 @@ pub fn put_exception<S: Alter>(
 ) -> Result<(), Refusal>
     ensures same_reference { tx.new.conn.ghost_name ≡ tx.old.conn.ghost_name }
     ensures holds { HasCleanDisk (state S.Store tx.new.conn.now) → (t : Tables) → Holds (state S.Store tx.old.conn.now).now t → OnOk result (Holds (state S.Store tx.new.conn.now).now (record t { exceptions = put_in 2 exception_row row.now t.exceptions })) }
-    ensures inside { HasCleanDisk (state S.Store tx.new.conn.now) → IsTrue (state S.Store tx.old.conn.now).in_transaction → OnOk result (IsTrue (state S.Store tx.new.conn.now).in_transaction) }
-    ensures kept { HasCleanDisk (state S.Store tx.new.conn.now) → IsTrue (state S.Store tx.old.conn.now).in_transaction → KeepsCommit (state S.Store tx.old.conn.now) (state S.Store tx.new.conn.now) }
-    ensures survives { Survives (state S.Store tx.old.conn.now) (state S.Store tx.new.conn.now) (λ _. ⊥) }
-    ensures cause { IfErr result IsFault }
+    ensures frame { Writes (state S.Store tx.old.conn.now) (state S.Store tx.new.conn.now) result }
 {
     let c0 = number_cell(row.ceremony);
     let c1 = number_cell(row.exception);
     let c2 = line_cell(&row.text);
     let c3 = moment_cell(row.at);
     let c4 = number_or_null_cell(row.passed);
-    write(
-        tx,
-        "INSERT OR REPLACE INTO exceptions (ceremony, exception, text, at, passed) VALUES (?1, ?2, ?3, ?4, ?5)",
-        &[c0, c1, c2, c3, c4],
-    )
+    put_cells(tx, row, &[c0, c1, c2, c3, c4])
 }

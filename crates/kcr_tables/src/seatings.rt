@@ -1,75 +1,76 @@
 //! The table seatings: who filled a seat of a step, under the ceremony, the step and the seat.
 
-ghost use Rattle.std.specs.Prelude.{◌≡◌, map, IsPermutation, IfOk, OnOk, IsTrue, IfErr, filter, ◌==◌};
+ghost use Rattle.std.specs.Prelude.{⊤, ◌≡◌, ◌==◌, OnOk};
 ghost use Rattle.sqlite.specs.Held.{state};
-ghost use Rattle.sqlite.specs.State.{HasCleanDisk, KeepsCommit, Survives};
-ghost use Rattle.kcr_history.specs.Tables as machine;
-ghost use Rattle.kcr_rows.specs.Refusals.{IsFault};
-ghost use Rattle.kcr_rows.specs.Keyed.{put_in, cells};
-ghost use Rattle.kcr_tables.specs.Schema.{register_schema};
+ghost use Rattle.sqlite.specs.State.{HasCleanDisk};
+ghost use Rattle.kcr_rows.specs.Keyed.{put_in};
+ghost use Rattle.kcr_rows.proofs.TableLemmas.{each_is};
 ghost use Rattle.kcr_cells.specs.Rows.{seating_row};
-ghost use Rattle.kcr_tables.specs.Held.{Tables, Holds};
-ghost use Rattle.kcr_tables.specs.Joint.{HoldsTables};
+ghost use Rattle.kcr_tables.specs.Held.{seatings_place, Tables, Holds};
+ghost use Rattle.kcr_tables.specs.Frame.{Writes};
+ghost use Rattle.kcr_tables.specs.SeatingsLaws as laws;
 
+use crate::table::{Finds, Listed, Puts, put_cells};
 use kcr_base::Refusal;
-use kcr_cells::statements::{rows_of, write};
 use kcr_history::SeatingRow;
 use kcr_rows::cells::{initials_cell, number_cell};
 use sqlite::{Alter, Transaction};
-use std::alloc::Global;
 
-/// All seatings, by ceremonies, then step and seat.
-/// Nothing is changed. The error is `Memory` for want of memory, and else `Disk`: the device failed, or a row is one
-/// that no register stores.
-pub fn all_seatings<S: Alter>(
-    alloc: Global,
-    tx: &mut Transaction<'_, S>,
-) -> Result<Vec<SeatingRow>, Refusal>
-    ensures same_reference { tx.new.conn.ghost_name ≡ tx.old.conn.ghost_name }
-    ensures rows { HasCleanDisk (state S.Store tx.new.conn.now) → (t : Tables) → Holds (state S.Store tx.old.conn.now).now t → IfOk result (λ all. all.items ≡ t.seatings) }
-    ensures seatings { HasCleanDisk (state S.Store tx.new.conn.now) → (m : machine.Tables) → HoldsTables m (state S.Store tx.old.conn.now).now → IfOk result (λ all. IsPermutation m.seatings all.items) }
-    ensures tables { HasCleanDisk (state S.Store tx.new.conn.now) → (m : machine.Tables) → HoldsTables m (state S.Store tx.old.conn.now).now → OnOk result (HoldsTables m (state S.Store tx.new.conn.now).now) }
-    ensures exact { HasCleanDisk (state S.Store tx.new.conn.now) → (state S.Store tx.old.conn.now).now.schema ≡ register_schema
-        → IfOk result (λ all. IsPermutation (map (cells 1 4) ((state S.Store tx.old.conn.now).now.trees 21)) (map seating_row all.items)) }
-    ensures holds { HasCleanDisk (state S.Store tx.new.conn.now) → (t : Tables) → Holds (state S.Store tx.old.conn.now).now t → OnOk result (Holds (state S.Store tx.new.conn.now).now t) }
-    ensures opened { HasCleanDisk (state S.Store tx.new.conn.now) → OnOk result (IsTrue (state S.Store tx.old.conn.now).is_open) }
-    ensures inside { HasCleanDisk (state S.Store tx.new.conn.now) → IsTrue (state S.Store tx.old.conn.now).in_transaction → OnOk result (IsTrue (state S.Store tx.new.conn.now).in_transaction) }
-    ensures kept { HasCleanDisk (state S.Store tx.new.conn.now) → IsTrue (state S.Store tx.old.conn.now).in_transaction → KeepsCommit (state S.Store tx.old.conn.now) (state S.Store tx.new.conn.now) }
-    ensures survives { Survives (state S.Store tx.old.conn.now) (state S.Store tx.new.conn.now) (λ _. ⊥) }
-    ensures cause { IfErr result IsFault }
-{
-    rows_of(
-        alloc,
-        tx,
-        "SELECT ceremony, step, seat, who FROM seatings ORDER BY ceremony, step, seat",
-        &[],
-    )
+impl Listed for SeatingRow {
+    ghost rows_in = { λ t. t.seatings };
+
+    ghost machine_rows = { λ m. m.seatings };
+
+    ghost place = { seatings_place };
+
+    ghost is_stored = { λ _. ⊤ };
+
+    ghost with_rows = { λ rows t. record t { seatings = rows } };
+
+    ghost all_sql = { laws.all_sql };
+
+    fn all_text() -> &'static str {
+        "SELECT ceremony, step, seat, who FROM seatings ORDER BY ceremony, step, seat"
+    }
+
+    ghost lists = { laws.lists };
+
+    ghost one = { laws.one };
+
+    ghost keeps = { λ db t k. k.seatings };
+
+    ghost stores = { λ db t k. each_is t.seatings };
+
+    ghost still = { laws.still };
+
+    ghost stands = { λ m t s. s.seatings };
 }
 
-/// The rows of one ceremony, in the order of their keys.
-/// Nothing is changed. The error is `Memory` for want of memory, and else `Disk`: the device failed, or a row is one
-/// that no register stores.
-pub fn seatings_of<S: Alter>(
-    alloc: Global,
-    tx: &mut Transaction<'_, S>,
-    ceremony: u32,
-) -> Result<Vec<SeatingRow>, Refusal>
-    ensures same_reference { tx.new.conn.ghost_name ≡ tx.old.conn.ghost_name }
-    ensures rows { HasCleanDisk (state S.Store tx.new.conn.now) → (t : Tables) → Holds (state S.Store tx.old.conn.now).now t → IfOk result (λ all. all.items ≡ filter (λ x. x.ceremony == ceremony) t.seatings) }
-    ensures holds { HasCleanDisk (state S.Store tx.new.conn.now) → (t : Tables) → Holds (state S.Store tx.old.conn.now).now t → OnOk result (Holds (state S.Store tx.new.conn.now).now t) }
-    ensures opened { HasCleanDisk (state S.Store tx.new.conn.now) → OnOk result (IsTrue (state S.Store tx.old.conn.now).is_open) }
-    ensures inside { HasCleanDisk (state S.Store tx.new.conn.now) → IsTrue (state S.Store tx.old.conn.now).in_transaction → OnOk result (IsTrue (state S.Store tx.new.conn.now).in_transaction) }
-    ensures kept { HasCleanDisk (state S.Store tx.new.conn.now) → IsTrue (state S.Store tx.old.conn.now).in_transaction → KeepsCommit (state S.Store tx.old.conn.now) (state S.Store tx.new.conn.now) }
-    ensures survives { Survives (state S.Store tx.old.conn.now) (state S.Store tx.new.conn.now) (λ _. ⊥) }
-    ensures cause { IfErr result IsFault }
-{
-    let c0 = number_cell(ceremony);
-    rows_of(
-        alloc,
-        tx,
-        "SELECT ceremony, step, seat, who FROM seatings WHERE ceremony = ?1 ORDER BY ceremony, step, seat",
-        &[c0],
-    )
+/// The rows of one ceremony.
+impl Finds<u32> for SeatingRow {
+    ghost is_under = { λ ceremony x. x.ceremony == ceremony };
+
+    ghost column = { 0 };
+
+    ghost find_sql = { laws.seatings_of_sql };
+
+    fn find_text() -> &'static str {
+        "SELECT ceremony, step, seat, who FROM seatings WHERE ceremony = ?1 ORDER BY ceremony, step, seat"
+    }
+
+    ghost finds = { laws.shows_seatings_of };
+
+    ghost under = { laws.under_seatings_of };
+}
+
+impl Puts for SeatingRow {
+    ghost put_sql = { laws.put_sql };
+
+    fn put_text() -> &'static str {
+        "INSERT INTO seatings (ceremony, step, seat, who) VALUES (?1, ?2, ?3, ?4) ON CONFLICT (ceremony, step, seat) DO UPDATE SET ceremony = ?1, step = ?2, seat = ?3, who = ?4"
+    }
+
+    ghost puts = { laws.puts };
 }
 
 /// Puts the row under its ceremony, step and seat, new or in place of the row there; every other row stays. The error is `Memory` or
@@ -77,18 +78,11 @@ pub fn seatings_of<S: Alter>(
 pub fn put_seating<S: Alter>(tx: &mut Transaction<'_, S>, row: &SeatingRow) -> Result<(), Refusal>
     ensures same_reference { tx.new.conn.ghost_name ≡ tx.old.conn.ghost_name }
     ensures holds { HasCleanDisk (state S.Store tx.new.conn.now) → (t : Tables) → Holds (state S.Store tx.old.conn.now).now t → OnOk result (Holds (state S.Store tx.new.conn.now).now (record t { seatings = put_in 3 seating_row row.now t.seatings })) }
-    ensures inside { HasCleanDisk (state S.Store tx.new.conn.now) → IsTrue (state S.Store tx.old.conn.now).in_transaction → OnOk result (IsTrue (state S.Store tx.new.conn.now).in_transaction) }
-    ensures kept { HasCleanDisk (state S.Store tx.new.conn.now) → IsTrue (state S.Store tx.old.conn.now).in_transaction → KeepsCommit (state S.Store tx.old.conn.now) (state S.Store tx.new.conn.now) }
-    ensures survives { Survives (state S.Store tx.old.conn.now) (state S.Store tx.new.conn.now) (λ _. ⊥) }
-    ensures cause { IfErr result IsFault }
+    ensures frame { Writes (state S.Store tx.old.conn.now) (state S.Store tx.new.conn.now) result }
 {
     let c0 = number_cell(row.ceremony);
     let c1 = number_cell(row.step);
     let c2 = number_cell(row.seat);
     let c3 = initials_cell(&row.who);
-    write(
-        tx,
-        "INSERT OR REPLACE INTO seatings (ceremony, step, seat, who) VALUES (?1, ?2, ?3, ?4)",
-        &[c0, c1, c2, c3],
-    )
+    put_cells(tx, row, &[c0, c1, c2, c3])
 }

@@ -1,45 +1,62 @@
 //! The table versions: one row with the number of the schema.
 
-ghost use Rattle.std.specs.Prelude.{◌≡◌, map, IsPermutation, IfOk, OnOk, IsTrue, IfErr};
+ghost use Rattle.std.specs.Prelude.{⊤, ◌≡◌, IsPermutation, OnOk};
+ghost use Rattle.std.proofs.Common.{sym, subst};
+ghost use Rattle.std.proofs.lemmas.List.Sorted.{IsPermutation-refl};
 ghost use Rattle.sqlite.specs.Held.{state};
-ghost use Rattle.sqlite.specs.State.{HasCleanDisk, KeepsCommit, Survives};
-ghost use Rattle.kcr_rows.specs.Refusals.{IsFault};
-ghost use Rattle.kcr_rows.specs.Keyed.{put_in, cells};
-ghost use Rattle.kcr_tables.specs.Schema.{register_schema};
+ghost use Rattle.sqlite.specs.State.{HasCleanDisk};
+ghost use Rattle.kcr_rows.specs.Keyed.{put_in};
+ghost use Rattle.kcr_rows.proofs.TableLemmas.{each_is};
 ghost use Rattle.kcr_cells.specs.Rows.{version_row};
-ghost use Rattle.kcr_tables.specs.Held.{Tables, Holds};
+ghost use Rattle.kcr_tables.specs.Held.{versions_place, Tables, Holds};
+ghost use Rattle.kcr_tables.specs.Frame.{Writes};
+ghost use Rattle.kcr_tables.specs.First.{first_tables};
+ghost use Rattle.kcr_tables.specs.VersionsLaws as laws;
 
+use crate::table::{Listed, Puts, put_cells};
 use kcr_base::Refusal;
 use kcr_cells::Version;
-use kcr_cells::statements::{rows_of, write};
 use kcr_rows::cells::number_cell;
 use sqlite::{Alter, Transaction};
-use std::alloc::Global;
 
-/// All rows, in the order of their numbers: a register has one, with the number of its schema.
-/// Nothing is changed. The error is `Memory` for want of memory, and else `Disk`: the device failed, or a row is one
-/// that no register stores.
-pub fn all_versions<S: Alter>(
-    alloc: Global,
-    tx: &mut Transaction<'_, S>,
-) -> Result<Vec<Version>, Refusal>
-    ensures same_reference { tx.new.conn.ghost_name ≡ tx.old.conn.ghost_name }
-    ensures rows { HasCleanDisk (state S.Store tx.new.conn.now) → (t : Tables) → Holds (state S.Store tx.old.conn.now).now t → IfOk result (λ all. all.items ≡ t.versions) }
-    ensures exact { HasCleanDisk (state S.Store tx.new.conn.now) → (state S.Store tx.old.conn.now).now.schema ≡ register_schema
-        → IfOk result (λ all. IsPermutation (map (cells 1 1) ((state S.Store tx.old.conn.now).now.trees 27)) (map version_row all.items)) }
-    ensures holds { HasCleanDisk (state S.Store tx.new.conn.now) → (t : Tables) → Holds (state S.Store tx.old.conn.now).now t → OnOk result (Holds (state S.Store tx.new.conn.now).now t) }
-    ensures opened { HasCleanDisk (state S.Store tx.new.conn.now) → OnOk result (IsTrue (state S.Store tx.old.conn.now).is_open) }
-    ensures inside { HasCleanDisk (state S.Store tx.new.conn.now) → IsTrue (state S.Store tx.old.conn.now).in_transaction → OnOk result (IsTrue (state S.Store tx.new.conn.now).in_transaction) }
-    ensures kept { HasCleanDisk (state S.Store tx.new.conn.now) → IsTrue (state S.Store tx.old.conn.now).in_transaction → KeepsCommit (state S.Store tx.old.conn.now) (state S.Store tx.new.conn.now) }
-    ensures survives { Survives (state S.Store tx.old.conn.now) (state S.Store tx.new.conn.now) (λ _. ⊥) }
-    ensures cause { IfErr result IsFault }
-{
-    rows_of(
-        alloc,
-        tx,
-        "SELECT number FROM versions ORDER BY number",
-        &[],
-    )
+impl Listed for Version {
+    ghost rows_in = { λ t. t.versions };
+
+    ghost machine_rows = { λ _. first_tables.versions };
+
+    ghost place = { versions_place };
+
+    ghost is_stored = { λ _. ⊤ };
+
+    ghost with_rows = { λ rows t. record t { versions = rows } };
+
+    ghost all_sql = { laws.all_sql };
+
+    fn all_text() -> &'static str {
+        "SELECT number FROM versions ORDER BY number"
+    }
+
+    ghost lists = { laws.lists };
+
+    ghost one = { laws.one };
+
+    ghost keeps = { λ db t k. k.versions };
+
+    ghost stores = { λ db t k. each_is t.versions };
+
+    ghost still = { laws.still };
+
+    ghost stands = { λ m t s. subst (λ l. IsPermutation first_tables.versions l) (sym s.versions) (IsPermutation-refl first_tables.versions) };
+}
+
+impl Puts for Version {
+    ghost put_sql = { laws.put_sql };
+
+    fn put_text() -> &'static str {
+        "INSERT INTO versions (number) VALUES (?1) ON CONFLICT (number) DO UPDATE SET number = ?1"
+    }
+
+    ghost puts = { laws.puts };
 }
 
 /// Puts the row under its number, new or in place of the row there; every other row stays. The error is `Memory` or
@@ -47,15 +64,8 @@ pub fn all_versions<S: Alter>(
 pub fn put_version<S: Alter>(tx: &mut Transaction<'_, S>, row: &Version) -> Result<(), Refusal>
     ensures same_reference { tx.new.conn.ghost_name ≡ tx.old.conn.ghost_name }
     ensures holds { HasCleanDisk (state S.Store tx.new.conn.now) → (t : Tables) → Holds (state S.Store tx.old.conn.now).now t → OnOk result (Holds (state S.Store tx.new.conn.now).now (record t { versions = put_in 1 version_row row.now t.versions })) }
-    ensures inside { HasCleanDisk (state S.Store tx.new.conn.now) → IsTrue (state S.Store tx.old.conn.now).in_transaction → OnOk result (IsTrue (state S.Store tx.new.conn.now).in_transaction) }
-    ensures kept { HasCleanDisk (state S.Store tx.new.conn.now) → IsTrue (state S.Store tx.old.conn.now).in_transaction → KeepsCommit (state S.Store tx.old.conn.now) (state S.Store tx.new.conn.now) }
-    ensures survives { Survives (state S.Store tx.old.conn.now) (state S.Store tx.new.conn.now) (λ _. ⊥) }
-    ensures cause { IfErr result IsFault }
+    ensures frame { Writes (state S.Store tx.old.conn.now) (state S.Store tx.new.conn.now) result }
 {
     let c0 = number_cell(row.number);
-    write(
-        tx,
-        "INSERT OR REPLACE INTO versions (number) VALUES (?1)",
-        &[c0],
-    )
+    put_cells(tx, row, &[c0])
 }

@@ -9,23 +9,14 @@ ghost use Rattle.kcr_history.specs.declared.rows.KeyRow.{KeyRow};
 ghost use Rattle.kcr_rows.specs.Refusals.{IsFault};
 ghost use Rattle.kcr_rows.specs.Greatest.{IsGreatest};
 ghost use Rattle.kcr_tables.specs.Asked.{asked_of, asked_all};
+ghost use Rattle.kcr_tables.specs.Frame.{Reads};
 ghost use Rattle.kcr_tables.specs.Held.{Tables, Holds};
 ghost use Rattle.kcr_tables.specs.Joint.{HoldsTables};
 
-use crate::appointments::asked_appointments;
-use crate::bags::asked_bags;
-use crate::boxes::asked_boxes;
-use crate::ceremonies::asked_ceremonies;
-use crate::exceptions::asked_exceptions;
-use crate::items::asked_items;
-use crate::keys::{key_row_of, last_key_row};
-use crate::marks::asked_marks;
-use crate::people::asked_people;
+use crate::last::last_key_row;
 use crate::rooms::asked_stays;
-use crate::safes::asked_safes;
-use crate::steps::asked_steps;
-use crate::trainings::asked_trainings;
-use crate::withdrawals::asked_withdrawals;
+use crate::several::{asked_appointments, asked_items, asked_people};
+use crate::table::{asked_rows, asked_whole, rows_under};
 use kcr_base::{Key, Refusal};
 use kcr_custody::{Bag, BoxRow, Item, SafeRow};
 use kcr_history::{Asks, CeremonyRow, ExceptionRow, KeyRow, MarkRow, StepRow, View};
@@ -70,14 +61,10 @@ fn asked_keys<S: Alter>(
 ) -> Result<Vec<KeyRow>, Refusal>
     ensures same_reference { tx.new.conn.ghost_name ≡ tx.old.conn.ghost_name }
     ensures rows { HasCleanDisk (state S.Store tx.new.conn.now) → (t : Tables) → Holds (state S.Store tx.old.conn.now).now t → IfOk result (λ all. (last : List KeyRow) × IsGreatest (λ x. x.accepted) t.keys last × (all.items ≡ filter (is_of_key key.now) t.keys ++ last)) }
-    ensures holds { HasCleanDisk (state S.Store tx.new.conn.now) → (t : Tables) → Holds (state S.Store tx.old.conn.now).now t → OnOk result (Holds (state S.Store tx.new.conn.now).now t) }
     ensures opened { HasCleanDisk (state S.Store tx.new.conn.now) → OnOk result (IsTrue (state S.Store tx.old.conn.now).is_open) }
-    ensures inside { HasCleanDisk (state S.Store tx.new.conn.now) → IsTrue (state S.Store tx.old.conn.now).in_transaction → OnOk result (IsTrue (state S.Store tx.new.conn.now).in_transaction) }
-    ensures kept { HasCleanDisk (state S.Store tx.new.conn.now) → IsTrue (state S.Store tx.old.conn.now).in_transaction → KeepsCommit (state S.Store tx.old.conn.now) (state S.Store tx.new.conn.now) }
-    ensures survives { Survives (state S.Store tx.old.conn.now) (state S.Store tx.new.conn.now) (λ _. ⊥) }
-    ensures cause { IfErr result IsFault }
+    ensures frame { Reads (state S.Store tx.old.conn.now) (state S.Store tx.new.conn.now) result }
 {
-    let mut rows = key_row_of(alloc, tx, key)?;
+    let mut rows: Vec<KeyRow> = rows_under(alloc, tx, key)?;
     let mut last = last_key_row(alloc, tx)?;
     rows.append(&mut last)?;
     Ok(rows)
@@ -94,15 +81,11 @@ fn staff_rows<S: Alter>(
     ensures trainings { HasCleanDisk (state S.Store tx.new.conn.now) → (t : Tables) → Holds (state S.Store tx.old.conn.now).now t → IfOk result (λ rows. rows.trainings.items ≡ asked_of is_training_of asks.now.trainings t.trainings) }
     ensures withdrawals { HasCleanDisk (state S.Store tx.new.conn.now) → (t : Tables) → Holds (state S.Store tx.old.conn.now).now t → IfOk result (λ rows. rows.withdrawals.items ≡ asked_of is_withdrawal_of asks.now.withdrawals t.withdrawals) }
     ensures appointments { HasCleanDisk (state S.Store tx.new.conn.now) → (t : Tables) → Holds (state S.Store tx.old.conn.now).now t → IfOk result (λ rows. rows.appointments.items ≡ asked_of is_appointment_of asks.now.appointments t.appointments) }
-    ensures holds { HasCleanDisk (state S.Store tx.new.conn.now) → (t : Tables) → Holds (state S.Store tx.old.conn.now).now t → OnOk result (Holds (state S.Store tx.new.conn.now).now t) }
-    ensures inside { HasCleanDisk (state S.Store tx.new.conn.now) → IsTrue (state S.Store tx.old.conn.now).in_transaction → OnOk result (IsTrue (state S.Store tx.new.conn.now).in_transaction) }
-    ensures kept { HasCleanDisk (state S.Store tx.new.conn.now) → IsTrue (state S.Store tx.old.conn.now).in_transaction → KeepsCommit (state S.Store tx.old.conn.now) (state S.Store tx.new.conn.now) }
-    ensures survives { Survives (state S.Store tx.old.conn.now) (state S.Store tx.new.conn.now) (λ _. ⊥) }
-    ensures cause { IfErr result IsFault }
+    ensures frame { Reads (state S.Store tx.old.conn.now) (state S.Store tx.new.conn.now) result }
 {
     let people = asked_people(alloc, tx, &asks.people)?;
-    let trainings = asked_trainings(alloc, tx, &asks.trainings)?;
-    let withdrawals = asked_withdrawals(alloc, tx, &asks.withdrawals)?;
+    let trainings = asked_rows(alloc, tx, &asks.trainings)?;
+    let withdrawals = asked_rows(alloc, tx, &asks.withdrawals)?;
     let appointments = asked_appointments(alloc, tx, &asks.appointments)?;
     Ok(StaffRows {
         people,
@@ -123,15 +106,11 @@ fn custody_rows<S: Alter>(
     ensures safes { HasCleanDisk (state S.Store tx.new.conn.now) → (t : Tables) → Holds (state S.Store tx.old.conn.now).now t → IfOk result (λ rows. rows.safes.items ≡ asked_all asks.now.safes t.safes) }
     ensures bags { HasCleanDisk (state S.Store tx.new.conn.now) → (t : Tables) → Holds (state S.Store tx.old.conn.now).now t → IfOk result (λ rows. rows.bags.items ≡ asked_of is_of_serial asks.now.bags t.bags) }
     ensures items { HasCleanDisk (state S.Store tx.new.conn.now) → (t : Tables) → Holds (state S.Store tx.old.conn.now).now t → IfOk result (λ rows. Shows is_item_of asks.now.items t.items rows.items.items) }
-    ensures holds { HasCleanDisk (state S.Store tx.new.conn.now) → (t : Tables) → Holds (state S.Store tx.old.conn.now).now t → OnOk result (Holds (state S.Store tx.new.conn.now).now t) }
-    ensures inside { HasCleanDisk (state S.Store tx.new.conn.now) → IsTrue (state S.Store tx.old.conn.now).in_transaction → OnOk result (IsTrue (state S.Store tx.new.conn.now).in_transaction) }
-    ensures kept { HasCleanDisk (state S.Store tx.new.conn.now) → IsTrue (state S.Store tx.old.conn.now).in_transaction → KeepsCommit (state S.Store tx.old.conn.now) (state S.Store tx.new.conn.now) }
-    ensures survives { Survives (state S.Store tx.old.conn.now) (state S.Store tx.new.conn.now) (λ _. ⊥) }
-    ensures cause { IfErr result IsFault }
+    ensures frame { Reads (state S.Store tx.old.conn.now) (state S.Store tx.new.conn.now) result }
 {
-    let boxes = asked_boxes(alloc, tx, asks.boxes)?;
-    let safes = asked_safes(alloc, tx, asks.safes)?;
-    let bags = asked_bags(alloc, tx, &asks.bags)?;
+    let boxes = asked_whole(alloc, tx, asks.boxes)?;
+    let safes = asked_whole(alloc, tx, asks.safes)?;
+    let bags = asked_rows(alloc, tx, &asks.bags)?;
     let items = asked_items(alloc, tx, &asks.items)?;
     Ok(CustodyRows {
         boxes,
@@ -153,16 +132,12 @@ fn ceremony_rows<S: Alter>(
     ensures steps { HasCleanDisk (state S.Store tx.new.conn.now) → (t : Tables) → Holds (state S.Store tx.old.conn.now).now t → IfOk result (λ rows. rows.steps.items ≡ asked_of is_step_of asks.now.steps t.steps) }
     ensures exceptions { HasCleanDisk (state S.Store tx.new.conn.now) → (t : Tables) → Holds (state S.Store tx.old.conn.now).now t → IfOk result (λ rows. rows.exceptions.items ≡ asked_of is_exception_of asks.now.exceptions t.exceptions) }
     ensures stays { HasCleanDisk (state S.Store tx.new.conn.now) → (t : Tables) → Holds (state S.Store tx.old.conn.now).now t → IfOk result (λ rows. ShowsStays asks.now.stays t.stays rows.stays.items) }
-    ensures holds { HasCleanDisk (state S.Store tx.new.conn.now) → (t : Tables) → Holds (state S.Store tx.old.conn.now).now t → OnOk result (Holds (state S.Store tx.new.conn.now).now t) }
-    ensures inside { HasCleanDisk (state S.Store tx.new.conn.now) → IsTrue (state S.Store tx.old.conn.now).in_transaction → OnOk result (IsTrue (state S.Store tx.new.conn.now).in_transaction) }
-    ensures kept { HasCleanDisk (state S.Store tx.new.conn.now) → IsTrue (state S.Store tx.old.conn.now).in_transaction → KeepsCommit (state S.Store tx.old.conn.now) (state S.Store tx.new.conn.now) }
-    ensures survives { Survives (state S.Store tx.old.conn.now) (state S.Store tx.new.conn.now) (λ _. ⊥) }
-    ensures cause { IfErr result IsFault }
+    ensures frame { Reads (state S.Store tx.old.conn.now) (state S.Store tx.new.conn.now) result }
 {
-    let ceremonies = asked_ceremonies(alloc, tx, &asks.ceremonies)?;
-    let marks = asked_marks(alloc, tx, &asks.marks)?;
-    let steps = asked_steps(alloc, tx, &asks.steps)?;
-    let exceptions = asked_exceptions(alloc, tx, &asks.exceptions)?;
+    let ceremonies = asked_rows(alloc, tx, &asks.ceremonies)?;
+    let marks = asked_rows(alloc, tx, &asks.marks)?;
+    let steps = asked_rows(alloc, tx, &asks.steps)?;
+    let exceptions = asked_rows(alloc, tx, &asks.exceptions)?;
     let stays = asked_stays(alloc, tx, &asks.stays)?;
     Ok(CeremonyRows {
         ceremonies,
@@ -173,23 +148,16 @@ fn ceremony_rows<S: Alter>(
     })
 }
 
-/// The rows asked for, of each table: of the accepted commands always the row of the key, if there is one, and the row
-/// with the greatest number. Of a table that is not asked for nothing is read. Nothing is changed. The error is `Memory`
-/// for want of memory, and else `Disk`: the device failed, or a row is one that no register stores.
-pub fn view_of<S: Alter>(
+/// The rows of `view_of`.
+fn rows_asked<S: Alter>(
     alloc: Global,
     tx: &mut Transaction<'_, S>,
     asks: &Asks,
 ) -> Result<View, Refusal>
     ensures same_reference { tx.new.conn.ghost_name ≡ tx.old.conn.ghost_name }
     ensures view { HasCleanDisk (state S.Store tx.new.conn.now) → (m : machine.Tables) → HoldsTables m (state S.Store tx.old.conn.now).now → IfOk result (IsViewOf asks.now m) }
-    ensures stays { HasCleanDisk (state S.Store tx.new.conn.now) → (m : machine.Tables) → HoldsTables m (state S.Store tx.old.conn.now).now → OnOk result (HoldsTables m (state S.Store tx.new.conn.now).now) }
-    ensures holds { HasCleanDisk (state S.Store tx.new.conn.now) → (t : Tables) → Holds (state S.Store tx.old.conn.now).now t → OnOk result (Holds (state S.Store tx.new.conn.now).now t) }
     ensures opened { HasCleanDisk (state S.Store tx.new.conn.now) → OnOk result (IsTrue (state S.Store tx.old.conn.now).is_open) }
-    ensures inside { HasCleanDisk (state S.Store tx.new.conn.now) → IsTrue (state S.Store tx.old.conn.now).in_transaction → OnOk result (IsTrue (state S.Store tx.new.conn.now).in_transaction) }
-    ensures kept { HasCleanDisk (state S.Store tx.new.conn.now) → IsTrue (state S.Store tx.old.conn.now).in_transaction → KeepsCommit (state S.Store tx.old.conn.now) (state S.Store tx.new.conn.now) }
-    ensures survives { Survives (state S.Store tx.old.conn.now) (state S.Store tx.new.conn.now) (λ _. ⊥) }
-    ensures cause { IfErr result IsFault }
+    ensures frame { Reads (state S.Store tx.old.conn.now) (state S.Store tx.new.conn.now) result }
 {
     let keys = asked_keys(alloc, tx, &asks.key)?;
     let staff = staff_rows(alloc, tx, asks)?;
@@ -213,4 +181,25 @@ pub fn view_of<S: Alter>(
         exceptions: ceremony.exceptions,
         keys,
     })
+}
+
+/// The rows asked for, of each table: of the accepted commands always the row of the key, if there is one, and the row
+/// with the greatest number. Of a table that is not asked for nothing is read. Nothing is changed. The error is `Memory`
+/// for want of memory, and else `Disk`: the device failed, or a row is one that no register stores.
+pub fn view_of<S: Alter>(
+    alloc: Global,
+    tx: &mut Transaction<'_, S>,
+    asks: &Asks,
+) -> Result<View, Refusal>
+    ensures same_reference { tx.new.conn.ghost_name ≡ tx.old.conn.ghost_name }
+    ensures view { HasCleanDisk (state S.Store tx.new.conn.now) → (m : machine.Tables) → HoldsTables m (state S.Store tx.old.conn.now).now → IfOk result (IsViewOf asks.now m) }
+    ensures stays { HasCleanDisk (state S.Store tx.new.conn.now) → (m : machine.Tables) → HoldsTables m (state S.Store tx.old.conn.now).now → OnOk result (HoldsTables m (state S.Store tx.new.conn.now).now) }
+    ensures holds { HasCleanDisk (state S.Store tx.new.conn.now) → (t : Tables) → Holds (state S.Store tx.old.conn.now).now t → OnOk result (Holds (state S.Store tx.new.conn.now).now t) }
+    ensures opened { HasCleanDisk (state S.Store tx.new.conn.now) → OnOk result (IsTrue (state S.Store tx.old.conn.now).is_open) }
+    ensures inside { HasCleanDisk (state S.Store tx.new.conn.now) → IsTrue (state S.Store tx.old.conn.now).in_transaction → OnOk result (IsTrue (state S.Store tx.new.conn.now).in_transaction) }
+    ensures kept { HasCleanDisk (state S.Store tx.new.conn.now) → IsTrue (state S.Store tx.old.conn.now).in_transaction → KeepsCommit (state S.Store tx.old.conn.now) (state S.Store tx.new.conn.now) }
+    ensures survives { Survives (state S.Store tx.old.conn.now) (state S.Store tx.new.conn.now) (λ _. ⊥) }
+    ensures cause { IfErr result IsFault }
+{
+    rows_asked(alloc, tx, asks)
 }

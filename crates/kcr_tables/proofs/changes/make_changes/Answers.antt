@@ -5,7 +5,8 @@ use Rattle.sqlite.specs.Held.{state}
 use Rattle.kcr_history.specs.declared.views.Change.{Change}
 use Rattle.kcr_tables.specs.Held.{Tables, Holds}
 use Rattle.kcr_tables.specs.Changed.{changed, changed_all}
-use Rattle.kcr_rows.proofs.InsideLemmas.{was_clean, survives_on, keeps_then}
+use Rattle.kcr_rows.proofs.InsideLemmas.{was_clean}
+use Rattle.kcr_tables.proofs.FrameLemmas.{writes_then}
 use Rattle.kcr_tables.proofs.HoldLemmas.{held_of}
 use Rattle.kcr_tables.proofs.JointLemmas.{changes_hold}
 use Rattle.kcr_tables.proofs.changes.make_changes.Goals as goal
@@ -18,15 +19,12 @@ loop-change-preserved g c =
     let had = c.loop-change.invariant in
     let step = c.in_ok-make_change.ensures in record {
       same_reference = step.same_reference ∙ had.same_reference;
-      survives = survives_on old mid new had.survives step.survives;
-      goes_on = λ clean inside.
-          let was = had.goes_on (was_clean mid new _ step.survives clean) inside in
-          (step.inside clean was.0, keeps_then old mid new was.1 (step.kept clean was.0));
+      frame = writes_then old mid new tt _ had.frame step.frame;
       built = λ clean t held.
           let changes = c.args.changes.now in
           let i = c.loop-change.change-index in
           let item = c.change-item.result in
-          let was = had.built (was_clean mid new _ step.survives clean) t held in
+          let was = had.built (was_clean mid new _ step.frame.survives clean) t held in
           let low : i < length changes = search rules in
           let at : get_or changes i item ≡ item = search rules in
           let more = fold_more (λ (held : Tables) (x : Change). changed x held) t changes i item low ∙ ap (λ (x : Change). changed x (changed_all (Rattle.std.proofs.Common.take i changes) t)) at in

@@ -1,14 +1,8 @@
-use Rattle.std.proofs.Common.{ℕ, [], ◌∷◌, Ok, OnOk, subst}
-use Rattle.sqlite.specs.Order.{Row}
-use Rattle.sqlite.specs.Held.{state}
-use Rattle.sqlite.specs.State.{Executes}
-use Rattle.kcr_rows.proofs.FailLemmas.{on_ok_then}
-use Rattle.kcr_tables.proofs.ItemsLemmas.{put_text, puts}
+use Rattle.std.proofs.Common.{[], ◌∷◌}
 use Rattle.kcr_tables.proofs.items.put_item.Goals as goal
 
-pub returns-clause-holds : goal.returns-clause-holds
-returns-clause-holds g c clean t held =
-    let old = state g.S.Store c.args.tx.now.conn.now in
-    let new = state g.S.Store c.write.new.tx.conn.now in
-    let ran = subst (λ (v : Row). OnOk c.write.result ((count : ℕ) × Executes put_text v old new (Ok count))) (λ i. c.item_cell-c0.ensures i ∷ c.loose_cell-c1.ensures i ∷ c.within_cell-c2.ensures i ∷ []) (c.write.ensures.runs clean) in
-    on_ok_then _ _ (λ h. puts c.args.row.now old new h.0 t held h.1) c.write.result ran
+pub put_cells-requires-clause-cells : goal.put_cells-requires-clause-cells
+put_cells-requires-clause-cells g c = λ i. c.item_cell-c0.ensures i ∷ c.loose_cell-c1.ensures i ∷ c.within_cell-c2.ensures i ∷ []
+
+pub put_cells-requires-clause-stored : goal.put_cells-requires-clause-stored
+put_cells-requires-clause-stored g c = tt

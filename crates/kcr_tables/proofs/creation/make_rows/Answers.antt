@@ -1,0 +1,42 @@
+use Rattle.std.proofs.Common.{subst, OnOk}
+use Rattle.sqlite.specs.Held.{state}
+use Rattle.sqlite.specs.State.{HasCleanDisk}
+use Rattle.kcr_tables.specs.Held.{Tables, Holds}
+use Rattle.kcr_rows.proofs.InsideLemmas.{was_clean}
+use Rattle.kcr_tables.proofs.FrameLemmas.{writes_then, writes_fails}
+use Rattle.kcr_tables.proofs.SafeLemmas.{first_is}
+use Rattle.kcr_tables.proofs.creation.make_rows.Goals as goal
+
+pub returns-clause-holds : goal.returns-clause-holds
+returns-clause-holds g c clean has =
+    let one = state g.S.Store c.create_all.new.tx.conn.now in
+    let two = state g.S.Store c.put_pair.new.tx.conn.now in
+    let three = state g.S.Store c.put_pair-2.new.tx.conn.now in
+    let new = state g.S.Store c.put_version.new.tx.conn.now in
+    let clean3 : HasCleanDisk three = was_clean three new _ c.put_version.ensures.frame.survives clean in
+    let clean2 : HasCleanDisk two = was_clean two three _ c.put_pair-2.ensures.frame.survives clean3 in
+    let clean1 : HasCleanDisk one = was_clean one two _ c.put_pair.ensures.frame.survives clean2 in
+    let held1 = c.in_ok-create_all.ensures.holds clean1 has in
+    let held2 = c.in_ok-put_pair.ensures.holds clean2 _ held1 in
+    let held3 = c.in_ok-put_pair-2.ensures.holds clean3 _ held2 in
+    subst (λ (t : Tables). OnOk c.put_version.result (Holds new.now t)) first_is (c.put_version.ensures.holds clean _ held3)
+
+pub returns-in_err-put_pair-clause-frame : goal.returns-in_err-put_pair-clause-frame
+returns-in_err-put_pair-clause-frame g c =
+    writes_then (state g.S.Store c.args.tx.now.conn.now) (state g.S.Store c.create_all.new.tx.conn.now) (state g.S.Store c.put_pair.new.tx.conn.now) _ _ c.in_ok-create_all.ensures.frame (writes_fails _ _ _ _ c.from_residual-in_err-put_pair.ensures.1 c.in_err-put_pair.ensures.frame)
+
+pub returns-in_err-put_pair-2-clause-frame : goal.returns-in_err-put_pair-2-clause-frame
+returns-in_err-put_pair-2-clause-frame g c =
+    let old = state g.S.Store c.args.tx.now.conn.now in
+    let one = state g.S.Store c.create_all.new.tx.conn.now in
+    let two = state g.S.Store c.put_pair.new.tx.conn.now in
+    writes_then old two (state g.S.Store c.put_pair-2.new.tx.conn.now) _ _ (writes_then old one two _ _ c.in_ok-create_all.ensures.frame c.in_ok-put_pair.ensures.frame) (writes_fails _ _ _ _ c.from_residual-in_err-put_pair-2.ensures.1 c.in_err-put_pair-2.ensures.frame)
+
+pub returns-clause-frame : goal.returns-clause-frame
+returns-clause-frame g c =
+    let old = state g.S.Store c.args.tx.now.conn.now in
+    let one = state g.S.Store c.create_all.new.tx.conn.now in
+    let two = state g.S.Store c.put_pair.new.tx.conn.now in
+    let three = state g.S.Store c.put_pair-2.new.tx.conn.now in
+    writes_then old three (state g.S.Store c.put_version.new.tx.conn.now) _ _
+    (writes_then old two three _ _ (writes_then old one two _ _ c.in_ok-create_all.ensures.frame c.in_ok-put_pair.ensures.frame) c.in_ok-put_pair-2.ensures.frame) c.put_version.ensures.frame

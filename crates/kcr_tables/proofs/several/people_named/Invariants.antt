@@ -1,0 +1,16 @@
+use Rattle.std.proofs.Common.{◌≡◌, Ok, take, filter, IsPermutation}
+use Rattle.sqlite.specs.Held.{state}
+use Rattle.sqlite.specs.State.{HasCleanDisk}
+use Rattle.kcr_history.specs.Views.{is_of_people}
+use Rattle.kcr_tables.specs.Frame.{Reads}
+use Rattle.kcr_tables.specs.Held.{Tables, Holds}
+use Rattle.kcr_tables.proofs.several.people_named.Given as goal
+
+abbrev pub invariant-loop-at : goal.invariant-loop-at
+invariant-loop-at g l =
+    let old = state g.S.Store l.fn.tx.conn.now in
+    let now = state g.S.Store l.tx.conn.now in record {
+      same_reference : l.tx.conn.ghost_name ≡ l.fn.tx.conn.ghost_name;
+      frame : Reads {A = Unit {0}} old now (Ok tt);
+      rows : HasCleanDisk now → (t : Tables) → Holds old.now t → IsPermutation (filter (is_of_people (take l.at l.people)) t.people) l.rows.items;
+    }

@@ -1,0 +1,46 @@
+use Rattle.std.proofs.Common.{ℕ, List, [], true, map, refl, IfOk, IsPermutation, sym, subst, ◌∙◌}
+use Rattle.sqlite.specs.Held.{state}
+use Rattle.sqlite.specs.State.{Shown}
+use Rattle.sqlite.specs.Given.{IsPlain}
+use Rattle.sqlite.specs.Listing.{understood}
+use Rattle.kcr_rows.proofs.FailLemmas.{if_both, if_ok, on_ok_then, plain_in}
+use Rattle.kcr_rows.proofs.TableLemmas.{filter_every}
+use Rattle.kcr_tables.specs.Schema.{register_schema}
+use Rattle.kcr_tables.proofs.HoldLemmas.{still_holds, held_of, tables_of}
+use Rattle.kcr_tables.proofs.StatementLemmas.{rows_shown, every_row}
+use Rattle.kcr_tables.proofs.table.all_rows.Goals as goal
+
+pub returns-clause-rows : goal.returns-clause-rows
+returns-clause-rows g c clean t held =
+    let T = g.T.Listed in
+    let laws = g.met.T.Listed in
+    let old = state g.S.Store c.args.tx.now.conn.now in
+    let new = state g.S.Store c.rows_of.new.tx.conn.now in
+    let shown = subst (λ (sql : List ℕ). IfOk c.rows_of.result (λ all. Shown sql [] old new (map g.T.Stored.row_of all.items))) c.all_text.ensures (c.rows_of.ensures.shown clean) in
+    if_both _ _ _ (λ all h read.
+    rows_shown T.all_sql T.place [] (λ _. true) laws.lists g.T.Stored.row_of g.T.Stored.is_read T.is_stored laws.one (λ _. true) (λ x. refl) old new all.items held.schema
+    h read (T.rows_in t) (laws.stores old.now.trees t held.kept) (laws.keeps old.now.trees t held.kept) ∙ filter_every (T.rows_in t)) c.rows_of.result shown c.rows_of.ensures.read
+
+pub returns-clause-exact : goal.returns-clause-exact
+returns-clause-exact g c clean has =
+    let T = g.T.Listed in
+    let old = state g.S.Store c.args.tx.now.conn.now in
+    let new = state g.S.Store c.rows_of.new.tx.conn.now in
+    let shown = subst (λ (sql : List ℕ). IfOk c.rows_of.result (λ all. Shown sql [] old new (map g.T.Stored.row_of all.items))) c.all_text.ensures (c.rows_of.ensures.shown clean) in
+    if_ok _ _ (λ all h. every_row T.all_sql T.place g.met.T.Listed.lists g.T.Stored.row_of old new all.items has h) c.rows_of.result shown
+
+pub returns-clause-machine : goal.returns-clause-machine
+returns-clause-machine g c clean m h =
+    if_ok _ _ (λ all is. subst (IsPermutation (g.T.Listed.machine_rows m)) (sym is) (g.met.T.Listed.stands m h.tables.t h.tables.stands)) c.rows_of.result
+    (returns-clause-rows g c clean h.tables.t (held_of m (state g.S.Store c.args.tx.now.conn.now).now h))
+
+pub returns-clause-holds : goal.returns-clause-holds
+returns-clause-holds g c clean t held =
+    let old = state g.S.Store c.args.tx.now.conn.now in
+    let plain = subst (λ (sql : List ℕ). IsPlain (understood old.now.schema sql)) (sym c.all_text.ensures) (plain_in register_schema g.T.Listed.all_sql g.met.T.Listed.lists.bare old held.schema) in
+    on_ok_then _ _ (still_holds _ (state g.S.Store c.rows_of.new.tx.conn.now) t held) c.rows_of.result (c.rows_of.ensures.same clean plain)
+
+pub returns-clause-tables : goal.returns-clause-tables
+returns-clause-tables g c clean m h =
+    on_ok_then _ _ (tables_of m (state g.S.Store c.rows_of.new.tx.conn.now).now h.tables.t h.tables.stands) c.rows_of.result
+    (returns-clause-holds g c clean h.tables.t (held_of m (state g.S.Store c.args.tx.now.conn.now).now h))

@@ -1,0 +1,32 @@
+use Rattle.std.proofs.Common.{ℕ, List, [], ◌∷◌, map, IfOk, sym, subst, subst₂}
+use Rattle.sqlite.specs.Order.{Row}
+use Rattle.sqlite.specs.Held.{state}
+use Rattle.sqlite.specs.State.{Shown}
+use Rattle.sqlite.specs.Given.{IsPlain}
+use Rattle.sqlite.specs.Listing.{understood}
+use Rattle.kcr_rows.proofs.FailLemmas.{if_both, on_ok_then, plain_in}
+use Rattle.kcr_rows.proofs.FilterLemmas.{has_value}
+use Rattle.kcr_tables.specs.Schema.{register_schema}
+use Rattle.kcr_tables.proofs.HoldLemmas.{still_holds}
+use Rattle.kcr_tables.proofs.StatementLemmas.{rows_shown}
+use Rattle.kcr_tables.proofs.table.rows_under.Goals as goal
+
+pub returns-clause-rows : goal.returns-clause-rows
+returns-clause-rows g c clean t held =
+    let T = g.T.Listed in
+    let laws = g.met.T.Listed in
+    let key = c.args.key.now in
+    let value = g.K.AsCell.value_of key in
+    let old = state g.S.Store c.args.tx.now.conn.now in
+    let new = state g.S.Store c.rows_of.new.tx.conn.now in
+    let shown = subst₂ (λ (sql : List ℕ) (v : Row). IfOk c.rows_of.result (λ all. Shown sql v old new (map g.T.Stored.row_of all.items))) c.find_text.ensures (λ i. c.cell.ensures i ∷ []) (c.rows_of.ensures.shown clean) in
+    if_both _ _ _ (λ all h read.
+    rows_shown g.T.Finds.find_sql T.place (value ∷ []) (has_value g.T.Finds.column value) (g.met.T.Finds.finds key) g.T.Stored.row_of g.T.Stored.is_read T.is_stored laws.one
+    (g.T.Finds.is_under key) (g.met.T.Finds.under key) old new all.items held.schema
+    h read (T.rows_in t) (laws.stores old.now.trees t held.kept) (laws.keeps old.now.trees t held.kept)) c.rows_of.result shown c.rows_of.ensures.read
+
+pub returns-clause-holds : goal.returns-clause-holds
+returns-clause-holds g c clean t held =
+    let old = state g.S.Store c.args.tx.now.conn.now in
+    let plain = subst (λ (sql : List ℕ). IsPlain (understood old.now.schema sql)) (sym c.find_text.ensures) (plain_in register_schema g.T.Finds.find_sql (g.met.T.Finds.finds c.args.key.now).bare old held.schema) in
+    on_ok_then _ _ (still_holds _ (state g.S.Store c.rows_of.new.tx.conn.now) t held) c.rows_of.result (c.rows_of.ensures.same clean plain)

@@ -1,0 +1,137 @@
+-- What the table appointments proves of its texts, and of its place among the others.
+use Rattle.std.proofs.Common.{◌≡◌, ◌≢◌, ℕ, pos, List, [], ◌∷◌, map, codes, true, refl, sym, ap, ◌∙◌}
+use Rattle.std.specs.Bool.{⊤}
+use Rattle.std.specs.List.{AllByRecursion}
+use Rattle.sqlite.specs.declared.types.Value.TheVariants.{Null, Text}
+use Rattle.sqlite.specs.Order.{Row, column}
+use Rattle.sqlite.specs.Term.{Term, lit, col, op2}
+use Rattle.sqlite.specs.Collation.TheVariants.{Binary}
+use Rattle.sqlite.specs.Tree.{Trees}
+use Rattle.sqlite.specs.Edit.{IsNoIndex}
+use Rattle.sqlite.specs.Listing.{understood}
+use Rattle.sqlite_catalog.specs.Listing.{IsSound}
+use Rattle.sqlite_sql.specs.declared.ops.BinaryOp.TheVariants.{Compare}
+use Rattle.sqlite_sql.specs.declared.ops.CompareOp.TheVariants.{Eq}
+use Rattle.sqlite_value.specs.declared.keys.Key.{Key}
+use Rattle.sqlite_value.specs.Keys.{ascending}
+use Rattle.sqlite_tied.specs.Compute.{everything}
+use Rattle.kcr_base.specs.Same.{same_text}
+use Rattle.kcr_base.specs.Place.{place_text}
+use Rattle.kcr_history.specs.Views.{is_appointment_of}
+use Rattle.kcr_history.specs.declared.views.AppointmentsOf.TheVariants as Wanted
+use Rattle.kcr_rows.specs.Columns.{words, number, number_or_null}
+use Rattle.kcr_rows.specs.Keyed.{Keeps}
+use Rattle.kcr_rows.proofs.FilterLemmas.{has_value, value_is}
+use Rattle.kcr_rows.proofs.WriteLemmas.{cast_int}
+use Rattle.kcr_rows.proofs.TableLemmas.{keeps_still}
+use Rattle.kcr_rows.proofs.SameLemmas.{one_number, one_place, text_ties}
+use Rattle.kcr_cells.proofs.StateLemmas.{cast_or_null}
+use Rattle.kcr_cells.specs.Rows.{appointment_row}
+use Rattle.kcr_people.specs.declared.Appointment.{Appointment}
+use Rattle.kcr_tables.specs.Schema.{register_schema}
+use Rattle.kcr_tables.specs.Held.{Tables, Kept, people_place, trainings_place, appointments_place, boxes_place, safes_place, bags_place, items_place, ceremonies_place, marks_place, steps_place, seatings_place, sheet_place, exceptions_place, versions_place, keys_place, stays_place, withdrawals_place}
+use Rattle.kcr_tables.specs.Parts.{text_in, number_in}
+use Rattle.kcr_tables.specs.Statements.{ShowsRows, PutsRow}
+
+abbrev pub project : List Term
+project = col 1 1 ∷ col 1 2 ∷ col 1 3 ∷ col 1 4 ∷ []
+
+abbrev order : List (Term × Key)
+order = (col 1 1, ascending Binary) ∷ (col 1 2, ascending Binary) ∷ []
+
+abbrev pub names : List (List ℕ)
+names = codes "place" ∷ codes "since" ∷ codes "who" ∷ codes "until" ∷ []
+
+-- no two values stand for one row
+pub one : (x y : Appointment) → ⊤ → ⊤ → appointment_row x ≡ appointment_row y → x ≡ y
+one x y read held h = λ i. record { place = one_place x.place y.place (ap (text_in 0) h) i; since = number_in 1 (h i); who = text_in 2 (h i); until = one_number x.until y.until (ap (λ (r : Row). column r 3) h) i }
+
+-- ---- all rows
+
+abbrev pub all_sql : List ℕ
+all_sql = codes "SELECT place, since, who, until FROM appointments ORDER BY place, since"
+
+pub lists : ShowsRows all_sql appointments_place [] (λ _. true)
+unfolding understood everything
+lists = record { test = []; project = project; order = order; names = names; is = (refl, refl); bare = (refl, refl); shows = λ r. refl; tests = λ r. refl; sorts = λ a b. refl; low = refl }
+
+-- ---- the rows of one place
+
+abbrev pub appointments_to_sql : List ℕ
+appointments_to_sql = codes "SELECT place, since, who, until FROM appointments WHERE place = ?1 ORDER BY place, since"
+
+pub shows_appointments_to : (place : List ℕ) → ShowsRows appointments_to_sql appointments_place (Text place ∷ []) (has_value 0 (Text place))
+unfolding understood everything
+shows_appointments_to place = record { test = op2 (Compare Eq Binary) (col 1 1) (col 0 0) ∷ []; project = project; order = order; names = names; is = (refl, refl); bare = (refl, refl); shows = λ r. refl; tests = λ r. refl; sorts = λ a b. refl; low = refl }
+
+pub under_appointments_to : (place : List ℕ) (x : Appointment) → has_value 0 (Text place) (appointment_row x) ≡ same_text (place_text x.place) place
+under_appointments_to place x = value_is (Text (place_text x.place)) (Text place) refl refl ∙ sym (text_ties (place_text x.place) place)
+
+-- ---- the rows of one person
+
+abbrev pub appointments_of_sql : List ℕ
+appointments_of_sql = codes "SELECT place, since, who, until FROM appointments WHERE who = ?1 ORDER BY place, since"
+
+pub shows_appointments_of : (who : List ℕ) → ShowsRows appointments_of_sql appointments_place (Text who ∷ []) (has_value 2 (Text who))
+unfolding understood everything
+shows_appointments_of who = record { test = op2 (Compare Eq Binary) (col 1 3) (col 0 0) ∷ []; project = project; order = order; names = names; is = (refl, refl); bare = (refl, refl); shows = λ r. refl; tests = λ r. refl; sorts = λ a b. refl; low = refl }
+
+pub under_appointments_of : (who : List ℕ) (x : Appointment) → has_value 2 (Text who) (appointment_row x) ≡ is_appointment_of (Wanted.Person who) x
+under_appointments_of who x = value_is (Text x.who) (Text who) refl refl ∙ sym (text_ties x.who who)
+
+-- ---- a row put under its key
+
+abbrev pub put_sql : List ℕ
+put_sql = codes "INSERT INTO appointments (place, since, who, until) VALUES (?1, ?2, ?3, ?4) ON CONFLICT (place, since) DO UPDATE SET place = ?1, since = ?2, who = ?3, until = ?4"
+
+pub puts : PutsRow put_sql appointments_place appointment_row
+unfolding understood everything
+puts = record {
+  at = 2;
+  name = codes "appointments";
+  columns = words (codes "place") ∷ number (codes "since") ∷ words (codes "who") ∷ number_or_null (codes "until") ∷ [];
+  others = [];
+  terms = lit Null ∷ col 0 0 ∷ col 0 1 ∷ col 0 2 ∷ col 0 3 ∷ [];
+  test = op2 (Compare Eq Binary) (col 1 0) (col 0 4) ∷ [];
+  sets = col 1 0 ∷ col 1 0 ∷ col 0 0 ∷ col 0 1 ∷ col 0 2 ∷ col 0 3 ∷ [];
+  here = refl;
+  alone = λ olds news. refl;
+  compares = λ a b. refl;
+  fulls = λ a. refl;
+  bare = (refl, refl);
+  given = λ x. refl;
+  casts = λ x i. Text (place_text x.place) ∷ cast_int (pos x.since) i ∷ Text x.who ∷ cast_or_null x.until i ∷ [];
+  shown = λ x id. refl;
+  filled = λ x. refl;
+  tests = λ x entries there r. refl;
+  gives = λ x entries there r. refl;
+  low = refl;
+  shared = λ a b. refl;
+  is = refl;
+}
+
+-- the other tables stay where the rows of this one are changed
+pub still : (old new : Trees) (rows : List Appointment) (t : Tables) → IsSound register_schema new → Keeps appointments_place new (map appointment_row rows) → AllByRecursion (λ _. ⊤) rows
+    → ((tree : ℕ) → tree ≢ 4 → IsNoIndex register_schema tree → new tree ≡ old tree) → Kept old t → Kept new (record t { appointments = rows })
+still old new rows t sound keeps stored others k = record {
+  sound = sound;
+  people = keeps_still register_schema 4 people_place old new _ others refl refl k.people;
+  trainings = keeps_still register_schema 4 trainings_place old new _ others refl refl k.trainings;
+  appointments = keeps;
+  boxes = keeps_still register_schema 4 boxes_place old new _ others refl refl k.boxes;
+  safes = keeps_still register_schema 4 safes_place old new _ others refl refl k.safes;
+  bags = keeps_still register_schema 4 bags_place old new _ others refl refl k.bags;
+  items = keeps_still register_schema 4 items_place old new _ others refl refl k.items;
+  ceremonies = keeps_still register_schema 4 ceremonies_place old new _ others refl refl k.ceremonies;
+  marks = keeps_still register_schema 4 marks_place old new _ others refl refl k.marks;
+  steps = keeps_still register_schema 4 steps_place old new _ others refl refl k.steps;
+  seatings = keeps_still register_schema 4 seatings_place old new _ others refl refl k.seatings;
+  sheet = keeps_still register_schema 4 sheet_place old new _ others refl refl k.sheet;
+  exceptions = keeps_still register_schema 4 exceptions_place old new _ others refl refl k.exceptions;
+  versions = keeps_still register_schema 4 versions_place old new _ others refl refl k.versions;
+  keys = keeps_still register_schema 4 keys_place old new _ others refl refl k.keys;
+  stays = keeps_still register_schema 4 stays_place old new _ others refl refl k.stays;
+  withdrawals = keeps_still register_schema 4 withdrawals_place old new _ others refl refl k.withdrawals;
+  spot = k.spot;
+  seats = k.seats;
+}

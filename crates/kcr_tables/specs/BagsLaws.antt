@@ -1,0 +1,121 @@
+-- What the table bags proves of its texts, and of its place among the others.
+use Rattle.std.proofs.Common.{◌≡◌, ◌≢◌, ℕ, List, [], ◌∷◌, map, codes, true, refl, sym, ap, ◌∙◌}
+use Rattle.std.specs.List.{AllByRecursion}
+use Rattle.sqlite.specs.declared.types.Value.TheVariants.{Null, Text}
+use Rattle.sqlite.specs.Term.{Term, lit, col, op2}
+use Rattle.sqlite.specs.Collation.TheVariants.{Binary}
+use Rattle.sqlite.specs.Tree.{Trees}
+use Rattle.sqlite.specs.Edit.{IsNoIndex}
+use Rattle.sqlite.specs.Listing.{understood}
+use Rattle.sqlite_catalog.specs.Listing.{IsSound}
+use Rattle.sqlite_sql.specs.declared.ops.BinaryOp.TheVariants.{Compare}
+use Rattle.sqlite_sql.specs.declared.ops.CompareOp.TheVariants.{Eq}
+use Rattle.sqlite_value.specs.declared.keys.Key.{Key}
+use Rattle.sqlite_value.specs.Keys.{ascending}
+use Rattle.sqlite_tied.specs.Compute.{everything}
+use Rattle.kcr_history.specs.Views.{is_of_serial}
+use Rattle.kcr_rows.specs.Columns.{words}
+use Rattle.kcr_rows.specs.Keyed.{Keeps}
+use Rattle.kcr_rows.proofs.FilterLemmas.{has_value, value_is}
+use Rattle.kcr_rows.proofs.TableLemmas.{keeps_still}
+use Rattle.kcr_rows.proofs.SameLemmas.{text_ties}
+use Rattle.kcr_cells.proofs.StateLemmas.{one_spot}
+use Rattle.kcr_custody.specs.Spots.{spot_text}
+use Rattle.kcr_cells.specs.Rows.{bag_row}
+use Rattle.kcr_custody.specs.declared.Bag.{Bag}
+use Rattle.kcr_cells.specs.States.{HasBoxNumber}
+use Rattle.kcr_tables.specs.Schema.{register_schema}
+use Rattle.kcr_tables.specs.Held.{Tables, Kept, people_place, trainings_place, appointments_place, boxes_place, safes_place, bags_place, items_place, ceremonies_place, marks_place, steps_place, seatings_place, sheet_place, exceptions_place, versions_place, keys_place, stays_place, withdrawals_place}
+use Rattle.kcr_tables.specs.Parts.{text_in}
+use Rattle.kcr_tables.specs.Statements.{ShowsRows, PutsRow}
+
+abbrev pub project : List Term
+project = col 1 1 ∷ col 1 2 ∷ []
+
+abbrev order : List (Term × Key)
+order = (col 1 1, ascending Binary) ∷ []
+
+abbrev pub names : List (List ℕ)
+names = codes "serial" ∷ codes "spot" ∷ []
+
+-- no two values stand for one row
+pub one : (x y : Bag) → HasBoxNumber x → HasBoxNumber y → bag_row x ≡ bag_row y → x ≡ y
+one x y read held h = λ i. record { serial = text_in 0 (h i); spot = one_spot x.spot y.spot read held (ap (text_in 1) h) i }
+
+-- ---- all rows
+
+abbrev pub all_sql : List ℕ
+all_sql = codes "SELECT serial, spot FROM bags ORDER BY serial"
+
+pub lists : ShowsRows all_sql bags_place [] (λ _. true)
+unfolding understood everything
+lists = record { test = []; project = project; order = order; names = names; is = (refl, refl); bare = (refl, refl); shows = λ r. refl; tests = λ r. refl; sorts = λ a b. refl; low = refl }
+
+-- ---- the row of the bag with this serial, alone, or none
+
+abbrev pub bag_of_sql : List ℕ
+bag_of_sql = codes "SELECT serial, spot FROM bags WHERE serial = ?1 ORDER BY serial"
+
+pub shows_bag_of : (serial : List ℕ) → ShowsRows bag_of_sql bags_place (Text serial ∷ []) (has_value 0 (Text serial))
+unfolding understood everything
+shows_bag_of serial = record { test = op2 (Compare Eq Binary) (col 1 1) (col 0 0) ∷ []; project = project; order = order; names = names; is = (refl, refl); bare = (refl, refl); shows = λ r. refl; tests = λ r. refl; sorts = λ a b. refl; low = refl }
+
+pub under_bag_of : (serial : List ℕ) (x : Bag) → has_value 0 (Text serial) (bag_row x) ≡ is_of_serial serial x
+under_bag_of serial x = value_is (Text x.serial) (Text serial) refl refl ∙ sym (text_ties x.serial serial)
+
+-- ---- a row put under its key
+
+abbrev pub put_sql : List ℕ
+put_sql = codes "INSERT INTO bags (serial, spot) VALUES (?1, ?2) ON CONFLICT (serial) DO UPDATE SET serial = ?1, spot = ?2"
+
+pub puts : PutsRow put_sql bags_place bag_row
+unfolding understood everything
+puts = record {
+  at = 5;
+  name = codes "bags";
+  columns = words (codes "serial") ∷ words (codes "spot") ∷ [];
+  others = [];
+  terms = lit Null ∷ col 0 0 ∷ col 0 1 ∷ [];
+  test = op2 (Compare Eq Binary) (col 1 0) (col 0 2) ∷ [];
+  sets = col 1 0 ∷ col 1 0 ∷ col 0 0 ∷ col 0 1 ∷ [];
+  here = refl;
+  alone = λ olds news. refl;
+  compares = λ a b. refl;
+  fulls = λ a. refl;
+  bare = (refl, refl);
+  given = λ x. refl;
+  casts = λ x i. Text x.serial ∷ Text (spot_text x.spot) ∷ [];
+  shown = λ x id. refl;
+  filled = λ x. refl;
+  tests = λ x entries there r. refl;
+  gives = λ x entries there r. refl;
+  low = refl;
+  shared = λ a b. refl;
+  is = refl;
+}
+
+-- the other tables stay where the rows of this one are changed
+pub still : (old new : Trees) (rows : List Bag) (t : Tables) → IsSound register_schema new → Keeps bags_place new (map bag_row rows) → AllByRecursion HasBoxNumber rows
+    → ((tree : ℕ) → tree ≢ 10 → IsNoIndex register_schema tree → new tree ≡ old tree) → Kept old t → Kept new (record t { bags = rows })
+still old new rows t sound keeps stored others k = record {
+  sound = sound;
+  people = keeps_still register_schema 10 people_place old new _ others refl refl k.people;
+  trainings = keeps_still register_schema 10 trainings_place old new _ others refl refl k.trainings;
+  appointments = keeps_still register_schema 10 appointments_place old new _ others refl refl k.appointments;
+  boxes = keeps_still register_schema 10 boxes_place old new _ others refl refl k.boxes;
+  safes = keeps_still register_schema 10 safes_place old new _ others refl refl k.safes;
+  bags = keeps;
+  items = keeps_still register_schema 10 items_place old new _ others refl refl k.items;
+  ceremonies = keeps_still register_schema 10 ceremonies_place old new _ others refl refl k.ceremonies;
+  marks = keeps_still register_schema 10 marks_place old new _ others refl refl k.marks;
+  steps = keeps_still register_schema 10 steps_place old new _ others refl refl k.steps;
+  seatings = keeps_still register_schema 10 seatings_place old new _ others refl refl k.seatings;
+  sheet = keeps_still register_schema 10 sheet_place old new _ others refl refl k.sheet;
+  exceptions = keeps_still register_schema 10 exceptions_place old new _ others refl refl k.exceptions;
+  versions = keeps_still register_schema 10 versions_place old new _ others refl refl k.versions;
+  keys = keeps_still register_schema 10 keys_place old new _ others refl refl k.keys;
+  stays = keeps_still register_schema 10 stays_place old new _ others refl refl k.stays;
+  withdrawals = keeps_still register_schema 10 withdrawals_place old new _ others refl refl k.withdrawals;
+  spot = stored;
+  seats = k.seats;
+}

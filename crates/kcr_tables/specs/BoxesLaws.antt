@@ -1,0 +1,108 @@
+-- What the table boxes proves of its texts, and of its place among the others.
+use Rattle.std.proofs.Common.{◌≡◌, ◌≢◌, ℕ, pos, List, [], ◌∷◌, map, codes, true, refl, ap}
+use Rattle.std.specs.Bool.{⊤}
+use Rattle.std.specs.List.{AllByRecursion}
+use Rattle.sqlite.specs.declared.types.Value.TheVariants.{Null, Text}
+use Rattle.sqlite.specs.Term.{Term, lit, col, op2}
+use Rattle.sqlite.specs.Collation.TheVariants.{Binary}
+use Rattle.sqlite.specs.Tree.{Trees}
+use Rattle.sqlite.specs.Edit.{IsNoIndex}
+use Rattle.sqlite.specs.Listing.{understood}
+use Rattle.sqlite_catalog.specs.Listing.{IsSound}
+use Rattle.sqlite_sql.specs.declared.ops.BinaryOp.TheVariants.{Compare}
+use Rattle.sqlite_sql.specs.declared.ops.CompareOp.TheVariants.{Eq}
+use Rattle.sqlite_value.specs.declared.keys.Key.{Key}
+use Rattle.sqlite_value.specs.Keys.{ascending}
+use Rattle.sqlite_tied.specs.Compute.{everything}
+use Rattle.kcr_base.specs.Place.{place_text}
+use Rattle.kcr_rows.specs.Columns.{words, number}
+use Rattle.kcr_rows.specs.Keyed.{Keeps}
+use Rattle.kcr_rows.proofs.WriteLemmas.{cast_int}
+use Rattle.kcr_rows.proofs.TableLemmas.{keeps_still}
+use Rattle.kcr_rows.proofs.SameLemmas.{one_facility, one_place}
+use Rattle.kcr_base.specs.Facility.{facility_text}
+use Rattle.kcr_cells.specs.Rows.{box_row}
+use Rattle.kcr_custody.specs.declared.BoxRow.{BoxRow}
+use Rattle.kcr_tables.specs.Schema.{register_schema}
+use Rattle.kcr_tables.specs.Held.{Tables, Kept, people_place, trainings_place, appointments_place, boxes_place, safes_place, bags_place, items_place, ceremonies_place, marks_place, steps_place, seatings_place, sheet_place, exceptions_place, versions_place, keys_place, stays_place, withdrawals_place}
+use Rattle.kcr_tables.specs.Parts.{text_in, number_in}
+use Rattle.kcr_tables.specs.Statements.{ShowsRows, PutsRow}
+
+abbrev pub project : List Term
+project = col 1 1 ∷ col 1 2 ∷ col 1 3 ∷ []
+
+abbrev order : List (Term × Key)
+order = (col 1 1, ascending Binary) ∷ (col 1 2, ascending Binary) ∷ []
+
+abbrev pub names : List (List ℕ)
+names = codes "facility" ∷ codes "box" ∷ codes "place" ∷ []
+
+-- no two values stand for one row
+pub one : (x y : BoxRow) → ⊤ → ⊤ → box_row x ≡ box_row y → x ≡ y
+one x y read held h = λ i. record { facility = one_facility x.facility y.facility (ap (text_in 0) h) i; number = number_in 1 (h i); place = one_place x.place y.place (ap (text_in 2) h) i }
+
+-- ---- all rows
+
+abbrev pub all_sql : List ℕ
+all_sql = codes "SELECT facility, box, place FROM boxes ORDER BY facility, box"
+
+pub lists : ShowsRows all_sql boxes_place [] (λ _. true)
+unfolding understood everything
+lists = record { test = []; project = project; order = order; names = names; is = (refl, refl); bare = (refl, refl); shows = λ r. refl; tests = λ r. refl; sorts = λ a b. refl; low = refl }
+
+-- ---- a row put under its key
+
+abbrev pub put_sql : List ℕ
+put_sql = codes "INSERT INTO boxes (facility, box, place) VALUES (?1, ?2, ?3) ON CONFLICT (facility, box) DO UPDATE SET facility = ?1, box = ?2, place = ?3"
+
+pub puts : PutsRow put_sql boxes_place box_row
+unfolding understood everything
+puts = record {
+  at = 3;
+  name = codes "boxes";
+  columns = words (codes "facility") ∷ number (codes "box") ∷ words (codes "place") ∷ [];
+  others = [];
+  terms = lit Null ∷ col 0 0 ∷ col 0 1 ∷ col 0 2 ∷ [];
+  test = op2 (Compare Eq Binary) (col 1 0) (col 0 3) ∷ [];
+  sets = col 1 0 ∷ col 1 0 ∷ col 0 0 ∷ col 0 1 ∷ col 0 2 ∷ [];
+  here = refl;
+  alone = λ olds news. refl;
+  compares = λ a b. refl;
+  fulls = λ a. refl;
+  bare = (refl, refl);
+  given = λ x. refl;
+  casts = λ x i. Text (facility_text x.facility) ∷ cast_int (pos x.number) i ∷ Text (place_text x.place) ∷ [];
+  shown = λ x id. refl;
+  filled = λ x. refl;
+  tests = λ x entries there r. refl;
+  gives = λ x entries there r. refl;
+  low = refl;
+  shared = λ a b. refl;
+  is = refl;
+}
+
+-- the other tables stay where the rows of this one are changed
+pub still : (old new : Trees) (rows : List BoxRow) (t : Tables) → IsSound register_schema new → Keeps boxes_place new (map box_row rows) → AllByRecursion (λ _. ⊤) rows
+    → ((tree : ℕ) → tree ≢ 6 → IsNoIndex register_schema tree → new tree ≡ old tree) → Kept old t → Kept new (record t { boxes = rows })
+still old new rows t sound keeps stored others k = record {
+  sound = sound;
+  people = keeps_still register_schema 6 people_place old new _ others refl refl k.people;
+  trainings = keeps_still register_schema 6 trainings_place old new _ others refl refl k.trainings;
+  appointments = keeps_still register_schema 6 appointments_place old new _ others refl refl k.appointments;
+  boxes = keeps;
+  safes = keeps_still register_schema 6 safes_place old new _ others refl refl k.safes;
+  bags = keeps_still register_schema 6 bags_place old new _ others refl refl k.bags;
+  items = keeps_still register_schema 6 items_place old new _ others refl refl k.items;
+  ceremonies = keeps_still register_schema 6 ceremonies_place old new _ others refl refl k.ceremonies;
+  marks = keeps_still register_schema 6 marks_place old new _ others refl refl k.marks;
+  steps = keeps_still register_schema 6 steps_place old new _ others refl refl k.steps;
+  seatings = keeps_still register_schema 6 seatings_place old new _ others refl refl k.seatings;
+  sheet = keeps_still register_schema 6 sheet_place old new _ others refl refl k.sheet;
+  exceptions = keeps_still register_schema 6 exceptions_place old new _ others refl refl k.exceptions;
+  versions = keeps_still register_schema 6 versions_place old new _ others refl refl k.versions;
+  keys = keeps_still register_schema 6 keys_place old new _ others refl refl k.keys;
+  stays = keeps_still register_schema 6 stays_place old new _ others refl refl k.stays;
+  withdrawals = keeps_still register_schema 6 withdrawals_place old new _ others refl refl k.withdrawals;
+  spot = k.spot;
+  seats = k.seats;
+}

@@ -1,0 +1,124 @@
+-- What the table ceremonies proves of its texts, and of its place among the others.
+use Rattle.std.proofs.Common.{◌≡◌, ◌≢◌, ℕ, pos, List, [], ◌∷◌, map, codes, true, refl, sym, ap, ◌∙◌}
+use Rattle.std.specs.Bool.{⊤}
+use Rattle.std.specs.List.{AllByRecursion}
+use Rattle.sqlite.specs.declared.types.Value.TheVariants.{Null, Int, Text}
+use Rattle.sqlite.specs.Order.{Row, column}
+use Rattle.sqlite.specs.Term.{Term, lit, col, op2}
+use Rattle.sqlite.specs.Collation.TheVariants.{Binary}
+use Rattle.sqlite.specs.Tree.{Trees}
+use Rattle.sqlite.specs.Edit.{IsNoIndex}
+use Rattle.sqlite.specs.Listing.{understood}
+use Rattle.sqlite_catalog.specs.Listing.{IsSound}
+use Rattle.sqlite_sql.specs.declared.ops.BinaryOp.TheVariants.{Compare}
+use Rattle.sqlite_sql.specs.declared.ops.CompareOp.TheVariants.{Eq}
+use Rattle.sqlite_value.specs.declared.keys.Key.{Key}
+use Rattle.sqlite_value.specs.Keys.{ascending}
+use Rattle.sqlite_tied.specs.Compute.{everything}
+use Rattle.kcr_history.specs.Views.{is_of_number}
+use Rattle.kcr_rows.specs.Columns.{words, number, number_or_null}
+use Rattle.kcr_rows.specs.Keyed.{Keeps}
+use Rattle.kcr_rows.proofs.FilterLemmas.{has_value, value_is}
+use Rattle.kcr_rows.proofs.WriteLemmas.{cast_int}
+use Rattle.kcr_rows.proofs.TableLemmas.{keeps_still}
+use Rattle.kcr_rows.proofs.SameLemmas.{one_facility, one_number, number_ties}
+use Rattle.kcr_cells.proofs.StateLemmas.{cast_or_null, one_ceremony_state}
+use Rattle.kcr_base.specs.Facility.{facility_text}
+use Rattle.kcr_cells.specs.States.{ceremony_number}
+use Rattle.kcr_cells.specs.Rows.{ceremony_row}
+use Rattle.kcr_history.specs.declared.rows.CeremonyRow.{CeremonyRow}
+use Rattle.kcr_tables.specs.Schema.{register_schema}
+use Rattle.kcr_tables.specs.Held.{Tables, Kept, people_place, trainings_place, appointments_place, boxes_place, safes_place, bags_place, items_place, ceremonies_place, marks_place, steps_place, seatings_place, sheet_place, exceptions_place, versions_place, keys_place, stays_place, withdrawals_place}
+use Rattle.kcr_tables.specs.Parts.{text_in, number_in}
+use Rattle.kcr_tables.specs.Statements.{ShowsRows, PutsRow}
+
+abbrev pub project : List Term
+project = col 1 1 ∷ col 1 2 ∷ col 1 3 ∷ col 1 4 ∷ col 1 5 ∷ col 1 6 ∷ []
+
+abbrev order : List (Term × Key)
+order = (col 1 1, ascending Binary) ∷ []
+
+abbrev pub names : List (List ℕ)
+names = codes "number" ∷ codes "facility" ∷ codes "day" ∷ codes "state" ∷ codes "opened" ∷ codes "closed" ∷ []
+
+-- no two values stand for one row
+pub one : (x y : CeremonyRow) → ⊤ → ⊤ → ceremony_row x ≡ ceremony_row y → x ≡ y
+one x y read held h = λ i. record { number = number_in 0 (h i); facility = one_facility x.facility y.facility (ap (text_in 1) h) i; day = number_in 2 (h i); state = one_ceremony_state x.state y.state (ap (number_in 3) h) i; opened = one_number x.opened y.opened (ap (λ (r : Row). column r 4) h) i; closed = one_number x.closed y.closed (ap (λ (r : Row). column r 5) h) i }
+
+-- ---- all rows
+
+abbrev pub all_sql : List ℕ
+all_sql = codes "SELECT number, facility, day, state, opened, closed FROM ceremonies ORDER BY number"
+
+pub lists : ShowsRows all_sql ceremonies_place [] (λ _. true)
+unfolding understood everything
+lists = record { test = []; project = project; order = order; names = names; is = (refl, refl); bare = (refl, refl); shows = λ r. refl; tests = λ r. refl; sorts = λ a b. refl; low = refl }
+
+-- ---- the row of the ceremony with this number, alone, or none
+
+abbrev pub ceremony_of_sql : List ℕ
+ceremony_of_sql = codes "SELECT number, facility, day, state, opened, closed FROM ceremonies WHERE number = ?1 ORDER BY number"
+
+pub shows_ceremony_of : (number : ℕ) → ShowsRows ceremony_of_sql ceremonies_place (Int (pos number) ∷ []) (has_value 0 (Int (pos number)))
+unfolding understood everything
+shows_ceremony_of number = record { test = op2 (Compare Eq Binary) (col 1 1) (col 0 0) ∷ []; project = project; order = order; names = names; is = (refl, refl); bare = (refl, refl); shows = λ r. refl; tests = λ r. refl; sorts = λ a b. refl; low = refl }
+
+pub under_ceremony_of : (number : ℕ) (x : CeremonyRow) → has_value 0 (Int (pos number)) (ceremony_row x) ≡ is_of_number number x
+under_ceremony_of number x = value_is (Int (pos x.number)) (Int (pos number)) refl refl ∙ sym (number_ties x.number number)
+
+-- ---- a row put under its key
+
+abbrev pub put_sql : List ℕ
+put_sql = codes "INSERT INTO ceremonies (number, facility, day, state, opened, closed) VALUES (?1, ?2, ?3, ?4, ?5, ?6) ON CONFLICT (number) DO UPDATE SET number = ?1, facility = ?2, day = ?3, state = ?4, opened = ?5, closed = ?6"
+
+pub puts : PutsRow put_sql ceremonies_place ceremony_row
+unfolding understood everything
+puts = record {
+  at = 7;
+  name = codes "ceremonies";
+  columns = number (codes "number") ∷ words (codes "facility") ∷ number (codes "day") ∷ number (codes "state") ∷ number_or_null (codes "opened") ∷ number_or_null (codes "closed") ∷ [];
+  others = [];
+  terms = lit Null ∷ col 0 0 ∷ col 0 1 ∷ col 0 2 ∷ col 0 3 ∷ col 0 4 ∷ col 0 5 ∷ [];
+  test = op2 (Compare Eq Binary) (col 1 0) (col 0 6) ∷ [];
+  sets = col 1 0 ∷ col 1 0 ∷ col 0 0 ∷ col 0 1 ∷ col 0 2 ∷ col 0 3 ∷ col 0 4 ∷ col 0 5 ∷ [];
+  here = refl;
+  alone = λ olds news. refl;
+  compares = λ a b. refl;
+  fulls = λ a. refl;
+  bare = (refl, refl);
+  given = λ x. refl;
+  casts = λ x i. cast_int (pos x.number) i ∷ Text (facility_text x.facility) ∷ cast_int (pos x.day) i ∷ cast_int (pos (ceremony_number x.state)) i ∷ cast_or_null x.opened i ∷ cast_or_null x.closed i ∷ [];
+  shown = λ x id. refl;
+  filled = λ x. refl;
+  tests = λ x entries there r. refl;
+  gives = λ x entries there r. refl;
+  low = refl;
+  shared = λ a b. refl;
+  is = refl;
+}
+
+-- the other tables stay where the rows of this one are changed
+pub still : (old new : Trees) (rows : List CeremonyRow) (t : Tables) → IsSound register_schema new → Keeps ceremonies_place new (map ceremony_row rows) → AllByRecursion (λ _. ⊤) rows
+    → ((tree : ℕ) → tree ≢ 15 → IsNoIndex register_schema tree → new tree ≡ old tree) → Kept old t → Kept new (record t { ceremonies = rows })
+still old new rows t sound keeps stored others k = record {
+  sound = sound;
+  people = keeps_still register_schema 15 people_place old new _ others refl refl k.people;
+  trainings = keeps_still register_schema 15 trainings_place old new _ others refl refl k.trainings;
+  appointments = keeps_still register_schema 15 appointments_place old new _ others refl refl k.appointments;
+  boxes = keeps_still register_schema 15 boxes_place old new _ others refl refl k.boxes;
+  safes = keeps_still register_schema 15 safes_place old new _ others refl refl k.safes;
+  bags = keeps_still register_schema 15 bags_place old new _ others refl refl k.bags;
+  items = keeps_still register_schema 15 items_place old new _ others refl refl k.items;
+  ceremonies = keeps;
+  marks = keeps_still register_schema 15 marks_place old new _ others refl refl k.marks;
+  steps = keeps_still register_schema 15 steps_place old new _ others refl refl k.steps;
+  seatings = keeps_still register_schema 15 seatings_place old new _ others refl refl k.seatings;
+  sheet = keeps_still register_schema 15 sheet_place old new _ others refl refl k.sheet;
+  exceptions = keeps_still register_schema 15 exceptions_place old new _ others refl refl k.exceptions;
+  versions = keeps_still register_schema 15 versions_place old new _ others refl refl k.versions;
+  keys = keeps_still register_schema 15 keys_place old new _ others refl refl k.keys;
+  stays = keeps_still register_schema 15 stays_place old new _ others refl refl k.stays;
+  withdrawals = keeps_still register_schema 15 withdrawals_place old new _ others refl refl k.withdrawals;
+  spot = k.spot;
+  seats = k.seats;
+}

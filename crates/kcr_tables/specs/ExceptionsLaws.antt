@@ -1,0 +1,122 @@
+-- What the table exceptions proves of its texts, and of its place among the others.
+use Rattle.std.proofs.Common.{◌≡◌, ◌≢◌, ℕ, pos, List, [], ◌∷◌, map, codes, true, refl, sym, ap, ◌∙◌}
+use Rattle.std.specs.Bool.{⊤}
+use Rattle.std.specs.List.{AllByRecursion}
+use Rattle.sqlite.specs.declared.types.Value.TheVariants.{Null, Int, Text}
+use Rattle.sqlite.specs.Order.{Row, column}
+use Rattle.sqlite.specs.Term.{Term, lit, col, op2}
+use Rattle.sqlite.specs.Collation.TheVariants.{Binary}
+use Rattle.sqlite.specs.Tree.{Trees}
+use Rattle.sqlite.specs.Edit.{IsNoIndex}
+use Rattle.sqlite.specs.Listing.{understood}
+use Rattle.sqlite_catalog.specs.Listing.{IsSound}
+use Rattle.sqlite_sql.specs.declared.ops.BinaryOp.TheVariants.{Compare}
+use Rattle.sqlite_sql.specs.declared.ops.CompareOp.TheVariants.{Eq}
+use Rattle.sqlite_value.specs.declared.keys.Key.{Key}
+use Rattle.sqlite_value.specs.Keys.{ascending}
+use Rattle.sqlite_tied.specs.Compute.{everything}
+use Rattle.kcr_history.specs.Views.{is_exception_of}
+use Rattle.kcr_rows.specs.Columns.{words, number, number_or_null}
+use Rattle.kcr_rows.specs.Keyed.{Keeps}
+use Rattle.kcr_rows.proofs.FilterLemmas.{has_value, value_is}
+use Rattle.kcr_rows.proofs.WriteLemmas.{cast_int}
+use Rattle.kcr_rows.proofs.TableLemmas.{keeps_still}
+use Rattle.kcr_rows.proofs.SameLemmas.{one_number, number_ties}
+use Rattle.kcr_cells.proofs.StateLemmas.{cast_or_null}
+use Rattle.kcr_cells.specs.Rows.{exception_row}
+use Rattle.kcr_history.specs.declared.rows.ExceptionRow.{ExceptionRow}
+use Rattle.kcr_tables.specs.Schema.{register_schema}
+use Rattle.kcr_tables.specs.Held.{Tables, Kept, people_place, trainings_place, appointments_place, boxes_place, safes_place, bags_place, items_place, ceremonies_place, marks_place, steps_place, seatings_place, sheet_place, exceptions_place, versions_place, keys_place, stays_place, withdrawals_place}
+use Rattle.kcr_tables.specs.Parts.{text_in, number_in}
+use Rattle.kcr_tables.specs.Statements.{ShowsRows, PutsRow}
+
+abbrev pub project : List Term
+project = col 1 1 ∷ col 1 2 ∷ col 1 3 ∷ col 1 4 ∷ col 1 5 ∷ []
+
+abbrev order : List (Term × Key)
+order = (col 1 1, ascending Binary) ∷ (col 1 2, ascending Binary) ∷ []
+
+abbrev pub names : List (List ℕ)
+names = codes "ceremony" ∷ codes "exception" ∷ codes "text" ∷ codes "at" ∷ codes "passed" ∷ []
+
+-- no two values stand for one row
+pub one : (x y : ExceptionRow) → ⊤ → ⊤ → exception_row x ≡ exception_row y → x ≡ y
+one x y read held h = λ i. record { ceremony = number_in 0 (h i); exception = number_in 1 (h i); text = text_in 2 (h i); at = number_in 3 (h i); passed = one_number x.passed y.passed (ap (λ (r : Row). column r 4) h) i }
+
+-- ---- all rows
+
+abbrev pub all_sql : List ℕ
+all_sql = codes "SELECT ceremony, exception, text, at, passed FROM exceptions ORDER BY ceremony, exception"
+
+pub lists : ShowsRows all_sql exceptions_place [] (λ _. true)
+unfolding understood everything
+lists = record { test = []; project = project; order = order; names = names; is = (refl, refl); bare = (refl, refl); shows = λ r. refl; tests = λ r. refl; sorts = λ a b. refl; low = refl }
+
+-- ---- the rows of one ceremony
+
+abbrev pub exceptions_of_sql : List ℕ
+exceptions_of_sql = codes "SELECT ceremony, exception, text, at, passed FROM exceptions WHERE ceremony = ?1 ORDER BY ceremony, exception"
+
+pub shows_exceptions_of : (ceremony : ℕ) → ShowsRows exceptions_of_sql exceptions_place (Int (pos ceremony) ∷ []) (has_value 0 (Int (pos ceremony)))
+unfolding understood everything
+shows_exceptions_of ceremony = record { test = op2 (Compare Eq Binary) (col 1 1) (col 0 0) ∷ []; project = project; order = order; names = names; is = (refl, refl); bare = (refl, refl); shows = λ r. refl; tests = λ r. refl; sorts = λ a b. refl; low = refl }
+
+pub under_exceptions_of : (ceremony : ℕ) (x : ExceptionRow) → has_value 0 (Int (pos ceremony)) (exception_row x) ≡ is_exception_of ceremony x
+under_exceptions_of ceremony x = value_is (Int (pos x.ceremony)) (Int (pos ceremony)) refl refl ∙ sym (number_ties x.ceremony ceremony)
+
+-- ---- a row put under its key
+
+abbrev pub put_sql : List ℕ
+put_sql = codes "INSERT INTO exceptions (ceremony, exception, text, at, passed) VALUES (?1, ?2, ?3, ?4, ?5) ON CONFLICT (ceremony, exception) DO UPDATE SET ceremony = ?1, exception = ?2, text = ?3, at = ?4, passed = ?5"
+
+pub puts : PutsRow put_sql exceptions_place exception_row
+unfolding understood everything
+puts = record {
+  at = 12;
+  name = codes "exceptions";
+  columns = number (codes "ceremony") ∷ number (codes "exception") ∷ words (codes "text") ∷ number (codes "at") ∷ number_or_null (codes "passed") ∷ [];
+  others = [];
+  terms = lit Null ∷ col 0 0 ∷ col 0 1 ∷ col 0 2 ∷ col 0 3 ∷ col 0 4 ∷ [];
+  test = op2 (Compare Eq Binary) (col 1 0) (col 0 5) ∷ [];
+  sets = col 1 0 ∷ col 1 0 ∷ col 0 0 ∷ col 0 1 ∷ col 0 2 ∷ col 0 3 ∷ col 0 4 ∷ [];
+  here = refl;
+  alone = λ olds news. refl;
+  compares = λ a b. refl;
+  fulls = λ a. refl;
+  bare = (refl, refl);
+  given = λ x. refl;
+  casts = λ x i. cast_int (pos x.ceremony) i ∷ cast_int (pos x.exception) i ∷ Text x.text ∷ cast_int (pos x.at) i ∷ cast_or_null x.passed i ∷ [];
+  shown = λ x id. refl;
+  filled = λ x. refl;
+  tests = λ x entries there r. refl;
+  gives = λ x entries there r. refl;
+  low = refl;
+  shared = λ a b. refl;
+  is = refl;
+}
+
+-- the other tables stay where the rows of this one are changed
+pub still : (old new : Trees) (rows : List ExceptionRow) (t : Tables) → IsSound register_schema new → Keeps exceptions_place new (map exception_row rows) → AllByRecursion (λ _. ⊤) rows
+    → ((tree : ℕ) → tree ≢ 25 → IsNoIndex register_schema tree → new tree ≡ old tree) → Kept old t → Kept new (record t { exceptions = rows })
+still old new rows t sound keeps stored others k = record {
+  sound = sound;
+  people = keeps_still register_schema 25 people_place old new _ others refl refl k.people;
+  trainings = keeps_still register_schema 25 trainings_place old new _ others refl refl k.trainings;
+  appointments = keeps_still register_schema 25 appointments_place old new _ others refl refl k.appointments;
+  boxes = keeps_still register_schema 25 boxes_place old new _ others refl refl k.boxes;
+  safes = keeps_still register_schema 25 safes_place old new _ others refl refl k.safes;
+  bags = keeps_still register_schema 25 bags_place old new _ others refl refl k.bags;
+  items = keeps_still register_schema 25 items_place old new _ others refl refl k.items;
+  ceremonies = keeps_still register_schema 25 ceremonies_place old new _ others refl refl k.ceremonies;
+  marks = keeps_still register_schema 25 marks_place old new _ others refl refl k.marks;
+  steps = keeps_still register_schema 25 steps_place old new _ others refl refl k.steps;
+  seatings = keeps_still register_schema 25 seatings_place old new _ others refl refl k.seatings;
+  sheet = keeps_still register_schema 25 sheet_place old new _ others refl refl k.sheet;
+  exceptions = keeps;
+  versions = keeps_still register_schema 25 versions_place old new _ others refl refl k.versions;
+  keys = keeps_still register_schema 25 keys_place old new _ others refl refl k.keys;
+  stays = keeps_still register_schema 25 stays_place old new _ others refl refl k.stays;
+  withdrawals = keeps_still register_schema 25 withdrawals_place old new _ others refl refl k.withdrawals;
+  spot = k.spot;
+  seats = k.seats;
+}

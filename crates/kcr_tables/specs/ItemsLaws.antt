@@ -1,0 +1,135 @@
+-- What the table items proves of its texts, and of its place among the others.
+use Rattle.std.proofs.Common.{◌≡◌, ◌≢◌, ℕ, List, [], ◌∷◌, map, codes, true, refl, sym, ap, ◌∙◌}
+use Rattle.std.specs.Bool.{⊤}
+use Rattle.std.specs.List.{AllByRecursion}
+use Rattle.sqlite.specs.declared.types.Value.TheVariants.{Null, Text}
+use Rattle.sqlite.specs.Order.{Row, column}
+use Rattle.sqlite.specs.Term.{Term, lit, col, op2}
+use Rattle.sqlite.specs.Collation.TheVariants.{Binary}
+use Rattle.sqlite.specs.Tree.{Trees}
+use Rattle.sqlite.specs.Edit.{IsNoIndex}
+use Rattle.sqlite.specs.Listing.{understood}
+use Rattle.sqlite_catalog.specs.Listing.{IsSound}
+use Rattle.sqlite_sql.specs.declared.ops.BinaryOp.TheVariants.{Compare}
+use Rattle.sqlite_sql.specs.declared.ops.CompareOp.TheVariants.{Eq}
+use Rattle.sqlite_value.specs.declared.keys.Key.{Key}
+use Rattle.sqlite_value.specs.Keys.{ascending}
+use Rattle.sqlite_tied.specs.Compute.{everything}
+use Rattle.kcr_base.specs.Same.{same_text}
+use Rattle.kcr_history.specs.Views.{is_item_of}
+use Rattle.kcr_history.specs.declared.views.ItemsOf.TheVariants as Wanted
+use Rattle.kcr_rows.specs.Columns.{words, words_or_null}
+use Rattle.kcr_rows.specs.Keyed.{Keeps}
+use Rattle.kcr_rows.proofs.FilterLemmas.{has_value, value_is}
+use Rattle.kcr_rows.proofs.TableLemmas.{keeps_still}
+use Rattle.kcr_rows.proofs.SameLemmas.{text_ties}
+use Rattle.kcr_cells.proofs.StateLemmas.{cast_loose, cast_within, one_rest, within_is}
+use Rattle.kcr_cells.specs.Rows.{item_row}
+use Rattle.kcr_custody.specs.declared.Item.{Item}
+use Rattle.kcr_tables.specs.Schema.{register_schema}
+use Rattle.kcr_tables.specs.Held.{Tables, Kept, people_place, trainings_place, appointments_place, boxes_place, safes_place, bags_place, items_place, ceremonies_place, marks_place, steps_place, seatings_place, sheet_place, exceptions_place, versions_place, keys_place, stays_place, withdrawals_place}
+use Rattle.kcr_tables.specs.Parts.{text_in}
+use Rattle.kcr_tables.specs.Statements.{ShowsRows, PutsRow}
+
+abbrev pub project : List Term
+project = col 1 1 ∷ col 1 2 ∷ col 1 3 ∷ []
+
+abbrev order : List (Term × Key)
+order = (col 1 1, ascending Binary) ∷ []
+
+abbrev pub names : List (List ℕ)
+names = codes "code" ∷ codes "facility" ∷ codes "serial" ∷ []
+
+-- no two values stand for one row
+pub one : (x y : Item) → ⊤ → ⊤ → item_row x ≡ item_row y → x ≡ y
+one x y read held h = λ i. record { code = text_in 0 (h i); rest = one_rest x.rest y.rest (ap (λ (r : Row). column r 1) h) (ap (λ (r : Row). column r 2) h) i }
+
+-- ---- all rows
+
+abbrev pub all_sql : List ℕ
+all_sql = codes "SELECT code, facility, serial FROM items ORDER BY code"
+
+pub lists : ShowsRows all_sql items_place [] (λ _. true)
+unfolding understood everything
+lists = record { test = []; project = project; order = order; names = names; is = (refl, refl); bare = (refl, refl); shows = λ r. refl; tests = λ r. refl; sorts = λ a b. refl; low = refl }
+
+-- ---- the row of the item with this code, alone, or none
+
+abbrev pub item_of_sql : List ℕ
+item_of_sql = codes "SELECT code, facility, serial FROM items WHERE code = ?1 ORDER BY code"
+
+pub shows_item_of : (code : List ℕ) → ShowsRows item_of_sql items_place (Text code ∷ []) (has_value 0 (Text code))
+unfolding understood everything
+shows_item_of code = record { test = op2 (Compare Eq Binary) (col 1 1) (col 0 0) ∷ []; project = project; order = order; names = names; is = (refl, refl); bare = (refl, refl); shows = λ r. refl; tests = λ r. refl; sorts = λ a b. refl; low = refl }
+
+pub under_item_of : (code : List ℕ) (x : Item) → has_value 0 (Text code) (item_row x) ≡ same_text x.code code
+under_item_of code x = value_is (Text x.code) (Text code) refl refl ∙ sym (text_ties x.code code)
+
+-- ---- the rows of the items in the bag with this serial
+
+abbrev pub items_within_sql : List ℕ
+items_within_sql = codes "SELECT code, facility, serial FROM items WHERE serial = ?1 ORDER BY code"
+
+pub shows_items_within : (serial : List ℕ) → ShowsRows items_within_sql items_place (Text serial ∷ []) (has_value 2 (Text serial))
+unfolding understood everything
+shows_items_within serial = record { test = op2 (Compare Eq Binary) (col 1 3) (col 0 0) ∷ []; project = project; order = order; names = names; is = (refl, refl); bare = (refl, refl); shows = λ r. refl; tests = λ r. refl; sorts = λ a b. refl; low = refl }
+
+pub under_items_within : (serial : List ℕ) (x : Item) → has_value 2 (Text serial) (item_row x) ≡ is_item_of (Wanted.Bag serial) x
+under_items_within serial x = within_is x.rest serial
+
+-- ---- a row put under its key
+
+abbrev pub put_sql : List ℕ
+put_sql = codes "INSERT INTO items (code, facility, serial) VALUES (?1, ?2, ?3) ON CONFLICT (code) DO UPDATE SET code = ?1, facility = ?2, serial = ?3"
+
+pub puts : PutsRow put_sql items_place item_row
+unfolding understood everything
+puts = record {
+  at = 6;
+  name = codes "items";
+  columns = words (codes "code") ∷ words_or_null (codes "facility") ∷ words_or_null (codes "serial") ∷ [];
+  others = (3 ∷ 1 ∷ []) ∷ [];
+  terms = lit Null ∷ col 0 0 ∷ col 0 1 ∷ col 0 2 ∷ [];
+  test = op2 (Compare Eq Binary) (col 1 0) (col 0 3) ∷ [];
+  sets = col 1 0 ∷ col 1 0 ∷ col 0 0 ∷ col 0 1 ∷ col 0 2 ∷ [];
+  here = refl;
+  alone = λ olds news. refl;
+  compares = λ a b. refl;
+  fulls = λ a. refl;
+  bare = (refl, refl);
+  given = λ x. refl;
+  casts = λ x i. Text x.code ∷ cast_loose x.rest i ∷ cast_within x.rest i ∷ [];
+  shown = λ x id. refl;
+  filled = λ x. refl;
+  tests = λ x entries there r. refl;
+  gives = λ x entries there r. refl;
+  low = refl;
+  shared = λ a b. refl;
+  is = refl;
+}
+
+-- the other tables stay where the rows of this one are changed
+pub still : (old new : Trees) (rows : List Item) (t : Tables) → IsSound register_schema new → Keeps items_place new (map item_row rows) → AllByRecursion (λ _. ⊤) rows
+    → ((tree : ℕ) → tree ≢ 12 → IsNoIndex register_schema tree → new tree ≡ old tree) → Kept old t → Kept new (record t { items = rows })
+still old new rows t sound keeps stored others k = record {
+  sound = sound;
+  people = keeps_still register_schema 12 people_place old new _ others refl refl k.people;
+  trainings = keeps_still register_schema 12 trainings_place old new _ others refl refl k.trainings;
+  appointments = keeps_still register_schema 12 appointments_place old new _ others refl refl k.appointments;
+  boxes = keeps_still register_schema 12 boxes_place old new _ others refl refl k.boxes;
+  safes = keeps_still register_schema 12 safes_place old new _ others refl refl k.safes;
+  bags = keeps_still register_schema 12 bags_place old new _ others refl refl k.bags;
+  items = keeps;
+  ceremonies = keeps_still register_schema 12 ceremonies_place old new _ others refl refl k.ceremonies;
+  marks = keeps_still register_schema 12 marks_place old new _ others refl refl k.marks;
+  steps = keeps_still register_schema 12 steps_place old new _ others refl refl k.steps;
+  seatings = keeps_still register_schema 12 seatings_place old new _ others refl refl k.seatings;
+  sheet = keeps_still register_schema 12 sheet_place old new _ others refl refl k.sheet;
+  exceptions = keeps_still register_schema 12 exceptions_place old new _ others refl refl k.exceptions;
+  versions = keeps_still register_schema 12 versions_place old new _ others refl refl k.versions;
+  keys = keeps_still register_schema 12 keys_place old new _ others refl refl k.keys;
+  stays = keeps_still register_schema 12 stays_place old new _ others refl refl k.stays;
+  withdrawals = keeps_still register_schema 12 withdrawals_place old new _ others refl refl k.withdrawals;
+  spot = k.spot;
+  seats = k.seats;
+}

@@ -1,0 +1,87 @@
+-- What the table keys proves of its texts, and of its place among the others.
+use Rattle.std.proofs.Common.{◌≡◌, ◌≢◌, ℕ, List, [], ◌∷◌, map, codes, true, refl, sym, ◌∙◌}
+use Rattle.std.specs.Bool.{⊤}
+use Rattle.std.specs.List.{AllByRecursion}
+use Rattle.sqlite.specs.declared.types.Value.TheVariants.{Text}
+use Rattle.sqlite.specs.Term.{Term, col, op2}
+use Rattle.sqlite.specs.Collation.TheVariants.{Binary}
+use Rattle.sqlite.specs.Tree.{Trees}
+use Rattle.sqlite.specs.Edit.{IsNoIndex}
+use Rattle.sqlite.specs.Listing.{understood}
+use Rattle.sqlite_catalog.specs.Listing.{IsSound}
+use Rattle.sqlite_sql.specs.declared.ops.BinaryOp.TheVariants.{Compare}
+use Rattle.sqlite_sql.specs.declared.ops.CompareOp.TheVariants.{Eq}
+use Rattle.sqlite_value.specs.declared.keys.Key.{Key}
+use Rattle.sqlite_value.specs.Keys.{ascending}
+use Rattle.sqlite_tied.specs.Compute.{everything}
+use Rattle.kcr_history.specs.Views.{is_of_key}
+use Rattle.kcr_rows.specs.Keyed.{Keeps}
+use Rattle.kcr_rows.proofs.FilterLemmas.{has_value, value_is}
+use Rattle.kcr_rows.proofs.TableLemmas.{keeps_still}
+use Rattle.kcr_rows.proofs.SameLemmas.{text_ties}
+use Rattle.kcr_cells.specs.Rows.{key_row}
+use Rattle.kcr_history.specs.declared.rows.KeyRow.{KeyRow}
+use Rattle.kcr_tables.specs.Schema.{register_schema}
+use Rattle.kcr_tables.specs.Held.{Tables, Kept, people_place, trainings_place, appointments_place, boxes_place, safes_place, bags_place, items_place, ceremonies_place, marks_place, steps_place, seatings_place, sheet_place, exceptions_place, versions_place, keys_place, stays_place, withdrawals_place}
+use Rattle.kcr_tables.specs.Parts.{text_in, number_in}
+use Rattle.kcr_tables.specs.Statements.{ShowsRows}
+
+abbrev pub project : List Term
+project = col 1 1 ∷ col 1 2 ∷ col 1 3 ∷ col 1 4 ∷ []
+
+abbrev order : List (Term × Key)
+order = (col 1 1, ascending Binary) ∷ []
+
+abbrev pub names : List (List ℕ)
+names = codes "key" ∷ codes "accepted" ∷ codes "command" ∷ codes "reply" ∷ []
+
+-- no two values stand for one row
+pub one : (x y : KeyRow) → ⊤ → ⊤ → key_row x ≡ key_row y → x ≡ y
+one x y read held h = λ i. record { key = text_in 0 (h i); accepted = number_in 1 (h i); command = text_in 2 (h i); reply = text_in 3 (h i) }
+
+-- ---- all rows
+
+abbrev pub all_sql : List ℕ
+all_sql = codes "SELECT \"key\", accepted, command, reply FROM keys ORDER BY \"key\""
+
+pub lists : ShowsRows all_sql keys_place [] (λ _. true)
+unfolding understood everything
+lists = record { test = []; project = project; order = order; names = names; is = (refl, refl); bare = (refl, refl); shows = λ r. refl; tests = λ r. refl; sorts = λ a b. refl; low = refl }
+
+-- ---- the row of this key, alone, or none
+
+abbrev pub key_row_of_sql : List ℕ
+key_row_of_sql = codes "SELECT \"key\", accepted, command, reply FROM keys WHERE \"key\" = ?1 ORDER BY \"key\""
+
+pub shows_key_row_of : (key : List ℕ) → ShowsRows key_row_of_sql keys_place (Text key ∷ []) (has_value 0 (Text key))
+unfolding understood everything
+shows_key_row_of key = record { test = op2 (Compare Eq Binary) (col 1 1) (col 0 0) ∷ []; project = project; order = order; names = names; is = (refl, refl); bare = (refl, refl); shows = λ r. refl; tests = λ r. refl; sorts = λ a b. refl; low = refl }
+
+pub under_key_row_of : (key : List ℕ) (x : KeyRow) → has_value 0 (Text key) (key_row x) ≡ is_of_key key x
+under_key_row_of key x = value_is (Text x.key) (Text key) refl refl ∙ sym (text_ties x.key key)
+
+-- the other tables stay where the rows of this one are changed
+pub still : (old new : Trees) (rows : List KeyRow) (t : Tables) → IsSound register_schema new → Keeps keys_place new (map key_row rows) → AllByRecursion (λ _. ⊤) rows
+    → ((tree : ℕ) → tree ≢ 29 → IsNoIndex register_schema tree → new tree ≡ old tree) → Kept old t → Kept new (record t { keys = rows })
+still old new rows t sound keeps stored others k = record {
+  sound = sound;
+  people = keeps_still register_schema 29 people_place old new _ others refl refl k.people;
+  trainings = keeps_still register_schema 29 trainings_place old new _ others refl refl k.trainings;
+  appointments = keeps_still register_schema 29 appointments_place old new _ others refl refl k.appointments;
+  boxes = keeps_still register_schema 29 boxes_place old new _ others refl refl k.boxes;
+  safes = keeps_still register_schema 29 safes_place old new _ others refl refl k.safes;
+  bags = keeps_still register_schema 29 bags_place old new _ others refl refl k.bags;
+  items = keeps_still register_schema 29 items_place old new _ others refl refl k.items;
+  ceremonies = keeps_still register_schema 29 ceremonies_place old new _ others refl refl k.ceremonies;
+  marks = keeps_still register_schema 29 marks_place old new _ others refl refl k.marks;
+  steps = keeps_still register_schema 29 steps_place old new _ others refl refl k.steps;
+  seatings = keeps_still register_schema 29 seatings_place old new _ others refl refl k.seatings;
+  sheet = keeps_still register_schema 29 sheet_place old new _ others refl refl k.sheet;
+  exceptions = keeps_still register_schema 29 exceptions_place old new _ others refl refl k.exceptions;
+  versions = keeps_still register_schema 29 versions_place old new _ others refl refl k.versions;
+  keys = keeps;
+  stays = keeps_still register_schema 29 stays_place old new _ others refl refl k.stays;
+  withdrawals = keeps_still register_schema 29 withdrawals_place old new _ others refl refl k.withdrawals;
+  spot = k.spot;
+  seats = k.seats;
+}

@@ -1,0 +1,119 @@
+-- What the table people proves of its texts, and of its place among the others.
+use Rattle.std.proofs.Common.{◌≡◌, ◌≢◌, ℕ, List, [], ◌∷◌, map, codes, true, refl, sym, ◌∙◌}
+use Rattle.std.specs.Bool.{⊤}
+use Rattle.std.specs.List.{AllByRecursion}
+use Rattle.sqlite.specs.declared.types.Value.TheVariants.{Null, Text}
+use Rattle.sqlite.specs.Term.{Term, lit, col, op2}
+use Rattle.sqlite.specs.Collation.TheVariants.{Binary}
+use Rattle.sqlite.specs.Tree.{Trees}
+use Rattle.sqlite.specs.Edit.{IsNoIndex}
+use Rattle.sqlite.specs.Listing.{understood}
+use Rattle.sqlite_catalog.specs.Listing.{IsSound}
+use Rattle.sqlite_sql.specs.declared.ops.BinaryOp.TheVariants.{Compare}
+use Rattle.sqlite_sql.specs.declared.ops.CompareOp.TheVariants.{Eq}
+use Rattle.sqlite_value.specs.declared.keys.Key.{Key}
+use Rattle.sqlite_value.specs.Keys.{ascending}
+use Rattle.sqlite_tied.specs.Compute.{everything}
+use Rattle.kcr_base.specs.Same.{same_text}
+use Rattle.kcr_rows.specs.Columns.{words}
+use Rattle.kcr_rows.specs.Keyed.{Keeps}
+use Rattle.kcr_rows.proofs.FilterLemmas.{has_value, value_is}
+use Rattle.kcr_rows.proofs.TableLemmas.{keeps_still}
+use Rattle.kcr_rows.proofs.SameLemmas.{text_ties}
+use Rattle.kcr_cells.specs.Rows.{person_row}
+use Rattle.kcr_people.specs.declared.Person.{Person}
+use Rattle.kcr_tables.specs.Schema.{register_schema}
+use Rattle.kcr_tables.specs.Held.{Tables, Kept, people_place, trainings_place, appointments_place, boxes_place, safes_place, bags_place, items_place, ceremonies_place, marks_place, steps_place, seatings_place, sheet_place, exceptions_place, versions_place, keys_place, stays_place, withdrawals_place}
+use Rattle.kcr_tables.specs.Parts.{text_in}
+use Rattle.kcr_tables.specs.Statements.{ShowsRows, PutsRow}
+
+abbrev pub project : List Term
+project = col 1 1 ∷ col 1 2 ∷ []
+
+abbrev order : List (Term × Key)
+order = (col 1 1, ascending Binary) ∷ []
+
+abbrev pub names : List (List ℕ)
+names = codes "who" ∷ codes "name" ∷ []
+
+-- no two values stand for one row
+pub one : (x y : Person) → ⊤ → ⊤ → person_row x ≡ person_row y → x ≡ y
+one x y read held h = λ i. record { who = text_in 0 (h i); name = text_in 1 (h i) }
+
+-- ---- all rows
+
+abbrev pub all_sql : List ℕ
+all_sql = codes "SELECT who, name FROM people ORDER BY who"
+
+pub lists : ShowsRows all_sql people_place [] (λ _. true)
+unfolding understood everything
+lists = record { test = []; project = project; order = order; names = names; is = (refl, refl); bare = (refl, refl); shows = λ r. refl; tests = λ r. refl; sorts = λ a b. refl; low = refl }
+
+-- ---- the row of the person with these initials, alone, or none
+
+abbrev pub person_of_sql : List ℕ
+person_of_sql = codes "SELECT who, name FROM people WHERE who = ?1 ORDER BY who"
+
+pub shows_person_of : (who : List ℕ) → ShowsRows person_of_sql people_place (Text who ∷ []) (has_value 0 (Text who))
+unfolding understood everything
+shows_person_of who = record { test = op2 (Compare Eq Binary) (col 1 1) (col 0 0) ∷ []; project = project; order = order; names = names; is = (refl, refl); bare = (refl, refl); shows = λ r. refl; tests = λ r. refl; sorts = λ a b. refl; low = refl }
+
+pub under_person_of : (who : List ℕ) (x : Person) → has_value 0 (Text who) (person_row x) ≡ same_text x.who who
+under_person_of who x = value_is (Text x.who) (Text who) refl refl ∙ sym (text_ties x.who who)
+
+-- ---- a row put under its key
+
+abbrev pub put_sql : List ℕ
+put_sql = codes "INSERT INTO people (who, name) VALUES (?1, ?2) ON CONFLICT (who) DO UPDATE SET who = ?1, name = ?2"
+
+pub puts : PutsRow put_sql people_place person_row
+unfolding understood everything
+puts = record {
+  at = 0;
+  name = codes "people";
+  columns = words (codes "who") ∷ words (codes "name") ∷ [];
+  others = [];
+  terms = lit Null ∷ col 0 0 ∷ col 0 1 ∷ [];
+  test = op2 (Compare Eq Binary) (col 1 0) (col 0 2) ∷ [];
+  sets = col 1 0 ∷ col 1 0 ∷ col 0 0 ∷ col 0 1 ∷ [];
+  here = refl;
+  alone = λ olds news. refl;
+  compares = λ a b. refl;
+  fulls = λ a. refl;
+  bare = (refl, refl);
+  given = λ x. refl;
+  casts = λ x i. Text x.who ∷ Text x.name ∷ [];
+  shown = λ x id. refl;
+  filled = λ x. refl;
+  tests = λ x entries there r. refl;
+  gives = λ x entries there r. refl;
+  low = refl;
+  shared = λ a b. refl;
+  is = refl;
+}
+
+-- the other tables stay where the rows of this one are changed
+pub still : (old new : Trees) (rows : List Person) (t : Tables) → IsSound register_schema new → Keeps people_place new (map person_row rows) → AllByRecursion (λ _. ⊤) rows
+    → ((tree : ℕ) → tree ≢ 0 → IsNoIndex register_schema tree → new tree ≡ old tree) → Kept old t → Kept new (record t { people = rows })
+still old new rows t sound keeps stored others k = record {
+  sound = sound;
+  people = keeps;
+  trainings = keeps_still register_schema 0 trainings_place old new _ others refl refl k.trainings;
+  appointments = keeps_still register_schema 0 appointments_place old new _ others refl refl k.appointments;
+  boxes = keeps_still register_schema 0 boxes_place old new _ others refl refl k.boxes;
+  safes = keeps_still register_schema 0 safes_place old new _ others refl refl k.safes;
+  bags = keeps_still register_schema 0 bags_place old new _ others refl refl k.bags;
+  items = keeps_still register_schema 0 items_place old new _ others refl refl k.items;
+  ceremonies = keeps_still register_schema 0 ceremonies_place old new _ others refl refl k.ceremonies;
+  marks = keeps_still register_schema 0 marks_place old new _ others refl refl k.marks;
+  steps = keeps_still register_schema 0 steps_place old new _ others refl refl k.steps;
+  seatings = keeps_still register_schema 0 seatings_place old new _ others refl refl k.seatings;
+  sheet = keeps_still register_schema 0 sheet_place old new _ others refl refl k.sheet;
+  exceptions = keeps_still register_schema 0 exceptions_place old new _ others refl refl k.exceptions;
+  versions = keeps_still register_schema 0 versions_place old new _ others refl refl k.versions;
+  keys = keeps_still register_schema 0 keys_place old new _ others refl refl k.keys;
+  stays = keeps_still register_schema 0 stays_place old new _ others refl refl k.stays;
+  withdrawals = keeps_still register_schema 0 withdrawals_place old new _ others refl refl k.withdrawals;
+  spot = k.spot;
+  seats = k.seats;
+}

@@ -1,0 +1,110 @@
+-- What the table safes proves of its texts, and of its place among the others.
+use Rattle.std.proofs.Common.{◌≡◌, ◌≢◌, ℕ, pos, List, [], ◌∷◌, map, codes, true, refl, ap}
+use Rattle.std.specs.Bool.{⊤}
+use Rattle.std.specs.List.{AllByRecursion}
+use Rattle.sqlite.specs.declared.types.Value.TheVariants.{Null, Text}
+use Rattle.sqlite.specs.Term.{Term, lit, col, op2}
+use Rattle.sqlite.specs.Collation.TheVariants.{Binary}
+use Rattle.sqlite.specs.Tree.{Trees}
+use Rattle.sqlite.specs.Edit.{IsNoIndex}
+use Rattle.sqlite.specs.Listing.{understood}
+use Rattle.sqlite_catalog.specs.Listing.{IsSound}
+use Rattle.sqlite_sql.specs.declared.ops.BinaryOp.TheVariants.{Compare}
+use Rattle.sqlite_sql.specs.declared.ops.CompareOp.TheVariants.{Eq}
+use Rattle.sqlite_value.specs.declared.keys.Key.{Key}
+use Rattle.sqlite_value.specs.Keys.{ascending}
+use Rattle.sqlite_tied.specs.Compute.{everything}
+use Rattle.kcr_rows.specs.Columns.{words, number}
+use Rattle.kcr_rows.specs.Keyed.{Keeps}
+use Rattle.kcr_rows.proofs.WriteLemmas.{cast_int}
+use Rattle.kcr_rows.proofs.TableLemmas.{keeps_still}
+use Rattle.kcr_rows.proofs.SameLemmas.{one_facility}
+use Rattle.kcr_cells.proofs.StateLemmas.{one_safe, one_truth}
+use Rattle.kcr_base.specs.Facility.{facility_text}
+use Rattle.kcr_cells.specs.States.{safe_digit}
+use Rattle.kcr_rows.specs.Values.{truth_number}
+use Rattle.kcr_cells.specs.Rows.{safe_row}
+use Rattle.kcr_custody.specs.declared.SafeRow.{SafeRow}
+use Rattle.kcr_tables.specs.Schema.{register_schema}
+use Rattle.kcr_tables.specs.Held.{Tables, Kept, people_place, trainings_place, appointments_place, boxes_place, safes_place, bags_place, items_place, ceremonies_place, marks_place, steps_place, seatings_place, sheet_place, exceptions_place, versions_place, keys_place, stays_place, withdrawals_place}
+use Rattle.kcr_tables.specs.Parts.{text_in, number_in}
+use Rattle.kcr_tables.specs.Statements.{ShowsRows, PutsRow}
+
+abbrev pub project : List Term
+project = col 1 1 ∷ col 1 2 ∷ col 1 3 ∷ []
+
+abbrev order : List (Term × Key)
+order = (col 1 1, ascending Binary) ∷ (col 1 2, ascending Binary) ∷ []
+
+abbrev pub names : List (List ℕ)
+names = codes "facility" ∷ codes "safe" ∷ codes "state" ∷ []
+
+-- no two values stand for one row
+pub one : (x y : SafeRow) → ⊤ → ⊤ → safe_row x ≡ safe_row y → x ≡ y
+one x y read held h = λ i. record { facility = one_facility x.facility y.facility (ap (text_in 0) h) i; safe = one_safe x.safe y.safe (ap (number_in 1) h) i; is_open = one_truth x.is_open y.is_open (ap (number_in 2) h) i }
+
+-- ---- all rows
+
+abbrev pub all_sql : List ℕ
+all_sql = codes "SELECT facility, safe, state FROM safes ORDER BY facility, safe"
+
+pub lists : ShowsRows all_sql safes_place [] (λ _. true)
+unfolding understood everything
+lists = record { test = []; project = project; order = order; names = names; is = (refl, refl); bare = (refl, refl); shows = λ r. refl; tests = λ r. refl; sorts = λ a b. refl; low = refl }
+
+-- ---- a row put under its key
+
+abbrev pub put_sql : List ℕ
+put_sql = codes "INSERT INTO safes (facility, safe, state) VALUES (?1, ?2, ?3) ON CONFLICT (facility, safe) DO UPDATE SET facility = ?1, safe = ?2, state = ?3"
+
+pub puts : PutsRow put_sql safes_place safe_row
+unfolding understood everything
+puts = record {
+  at = 4;
+  name = codes "safes";
+  columns = words (codes "facility") ∷ number (codes "safe") ∷ number (codes "state") ∷ [];
+  others = [];
+  terms = lit Null ∷ col 0 0 ∷ col 0 1 ∷ col 0 2 ∷ [];
+  test = op2 (Compare Eq Binary) (col 1 0) (col 0 3) ∷ [];
+  sets = col 1 0 ∷ col 1 0 ∷ col 0 0 ∷ col 0 1 ∷ col 0 2 ∷ [];
+  here = refl;
+  alone = λ olds news. refl;
+  compares = λ a b. refl;
+  fulls = λ a. refl;
+  bare = (refl, refl);
+  given = λ x. refl;
+  casts = λ x i. Text (facility_text x.facility) ∷ cast_int (pos (safe_digit x.safe)) i ∷ cast_int (pos (truth_number x.is_open)) i ∷ [];
+  shown = λ x id. refl;
+  filled = λ x. refl;
+  tests = λ x entries there r. refl;
+  gives = λ x entries there r. refl;
+  low = refl;
+  shared = λ a b. refl;
+  is = refl;
+}
+
+-- the other tables stay where the rows of this one are changed
+pub still : (old new : Trees) (rows : List SafeRow) (t : Tables) → IsSound register_schema new → Keeps safes_place new (map safe_row rows) → AllByRecursion (λ _. ⊤) rows
+    → ((tree : ℕ) → tree ≢ 8 → IsNoIndex register_schema tree → new tree ≡ old tree) → Kept old t → Kept new (record t { safes = rows })
+still old new rows t sound keeps stored others k = record {
+  sound = sound;
+  people = keeps_still register_schema 8 people_place old new _ others refl refl k.people;
+  trainings = keeps_still register_schema 8 trainings_place old new _ others refl refl k.trainings;
+  appointments = keeps_still register_schema 8 appointments_place old new _ others refl refl k.appointments;
+  boxes = keeps_still register_schema 8 boxes_place old new _ others refl refl k.boxes;
+  safes = keeps;
+  bags = keeps_still register_schema 8 bags_place old new _ others refl refl k.bags;
+  items = keeps_still register_schema 8 items_place old new _ others refl refl k.items;
+  ceremonies = keeps_still register_schema 8 ceremonies_place old new _ others refl refl k.ceremonies;
+  marks = keeps_still register_schema 8 marks_place old new _ others refl refl k.marks;
+  steps = keeps_still register_schema 8 steps_place old new _ others refl refl k.steps;
+  seatings = keeps_still register_schema 8 seatings_place old new _ others refl refl k.seatings;
+  sheet = keeps_still register_schema 8 sheet_place old new _ others refl refl k.sheet;
+  exceptions = keeps_still register_schema 8 exceptions_place old new _ others refl refl k.exceptions;
+  versions = keeps_still register_schema 8 versions_place old new _ others refl refl k.versions;
+  keys = keeps_still register_schema 8 keys_place old new _ others refl refl k.keys;
+  stays = keeps_still register_schema 8 stays_place old new _ others refl refl k.stays;
+  withdrawals = keeps_still register_schema 8 withdrawals_place old new _ others refl refl k.withdrawals;
+  spot = k.spot;
+  seats = k.seats;
+}

@@ -1,0 +1,119 @@
+-- What the table seatings proves of its texts, and of its place among the others.
+use Rattle.std.proofs.Common.{◌≡◌, ◌≢◌, ℕ, pos, List, [], ◌∷◌, map, codes, true, refl, sym, ◌∙◌, ◌==◌}
+use Rattle.std.specs.Bool.{⊤}
+use Rattle.std.specs.List.{AllByRecursion}
+use Rattle.sqlite.specs.declared.types.Value.TheVariants.{Null, Int, Text}
+use Rattle.sqlite.specs.Term.{Term, lit, col, op2}
+use Rattle.sqlite.specs.Collation.TheVariants.{Binary}
+use Rattle.sqlite.specs.Tree.{Trees}
+use Rattle.sqlite.specs.Edit.{IsNoIndex}
+use Rattle.sqlite.specs.Listing.{understood}
+use Rattle.sqlite_catalog.specs.Listing.{IsSound}
+use Rattle.sqlite_sql.specs.declared.ops.BinaryOp.TheVariants.{Compare}
+use Rattle.sqlite_sql.specs.declared.ops.CompareOp.TheVariants.{Eq}
+use Rattle.sqlite_value.specs.declared.keys.Key.{Key}
+use Rattle.sqlite_value.specs.Keys.{ascending}
+use Rattle.sqlite_tied.specs.Compute.{everything}
+use Rattle.kcr_rows.specs.Columns.{words, number}
+use Rattle.kcr_rows.specs.Keyed.{Keeps}
+use Rattle.kcr_rows.proofs.FilterLemmas.{has_value, value_is}
+use Rattle.kcr_rows.proofs.WriteLemmas.{cast_int}
+use Rattle.kcr_rows.proofs.TableLemmas.{keeps_still}
+use Rattle.kcr_rows.proofs.SameLemmas.{number_ties}
+use Rattle.kcr_cells.specs.Rows.{seating_row}
+use Rattle.kcr_history.specs.declared.rows.SeatingRow.{SeatingRow}
+use Rattle.kcr_tables.specs.Schema.{register_schema}
+use Rattle.kcr_tables.specs.Held.{Tables, Kept, people_place, trainings_place, appointments_place, boxes_place, safes_place, bags_place, items_place, ceremonies_place, marks_place, steps_place, seatings_place, sheet_place, exceptions_place, versions_place, keys_place, stays_place, withdrawals_place}
+use Rattle.kcr_tables.specs.Parts.{text_in, number_in}
+use Rattle.kcr_tables.specs.Statements.{ShowsRows, PutsRow}
+
+abbrev pub project : List Term
+project = col 1 1 ∷ col 1 2 ∷ col 1 3 ∷ col 1 4 ∷ []
+
+abbrev order : List (Term × Key)
+order = (col 1 1, ascending Binary) ∷ (col 1 2, ascending Binary) ∷ (col 1 3, ascending Binary) ∷ []
+
+abbrev pub names : List (List ℕ)
+names = codes "ceremony" ∷ codes "step" ∷ codes "seat" ∷ codes "who" ∷ []
+
+-- no two values stand for one row
+pub one : (x y : SeatingRow) → ⊤ → ⊤ → seating_row x ≡ seating_row y → x ≡ y
+one x y read held h = λ i. record { ceremony = number_in 0 (h i); step = number_in 1 (h i); seat = number_in 2 (h i); who = text_in 3 (h i) }
+
+-- ---- all rows
+
+abbrev pub all_sql : List ℕ
+all_sql = codes "SELECT ceremony, step, seat, who FROM seatings ORDER BY ceremony, step, seat"
+
+pub lists : ShowsRows all_sql seatings_place [] (λ _. true)
+unfolding understood everything
+lists = record { test = []; project = project; order = order; names = names; is = (refl, refl); bare = (refl, refl); shows = λ r. refl; tests = λ r. refl; sorts = λ a b. refl; low = refl }
+
+-- ---- the rows of one ceremony
+
+abbrev pub seatings_of_sql : List ℕ
+seatings_of_sql = codes "SELECT ceremony, step, seat, who FROM seatings WHERE ceremony = ?1 ORDER BY ceremony, step, seat"
+
+pub shows_seatings_of : (ceremony : ℕ) → ShowsRows seatings_of_sql seatings_place (Int (pos ceremony) ∷ []) (has_value 0 (Int (pos ceremony)))
+unfolding understood everything
+shows_seatings_of ceremony = record { test = op2 (Compare Eq Binary) (col 1 1) (col 0 0) ∷ []; project = project; order = order; names = names; is = (refl, refl); bare = (refl, refl); shows = λ r. refl; tests = λ r. refl; sorts = λ a b. refl; low = refl }
+
+pub under_seatings_of : (ceremony : ℕ) (x : SeatingRow) → has_value 0 (Int (pos ceremony)) (seating_row x) ≡ x.ceremony == ceremony
+under_seatings_of ceremony x = value_is (Int (pos x.ceremony)) (Int (pos ceremony)) refl refl ∙ sym (number_ties x.ceremony ceremony)
+
+-- ---- a row put under its key
+
+abbrev pub put_sql : List ℕ
+put_sql = codes "INSERT INTO seatings (ceremony, step, seat, who) VALUES (?1, ?2, ?3, ?4) ON CONFLICT (ceremony, step, seat) DO UPDATE SET ceremony = ?1, step = ?2, seat = ?3, who = ?4"
+
+pub puts : PutsRow put_sql seatings_place seating_row
+unfolding understood everything
+puts = record {
+  at = 10;
+  name = codes "seatings";
+  columns = number (codes "ceremony") ∷ number (codes "step") ∷ number (codes "seat") ∷ words (codes "who") ∷ [];
+  others = [];
+  terms = lit Null ∷ col 0 0 ∷ col 0 1 ∷ col 0 2 ∷ col 0 3 ∷ [];
+  test = op2 (Compare Eq Binary) (col 1 0) (col 0 4) ∷ [];
+  sets = col 1 0 ∷ col 1 0 ∷ col 0 0 ∷ col 0 1 ∷ col 0 2 ∷ col 0 3 ∷ [];
+  here = refl;
+  alone = λ olds news. refl;
+  compares = λ a b. refl;
+  fulls = λ a. refl;
+  bare = (refl, refl);
+  given = λ x. refl;
+  casts = λ x i. cast_int (pos x.ceremony) i ∷ cast_int (pos x.step) i ∷ cast_int (pos x.seat) i ∷ Text x.who ∷ [];
+  shown = λ x id. refl;
+  filled = λ x. refl;
+  tests = λ x entries there r. refl;
+  gives = λ x entries there r. refl;
+  low = refl;
+  shared = λ a b. refl;
+  is = refl;
+}
+
+-- the other tables stay where the rows of this one are changed
+pub still : (old new : Trees) (rows : List SeatingRow) (t : Tables) → IsSound register_schema new → Keeps seatings_place new (map seating_row rows) → AllByRecursion (λ _. ⊤) rows
+    → ((tree : ℕ) → tree ≢ 21 → IsNoIndex register_schema tree → new tree ≡ old tree) → Kept old t → Kept new (record t { seatings = rows })
+still old new rows t sound keeps stored others k = record {
+  sound = sound;
+  people = keeps_still register_schema 21 people_place old new _ others refl refl k.people;
+  trainings = keeps_still register_schema 21 trainings_place old new _ others refl refl k.trainings;
+  appointments = keeps_still register_schema 21 appointments_place old new _ others refl refl k.appointments;
+  boxes = keeps_still register_schema 21 boxes_place old new _ others refl refl k.boxes;
+  safes = keeps_still register_schema 21 safes_place old new _ others refl refl k.safes;
+  bags = keeps_still register_schema 21 bags_place old new _ others refl refl k.bags;
+  items = keeps_still register_schema 21 items_place old new _ others refl refl k.items;
+  ceremonies = keeps_still register_schema 21 ceremonies_place old new _ others refl refl k.ceremonies;
+  marks = keeps_still register_schema 21 marks_place old new _ others refl refl k.marks;
+  steps = keeps_still register_schema 21 steps_place old new _ others refl refl k.steps;
+  seatings = keeps;
+  sheet = keeps_still register_schema 21 sheet_place old new _ others refl refl k.sheet;
+  exceptions = keeps_still register_schema 21 exceptions_place old new _ others refl refl k.exceptions;
+  versions = keeps_still register_schema 21 versions_place old new _ others refl refl k.versions;
+  keys = keeps_still register_schema 21 keys_place old new _ others refl refl k.keys;
+  stays = keeps_still register_schema 21 stays_place old new _ others refl refl k.stays;
+  withdrawals = keeps_still register_schema 21 withdrawals_place old new _ others refl refl k.withdrawals;
+  spot = k.spot;
+  seats = k.seats;
+}

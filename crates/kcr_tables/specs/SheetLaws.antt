@@ -1,0 +1,121 @@
+-- What the table sheet proves of its texts, and of its place among the others.
+use Rattle.std.proofs.Common.{◌≡◌, ◌≢◌, ℕ, pos, List, [], ◌∷◌, map, codes, true, refl, sym, ap, ◌∙◌, ◌==◌}
+use Rattle.std.specs.Bool.{⊤}
+use Rattle.std.specs.List.{AllByRecursion}
+use Rattle.sqlite.specs.declared.types.Value.TheVariants.{Null, Int, Text}
+use Rattle.sqlite.specs.Term.{Term, lit, col, op2}
+use Rattle.sqlite.specs.Collation.TheVariants.{Binary}
+use Rattle.sqlite.specs.Tree.{Trees}
+use Rattle.sqlite.specs.Edit.{IsNoIndex}
+use Rattle.sqlite.specs.Listing.{understood}
+use Rattle.sqlite_catalog.specs.Listing.{IsSound}
+use Rattle.sqlite_sql.specs.declared.ops.BinaryOp.TheVariants.{Compare}
+use Rattle.sqlite_sql.specs.declared.ops.CompareOp.TheVariants.{Eq}
+use Rattle.sqlite_value.specs.declared.keys.Key.{Key}
+use Rattle.sqlite_value.specs.Keys.{ascending}
+use Rattle.sqlite_tied.specs.Compute.{everything}
+use Rattle.kcr_rows.specs.Columns.{words, number}
+use Rattle.kcr_rows.specs.Keyed.{Keeps}
+use Rattle.kcr_rows.proofs.FilterLemmas.{has_value, value_is}
+use Rattle.kcr_rows.proofs.WriteLemmas.{cast_int}
+use Rattle.kcr_rows.proofs.TableLemmas.{keeps_still}
+use Rattle.kcr_rows.proofs.SameLemmas.{number_ties}
+use Rattle.kcr_cells.proofs.StateLemmas.{one_way}
+use Rattle.kcr_cells.specs.States.{way_number}
+use Rattle.kcr_cells.specs.Rows.{sheet_row}
+use Rattle.kcr_room.specs.declared.SheetRow.{SheetRow}
+use Rattle.kcr_tables.specs.Schema.{register_schema}
+use Rattle.kcr_tables.specs.Held.{Tables, Kept, people_place, trainings_place, appointments_place, boxes_place, safes_place, bags_place, items_place, ceremonies_place, marks_place, steps_place, seatings_place, sheet_place, exceptions_place, versions_place, keys_place, stays_place, withdrawals_place}
+use Rattle.kcr_tables.specs.Parts.{text_in, number_in}
+use Rattle.kcr_tables.specs.Statements.{ShowsRows, PutsRow}
+
+abbrev pub project : List Term
+project = col 1 1 ∷ col 1 2 ∷ col 1 3 ∷ col 1 4 ∷ []
+
+abbrev order : List (Term × Key)
+order = (col 1 1, ascending Binary) ∷ (col 1 2, ascending Binary) ∷ []
+
+abbrev pub names : List (List ℕ)
+names = codes "who" ∷ codes "at" ∷ codes "ceremony" ∷ codes "way" ∷ []
+
+-- no two values stand for one row
+pub one : (x y : SheetRow) → ⊤ → ⊤ → sheet_row x ≡ sheet_row y → x ≡ y
+one x y read held h = λ i. record { who = text_in 0 (h i); at = number_in 1 (h i); ceremony = number_in 2 (h i); way = one_way x.way y.way (ap (number_in 3) h) i }
+
+-- ---- all rows
+
+abbrev pub all_sql : List ℕ
+all_sql = codes "SELECT who, at, ceremony, way FROM sheet ORDER BY who, at"
+
+pub lists : ShowsRows all_sql sheet_place [] (λ _. true)
+unfolding understood everything
+lists = record { test = []; project = project; order = order; names = names; is = (refl, refl); bare = (refl, refl); shows = λ r. refl; tests = λ r. refl; sorts = λ a b. refl; low = refl }
+
+-- ---- the rows of one ceremony
+
+abbrev pub sheet_of_sql : List ℕ
+sheet_of_sql = codes "SELECT who, at, ceremony, way FROM sheet WHERE ceremony = ?1 ORDER BY who, at"
+
+pub shows_sheet_of : (ceremony : ℕ) → ShowsRows sheet_of_sql sheet_place (Int (pos ceremony) ∷ []) (has_value 2 (Int (pos ceremony)))
+unfolding understood everything
+shows_sheet_of ceremony = record { test = op2 (Compare Eq Binary) (col 1 3) (col 0 0) ∷ []; project = project; order = order; names = names; is = (refl, refl); bare = (refl, refl); shows = λ r. refl; tests = λ r. refl; sorts = λ a b. refl; low = refl }
+
+pub under_sheet_of : (ceremony : ℕ) (x : SheetRow) → has_value 2 (Int (pos ceremony)) (sheet_row x) ≡ x.ceremony == ceremony
+under_sheet_of ceremony x = value_is (Int (pos x.ceremony)) (Int (pos ceremony)) refl refl ∙ sym (number_ties x.ceremony ceremony)
+
+-- ---- a row put under its key
+
+abbrev pub put_sql : List ℕ
+put_sql = codes "INSERT INTO sheet (who, at, ceremony, way) VALUES (?1, ?2, ?3, ?4) ON CONFLICT (who, at) DO UPDATE SET who = ?1, at = ?2, ceremony = ?3, way = ?4"
+
+pub puts : PutsRow put_sql sheet_place sheet_row
+unfolding understood everything
+puts = record {
+  at = 11;
+  name = codes "sheet";
+  columns = words (codes "who") ∷ number (codes "at") ∷ number (codes "ceremony") ∷ number (codes "way") ∷ [];
+  others = [];
+  terms = lit Null ∷ col 0 0 ∷ col 0 1 ∷ col 0 2 ∷ col 0 3 ∷ [];
+  test = op2 (Compare Eq Binary) (col 1 0) (col 0 4) ∷ [];
+  sets = col 1 0 ∷ col 1 0 ∷ col 0 0 ∷ col 0 1 ∷ col 0 2 ∷ col 0 3 ∷ [];
+  here = refl;
+  alone = λ olds news. refl;
+  compares = λ a b. refl;
+  fulls = λ a. refl;
+  bare = (refl, refl);
+  given = λ x. refl;
+  casts = λ x i. Text x.who ∷ cast_int (pos x.at) i ∷ cast_int (pos x.ceremony) i ∷ cast_int (pos (way_number x.way)) i ∷ [];
+  shown = λ x id. refl;
+  filled = λ x. refl;
+  tests = λ x entries there r. refl;
+  gives = λ x entries there r. refl;
+  low = refl;
+  shared = λ a b. refl;
+  is = refl;
+}
+
+-- the other tables stay where the rows of this one are changed
+pub still : (old new : Trees) (rows : List SheetRow) (t : Tables) → IsSound register_schema new → Keeps sheet_place new (map sheet_row rows) → AllByRecursion (λ _. ⊤) rows
+    → ((tree : ℕ) → tree ≢ 23 → IsNoIndex register_schema tree → new tree ≡ old tree) → Kept old t → Kept new (record t { sheet = rows })
+still old new rows t sound keeps stored others k = record {
+  sound = sound;
+  people = keeps_still register_schema 23 people_place old new _ others refl refl k.people;
+  trainings = keeps_still register_schema 23 trainings_place old new _ others refl refl k.trainings;
+  appointments = keeps_still register_schema 23 appointments_place old new _ others refl refl k.appointments;
+  boxes = keeps_still register_schema 23 boxes_place old new _ others refl refl k.boxes;
+  safes = keeps_still register_schema 23 safes_place old new _ others refl refl k.safes;
+  bags = keeps_still register_schema 23 bags_place old new _ others refl refl k.bags;
+  items = keeps_still register_schema 23 items_place old new _ others refl refl k.items;
+  ceremonies = keeps_still register_schema 23 ceremonies_place old new _ others refl refl k.ceremonies;
+  marks = keeps_still register_schema 23 marks_place old new _ others refl refl k.marks;
+  steps = keeps_still register_schema 23 steps_place old new _ others refl refl k.steps;
+  seatings = keeps_still register_schema 23 seatings_place old new _ others refl refl k.seatings;
+  sheet = keeps;
+  exceptions = keeps_still register_schema 23 exceptions_place old new _ others refl refl k.exceptions;
+  versions = keeps_still register_schema 23 versions_place old new _ others refl refl k.versions;
+  keys = keeps_still register_schema 23 keys_place old new _ others refl refl k.keys;
+  stays = keeps_still register_schema 23 stays_place old new _ others refl refl k.stays;
+  withdrawals = keeps_still register_schema 23 withdrawals_place old new _ others refl refl k.withdrawals;
+  spot = k.spot;
+  seats = k.seats;
+}

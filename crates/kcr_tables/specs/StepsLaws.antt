@@ -1,0 +1,124 @@
+-- What the table steps proves of its texts, and of its place among the others.
+use Rattle.std.proofs.Common.{◌≡◌, ◌≢◌, ℕ, pos, List, [], ◌∷◌, map, codes, true, refl, sym, ap, ◌∙◌}
+use Rattle.std.specs.List.{AllByRecursion}
+use Rattle.sqlite.specs.declared.types.Value.TheVariants.{Null, Int, Text}
+use Rattle.sqlite.specs.Order.{Row, column}
+use Rattle.sqlite.specs.Term.{Term, lit, col, op2}
+use Rattle.sqlite.specs.Collation.TheVariants.{Binary}
+use Rattle.sqlite.specs.Tree.{Trees}
+use Rattle.sqlite.specs.Edit.{IsNoIndex}
+use Rattle.sqlite.specs.Listing.{understood}
+use Rattle.sqlite_catalog.specs.Listing.{IsSound}
+use Rattle.sqlite_sql.specs.declared.ops.BinaryOp.TheVariants.{Compare}
+use Rattle.sqlite_sql.specs.declared.ops.CompareOp.TheVariants.{Eq}
+use Rattle.sqlite_value.specs.declared.keys.Key.{Key}
+use Rattle.sqlite_value.specs.Keys.{ascending}
+use Rattle.sqlite_tied.specs.Compute.{everything}
+use Rattle.kcr_history.specs.Views.{is_step_of}
+use Rattle.kcr_rows.specs.Columns.{words, number, number_or_null}
+use Rattle.kcr_rows.specs.Keyed.{Keeps}
+use Rattle.kcr_rows.proofs.FilterLemmas.{has_value, value_is}
+use Rattle.kcr_rows.proofs.WriteLemmas.{cast_int}
+use Rattle.kcr_rows.proofs.TableLemmas.{keeps_still}
+use Rattle.kcr_rows.proofs.SameLemmas.{one_number, number_ties}
+use Rattle.kcr_cells.proofs.StateLemmas.{cast_or_null, one_seats, one_step_state}
+use Rattle.kcr_script.specs.Seats.{written}
+use Rattle.kcr_cells.specs.States.{step_number}
+use Rattle.kcr_cells.specs.Rows.{step_row}
+use Rattle.kcr_history.specs.declared.rows.StepRow.{StepRow}
+use Rattle.kcr_cells.specs.States.{HasOnlyTheseSeats, HasSeatsText}
+use Rattle.kcr_tables.specs.Schema.{register_schema}
+use Rattle.kcr_tables.specs.Held.{Tables, Kept, people_place, trainings_place, appointments_place, boxes_place, safes_place, bags_place, items_place, ceremonies_place, marks_place, steps_place, seatings_place, sheet_place, exceptions_place, versions_place, keys_place, stays_place, withdrawals_place}
+use Rattle.kcr_tables.specs.Parts.{text_in, number_in}
+use Rattle.kcr_tables.specs.Statements.{ShowsRows, PutsRow}
+
+abbrev pub project : List Term
+project = col 1 1 ∷ col 1 2 ∷ col 1 3 ∷ col 1 4 ∷ col 1 5 ∷ col 1 6 ∷ []
+
+abbrev order : List (Term × Key)
+order = (col 1 1, ascending Binary) ∷ (col 1 2, ascending Binary) ∷ []
+
+abbrev pub names : List (List ℕ)
+names = codes "ceremony" ∷ codes "step" ∷ codes "activity" ∷ codes "seats" ∷ codes "state" ∷ codes "at" ∷ []
+
+-- no two values stand for one row
+pub one : (x y : StepRow) → HasOnlyTheseSeats x → HasSeatsText y → step_row x ≡ step_row y → x ≡ y
+one x y read held h = λ i. record { ceremony = number_in 0 (h i); step = number_in 1 (h i); activity = text_in 2 (h i); seats = one_seats x.seats y.seats read held (ap (text_in 3) h) i; state = one_step_state x.state y.state (ap (number_in 4) h) i; at = one_number x.at y.at (ap (λ (r : Row). column r 5) h) i }
+
+-- ---- all rows
+
+abbrev pub all_sql : List ℕ
+all_sql = codes "SELECT ceremony, step, activity, seats, state, at FROM steps ORDER BY ceremony, step"
+
+pub lists : ShowsRows all_sql steps_place [] (λ _. true)
+unfolding understood everything
+lists = record { test = []; project = project; order = order; names = names; is = (refl, refl); bare = (refl, refl); shows = λ r. refl; tests = λ r. refl; sorts = λ a b. refl; low = refl }
+
+-- ---- the rows of one ceremony
+
+abbrev pub steps_of_sql : List ℕ
+steps_of_sql = codes "SELECT ceremony, step, activity, seats, state, at FROM steps WHERE ceremony = ?1 ORDER BY ceremony, step"
+
+pub shows_steps_of : (ceremony : ℕ) → ShowsRows steps_of_sql steps_place (Int (pos ceremony) ∷ []) (has_value 0 (Int (pos ceremony)))
+unfolding understood everything
+shows_steps_of ceremony = record { test = op2 (Compare Eq Binary) (col 1 1) (col 0 0) ∷ []; project = project; order = order; names = names; is = (refl, refl); bare = (refl, refl); shows = λ r. refl; tests = λ r. refl; sorts = λ a b. refl; low = refl }
+
+pub under_steps_of : (ceremony : ℕ) (x : StepRow) → has_value 0 (Int (pos ceremony)) (step_row x) ≡ is_step_of ceremony x
+under_steps_of ceremony x = value_is (Int (pos x.ceremony)) (Int (pos ceremony)) refl refl ∙ sym (number_ties x.ceremony ceremony)
+
+-- ---- a row put under its key
+
+abbrev pub put_sql : List ℕ
+put_sql = codes "INSERT INTO steps (ceremony, step, activity, seats, state, at) VALUES (?1, ?2, ?3, ?4, ?5, ?6) ON CONFLICT (ceremony, step) DO UPDATE SET ceremony = ?1, step = ?2, activity = ?3, seats = ?4, state = ?5, at = ?6"
+
+pub puts : PutsRow put_sql steps_place step_row
+unfolding understood everything
+puts = record {
+  at = 9;
+  name = codes "steps";
+  columns = number (codes "ceremony") ∷ number (codes "step") ∷ words (codes "activity") ∷ words (codes "seats") ∷ number (codes "state") ∷ number_or_null (codes "at") ∷ [];
+  others = [];
+  terms = lit Null ∷ col 0 0 ∷ col 0 1 ∷ col 0 2 ∷ col 0 3 ∷ col 0 4 ∷ col 0 5 ∷ [];
+  test = op2 (Compare Eq Binary) (col 1 0) (col 0 6) ∷ [];
+  sets = col 1 0 ∷ col 1 0 ∷ col 0 0 ∷ col 0 1 ∷ col 0 2 ∷ col 0 3 ∷ col 0 4 ∷ col 0 5 ∷ [];
+  here = refl;
+  alone = λ olds news. refl;
+  compares = λ a b. refl;
+  fulls = λ a. refl;
+  bare = (refl, refl);
+  given = λ x. refl;
+  casts = λ x i. cast_int (pos x.ceremony) i ∷ cast_int (pos x.step) i ∷ Text x.activity ∷ Text (written x.seats) ∷ cast_int (pos (step_number x.state)) i ∷ cast_or_null x.at i ∷ [];
+  shown = λ x id. refl;
+  filled = λ x. refl;
+  tests = λ x entries there r. refl;
+  gives = λ x entries there r. refl;
+  low = refl;
+  shared = λ a b. refl;
+  is = refl;
+}
+
+-- the other tables stay where the rows of this one are changed
+pub still : (old new : Trees) (rows : List StepRow) (t : Tables) → IsSound register_schema new → Keeps steps_place new (map step_row rows) → AllByRecursion HasSeatsText rows
+    → ((tree : ℕ) → tree ≢ 19 → IsNoIndex register_schema tree → new tree ≡ old tree) → Kept old t → Kept new (record t { steps = rows })
+still old new rows t sound keeps stored others k = record {
+  sound = sound;
+  people = keeps_still register_schema 19 people_place old new _ others refl refl k.people;
+  trainings = keeps_still register_schema 19 trainings_place old new _ others refl refl k.trainings;
+  appointments = keeps_still register_schema 19 appointments_place old new _ others refl refl k.appointments;
+  boxes = keeps_still register_schema 19 boxes_place old new _ others refl refl k.boxes;
+  safes = keeps_still register_schema 19 safes_place old new _ others refl refl k.safes;
+  bags = keeps_still register_schema 19 bags_place old new _ others refl refl k.bags;
+  items = keeps_still register_schema 19 items_place old new _ others refl refl k.items;
+  ceremonies = keeps_still register_schema 19 ceremonies_place old new _ others refl refl k.ceremonies;
+  marks = keeps_still register_schema 19 marks_place old new _ others refl refl k.marks;
+  steps = keeps;
+  seatings = keeps_still register_schema 19 seatings_place old new _ others refl refl k.seatings;
+  sheet = keeps_still register_schema 19 sheet_place old new _ others refl refl k.sheet;
+  exceptions = keeps_still register_schema 19 exceptions_place old new _ others refl refl k.exceptions;
+  versions = keeps_still register_schema 19 versions_place old new _ others refl refl k.versions;
+  keys = keeps_still register_schema 19 keys_place old new _ others refl refl k.keys;
+  stays = keeps_still register_schema 19 stays_place old new _ others refl refl k.stays;
+  withdrawals = keeps_still register_schema 19 withdrawals_place old new _ others refl refl k.withdrawals;
+  spot = k.spot;
+  seats = stored;
+}

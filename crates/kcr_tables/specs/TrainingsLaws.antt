@@ -1,0 +1,121 @@
+-- What the table trainings proves of its texts, and of its place among the others.
+use Rattle.std.proofs.Common.{◌≡◌, ◌≢◌, ℕ, pos, List, [], ◌∷◌, map, codes, true, refl, sym, ap, ◌∙◌}
+use Rattle.std.specs.Bool.{⊤}
+use Rattle.std.specs.List.{AllByRecursion}
+use Rattle.sqlite.specs.declared.types.Value.TheVariants.{Null, Text}
+use Rattle.sqlite.specs.Term.{Term, lit, col, op2}
+use Rattle.sqlite.specs.Collation.TheVariants.{Binary}
+use Rattle.sqlite.specs.Tree.{Trees}
+use Rattle.sqlite.specs.Edit.{IsNoIndex}
+use Rattle.sqlite.specs.Listing.{understood}
+use Rattle.sqlite_catalog.specs.Listing.{IsSound}
+use Rattle.sqlite_sql.specs.declared.ops.BinaryOp.TheVariants.{Compare}
+use Rattle.sqlite_sql.specs.declared.ops.CompareOp.TheVariants.{Eq}
+use Rattle.sqlite_value.specs.declared.keys.Key.{Key}
+use Rattle.sqlite_value.specs.Keys.{ascending}
+use Rattle.sqlite_tied.specs.Compute.{everything}
+use Rattle.kcr_history.specs.Views.{is_training_of}
+use Rattle.kcr_rows.specs.Columns.{words, number}
+use Rattle.kcr_rows.specs.Keyed.{Keeps}
+use Rattle.kcr_rows.proofs.FilterLemmas.{has_value, value_is}
+use Rattle.kcr_rows.proofs.WriteLemmas.{cast_int}
+use Rattle.kcr_rows.proofs.TableLemmas.{keeps_still}
+use Rattle.kcr_rows.proofs.SameLemmas.{one_role, text_ties}
+use Rattle.kcr_base.specs.Role.{role_text}
+use Rattle.kcr_cells.specs.Rows.{training_row}
+use Rattle.kcr_people.specs.declared.Training.{Training}
+use Rattle.kcr_tables.specs.Schema.{register_schema}
+use Rattle.kcr_tables.specs.Held.{Tables, Kept, people_place, trainings_place, appointments_place, boxes_place, safes_place, bags_place, items_place, ceremonies_place, marks_place, steps_place, seatings_place, sheet_place, exceptions_place, versions_place, keys_place, stays_place, withdrawals_place}
+use Rattle.kcr_tables.specs.Parts.{text_in, number_in}
+use Rattle.kcr_tables.specs.Statements.{ShowsRows, PutsRow}
+
+abbrev pub project : List Term
+project = col 1 1 ∷ col 1 2 ∷ col 1 3 ∷ col 1 4 ∷ []
+
+abbrev order : List (Term × Key)
+order = (col 1 1, ascending Binary) ∷ (col 1 2, ascending Binary) ∷ (col 1 3, ascending Binary) ∷ (col 1 4, ascending Binary) ∷ []
+
+abbrev pub names : List (List ℕ)
+names = codes "who" ∷ codes "role" ∷ codes "since" ∷ codes "until" ∷ []
+
+-- no two values stand for one row
+pub one : (x y : Training) → ⊤ → ⊤ → training_row x ≡ training_row y → x ≡ y
+one x y read held h = λ i. record { who = text_in 0 (h i); role = one_role x.role y.role (ap (text_in 1) h) i; since = number_in 2 (h i); until = number_in 3 (h i) }
+
+-- ---- all rows
+
+abbrev pub all_sql : List ℕ
+all_sql = codes "SELECT who, role, since, until FROM trainings ORDER BY who, role, since, until"
+
+pub lists : ShowsRows all_sql trainings_place [] (λ _. true)
+unfolding understood everything
+lists = record { test = []; project = project; order = order; names = names; is = (refl, refl); bare = (refl, refl); shows = λ r. refl; tests = λ r. refl; sorts = λ a b. refl; low = refl }
+
+-- ---- the rows of one person
+
+abbrev pub trainings_of_sql : List ℕ
+trainings_of_sql = codes "SELECT who, role, since, until FROM trainings WHERE who = ?1 ORDER BY who, role, since, until"
+
+pub shows_trainings_of : (who : List ℕ) → ShowsRows trainings_of_sql trainings_place (Text who ∷ []) (has_value 0 (Text who))
+unfolding understood everything
+shows_trainings_of who = record { test = op2 (Compare Eq Binary) (col 1 1) (col 0 0) ∷ []; project = project; order = order; names = names; is = (refl, refl); bare = (refl, refl); shows = λ r. refl; tests = λ r. refl; sorts = λ a b. refl; low = refl }
+
+pub under_trainings_of : (who : List ℕ) (x : Training) → has_value 0 (Text who) (training_row x) ≡ is_training_of who x
+under_trainings_of who x = value_is (Text x.who) (Text who) refl refl ∙ sym (text_ties x.who who)
+
+-- ---- a row put under its key
+
+abbrev pub put_sql : List ℕ
+put_sql = codes "INSERT INTO trainings (who, role, since, until) VALUES (?1, ?2, ?3, ?4) ON CONFLICT (who, role, since, until) DO UPDATE SET who = ?1, role = ?2, since = ?3, until = ?4"
+
+pub puts : PutsRow put_sql trainings_place training_row
+unfolding understood everything
+puts = record {
+  at = 1;
+  name = codes "trainings";
+  columns = words (codes "who") ∷ words (codes "role") ∷ number (codes "since") ∷ number (codes "until") ∷ [];
+  others = [];
+  terms = lit Null ∷ col 0 0 ∷ col 0 1 ∷ col 0 2 ∷ col 0 3 ∷ [];
+  test = op2 (Compare Eq Binary) (col 1 0) (col 0 4) ∷ [];
+  sets = col 1 0 ∷ col 1 0 ∷ col 0 0 ∷ col 0 1 ∷ col 0 2 ∷ col 0 3 ∷ [];
+  here = refl;
+  alone = λ olds news. refl;
+  compares = λ a b. refl;
+  fulls = λ a. refl;
+  bare = (refl, refl);
+  given = λ x. refl;
+  casts = λ x i. Text x.who ∷ Text (role_text x.role) ∷ cast_int (pos x.since) i ∷ cast_int (pos x.until) i ∷ [];
+  shown = λ x id. refl;
+  filled = λ x. refl;
+  tests = λ x entries there r. refl;
+  gives = λ x entries there r. refl;
+  low = refl;
+  shared = λ a b. refl;
+  is = refl;
+}
+
+-- the other tables stay where the rows of this one are changed
+pub still : (old new : Trees) (rows : List Training) (t : Tables) → IsSound register_schema new → Keeps trainings_place new (map training_row rows) → AllByRecursion (λ _. ⊤) rows
+    → ((tree : ℕ) → tree ≢ 2 → IsNoIndex register_schema tree → new tree ≡ old tree) → Kept old t → Kept new (record t { trainings = rows })
+still old new rows t sound keeps stored others k = record {
+  sound = sound;
+  people = keeps_still register_schema 2 people_place old new _ others refl refl k.people;
+  trainings = keeps;
+  appointments = keeps_still register_schema 2 appointments_place old new _ others refl refl k.appointments;
+  boxes = keeps_still register_schema 2 boxes_place old new _ others refl refl k.boxes;
+  safes = keeps_still register_schema 2 safes_place old new _ others refl refl k.safes;
+  bags = keeps_still register_schema 2 bags_place old new _ others refl refl k.bags;
+  items = keeps_still register_schema 2 items_place old new _ others refl refl k.items;
+  ceremonies = keeps_still register_schema 2 ceremonies_place old new _ others refl refl k.ceremonies;
+  marks = keeps_still register_schema 2 marks_place old new _ others refl refl k.marks;
+  steps = keeps_still register_schema 2 steps_place old new _ others refl refl k.steps;
+  seatings = keeps_still register_schema 2 seatings_place old new _ others refl refl k.seatings;
+  sheet = keeps_still register_schema 2 sheet_place old new _ others refl refl k.sheet;
+  exceptions = keeps_still register_schema 2 exceptions_place old new _ others refl refl k.exceptions;
+  versions = keeps_still register_schema 2 versions_place old new _ others refl refl k.versions;
+  keys = keeps_still register_schema 2 keys_place old new _ others refl refl k.keys;
+  stays = keeps_still register_schema 2 stays_place old new _ others refl refl k.stays;
+  withdrawals = keeps_still register_schema 2 withdrawals_place old new _ others refl refl k.withdrawals;
+  spot = k.spot;
+  seats = k.seats;
+}

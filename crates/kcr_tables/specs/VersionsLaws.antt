@@ -1,0 +1,105 @@
+-- What the table versions proves of its texts, and of its place among the others.
+use Rattle.std.proofs.Common.{◌≡◌, ◌≢◌, ℕ, pos, List, [], ◌∷◌, map, codes, true, refl}
+use Rattle.std.specs.Bool.{⊤}
+use Rattle.std.specs.List.{AllByRecursion}
+use Rattle.sqlite.specs.declared.types.Value.TheVariants.{Null}
+use Rattle.sqlite.specs.Term.{Term, lit, col, op2}
+use Rattle.sqlite.specs.Collation.TheVariants.{Binary}
+use Rattle.sqlite.specs.Tree.{Trees}
+use Rattle.sqlite.specs.Edit.{IsNoIndex}
+use Rattle.sqlite.specs.Listing.{understood}
+use Rattle.sqlite_catalog.specs.Listing.{IsSound}
+use Rattle.sqlite_sql.specs.declared.ops.BinaryOp.TheVariants.{Compare}
+use Rattle.sqlite_sql.specs.declared.ops.CompareOp.TheVariants.{Eq}
+use Rattle.sqlite_value.specs.declared.keys.Key.{Key}
+use Rattle.sqlite_value.specs.Keys.{ascending}
+use Rattle.sqlite_tied.specs.Compute.{everything}
+use Rattle.kcr_rows.specs.Columns.{number}
+use Rattle.kcr_rows.specs.Keyed.{Keeps}
+use Rattle.kcr_rows.proofs.WriteLemmas.{cast_int}
+use Rattle.kcr_rows.proofs.TableLemmas.{keeps_still}
+use Rattle.kcr_cells.specs.Rows.{version_row}
+use Rattle.kcr_cells.specs.declared.rows.Version.{Version}
+use Rattle.kcr_tables.specs.Schema.{register_schema}
+use Rattle.kcr_tables.specs.Held.{Tables, Kept, people_place, trainings_place, appointments_place, boxes_place, safes_place, bags_place, items_place, ceremonies_place, marks_place, steps_place, seatings_place, sheet_place, exceptions_place, versions_place, keys_place, stays_place, withdrawals_place}
+use Rattle.kcr_tables.specs.Parts.{number_in}
+use Rattle.kcr_tables.specs.Statements.{ShowsRows, PutsRow}
+
+abbrev pub project : List Term
+project = col 1 1 ∷ []
+
+abbrev order : List (Term × Key)
+order = (col 1 1, ascending Binary) ∷ []
+
+abbrev pub names : List (List ℕ)
+names = codes "number" ∷ []
+
+-- no two values stand for one row
+pub one : (x y : Version) → ⊤ → ⊤ → version_row x ≡ version_row y → x ≡ y
+one x y read held h = λ i. record { number = number_in 0 (h i) }
+
+-- ---- all rows
+
+abbrev pub all_sql : List ℕ
+all_sql = codes "SELECT number FROM versions ORDER BY number"
+
+pub lists : ShowsRows all_sql versions_place [] (λ _. true)
+unfolding understood everything
+lists = record { test = []; project = project; order = order; names = names; is = (refl, refl); bare = (refl, refl); shows = λ r. refl; tests = λ r. refl; sorts = λ a b. refl; low = refl }
+
+-- ---- a row put under its key
+
+abbrev pub put_sql : List ℕ
+put_sql = codes "INSERT INTO versions (number) VALUES (?1) ON CONFLICT (number) DO UPDATE SET number = ?1"
+
+pub puts : PutsRow put_sql versions_place version_row
+unfolding understood everything
+puts = record {
+  at = 13;
+  name = codes "versions";
+  columns = number (codes "number") ∷ [];
+  others = [];
+  terms = lit Null ∷ col 0 0 ∷ [];
+  test = op2 (Compare Eq Binary) (col 1 0) (col 0 1) ∷ [];
+  sets = col 1 0 ∷ col 1 0 ∷ col 0 0 ∷ [];
+  here = refl;
+  alone = λ olds news. refl;
+  compares = λ a b. refl;
+  fulls = λ a. refl;
+  bare = (refl, refl);
+  given = λ x. refl;
+  casts = λ x i. cast_int (pos x.number) i ∷ [];
+  shown = λ x id. refl;
+  filled = λ x. refl;
+  tests = λ x entries there r. refl;
+  gives = λ x entries there r. refl;
+  low = refl;
+  shared = λ a b. refl;
+  is = refl;
+}
+
+-- the other tables stay where the rows of this one are changed
+pub still : (old new : Trees) (rows : List Version) (t : Tables) → IsSound register_schema new → Keeps versions_place new (map version_row rows) → AllByRecursion (λ _. ⊤) rows
+    → ((tree : ℕ) → tree ≢ 27 → IsNoIndex register_schema tree → new tree ≡ old tree) → Kept old t → Kept new (record t { versions = rows })
+still old new rows t sound keeps stored others k = record {
+  sound = sound;
+  people = keeps_still register_schema 27 people_place old new _ others refl refl k.people;
+  trainings = keeps_still register_schema 27 trainings_place old new _ others refl refl k.trainings;
+  appointments = keeps_still register_schema 27 appointments_place old new _ others refl refl k.appointments;
+  boxes = keeps_still register_schema 27 boxes_place old new _ others refl refl k.boxes;
+  safes = keeps_still register_schema 27 safes_place old new _ others refl refl k.safes;
+  bags = keeps_still register_schema 27 bags_place old new _ others refl refl k.bags;
+  items = keeps_still register_schema 27 items_place old new _ others refl refl k.items;
+  ceremonies = keeps_still register_schema 27 ceremonies_place old new _ others refl refl k.ceremonies;
+  marks = keeps_still register_schema 27 marks_place old new _ others refl refl k.marks;
+  steps = keeps_still register_schema 27 steps_place old new _ others refl refl k.steps;
+  seatings = keeps_still register_schema 27 seatings_place old new _ others refl refl k.seatings;
+  sheet = keeps_still register_schema 27 sheet_place old new _ others refl refl k.sheet;
+  exceptions = keeps_still register_schema 27 exceptions_place old new _ others refl refl k.exceptions;
+  versions = keeps;
+  keys = keeps_still register_schema 27 keys_place old new _ others refl refl k.keys;
+  stays = keeps_still register_schema 27 stays_place old new _ others refl refl k.stays;
+  withdrawals = keeps_still register_schema 27 withdrawals_place old new _ others refl refl k.withdrawals;
+  spot = k.spot;
+  seats = k.seats;
+}

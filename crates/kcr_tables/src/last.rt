@@ -1,0 +1,56 @@
+//! The row with the greatest number.
+
+ghost use Rattle.std.specs.Prelude.{◌≡◌, filter, IfOk, OnOk, IsTrue};
+ghost use Rattle.sqlite.specs.Held.{state};
+ghost use Rattle.sqlite.specs.State.{HasCleanDisk};
+ghost use Rattle.kcr_base.specs.Same.{same_text};
+ghost use Rattle.kcr_rows.specs.Greatest.{IsGreatest};
+ghost use Rattle.kcr_tables.specs.Held.{Tables, Holds};
+ghost use Rattle.kcr_tables.specs.Frame.{Reads};
+
+use kcr_base::{Initials, Refusal};
+use kcr_cells::statements::rows_of;
+use kcr_history::KeyRow;
+use kcr_room::Stay;
+use kcr_rows::cells::initials_cell;
+use sqlite::{Alter, Transaction};
+use std::alloc::Global;
+
+/// The row of the accepted command with the greatest number, alone, or none where there is no row.
+/// Nothing is changed. The error is `Memory` for want of memory, and else `Disk`: the device failed, or a row is one
+/// that no register stores.
+pub fn last_key_row<S: Alter>(
+    alloc: Global,
+    tx: &mut Transaction<'_, S>,
+) -> Result<Vec<KeyRow>, Refusal>
+    ensures same_reference { tx.new.conn.ghost_name ≡ tx.old.conn.ghost_name }
+    ensures rows { HasCleanDisk (state S.Store tx.new.conn.now) → (t : Tables) → Holds (state S.Store tx.old.conn.now).now t → IfOk result (λ all. IsGreatest (λ x. x.accepted) t.keys all.items) }
+    ensures opened { HasCleanDisk (state S.Store tx.new.conn.now) → OnOk result (IsTrue (state S.Store tx.old.conn.now).is_open) }
+    ensures frame { Reads (state S.Store tx.old.conn.now) (state S.Store tx.new.conn.now) result }
+{
+    rows_of(
+        alloc,
+        tx,
+        "SELECT \"key\", accepted, command, reply FROM keys ORDER BY accepted DESC LIMIT 1",
+        &[],
+    )
+}
+
+/// The row of the person's stay that began last, alone, or none. The errors are those of `last_key_row`.
+pub fn last_stay_of<S: Alter>(
+    alloc: Global,
+    tx: &mut Transaction<'_, S>,
+    who: &Initials,
+) -> Result<Vec<Stay>, Refusal>
+    ensures same_reference { tx.new.conn.ghost_name ≡ tx.old.conn.ghost_name }
+    ensures rows { HasCleanDisk (state S.Store tx.new.conn.now) → (t : Tables) → Holds (state S.Store tx.old.conn.now).now t → IfOk result (λ all. IsGreatest (λ x. x.since) (filter (λ x. same_text x.who who.now) t.stays) all.items) }
+    ensures frame { Reads (state S.Store tx.old.conn.now) (state S.Store tx.new.conn.now) result }
+{
+    let c0 = initials_cell(who);
+    rows_of(
+        alloc,
+        tx,
+        "SELECT who, since, ceremony, until FROM stays WHERE who = ?1 ORDER BY since DESC LIMIT 1",
+        &[c0],
+    )
+}

@@ -1,0 +1,205 @@
+"""Writes what a table proves of its texts, and of its place among the others."""
+from table_list import TABLES
+from table_specs import uses
+from table_writer import write, codes
+
+
+ONES = {"one_number", "one_facility", "one_role", "one_place"}
+ALL_PARTS = {"text_in", "number_in"}
+
+
+def listed(values):
+    return " ∷ ".join([*values, "[]"])
+
+
+def record(**fields):
+    return "record { " + "; ".join(f"{name} = {value}" for name, value in fields.items()) + " }"
+
+
+def lines(fields):
+    return "record {\n" + "".join(f"  {name} = {value};\n" for name, value in fields.items()) + "}\n"
+
+
+def same_fields(t):
+    """How each field of a value follows from the row `h`."""
+    out = {}
+    for at, c in enumerate(t.columns):
+        f = c.field
+        if f in out:
+            continue
+        if t.name == "items" and f == "rest":
+            is_same = "one_rest x.rest y.rest (ap (λ (r : Row). column r 1) h) (ap (λ (r : Row). column r 2) h) i"
+        elif c.kind.one:
+            part = {"words": "text_in", "number": "number_in"}.get(c.kind.column)
+            equal = f"(ap ({part} {at}) h)" if part else f"(ap (λ (r : Row). column r {at}) h)"
+            facts = " read held" if t.is_read and f == t.stored_fact else ""
+            is_same = f"{c.kind.one} x.{f} y.{f}{facts} {equal} i"
+        else:
+            is_same = f"{'text_in' if c.kind.column == 'words' else 'number_in'} {at} (h i)"
+        out[f] = is_same
+    return out
+
+
+def shows(t, text, place, params="[]", test="[]", passes="λ _. true", args=""):
+    fields = record(test=test, project="project", order="order", names="names", **{"is": "(refl, refl)"}, bare="(refl, refl)", shows="λ r. refl", tests="λ r. refl", sorts="λ a b. refl", low="refl")
+    return fields
+
+
+def still(t):
+    """The other tables stay where the rows of this one are changed."""
+    fields = {"sound": "sound"}
+    for u in TABLES:
+        fields[u.name] = "keeps" if u is t else f"keeps_still register_schema {t.tree} {u.place} old new _ others refl refl k.{u.name}"
+    for u in TABLES:
+        if u.is_stored:
+            fields[u.stored_fact] = "stored" if u is t else f"k.{u.stored_fact}"
+    stored = t.is_stored or "(λ _. ⊤)"
+    return f"""
+-- the other tables stay where the rows of this one are changed
+pub still : (old new : Trees) (rows : List {t.type}) (t : Tables) → IsSound register_schema new → Keeps {t.place} new (map {t.row_of} rows) → AllByRecursion {stored} rows
+    → ((tree : ℕ) → tree ≢ {t.tree} → IsNoIndex register_schema tree → new tree ≡ old tree) → Kept old t → Kept new (record t {{ {t.name} = rows }})
+still old new rows t sound keeps stored others k = {lines(fields)}"""
+
+
+def puts(t):
+    cols = t.columns
+    key = listed(str(i + 1) for i in range(t.keys))
+    others = listed(f"({listed(str(i + 1) for i in other)})" for other in t.others)
+    given = [f"col 0 {i}" for i in range(len(cols))]
+    casts = listed(c.kind.cast.format(x=f"x.{c.field}") for c in cols)
+    fields = {
+        "at": t.at,
+        "name": codes(t.name),
+        "columns": listed(f"{c.kind.column} ({codes(c.name)})" for c in cols),
+        "others": others,
+        "terms": listed(["lit Null", *given]),
+        "test": f"op2 (Compare Eq Binary) (col 1 0) (col 0 {len(cols)}) ∷ []",
+        "sets": listed(["col 1 0", "col 1 0", *given]),
+        "here": "refl",
+        "alone": "λ olds news. refl",
+        "compares": "λ a b. refl",
+        "fulls": "λ a. refl",
+        "bare": "(refl, refl)",
+        "given": "λ x. refl",
+        "casts": f"λ x i. {casts}",
+        "shown": "λ x id. refl",
+        "filled": "λ x. refl",
+        "tests": "λ x entries there r. refl",
+        "gives": "λ x entries there r. refl",
+        "low": "refl",
+        "shared": "λ a b. refl",
+        "is": "refl",
+    }
+    return f"""
+-- ---- a row put under its key
+
+abbrev pub put_sql : List ℕ
+put_sql = {codes(t.put_text())}
+
+pub puts : PutsRow put_sql {t.place} {t.row_of}
+unfolding understood everything
+puts = {lines(fields)}"""
+
+
+def finds(t, r):
+    p, cols = r.prefix, t.columns
+    place = next(i for i, c in enumerate(cols) if c.sql == r.where)
+    field = cols[place].field
+    arg_ty, value, ties = ("ℕ", f"Int (pos {r.arg})", "number_ties") if r.ty == "u32" else ("List ℕ", f"Text {r.arg}", "text_ties")
+    if t.name == "items" and r.where == "serial":
+        proof = f"within_is x.rest {r.arg}"
+    else:
+        own = f"place_text x.{field}" if r.ty == "Place" else f"x.{field}"
+        own = f"({own})" if " " in own else own
+        proof = f"value_is ({cols[place].value('x')}) ({value}) refl refl ∙ sym ({ties} {own} {r.arg})"
+    test = f"op2 (Compare Eq Binary) (col 1 {place + 1}) (col 0 0) ∷ []"
+    return f"""
+-- ---- {r.doc[0].lower() + r.doc[1:]}
+
+abbrev pub {p}_sql : List ℕ
+{p}_sql = {codes(t.text_of(r))}
+
+pub shows_{p} : ({r.arg} : {arg_ty}) → ShowsRows {p}_sql {t.place} ({value} ∷ []) (has_value {place} ({value}))
+unfolding understood everything
+shows_{p} {r.arg} = {shows(t, p, t.place, test=test)}
+
+pub under_{p} : ({r.arg} : {arg_ty}) (x : {t.type}) → has_value {place} ({value}) ({t.row_of} x) ≡ {applied_to(t, r)}
+under_{p} {r.arg} x = {proof}
+"""
+
+
+def applied_to(t, r):
+    """The test of a row `x` by the argument."""
+    if r.ty == "Place":
+        return f"same_text (place_text x.place) {r.arg}"
+    return f"{r.ask.format(v=r.arg)} x" if r.ask else r.tests.format(x="x", v=r.arg)
+
+
+def is_under_of(t, r):
+    """The same as a function of both."""
+    return f"λ {r.arg} x. {applied_to(t, r)}"
+
+
+def laws(t):
+    cols = t.columns
+    stored = t.is_stored or "⊤"
+    stored_of = (lambda x: f"{t.is_stored} {x}") if t.is_stored else (lambda x: "⊤")
+    read_of = (lambda x: f"{t.is_read} {x}") if t.is_read else (lambda x: "⊤")
+    out = f"-- What the table {t.name} proves of its texts, and of its place among the others.\n"
+    common = ["◌≡◌", "◌≢◌", "ℕ", "pos", "List", "[]", "◌∷◌", "map", "codes", "true", "refl", "sym", "ap", "subst", "◌∙◌", "◌==◌"]
+    out += f"use Rattle.std.proofs.Common.{{{', '.join(common)}}}\n"
+    out += """use Rattle.std.specs.Bool.{⊤}
+use Rattle.std.specs.List.{AllByRecursion}
+use Rattle.sqlite.specs.declared.types.Value.TheVariants.{Null, Int, Text}
+use Rattle.sqlite.specs.Order.{Row, column}
+use Rattle.sqlite.specs.Term.{Term, lit, col, op2}
+use Rattle.sqlite.specs.Collation.TheVariants.{Binary}
+use Rattle.sqlite.specs.Tree.{Trees}
+use Rattle.sqlite.specs.Edit.{IsNoIndex}
+use Rattle.sqlite.specs.Listing.{understood}
+use Rattle.sqlite_catalog.specs.Listing.{IsSound}
+use Rattle.sqlite_sql.specs.declared.ops.BinaryOp.TheVariants.{Compare}
+use Rattle.sqlite_sql.specs.declared.ops.CompareOp.TheVariants.{Eq}
+use Rattle.sqlite_value.specs.declared.keys.Key.{Key}
+use Rattle.sqlite_value.specs.Keys.{ascending}
+use Rattle.sqlite_tied.specs.Compute.{everything}
+use Rattle.kcr_base.specs.Same.{same_text}
+use Rattle.kcr_base.specs.Place.{place_text}
+"""
+    words = sorted({r.ask.split()[0] for r in t.readings if r.ask and not r.greatest and r.ty != "Place"})
+    if words:
+        out += f"use Rattle.kcr_history.specs.Views.{{{', '.join(words)}}}\n"
+    if t.name == "appointments":
+        out += "use Rattle.kcr_history.specs.declared.views.AppointmentsOf.TheVariants as Wanted\n"
+    if t.name == "items":
+        out += "use Rattle.kcr_history.specs.declared.views.ItemsOf.TheVariants as Wanted\n"
+    out += "use Rattle.kcr_rows.specs.Columns.{words, number, words_or_null, number_or_null}\nuse Rattle.kcr_rows.specs.Keyed.{Keeps}\n"
+    out += "use Rattle.kcr_rows.proofs.FilterLemmas.{has_value, value_is}\nuse Rattle.kcr_rows.proofs.WriteLemmas.{cast_int}\nuse Rattle.kcr_rows.proofs.TableLemmas.{keeps_still}\n"
+    ones = sorted({c.kind.one for c in cols if c.kind.one} & ONES)
+    out += f"use Rattle.kcr_rows.proofs.SameLemmas.{{{', '.join(ones + ['text_ties', 'number_ties'])}}}\n"
+    own = sorted(({c.kind.one for c in cols if c.kind.one} - ONES) | {x for c in cols for x in c.kind.casts if x != "cast_int"})
+    own += ["one_rest", "within_is"] if t.name == "items" else []
+    if own:
+        out += f"use Rattle.kcr_cells.proofs.StateLemmas.{{{', '.join(own)}}}\n"
+    out += uses([w for w in t.words() if w != "place_text"])
+    out += f"use Rattle.kcr_cells.specs.Rows.{{{t.row_of}}}\nuse {t.declared}\n"
+    facts = sorted({x for x in (t.is_read, t.is_stored) if x})
+    if facts:
+        out += f"use Rattle.kcr_cells.specs.States.{{{', '.join(facts)}}}\n"
+    out += f"use Rattle.kcr_tables.specs.Schema.{{register_schema}}\nuse Rattle.kcr_tables.specs.Held.{{Tables, Kept, {', '.join(u.place for u in TABLES)}}}\n"
+    out += "use Rattle.kcr_tables.specs.Parts.{text_in, number_in}\nuse Rattle.kcr_tables.specs.Statements.{ShowsRows, PutsRow}\n"
+    out += f"\nabbrev pub project : List Term\nproject = {listed(f'col 1 {i + 1}' for i in range(len(cols)))}\n"
+    out += f"\nabbrev order : List (Term × Key)\norder = {listed(f'(col 1 {i + 1}, ascending Binary)' for i in range(t.keys))}\n"
+    out += f"\nabbrev pub names : List (List ℕ)\nnames = {listed(codes(c.name) for c in cols)}\n"
+    fields = same_fields(t)
+    out += f"\n-- no two values stand for one row\npub one : (x y : {t.type}) → {read_of('x')} → {stored_of('y')} → {t.row_of} x ≡ {t.row_of} y → x ≡ y\n"
+    out += f"one x y read held h = λ i. {record(**fields)}\n"
+    out += f"\n-- ---- all rows\n\nabbrev pub all_sql : List ℕ\nall_sql = {codes(t.all_text())}\n"
+    out += f"\npub lists : ShowsRows all_sql {t.place} [] (λ _. true)\nunfolding understood everything\nlists = {shows(t, 'all', t.place)}\n"
+    for r in t.readings:
+        if not r.greatest:
+            out += finds(t, r)
+    if not t.insert:
+        out += puts(t)
+    out += still(t)
+    write(f"specs/{t.lemmas.replace('Lemmas', 'Laws')}.antt", out)
