@@ -1,3 +1,5 @@
 pub mod WholeLemmas
 pub mod StoreLemmas
 pub mod OpenLemmas
+pub mod ShownLemmas
+pub mod QuestionLemmas

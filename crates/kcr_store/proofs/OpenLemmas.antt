@@ -1,5 +1,5 @@
 -- What an opening finds.
-use Rattle.std.proofs.Common.{refl, Bool, false, true, ◌≡◌, ◌≢◌, ◌⊎◌, inl, inr, ℕ, List, [], Option, None, Some, Result, Ok, Err, OnOk, IsSome, IsTrue, codes, sym, ap, subst, ◌∙◌, arith}
+use Rattle.std.proofs.Common.{refl, Bool, false, true, ◌≡◌, inl, inr, ℕ, List, [], Option, None, Some, Result, Ok, Err, OnOk, IsSome, IsTrue, codes, sym, ap, subst, ◌∙◌}
 use Rattle.sqlite.specs.Schema.{Schema}
 use Rattle.sqlite.specs.Effect.{Database}
 use Rattle.sqlite.specs.Table.{Table}

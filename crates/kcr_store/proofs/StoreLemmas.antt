@@ -1,5 +1,5 @@
 -- What a decision makes of the tables, and what a reading of them shows.
-use Rattle.std.proofs.Common.{◌≡◌, ◌≢◌, ◌⊎◌, inl, inr, ◌<◌, ◌+◌, List, [], ◌∷◌, map, length, Option, Some, None, Result, Ok, Err, Ordering, Less, IfOk, IsTrue, refl, sym, ap, subst, ◌∙◌, arith}
+use Rattle.std.proofs.Common.{◌≡◌, inl, inr, ℕ, List, [], ◌∷◌, map, Option, Some, None, Result, Ok, Err, Less, IfOk, IsTrue, refl, sym, ap, subst, ◌∙◌, arith}
 use Rattle.std.specs.Prelude.{MatchOption, All, AllPairs}
 use Rattle.std.specs.List.{AllByRecursion}
 use Rattle.std.specs.Ordering.{is_lt}
@@ -12,6 +12,7 @@ use Rattle.sqlite.specs.Tree.{IsAscending}
 use Rattle.sqlite_value.proofs.OrderLemmas.{value_cmp-Text, then-Equal}
 use Rattle.kcr_base.specs.Same.{is_before}
 use Rattle.kcr_base.specs.declared.refusal.Refusal.{Refusal}
+use Rattle.kcr_custody.specs.declared.Item.{Item}
 use Rattle.kcr_people.specs.declared.Person.{Person}
 use Rattle.kcr_history.specs.declared.commands.Answer.{Answer}
 use Rattle.kcr_history.specs.declared.commands.Command.{Command}
@@ -24,13 +25,19 @@ use Rattle.kcr_history.specs.Tables.{tables}
 use Rattle.kcr_history.specs.Changes.{changed_by}
 use Rattle.kcr_history.specs.Machine.{IsRegister, IsAcceptance, IsRepeat, machine, Accepts}
 use Rattle.kcr_tables.specs.Keyed.{by_key}
-use Rattle.kcr_cells.specs.Rows.{person_row}
+use Rattle.kcr_cells.specs.Rows.{person_row, item_row}
+use Rattle.kcr_cells.specs.States.{loose_value, within_value}
 use Rattle.kcr_tables.specs.Held.{Holds}
 use Rattle.kcr_tables.specs.Joint.{HoldsTables}
 use Rattle.kcr_tables.proofs.JointLemmas.{same_holds}
 use Rattle.kcr_tables.specs.Refusals.{IsFault}
-use Rattle.kcr_store.specs.Steps.{Steps, IsNext, IsByInitials, with_answer}
-use Rattle.kcr_store.specs.Stored.{IsTables, Stores}
+use Rattle.kcr_history.specs.Questions.{IsByInitials}
+use Rattle.kcr_store.specs.Steps.{Steps, IsNext, with_answer}
+use Rattle.kcr_store.specs.Stored.{Stores}
+
+-- the tables that the database holds
+pub holds_in : (A : History) (db : Database) (s : Stores A db) → Holds db s.tables.kept.t
+holds_in A db s = record { schema = s.schema; kept = s.tables.kept.kept }
 
 pub held_in : (A : History) (db : Database) → Stores A db → HoldsTables (tables A) db
 held_in A db s = record { schema = s.schema; tables = s.tables.kept }
@@ -69,16 +76,27 @@ first_stores db h = record { schema = h.schema; tables = record { register = tt;
 
 -- ---- rows in the order of their keys
 
-before : (a b : Person) → by_key 1 (person_row a) (person_row b) ≡ Less → IsTrue (is_before a.who b.who)
-before a b e = ap is_lt (sym (value_cmp-Text a.who b.who) ∙ sym (then-Equal (value_cmp (Text a.who) (Text b.who))) ∙ e)
+-- of rows whose key is a text two stand in the order of its bytes
+module _ {X : Type 0} (text : X → List ℕ) (rest : X → Row) where
+  abbrev row_of : X → Row
+  row_of x = Text (text x) ∷ rest x
 
-all_before : (x : Person) (xs : List Person) → AllByRecursion (λ row. by_key 1 (person_row x) row ≡ Less) (map person_row xs) → All (λ p. IsTrue (is_before x.who p.who)) xs
-all_before x [] up = All-nil (λ (p : Person). IsTrue (is_before x.who p.who))
-all_before x (p ∷ xs) up = All-cons (λ (p : Person). IsTrue (is_before x.who p.who)) p xs (before x p up.0) (all_before x xs up.1)
+  before : (a b : X) → by_key 1 (row_of a) (row_of b) ≡ Less → IsTrue (is_before (text a) (text b))
+  before a b e = ap is_lt (sym (value_cmp-Text (text a) (text b)) ∙ sym (then-Equal (value_cmp (Text (text a)) (Text (text b)))) ∙ e)
 
-pub by_initials : (xs : List Person) → IsAscending (λ a b. by_key 1 a b ≡ Less) (map person_row xs) → IsByInitials xs
-by_initials [] up = λ i j d lt below. absurd (omega arith)
-by_initials (x ∷ xs) up = AllPairs-cons (λ (a b : Person). IsTrue (is_before a.who b.who)) x xs (all_before x xs up.0) (by_initials xs up.1)
+  all_before : (x : X) (xs : List X) → AllByRecursion (λ row. by_key 1 (row_of x) row ≡ Less) (map row_of xs) → All (λ y. IsTrue (is_before (text x) (text y))) xs
+  all_before x [] up = All-nil (λ y. IsTrue (is_before (text x) (text y)))
+  all_before x (y ∷ xs) up = All-cons (λ y. IsTrue (is_before (text x) (text y))) y xs (before x y up.0) (all_before x xs up.1)
+
+  pub by_text : (xs : List X) → IsAscending (λ a b. by_key 1 a b ≡ Less) (map row_of xs) → AllPairs (λ a b. IsTrue (is_before (text a) (text b))) xs
+  by_text [] up = λ i j d lt below. absurd (omega arith)
+  by_text (x ∷ xs) up = AllPairs-cons (λ a b. IsTrue (is_before (text a) (text b))) x xs (all_before x xs up.0) (by_text xs up.1)
+
+pub by_initials : (people : List Person) → IsAscending (λ a b. by_key 1 a b ≡ Less) (map person_row people) → IsByInitials people
+by_initials people up = by_text (λ person. person.who) (λ person. Text person.name ∷ []) people up
+
+pub by_code : (items : List Item) → IsAscending (λ a b. by_key 1 a b ≡ Less) (map item_row items) → AllPairs (λ a b. IsTrue (is_before a.code b.code)) items
+by_code items up = by_text (λ item. item.code) (λ item. loose_value item.rest ∷ within_value item.rest ∷ []) items up
 
 -- what is said of a value under a premise that the call's success gives
 pub if_ok_then : {T E : Type 0} (P Q : T → Type 0) (r : Result T E) → ((x : T) → P x → Q x) → IfOk r P → IfOk r Q

@@ -1,11 +1,10 @@
 -- What one transaction leaves of a register.
-use Rattle.std.proofs.Common.{◌≡◌, ◌≢◌, ◌⊎◌, inl, inr, ℕ, ◌≤◌, Bool, true, false, List, Option, None, Result, Ok, Err, IfOk, OnOk, IsTrue, refl, sym, ap, subst, ◌∙◌, arith, rules}
-use Rattle.sqlite.specs.declared.error.ErrorCode.TheVariants.{OutOfMemory, TransactionState}
+use Rattle.std.proofs.Common.{◌≡◌, inl, inr, true, false, Result, Ok, Err, IfOk, OnOk, IsTrue, refl, sym, subst, ◌∙◌, arith}
+use Rattle.sqlite.specs.declared.error.ErrorCode.TheVariants.{OutOfMemory}
 use Rattle.sqlite.specs.declared.error.Error.{Error}
 use Rattle.sqlite.specs.declared.error.Error.TheVariants.{SqliteFailure}
 use Rattle.sqlite.specs.Store.{Ghosts}
 use Rattle.sqlite.specs.Tree.{Trees}
-use Rattle.sqlite.specs.Effect.{Database}
 use Rattle.sqlite.specs.State.{State, HasCleanDisk, KeepsCommit, IsRolledBack, IsUnchanged, Survives, Shows}
 use Rattle.sqlite.proofs.StateLemmas.{survives_then}
 use Rattle.sqlite.specs.Steps.{FailsToCommit}

@@ -1,4 +1,5 @@
 pub mod Steps
+pub mod Shown
 pub mod Stored
 pub mod Register
 pub mod Performed

@@ -1,5 +1,5 @@
 -- What a register is between two calls.
-use Rattle.std.specs.Prelude.{◌≡◌, ◌⊎◌, Bool, true, false, List, Option, None, Some, IsTrue, unwrap_or, refl}
+use Rattle.std.specs.Prelude.{◌≡◌, ◌⊎◌, Bool, false, Option, None, IsTrue, unwrap_or, refl}
 use Rattle.std.specs.Coded.{Coded, code_by, coded×, coded_list, coded_option, coded_bool}
 use Rattle.sqlite.specs.Store.{Ghosts}
 use Rattle.sqlite.specs.Tree.{Trees}

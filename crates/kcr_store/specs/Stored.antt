@@ -1,8 +1,9 @@
 -- What a file holds of a history.
-use Rattle.std.specs.Prelude.{◌≡◌, []}
+use Rattle.std.specs.Prelude.{◌≡◌, [], IsTrue}
 use Rattle.sqlite.specs.Schema.{Schema}
 use Rattle.sqlite.specs.Tree.{Trees}
 use Rattle.sqlite.specs.Effect.{Database}
+use Rattle.sqlite.specs.State.{State, HasCleanDisk}
 use Rattle.kcr_history.specs.History.{History}
 use Rattle.kcr_history.specs.Tables.{tables}
 use Rattle.kcr_history.specs.Machine.{IsRegister}
@@ -22,3 +23,7 @@ pub record Stores (accepted : History) (db : Database) : Type 0 where
 -- the schema of an empty database
 abbrev pub no_schema : Schema
 no_schema = record { tables = []; indexes = []; views = [] }
+
+-- said of each history whose tables the database held, where it was open, by a call that leaves the disk clean
+abbrev pub OfStored : State → State → (History → Type 0) → Type 0
+OfStored old new Says = HasCleanDisk new → (A : History) → (IsTrue old.is_open → Stores A old.now) → Says A

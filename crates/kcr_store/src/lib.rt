@@ -11,9 +11,8 @@
 mod open;
 mod past;
 mod perform;
-mod question;
 mod register;
+mod shown;
 
 pub use open::OpenFault;
-pub use question::{Question, Shown};
 pub use register::Register;

@@ -10,7 +10,7 @@ ghost use Rattle.kcr_store.specs.Register.{Shows};
 ghost use Rattle.kcr_store.specs.Opening.{StandsAs, IsForeign, IsFounded, IsVersionAnswer};
 
 use kcr_base::Refusal;
-use kcr_tables::{Version, all_versions, make};
+use kcr_tables::{Version, all_rows, make};
 use sqlite::{Alter, Connection, Error, ErrorCode};
 use std::alloc::Global;
 
@@ -116,7 +116,7 @@ fn read_versions<S: Alter>(alloc: Global, conn: &mut Connection<S>) -> Result<Ve
     ensures survives { Survives (state S.Store conn.old) (state S.Store conn.new) (λ _. ⊥) }
 {
     let mut tx = conn.transaction();
-    let versions = all_versions(alloc, &mut tx);
+    let versions = all_rows::<_, Version>(alloc, &mut tx);
     tx.rollback();
     versions
 }

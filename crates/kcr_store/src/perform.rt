@@ -1,20 +1,28 @@
 //! One command as one transaction, and one question as one that changes nothing.
-ghost use Rattle.std.specs.Prelude.{◌≡◌, false, Ok, Err, IsTrue, IfOk, IfErr, OnOk};
+ghost use Rattle.std.specs.Prelude.{◌≡◌, false, Ok, Err, IsTrue, IfOk, IfErr, OnOk, MatchResult};
 ghost use Rattle.sqlite.specs.State.{HasCleanDisk, KeepsCommit, Survives};
 ghost use Rattle.sqlite.specs.Held.{state};
 ghost use Rattle.kcr_history.specs.History.{History};
 ghost use Rattle.kcr_tables.specs.Refusals.{IsFault};
-ghost use Rattle.kcr_store.specs.Stored.{Stores};
-ghost use Rattle.kcr_store.specs.Steps.{Steps, with_answer, IsNext, IsAsked};
+ghost use Rattle.kcr_store.specs.Stored.{Stores, OfStored};
+ghost use Rattle.kcr_history.specs.Questions.{ArePeopleShown, AreCustodiansShown, IsBagShown, IsRoomShown};
+ghost use Rattle.kcr_store.specs.Steps.{Steps, with_answer, IsNext, IsAsked, IsRefused, MayRefuse};
 ghost use Rattle.kcr_store.specs.Register.{IsWhole, LeavesEither};
 ghost use Rattle.kcr_store.specs.Performed.{history_after, tried_after, answer_of, is_torn, is_founded_after};
 
 use crate::past::Past;
-use crate::question::{Question, Shown};
-use kcr_base::Refusal;
-use kcr_history::{Answer, Command, Reply, asks};
+use crate::shown::{codes_of, custodians_shown, people_shown};
+use kcr_base::{CeremonyNumber, Day, Moment, Refusal, Serial, Thing};
+use kcr_custody::rows::spot;
+use kcr_custody::{Bag, Item};
+use kcr_history::{
+    Answer, BagShown, CeremonyRow, Command, CustodiansShown, PersonShown, Question, Reply,
+    RoomShown, Shown, asks,
+};
 use kcr_machine::decide;
-use kcr_tables::{all_people, make_changes, view_of};
+use kcr_people::{Appointment, Person, Training, Withdrawal};
+use kcr_room::{Stay, present_in};
+use kcr_tables::{all_rows, make_changes, rows_under, view_of};
 use sqlite::{Alter, Connection, Error, ErrorCode, Transaction};
 use std::alloc::Global;
 
@@ -114,7 +122,7 @@ pub(crate) fn ask<S: Alter>(
     ensures clean { HasCleanDisk (state S.Store conn.new) → HasCleanDisk (state S.Store conn.old) }
     ensures shown { (A : History) → IsWhole A (state S.Store conn.old) → HasCleanDisk (state S.Store conn.new) → IsAsked A question.now result }
     ensures whole { (A : History) → IsWhole A (state S.Store conn.old) → IsWhole A (state S.Store conn.new) }
-    ensures cause { IfErr result IsFault }
+    ensures cause { IfErr result (MayRefuse question.now) }
 {
     let mut tx = conn.transaction();
     let shown = read(alloc, &mut tx, question);
@@ -122,19 +130,106 @@ pub(crate) fn ask<S: Alter>(
     shown
 }
 
-/// The rows that answer a question.
+/// What answers a question.
 fn read<S: Alter>(
     alloc: Global,
     tx: &mut Transaction<'_, S>,
     question: &Question,
 ) -> Result<Shown, Refusal>
     ensures same_reference { tx.new.conn.ghost_name ≡ tx.old.conn.ghost_name }
-    ensures shown { HasCleanDisk (state S.Store tx.new.conn.now) → (A : History) → (IsTrue (state S.Store tx.old.conn.now).is_open → Stores A (state S.Store tx.old.conn.now).now) → IsAsked A question.now result }
+    ensures shown { OfStored (state S.Store tx.old.conn.now) (state S.Store tx.new.conn.now) (λ A. IsAsked A question.now result) }
+    ensures kept { HasCleanDisk (state S.Store tx.new.conn.now) → IsTrue (state S.Store tx.old.conn.now).in_transaction → KeepsCommit (state S.Store tx.old.conn.now) (state S.Store tx.new.conn.now) }
+    ensures survives { Survives (state S.Store tx.old.conn.now) (state S.Store tx.new.conn.now) (λ _. ⊥) }
+    ensures cause { IfErr result (MayRefuse question.now) }
+{
+    match question {
+        Question::People => Ok(Shown::People(read_people(alloc, tx)?)),
+        Question::Custodians(day) => Ok(Shown::Custodians(read_custodians(alloc, tx, *day)?)),
+        Question::Bag(serial) => Ok(Shown::Bag(read_bag(alloc, tx, *serial)?)),
+        Question::Room(ceremony, at) => Ok(Shown::Room(read_room(alloc, tx, *ceremony, *at)?)),
+    }
+}
+
+/// Everybody who was entered, with their trainings.
+fn read_people<S: Alter>(
+    alloc: Global,
+    tx: &mut Transaction<'_, S>,
+) -> Result<Vec<PersonShown>, Refusal>
+    ensures same_reference { tx.new.conn.ghost_name ≡ tx.old.conn.ghost_name }
+    ensures shown { OfStored (state S.Store tx.old.conn.now) (state S.Store tx.new.conn.now) (λ A. IfOk result (λ rows. ArePeopleShown A rows.items)) }
     ensures kept { HasCleanDisk (state S.Store tx.new.conn.now) → IsTrue (state S.Store tx.old.conn.now).in_transaction → KeepsCommit (state S.Store tx.old.conn.now) (state S.Store tx.new.conn.now) }
     ensures survives { Survives (state S.Store tx.old.conn.now) (state S.Store tx.new.conn.now) (λ _. ⊥) }
     ensures cause { IfErr result IsFault }
 {
-    match question {
-        Question::People => Ok(Shown::People(all_people(alloc, tx)?)),
+    let people = all_rows::<_, Person>(alloc, tx)?;
+    let trainings = all_rows::<_, Training>(alloc, tx)?;
+    let withdrawals = all_rows::<_, Withdrawal>(alloc, tx)?;
+    Ok(people_shown(alloc, people, &trainings, &withdrawals)?)
+}
+
+/// Who holds which place on the day.
+fn read_custodians<S: Alter>(
+    alloc: Global,
+    tx: &mut Transaction<'_, S>,
+    day: Day,
+) -> Result<CustodiansShown, Refusal>
+    ensures same_reference { tx.new.conn.ghost_name ≡ tx.old.conn.ghost_name }
+    ensures shown { OfStored (state S.Store tx.old.conn.now) (state S.Store tx.new.conn.now) (λ A. IfOk result (AreCustodiansShown A day)) }
+    ensures kept { HasCleanDisk (state S.Store tx.new.conn.now) → IsTrue (state S.Store tx.old.conn.now).in_transaction → KeepsCommit (state S.Store tx.old.conn.now) (state S.Store tx.new.conn.now) }
+    ensures survives { Survives (state S.Store tx.old.conn.now) (state S.Store tx.new.conn.now) (λ _. ⊥) }
+    ensures cause { IfErr result IsFault }
+{
+    let appointments = all_rows::<_, Appointment>(alloc, tx)?;
+    Ok(custodians_shown(alloc, &appointments, day)?)
+}
+
+/// Where the bag lies and what it holds; one that was never sealed is refused as unknown.
+fn read_bag<S: Alter>(
+    alloc: Global,
+    tx: &mut Transaction<'_, S>,
+    serial: Serial,
+) -> Result<BagShown, Refusal>
+    ensures same_reference { tx.new.conn.ghost_name ≡ tx.old.conn.ghost_name }
+    ensures shown { OfStored (state S.Store tx.old.conn.now) (state S.Store tx.new.conn.now) (λ A. MatchResult result (IsBagShown A serial) (IsRefused A (Question.Bag serial))) }
+    ensures kept { HasCleanDisk (state S.Store tx.new.conn.now) → IsTrue (state S.Store tx.old.conn.now).in_transaction → KeepsCommit (state S.Store tx.old.conn.now) (state S.Store tx.new.conn.now) }
+    ensures survives { Survives (state S.Store tx.old.conn.now) (state S.Store tx.new.conn.now) (λ _. ⊥) }
+    ensures cause { IfErr result (MayRefuse (Question.Bag serial)) }
+{
+    let bags = rows_under::<_, Serial, Bag>(alloc, tx, &serial)?;
+    let Some(here) = spot(&bags, serial) else {
+        return Err(Refusal::Unknown {
+            thing: Thing::Bag(serial),
+        });
+    };
+    let items = rows_under::<_, Serial, Item>(alloc, tx, &serial)?;
+    Ok(BagShown {
+        serial,
+        spot: here,
+        items: codes_of(alloc, &items)?,
+    })
+}
+
+/// Who is in the room of the ceremony at the moment; a ceremony that was never planned is refused as unknown.
+fn read_room<S: Alter>(
+    alloc: Global,
+    tx: &mut Transaction<'_, S>,
+    ceremony: CeremonyNumber,
+    at: Moment,
+) -> Result<RoomShown, Refusal>
+    ensures same_reference { tx.new.conn.ghost_name ≡ tx.old.conn.ghost_name }
+    ensures shown { OfStored (state S.Store tx.old.conn.now) (state S.Store tx.new.conn.now) (λ A. MatchResult result (IsRoomShown A ceremony at) (IsRefused A (Question.Room ceremony at))) }
+    ensures kept { HasCleanDisk (state S.Store tx.new.conn.now) → IsTrue (state S.Store tx.old.conn.now).in_transaction → KeepsCommit (state S.Store tx.old.conn.now) (state S.Store tx.new.conn.now) }
+    ensures survives { Survives (state S.Store tx.old.conn.now) (state S.Store tx.new.conn.now) (λ _. ⊥) }
+    ensures cause { IfErr result (MayRefuse (Question.Room ceremony at)) }
+{
+    let number = ceremony.get();
+    let planned = rows_under::<_, u32, CeremonyRow>(alloc, tx, &number)?;
+    if planned.is_empty() {
+        return Err(Refusal::Unknown {
+            thing: Thing::Ceremony(number),
+        });
     }
+    let stays = rows_under::<_, u32, Stay>(alloc, tx, &number)?;
+    let people = present_in(alloc, &stays, number, at)?;
+    Ok(RoomShown { at, people })
 }

@@ -2,15 +2,13 @@
 ghost use Rattle.std.specs.Prelude.{[], false, true, ◌≡◌, ◌↔◌, IsTrue, IsSome, IfOk, IfErr, OnOk, Ok, Err, Some, None, unwrap_or};
 ghost use Rattle.sqlite.specs.State.{HasCleanDisk};
 ghost use Rattle.sqlite.specs.Held.{state};
-ghost use Rattle.kcr_tables.specs.Refusals.{IsFault};
-ghost use Rattle.kcr_store.specs.Steps.{Steps, IsNext, IsAsked};
+ghost use Rattle.kcr_store.specs.Steps.{Steps, IsNext, IsAsked, MayRefuse};
 
 use crate::open::{OpenFault, settle};
 use crate::past::Past;
 use crate::perform::{Performed, ask, perform};
-use crate::question::{Question, Shown};
 use kcr_base::Refusal;
-use kcr_history::{Command, Reply};
+use kcr_history::{Command, Question, Reply, Shown};
 use sqlite::{Alter, Connection, MemStore};
 use std::alloc::Global;
 use std::marker::Model;
@@ -192,12 +190,13 @@ impl<S: Alter> Register<S> {
         }
     }
 
-    /// Answers a question, and changes nothing. Beside want of memory (33) it meets only a fault of the device (34),
-    /// which breaks the register; every later call then answers 35.
+    /// Answers a question, and changes nothing. A bag that was never sealed and the room of a ceremony that was never
+    /// planned are refused as unknown (12). Beside that and want of memory (33) it meets only a fault of the device
+    /// (34), which breaks the register; every later call then answers 35.
     pub fn look(&mut self, question: &Question) -> Result<Shown, Refusal>
         ensures broken { IsSome self.old.torn → (result ≡ Err Refusal.Broken) × (self.new ≡ self.old) }
         ensures shown { IsTrue self.old.is_founded → self.old.torn ≡ None → HasCleanDisk (state S.Store self.new.conn) → IsAsked self.old.accepted question.now result }
-        ensures cause { self.old.torn ≡ None → IfErr result IsFault }
+        ensures cause { self.old.torn ≡ None → IfErr result (MayRefuse question.now) }
         ensures breaks { self.old.torn ≡ None → IsSome self.new.torn ↔ (result ≡ Err Refusal.Disk) }
         ensures same { self.new.accepted ≡ self.old.accepted }
         ensures tried { self.old.torn ≡ None → unwrap_or self.new.torn self.new.accepted ≡ self.old.accepted }

@@ -1,5 +1,4 @@
-use Rattle.std.proofs.Common.{rules, arith, IsTrue}
-use Rattle.sqlite.specs.State.{HasCleanDisk}
+use Rattle.std.proofs.Common.{rules}
 use Rattle.sqlite.specs.Held.{state}
 use Rattle.kcr_store.proofs.WholeLemmas.{was_clean}
 use Rattle.kcr_store.proofs.OpenLemmas.{empty_holds, of_empty, of_ours, of_foreign, on_ok}

@@ -1,11 +1,10 @@
-use Rattle.std.proofs.Common.{◌≡◌, ◌++◌, ◌∷◌, [], List, IsTrue, Ok, inl, inr, refl, sym, subst, rules}
+use Rattle.std.proofs.Common.{Ok, inl, inr, refl, sym, subst, rules}
 use Rattle.sqlite.specs.State.{HasCleanDisk, Survives}
-use Rattle.sqlite.specs.Held.{Held, state}
+use Rattle.sqlite.specs.Held.{state}
 use Rattle.kcr_store.specs.Stored.{Stores}
 use Rattle.kcr_store.specs.Steps.{Steps}
-use Rattle.kcr_store.specs.Register.{IsWhole, LeavesEither}
 use Rattle.kcr_store.proofs.StoreLemmas.{candidate_of}
-use Rattle.kcr_store.proofs.WholeLemmas.{Began, begins, begun_clean, was_clean, whole_undone, whole_done, either, either_last, whole_stands}
+use Rattle.kcr_store.proofs.WholeLemmas.{begins, begun_clean, was_clean, whole_undone, whole_done, either, either_last, whole_stands}
 use Rattle.kcr_store.proofs.perform.perform.Goals as goal
 
 pub returns-in-Err-clause-whole : goal.returns-in-Err-clause-whole

@@ -1,7 +1,4 @@
-use Rattle.std.proofs.Common.{◌≡◌, Bool, List, None, IsTrue, sym, subst, rules}
 use Rattle.sqlite.specs.Held.{state}
-use Rattle.kcr_store.specs.Register.{IsKept}
-use Rattle.kcr_store.specs.Opening.{IsFounded}
 use Rattle.kcr_store.proofs.OpenLemmas.{adopted}
 use Rattle.kcr_store.proofs.register.Register.adopt_as.Goals as goal
 

@@ -1,6 +1,5 @@
 use Rattle.std.proofs.Common.{rules, refl, ap, ◌≡◌, false, IsTrue}
-use Rattle.sqlite.specs.Held.{state}
-use Rattle.kcr_store.specs.Register.{Seen, IsWhole}
+use Rattle.kcr_store.specs.Register.{Seen}
 use Rattle.kcr_store.proofs.register.Register.apply.Goals as goal
 
 pub returns-in-Accepted-clause-durable : goal.returns-in-Accepted-clause-durable

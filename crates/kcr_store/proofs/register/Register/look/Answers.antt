@@ -1,6 +1,4 @@
-use Rattle.std.proofs.Common.{rules, refl, ap, ◌≡◌, false, true, List, Option, None, Some, Bool, IsTrue, sym, subst, inl}
-use Rattle.sqlite.specs.Held.{state}
-use Rattle.kcr_store.specs.Register.{Seen, IsWhole, IsKept}
+use Rattle.std.proofs.Common.{rules, refl, ◌≡◌, false, inl}
 use Rattle.kcr_store.proofs.register.Register.look.Goals as goal
 
 pub invariant_of-self : goal.invariant_of-self

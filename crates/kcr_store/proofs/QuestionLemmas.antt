@@ -1,0 +1,99 @@
+-- What is shown of custodians, of a bag and of a room, out of the rows of the tables.
+use Rattle.std.proofs.Common.{◌≡◌, ℕ, suc, ◌<◌, ◌==◌, Bool, true, false, not, ◌||◌, cond, List, [], ◌∷◌, map, filter, reverse, length, Some, refl, sym, ap, ◌∙◌, subst, subst₂, arith}
+use Rattle.std.specs.Prelude.{AllPairs, IsTrue}
+use Rattle.std.specs.List.{list_any}
+use Rattle.std.specs.List.Sorted.{IsPermutation}
+use Rattle.std.proofs.lemmas.Bool.{eqb-true}
+use Rattle.std.proofs.lemmas.List.{get_or-map, length-map}
+use Rattle.std.proofs.lemmas.List.Kept.{AllPairs-filter}
+use Rattle.std.proofs.lemmas.List.Sorted.{IsPermutation-map, list_any-IsPermutation}
+use Rattle.kcr_base.specs.Same.{is_before}
+use Rattle.kcr_base.proofs.RowsLemmas.{filter-order}
+use Rattle.kcr_people.specs.People.{holder_by}
+use Rattle.kcr_custody.specs.declared.Bag.{Bag}
+use Rattle.kcr_custody.specs.declared.Item.{Item}
+use Rattle.kcr_custody.specs.Custody.{spot_by, lies_in}
+use Rattle.kcr_room.specs.declared.Stay.{Stay}
+use Rattle.kcr_room.specs.Stays.{present_in_by, stays_by}
+use Rattle.kcr_history.specs.declared.rows.CeremonyRow.{CeremonyRow}
+use Rattle.kcr_history.specs.declared.views.Rows.TheVariants.{Under}
+use Rattle.kcr_history.specs.History.{History, all_said}
+use Rattle.kcr_history.specs.Ceremonies.{is_ceremony}
+use Rattle.kcr_history.specs.Custody.{spot}
+use Rattle.kcr_history.specs.Machine.{IsRegister}
+use Rattle.kcr_history.specs.Room.{sheet, present}
+use Rattle.kcr_history.specs.Tables.{tables, items, bags, ceremonies, ceremony_row, planned_number}
+use Rattle.kcr_history.specs.Views.{is_of_serial, is_of_number, is_stay_of}
+use Rattle.kcr_machine.proofs.BagsWords.{spot-shown}
+use Rattle.kcr_machine.proofs.InRoom.{holder-shown, present-shown}
+use Rattle.kcr_machine.proofs.Keyed.{any-map}
+use Rattle.kcr_machine.proofs.Scenes.{planned-number}
+use Rattle.kcr_tables.specs.Held.{Tables}
+use Rattle.kcr_tables.specs.Joint.{Stands}
+use Rattle.kcr_tables.proofs.JointLemmas.{Rises}
+use Rattle.kcr_tables.proofs.ViewLemmas.{asked_shows}
+use Rattle.kcr_history.specs.declared.questions.BagShown.{BagShown}
+use Rattle.kcr_history.specs.Questions.{holders_by, holders_on, IsBagShown}
+use Rattle.kcr_store.proofs.StoreLemmas.{by_code}
+
+-- ---- lists
+
+-- what holds of any two holds of what is made of them
+pairs_map : {X Y : Type 0} (f : X → Y) (R : Y → Y → Type 0) (xs : List X) → AllPairs (λ a b. R (f a) (f b)) xs → AllPairs R (map f xs)
+pairs_map f R [] h = λ i j d lt below. absurd (omega arith)
+pairs_map f R (x ∷ xs) h = λ i j d lt below.
+    let within : j < length (x ∷ xs) = omega (arith, length-map (x ∷ xs) f) in
+    subst₂ R (sym (get_or-map f (x ∷ xs) i x d (omega arith))) (sym (get_or-map f (x ∷ xs) j x d within)) (h i j x lt within)
+
+not_empty : (n : ℕ) → (suc n == 0) ≡ false
+not_empty n = by_test (suc n == 0) refl
+  where
+    by_test : (b : Bool) → (suc n == 0) ≡ b → b ≡ false
+    by_test true e = absurd (let same : suc n ≡ 0 = eqb-true (suc n) 0 e in omega arith)
+    by_test false e = refl
+
+-- a test keeps something where something passes it
+some_kept : {X : Type 0} (test : X → Bool) (xs : List X) → list_any test xs ≡ not (length (filter test xs) == 0)
+some_kept test [] = refl
+some_kept test (x ∷ xs) = by_test (test x) (some_kept test xs)
+  where
+    by_test : (b : Bool) → list_any test xs ≡ not (length (filter test xs) == 0) → (b || list_any test xs) ≡ not (length (cond b (x ∷ filter test xs) (filter test xs)) == 0)
+    by_test true ih = ap not (sym (not_empty (length (filter test xs))))
+    by_test false ih = ih
+
+-- ---- what the rows of a register's tables show
+
+module _ (A : History) (register : IsRegister A) (t : Tables) (stands : Stands (tables A) t) where
+  -- who holds which place on a day
+  pub holders_shown : (day : ℕ) → holders_by (λ place. holder_by t.appointments place day) ≡ holders_on A day
+  holders_shown day = λ i. holders_by (λ place. holder-shown A register t.appointments stands.appointments place day i)
+
+  -- where the bag lies
+  pub spot_shown : (serial : List ℕ) (rows : List Bag) → rows ≡ filter (is_of_serial serial) t.bags → spot_by rows serial ≡ spot A serial
+  spot_shown serial rows is = spot-shown A register serial rows (asked_shows is_of_serial (Under serial) (bags A) t.bags rows stands.bags is)
+
+  -- the bag with its items
+  pub bag_shown : (rises : Rises t) (serial : List ℕ) (bag : BagShown) → bag.serial ≡ serial → spot A serial ≡ Some bag.spot
+      → bag.items.items ≡ map (λ item. item.code) (filter (lies_in serial) t.items) → IsBagShown A serial bag
+  bag_shown rises serial bag named lies codes = record {
+    serial = named;
+    spot = lies;
+    items = subst (IsPermutation (map (λ item. item.code) (filter (lies_in serial) (items A)))) (sym codes)
+        (IsPermutation-map (λ item. item.code) (filter (lies_in serial) (items A)) (filter (lies_in serial) t.items) (filter-order (lies_in serial) (items A) t.items stands.items));
+    order = subst (AllPairs (λ a b. IsTrue (is_before a b))) (sym codes)
+        (pairs_map (λ item. item.code) (λ a b. IsTrue (is_before a b)) (filter (lies_in serial) t.items)
+        (AllPairs-filter (λ (a b : Item). IsTrue (is_before a.code b.code)) (lies_in serial) t.items (by_code t.items rises.items)));
+  }
+
+  -- the ceremony is planned where it has a row
+  pub planned_shown : (ceremony : ℕ) (rows : List CeremonyRow) → rows ≡ filter (is_of_number ceremony) t.ceremonies → is_ceremony A ceremony ≡ not (length rows == 0)
+  planned_shown ceremony rows is =
+      sym (planned-number A ceremony)
+      ∙ sym (any-map (is_of_number ceremony) (ceremony_row A) (all_said planned_number A))
+      ∙ list_any-IsPermutation (is_of_number ceremony) (ceremonies A) t.ceremonies stands.ceremonies
+      ∙ some_kept (is_of_number ceremony) t.ceremonies
+      ∙ ap (λ l. not (length l == 0)) (sym is)
+
+  -- who is in the room
+  pub present_shown : (ceremony at : ℕ) (rows : List Stay) → rows ≡ filter (is_stay_of ceremony) t.stays → present_in_by rows ceremony at ≡ present A ceremony at
+  present_shown ceremony at rows is = present-shown A ceremony rows (asked_shows is_stay_of (Under ceremony) (reverse (stays_by (sheet A))) t.stays rows stands.stays is) at

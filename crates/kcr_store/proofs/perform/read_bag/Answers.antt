@@ -1,0 +1,33 @@
+use Rattle.std.proofs.Common.{◌∙◌, sym, ap, refl, inr, map}
+use Rattle.sqlite.specs.State.{HasCleanDisk}
+use Rattle.sqlite.specs.Held.{state}
+use Rattle.kcr_custody.specs.Custody.{spot_by}
+use Rattle.kcr_tables.proofs.JointLemmas.{kept_rises}
+use Rattle.kcr_store.proofs.QuestionLemmas.{spot_shown, bag_shown}
+use Rattle.kcr_store.proofs.StoreLemmas.{holds_in}
+use Rattle.kcr_store.proofs.WholeLemmas.{was_clean}
+use Rattle.kcr_store.proofs.perform.read_bag.Goals as goal
+
+pub returns-in_default-clause-shown : goal.returns-in_default-clause-shown
+returns-in_default-clause-shown g c clean accepted had =
+    let was = had (c.in_ok-bags.ensures.opened clean) in
+    let kept = was.tables.kept in
+    let rows = c.in_ok-bags.ensures.rows clean kept.t (holds_in accepted _ was) in
+    let lies = spot_shown accepted was.tables.register kept.t kept.stands c.args.serial c.in_ok-bags.bags.items rows in
+    inr (sym lies ∙ ap (λ rows. spot_by rows c.args.serial) (sym c.deref.ensures.value) ∙ sym c.in_default.ensures, refl)
+
+pub returns-clause-shown : goal.returns-clause-shown
+returns-clause-shown g c clean accepted had =
+    let one = state g.S.Store c.rows_under.new.tx.conn.now in
+    let new = state g.S.Store c.rows_under-2.new.tx.conn.now in
+    let clean1 : HasCleanDisk one = was_clean one new _ c.in_ok-items.ensures.survives clean in
+    let was = had (c.in_ok-bags.ensures.opened clean1) in
+    let kept = was.tables.kept in
+    let t = kept.t in
+    let held = holds_in accepted _ was in
+    let bags = c.in_ok-bags.ensures.rows clean1 t held in
+    let items = c.in_ok-items.ensures.rows clean t (c.in_ok-bags.ensures.holds clean1 t held) in
+    let lies = spot_shown accepted was.tables.register t kept.stands c.args.serial c.in_ok-bags.bags.items bags in
+    bag_shown accepted was.tables.register t kept.stands (kept_rises _ t kept.kept) c.args.serial _ refl
+    (sym lies ∙ ap (λ rows. spot_by rows c.args.serial) (sym c.deref.ensures.value) ∙ sym c.in-Some.ensures)
+    (c.in_ok-codes_of.ensures ∙ ap (map (λ item. item.code)) (c.deref-2.ensures.value ∙ items))

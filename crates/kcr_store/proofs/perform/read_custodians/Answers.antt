@@ -1,0 +1,19 @@
+use Rattle.std.proofs.Common.{◌∙◌, ap}
+use Rattle.kcr_people.specs.People.{holder_by}
+use Rattle.kcr_history.specs.Questions.{holders_by}
+use Rattle.kcr_store.proofs.QuestionLemmas.{holders_shown}
+use Rattle.kcr_store.proofs.StoreLemmas.{holds_in}
+use Rattle.kcr_store.proofs.perform.read_custodians.Goals as goal
+
+pub returns-clause-shown : goal.returns-clause-shown
+returns-clause-shown g c clean accepted had =
+    let was = had (c.in_ok-appointments.ensures.opened clean) in
+    let kept = was.tables.kept in
+    let rows = c.in_ok-appointments.ensures.rows clean kept.t (holds_in accepted _ was) in
+    record {
+      day = c.in_ok-custodians_shown.ensures.day;
+      holders =
+          c.in_ok-custodians_shown.ensures.holders
+          ∙ ap (λ rows. holders_by (λ place. holder_by rows place c.args.day)) (c.deref.ensures.value ∙ rows)
+          ∙ holders_shown accepted was.tables.register kept.t kept.stands c.args.day;
+    }
