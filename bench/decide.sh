@@ -7,13 +7,13 @@ cd "$(dirname "$0")/.."
 work=$(mktemp -d)
 trap 'rm -rf "$work"' EXIT
 mkdir "$work/crates"
-for crate in kcr_base kcr_seats kcr_people kcr_custody kcr_script kcr_room kcr_history kcr_scene kcr_acts kcr_machine; do
+for crate in kcr_base kcr_seats kcr_people kcr_custody kcr_script kcr_room kcr_history kcr_laws kcr_scene kcr_acts kcr_machine; do
   cp -r "crates/$crate" "$work/crates/$crate"
+  grep "^$crate:" crates.txt >> "$work/crates.txt"
 done
 mkdir -p "$work/crates/bench_decide/src"
 cp bench/decide/main.txt "$work/crates/bench_decide/src/main.rt"
 cp bench/decide/stdin "$work/crates/bench_decide/stdin"
-cp crates.txt "$work/crates.txt"
 printf 'bench_decide: kcr_base kcr_people kcr_script kcr_room kcr_history kcr_machine anyhow\n' >> "$work/crates.txt"
 cd "$work/crates/bench_decide"
 rt run

@@ -2,13 +2,9 @@
 # Times `kcr run` on N requests POST /people over a register in memory, for each N given (10000 and 20000 where none is).
 # The n-th request has the key and the initials of the number n, written with a fixed width, so that both come in the
 # order of their bytes. With the word `scattered` before the numbers each comes in a place of its own among the others.
-# Needs the program built: `rt run kcr_tool -- run < examples/first.http` at the top builds it.
 set -eu
 cd "$(dirname "$0")/.."
-program=crates/kcr_tool/out/kcr_tool
-[ -x "$program" ] || { echo "build the program first: (cd crates/kcr_tool && rt run -- run < ../../examples/first.http)" >&2; exit 1; }
-work=$(mktemp -d)
-trap 'rm -rf "$work"' EXIT
+source bench/program.bash
 
 order=rising
 if [ "${1:-}" = scattered ]; then

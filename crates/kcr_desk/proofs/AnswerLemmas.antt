@@ -9,8 +9,8 @@ use Rattle.kcr_history.specs.Refusals.{carries, refusal_text}
 use Rattle.kcr_history.specs.declared.commands.Command.{Command}
 use Rattle.kcr_history.specs.declared.commands.Reply.{Reply}
 use Rattle.kcr_store.specs.Steps.{Steps}
-use Rattle.kcr_store.specs.declared.question.Question.{Question}
-use Rattle.kcr_store.specs.declared.question.Shown.{Shown}
+use Rattle.kcr_history.specs.declared.questions.Question.{Question}
+use Rattle.kcr_history.specs.declared.questions.Shown.{Shown}
 use Rattle.kcr_wire.specs.Shows.{shown_text}
 use Rattle.kcr_wire.specs.declared.allow.Allow.{Allow}
 use Rattle.kcr_desk.specs.declared.reply.Heading.{Heading}

@@ -10,8 +10,8 @@ use Rattle.kcr_history.specs.declared.commands.Command.{Command}
 use Rattle.kcr_history.specs.declared.commands.Reply.{Reply}
 use Rattle.kcr_store.specs.Register.{Seen}
 use Rattle.kcr_store.specs.Steps.{Steps, IsNext, IsAsked}
-use Rattle.kcr_store.specs.declared.question.Question.{Question}
-use Rattle.kcr_store.specs.declared.question.Shown.{Shown}
+use Rattle.kcr_history.specs.declared.questions.Question.{Question}
+use Rattle.kcr_history.specs.declared.questions.Shown.{Shown}
 use Rattle.kcr_desk.specs.Answers.{Standing, standing, told_refusal, told_reply, told_shown, IsRefused, Answered, AnswersCommand, AnswersQuestion}
 use Rattle.kcr_desk.specs.Texts.{Told}
 use Rattle.kcr_desk.proofs.AnswerLemmas.{TellsRefusal, TellsReply, TellsShown, took_command, took_question, refused, taken, reply_or_memory, shown_or_memory, replied}

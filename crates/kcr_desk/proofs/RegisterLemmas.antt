@@ -11,8 +11,8 @@ use Rattle.kcr_history.specs.History.{History, entry_of}
 use Rattle.kcr_history.specs.Conditions.{fault}
 use Rattle.kcr_history.specs.Machine.{Outcome, Accepts, Sitting, sitting, answer_to, with_command, accepts, seats, acts, repeats, machine, IsRegister}
 use Rattle.kcr_store.specs.Steps.{Steps, IsNext}
-use Rattle.kcr_store.specs.declared.question.Question.{Question}
-use Rattle.kcr_store.specs.declared.question.Shown.{Shown}
+use Rattle.kcr_history.specs.declared.questions.Question.{Question}
+use Rattle.kcr_history.specs.declared.questions.Shown.{Shown}
 use Rattle.kcr_wire.specs.Commands.{command_of}
 use Rattle.kcr_wire.specs.Questions.{question_of}
 use Rattle.kcr_wire.specs.declared.method.Method.{Method}

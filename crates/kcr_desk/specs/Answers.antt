@@ -14,8 +14,8 @@ use Rattle.kcr_history.specs.declared.commands.Command.{Command}
 use Rattle.kcr_history.specs.declared.commands.Reply.{Reply}
 use Rattle.kcr_store.specs.Register.{Seen}
 use Rattle.kcr_store.specs.Steps.{Steps, IsNext, IsAsked}
-use Rattle.kcr_store.specs.declared.question.Question.{Question}
-use Rattle.kcr_store.specs.declared.question.Shown.{Shown}
+use Rattle.kcr_history.specs.declared.questions.Question.{Question}
+use Rattle.kcr_history.specs.declared.questions.Shown.{Shown}
 use Rattle.kcr_wire.specs.Commands.{command_of}
 use Rattle.kcr_wire.specs.Questions.{question_of}
 use Rattle.kcr_wire.specs.Shows.{shown_text}

@@ -3,8 +3,9 @@ ghost use Rattle.std.specs.Prelude.{◌≡◌};
 
 use crate::asserts::holds;
 use kcr_base::{Key, Refusal};
-use kcr_history::{Asks, Rows};
-use kcr_tables::{all_keys, all_seatings, all_sheet, all_versions, make, view_of};
+use kcr_history::{Asks, KeyRow, Rows, SeatingRow};
+use kcr_room::SheetRow;
+use kcr_tables::{Version, all_rows, make, view_of};
 use sqlite::{Alter, Connection, MemStore, Transaction};
 use std::alloc::Global;
 use std::rt::HostRuntime;
@@ -49,7 +50,7 @@ const NOT_STORED: [&str; 34] = [
 ];
 
 /// All rows of the tables of which a command may ask for all.
-fn all_rows() -> Option<Asks> {
+fn every_row() -> Option<Asks> {
     Some(Asks {
         people: Rows::All,
         trainings: Rows::All,
@@ -78,10 +79,10 @@ fn has_fault<S: Alter>(alloc: Global, tx: &mut Transaction<'_, S>, asks: &Asks) 
     ensures same_reference { tx.new.conn.ghost_name ≡ tx.old.conn.ghost_name }
 {
     is_refused(&view_of(alloc, tx, asks))
-        | is_refused(&all_seatings(alloc, tx))
-        | is_refused(&all_sheet(alloc, tx))
-        | is_refused(&all_keys(alloc, tx))
-        | is_refused(&all_versions(alloc, tx))
+        | is_refused(&all_rows::<_, SeatingRow>(alloc, tx))
+        | is_refused(&all_rows::<_, SheetRow>(alloc, tx))
+        | is_refused(&all_rows::<_, KeyRow>(alloc, tx))
+        | is_refused(&all_rows::<_, Version>(alloc, tx))
 }
 
 /// Makes an empty register's tables and carries the statement out; whether both could be done.
@@ -107,7 +108,7 @@ fn has_fault_after(alloc: Global, text: &str, asks: &Asks) -> Option<bool> {
 
 #[test]
 fn no_register_stores_these(rt: HostRuntime) -> Result<(), Fail> {
-    let asks = all_rows().ok_or("a key")?;
+    let asks = every_row().ok_or("a key")?;
     let empty = has_fault_after(rt.alloc(), "", &asks);
     holds(&rt, empty == Some(false), "an empty register");
     for text in NOT_STORED {

@@ -1,5 +1,4 @@
 pub mod OrMemory
-pub mod Forms
 pub mod Routes
 pub mod Targets
 pub mod Members

@@ -4,8 +4,8 @@ use Rattle.kcr_wire.specs.OrMemory.{after}
 use Rattle.kcr_wire.specs.Targets.{target_of}
 use Rattle.kcr_base.specs.declared.refusal.Refusal.{Refusal}
 use Rattle.kcr_base.specs.declared.refusal.Refusal.TheVariants as refusal
-use Rattle.kcr_store.specs.declared.question.Question.{Question}
-use Rattle.kcr_store.specs.declared.question.Question.TheVariants as question
+use Rattle.kcr_history.specs.declared.questions.Question.{Question}
+use Rattle.kcr_history.specs.declared.questions.Question.TheVariants as question
 use Rattle.kcr_wire.specs.declared.method.Method.{Method}
 use Rattle.kcr_wire.specs.declared.method.Method.TheVariants as method
 use Rattle.kcr_wire.specs.declared.target.Target.{Target}
@@ -14,6 +14,10 @@ use Rattle.kcr_wire.specs.declared.target.Target.TheVariants as target
 -- the question that a path asks, or that it takes commands alone
 abbrev pub question_by : Target → Result Question Refusal
 question_by target.People = Ok question.People
+question_by (target.CustodiansOn day) = Ok (question.Custodians day)
+question_by (target.Bag serial) = Ok (question.Bag serial)
+question_by (target.Room ceremony at) = Ok (question.Room ceremony at)
+question_by _ = Err refusal.Method
 
 -- the method asks a question
 abbrev pub asks : Method → Bool

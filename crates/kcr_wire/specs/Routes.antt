@@ -6,15 +6,38 @@ use Rattle.matchit.specs.Router.{RouteOf, route_from}
 use Rattle.matchit.specs.Order.{placed}
 use Rattle.matchit.specs.declared.error.InsertError.{InsertError}
 use Rattle.kcr_wire.specs.declared.route.Route.{Route}
-use Rattle.kcr_wire.specs.declared.route.Route.TheVariants.{People}
+use Rattle.kcr_wire.specs.declared.route.Route.TheVariants.{People, Roles, Withdrawals, Custodians, Replacement, Release, Boxes, Items, Ceremonies, Opening, Closing, Sheet, Signature, Exceptions, Safes, Seal, Take, Put, Cut, CustodiansOn, Bag, Room}
 
 -- a route as `matchit` reads it
 abbrev pub route_text : Route → List ℕ
 route_text People = codes "/people"
+route_text Roles = codes "/people/{who}/roles"
+route_text Withdrawals = codes "/people/{who}/withdrawals"
+route_text Custodians = codes "/custodians"
+route_text Replacement = codes "/custodians/{place}/replacement"
+route_text Release = codes "/custodians/{place}/release"
+route_text Boxes = codes "/boxes"
+route_text Items = codes "/items"
+route_text Ceremonies = codes "/ceremonies"
+route_text Opening = codes "/ceremonies/{n}/opening"
+route_text Closing = codes "/ceremonies/{n}/closing"
+route_text Sheet = codes "/ceremonies/{n}/sheet"
+route_text Signature = codes "/ceremonies/{n}/steps/{k}/signature"
+route_text Exceptions = codes "/ceremonies/{n}/exceptions"
+route_text Safes = codes "/ceremonies/{n}/safes/{safe}"
+route_text Seal = codes "/ceremonies/{n}/bags/{serial}/seal"
+route_text Take = codes "/ceremonies/{n}/bags/{serial}/take"
+route_text Put = codes "/ceremonies/{n}/bags/{serial}/put"
+route_text Cut = codes "/ceremonies/{n}/bags/{serial}/cut"
+route_text CustodiansOn = codes "/custodians/{day}"
+route_text Bag = codes "/bags/{serial}"
+route_text Room = codes "/ceremonies/{n}/room/{at}"
 
 -- the routes in the order in which the router takes them
 abbrev pub all_routes : List Route
-all_routes = People ∷ []
+all_routes =
+    People ∷ Roles ∷ Withdrawals ∷ Custodians ∷ Replacement ∷ Release ∷ Boxes ∷ Items ∷ Ceremonies ∷ Opening ∷ Closing
+    ∷ Sheet ∷ Signature ∷ Exceptions ∷ Safes ∷ Seal ∷ Take ∷ Put ∷ Cut ∷ CustodiansOn ∷ Bag ∷ Room ∷ []
 
 -- what a router holds
 abbrev pub Held : Type 0

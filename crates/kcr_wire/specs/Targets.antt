@@ -1,10 +1,11 @@
 -- What a target asks for: the route of its path, and its parts in braces.
-use Rattle.std.specs.Prelude.{ℕ, ◌==◌, List, take, codes, Option, Some, None, option_and_then, option_map, Result, if◌then◌else◌}
+use Rattle.std.specs.Prelude.{ℕ, ◌+◌, ◌==◌, List, [], take, drop, codes, Option, Some, None, option_and_then, option_map, Result, if◌then◌else◌}
 use Rattle.std.specs.List.{position}
 use Rattle.std.specs.Str.{is_utf8}
 use Rattle.std.specs.Option.{ok_or, option_map_or}
 use Rattle.std.specs.Result.{result_ok}
 use Rattle.matchit.specs.Seek.{first}
+use Rattle.kcr_forms.specs.Forms.{initials_of, day_of, moment_of, serial_of, ceremony_of, step_of, safe_of, place_of}
 use Rattle.kcr_wire.specs.Routes.{table}
 use Rattle.kcr_base.specs.declared.refusal.Refusal.{Refusal}
 use Rattle.kcr_base.specs.declared.refusal.Refusal.TheVariants as refusal
@@ -23,9 +24,50 @@ path_of target = option_map_or (λ i. take i target) (position (λ b. b == 63) t
 unfoldable pub text_in : List ℕ → Option (List ℕ)
 text_in bytes = if is_utf8 bytes then Some bytes else None
 
+-- what stands before the first slash
+abbrev pub before_slash : List ℕ → List ℕ
+before_slash path = option_map_or (λ i. take i path) (position (λ b. b == 47) path) path
+
+-- what stands after the first slash
+abbrev pub after_slash : List ℕ → List ℕ
+after_slash path = option_map_or (λ i. drop (i + 1) path) (position (λ b. b == 47) path) []
+
+-- the second piece of a path, where a slash begins each piece, as in `/1/2/3/4/5`
+unfoldable pub second_piece : List ℕ → List ℕ
+second_piece path = before_slash (after_slash (after_slash path))
+
+-- its fourth piece
+unfoldable pub fourth_piece : List ℕ → List ℕ
+fourth_piece path = before_slash (after_slash (after_slash (after_slash (after_slash path))))
+
+-- what two parts make, where each is of its form
+abbrev pub with_parts : {A B : Type 0} → (A → B → Target) → Option A → Option B → Option Target
+with_parts make part other = option_and_then (λ a. option_map (make a) other) part
+
 -- what a path of this route asks for, where each part in braces is of its form
 abbrev pub target_by : Route → List ℕ → Option Target
 target_by route.People path = Some target.People
+target_by route.Roles path = option_map target.Roles (initials_of (second_piece path))
+target_by route.Withdrawals path = option_map target.Withdrawals (initials_of (second_piece path))
+target_by route.Custodians path = Some target.Custodians
+target_by route.Replacement path = option_map target.Replacement (place_of (second_piece path))
+target_by route.Release path = option_map target.Release (place_of (second_piece path))
+target_by route.Boxes path = Some target.Boxes
+target_by route.Items path = Some target.Items
+target_by route.Ceremonies path = Some target.Ceremonies
+target_by route.Opening path = option_map target.Opening (ceremony_of (second_piece path))
+target_by route.Closing path = option_map target.Closing (ceremony_of (second_piece path))
+target_by route.Sheet path = option_map target.Sheet (ceremony_of (second_piece path))
+target_by route.Signature path = with_parts target.Signature (ceremony_of (second_piece path)) (step_of (fourth_piece path))
+target_by route.Exceptions path = option_map target.Exceptions (ceremony_of (second_piece path))
+target_by route.Safes path = with_parts target.Safe (ceremony_of (second_piece path)) (safe_of (fourth_piece path))
+target_by route.Seal path = with_parts target.Seal (ceremony_of (second_piece path)) (serial_of (fourth_piece path))
+target_by route.Take path = with_parts target.Take (ceremony_of (second_piece path)) (serial_of (fourth_piece path))
+target_by route.Put path = with_parts target.Put (ceremony_of (second_piece path)) (serial_of (fourth_piece path))
+target_by route.Cut path = with_parts target.Cut (ceremony_of (second_piece path)) (serial_of (fourth_piece path))
+target_by route.CustodiansOn path = option_map target.CustodiansOn (day_of (second_piece path))
+target_by route.Bag path = option_map target.Bag (serial_of (second_piece path))
+target_by route.Room path = with_parts target.Room (ceremony_of (second_piece path)) (moment_of (fourth_piece path))
 
 -- what a path asks for, by the route that the router finds for it
 abbrev pub target_at : List ℕ → Option Target
@@ -38,6 +80,10 @@ target_of target = ok_or (option_and_then target_at (text_in (path_of target))) 
 -- the methods that a path takes
 abbrev pub allowed : Target → Allow
 allowed target.People = allow.GetHeadPost
+allowed (target.CustodiansOn day) = allow.GetHead
+allowed (target.Bag serial) = allow.GetHead
+allowed (target.Room ceremony at) = allow.GetHead
+allowed _ = allow.Post
 
 -- the methods that a target takes, where it is a path of the register
 unfoldable pub allow_of : List ℕ → Option Allow

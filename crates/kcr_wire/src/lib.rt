@@ -3,6 +3,7 @@
 #![tactic(auto)]
 
 pub mod allow;
+mod amount;
 pub mod command;
 pub mod member;
 pub mod method;

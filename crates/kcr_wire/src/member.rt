@@ -3,12 +3,20 @@ ghost use Rattle.std.specs.Prelude.{◌≡◌, ◌≢◌, None, Some, option_map
 ghost use Rattle.std.specs.Option.{ok_or};
 ghost use Rattle.serde_json.specs.View.{view};
 ghost use Rattle.kcr_wire.specs.OrMemory.{OrMemory};
-ghost use Rattle.kcr_wire.specs.Forms.{initials_of, key_of, name_of};
-ghost use Rattle.kcr_wire.specs.Members.{text_at, json_of, key_at, who_at, name_at};
+ghost use Rattle.kcr_wire.specs.Members.{text_at, json_of, key_at, who_at, by_at, name_at, role_at, from_at, until_at, day_at, place_at, facility_at, item_at, at_at, script_at, way_at, remark_at, to_at};
 
-use kcr_base::{Initials, Key, Member, Name, Refusal};
+use kcr_base::{
+    Day, Facility, Initials, ItemCode, Key, Member, Moment, Name, Place, Refusal, Remark, Role,
+    Text,
+};
+use kcr_custody::Store;
+use kcr_forms::{
+    read_day, read_facility, read_initials, read_item, read_key, read_moment, read_name,
+    read_place, read_remark, read_role, read_store, read_way,
+};
+use kcr_room::Way;
 use serde_json::Value;
-use std::alloc::{AllocError, Global};
+use std::alloc::Global;
 
 // A body as JSON.
 pub(crate) fn read_body(alloc: Global, body: &[u8]) -> Result<Value, Refusal>
@@ -37,29 +45,8 @@ fn text_of<'v>(body: &'v Value, name: &str) -> Option<&'v str>
     }
 }
 
-// The initials that a text is.
-fn read_initials(text: &[u8]) -> Option<Initials>
-    ensures { result ≡ initials_of text.now }
-{
-    Initials::read(text)
-}
-
-// The key that a text is.
-fn read_key(text: &[u8]) -> Option<Key>
-    ensures { result ≡ key_of text.now }
-{
-    Key::read(text)
-}
-
-// The name that a text is.
-fn read_name(alloc: Global, text: &[u8]) -> Result<Option<Name>, AllocError>
-    ensures { IfOk result (λ name. name ≡ name_of text.now) }
-{
-    Name::read(alloc, text)
-}
-
 // What a member is, or the refusal that names it.
-fn formed<T>(value: Option<T>, member: Member) -> Result<T, Refusal>
+pub(crate) fn formed<T>(value: Option<T>, member: Member) -> Result<T, Refusal>
     ensures { result ≡ ok_or value (Refusal.Form member) }
 {
     value.ok_or(Refusal::Form { member })
@@ -83,6 +70,105 @@ pub(crate) fn who_in(body: &Value) -> Result<Initials, Refusal>
     formed(who, Member::Who)
 }
 
+// The member `by`.
+#[tactic(auto, unfolding(crate::specs::Members::by_at))]
+pub(crate) fn by_in(body: &Value) -> Result<Initials, Refusal>
+    ensures { result ≡ by_at (view body.now) }
+{
+    let by = text_of(body, "by").and_then(|text| read_initials(text.as_bytes()));
+    formed(by, Member::By)
+}
+
+// The member `role`.
+#[tactic(auto, unfolding(crate::specs::Members::role_at))]
+pub(crate) fn role_in(body: &Value) -> Result<Role, Refusal>
+    ensures { result ≡ role_at (view body.now) }
+{
+    let role = text_of(body, "role").and_then(|text| read_role(text.as_bytes()));
+    formed(role, Member::Role)
+}
+
+// The member `from`.
+#[tactic(auto, unfolding(crate::specs::Members::from_at))]
+pub(crate) fn from_in(body: &Value) -> Result<Day, Refusal>
+    ensures { result ≡ from_at (view body.now) }
+{
+    let since = text_of(body, "from").and_then(|text| read_day(text.as_bytes()));
+    formed(since, Member::From)
+}
+
+// The member `until`.
+#[tactic(auto, unfolding(crate::specs::Members::until_at))]
+pub(crate) fn until_in(body: &Value) -> Result<Day, Refusal>
+    ensures { result ≡ until_at (view body.now) }
+{
+    let until = text_of(body, "until").and_then(|text| read_day(text.as_bytes()));
+    formed(until, Member::Until)
+}
+
+// The member `day`.
+#[tactic(auto, unfolding(crate::specs::Members::day_at))]
+pub(crate) fn day_in(body: &Value) -> Result<Day, Refusal>
+    ensures { result ≡ day_at (view body.now) }
+{
+    let day = text_of(body, "day").and_then(|text| read_day(text.as_bytes()));
+    formed(day, Member::Day)
+}
+
+// The member `place`.
+#[tactic(auto, unfolding(crate::specs::Members::place_at))]
+pub(crate) fn place_in(body: &Value) -> Result<Place, Refusal>
+    ensures { result ≡ place_at (view body.now) }
+{
+    let place = text_of(body, "place").and_then(|text| read_place(text.as_bytes()));
+    formed(place, Member::Place)
+}
+
+// The member `facility`.
+#[tactic(auto, unfolding(crate::specs::Members::facility_at))]
+pub(crate) fn facility_in(body: &Value) -> Result<Facility, Refusal>
+    ensures { result ≡ facility_at (view body.now) }
+{
+    let facility = text_of(body, "facility").and_then(|text| read_facility(text.as_bytes()));
+    formed(facility, Member::Facility)
+}
+
+// The member `item`.
+#[tactic(auto, unfolding(crate::specs::Members::item_at))]
+pub(crate) fn item_in(body: &Value) -> Result<ItemCode, Refusal>
+    ensures { result ≡ item_at (view body.now) }
+{
+    let item = text_of(body, "item").and_then(|text| read_item(text.as_bytes()));
+    formed(item, Member::Item)
+}
+
+// The member `at`.
+#[tactic(auto, unfolding(crate::specs::Members::at_at))]
+pub(crate) fn moment_in(body: &Value) -> Result<Moment, Refusal>
+    ensures { result ≡ at_at (view body.now) }
+{
+    let at = text_of(body, "at").and_then(|text| read_moment(text.as_bytes()));
+    formed(at, Member::At)
+}
+
+// The member `way`.
+#[tactic(auto, unfolding(crate::specs::Members::way_at))]
+pub(crate) fn way_in(body: &Value) -> Result<Way, Refusal>
+    ensures { result ≡ way_at (view body.now) }
+{
+    let way = text_of(body, "way").and_then(|text| read_way(text.as_bytes()));
+    formed(way, Member::Way)
+}
+
+// The member `to`.
+#[tactic(auto, unfolding(crate::specs::Members::to_at))]
+pub(crate) fn store_in(body: &Value) -> Result<Store, Refusal>
+    ensures { result ≡ to_at (view body.now) }
+{
+    let to = text_of(body, "to").and_then(|text| read_store(text.as_bytes()));
+    formed(to, Member::To)
+}
+
 // The member `name`.
 #[tactic(auto, unfolding(crate::specs::Members::name_at))]
 pub(crate) fn name_in(alloc: Global, body: &Value) -> Result<Name, Refusal>
@@ -93,4 +179,28 @@ pub(crate) fn name_in(alloc: Global, body: &Value) -> Result<Name, Refusal>
         None => None,
     };
     formed(name, Member::Name)
+}
+
+// The member `text`.
+#[tactic(auto, unfolding(crate::specs::Members::remark_at))]
+pub(crate) fn remark_in(alloc: Global, body: &Value) -> Result<Remark, Refusal>
+    ensures { OrMemory result (remark_at (view body.now)) }
+{
+    let remark = match text_of(body, "text") {
+        Some(text) => read_remark(alloc, text.as_bytes())?,
+        None => None,
+    };
+    formed(remark, Member::Text)
+}
+
+// The member `script`.
+#[tactic(auto, unfolding(crate::specs::Members::script_at))]
+pub(crate) fn script_in(alloc: Global, body: &Value) -> Result<Text, Refusal>
+    ensures { OrMemory result (script_at (view body.now)) }
+{
+    let script = match text_of(body, "script") {
+        Some(text) => Some(Text::copy_of(alloc, text)?),
+        None => None,
+    };
+    formed(script, Member::Script)
 }

@@ -6,15 +6,36 @@ ghost use Rattle.kcr_wire.specs.Questions.{question_by, question_of};
 use crate::method::Method;
 use crate::target::{Paths, Target};
 use kcr_base::Refusal;
-use kcr_store::Question;
+use kcr_history::Question;
 use std::alloc::Global;
 
 // The question that a path asks, or the refusal of a path that takes commands alone.
-fn question_at(target: Target) -> Result<Question, Refusal>
-    ensures { result ≡ question_by target }
+fn question_at(target: &Target) -> Result<Question, Refusal>
+    ensures { result ≡ question_by target.now }
 {
-    match target {
+    match *target {
         Target::People => Ok(Question::People),
+        Target::CustodiansOn(day) => Ok(Question::Custodians(day)),
+        Target::Bag(serial) => Ok(Question::Bag(serial)),
+        Target::Room(ceremony, at) => Ok(Question::Room(ceremony, at)),
+        Target::Roles(_)
+        | Target::Withdrawals(_)
+        | Target::Custodians
+        | Target::Replacement(_)
+        | Target::Release(_)
+        | Target::Boxes
+        | Target::Items
+        | Target::Ceremonies
+        | Target::Opening(_)
+        | Target::Closing(_)
+        | Target::Sheet(_)
+        | Target::Signature(_, _)
+        | Target::Exceptions(_)
+        | Target::Safe(_, _)
+        | Target::Seal(_, _)
+        | Target::Take(_, _)
+        | Target::Put(_, _)
+        | Target::Cut(_, _) => Err(Refusal::Method),
     }
 }
 
@@ -28,7 +49,7 @@ impl Paths {
     {
         let target = self.target(target)?;
         match method {
-            Method::Get | Method::Head => question_at(target),
+            Method::Get | Method::Head => question_at(&target),
             Method::Post | Method::Other => Err(Refusal::Method),
         }
     }

@@ -6,13 +6,57 @@ use matchit::{InsertError, Router};
 use std::alloc::Global;
 
 /// A kind of path, with its parts in braces left out.
-#[derive(Clone, Copy, PartialEq, Eq)]
+#[derive(Clone, Copy)]
 pub enum Route {
     People,
+    Roles,
+    Withdrawals,
+    Custodians,
+    Replacement,
+    Release,
+    Boxes,
+    Items,
+    Ceremonies,
+    Opening,
+    Closing,
+    Sheet,
+    Signature,
+    Exceptions,
+    Safes,
+    Seal,
+    Take,
+    Put,
+    Cut,
+    CustodiansOn,
+    Bag,
+    Room,
 }
 
 /// Every route, in the order in which the router takes them.
-pub const ROUTES: [Route; 1] = [Route::People];
+pub const ROUTES: [Route; 22] = [
+    Route::People,
+    Route::Roles,
+    Route::Withdrawals,
+    Route::Custodians,
+    Route::Replacement,
+    Route::Release,
+    Route::Boxes,
+    Route::Items,
+    Route::Ceremonies,
+    Route::Opening,
+    Route::Closing,
+    Route::Sheet,
+    Route::Signature,
+    Route::Exceptions,
+    Route::Safes,
+    Route::Seal,
+    Route::Take,
+    Route::Put,
+    Route::Cut,
+    Route::CustodiansOn,
+    Route::Bag,
+    Route::Room,
+];
 
 impl Route {
     /// The route as `matchit` reads it. The names in braces are for the reader alone.
@@ -21,6 +65,27 @@ impl Route {
     {
         match self {
             Route::People => "/people",
+            Route::Roles => "/people/{who}/roles",
+            Route::Withdrawals => "/people/{who}/withdrawals",
+            Route::Custodians => "/custodians",
+            Route::Replacement => "/custodians/{place}/replacement",
+            Route::Release => "/custodians/{place}/release",
+            Route::Boxes => "/boxes",
+            Route::Items => "/items",
+            Route::Ceremonies => "/ceremonies",
+            Route::Opening => "/ceremonies/{n}/opening",
+            Route::Closing => "/ceremonies/{n}/closing",
+            Route::Sheet => "/ceremonies/{n}/sheet",
+            Route::Signature => "/ceremonies/{n}/steps/{k}/signature",
+            Route::Exceptions => "/ceremonies/{n}/exceptions",
+            Route::Safes => "/ceremonies/{n}/safes/{safe}",
+            Route::Seal => "/ceremonies/{n}/bags/{serial}/seal",
+            Route::Take => "/ceremonies/{n}/bags/{serial}/take",
+            Route::Put => "/ceremonies/{n}/bags/{serial}/put",
+            Route::Cut => "/ceremonies/{n}/bags/{serial}/cut",
+            Route::CustodiansOn => "/custodians/{day}",
+            Route::Bag => "/bags/{serial}",
+            Route::Room => "/ceremonies/{n}/room/{at}",
         }
     }
 }

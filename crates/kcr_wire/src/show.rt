@@ -1,55 +1,161 @@
 //! Answers as JSON: compact, with the members of an object in byte order.
-ghost use Rattle.std.specs.Prelude.{◌≡◌, IfOk, map, string_bytes};
+ghost use Rattle.std.specs.Prelude.{◌≡◌, IfOk, map};
 ghost use Rattle.serde_json.specs.View.{view};
 ghost use Rattle.kcr_history.specs.Refusals.{refusal_text};
-ghost use Rattle.kcr_wire.specs.Shows.{person_json, people_json, people_text, shown_text};
+ghost use Rattle.kcr_wire.specs.Shows.{shown_text};
 
-use kcr_base::{Refusal, Text};
-use kcr_history::refusal_text;
-use kcr_people::Person;
-use kcr_store::Shown;
+use kcr_base::{Initials, ItemCode, Refusal, Text};
+use kcr_history::{
+    BagShown, CustodiansShown, HolderShown, PersonShown, RoleShown, RoomShown, Shown, refusal_text,
+};
 use serde_json::{Value, json};
 use std::alloc::{AllocError, Global};
 
-fn person_value(alloc: Global, person: &Person) -> Result<Value, AllocError>
-    ensures { IfOk result (λ v. view v ≡ person_json person.now) }
-{
-    let who = person.who.as_str();
-    let name = person.name.as_str();
-    json!(in alloc; {"name": name, "roles": [], "who": who})
+/// What is shown as JSON.
+trait Json {
+    ghost use Rattle.std.specs.Prelude.{◌≡◌, IfOk};
+    ghost use Rattle.serde_json.specs.Data.{Data};
+    ghost use Rattle.serde_json.specs.View.{view};
+
+    /// The data that it is shown as.
+    ghost json: { Self → Data };
+
+    /// It as JSON. The error is want of memory.
+    fn value(&self, alloc: Global) -> Result<Value, AllocError>
+        ensures { IfOk result (λ v. view v ≡ json self.now) };
 }
 
-fn person_values(alloc: Global, people: &[Person]) -> Result<Vec<Value>, AllocError>
-    ensures { IfOk result (λ v. map view v.items ≡ map person_json people.now) }
+// Things as JSON, in their order.
+fn values<T: Json>(alloc: Global, things: &[T]) -> Result<Vec<Value>, AllocError>
+    ensures { IfOk result (λ v. map view v.items ≡ map T.json things.now) }
 {
     let mut values = Vec::new(alloc);
-    for person in people {
-        values.push(person_value(alloc, person)?)?;
+    for thing in things {
+        values.push(thing.value(alloc)?)?;
     }
     Ok(values)
 }
 
-fn people_value(alloc: Global, people: &[Person]) -> Result<Value, AllocError>
-    ensures { IfOk result (λ v. view v ≡ people_json people.now) }
-{
-    let values = person_values(alloc, people)?;
-    json!(in alloc; {"people": values})
+impl Json for Initials {
+    ghost use Rattle.serde_json.specs.Data.{string};
+
+    ghost json = { string };
+
+    fn value(&self, alloc: Global) -> Result<Value, AllocError> {
+        json!(in alloc; self.as_str())
+    }
 }
 
-// The answer to the question for the people.
-fn write_people(alloc: Global, people: &[Person]) -> Result<String, AllocError>
-    ensures { IfOk result (λ s. string_bytes s ≡ people_text people.now) }
-{
-    people_value(alloc, people)?.to_string(alloc)
+impl Json for ItemCode {
+    ghost use Rattle.serde_json.specs.Data.{string};
+
+    ghost json = { string };
+
+    fn value(&self, alloc: Global) -> Result<Value, AllocError> {
+        json!(in alloc; self.as_str())
+    }
+}
+
+impl Json for RoleShown {
+    ghost use Rattle.kcr_wire.specs.Shows.{role_json};
+
+    ghost json = { role_json };
+
+    fn value(&self, alloc: Global) -> Result<Value, AllocError> {
+        let (since, until) = (self.since.code(), self.until.code());
+        let (since, until) = (since.as_str(), until.as_str());
+        let role = self.role.text();
+        match self.withdrawn {
+            None => json!(in alloc; {"from": since, "role": role, "until": until}),
+            Some(day) => {
+                let day = day.code();
+                let day = day.as_str();
+                json!(in alloc; {"from": since, "role": role, "until": until, "withdrawn": day})
+            }
+        }
+    }
+}
+
+impl Json for PersonShown {
+    ghost use Rattle.kcr_wire.specs.Shows.{person_json};
+
+    ghost json = { person_json };
+
+    fn value(&self, alloc: Global) -> Result<Value, AllocError> {
+        let roles = values(alloc, &self.roles)?;
+        let (name, who) = (self.name.as_str(), self.who.as_str());
+        json!(in alloc; {"name": name, "roles": roles, "who": who})
+    }
+}
+
+impl Json for HolderShown {
+    ghost use Rattle.kcr_wire.specs.Shows.{holder_json};
+
+    ghost json = { holder_json };
+
+    fn value(&self, alloc: Global) -> Result<Value, AllocError> {
+        let place = self.place.text();
+        json!(in alloc; {"place": place.as_str(), "who": self.who.as_str()})
+    }
+}
+
+impl Json for CustodiansShown {
+    ghost use Rattle.kcr_wire.specs.Shows.{custodians_json};
+
+    ghost json = { custodians_json };
+
+    fn value(&self, alloc: Global) -> Result<Value, AllocError> {
+        let day = self.day.code();
+        let places = values(alloc, &self.holders)?;
+        json!(in alloc; {"day": day.as_str(), "places": places})
+    }
+}
+
+impl Json for BagShown {
+    ghost use Rattle.kcr_wire.specs.Shows.{bag_json};
+
+    ghost json = { bag_json };
+
+    fn value(&self, alloc: Global) -> Result<Value, AllocError> {
+        let items = values(alloc, &self.items)?;
+        let spot = self.spot.text(alloc)?;
+        json!(in alloc; {"items": items, "serial": self.serial.as_str(), "spot": spot})
+    }
+}
+
+impl Json for RoomShown {
+    ghost use Rattle.kcr_wire.specs.Shows.{room_json};
+
+    ghost json = { room_json };
+
+    fn value(&self, alloc: Global) -> Result<Value, AllocError> {
+        let at = self.at.code();
+        let people = values(alloc, &self.people)?;
+        json!(in alloc; {"at": at.as_str(), "in": people})
+    }
+}
+
+impl Json for Shown {
+    ghost use Rattle.kcr_wire.specs.Shows.{shown_json};
+
+    ghost json = { shown_json };
+
+    fn value(&self, alloc: Global) -> Result<Value, AllocError> {
+        match self {
+            Shown::People(people) => json!(in alloc; {"people": values(alloc, people)?}),
+            Shown::Custodians(custodians) => custodians.value(alloc),
+            Shown::Bag(bag) => bag.value(alloc),
+            Shown::Room(room) => room.value(alloc),
+        }
+    }
 }
 
 /// The answer to a question, as JSON. The error is want of memory.
 pub fn write_shown(alloc: Global, shown: &Shown) -> Result<Text, AllocError>
     ensures { IfOk result (λ text. text ≡ shown_text shown.now) }
 {
-    match shown {
-        Shown::People(people) => Ok(Text::from_string(write_people(alloc, people)?)),
-    }
+    let text = shown.value(alloc)?.to_string(alloc)?;
+    Ok(Text::from_string(text))
 }
 
 /// A refusal as JSON: its number, its word and what it carries. The error is want of memory.

@@ -1,19 +1,45 @@
 //! What a request's target asks for.
 ghost use Rattle.std.specs.Prelude.{◌≡◌, ◌==◌, ◌<◌, length, position, option_map, IfErr, IfSome};
-ghost use Rattle.kcr_wire.specs.Targets.{path_of, text_in, target_by, target_of, allowed, allow_of};
+ghost use Rattle.kcr_wire.specs.Targets.{path_of, text_in, before_slash, after_slash, second_piece, fourth_piece, target_by, target_of, allowed, allow_of};
 
 use crate::allow::Allow;
 use crate::route::{Route, router};
-use kcr_base::Refusal;
+use kcr_base::{CeremonyNumber, Day, Initials, Moment, Place, Refusal, Serial, StepNumber};
+use kcr_custody::SafeNumber;
+use kcr_forms::{
+    read_ceremony, read_day, read_initials, read_moment, read_place, read_safe, read_serial,
+    read_step,
+};
 use matchit::Router;
 use std::alloc::Global;
 use std::marker::Model;
 use std::str;
 
 /// A path with its parts in braces read.
-#[derive(Clone, Copy, PartialEq, Eq)]
+#[derive(Clone, Copy)]
 pub enum Target {
     People,
+    Roles(Initials),
+    Withdrawals(Initials),
+    Custodians,
+    Replacement(Place),
+    Release(Place),
+    Boxes,
+    Items,
+    Ceremonies,
+    Opening(CeremonyNumber),
+    Closing(CeremonyNumber),
+    Sheet(CeremonyNumber),
+    Signature(CeremonyNumber, StepNumber),
+    Exceptions(CeremonyNumber),
+    Safe(CeremonyNumber, SafeNumber),
+    Seal(CeremonyNumber, Serial),
+    Take(CeremonyNumber, Serial),
+    Put(CeremonyNumber, Serial),
+    Cut(CeremonyNumber, Serial),
+    CustodiansOn(Day),
+    Bag(Serial),
+    Room(CeremonyNumber, Moment),
 }
 
 // The place of the first question mark.
@@ -44,14 +70,81 @@ fn text_in(bytes: &[u8]) -> Option<&str>
     }
 }
 
-// What a path of this route asks for, where its parts in braces have their forms. No route has such a
-// part so far.
-fn read_parts(route: Route, _path: &[u8]) -> Option<Target>
-    ensures { result ≡ target_by route _path.now }
+// The place of the first slash.
+fn slash_at(path: &[u8]) -> Option<usize>
+    ensures place { result ≡ position (λ b. b == 47) path.now }
+    ensures within { IfSome result (λ i. i < length path.now) }
 {
-    match route {
-        Route::People => Some(Target::People),
+    path.iter().position(|b| *b == b'/')
+}
+
+// What stands before the first slash.
+fn before_slash(path: &[u8]) -> &[u8]
+    ensures { result.now ≡ before_slash path.now }
+{
+    match slash_at(path) {
+        Some(i) => &path[..i],
+        None => path,
     }
+}
+
+// What stands after the first slash.
+fn after_slash(path: &[u8]) -> &[u8]
+    ensures { result.now ≡ after_slash path.now }
+{
+    match slash_at(path) {
+        Some(i) => &path[i + 1..],
+        None => &[],
+    }
+}
+
+// The second piece of a path between slashes.
+#[tactic(auto, unfolding(crate::specs::Targets::second_piece))]
+fn second_piece(path: &[u8]) -> &[u8]
+    ensures { result.now ≡ second_piece path.now }
+{
+    before_slash(after_slash(after_slash(path)))
+}
+
+// The fourth piece of a path between slashes.
+#[tactic(auto, unfolding(crate::specs::Targets::fourth_piece))]
+fn fourth_piece(path: &[u8]) -> &[u8]
+    ensures { result.now ≡ fourth_piece path.now }
+{
+    before_slash(after_slash(after_slash(after_slash(after_slash(path)))))
+}
+
+// What a path of this route asks for, where its parts in braces have their forms.
+fn read_parts(route: Route, path: &[u8]) -> Option<Target>
+    ensures { result ≡ target_by route path.now }
+{
+    let part = second_piece(path);
+    let other = fourth_piece(path);
+    let target = match route {
+        Route::People => Target::People,
+        Route::Roles => Target::Roles(read_initials(part)?),
+        Route::Withdrawals => Target::Withdrawals(read_initials(part)?),
+        Route::Custodians => Target::Custodians,
+        Route::Replacement => Target::Replacement(read_place(part)?),
+        Route::Release => Target::Release(read_place(part)?),
+        Route::Boxes => Target::Boxes,
+        Route::Items => Target::Items,
+        Route::Ceremonies => Target::Ceremonies,
+        Route::Opening => Target::Opening(read_ceremony(part)?),
+        Route::Closing => Target::Closing(read_ceremony(part)?),
+        Route::Sheet => Target::Sheet(read_ceremony(part)?),
+        Route::Signature => Target::Signature(read_ceremony(part)?, read_step(other)?),
+        Route::Exceptions => Target::Exceptions(read_ceremony(part)?),
+        Route::Safes => Target::Safe(read_ceremony(part)?, read_safe(other)?),
+        Route::Seal => Target::Seal(read_ceremony(part)?, read_serial(other)?),
+        Route::Take => Target::Take(read_ceremony(part)?, read_serial(other)?),
+        Route::Put => Target::Put(read_ceremony(part)?, read_serial(other)?),
+        Route::Cut => Target::Cut(read_ceremony(part)?, read_serial(other)?),
+        Route::CustodiansOn => Target::CustodiansOn(read_day(part)?),
+        Route::Bag => Target::Bag(read_serial(part)?),
+        Route::Room => Target::Room(read_ceremony(part)?, read_moment(other)?),
+    };
+    Some(target)
 }
 
 /// The paths of the register. Whoever answers a stream makes it once, since making it takes memory,
@@ -117,6 +210,25 @@ impl Target {
     {
         match self {
             Target::People => Allow::GetHeadPost,
+            Target::CustodiansOn(_) | Target::Bag(_) | Target::Room(_, _) => Allow::GetHead,
+            Target::Roles(_)
+            | Target::Withdrawals(_)
+            | Target::Custodians
+            | Target::Replacement(_)
+            | Target::Release(_)
+            | Target::Boxes
+            | Target::Items
+            | Target::Ceremonies
+            | Target::Opening(_)
+            | Target::Closing(_)
+            | Target::Sheet(_)
+            | Target::Signature(_, _)
+            | Target::Exceptions(_)
+            | Target::Safe(_, _)
+            | Target::Seal(_, _)
+            | Target::Take(_, _)
+            | Target::Put(_, _)
+            | Target::Cut(_, _) => Allow::Post,
         }
     }
 }
