@@ -219,7 +219,7 @@ TABLES = [
           readings=[Reading("key_row_of", "The row of this key, alone, or none", '"key"', "key", "&Key", KEY, "same_text {x}.key {v}", ask="is_of_key {v}"),
                     Reading("last_key_row", "The row with the greatest number, alone, or none where there is no row", None, greatest="accepted")]),
     Table("stays", "stay", "Stay", "kcr_room", "", [Column("who", INITIALS), Column("since", MOMENT), Column("ceremony", NUMBER), Column("until", MOMENT_OR_NULL)], 2,
-          "a stay of a person in the room of a ceremony, under the person and its beginning", "All stays, by people, then beginning.", "its person and beginning", "PutStay", "same_stay", others=[[2, 0, 1]],
+          "a stay of a person in the room of a ceremony, under the person and its beginning", "All stays, by people, then beginning.", "its person and beginning", "PutStay", "same_stay", others=[[2, 1, 0]],
           readings=[of_ceremony("stays", "is_stay_of"),
                     Reading("last_stay_of", "The row of the person's stay that began last, alone, or none", "who", "who", "&Initials", INITIALS, "same_text {x}.who {v}", ask="is_of {v}", greatest="since")]),
     Table("withdrawals", "withdrawal", "Withdrawal", "kcr_people", "", [Column("who", INITIALS), Column("role", ROLE), Column("since", DAY), Column("until", DAY), Column("day", DAY)], 4,

@@ -66,7 +66,7 @@ keys = keyed (codes "keys") 29 (words (codes "key") ∷ number (codes "accepted"
 
 -- a stay of a person in the room of a ceremony, under the person and its beginning
 abbrev pub stays : Table
-stays = keyed (codes "stays") 32 (words (codes "who") ∷ number (codes "since") ∷ number (codes "ceremony") ∷ number_or_null (codes "until") ∷ []) (1 ∷ 2 ∷ []) ((3 ∷ 1 ∷ 2 ∷ []) ∷ [])
+stays = keyed (codes "stays") 32 (words (codes "who") ∷ number (codes "since") ∷ number (codes "ceremony") ∷ number_or_null (codes "until") ∷ []) (1 ∷ 2 ∷ []) ((3 ∷ 2 ∷ 1 ∷ []) ∷ [])
 
 -- from which day a training is withdrawn, under the training's key
 abbrev pub withdrawals : Table

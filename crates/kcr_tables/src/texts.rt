@@ -42,7 +42,7 @@ pub fn create_text(at: usize) -> &'static str
         14 =>
             "CREATE TABLE keys (\"key\" TEXT NOT NULL, accepted INT NOT NULL, command TEXT NOT NULL, reply TEXT NOT NULL, PRIMARY KEY (\"key\"), UNIQUE (accepted)) STRICT",
         15 =>
-            "CREATE TABLE stays (who TEXT NOT NULL, since INT NOT NULL, ceremony INT NOT NULL, until INT, PRIMARY KEY (who, since), UNIQUE (ceremony, who, since)) STRICT",
+            "CREATE TABLE stays (who TEXT NOT NULL, since INT NOT NULL, ceremony INT NOT NULL, until INT, PRIMARY KEY (who, since), UNIQUE (ceremony, since, who)) STRICT",
         _ =>
             "CREATE TABLE withdrawals (who TEXT NOT NULL, role TEXT NOT NULL, since INT NOT NULL, until INT NOT NULL, day INT NOT NULL, PRIMARY KEY (who, role, since, until)) STRICT",
     }
