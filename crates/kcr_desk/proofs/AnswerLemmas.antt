@@ -9,13 +9,10 @@ use Rattle.kcr_history.specs.Refusals.{carries, refusal_text}
 use Rattle.kcr_history.specs.declared.commands.Command.{Command}
 use Rattle.kcr_history.specs.declared.commands.Reply.{Reply}
 use Rattle.kcr_store.specs.Steps.{Steps}
-use Rattle.kcr_history.specs.declared.questions.Question.{Question}
-use Rattle.kcr_history.specs.declared.questions.Shown.{Shown}
-use Rattle.kcr_wire.specs.Shows.{shown_text}
 use Rattle.kcr_wire.specs.declared.allow.Allow.{Allow}
 use Rattle.kcr_desk.specs.declared.reply.Heading.{Heading}
 use Rattle.kcr_desk.specs.declared.reply.Kind.TheVariants.{Json}
-use Rattle.kcr_desk.specs.Answers.{Standing, allowed, told_text, told_refusal, told_reply, told_shown, Performs, Inquires, IsRefused}
+use Rattle.kcr_desk.specs.Answers.{Standing, allowed, told_text, told_refusal, told_reply, TellsOrMemory, Performs, Inquires, IsRefused}
 use Rattle.kcr_desk.specs.Texts.{Told}
 
 -- a refusal is told, or want of memory in the place of one that carries something
@@ -38,12 +35,6 @@ told_as_refusal target refusal allow heading body a h b =
 abbrev pub TellsReply : List ℕ → Result Reply Refusal → Told → Type 0
 TellsReply target result told =
     MatchResult result (λ reply. told ≡ told_text reply.text) (λ refusal. TellsRefusal target refusal told)
-
--- what a question's result is told as
-abbrev pub TellsShown : List ℕ → Result Shown Refusal → Told → Type 0
-TellsShown target result told =
-    MatchResult result (λ shown. (told ≡ told_text (shown_text shown)) ⊎ (told ≡ told_refusal target Refusals.Memory))
-    (λ refusal. TellsRefusal target refusal told)
 
 not_some : {T : Type 0} (o : Option T) → (IsSome o → ⊥) → o ≡ None
 not_some None h = refl
@@ -92,41 +83,6 @@ module _ (before after : Standing) (x : Command) (target : List ℕ) (told : Tol
   took_command None e result broken does tells = whole_command result e (does refl) tells
   took_command (Some t) e result broken does tells = inr (broken_command result (broken refl).0 (broken refl).1 tells)
 
--- a question
-module _ (before after : Standing) (question : Question) (target : List ℕ) (told : Told) where
-  broken_question : (result : Result Shown Refusal) → result ≡ Err Refusals.Broken → after ≡ before
-      → TellsShown target result told → IsRefused before target told after Refusals.Broken
-  broken_question (Ok shown) is same tells = cc
-  broken_question (Err r) is same (inl e) =
-      let same_refusal : r ≡ Refusals.Broken = cc in (e ∙ ap (told_refusal target) same_refusal, same)
-  broken_question (Err r) is same (inr c) =
-      let same_refusal : r ≡ Refusals.Broken = cc in absurd (carries_no_broken r c.0 same_refusal)
-
-  whole_question : (result : Result Shown Refusal) → before.torn ≡ None
-      → Inquires before.accepted question result after → TellsShown target result told
-      → IsRefused before target told after Refusals.Memory
-      ⊎ ((r : Result Shown Refusal) × (told ≡ told_shown target r) × Inquires before.accepted question r after)
-  whole_question (Ok shown) none does (inl e) = inr (Ok shown, e, does)
-  whole_question (Ok shown) none does (inr e) =
-      let calm : after.torn ≡ None = not_some after.torn (λ broken.
-      let is : ◌≡◌ {A = Result Shown Refusal} (Ok shown) (Err Refusals.Disk) = does.breaks.0 broken in cc) in
-      inl (e, still before after does.same none calm)
-  whole_question (Err r) none does (inl e) = inr (Err r, e, does)
-  whole_question (Err r) none does (inr c) =
-      let calm : after.torn ≡ None = not_some after.torn (λ broken.
-      let is : ◌≡◌ {A = Result Shown Refusal} (Err r) (Err Refusals.Disk) = does.breaks.0 broken in
-      let same_refusal : r ≡ Refusals.Disk = cc in carries_no_disk r c.0 same_refusal) in
-      inl (c.1, still before after does.same none calm)
-
-  pub took_question : (torn : Option History) → before.torn ≡ torn → (result : Result Shown Refusal)
-      → (IsSome torn → (result ≡ Err Refusals.Broken) × (after ≡ before)) → (torn ≡ None → Inquires before.accepted question result after)
-      → TellsShown target result told
-      → IsRefused before target told after Refusals.Memory
-      ⊎ MatchOption torn ((r : Result Shown Refusal) × (told ≡ told_shown target r) × Inquires before.accepted question r after)
-      (λ _. IsRefused before target told after Refusals.Broken)
-  took_question None e result broken does tells = whole_question result e (does refl) tells
-  took_question (Some t) e result broken does tells = inr (broken_question result (broken refl).0 (broken refl).1 tells)
-
 is_memory : (r : Refusal) → (r ≡ Refusals.Memory) ⊎ (r ≢ Refusals.Memory)
 is_memory Refusals.Memory = inl refl
 is_memory r = inr (λ e. cc)
@@ -150,11 +106,6 @@ module _ {Request : Type 0} (before after : Standing) (target : List ℕ) (told 
 
 -- WHATEVER THE REGISTER IS
 
--- a result is told, or want of memory in the place of one that is no fault of the device and not of a broken register
-abbrev pub TellsOrMemory : {Value : Type 0} → (Result Value Refusal → Told) → List ℕ → Result Value Refusal → Told → Type 0
-TellsOrMemory {Value} told_as target result told =
-    (told ≡ told_as result) ⊎ ((told ≡ told_refusal target Refusals.Memory) × (result ≢ Err Refusals.Disk) × (result ≢ Err Refusals.Broken))
-
 same_error : {Value : Type 0} (r q : Refusal) → ◌≡◌ {A = Result Value Refusal} (Err r) (Err q) → r ≡ q
 same_error r q e = cc
 
@@ -165,26 +116,41 @@ reply_or_memory target told (Err r) (inl e) = inl e
 reply_or_memory target told (Err r) (inr c) =
     inr (c.1, (λ e. carries_no_disk r c.0 (same_error r Refusals.Disk e)), (λ e. carries_no_broken r c.0 (same_error r Refusals.Broken e)))
 
-pub shown_or_memory : (target : List ℕ) (told : Told) (result : Result Shown Refusal) → TellsShown target result told
-    → TellsOrMemory (told_shown target) target result told
-shown_or_memory target told (Ok shown) (inl e) = inl e
-shown_or_memory target told (Ok shown) (inr e) = inr (e, (λ is. cc), (λ is. cc))
-shown_or_memory target told (Err r) (inl e) = inl e
-shown_or_memory target told (Err r) (inr c) =
+-- a refusal is told, or want of memory in its place
+pub refused_or_memory : {Value : Type 0} (told_by : Result Value Refusal → Told) (target : List ℕ) (told : Told) (r : Refusal) → told_by (Err r) ≡ told_refusal target r → TellsRefusal target r told
+    → TellsOrMemory told_by target (Err r) told
+refused_or_memory told_by target told r as_refusal (inl e) = inl (e ∙ sym as_refusal)
+refused_or_memory told_by target told r as_refusal (inr c) =
     inr (c.1, (λ e. carries_no_disk r c.0 (same_error r Refusals.Disk e)), (λ e. carries_no_broken r c.0 (same_error r Refusals.Broken e)))
 
 -- what is told of a result, where a broken register says so and a fault of the device alone breaks it
-module _ {Value : Type 0} (told_as : Result Value Refusal → Told) (before after : Standing) (target : List ℕ) (told : Told)
-    (as_refusal : (r : Refusal) → told_as (Err r) ≡ told_refusal target r) where
+module _ {Value : Type 0} (told_by : Result Value Refusal → Told) (before after : Standing) (target : List ℕ) (told : Told)
+    (as_refusal : (r : Refusal) → told_by (Err r) ≡ told_refusal target r) where
   pub replied : (torn : Option History) (result : Result Value Refusal)
       → (IsSome torn → (result ≡ Err Refusals.Broken) × (after ≡ before)) → (torn ≡ None → IsSome after.torn ↔ (result ≡ Err Refusals.Disk))
-      → TellsOrMemory told_as target result told
+      → TellsOrMemory told_by target result told
       → IsRefused before target told after Refusals.Memory
-      ⊎ MatchOption torn ((r : Result Value Refusal) × (told ≡ told_as r) × (IsSome after.torn ↔ (r ≡ Err Refusals.Disk)))
+      ⊎ MatchOption torn ((r : Result Value Refusal) × (told ≡ told_by r) × (IsSome after.torn ↔ (r ≡ Err Refusals.Disk)))
       (λ _. IsRefused before target told after Refusals.Broken)
   replied None result broken breaks (inl tells) = inr (result, tells, breaks refl)
   replied None result broken breaks (inr m) =
       inr (Err Refusals.Memory, m.0 ∙ sym (as_refusal Refusals.Memory), ((λ some. absurd (m.1 ((breaks refl).0 some))), (λ is. cc)))
   replied (Some t) result broken breaks (inl tells) =
-      inr (tells ∙ ap told_as (broken refl).0 ∙ as_refusal Refusals.Broken, (broken refl).1)
+      inr (tells ∙ ap told_by (broken refl).0 ∙ as_refusal Refusals.Broken, (broken refl).1)
   replied (Some t) result broken breaks (inr m) = absurd (m.2 (broken refl).0)
+
+-- what only reads
+module _ {Value : Type 0} (told_by : Result Value Refusal → Told) (Says : History → Result Value Refusal → Type 0) (before after : Standing) (target : List ℕ) (told : Told)
+    (as_refusal : (r : Refusal) → told_by (Err r) ≡ told_refusal target r) where
+  pub reads : (torn : Option History) → before.torn ≡ torn → (result : Result Value Refusal)
+      → (IsSome torn → (result ≡ Err Refusals.Broken) × (after ≡ before)) → (torn ≡ None → Inquires Says before.accepted result after)
+      → TellsOrMemory told_by target result told
+      → IsRefused before target told after Refusals.Memory
+      ⊎ MatchOption torn ((r : Result Value Refusal) × (told ≡ told_by r) × Inquires Says before.accepted r after)
+      (λ _. IsRefused before target told after Refusals.Broken)
+  reads None e result broken does (inl tells) = inr (result, tells, does refl)
+  reads None e result broken does (inr m) =
+      let calm : after.torn ≡ None = not_some after.torn (λ torn. m.1 ((does refl).breaks.0 torn)) in
+      inl (m.0, still before after (does refl).same e calm)
+  reads (Some t) e result broken does (inl tells) = inr (tells ∙ ap told_by (broken refl).0 ∙ as_refusal Refusals.Broken, (broken refl).1)
+  reads (Some t) e result broken does (inr m) = absurd (m.2 (broken refl).0)

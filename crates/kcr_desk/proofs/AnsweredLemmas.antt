@@ -6,15 +6,14 @@ use Rattle.sqlite.specs.State.{HasCleanDisk}
 use Rattle.sqlite.specs.Store.{Ghosts}
 use Rattle.kcr_base.specs.declared.refusal.Refusal.{Refusal}
 use Rattle.kcr_base.specs.declared.refusal.Refusal.TheVariants as Refusals
+use Rattle.kcr_history.specs.History.{History}
 use Rattle.kcr_history.specs.declared.commands.Command.{Command}
 use Rattle.kcr_history.specs.declared.commands.Reply.{Reply}
 use Rattle.kcr_store.specs.Register.{Seen}
-use Rattle.kcr_store.specs.Steps.{Steps, IsNext, IsAsked}
-use Rattle.kcr_history.specs.declared.questions.Question.{Question}
-use Rattle.kcr_history.specs.declared.questions.Shown.{Shown}
-use Rattle.kcr_desk.specs.Answers.{Standing, standing, told_refusal, told_reply, told_shown, IsRefused, Answered, AnswersCommand, AnswersQuestion}
+use Rattle.kcr_store.specs.Steps.{Steps, IsNext}
+use Rattle.kcr_desk.specs.Answers.{Standing, standing, told_refusal, told_reply, TellsOrMemory, IsRefused, Answered, AnswersCommand, AnswersReading}
 use Rattle.kcr_desk.specs.Texts.{Told}
-use Rattle.kcr_desk.proofs.AnswerLemmas.{TellsRefusal, TellsReply, TellsShown, took_command, took_question, refused, taken, reply_or_memory, shown_or_memory, replied}
+use Rattle.kcr_desk.proofs.AnswerLemmas.{TellsRefusal, TellsReply, took_command, refused, taken, reply_or_memory, reads, replied}
 
 module _ {S : Type 0} (g : Ghosts S) (before after : Seen S) (target : List ℕ) (told : Told) where
   abbrev ends_clean : Type 0
@@ -44,25 +43,26 @@ module _ {S : Type 0} (g : Ghosts S) (before after : Seen S) (target : List ℕ)
         tells;
   }
 
-  pub question_answered : (question : Question) (result : Result Shown Refusal)
+  pub reading_answered : {Value : Type 0} (told_by : Result Value Refusal → Told) (Says : History → Result Value Refusal → Type 0) → ((r : Refusal) → told_by (Err r) ≡ told_refusal target r)
+      → (result : Result Value Refusal)
       → (IsSome before.torn → (result ≡ Err Refusals.Broken) × (after ≡ before))
-      → (IsTrue before.is_founded → before.torn ≡ None → ends_clean → IsAsked before.accepted question result)
+      → (IsTrue before.is_founded → before.torn ≡ None → ends_clean → Says before.accepted result)
       → (before.torn ≡ None → IsSome after.torn ↔ (result ≡ Err Refusals.Disk))
       → after.accepted ≡ before.accepted
       → (before.torn ≡ None → unwrap_or after.torn after.accepted ≡ before.accepted)
       → (ends_clean → HasCleanDisk (state g before.conn)) → after.is_founded ≡ before.is_founded
-      → TellsShown target result told
-      → AnswersQuestion g before target told after question
-  question_answered question result broken shown breaks same tried clean founded tells = record {
+      → TellsOrMemory told_by target result told
+      → AnswersReading g before target told after told_by Says
+  reading_answered told_by Says as_refusal result broken says breaks same tried clean founded tells = record {
     founded = founded;
     clean = clean;
-    reply = replied (told_shown target) (standing before) (standing after) target told (λ r. refl) before.torn result
-        (λ some. let b = broken some in (b.0, ap standing b.1)) breaks (shown_or_memory target told result tells);
+    reply = replied told_by (standing before) (standing after) target told as_refusal before.torn result
+        (λ some. let b = broken some in (b.0, ap standing b.1)) breaks tells;
     answer = λ is_founded is_clean.
-        took_question (standing before) (standing after) question target told before.torn refl result
+        reads told_by Says (standing before) (standing after) target told as_refusal before.torn refl result
         (λ some. let b = broken some in (b.0, ap standing b.1))
         (λ none. record {
-          shown = shown is_founded none is_clean;
+          says = says is_founded none is_clean;
           same = same;
           breaks = breaks none;
           tried = tried none;
@@ -71,17 +71,15 @@ module _ {S : Type 0} (g : Ghosts S) (before after : Seen S) (target : List ℕ)
   }
 
   -- what was read is the request
-  pub taken_answered : {Request : Type 0} (Takes : Standing → Standing → Request → Type 0) (Reply : Standing → Standing → Type 0)
+  pub taken_answered : {Request : Type 0} (Takes Replies : Standing → Standing → Request → Type 0)
       (expected : Result Request Refusal) (request : Request)
-      → expected ≡ Ok request → Answered g before target told after (λ old new. Takes old new request) Reply
+      → expected ≡ Ok request → Answered g before target told after (λ old new. Takes old new request) (λ old new. Replies old new request)
       → Answered g before target told after (λ old new. MatchResult expected (Takes old new) (IsRefused old target told new))
-      (λ old new. MatchResult expected (λ _. Reply old new) (IsRefused old target told new))
-  taken_answered {Request} Takes Reply expected request reads answered = record {
+      (λ old new. MatchResult expected (Replies old new) (IsRefused old target told new))
+  taken_answered {Request} Takes Replies expected request reads answered = record {
     founded = answered.founded;
     clean = answered.clean;
-    reply =
-        let Replying : Request → Type 0 = λ _. Reply (standing before) (standing after) in
-        taken (standing before) (standing after) target told Replying expected request reads answered.reply;
+    reply = taken (standing before) (standing after) target told (Replies (standing before) (standing after)) expected request reads answered.reply;
     answer = λ is_founded is_clean.
         taken (standing before) (standing after) target told (Takes (standing before) (standing after)) expected request reads
         (answered.answer is_founded is_clean);
@@ -89,17 +87,15 @@ module _ {S : Type 0} (g : Ghosts S) (before after : Seen S) (target : List ℕ)
 
 -- nothing was asked of the register
 module _ {S : Type 0} (g : Ghosts S) (before : Seen S) (target : List ℕ) (told : Told) where
-  pub refused_answered : {Request : Type 0} (Takes : Standing → Standing → Request → Type 0) (Reply : Standing → Standing → Type 0)
+  pub refused_answered : {Request : Type 0} (Takes Replies : Standing → Standing → Request → Type 0)
       (expected : Result Request Refusal) (r : Refusal)
       → (r ≢ Refusals.Memory → expected ≡ Err r) → TellsRefusal target r told
       → Answered g before target told before (λ old new. MatchResult expected (Takes old new) (IsRefused old target told new))
-      (λ old new. MatchResult expected (λ _. Reply old new) (IsRefused old target told new))
-  refused_answered {Request} Takes Reply expected r reads tells = record {
+      (λ old new. MatchResult expected (Replies old new) (IsRefused old target told new))
+  refused_answered {Request} Takes Replies expected r reads tells = record {
     founded = refl;
     clean = λ is_clean. is_clean;
-    reply =
-        let Replying : Request → Type 0 = λ _. Reply (standing before) (standing before) in
-        refused (standing before) (standing before) target told Replying expected r reads tells refl;
+    reply = refused (standing before) (standing before) target told (Replies (standing before) (standing before)) expected r reads tells refl;
     answer = λ is_founded is_clean.
         refused (standing before) (standing before) target told (Takes (standing before) (standing before)) expected r reads tells refl;
   }

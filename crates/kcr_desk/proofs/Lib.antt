@@ -3,7 +3,6 @@ pub mod NamedLemmas
 pub mod PlanLemmas
 pub mod QuietLemmas
 pub mod HeadLemmas
-pub mod WrittenLemmas
 pub mod FoundLemmas
 pub mod TurnLemmas
 pub mod ServeLemmas
@@ -14,4 +13,5 @@ pub mod AnswerLemmas
 pub mod AnsweredLemmas
 pub mod StandingLemmas
 pub mod RegisterLemmas
+pub mod ReportLemmas
 pub mod PlainLemmas

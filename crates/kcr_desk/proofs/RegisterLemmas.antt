@@ -11,13 +11,13 @@ use Rattle.kcr_history.specs.History.{History, entry_of}
 use Rattle.kcr_history.specs.Conditions.{fault}
 use Rattle.kcr_history.specs.Machine.{Outcome, Accepts, Sitting, sitting, answer_to, with_command, accepts, seats, acts, repeats, machine, IsRegister}
 use Rattle.kcr_store.specs.Steps.{Steps, IsNext}
-use Rattle.kcr_history.specs.declared.questions.Question.{Question}
-use Rattle.kcr_history.specs.declared.questions.Shown.{Shown}
 use Rattle.kcr_wire.specs.Commands.{command_of}
-use Rattle.kcr_wire.specs.Questions.{question_of}
+use Rattle.kcr_wire.specs.Inquiries.{inquiry_of}
+use Rattle.kcr_wire.specs.declared.inquiry.Inquiry.{Inquiry}
+use Rattle.kcr_wire.specs.declared.inquiry.Inquiry.TheVariants as inquiry
 use Rattle.kcr_wire.specs.declared.method.Method.{Method}
 use Rattle.kcr_wire.specs.declared.method.Method.TheVariants.{Get, Head, Post, Other}
-use Rattle.kcr_desk.specs.Answers.{Standing, AreRegisters, IsRefused, Performs, Inquires, told_reply, told_shown, TakesCommand, TakesQuestion, AnswersBy, IsAnswer, method_of}
+use Rattle.kcr_desk.specs.Answers.{Standing, AreRegisters, IsRefused, Performs, Inquires, told_reply, Reads, TakesCommand, TakesInquiry, AnswersBy, IsAnswer, method_of}
 use Rattle.kcr_desk.specs.Run.{Asked, asked_of, Exchange, Run, IsServed, IsBroken}
 use Rattle.kcr_desk.specs.Texts.{Told}
 
@@ -68,14 +68,19 @@ module _ (before after : Standing) (target : List ℕ) (told : Told) (are : AreR
       by_torn None h = (taken_keeps before.accepted x h.0 after.accepted are.0 h.2.step, tried_keeps before.accepted x (unwrap_or after.torn after.accepted) are.0 h.2.tried)
       by_torn (Some t) h = refused_keeps Refusals.Broken h
 
-  question_keeps : (question : Question) → TakesQuestion before target told after question → AreRegisters after
-  question_keeps question h = by_torn before.torn h
+  reading_keeps : {Value : Type 0} (told_by : Result Value Refusal → Told) (Says : History → Result Value Refusal → Type 0) → Reads told_by Says before target told after → AreRegisters after
+  reading_keeps {Value} told_by Says h = by_torn before.torn h
     where
       by_torn : (torn : Option History)
-          → MatchOption torn ((result : Result Shown Refusal) × (told ≡ told_shown target result) × Inquires before.accepted question result after)
+          → MatchOption torn ((result : Result Value Refusal) × (told ≡ told_by result) × Inquires Says before.accepted result after)
           (λ _. IsRefused before target told after Refusals.Broken) → AreRegisters after
       by_torn None h = (stays before.accepted after.accepted are.0 h.2.same, stays before.accepted (unwrap_or after.torn after.accepted) are.0 h.2.tried)
       by_torn (Some t) h = refused_keeps Refusals.Broken h
+
+  inquiry_keeps : (inquiry : Inquiry) → TakesInquiry before target told after inquiry → AreRegisters after
+  inquiry_keeps (inquiry.Question question) h = reading_keeps _ _ h
+  inquiry_keeps (inquiry.Script ceremony) h = reading_keeps _ _ h
+  inquiry_keeps (inquiry.Attendance ceremony) h = reading_keeps _ _ h
 
   read_keeps : {Request : Type 0} (Takes : Request → Type 0) → ((request : Request) → Takes request → AreRegisters after)
       → (expected : Result Request Refusal) → MatchResult expected Takes (IsRefused before target told after) → AreRegisters after
@@ -88,14 +93,14 @@ message_keeps before asked told after are Post h =
     read_keeps before after asked.target told are (TakesCommand before asked.target told after)
     (command_keeps before after asked.target told are) (command_of Post asked.target asked.body) h
 message_keeps before asked told after are Get h =
-    read_keeps before after asked.target told are (TakesQuestion before asked.target told after)
-    (question_keeps before after asked.target told are) (question_of Get asked.target) h
+    read_keeps before after asked.target told are (TakesInquiry before asked.target told after)
+    (inquiry_keeps before after asked.target told are) (inquiry_of Get asked.target) h
 message_keeps before asked told after are Head h =
-    read_keeps before after asked.target told are (TakesQuestion before asked.target told after)
-    (question_keeps before after asked.target told are) (question_of Head asked.target) h
+    read_keeps before after asked.target told are (TakesInquiry before asked.target told after)
+    (inquiry_keeps before after asked.target told are) (inquiry_of Head asked.target) h
 message_keeps before asked told after are Other h =
-    read_keeps before after asked.target told are (TakesQuestion before asked.target told after)
-    (question_keeps before after asked.target told are) (question_of Other asked.target) h
+    read_keeps before after asked.target told are (TakesInquiry before asked.target told after)
+    (inquiry_keeps before after asked.target told are) (inquiry_of Other asked.target) h
 
 answer_keeps : (before : Standing) (asked : Asked) (told : Told) (after : Standing) → AreRegisters before → IsAnswer before asked told after → AreRegisters after
 answer_keeps before asked told after are (inl h) = refused_keeps before after asked.target told are Refusals.Memory h

@@ -17,9 +17,9 @@ use Rattle.kcr_desk.specs.Found.{EndsAs, IsReady, message_of}
 use Rattle.kcr_desk.specs.Texts.{Told, answer_text, continue_text}
 use Rattle.kcr_desk.specs.Run.{Asked, asked_of, Exchange, Run, exchange_text, messages_of, ending_text, Begins, IsServed, IsBroken, nothing}
 use Rattle.kcr_desk.specs.Turn.{BreaksTurn, asked_by}
-use Rattle.kcr_desk.specs.Written.{WritesFront}
+use Rattle.kcr_print.specs.Written.{WritesFront}
 use Rattle.kcr_desk.proofs.FoundLemmas.{known_split}
-use Rattle.kcr_desk.proofs.WrittenLemmas.{appends_both, front_after}
+use Rattle.kcr_print.proofs.WrittenLemmas.{appends_both, front_after}
 
 -- what holds between two messages
 pub record Serving

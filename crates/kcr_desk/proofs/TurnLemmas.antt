@@ -15,9 +15,9 @@ use Rattle.kcr_desk.specs.Found.{EndsAs, HasPlan, IsReady}
 use Rattle.kcr_desk.specs.Texts.{continue_text}
 use Rattle.kcr_desk.specs.Run.{ending_text, IsNext, nothing, continues, ends}
 use Rattle.kcr_desk.specs.Turn.{BreaksTurn}
-use Rattle.kcr_desk.specs.Written.{WritesFront}
+use Rattle.kcr_print.specs.Written.{WritesFront}
 use Rattle.kcr_desk.proofs.FoundLemmas.{known_split, at_end}
-use Rattle.kcr_desk.proofs.WrittenLemmas.{appends_nothing}
+use Rattle.kcr_print.proofs.WrittenLemmas.{appends_nothing}
 
 pub breaks_at_once : (left a : Option (List ℕ)) → BreaksTurn left a a
 breaks_at_once left a = record { next = []; is_next = λ bytes e. nothing; written = (0, appends_nothing a) }

@@ -9,5 +9,4 @@ pub mod Run
 pub mod Texts
 pub mod Told
 pub mod Turn
-pub mod Written
 pub mod Answers

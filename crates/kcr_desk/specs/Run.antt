@@ -8,7 +8,7 @@ use Rattle.kcr_base.specs.declared.refusal.Refusal.TheVariants.{Cut}
 use Rattle.kcr_desk.specs.Plans.{is_head}
 use Rattle.kcr_desk.specs.Stream.{Message, Ending, quiet, refused, cut_off, HasHead, IsMessage, IsEnd, IsCut, plan_of}
 use Rattle.kcr_desk.specs.Texts.{Told, answer_text, continue_text, told_of}
-use Rattle.kcr_desk.specs.Written.{WritesFront}
+use Rattle.kcr_print.specs.Written.{WritesFront}
 
 -- what the register is asked
 pub record Asked : Type 0 where

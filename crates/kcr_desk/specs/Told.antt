@@ -1,12 +1,13 @@
 -- A reply as clauses see it.
 use Rattle.std.specs.Prelude.{ℕ, List}
 use Rattle.kcr_desk.specs.declared.reply.Body.{Body}
-use Rattle.kcr_desk.specs.declared.reply.Body.TheVariants.{Made, Fixed}
+use Rattle.kcr_desk.specs.declared.reply.Body.TheVariants.{Made, Printed, Fixed}
 use Rattle.kcr_desk.specs.declared.reply.Reply.{Reply}
 use Rattle.kcr_desk.specs.Texts.{Told}
 
 abbrev pub body_bytes : Body → List ℕ
 body_bytes (Made text) = text
+body_bytes (Printed bytes) = bytes.items
 body_bytes (Fixed text) = text.now
 
 abbrev pub told : Reply → Told

@@ -10,7 +10,7 @@ use Rattle.kcr_desk.specs.Stream.{Ending}
 use Rattle.kcr_desk.specs.Found.{IsReady, EndsAs}
 use Rattle.kcr_desk.specs.Texts.{continue_text}
 use Rattle.kcr_desk.specs.Run.{Asked, ending_text, IsNext}
-use Rattle.kcr_desk.specs.Written.{WritesFront}
+use Rattle.kcr_print.specs.Written.{WritesFront}
 
 -- left is what is known of the stream, and buf the bytes that were taken in
 abbrev pub IsTurn : Option (List ℕ) → List ℕ → Option (List ℕ) → Option (List ℕ) → Turn → Type 0

@@ -3,20 +3,23 @@ ghost use Rattle.std.specs.Prelude.{◌≡◌, ◌⊎◌, ℕ, List, [], IsTrue,
 ghost use Rattle.sqlite.specs.Held.{state};
 ghost use Rattle.sqlite.specs.State.{HasCleanDisk};
 ghost use Rattle.kcr_wire.specs.Commands.{command_of};
-ghost use Rattle.kcr_wire.specs.Questions.{question_of};
+ghost use Rattle.kcr_wire.specs.Inquiries.{inquiry_of};
+ghost use Rattle.kcr_history.specs.Prints as report;
+ghost use Rattle.kcr_store.specs.Steps.{IsAsked};
 ghost use Rattle.kcr_wire.specs.declared.method.Method.TheVariants.{Post};
 ghost use Rattle.kcr_history.specs.Refusals.{carries};
 ghost use Rattle.kcr_base.specs.declared.refusal.Refusal.TheVariants as Refusals;
-ghost use Rattle.kcr_desk.specs.Answers.{Answers, AnswersAs, Answered, AnswersCommand, AnswersQuestion, method_of, told_text, told_refusal, told_shown, allowed, IsRefused, TakesQuestion, Replies};
+ghost use Rattle.kcr_desk.specs.Answers.{Answers, AnswersAs, Answered, AnswersCommand, AnswersReading, AnswersInquiry, IsReported, method_of, told_text, told_refusal, told_shown, told_report, allowed, IsRefused, TakesInquiry, RepliesInquiry, TellsOrMemory, refusal_of, outcome_of};
 ghost use Rattle.kcr_desk.specs.Told.{told};
 
 use crate::reply::{Body, Heading, Kind, Reply, refusal_heading};
 use crate::responder::Responder;
 use http::StatusCode;
-use kcr_base::{Refusal, Text};
+use kcr_base::{CeremonyNumber, Counted, Refusal, Text};
 use kcr_history::{Command, Question, fixed_text};
+use kcr_print::{PrintFault, annotated, attendance_csv};
 use kcr_store::Register;
-use kcr_wire::{Allow, Method, Paths, write_refusal, write_shown};
+use kcr_wire::{Allow, Inquiry, Method, Paths, write_refusal, write_shown};
 use sqlite::Alter;
 use std::alloc::Global;
 
@@ -119,7 +122,7 @@ fn take_question<S: Alter>(
     target: &[u8],
     question: &Question,
 ) -> Reply
-    ensures { AnswersQuestion S.Store register.old target.now (told result) register.new question.now }
+    ensures { AnswersReading S.Store register.old target.now (told result) register.new (told_shown target.now) (λ A shown. IsAsked A question.now shown) }
 {
     match register.look(question) {
         Ok(shown) => {
@@ -129,6 +132,89 @@ fn take_question<S: Alter>(
             }
         }
         Err(refusal) => refused_reply(alloc, paths, target, &refusal),
+    }
+}
+
+/// Why a report was not printed whole into memory, where a write fails for want of it.
+fn refusal_of(fault: PrintFault) -> Refusal
+    ensures { result ≡ refusal_of fault }
+{
+    match fault {
+        PrintFault::Refused(refusal) => refusal,
+        PrintFault::Write => Refusal::Memory,
+    }
+}
+
+/// Tells a report of this kind that was printed into memory, or why it was not printed whole.
+fn report_reply(
+    alloc: Global,
+    paths: &Paths,
+    target: &[u8],
+    kind: Kind,
+    text: Vec<u8>,
+    outcome: Result<(), PrintFault>,
+) -> Reply
+    ensures { TellsOrMemory (told_report kind target.now) target.now (outcome_of outcome text.items) (told result) }
+{
+    match outcome {
+        Ok(()) => {
+            Reply {
+                heading: Heading {
+                    status: StatusCode::OK,
+                    kind,
+                    allow: None,
+                },
+                body: Body::Printed(text),
+            }
+        }
+        Err(fault) => refused_reply(alloc, paths, target, &refusal_of(fault)),
+    }
+}
+
+/// Prints the annotated script of a ceremony into memory, and tells it.
+fn take_script<S: Alter>(
+    alloc: Global,
+    register: &mut Register<S>,
+    paths: &Paths,
+    target: &[u8],
+    ceremony: CeremonyNumber,
+) -> Reply
+    ensures { AnswersReading S.Store register.old target.now (told result) register.new (told_report Kind.Text target.now) (IsReported report.annotated ceremony) }
+{
+    let mut page = Counted::new(Vec::new(alloc));
+    let outcome = annotated(alloc, register, ceremony, &mut page);
+    report_reply(alloc, paths, target, Kind::Text, page.into_inner(), outcome)
+}
+
+/// Prints the attendance of a ceremony into memory, and tells it.
+fn take_attendance<S: Alter>(
+    alloc: Global,
+    register: &mut Register<S>,
+    paths: &Paths,
+    target: &[u8],
+    ceremony: CeremonyNumber,
+) -> Reply
+    ensures { AnswersReading S.Store register.old target.now (told result) register.new (told_report Kind.Csv target.now) (IsReported report.attendance ceremony) }
+{
+    let mut page = Counted::new(Vec::new(alloc));
+    let outcome = attendance_csv(alloc, register, ceremony, &mut page);
+    report_reply(alloc, paths, target, Kind::Csv, page.into_inner(), outcome)
+}
+
+/// Asks the register for what a GET or HEAD asks for, and tells it.
+fn take_inquiry<S: Alter>(
+    alloc: Global,
+    register: &mut Register<S>,
+    paths: &Paths,
+    target: &[u8],
+    inquiry: Inquiry,
+) -> Reply
+    ensures { AnswersInquiry S.Store register.old target.now (told result) register.new inquiry }
+{
+    match inquiry {
+        Inquiry::Question(question) => take_question(alloc, register, paths, target, &question),
+        Inquiry::Script(ceremony) => take_script(alloc, register, paths, target, ceremony),
+        Inquiry::Attendance(ceremony) => take_attendance(alloc, register, paths, target, ceremony),
     }
 }
 
@@ -148,8 +234,8 @@ fn answer_post<S: Alter>(
     }
 }
 
-/// Any other message is a question, or refused for its path or its method.
-fn answer_question<S: Alter>(
+/// Any other message asks for something, or is refused for its path or its method.
+fn answer_inquiry<S: Alter>(
     alloc: Global,
     register: &mut Register<S>,
     paths: &Paths,
@@ -157,11 +243,11 @@ fn answer_question<S: Alter>(
     target: &[u8],
 ) -> Reply
     ensures { Answered S.Store register.old target.now (told result) register.new
-        (λ before after. MatchResult (question_of method target.now) (TakesQuestion before target.now (told result) after) (IsRefused before target.now (told result) after))
-        (λ before after. MatchResult (question_of method target.now) (λ _. Replies (told_shown target.now) before target.now (told result) after) (IsRefused before target.now (told result) after)) }
+        (λ before after. MatchResult (inquiry_of method target.now) (TakesInquiry before target.now (told result) after) (IsRefused before target.now (told result) after))
+        (λ before after. MatchResult (inquiry_of method target.now) (RepliesInquiry before target.now (told result) after) (IsRefused before target.now (told result) after)) }
 {
-    match paths.read_question(method, target) {
-        Ok(question) => take_question(alloc, register, paths, target, &question),
+    match paths.read_inquiry(method, target) {
+        Ok(inquiry) => take_inquiry(alloc, register, paths, target, inquiry),
         Err(refusal) => refused_reply(alloc, paths, target, &refusal),
     }
 }
@@ -179,7 +265,7 @@ fn answer_by<S: Alter>(
 {
     match method_of(method) {
         Method::Post => answer_post(alloc, register, paths, target, body),
-        other => answer_question(alloc, register, paths, other, target),
+        other => answer_inquiry(alloc, register, paths, other, target),
     }
 }
 

@@ -1,4 +1,5 @@
 //! Why a stream was not answered to its end.
+use kcr_print::Unwritten;
 use std::alloc::AllocError;
 
 /// Why a stream was not answered to its end. What was written is a beginning of the answers of its messages.
@@ -20,5 +21,16 @@ impl From<AllocError> for DeskFault {
 
     fn from(_error: AllocError) -> DeskFault {
         DeskFault::Memory
+    }
+}
+
+impl From<Unwritten> for DeskFault {
+    ghost use Rattle.std.specs.Prelude.{◌≡◌};
+    ghost use Rattle.kcr_desk.specs.declared.fault.DeskFault.TheVariants.{Write};
+
+    ghost from_gives = { λ _ e. e ≡ Write };
+
+    fn from(_error: Unwritten) -> DeskFault {
+        DeskFault::Write
     }
 }

@@ -1,7 +1,7 @@
-//! Writing whole pieces, by one loop over `write`.
+//! Writing whole pieces.
 ghost use Rattle.std.specs.Prelude.{◌≡◌, ◌<◌, OnErr, OnOk};
 ghost use Rattle.kcr_base.specs.Counted.{inner_of, failures_of};
-ghost use Rattle.kcr_desk.specs.Written.{Writes};
+ghost use Rattle.kcr_print.specs.Written.{Writes};
 
 use crate::fault::DeskFault;
 use kcr_base::Counted;
@@ -13,13 +13,6 @@ pub(crate) fn put<W: Write>(writer: &mut Counted<W>, piece: &[u8]) -> Result<(),
     ensures calm { OnOk result (failures_of writer.new ≡ failures_of writer.old) }
     ensures fault { OnErr result ((result ≡ Err DeskFault.Write) × (failures_of writer.old < failures_of writer.new)) }
 {
-    let mut at = 0;
-    while at < piece.len() {
-        match writer.write(&piece[at..]) {
-            Ok(0) => return Err(DeskFault::Write),
-            Ok(count) => at += count,
-            Err(_) => return Err(DeskFault::Write),
-        }
-    }
+    kcr_print::put(writer, piece)?;
     Ok(())
 }

@@ -4,7 +4,7 @@ ghost use Rattle.std.specs.Fmt.{decimal};
 ghost use Rattle.arrayvec.specs.ArrayVec.{array_vec_len};
 ghost use Rattle.kcr_base.specs.Counted.{inner_of, failures_of};
 ghost use Rattle.kcr_base.specs.Refusal.{status_of};
-ghost use Rattle.kcr_desk.specs.Written.{Writes};
+ghost use Rattle.kcr_print.specs.Written.{Writes};
 ghost use Rattle.kcr_desk.specs.Texts.{phrase_of, kind_text, line, field, allow_line, close_text, head_text, shown_text, answer_text, plain_text, continue_text, told_of};
 ghost use Rattle.kcr_desk.specs.Told.{told};
 ghost use Rattle.kcr_desk.specs.declared.reply.Kind.TheVariants.{Json};
@@ -42,6 +42,8 @@ pub struct Heading {
 pub enum Body {
     /// A text that was made in memory.
     Made(Text),
+    /// A report that was printed into memory.
+    Printed(Vec<u8>),
     /// A text that stands in the program.
     Fixed(&'static str),
 }
@@ -216,6 +218,7 @@ pub(crate) fn put_answer<W: Write>(
 {
     match &reply.body {
         Body::Made(text) => put_parts(writer, reply.heading, text.as_bytes(), bare, closes),
+        Body::Printed(bytes) => put_parts(writer, reply.heading, bytes.as_slice(), bare, closes),
         Body::Fixed(text) => put_parts(writer, reply.heading, text.as_bytes(), bare, closes),
     }
 }

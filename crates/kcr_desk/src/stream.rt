@@ -6,7 +6,7 @@ ghost use Rattle.kcr_desk.specs.Intake.{Stays};
 ghost use Rattle.kcr_desk.specs.Found.{IsReady, HasPlan};
 ghost use Rattle.kcr_desk.specs.Plans.{is_head};
 ghost use Rattle.kcr_desk.specs.Texts.{Told, answer_text};
-ghost use Rattle.kcr_desk.specs.Written.{Writes};
+ghost use Rattle.kcr_print.specs.Written.{Writes};
 ghost use Rattle.kcr_desk.specs.Run.{IsServed, IsBroken, Exchange, Begins, messages_of, exchange_text, output};
 ghost use Rattle.std.specs.List.{flat_map};
 ghost use Rattle.kcr_desk.specs.Stream.{Message, Ending, IsCut};

@@ -1,13 +1,17 @@
--- What is shown of custodians, of a bag and of a room, out of the rows of the tables.
-use Rattle.std.proofs.Common.{◌≡◌, ℕ, suc, ◌<◌, ◌==◌, Bool, true, false, not, ◌||◌, cond, List, [], ◌∷◌, map, filter, reverse, length, Some, refl, sym, ap, ◌∙◌, subst, subst₂, arith}
-use Rattle.std.specs.Prelude.{AllPairs, IsTrue}
-use Rattle.std.specs.List.{list_any}
+-- What is shown of custodians, of a bag, of a ceremony and of a room, out of the rows of the tables.
+use Rattle.std.proofs.Common.{◌≡◌, ℕ, suc, ◌<◌, ◌==◌, Bool, true, false, not, ◌||◌, cond, List, [], ◌∷◌, map, filter, reverse, length, Option, Some, None, refl, inr, sym, ap, ◌∙◌, subst, subst₂, arith}
+use Rattle.std.specs.Prelude.{AllPairs, IsTrue, slice_get, MatchResult}
+use Rattle.std.specs.Option.{ok_or}
+use Rattle.std.specs.List.{list_any, find}
 use Rattle.std.specs.List.Sorted.{IsPermutation}
 use Rattle.std.proofs.lemmas.Bool.{eqb-true}
 use Rattle.std.proofs.lemmas.List.{get_or-map, length-map}
 use Rattle.std.proofs.lemmas.List.Kept.{AllPairs-filter}
 use Rattle.std.proofs.lemmas.List.Sorted.{IsPermutation-map, list_any-IsPermutation}
+use Rattle.sqlite_keyed.proofs.ListLemmas.{slice_get-filter}
 use Rattle.kcr_base.specs.Same.{is_before}
+use Rattle.kcr_base.specs.declared.refusal.Refusal.TheVariants.{Unknown}
+use Rattle.kcr_base.specs.declared.refusal.Thing.TheVariants as Things
 use Rattle.kcr_base.proofs.RowsLemmas.{filter-order}
 use Rattle.kcr_people.specs.People.{holder_by}
 use Rattle.kcr_custody.specs.declared.Bag.{Bag}
@@ -27,13 +31,14 @@ use Rattle.kcr_history.specs.Views.{is_of_serial, is_of_number, is_stay_of}
 use Rattle.kcr_machine.proofs.BagsWords.{spot-shown}
 use Rattle.kcr_machine.proofs.InRoom.{holder-shown, present-shown}
 use Rattle.kcr_machine.proofs.Keyed.{any-map}
-use Rattle.kcr_machine.proofs.Scenes.{planned-number}
+use Rattle.kcr_machine.proofs.Scenes.{planned-number, ceremony-shown}
 use Rattle.kcr_tables.specs.Held.{Tables}
 use Rattle.kcr_tables.specs.Joint.{Stands}
 use Rattle.kcr_tables.proofs.JointLemmas.{Rises}
 use Rattle.kcr_tables.proofs.ViewLemmas.{asked_shows}
 use Rattle.kcr_history.specs.declared.questions.BagShown.{BagShown}
 use Rattle.kcr_history.specs.Questions.{holders_by, holders_on, IsBagShown}
+use Rattle.kcr_store.specs.Rows.{IsRowOf, HasNoRow}
 use Rattle.kcr_store.proofs.StoreLemmas.{by_code}
 
 -- ---- lists
@@ -93,6 +98,28 @@ module _ (A : History) (register : IsRegister A) (t : Tables) (stands : Stands (
       ∙ list_any-IsPermutation (is_of_number ceremony) (ceremonies A) t.ceremonies stands.ceremonies
       ∙ some_kept (is_of_number ceremony) t.ceremonies
       ∙ ap (λ l. not (length l == 0)) (sym is)
+
+  -- the first of the rows of the ceremony is its row, and where there is none it was never planned
+  pub row_shown : (ceremony : ℕ) (rows : List CeremonyRow) → rows ≡ filter (is_of_number ceremony) t.ceremonies
+      → MatchResult (ok_or (slice_get rows 0) (Unknown (Things.Ceremony ceremony))) (IsRowOf A ceremony) (HasNoRow A ceremony)
+  row_shown ceremony rows is = by_plan (is_ceremony A ceremony) refl
+    where
+      Says : Option CeremonyRow → Type 0
+      Says row = MatchResult (ok_or row (Unknown (Things.Ceremony ceremony))) (IsRowOf A ceremony) (HasNoRow A ceremony)
+
+      first : slice_get rows 0 ≡ find (is_of_number ceremony) t.ceremonies
+      first = ap (λ l. slice_get l 0) is ∙ slice_get-filter (is_of_number ceremony) t.ceremonies
+
+      ordered : IsPermutation (filter (is_of_number ceremony) (ceremonies A)) (filter (is_of_number ceremony) t.ceremonies)
+      ordered = filter-order (is_of_number ceremony) (ceremonies A) t.ceremonies stands.ceremonies
+
+      by_plan : (b : Bool) → is_ceremony A ceremony ≡ b → Says (slice_get rows 0)
+      by_plan true e =
+          let there : slice_get rows 0 ≡ Some (ceremony_row A ceremony) = first ∙ rw e at (ceremony-shown A ceremony t.ceremonies ordered) in
+          subst Says (sym there) (record { planned = e; row_is = refl })
+      by_plan false e =
+          let none : slice_get rows 0 ≡ None = first ∙ rw e at (ceremony-shown A ceremony t.ceremonies ordered) in
+          subst Says (sym none) (inr (e, refl))
 
   -- who is in the room
   pub present_shown : (ceremony at : ℕ) (rows : List Stay) → rows ≡ filter (is_stay_of ceremony) t.stays → present_in_by rows ceremony at ≡ present A ceremony at

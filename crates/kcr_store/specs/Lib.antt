@@ -4,3 +4,4 @@ pub mod Stored
 pub mod Register
 pub mod Performed
 pub mod Opening
+pub mod Rows

@@ -1,4 +1,4 @@
-//! One command as one transaction, and one question as one that changes nothing.
+//! One command as one transaction, and one question or one row of a report as one that changes nothing.
 ghost use Rattle.std.specs.Prelude.{◌≡◌, false, Ok, Err, IsTrue, IfOk, IfErr, OnOk, MatchResult};
 ghost use Rattle.sqlite.specs.State.{HasCleanDisk, KeepsCommit, Survives};
 ghost use Rattle.sqlite.specs.Held.{state};
@@ -8,6 +8,7 @@ ghost use Rattle.kcr_store.specs.Stored.{Stores, OfStored};
 ghost use Rattle.kcr_history.specs.Questions.{ArePeopleShown, AreCustodiansShown, IsBagShown, IsRoomShown};
 ghost use Rattle.kcr_store.specs.Steps.{Steps, with_answer, IsNext, IsAsked, IsRefused, MayRefuse};
 ghost use Rattle.kcr_store.specs.Register.{IsWhole, LeavesEither};
+ghost use Rattle.kcr_store.specs.Rows.{GivesNext, IsRowOf, HasNoRow, MayHaveNoRow};
 ghost use Rattle.kcr_store.specs.Performed.{history_after, tried_after, answer_of, is_torn, is_founded_after};
 
 use crate::past::Past;
@@ -21,6 +22,7 @@ use kcr_history::{
 };
 use kcr_machine::decide;
 use kcr_people::{Appointment, Person, Training, Withdrawal};
+use kcr_reading::Reading;
 use kcr_room::{Stay, present_in};
 use kcr_tables::{all_rows, make_changes, rows_under, view_of};
 use sqlite::{Alter, Connection, Error, ErrorCode, Transaction};
@@ -232,4 +234,65 @@ fn read_room<S: Alter>(
     let stays = rows_under::<_, u32, Stay>(alloc, tx, &number)?;
     let people = present_in(alloc, &stays, number, at)?;
     Ok(RoomShown { at, people })
+}
+
+/// The next row of a reading, in a transaction that is rolled back.
+pub(crate) fn next_of<S: Alter, R: Reading>(
+    alloc: Global,
+    conn: &mut Connection<S>,
+    reading: &mut R,
+) -> Result<Option<R::Row>, Refusal>
+    requires autocommit { conn.old.in_transaction ≡ false }
+    ensures autocommit { conn.new.in_transaction ≡ false }
+    ensures clean { HasCleanDisk (state S.Store conn.new) → HasCleanDisk (state S.Store conn.old) }
+    ensures gives { (A : History) → IsWhole A (state S.Store conn.old) → HasCleanDisk (state S.Store conn.new)
+        → GivesNext R.to_come reading.old reading.new result A }
+    ensures whole { (A : History) → IsWhole A (state S.Store conn.old) → IsWhole A (state S.Store conn.new) }
+    ensures cause { IfErr result IsFault }
+{
+    let mut tx = conn.transaction();
+    let row = reading.step(alloc, &mut tx);
+    tx.rollback();
+    row
+}
+
+/// The row of a ceremony, in a transaction that is rolled back.
+pub(crate) fn read_ceremony<S: Alter>(
+    alloc: Global,
+    conn: &mut Connection<S>,
+    ceremony: CeremonyNumber,
+) -> Result<CeremonyRow, Refusal>
+    requires autocommit { conn.old.in_transaction ≡ false }
+    ensures autocommit { conn.new.in_transaction ≡ false }
+    ensures clean { HasCleanDisk (state S.Store conn.new) → HasCleanDisk (state S.Store conn.old) }
+    ensures row { (A : History) → IsWhole A (state S.Store conn.old) → HasCleanDisk (state S.Store conn.new)
+        → MatchResult result (IsRowOf A ceremony) (HasNoRow A ceremony) }
+    ensures whole { (A : History) → IsWhole A (state S.Store conn.old) → IsWhole A (state S.Store conn.new) }
+    ensures cause { IfErr result (MayHaveNoRow ceremony) }
+{
+    let mut tx = conn.transaction();
+    let row = planned_row(alloc, &mut tx, ceremony);
+    tx.rollback();
+    row
+}
+
+/// The row of a ceremony; one that was never planned is refused as unknown.
+fn planned_row<S: Alter>(
+    alloc: Global,
+    tx: &mut Transaction<'_, S>,
+    ceremony: CeremonyNumber,
+) -> Result<CeremonyRow, Refusal>
+    ensures same_reference { tx.new.conn.ghost_name ≡ tx.old.conn.ghost_name }
+    ensures row { OfStored (state S.Store tx.old.conn.now) (state S.Store tx.new.conn.now)
+        (λ A. MatchResult result (IsRowOf A ceremony) (HasNoRow A ceremony)) }
+    ensures kept { HasCleanDisk (state S.Store tx.new.conn.now) → IsTrue (state S.Store tx.old.conn.now).in_transaction
+        → KeepsCommit (state S.Store tx.old.conn.now) (state S.Store tx.new.conn.now) }
+    ensures survives { Survives (state S.Store tx.old.conn.now) (state S.Store tx.new.conn.now) (λ _. ⊥) }
+    ensures cause { IfErr result (MayHaveNoRow ceremony) }
+{
+    let number = ceremony.get();
+    let planned = rows_under::<_, u32, CeremonyRow>(alloc, tx, &number)?;
+    planned.first().copied().ok_or(Refusal::Unknown {
+        thing: Thing::Ceremony(number),
+    })
 }

@@ -16,11 +16,11 @@ use std::marker::Model;
 /// The commands that were accepted, kept in a database. Clauses see its connection, the history of what it accepted,
 /// and, once it is broken, the history that a crash may leave in place of that one.
 pub struct Register<S: Alter> {
-    conn: Connection<S>,
-    broken: bool,
+    pub(crate) conn: Connection<S>,
+    pub(crate) broken: bool,
     past: Past,
     tried: Past,
-    alloc: Global,
+    pub(crate) alloc: Global,
 }
 
 impl<S: Alter + Drop> Drop for Register<S> {

@@ -1,7 +1,7 @@
 //! What the program does with its words.
 ghost use Rattle.std.specs.Prelude.{◌≡◌, ◌≢◌, ◌⊎◌, ◌≤◌, [], Some, IfOk, IfErr, OnErr, map, string_bytes};
 ghost use Rattle.kcr_base.specs.Counted.{inner_of};
-ghost use Rattle.kcr_desk.specs.Written.{WritesFront};
+ghost use Rattle.kcr_print.specs.Written.{WritesFront};
 ghost use Rattle.kcr_tool.specs.declared.act.Fault.{Fault};
 ghost use Rattle.kcr_tool.specs.Faults.{line_of, HasCause};
 ghost use Rattle.kcr_tool.specs.Tasks.{task_of, faults_of};

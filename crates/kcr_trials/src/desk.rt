@@ -44,10 +44,10 @@ impl Read for Front<'_> {
 
 /// It takes at most `width` bytes a call, and fails once it has taken so many calls.
 #[derive(Drop)]
-struct Narrow {
-    bytes: Vec<u8>,
-    width: usize,
-    left: usize,
+pub(crate) struct Narrow {
+    pub(crate) bytes: Vec<u8>,
+    pub(crate) width: usize,
+    pub(crate) left: usize,
 }
 
 impl Write for Narrow {

@@ -7,6 +7,8 @@ mod asserts;
 #[cfg(test)]
 mod desk;
 #[cfg(test)]
+mod reports;
+#[cfg(test)]
 mod rows;
 #[cfg(test)]
 mod store;

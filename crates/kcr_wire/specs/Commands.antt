@@ -99,7 +99,7 @@ putting ceremony serial d = after (key_at d) (λ key. after (to_at d) (λ to. af
 abbrev pub cutting : ℕ → List ℕ → Data → Result Command Refusal
 cutting ceremony serial d = after (key_at d) (λ key. after (at_at d) (λ at. Ok (keyed key (act.Cut ceremony serial at))))
 
--- the command that a path takes, with its members in their order, or that it asks a question alone
+-- the command that a path takes, with its members in their order, or that it takes inquiries alone
 abbrev pub command_by : Target → Data → Result Command Refusal
 command_by target.People d = entering d
 command_by (target.Roles who) d = training who d

@@ -3,5 +3,5 @@ pub mod Routes
 pub mod Targets
 pub mod Members
 pub mod Commands
-pub mod Questions
+pub mod Inquiries
 pub mod Shows

@@ -6,7 +6,7 @@ use Rattle.matchit.specs.Router.{RouteOf, route_from}
 use Rattle.matchit.specs.Order.{placed}
 use Rattle.matchit.specs.declared.error.InsertError.{InsertError}
 use Rattle.kcr_wire.specs.declared.route.Route.{Route}
-use Rattle.kcr_wire.specs.declared.route.Route.TheVariants.{People, Roles, Withdrawals, Custodians, Replacement, Release, Boxes, Items, Ceremonies, Opening, Closing, Sheet, Signature, Exceptions, Safes, Seal, Take, Put, Cut, CustodiansOn, Bag, Room}
+use Rattle.kcr_wire.specs.declared.route.Route.TheVariants.{People, Roles, Withdrawals, Custodians, Replacement, Release, Boxes, Items, Ceremonies, Opening, Closing, Sheet, Signature, Exceptions, Safes, Seal, Take, Put, Cut, CustodiansOn, Bag, Room, Script, Attendance}
 
 -- a route as `matchit` reads it
 abbrev pub route_text : Route → List ℕ
@@ -32,12 +32,15 @@ route_text Cut = codes "/ceremonies/{n}/bags/{serial}/cut"
 route_text CustodiansOn = codes "/custodians/{day}"
 route_text Bag = codes "/bags/{serial}"
 route_text Room = codes "/ceremonies/{n}/room/{at}"
+route_text Script = codes "/ceremonies/{n}/script"
+route_text Attendance = codes "/ceremonies/{n}/attendance.csv"
 
 -- the routes in the order in which the router takes them
 abbrev pub all_routes : List Route
 all_routes =
     People ∷ Roles ∷ Withdrawals ∷ Custodians ∷ Replacement ∷ Release ∷ Boxes ∷ Items ∷ Ceremonies ∷ Opening ∷ Closing
-    ∷ Sheet ∷ Signature ∷ Exceptions ∷ Safes ∷ Seal ∷ Take ∷ Put ∷ Cut ∷ CustodiansOn ∷ Bag ∷ Room ∷ []
+    ∷ Sheet ∷ Signature ∷ Exceptions ∷ Safes ∷ Seal ∷ Take ∷ Put ∷ Cut ∷ CustodiansOn ∷ Bag ∷ Room
+    ∷ Script ∷ Attendance ∷ []
 
 -- what a router holds
 abbrev pub Held : Type 0

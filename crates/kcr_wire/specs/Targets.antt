@@ -68,6 +68,8 @@ target_by route.Cut path = with_parts target.Cut (ceremony_of (second_piece path
 target_by route.CustodiansOn path = option_map target.CustodiansOn (day_of (second_piece path))
 target_by route.Bag path = option_map target.Bag (serial_of (second_piece path))
 target_by route.Room path = with_parts target.Room (ceremony_of (second_piece path)) (moment_of (fourth_piece path))
+target_by route.Script path = option_map target.Script (ceremony_of (second_piece path))
+target_by route.Attendance path = option_map target.Attendance (ceremony_of (second_piece path))
 
 -- what a path asks for, by the route that the router finds for it
 abbrev pub target_at : List ℕ → Option Target
@@ -83,6 +85,8 @@ allowed target.People = allow.GetHeadPost
 allowed (target.CustodiansOn day) = allow.GetHead
 allowed (target.Bag serial) = allow.GetHead
 allowed (target.Room ceremony at) = allow.GetHead
+allowed (target.Script ceremony) = allow.GetHead
+allowed (target.Attendance ceremony) = allow.GetHead
 allowed _ = allow.Post
 
 -- the methods that a target takes, where it is a path of the register

@@ -2,7 +2,7 @@
 ghost use Rattle.std.specs.Prelude.{◌≡◌, ◌≤◌, length};
 ghost use Rattle.kcr_wire.specs.Targets.{allow_text};
 
-/// The methods that a path takes: those of a question, of both a question and a command, or of a
+/// The methods that a path takes: those of an inquiry, of both an inquiry and a command, or of a
 /// command.
 #[derive(Clone, Copy, PartialEq, Eq)]
 pub enum Allow {

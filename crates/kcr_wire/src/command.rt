@@ -321,7 +321,7 @@ fn cut(ceremony: CeremonyNumber, serial: Serial, body: &Value) -> Result<Command
     })
 }
 
-// The command that a body is at this path, or the refusal of a path that asks a question alone.
+// The command that a body is at this path, or the refusal of a path that takes inquiries alone.
 fn command_at(alloc: Global, target: &Target, body: &Value) -> Result<Command, Refusal>
     ensures { OrMemory result (command_by target.now (view body.now)) }
 {
@@ -345,7 +345,11 @@ fn command_at(alloc: Global, target: &Target, body: &Value) -> Result<Command, R
         Target::Take(ceremony, serial) => take(ceremony, serial, body),
         Target::Put(ceremony, serial) => put(ceremony, serial, body),
         Target::Cut(ceremony, serial) => cut(ceremony, serial, body),
-        Target::CustodiansOn(_) | Target::Bag(_) | Target::Room(_, _) => Err(Refusal::Method),
+        Target::CustodiansOn(_)
+        | Target::Bag(_)
+        | Target::Room(_, _)
+        | Target::Script(_)
+        | Target::Attendance(_) => Err(Refusal::Method),
     }
 }
 

@@ -30,10 +30,12 @@ pub enum Route {
     CustodiansOn,
     Bag,
     Room,
+    Script,
+    Attendance,
 }
 
 /// Every route, in the order in which the router takes them.
-pub const ROUTES: [Route; 22] = [
+pub const ROUTES: [Route; 24] = [
     Route::People,
     Route::Roles,
     Route::Withdrawals,
@@ -56,6 +58,8 @@ pub const ROUTES: [Route; 22] = [
     Route::CustodiansOn,
     Route::Bag,
     Route::Room,
+    Route::Script,
+    Route::Attendance,
 ];
 
 impl Route {
@@ -86,6 +90,8 @@ impl Route {
             Route::CustodiansOn => "/custodians/{day}",
             Route::Bag => "/bags/{serial}",
             Route::Room => "/ceremonies/{n}/room/{at}",
+            Route::Script => "/ceremonies/{n}/script",
+            Route::Attendance => "/ceremonies/{n}/attendance.csv",
         }
     }
 }

@@ -40,6 +40,8 @@ pub enum Target {
     CustodiansOn(Day),
     Bag(Serial),
     Room(CeremonyNumber, Moment),
+    Script(CeremonyNumber),
+    Attendance(CeremonyNumber),
 }
 
 // The place of the first question mark.
@@ -143,6 +145,8 @@ fn read_parts(route: Route, path: &[u8]) -> Option<Target>
         Route::CustodiansOn => Target::CustodiansOn(read_day(part)?),
         Route::Bag => Target::Bag(read_serial(part)?),
         Route::Room => Target::Room(read_ceremony(part)?, read_moment(other)?),
+        Route::Script => Target::Script(read_ceremony(part)?),
+        Route::Attendance => Target::Attendance(read_ceremony(part)?),
     };
     Some(target)
 }
@@ -210,7 +214,11 @@ impl Target {
     {
         match self {
             Target::People => Allow::GetHeadPost,
-            Target::CustodiansOn(_) | Target::Bag(_) | Target::Room(_, _) => Allow::GetHead,
+            Target::CustodiansOn(_)
+            | Target::Bag(_)
+            | Target::Room(_, _)
+            | Target::Script(_)
+            | Target::Attendance(_) => Allow::GetHead,
             Target::Roles(_)
             | Target::Withdrawals(_)
             | Target::Custodians

@@ -9,12 +9,12 @@ pub returns-in-Ok : goal.returns-in-Ok
 returns-in-Ok g c =
     taken_answered g.S.Store c.args.register.now c.take_command.new.register c.args.target.now (told c.take_command.result)
     (λ old new. TakesCommand old c.args.target.now (told c.take_command.result) new)
-    (λ old new. Replies (told_reply c.args.target.now) old c.args.target.now (told c.take_command.result) new)
+    (λ old new _. Replies (told_reply c.args.target.now) old c.args.target.now (told c.take_command.result) new)
     (command_of Post c.args.target.now c.args.body.now) c.in-Ok.command c.in-Ok.ensures c.take_command.ensures
 
 pub returns-in-Err : goal.returns-in-Err
 returns-in-Err g c =
     refused_answered g.S.Store c.args.register.now c.args.target.now (told c.refused_reply.result)
     (λ old new. TakesCommand old c.args.target.now (told c.refused_reply.result) new)
-    (λ old new. Replies (told_reply c.args.target.now) old c.args.target.now (told c.refused_reply.result) new)
+    (λ old new _. Replies (told_reply c.args.target.now) old c.args.target.now (told c.refused_reply.result) new)
     (command_of Post c.args.target.now c.args.body.now) c.in-Err.refusal c.in-Err.ensures c.refused_reply.ensures

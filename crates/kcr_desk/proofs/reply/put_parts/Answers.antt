@@ -1,8 +1,8 @@
 use Rattle.std.proofs.Common.{◌≡◌, ◌++◌, ◌∙◌, subst, length}
 use Rattle.kcr_base.specs.Counted.{inner_of}
-use Rattle.kcr_desk.specs.Written.{Writes}
+use Rattle.kcr_print.specs.Written.{Writes}
 use Rattle.kcr_desk.specs.Texts.{head_text, shown_text, answer_text}
-use Rattle.kcr_desk.proofs.WrittenLemmas.{writes_then}
+use Rattle.kcr_print.proofs.WrittenLemmas.{writes_then}
 use Rattle.kcr_desk.proofs.reply.put_parts.Goals as goal
 
 pub returns-clause-written : goal.returns-clause-written

@@ -7,7 +7,7 @@ use Rattle.kcr_desk.specs.Stream.{cut_off}
 use Rattle.kcr_desk.specs.Found.{EndsAs, HasPlan}
 use Rattle.kcr_desk.specs.Texts.{continue_text}
 use Rattle.kcr_desk.proofs.TurnLemmas.{ends_before, breaks_ending, breaks_continue, front_of_whole, ready, cut_ends}
-use Rattle.kcr_desk.proofs.WrittenLemmas.{appends_both, front_both}
+use Rattle.kcr_print.proofs.WrittenLemmas.{appends_both, front_both}
 use Rattle.kcr_desk.proofs.stream.take_message.Given.{Over}
 use Rattle.kcr_desk.proofs.stream.take_message.Goals as goal
 use Rattle.kcr_desk.proofs.stream.take_message.Goals.{After-put_refusal}

@@ -2,7 +2,7 @@ use Rattle.std.proofs.Common.{◌≡◌, ◌-◌, ◌≤◌, length, take, drop,
 use Rattle.std.proofs.lemmas.List.{take_all}
 use Rattle.std.specs.Io.KnownBytes.{Appends}
 use Rattle.std.proofs.Math.Seq.{take-add}
-use Rattle.kcr_desk.proofs.WrittenLemmas.{appends_both}
+use Rattle.kcr_print.proofs.WrittenLemmas.{appends_both}
 use Rattle.kcr_tool.proofs.act.tell.Goals as goal
 
 pub loop-at-preserved : goal.loop-at-preserved

@@ -1,0 +1,9 @@
+mod AttendanceLemmas
+mod CsvLemmas
+mod LineLemmas
+mod LinesLemmas
+mod PartLemmas
+mod ReportLemmas
+mod RowLemmas
+mod SeatLemmas
+pub mod WrittenLemmas

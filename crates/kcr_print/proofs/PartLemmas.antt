@@ -1,0 +1,202 @@
+-- Parts of a report that are written one after the other.
+use Rattle.std.proofs.Common.{◌≡◌, ℕ, ◌<◌, List, ◌++◌, inl, inr, refl, sym, ap, ◌∙◌, subst}
+use Rattle.std.specs.Prelude.{◌⊎◌, ⊤, Option, None, Result, Ok, Err, IfErr, IsErr, IsErrAnd, OnOk, IsTrue}
+use Rattle.std.proofs.lemmas.Bool.{false≢true}
+use Rattle.std.specs.Io.KnownBytes.{Appends}
+use Rattle.sqlite.specs.Store.{Ghosts}
+use Rattle.sqlite.specs.Held.{state}
+use Rattle.sqlite.specs.State.{HasCleanDisk}
+use Rattle.kcr_base.specs.Counted.{inner_of, failures_of}
+use Rattle.kcr_base.specs.declared.counted.Counted.{Counted}
+use Rattle.kcr_base.specs.declared.refusal.Refusal.{Refusal}
+use Rattle.kcr_history.specs.History.{History}
+use Rattle.kcr_tables.specs.Refusals.{IsFault}
+use Rattle.kcr_store.specs.Register.{Seen, IsKept}
+use Rattle.kcr_store.specs.Rows.{KeepsHistory, OfHistory}
+use Rattle.kcr_print.specs.Reports.{Stops, IsPrinted, TellsWrites, Puts}
+use Rattle.kcr_print.specs.Written.{Writes}
+use Rattle.kcr_print.specs.declared.fault.PrintFault.{PrintFault}
+use Rattle.kcr_print.specs.declared.fault.PrintFault.TheVariants.{Refused, Write}
+use Rattle.kcr_print.proofs.WrittenLemmas.{appends_both, appends_nothing, front_both, front_longer}
+
+-- WHY IT STOPS
+
+-- what stops a part that nothing denies stops any
+pub stops_weaker : (M : Refusal → Type 0) (fault : PrintFault) → Stops (λ _. ⊥) fault → Stops M fault
+stops_weaker M (Refused refusal) (inl f) = inl f
+stops_weaker M (Refused refusal) (inr none) = absurd none
+stops_weaker M Write h = tt
+
+pub cause_weaker : (M : Refusal → Type 0) (r : Result ⊤ PrintFault) → IfErr r (Stops (λ _. ⊥)) → IfErr r (Stops M)
+cause_weaker M (Ok v) h = h
+cause_weaker M (Err e) h = stops_weaker M e h
+
+-- WHERE IT IS WHOLE
+
+pub on_ok : {T E : Type 0} (r : Result T E) (P : Type 0) → P → OnOk r P
+on_ok (Ok v) P p = p
+on_ok (Err e) P p = tt
+
+pub not_ok : {T E : Type 0} (r : Result T E) (P : Type 0) → IsErr r → OnOk r P
+not_ok (Ok v) P h = absurd (false≢true h)
+not_ok (Err e) P h = tt
+
+-- THE BYTES
+
+printed_then : (D : Refusal → Type 0) (r : Result ⊤ PrintFault) (a b c : Option (List ℕ)) (x y : List ℕ) → Appends a b x → IsPrinted D y r b c → IsPrinted D (x ++ y) r a c
+printed_then D (Ok v) a b c x y p q = appends_both a b c x y p q
+printed_then D (Err e) a b c x y p q = (front_both a b c x y p q.0, q.1)
+
+printed_more : (D : Refusal → Type 0) (r : Result ⊤ PrintFault) (a b : Option (List ℕ)) (x y : List ℕ) → IsErr r → IsPrinted D x r a b → IsPrinted D (x ++ y) r a b
+printed_more D (Ok v) a b x y h p = absurd (false≢true h)
+printed_more D (Err e) a b x y h p = (front_longer a b x y p.0, p.1)
+
+printed_weaker : (D : Refusal → Type 0) (r : Result ⊤ PrintFault) (a b : Option (List ℕ)) (x : List ℕ) → IsPrinted (λ _. ⊥) x r a b → IsPrinted D x r a b
+printed_weaker D (Ok v) a b x p = p
+printed_weaker D (Err e) a b x p = (p.0, stops_weaker D e p.1)
+
+printed_of : (D : Refusal → Type 0) (r : Result ⊤ PrintFault) (a b : Option (List ℕ)) (x : List ℕ) → Writes r a b x → IfErr r (Stops (λ _. ⊥)) → IsPrinted D x r a b
+printed_of D (Ok v) a b x p q = p
+printed_of D (Err e) a b x p q = (p, stops_weaker D e q)
+
+told_then : {W : Type 0} (x y z : Counted W) (r : Result ⊤ PrintFault) → TellsWrites x y (Ok tt) → TellsWrites y z r → TellsWrites x z r
+told_then x y z r p q =
+    let still : failures_of y ≡ failures_of x = p.calm (λ e. cc e) in
+    record {
+      calm = λ ne. q.calm ne ∙ still;
+      fault = λ e. subst (λ n. n < failures_of z) still (q.fault e);
+    }
+
+-- PARTS
+
+err_is : {T E : Type 0} (r : Result T E) (e : E) → IsErrAnd r (λ fault. fault ≡ e) → r ≡ Err e
+err_is (Ok v) e h = absurd h
+err_is (Err x) e h = ap Err h
+
+pub keeps_refl : {S : Type 0} (a : Seen S) → KeepsHistory a a
+keeps_refl a = record { accepted = refl; torn = refl; founded = refl }
+
+pub keeps_both : {S : Type 0} (a b c : Seen S) → KeepsHistory a b → KeepsHistory b c → KeepsHistory a c
+keeps_both a b c p q = record { accepted = q.accepted ∙ p.accepted; torn = q.torn ∙ p.torn; founded = q.founded ∙ p.founded }
+
+module _ {S : Type 0} (g : Ghosts S) where
+  -- what is said of the history by a later call holds of it before
+  pub of_kept : (a b c : Seen S) (Says : History → Type 0) → KeepsHistory a b → OfHistory g b c Says → OfHistory g a c Says
+  of_kept a b c Says keeps says founded torn clean =
+      subst Says keeps.accepted (says (subst IsTrue (sym keeps.founded) founded) (keeps.torn ∙ torn) clean)
+
+  -- what is said of the history by an earlier call holds later
+  pub of_later : (a b c : Seen S) (Says : History → Type 0) → KeepsHistory a c → (HasCleanDisk (state g c.conn) → HasCleanDisk (state g b.conn)) → OfHistory g a b Says → OfHistory g c c Says
+  of_later a b c Says keeps clean says founded torn now =
+      subst Says (sym keeps.accepted) (says (subst IsTrue keeps.founded founded) (sym keeps.torn ∙ torn) (clean now))
+
+module _ {S W : Type 0} {g : Ghosts S} {contents : W → Option (List ℕ)} {D : History → Refusal → Type 0} {M : Refusal → Type 0} where
+  -- one part, and then another
+  pub puts_then : {a b c : Seen S} {x y z : Counted W} {r : Result ⊤ PrintFault} {t u : History → List ℕ}
+      → Puts g contents a b x y (Ok tt) D M t → Puts g contents b c y z r D M u → Puts g contents a c x z r D M (λ A. t A ++ u A)
+  puts_then {a} {b} {c} {x} {y} {z} {r} {t} {u} p q = record {
+    printed = λ founded torn clean.
+        let before = p.printed founded torn (q.clean clean) in
+        let after = q.printed (subst IsTrue (sym p.keeps.founded) founded) (p.keeps.torn ∙ torn) clean in
+        let P : History → Type 0 = λ A. IsPrinted (D A) (u A) r (contents (inner_of y)) (contents (inner_of z)) in
+        printed_then (D a.accepted) r _ _ _ (t a.accepted) (u a.accepted) before (subst P p.keeps.accepted after);
+    cause = q.cause;
+    keeps = keeps_both a b c p.keeps q.keeps;
+    clean = λ h. p.clean (q.clean h);
+    kept = q.kept;
+    told = told_then x y z r p.told q.told;
+  }
+
+  -- a part that stops, and what would have followed
+  pub puts_more : {a b : Seen S} {x y : Counted W} {r : Result ⊤ PrintFault} {t : History → List ℕ} (u : History → List ℕ) → IsErr r
+      → Puts g contents a b x y r D M t → Puts g contents a b x y r D M (λ A. t A ++ u A)
+  puts_more {a} {b} {x} {y} {r} {t} u h p = record {
+    printed = λ founded torn clean. printed_more (D a.accepted) r _ _ (t a.accepted) (u a.accepted) h (p.printed founded torn clean);
+    cause = p.cause;
+    keeps = p.keeps;
+    clean = p.clean;
+    kept = p.kept;
+    told = p.told;
+  }
+
+  -- the error that is handed on
+  pub puts_err : {a b : Seen S} {x y : Counted W} {t : History → List ℕ} (r : Result ⊤ PrintFault) (e : PrintFault) → IsErrAnd r (λ fault. fault ≡ e)
+      → Puts g contents a b x y (Err e) D M t → Puts g contents a b x y r D M t
+  puts_err {a} {b} {x} {y} {t} r e is p = subst (λ (o : Result ⊤ PrintFault). Puts g contents a b x y o D M t) (sym (err_is r e is)) p
+
+  -- a part that nothing denies
+  pub puts_weaker : {a b : Seen S} {x y : Counted W} {r : Result ⊤ PrintFault} {t : History → List ℕ}
+      → Puts g contents a b x y r (λ _ _. ⊥) (λ _. ⊥) t → Puts g contents a b x y r D M t
+  puts_weaker {a} {b} {x} {y} {r} {t} p = record {
+    printed = λ founded torn clean. printed_weaker (D a.accepted) r _ _ (t a.accepted) (p.printed founded torn clean);
+    cause = cause_weaker M r p.cause;
+    keeps = p.keeps;
+    clean = p.clean;
+    kept = p.kept;
+    told = p.told;
+  }
+
+  -- the same part, its text told otherwise
+  pub puts_text : {a b : Seen S} {x y : Counted W} {r : Result ⊤ PrintFault} (t u : History → List ℕ) → OfHistory g a b (λ A. t A ≡ u A)
+      → Puts g contents a b x y r D M t → Puts g contents a b x y r D M u
+  puts_text {a} {b} {x} {y} {r} t u same p = record {
+    printed = λ founded torn clean.
+        let P : List ℕ → Type 0 = λ text. IsPrinted (D a.accepted) text r (contents (inner_of x)) (contents (inner_of y)) in
+        subst P (same founded torn clean) (p.printed founded torn clean);
+    cause = p.cause;
+    keeps = p.keeps;
+    clean = p.clean;
+    kept = p.kept;
+    told = p.told;
+  }
+
+module _ {S W : Type 0} (g : Ghosts S) (contents : W → Option (List ℕ)) where
+  -- a call on the register, and then a text that is written
+  pub puts_line : (D : History → Refusal → Type 0) (M : Refusal → Type 0) (a b : Seen S) (x y : Counted W) (r : Result ⊤ PrintFault) (line : List ℕ) (t : History → List ℕ)
+      → OfHistory g a b (λ A. line ≡ t A) → KeepsHistory a b → (HasCleanDisk (state g b.conn) → HasCleanDisk (state g a.conn)) → IsKept g b
+      → Writes r (contents (inner_of x)) (contents (inner_of y)) line → IfErr r (Stops (λ _. ⊥)) → TellsWrites x y r
+      → Puts g contents a b x y r D M t
+  puts_line D M a b x y r line t same keeps clean kept written cause told = record {
+    printed = λ founded torn now.
+        let P : List ℕ → Type 0 = λ text. IsPrinted (D a.accepted) text r (contents (inner_of x)) (contents (inner_of y)) in
+        subst P (same founded torn now) (printed_of (D a.accepted) r _ _ line written cause);
+    cause = cause_weaker M r cause;
+    keeps = keeps;
+    clean = clean;
+    kept = kept;
+    told = told;
+  }
+
+  -- a call on the register that was refused before anything was written
+  pub puts_nothing : (D : History → Refusal → Type 0) (M : Refusal → Type 0) (a b : Seen S) (x : Counted W) (refusal : Refusal) (t : History → List ℕ)
+      → OfHistory g a b (λ A. IsFault refusal ⊎ D A refusal) → (IsFault refusal ⊎ M refusal) → KeepsHistory a b
+      → (HasCleanDisk (state g b.conn) → HasCleanDisk (state g a.conn)) → IsKept g b
+      → Puts g contents a b x x (Err (Refused refusal)) D M t
+  puts_nothing D M a b x refusal t why cause keeps clean kept = record {
+    printed = λ founded torn now. ((0, appends_nothing (contents (inner_of x))), why founded torn now);
+    cause = cause;
+    keeps = keeps;
+    clean = clean;
+    kept = kept;
+    told = record { calm = λ _. refl; fault = λ e. cc e };
+  }
+
+  -- rows that were written: they began with the register, and left it behind
+  pub puts_rows : (old began ended last : Seen S) (x y : Counted W) (r : Result ⊤ PrintFault) (t u : History → List ℕ)
+      → began ≡ old → last ≡ ended → old.torn ≡ None → ((A : History) → t A ≡ u A)
+      → OfHistory g began ended (λ A. Writes r (contents (inner_of x)) (contents (inner_of y)) (t A)) → (began.torn ≡ None → IfErr r (Stops (λ _. ⊥)))
+      → KeepsHistory began ended → (HasCleanDisk (state g ended.conn) → HasCleanDisk (state g began.conn)) → IsKept g ended → TellsWrites x y r
+      → Puts g contents old last x y r (λ _ _. ⊥) (λ _. ⊥) u
+  puts_rows old began ended last x y r t u begins ends whole same written cause keeps clean kept told =
+      let why = cause (ap (λ s. s.torn) begins ∙ whole) in
+      let P : List ℕ → Type 0 = λ text. IsPrinted (λ _. ⊥) text r (contents (inner_of x)) (contents (inner_of y)) in
+      let done : Puts g contents began ended x y r (λ _ _. ⊥) (λ _. ⊥) u = record {
+        printed = λ founded torn now. subst P (same began.accepted) (printed_of (λ _. ⊥) r _ _ (t began.accepted) (written founded torn now) why);
+        cause = why;
+        keeps = keeps;
+        clean = clean;
+        kept = kept;
+        told = told;
+      } in
+      let from = subst (λ (s : Seen S). Puts g contents s ended x y r (λ _ _. ⊥) (λ _. ⊥) u) begins done in
+      subst (λ (s : Seen S). Puts g contents old s x y r (λ _ _. ⊥) (λ _. ⊥) u) (sym ends) from

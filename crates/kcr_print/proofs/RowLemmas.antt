@@ -1,0 +1,49 @@
+-- Rows that are written one after the other.
+use Rattle.std.proofs.Common.{◌≡◌, ℕ, List, [], ◌∷◌, ◌++◌, refl, sym, ap, ◌∙◌, subst, append_assoc, append-nil}
+use Rattle.std.specs.Prelude.{Option, Result, Ok, Err, IsErr}
+use Rattle.std.specs.Io.KnownBytes.{Appends}
+use Rattle.std.specs.List.{flat_map}
+use Rattle.std.proofs.lemmas.Bool.{false≢true}
+use Rattle.kcr_print.specs.Written.{Writes, WritesFront}
+use Rattle.kcr_print.proofs.WrittenLemmas.{appends_both, appends_nothing, front_both, front_longer}
+
+-- some bytes were written of the whole, and these are left of it
+pub record Goes (old new : Option (List ℕ)) (whole rest : List ℕ) : Type 0 where
+  pub text : List ℕ
+  pub written : Appends old new text
+  pub is : whole ≡ text ++ rest
+
+pub goes_start : (a : Option (List ℕ)) (whole : List ℕ) → Goes a a whole whole
+goes_start a whole = record { text = []; written = appends_nothing a; is = refl }
+
+-- a row was written
+pub goes_more : {X : Type 0} (f : X → List ℕ) (a b c : Option (List ℕ)) (whole : List ℕ) (before after : List X) (row : X)
+    → Goes a b whole (flat_map f before) → before ≡ row ∷ after → Appends b c (f row) → Goes a c whole (flat_map f after)
+goes_more f a b c whole before after row g e p = record {
+  text = g.text ++ f row;
+  written = appends_both a b c g.text (f row) g.written p;
+  is = g.is ∙ ap (λ rows. g.text ++ flat_map f rows) e ∙ sym (append_assoc g.text (f row) (flat_map f after));
+}
+
+-- no row is left
+pub goes_end : {X : Type 0} (f : X → List ℕ) (a b : Option (List ℕ)) (whole : List ℕ) (before : List X)
+    → Goes a b whole (flat_map f before) → before ≡ [] → Appends a b whole
+goes_end f a b whole before g e =
+    subst (Appends a b) (sym (g.is ∙ ap (λ rows. g.text ++ flat_map f rows) e ∙ append-nil g.text)) g.written
+
+-- a row was begun
+pub goes_front : {X : Type 0} (f : X → List ℕ) (a b c : Option (List ℕ)) (whole : List ℕ) (before after : List X) (row : X)
+    → Goes a b whole (flat_map f before) → before ≡ row ∷ after → WritesFront b c (f row) → WritesFront a c whole
+goes_front f a b c whole before after row g e p =
+    subst (WritesFront a c) (sym (g.is ∙ ap (λ rows. g.text ++ flat_map f rows) e))
+    (front_both a b c g.text (f row ++ flat_map f after) g.written (front_longer b c (f row) (flat_map f after) p))
+
+-- no more is written
+pub goes_stop : (a b : Option (List ℕ)) (whole rest : List ℕ) → Goes a b whole rest → WritesFront a b whole
+goes_stop a b whole rest g =
+    subst (WritesFront a b) (sym g.is) (front_both a b b g.text rest g.written (0, appends_nothing b))
+
+-- what was written before an error is a beginning
+pub writes_err : {T E : Type 0} (r : Result T E) (a b : Option (List ℕ)) (whole : List ℕ) → IsErr r → WritesFront a b whole → Writes r a b whole
+writes_err (Ok v) a b whole h p = absurd (false≢true h)
+writes_err (Err e) a b whole h p = p

@@ -1,0 +1,57 @@
+-- Texts that are written one after the other.
+use Rattle.std.proofs.Common.{◌≡◌, ℕ, ◌+◌, ◌<◌, List, [], ◌∷◌, ◌++◌, length, take, drop, min, get_or, suc, sym, ap, ◌∙◌, subst, arith, append_assoc}
+use Rattle.std.specs.Prelude.{Option, Some, None, Result, Ok, Err}
+use Rattle.std.specs.Io.KnownBytes.{Appends}
+use Rattle.std.specs.List.{flat_map}
+use Rattle.std.proofs.lemmas.List.{append-nil, take-append-le, take-append-drop, take_min}
+use Rattle.std.proofs.lemmas.Grind.{flat_map-append}
+use Rattle.std.proofs.Math.Seq.{take-append-add, drop-cons}
+use Rattle.kcr_print.specs.Written.{WritesFront, Writes}
+
+pub appends_both : (a b c : Option (List ℕ)) (x y : List ℕ) → Appends a b x → Appends b c y → Appends a c (x ++ y)
+appends_both None b c x y p q = tt
+appends_both (Some a) (Some b) (Some c) x y p q = q ∙ ap (λ (t : List ℕ). t ++ y) p ∙ simp append_assoc
+appends_both (Some a) (Some b) None x y p q = absurd q
+appends_both (Some a) None c x y p q = absurd p
+
+pub appends_nothing : (a : Option (List ℕ)) → Appends a a []
+appends_nothing None = tt
+appends_nothing (Some a) = sym (append-nil a)
+
+-- some bytes, and then a beginning of y
+pub front_after : (a b c : Option (List ℕ)) (x y rest : List ℕ) → Appends a b x → WritesFront b c y → WritesFront a c (x ++ (y ++ rest))
+front_after a b c x y rest p q =
+    let n : ℕ = min q.0 (length y) in
+    let e : take n y ≡ take q.0 y = take_min q.0 y in
+    let f : take (length x + n) (x ++ (y ++ rest)) ≡ x ++ take q.0 y =
+    take-append-add x (y ++ rest) n ∙ ap (λ (t : List ℕ). x ++ t) (take-append-le n y rest (omega arith) ∙ e) in
+    (length x + n, subst (Appends a c) (sym f) (appends_both a b c x (take q.0 y) p q.1))
+
+pub pieces_split : {X : Type 0} (f : X → List ℕ) (xs : List X) (i : ℕ) (d : X) → i < length xs
+    → flat_map f xs ≡ flat_map f (take i xs) ++ (f (get_or xs i d) ++ flat_map f (drop (suc i) xs))
+pieces_split f xs i d h =
+    ap (flat_map f) (sym (take-append-drop i xs)) ∙ flat_map-append f (take i xs) (drop i xs)
+    ∙ ap (λ t. flat_map f (take i xs) ++ flat_map f t) (drop-cons xs i d h)
+
+pub writes_then : {T E : Type 0} (r : Result T E) (a b c : Option (List ℕ)) (x y : List ℕ)
+    → Appends a b x → Writes r b c y → Writes r a c (x ++ y)
+writes_then (Ok v) a b c x y p q = appends_both a b c x y p q
+writes_then (Err e) a b c x y p q =
+    subst (λ t. WritesFront a c (x ++ t)) (append-nil y) (front_after a b c x y [] p q)
+
+-- a beginning of x is one of x and more
+pub front_longer : (a b : Option (List ℕ)) (x y : List ℕ) → WritesFront a b x → WritesFront a b (x ++ y)
+front_longer a b x y p =
+    let n : ℕ = min p.0 (length x) in
+    let e : take n (x ++ y) ≡ take p.0 x = take-append-le n x y (omega arith) ∙ take_min p.0 x in
+    (n, subst (Appends a b) (sym e) p.1)
+
+-- twelve pieces, from the left and from the right
+pub regroup : (a b c d e f g h i j k l : List ℕ)
+    → a ++ b ++ c ++ d ++ e ++ f ++ g ++ h ++ i ++ j ++ k ++ l
+    ≡ flat_map {X = List ℕ} (λ line. line) (a ∷ b ∷ c ∷ d ∷ e ∷ f ∷ g ∷ h ∷ i ∷ j ∷ k ∷ l ∷ [])
+regroup a b c d e f g h i j k l = simp (append_assoc, append-nil)
+
+-- x, and then a beginning of y
+pub front_both : (a b c : Option (List ℕ)) (x y : List ℕ) → Appends a b x → WritesFront b c y → WritesFront a c (x ++ y)
+front_both a b c x y p q = subst (λ t. WritesFront a c (x ++ t)) (append-nil y) (front_after a b c x y [] p q)

@@ -1,0 +1,60 @@
+use Rattle.std.proofs.Common.{ℕ, List, refl}
+use Rattle.std.specs.List.{flat_map}
+use Rattle.kcr_room.specs.Stays.{stays_by, attendance_in_by}
+use Rattle.kcr_history.specs.History.{History}
+use Rattle.kcr_history.specs.Prints.{stay_line}
+use Rattle.kcr_history.specs.Room.{sheet}
+use Rattle.kcr_history.specs.Tables.{people, tables}
+use Rattle.kcr_reading.specs.ToCome.{named_stays}
+use Rattle.kcr_store.specs.Rows.{IsNotPlanned, NamesCeremony}
+use Rattle.kcr_print.specs.Lines.{header_line, named_line}
+use Rattle.kcr_print.proofs.AttendanceLemmas.{register_attendance}
+use Rattle.kcr_print.proofs.PartLemmas.{on_ok, not_ok, puts_then, puts_more, puts_err, puts_weaker, puts_text, puts_line, puts_nothing}
+use Rattle.kcr_print.proofs.parts.put_attendance.Goals as goal
+
+abbrev header : History → List ℕ
+header A = header_line
+
+abbrev stays : ℕ → History → List ℕ
+stays ceremony A = flat_map (stay_line (people A)) (attendance_in_by (stays_by (sheet A)) ceremony)
+
+abbrev read : ℕ → History → List ℕ
+read ceremony A = flat_map named_line (named_stays ceremony (tables A))
+
+pub returns-in_err-_planned-clause-puts : goal.returns-in_err-_planned-clause-puts
+returns-in_err-_planned-clause-puts g c =
+    let said = c.in_err-_planned.ensures in
+    puts_err _ _ c.from_residual.ensures.1
+    (puts_nothing g.S.Store g.W.Write.contents (λ A. IsNotPlanned A c.args.ceremony) (NamesCeremony c.args.ceremony) _ _ _ _ _ said.row (said.cause c.requires.whole) said.same said.clean said.kept)
+
+pub returns-in_err-put_row-clause-puts : goal.returns-in_err-put_row-clause-puts
+returns-in_err-put_row-clause-puts g c =
+    let n = c.args.ceremony in
+    let fault = c.from_residual-in_err-put_row.ensures in
+    let row = c.in_ok-_planned.ensures in
+    let said = c.in_err-put_row.ensures in
+    puts_more (stays n) fault.0 (puts_err _ _ fault.1
+    (puts_line g.S.Store g.W.Write.contents (λ A. IsNotPlanned A n) (NamesCeremony n) _ _ _ _ _ header_line header
+    (λ founded torn clean. refl) row.same row.clean row.kept said.written said.cause said.told))
+
+pub returns-clause-puts : goal.returns-clause-puts
+returns-clause-puts g c =
+    let n = c.args.ceremony in
+    let row = c.in_ok-_planned.ensures in
+    let said = c.in_ok-put_row.ensures in
+    let before = c.ceremony_row.new.self in
+    let begun = puts_line g.S.Store g.W.Write.contents (λ A. IsNotPlanned A n) (NamesCeremony n) c.args.register.now before c.args.writer.now c.put_row.new.writer _ header_line header
+    (λ founded torn clean. refl) row.same row.clean row.kept said.written said.cause said.told in
+    puts_then begun (puts_weaker (puts_text (read n) (stays n)
+    (λ founded torn clean. register_attendance g.S.Store before row.kept (g.met.S.Store.survives before.conn.store) founded torn (c.put_stays.ensures.clean clean) n)
+    c.put_stays.ensures))
+
+pub returns-in_err-_planned-clause-planned : goal.returns-in_err-_planned-clause-planned
+returns-in_err-_planned-clause-planned g c = λ founded torn clean. not_ok _ _ c.from_residual.ensures.0
+
+pub returns-in_err-put_row-clause-planned : goal.returns-in_err-put_row-clause-planned
+returns-in_err-put_row-clause-planned g c = λ founded torn clean. not_ok _ _ c.from_residual-in_err-put_row.ensures.0
+
+pub returns-clause-planned : goal.returns-clause-planned
+returns-clause-planned g c = λ founded torn clean.
+    on_ok c.put_stays.result _ (c.in_ok-_planned.ensures.row founded torn (c.put_stays.ensures.clean clean)).planned

@@ -1,0 +1,52 @@
+-- What a call that writes a report leaves.
+use Rattle.std.specs.Prelude.{◌≡◌, ◌≢◌, ◌<◌, ◌⊎◌, ◌↔◌, ⊤, ℕ, List, Option, None, Result, Err, IfErr, MatchResult, IsSome, unwrap_or}
+use Rattle.std.specs.Io.KnownBytes.{Appends}
+use Rattle.sqlite.specs.Store.{Ghosts}
+use Rattle.sqlite.specs.Held.{state}
+use Rattle.sqlite.specs.State.{HasCleanDisk}
+use Rattle.kcr_base.specs.Counted.{inner_of, failures_of}
+use Rattle.kcr_base.specs.declared.counted.Counted.{Counted}
+use Rattle.kcr_base.specs.declared.refusal.Refusal.{Refusal}
+use Rattle.kcr_base.specs.declared.refusal.Refusal.TheVariants as Refusals
+use Rattle.kcr_history.specs.History.{History}
+use Rattle.kcr_tables.specs.Refusals.{IsFault}
+use Rattle.kcr_store.specs.Register.{Seen, IsKept}
+use Rattle.kcr_store.specs.Rows.{KeepsHistory, OfHistory}
+use Rattle.kcr_print.specs.Written.{WritesFront}
+use Rattle.kcr_print.specs.declared.fault.PrintFault.{PrintFault}
+use Rattle.kcr_print.specs.declared.fault.PrintFault.TheVariants.{Refused, Write}
+
+-- memory was wanting, the device failed, or the report is refused for what it is asked for; or a write failed
+abbrev pub Stops : (Refusal → Type 0) → PrintFault → Type 0
+Stops Denies (Refused refusal) = IsFault refusal ⊎ Denies refusal
+Stops Denies Write = ⊤
+
+-- of a register with a history: the whole report is written, or a beginning of it and then why it stops
+abbrev pub IsPrinted : (Refusal → Type 0) → List ℕ → Result ⊤ PrintFault → Option (List ℕ) → Option (List ℕ) → Type 0
+IsPrinted Denies text result old new =
+    MatchResult result (λ _. Appends old new text) (λ fault. WritesFront old new text × Stops Denies fault)
+
+-- a call that reads a register that is not broken: its history stays, and a fault of the device alone breaks it
+pub record Leaves {S : Type 0} (before after : Seen S) (result : Result ⊤ PrintFault) : Type 0 where
+  pub same : after.accepted ≡ before.accepted
+  pub breaks : before.torn ≡ None → IsSome after.torn ↔ (result ≡ Err (Refused Refusals.Disk))
+  pub tried : before.torn ≡ None → unwrap_or after.torn after.accepted ≡ before.accepted
+  pub founded : after.is_founded ≡ before.is_founded
+
+-- the writer's count tells whether a write failed
+pub record TellsWrites {W : Type 0} (old new : Counted W) (result : Result ⊤ PrintFault) : Type 0 where
+  pub calm : result ≢ Err Write → failures_of new ≡ failures_of old
+  pub fault : result ≡ Err Write → failures_of old < failures_of new
+
+-- a part of a report over a register that is not broken: this text of its history is printed, the history stays, and a
+-- fault of the device has not broken the register yet; the part is denied only for what it is asked for
+pub record Puts {S W : Type 0} (g : Ghosts S) (contents : W → Option (List ℕ))
+    (before after : Seen S) (old new : Counted W) (result : Result ⊤ PrintFault)
+    (Denies : History → Refusal → Type 0) (MayDeny : Refusal → Type 0) (text : History → List ℕ) : Type 0 where
+  pub printed : OfHistory g before after
+      (λ A. IsPrinted (Denies A) (text A) result (contents (inner_of old)) (contents (inner_of new)))
+  pub cause : IfErr result (Stops MayDeny)
+  pub keeps : KeepsHistory before after
+  pub clean : HasCleanDisk (state g after.conn) → HasCleanDisk (state g before.conn)
+  pub kept : IsKept g after
+  pub told : TellsWrites old new result

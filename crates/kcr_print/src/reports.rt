@@ -1,0 +1,126 @@
+//! The three reports.
+
+ghost use Rattle.std.specs.Prelude.{◌≡◌, IsSome, IsTrue, IfErr, OnOk, Err, None};
+ghost use Rattle.sqlite.specs.State.{HasCleanDisk};
+ghost use Rattle.sqlite.specs.Held.{state};
+ghost use Rattle.kcr_base.specs.Counted.{inner_of};
+ghost use Rattle.kcr_history.specs.Ceremonies.{is_ceremony};
+ghost use Rattle.kcr_history.specs.Prints as report;
+ghost use Rattle.kcr_store.specs.Register.{IsKept};
+ghost use Rattle.kcr_store.specs.Rows.{IsNotPlanned, NamesCeremony, OfHistory};
+ghost use Rattle.kcr_print.specs.Reports.{Stops, IsPrinted, Leaves, TellsWrites};
+
+use crate::fault::PrintFault;
+use crate::parts::{put_attendance, put_custody, put_script};
+use kcr_base::{CeremonyNumber, Counted, Refusal};
+use kcr_store::Register;
+use sqlite::Alter;
+use std::alloc::Global;
+use std::io::Write;
+
+/// Breaks the register where a report met a fault of the device, and gives the report's outcome on.
+fn settle<S: Alter>(
+    register: &mut Register<S>,
+    outcome: Result<(), PrintFault>,
+) -> Result<(), PrintFault>
+    requires { IsKept S.Store register.old }
+    ensures same { result ≡ outcome }
+    ensures leaves { Leaves register.old register.new outcome }
+    ensures connection { register.new.conn ≡ register.old.conn }
+    ensures kept { IsKept S.Store register.new }
+{
+    match outcome {
+        Ok(()) => Ok(()),
+        Err(PrintFault::Refused(Refusal::Disk)) => {
+            register.mark_broken();
+            Err(PrintFault::Refused(Refusal::Disk))
+        }
+        Err(fault) => Err(fault),
+    }
+}
+
+/// Writes the annotated script of a ceremony: its head, its steps with their seats or the people who filled them, and
+/// its exceptions. A ceremony that was never planned is refused as unknown (12), with nothing written. Want of memory
+/// (33), a fault of the device (34) or a write that fails may come at any row, and leaves a beginning of the report
+/// written. A fault of the device breaks the register; a broken one answers 35, and nothing is written.
+pub fn annotated<S: Alter, W: Write>(
+    alloc: Global,
+    register: &mut Register<S>,
+    ceremony: CeremonyNumber,
+    writer: &mut Counted<W>,
+) -> Result<(), PrintFault>
+    ensures broken { IsSome register.old.torn
+        → (result ≡ Err (PrintFault.Refused Refusal.Broken))
+        × (register.new ≡ register.old) × (writer.new ≡ writer.old) }
+    ensures printed { OfHistory S.Store register.old register.new (λ A.
+        IsPrinted (IsNotPlanned A ceremony) (report.annotated A ceremony) result
+        (W.contents (inner_of writer.old)) (W.contents (inner_of writer.new))) }
+    // What is printed whole is of a ceremony that was planned.
+    ensures planned { OfHistory S.Store register.old register.new (λ A. OnOk result (IsTrue (is_ceremony A ceremony))) }
+    ensures cause { register.old.torn ≡ None → IfErr result (Stops (NamesCeremony ceremony)) }
+    ensures leaves { Leaves register.old register.new result }
+    ensures clean { HasCleanDisk (state S.Store register.new.conn) → HasCleanDisk (state S.Store register.old.conn) }
+    ensures kept { IsKept S.Store register.new }
+    ensures told { TellsWrites writer.old writer.new result }
+{
+    if register.is_broken() {
+        return Err(PrintFault::Refused(Refusal::Broken));
+    }
+    let outcome = put_script(alloc, register, ceremony, writer);
+    settle(register, outcome)
+}
+
+/// Writes the attendance of a ceremony as comma separated values (RFC 4180, with a line feed at the end of each row):
+/// a header, and a row for each stay by its beginning, then initials. The refusals are those of `annotated`.
+pub fn attendance_csv<S: Alter, W: Write>(
+    alloc: Global,
+    register: &mut Register<S>,
+    ceremony: CeremonyNumber,
+    writer: &mut Counted<W>,
+) -> Result<(), PrintFault>
+    ensures broken { IsSome register.old.torn
+        → (result ≡ Err (PrintFault.Refused Refusal.Broken))
+        × (register.new ≡ register.old) × (writer.new ≡ writer.old) }
+    ensures printed { OfHistory S.Store register.old register.new (λ A.
+        IsPrinted (IsNotPlanned A ceremony) (report.attendance A ceremony) result
+        (W.contents (inner_of writer.old)) (W.contents (inner_of writer.new))) }
+    // What is printed whole is of a ceremony that was planned.
+    ensures planned { OfHistory S.Store register.old register.new (λ A. OnOk result (IsTrue (is_ceremony A ceremony))) }
+    ensures cause { register.old.torn ≡ None → IfErr result (Stops (NamesCeremony ceremony)) }
+    ensures leaves { Leaves register.old register.new result }
+    ensures clean { HasCleanDisk (state S.Store register.new.conn) → HasCleanDisk (state S.Store register.old.conn) }
+    ensures kept { IsKept S.Store register.new }
+    ensures told { TellsWrites writer.old writer.new result }
+{
+    if register.is_broken() {
+        return Err(PrintFault::Refused(Refusal::Broken));
+    }
+    let outcome = put_attendance(alloc, register, ceremony, writer);
+    settle(register, outcome)
+}
+
+/// Writes custody: the four safes, then the bags by serial, each with its items by code, then the loose items by code.
+/// The refusals are those of `annotated` but 12.
+pub fn custody<S: Alter, W: Write>(
+    alloc: Global,
+    register: &mut Register<S>,
+    writer: &mut Counted<W>,
+) -> Result<(), PrintFault>
+    ensures broken { IsSome register.old.torn
+        → (result ≡ Err (PrintFault.Refused Refusal.Broken))
+        × (register.new ≡ register.old) × (writer.new ≡ writer.old) }
+    ensures printed { OfHistory S.Store register.old register.new (λ A.
+        IsPrinted (λ _. ⊥) (report.custody A) result
+        (W.contents (inner_of writer.old)) (W.contents (inner_of writer.new))) }
+    ensures cause { register.old.torn ≡ None → IfErr result (Stops (λ _. ⊥)) }
+    ensures leaves { Leaves register.old register.new result }
+    ensures clean { HasCleanDisk (state S.Store register.new.conn) → HasCleanDisk (state S.Store register.old.conn) }
+    ensures kept { IsKept S.Store register.new }
+    ensures told { TellsWrites writer.old writer.new result }
+{
+    if register.is_broken() {
+        return Err(PrintFault::Refused(Refusal::Broken));
+    }
+    let outcome = put_custody(alloc, register, writer);
+    settle(register, outcome)
+}

@@ -1,0 +1,109 @@
+-- A reading of a table that gives the first row alone.
+use Rattle.std.proofs.Common.{◌≡◌, ℕ, List, [], ◌∷◌, ◌++◌, map, filter, take, length, slice_get, Option, Some, None, Result, OnOk, IfErr, IsTrue, ◌<◌, arith, refl, sym, ap, subst, ◌∙◌, Less}
+use Rattle.std.specs.List.{AllByRecursion, list_all}
+use Rattle.std.specs.Option.{option_to_list}
+use Rattle.std.specs.List.Sorted.{IsPermutation}
+use Rattle.std.proofs.lemmas.List.Sorted.{IsPermutation-map, IsPermutation-trans, IsPermutation-sym}
+use Rattle.sqlite.specs.declared.types.Value.TheVariants.{Null}
+use Rattle.sqlite.specs.Order.{Row}
+use Rattle.sqlite.specs.Term.{holds}
+use Rattle.sqlite.specs.Query.{Query, IsAnswer, Output, output, output_cmp}
+use Rattle.sqlite.specs.Tree.{Trees, IsAscending}
+use Rattle.sqlite.specs.State.{State, Shown, HasCleanDisk, IsUnchanged, KeepsCommit, Survives}
+use Rattle.sqlite.specs.Listing.{understood}
+use Rattle.sqlite.specs.Program.{overlay}
+use Rattle.sqlite.proofs.Callers.{IsPlain, reads_as}
+use Rattle.sqlite_sql.proofs.QueryLemmas.{output_cmp_total}
+use Rattle.sqlite_trees.proofs.ListLemmas.{map-map, filter-map, IsPermutation-filter, ascending-map, ascending_weaker, all-permutation, all-filter}
+use Rattle.sqlite_keyed.proofs.SortLemmas.{sorted_unique}
+use Rattle.kcr_rows.specs.Keyed.{cells, Place, Keeps}
+use Rattle.kcr_rows.proofs.ReadLemmas.{matched, map_same}
+use Rattle.kcr_rows.proofs.TableLemmas.{same_values}
+use Rattle.kcr_tables.specs.Schema.{register_schema}
+use Rattle.kcr_base.specs.declared.refusal.Refusal.{Refusal}
+use Rattle.kcr_rows.proofs.FailLemmas.{on_ok_then, plain_in}
+use Rattle.kcr_rows.specs.Refusals.{IsFault}
+use Rattle.kcr_tables.proofs.HoldLemmas.{still_holds}
+use Rattle.kcr_tables.specs.Frame.{Reads}
+use Rattle.kcr_reading.specs.First.{first_of, Choice, ShowsFirst}
+
+map_id : {X : Type 0} (xs : List X) → map (λ x. x) xs ≡ xs
+map_id [] = refl
+map_id (x ∷ xs) = ap (λ l. x ∷ l) (map_id xs)
+
+map_take : {X Y : Type 0} (f : X → Y) (xs : List X) → take 1 (map f xs) ≡ map f (take 1 xs)
+map_take f [] = refl
+map_take f (x ∷ xs) = refl
+
+all_take : {X : Type 0} (P : X → Type 0) (xs : List X) → AllByRecursion P xs → AllByRecursion P (take 1 xs)
+all_take P [] all = tt
+all_take P (x ∷ xs) all = (all.0, tt)
+
+module _ (sql : List ℕ) (place : Place) (params : Row) (choice : Choice) (s : ShowsFirst sql place params choice) where
+  abbrev q : Query
+  q = first_of place.tree s.test s.project s.order
+
+  abbrev ranked : Row → Output
+  ranked r = (choice.rank r, r)
+
+  first_rows : (db : Trees) (rows those : List Row) → IsPermutation (filter choice.passes (map (cells 1 place.width) (db place.tree))) those → IsAscending (λ a b. choice.compare a b ≡ Less) those
+      → IsAnswer q (overlay db []) params rows → rows ≡ take 1 those
+  first_rows db rows those same up a =
+      let entries = db place.tree in
+      let shown = cells 1 place.width in
+      let p = λ (r : Row). list_all (holds (params ∷ r ∷ [])) s.test in
+      let staged : a.staged ≡ map (λ r. params ∷ r ∷ []) (filter p (overlay db [] place.tree)) = a.grouped ∙ matched p (λ r. params ∷ r ∷ []) (overlay db [] place.tree) in
+      let over : overlay db [] place.tree ≡ entries = rw s.low in
+      let same_test : filter p entries ≡ filter (λ r. choice.passes (shown r)) entries = λ i. filter (λ r. s.tests r i) entries in
+      let outs : a.kept ≡ map ranked (filter choice.passes (map shown entries)) =
+      a.distinct ∙ ap (map (output q)) (staged ∙ ap (λ l. map (λ r. params ∷ r ∷ []) (filter p l)) over ∙ ap (map (λ r. params ∷ r ∷ [])) same_test)
+      ∙ map-map (output q) (λ r. params ∷ r ∷ []) (filter (λ r. choice.passes (shown r)) entries)
+      ∙ map_same _ (λ r. ranked (shown r)) s.shows (filter (λ r. choice.passes (shown r)) entries)
+      ∙ sym (map-map ranked shown (filter (λ r. choice.passes (shown r)) entries))
+      ∙ ap (map ranked) (sym (filter-map choice.passes shown entries)) in
+      let turned = IsPermutation-map ranked _ _ (IsPermutation-sym _ _ same) in
+      let strict : IsAscending (λ x y. output_cmp q x y ≡ Less) (map ranked those) =
+      ascending-map (λ x y. output_cmp q x y ≡ Less) ranked those
+      (ascending_weaker _ (λ x y. output_cmp q (ranked x) (ranked y) ≡ Less) (λ x y h. s.sorts x y ∙ h) _ up) in
+      let ordered : a.ordered ≡ map ranked those =
+      sorted_unique (output_cmp q) (output_cmp_total q) _ _ strict (IsPermutation-trans _ _ _ (subst (IsPermutation (map ranked those)) (sym outs) turned) a.same) a.sorted in
+      a.shown ∙ ap (λ l. take 1 (map (λ (o : Output). o.1) l)) ordered ∙ ap (take 1) (map-map (λ (o : Output). o.1) ranked those ∙ map_id those)
+
+  module _ {X : Type 0} (row_of : X → Row) where
+    pub shown_first : (IsRead IsStored : X → Type 0) → ((x y : X) → IsRead x → IsStored y → row_of x ≡ row_of y → x ≡ y) → (old new : State) (xs : List X) → old.now.schema ≡ register_schema
+        → Shown sql params old new (map row_of xs) → AllByRecursion IsRead xs → (ys : List X) → AllByRecursion IsStored ys → Keeps place old.now.trees (map row_of ys)
+        → (those : List X) → IsPermutation (filter (λ x. choice.passes (row_of x)) ys) those → IsAscending (λ a b. choice.compare (row_of a) (row_of b) ≡ Less) those → xs ≡ take 1 those
+    shown_first IsRead IsStored one old new xs has h read ys held keeps those same up =
+        let it = reads_as sql params old new register_schema has _ s.is.0 s.bare s.is.1 (map row_of xs) h in
+        let stored : IsPermutation (filter choice.passes (map (cells 1 place.width) (old.now.trees place.tree))) (map row_of those) =
+        IsPermutation-trans _ _ _ (IsPermutation-sym _ _ (IsPermutation-filter choice.passes _ _ keeps.same))
+        (subst (λ l. IsPermutation l (map row_of those)) (sym (filter-map choice.passes row_of ys)) (IsPermutation-map row_of _ _ same)) in
+        let rows = first_rows old.now.trees (map row_of xs) (map row_of those) stored (ascending-map (λ a b. choice.compare a b ≡ Less) row_of those up) (it.answer Null) in
+        let known : AllByRecursion IsStored those = all-permutation IsStored _ _ same (all-filter IsStored (λ x. choice.passes (row_of x)) ys held) in
+        same_values row_of IsRead IsStored one xs (take 1 those) read (all_take IsStored those known) (rows ∙ map_take row_of those)
+
+-- what the last of at most one is
+pub popped : {X : Type 0} (xs rest those : List X) (found : Option X) → xs ≡ take 1 those → xs ≡ rest ++ option_to_list found → (found ≡ None → xs ≡ []) → found ≡ slice_get those 0
+popped xs rest [] None is split none = refl
+popped xs rest (y ∷ those) None is split none = absurd (let h : y ∷ [] ≡ [] = sym is ∙ none refl in cc)
+popped xs [] [] (Some x) is split none = absurd (let h : [] ≡ x ∷ [] = sym is ∙ split in cc)
+popped xs (r ∷ rest) [] (Some x) is split none = absurd (let h : [] ≡ r ∷ (rest ++ (x ∷ [])) = sym is ∙ split in cc)
+popped xs [] (y ∷ those) (Some x) is split none = let h : y ∷ [] ≡ x ∷ [] = sym is ∙ split in cc
+popped xs (r ∷ []) (y ∷ those) (Some x) is split none = absurd (let h : y ∷ [] ≡ r ∷ x ∷ [] = sym is ∙ split in cc)
+popped xs (r ∷ r2 ∷ rest) (y ∷ those) (Some x) is split none = absurd (let h : y ∷ [] ≡ r ∷ r2 ∷ (rest ++ (x ∷ [])) = sym is ∙ split in cc)
+
+-- none where there is no room for one
+pub no_rows : {X : Type 0} (n : ℕ) (xs : List X) → length xs ≡ n → (0 < n → ⊥) → xs ≡ []
+no_rows n [] same none = refl
+no_rows n (x ∷ xs) same none = absurd (none (omega (arith, same)))
+
+-- a reading by a text that changes nothing leaves the tables
+pub reads_by : {A : Type 0} (sql : List ℕ) (old new : State) (r : Result A Refusal) → IsPlain (understood register_schema sql) → (HasCleanDisk new → IsPlain (understood old.now.schema sql) → OnOk r (IsUnchanged old new))
+    → (HasCleanDisk new → IsTrue old.in_transaction → OnOk r (IsTrue new.in_transaction)) → (HasCleanDisk new → IsTrue old.in_transaction → KeepsCommit old new) → Survives old new (λ _. ⊥) → IfErr r IsFault → Reads old new r
+reads_by sql old new r plain same inside kept survives cause = record {
+  holds = λ clean t held. on_ok_then _ _ (still_holds old new t held) r (same clean (plain_in register_schema sql plain old held.schema));
+  inside = inside;
+  kept = kept;
+  survives = survives;
+  cause = cause;
+}

@@ -1,0 +1,12 @@
+mod BagLemmas
+mod CeremonyLemmas
+mod ExceptionLemmas
+mod FirstLemmas
+mod KeyLemmas
+mod LooseLemmas
+mod NameLemmas
+mod NumberLemmas
+mod OrderLemmas
+mod SafeLemmas
+mod StayLemmas
+mod StepLemmas

@@ -1,0 +1,74 @@
+//! The exceptions of a ceremony.
+
+ghost use Rattle.std.specs.Prelude.{◌≡◌, None, IsTrue, IfOk, OnOk};
+ghost use Rattle.sqlite.specs.Held.{state};
+ghost use Rattle.sqlite.specs.State.{HasCleanDisk};
+ghost use Rattle.kcr_history.specs.Tables as machine;
+ghost use Rattle.kcr_tables.specs.Frame.{Reads};
+ghost use Rattle.kcr_tables.specs.Joint.{HoldsTables};
+ghost use Rattle.kcr_reading.specs.ToCome.{Gives, ByTables, exceptions_of, exceptions_past};
+
+use crate::reading::Reading;
+use crate::seek::{first_row, past_cell};
+use kcr_base::Refusal;
+use kcr_history::ExceptionRow;
+use kcr_rows::cells::number_cell;
+use sqlite::{Alter, Transaction};
+use std::alloc::Global;
+
+/// The first exception of the ceremony past the last one, which becomes the last; none where no more comes.
+fn next_exception<S: Alter>(
+    alloc: Global,
+    tx: &mut Transaction<'_, S>,
+    ceremony: u32,
+    last: &mut Option<u32>,
+) -> Result<Option<ExceptionRow>, Refusal>
+    ensures same_reference { tx.new.conn.ghost_name ≡ tx.old.conn.ghost_name }
+    ensures gives { ByTables (state S.Store tx.old.conn.now) (state S.Store tx.new.conn.now) result (λ m found. Gives (exceptions_past last.old ceremony m) found (exceptions_past last.new ceremony m)) }
+    ensures opened { HasCleanDisk (state S.Store tx.new.conn.now) → OnOk result (IsTrue (state S.Store tx.old.conn.now).is_open) }
+    ensures frame { Reads (state S.Store tx.old.conn.now) (state S.Store tx.new.conn.now) result }
+{
+    let found: Option<ExceptionRow> = first_row(
+        alloc,
+        tx,
+        "SELECT ceremony, exception, text, at, passed FROM exceptions WHERE ceremony = ?1 AND exception > ?2 ORDER BY ceremony, exception LIMIT 1",
+        &[number_cell(ceremony), past_cell(*last)],
+    )?;
+    if let Some(row) = &found {
+        *last = Some(row.exception);
+    }
+    Ok(found)
+}
+
+/// Behind the exception that was read last.
+#[derive(Drop)]
+pub struct ExceptionReading {
+    ceremony: u32,
+    last: Option<u32>,
+}
+
+impl ExceptionReading {
+    /// Before the first exception of the ceremony.
+    pub fn start(ceremony: u32) -> ExceptionReading
+        ensures { (m : machine.Tables) → exceptions_past result.last result.ceremony m ≡ exceptions_of ceremony m }
+    {
+        ExceptionReading {
+            ceremony,
+            last: None,
+        }
+    }
+}
+
+impl Reading for ExceptionReading {
+    type Row = ExceptionRow;
+
+    ghost to_come = { λ p m. exceptions_past p.last p.ceremony m };
+
+    fn step<S: Alter>(
+        &mut self,
+        alloc: Global,
+        tx: &mut Transaction<'_, S>,
+    ) -> Result<Option<ExceptionRow>, Refusal> {
+        next_exception(alloc, tx, self.ceremony, &mut self.last)
+    }
+}

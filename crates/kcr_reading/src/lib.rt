@@ -1,0 +1,23 @@
+//! Readings that give the rows of the register's tables one at a time, each with what belongs to it: a step with the
+//! people who filled its seats, a stay with the person's name, a bag with its items.
+//!
+//! A reading keeps only the place that it has reached. Its step seeks the first row behind that place by an index, so
+//! that a reading of a thousand rows holds one of them in memory, and may be stopped at any row.
+#![tactic(auto)]
+
+mod bags;
+mod exceptions;
+mod loose;
+mod reading;
+mod safes;
+mod seek;
+mod stays;
+mod steps;
+
+pub use bags::{BagReading, Codes, PackedBag};
+pub use exceptions::ExceptionReading;
+pub use loose::LooseReading;
+pub use reading::Reading;
+pub use safes::SafeReading;
+pub use stays::{NamedStay, StayReading};
+pub use steps::{Seated, SeatedStep, StepReading};

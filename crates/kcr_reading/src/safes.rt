@@ -1,0 +1,97 @@
+//! The four safes.
+
+ghost use Rattle.std.specs.Prelude.{◌≡◌, None, IsTrue, IfOk, OnOk, find};
+ghost use Rattle.sqlite.specs.Held.{state};
+ghost use Rattle.sqlite.specs.State.{HasCleanDisk};
+ghost use Rattle.kcr_history.specs.Tables as machine;
+ghost use Rattle.kcr_tables.specs.Frame.{Reads};
+ghost use Rattle.kcr_tables.specs.Joint.{HoldsTables};
+ghost use Rattle.kcr_reading.specs.ToCome.{Gives, ByTables, is_past, safe_place, safes_in_order, safes_past};
+
+use crate::reading::Reading;
+use kcr_base::{Facility, Refusal};
+use kcr_custody::{SafeNumber, SafeRow};
+use kcr_tables::all_rows;
+use sqlite::{Alter, Transaction};
+use std::alloc::Global;
+
+/// Where a safe stands among the four: those of EAST first, and by number.
+fn place_of(row: &SafeRow) -> u32
+    ensures { result ≡ safe_place row.now }
+{
+    let number = match row.safe {
+        SafeNumber::One => 1,
+        SafeNumber::Two => 2,
+    };
+    match row.facility {
+        Facility::East => number,
+        Facility::West => 2 + number,
+    }
+}
+
+/// Whether a place stands past the last one.
+fn is_past(last: Option<u32>, place: u32) -> bool
+    ensures { result ≡ is_past last place }
+{
+    match last {
+        Some(last) => last < place,
+        None => true,
+    }
+}
+
+/// The first of these safes past the place; with none, the first of all.
+fn safe_past(rows: &[SafeRow], last: Option<u32>) -> Option<SafeRow>
+    ensures { result ≡ find (λ row. is_past last (safe_place row)) rows.now }
+{
+    rows.iter()
+        .copied()
+        .find(|row| is_past(last, place_of(row)))
+}
+
+/// The first safe past the last one, which becomes the last; none where no more comes.
+fn next_safe<S: Alter>(
+    alloc: Global,
+    tx: &mut Transaction<'_, S>,
+    last: &mut Option<u32>,
+) -> Result<Option<SafeRow>, Refusal>
+    ensures same_reference { tx.new.conn.ghost_name ≡ tx.old.conn.ghost_name }
+    ensures gives { ByTables (state S.Store tx.old.conn.now) (state S.Store tx.new.conn.now) result (λ m found. Gives (safes_past last.old m) found (safes_past last.new m)) }
+    ensures opened { HasCleanDisk (state S.Store tx.new.conn.now) → OnOk result (IsTrue (state S.Store tx.old.conn.now).is_open) }
+    ensures frame { Reads (state S.Store tx.old.conn.now) (state S.Store tx.new.conn.now) result }
+{
+    let rows: Vec<SafeRow> = all_rows(alloc, tx)?;
+    let found = safe_past(rows.as_slice(), *last);
+    if let Some(row) = &found {
+        *last = Some(place_of(row));
+    }
+    Ok(found)
+}
+
+/// Behind the safe at the place that was read last.
+#[derive(Drop)]
+pub struct SafeReading {
+    last: Option<u32>,
+}
+
+impl SafeReading {
+    /// Before the first safe.
+    pub fn start() -> SafeReading
+        ensures { (m : machine.Tables) → safes_past result.last m ≡ safes_in_order m }
+    {
+        SafeReading { last: None }
+    }
+}
+
+impl Reading for SafeReading {
+    type Row = SafeRow;
+
+    ghost to_come = { λ p m. safes_past p.last m };
+
+    fn step<S: Alter>(
+        &mut self,
+        alloc: Global,
+        tx: &mut Transaction<'_, S>,
+    ) -> Result<Option<SafeRow>, Refusal> {
+        next_safe(alloc, tx, &mut self.last)
+    }
+}

@@ -1,0 +1,46 @@
+//! One row of a table: the first that passes a test.
+
+ghost use Rattle.std.specs.Prelude.{◌≡◌, OnOk, IfOk, IsTrue, Option, pos, ℤ};
+ghost use Rattle.sqlite.specs.Held.{state};
+ghost use Rattle.sqlite.specs.State.{HasCleanDisk};
+ghost use Rattle.sqlite.specs.Values.{bound, bound_value};
+ghost use Rattle.sqlite.specs.Value.{owned};
+ghost use Rattle.sqlite.specs.declared.types.Value.TheVariants.{Int};
+ghost use Rattle.kcr_tables.specs.Held.{Tables, Holds};
+ghost use Rattle.kcr_tables.specs.Frame.{Reads};
+ghost use Rattle.kcr_reading.specs.First.{Choice, ShowsFirst, IsFirst, bound_of};
+
+use kcr_base::Refusal;
+use kcr_cells::statements::rows_of;
+use kcr_tables::Listed;
+use sqlite::types::ValueRef;
+use sqlite::{Alter, Transaction};
+use std::alloc::Global;
+
+/// The number behind which the rows are sought; -1 before the first, which is below all.
+pub(crate) fn past_cell(last: Option<u32>) -> ValueRef<'static>
+    ensures { bound_value (owned result) ≡ Int (bound_of last) }
+{
+    match last {
+        Some(number) => ValueRef::Int(i64::from(number)),
+        None => ValueRef::Int(-1),
+    }
+}
+
+/// The first of the rows that the text chooses, or none; the text shows one row at most. Nothing is changed. The error
+/// is `Memory` for want of memory, and else `Disk`: the device failed, or the row is one that no register stores.
+pub(crate) fn first_row<S: Alter, T: Listed>(
+    alloc: Global,
+    tx: &mut Transaction<'_, S>,
+    sql: &str,
+    params: &[ValueRef<'_>],
+) -> Result<Option<T>, Refusal>
+    ensures same_reference { tx.new.conn.ghost_name ≡ tx.old.conn.ghost_name }
+    ensures row { (choice : Choice) → ShowsFirst sql.now T.place (bound params.now) choice → HasCleanDisk (state S.Store tx.new.conn.now) → (t : Tables) → Holds (state S.Store tx.old.conn.now).now t
+        → IfOk result (IsFirst T.row_of choice (T.rows_in t)) }
+    ensures opened { HasCleanDisk (state S.Store tx.new.conn.now) → OnOk result (IsTrue (state S.Store tx.old.conn.now).is_open) }
+    ensures frame { (choice : Choice) → ShowsFirst sql.now T.place (bound params.now) choice → Reads (state S.Store tx.old.conn.now) (state S.Store tx.new.conn.now) result }
+{
+    let mut rows: Vec<T> = rows_of(alloc, tx, sql, params)?;
+    Ok(rows.pop())
+}

@@ -1,0 +1,185 @@
+//! The stays in the room of a ceremony, each with the name of the person.
+
+ghost use Rattle.std.specs.Prelude.{◌≡◌, None, IsTrue, IfOk, OnOk, filter, slice_get};
+ghost use Rattle.sqlite.specs.Held.{state};
+ghost use Rattle.sqlite.specs.State.{HasCleanDisk};
+ghost use Rattle.sqlite.specs.Value.{owned};
+ghost use Rattle.sqlite.specs.Values.{bound_value};
+ghost use Rattle.sqlite.specs.declared.types.Value.TheVariants.{Int};
+ghost use Rattle.kcr_room.specs.Stays.{attendance_in_by};
+ghost use Rattle.kcr_history.specs.Prints.{name_of};
+ghost use Rattle.kcr_history.specs.Tables as machine;
+ghost use Rattle.kcr_tables.specs.Frame.{Reads};
+ghost use Rattle.kcr_tables.specs.Joint.{HoldsTables};
+ghost use Rattle.kcr_reading.specs.First.{bound_of};
+ghost use Rattle.kcr_reading.specs.ToCome.{Gives, ByTables, begins_with, begins_after, since_of, listed_past, named_stays, stays_past};
+
+use crate::reading::Reading;
+use crate::seek::{first_row, past_cell};
+use kcr_base::{Initials, Name, Refusal};
+use kcr_people::Person;
+use kcr_room::Stay;
+use kcr_rows::cells::{initials_cell, moment_cell, number_cell};
+use kcr_tables::rows_under;
+use sqlite::types::ValueRef;
+use sqlite::{Alter, Transaction};
+use std::alloc::Global;
+
+/// A stay in a room, with the name of the person.
+#[derive(Drop)]
+pub struct NamedStay {
+    pub stay: Stay,
+    pub name: Name,
+}
+
+/// The moment behind which the stays are sought; -1 before the first, which is below all.
+fn past_moment(last: &Option<Stay>) -> ValueRef<'static>
+    ensures { bound_value (owned result) ≡ Int (bound_of (since_of last.now)) }
+{
+    match last {
+        Some(stay) => moment_cell(stay.since),
+        None => past_cell(None),
+    }
+}
+
+/// The next stay of the ceremony that begins with this one, by initials.
+fn stay_together<S: Alter>(
+    alloc: Global,
+    tx: &mut Transaction<'_, S>,
+    ceremony: u32,
+    last: &Stay,
+) -> Result<Option<Stay>, Refusal>
+    ensures same_reference { tx.new.conn.ghost_name ≡ tx.old.conn.ghost_name }
+    ensures first { ByTables (state S.Store tx.old.conn.now) (state S.Store tx.new.conn.now) result (λ m found. found ≡ slice_get (filter (begins_with last.now) (attendance_in_by m.stays ceremony)) 0) }
+    ensures opened { HasCleanDisk (state S.Store tx.new.conn.now) → OnOk result (IsTrue (state S.Store tx.old.conn.now).is_open) }
+    ensures frame { Reads (state S.Store tx.old.conn.now) (state S.Store tx.new.conn.now) result }
+{
+    first_row(
+        alloc,
+        tx,
+        "SELECT who, since, ceremony, until FROM stays WHERE ceremony = ?1 AND since = ?2 AND who > ?3 ORDER BY who, since LIMIT 1",
+        &[
+            number_cell(ceremony),
+            moment_cell(last.since),
+            initials_cell(&last.who),
+        ],
+    )
+}
+
+/// The first stay of the ceremony that begins later than this one; with none, the first of all.
+fn stay_later<S: Alter>(
+    alloc: Global,
+    tx: &mut Transaction<'_, S>,
+    ceremony: u32,
+    last: &Option<Stay>,
+) -> Result<Option<Stay>, Refusal>
+    ensures same_reference { tx.new.conn.ghost_name ≡ tx.old.conn.ghost_name }
+    ensures first { ByTables (state S.Store tx.old.conn.now) (state S.Store tx.new.conn.now) result (λ m found. found ≡ slice_get (filter (begins_after last.now) (attendance_in_by m.stays ceremony)) 0) }
+    ensures opened { HasCleanDisk (state S.Store tx.new.conn.now) → OnOk result (IsTrue (state S.Store tx.old.conn.now).is_open) }
+    ensures frame { Reads (state S.Store tx.old.conn.now) (state S.Store tx.new.conn.now) result }
+{
+    first_row(
+        alloc,
+        tx,
+        "SELECT who, since, ceremony, until FROM stays WHERE ceremony = ?1 AND since > ?2 ORDER BY since, who LIMIT 1",
+        &[number_cell(ceremony), past_moment(last)],
+    )
+}
+
+/// The first stay of the ceremony behind the last one; none where no more comes.
+fn stay_behind<S: Alter>(
+    alloc: Global,
+    tx: &mut Transaction<'_, S>,
+    ceremony: u32,
+    last: &Option<Stay>,
+) -> Result<Option<Stay>, Refusal>
+    ensures same_reference { tx.new.conn.ghost_name ≡ tx.old.conn.ghost_name }
+    ensures first { ByTables (state S.Store tx.old.conn.now) (state S.Store tx.new.conn.now) result (λ m found. found ≡ slice_get (listed_past last.now ceremony m) 0) }
+    ensures opened { HasCleanDisk (state S.Store tx.new.conn.now) → OnOk result (IsTrue (state S.Store tx.old.conn.now).is_open) }
+    ensures frame { Reads (state S.Store tx.old.conn.now) (state S.Store tx.new.conn.now) result }
+{
+    match last {
+        None => stay_later(alloc, tx, ceremony, last),
+        Some(stay) => {
+            match stay_together(alloc, tx, ceremony, stay)? {
+                Some(next) => Ok(Some(next)),
+                None => stay_later(alloc, tx, ceremony, last),
+            }
+        }
+    }
+}
+
+/// The first stay of the ceremony behind the last one, which becomes the last; none where no more comes.
+fn next_stay<S: Alter>(
+    alloc: Global,
+    tx: &mut Transaction<'_, S>,
+    ceremony: u32,
+    last: &mut Option<Stay>,
+) -> Result<Option<Stay>, Refusal>
+    ensures same_reference { tx.new.conn.ghost_name ≡ tx.old.conn.ghost_name }
+    ensures gives { ByTables (state S.Store tx.old.conn.now) (state S.Store tx.new.conn.now) result (λ m found. Gives (listed_past last.old ceremony m) found (listed_past last.new ceremony m)) }
+    ensures opened { HasCleanDisk (state S.Store tx.new.conn.now) → OnOk result (IsTrue (state S.Store tx.old.conn.now).is_open) }
+    ensures frame { Reads (state S.Store tx.old.conn.now) (state S.Store tx.new.conn.now) result }
+{
+    let found = stay_behind(alloc, tx, ceremony, last)?;
+    if let Some(stay) = &found {
+        *last = Some(*stay);
+    }
+    Ok(found)
+}
+
+/// The person's name. `Disk` where nobody with these initials was entered, since then the stay is one that no register
+/// stores.
+fn name_of<S: Alter>(
+    alloc: Global,
+    tx: &mut Transaction<'_, S>,
+    who: &Initials,
+) -> Result<Name, Refusal>
+    ensures same_reference { tx.new.conn.ghost_name ≡ tx.old.conn.ghost_name }
+    ensures name { ByTables (state S.Store tx.old.conn.now) (state S.Store tx.new.conn.now) result (λ m name. name ≡ name_of m.people who.now) }
+    ensures opened { HasCleanDisk (state S.Store tx.new.conn.now) → OnOk result (IsTrue (state S.Store tx.old.conn.now).is_open) }
+    ensures frame { Reads (state S.Store tx.old.conn.now) (state S.Store tx.new.conn.now) result }
+{
+    let mut people: Vec<Person> = rows_under(alloc, tx, who)?;
+    match people.pop() {
+        Some(Person { who: _, name }) => Ok(name),
+        None => Err(Refusal::Disk),
+    }
+}
+
+/// Behind the stay that was read last.
+#[derive(Drop)]
+pub struct StayReading {
+    ceremony: u32,
+    last: Option<Stay>,
+}
+
+impl StayReading {
+    /// Before the first stay of the ceremony.
+    pub fn start(ceremony: u32) -> StayReading
+        ensures { (m : machine.Tables) → stays_past result.last result.ceremony m ≡ named_stays ceremony m }
+    {
+        StayReading {
+            ceremony,
+            last: None,
+        }
+    }
+}
+
+impl Reading for StayReading {
+    type Row = NamedStay;
+
+    ghost to_come = { λ p m. stays_past p.last p.ceremony m };
+
+    fn step<S: Alter>(
+        &mut self,
+        alloc: Global,
+        tx: &mut Transaction<'_, S>,
+    ) -> Result<Option<NamedStay>, Refusal> {
+        let Some(stay) = next_stay(alloc, tx, self.ceremony, &mut self.last)? else {
+            return Ok(None);
+        };
+        let name = name_of(alloc, tx, &stay.who)?;
+        Ok(Some(NamedStay { stay, name }))
+    }
+}

@@ -1,0 +1,79 @@
+-- What a register gives one row at a time, and the row of one ceremony.
+use Rattle.std.specs.Prelude.{◌≡◌, ◌⊎◌, ℕ, false, IsTrue, IsSome, List, Option, None, Result, Err, IfOk, OnErr}
+use Rattle.std.specs.Borrow.{Fml, RattleType, MutBor, RestsIfErr}
+use Rattle.sqlite.specs.Store.{Ghosts}
+use Rattle.sqlite.specs.State.{HasCleanDisk}
+use Rattle.sqlite.specs.Held.{state}
+use Rattle.kcr_base.specs.declared.refusal.Refusal.{Refusal}
+use Rattle.kcr_base.specs.declared.refusal.Refusal.TheVariants as Refusals
+use Rattle.kcr_base.specs.declared.refusal.Thing.TheVariants as Things
+use Rattle.kcr_history.specs.Ceremonies.{is_ceremony}
+use Rattle.kcr_history.specs.History.{History}
+use Rattle.kcr_history.specs.Tables as machine
+use Rattle.kcr_history.specs.Tables.{tables, ceremony_row}
+use Rattle.kcr_history.specs.declared.rows.CeremonyRow.{CeremonyRow}
+use Rattle.kcr_reading.specs.ToCome.{Gives}
+use Rattle.kcr_tables.specs.Refusals.{IsFault}
+use Rattle.kcr_store.specs.Register.{Seen, IsKept}
+use Rattle.kcr_store.specs.contracts.register.Register as register
+use Rattle.kcr_store.specs.declared.rows.Rows.{Rows}
+
+-- A CALL THAT READS
+
+-- its history stays, and so does whether it is broken
+pub record KeepsHistory {S : Type 0} (old new : Seen S) : Type 0 where
+  pub accepted : new.accepted ≡ old.accepted
+  pub torn : new.torn ≡ old.torn
+  pub founded : new.is_founded ≡ old.is_founded
+
+-- said of the history of a register that is not broken, by a call that leaves the disk clean
+abbrev pub OfHistory : {S : Type 0} → Ghosts S → Seen S → Seen S → (History → Type 0) → Type 0
+OfHistory g old new Says =
+    IsTrue old.is_founded → old.torn ≡ None → HasCleanDisk (state g new.conn) → Says old.accepted
+
+-- ROWS
+
+-- rows that stand before the first: the register is whole and as it was, and these are to come; there are no rows of a
+-- broken one
+pub record Begins {S R Row : Type 0}
+    (old : Seen S) (to_come : R → machine.Tables → List Row) (wanted : machine.Tables → List Row)
+    (result : Result (Rows S R Row) Refusal) : Type 0 where
+  pub same : IfOk result (λ rows. rows.register.now ≡ old)
+  pub whole : IfOk result (λ _. old.torn ≡ None)
+  pub all : IfOk result (λ rows. (m : machine.Tables) → to_come rows.reading m ≡ wanted m)
+  pub broken : OnErr result ((result ≡ Err Refusals.Broken) × IsSome old.torn)
+
+-- the rows hold the register until they are gone; where there are none it is as it was
+abbrev pub Lent : (S : RattleType) (g : Ghosts S.Denot) {R Row : Type 0}
+    → MutBor (Seen S.Denot) → Result (Rows S.Denot R Row) Refusal → Fml
+Lent S g lender result =
+    RestsIfErr (register.the_row S g) lender (λ rows. rows.register.ghost_name) result
+    (λ last. (last ≡ lender.now) × IsKept g last)
+
+-- the next of the rows that are to come of the history, or none past the last
+abbrev pub GivesNext : {R Row : Type 0}
+    → (R → machine.Tables → List Row) → R → R → Result (Option Row) Refusal → History → Type 0
+GivesNext to_come old new result A = IfOk result (λ row. Gives (to_come old (tables A)) row (to_come new (tables A)))
+
+-- THE ROW OF A CEREMONY
+
+-- the refusal says that no ceremony with this number was planned
+abbrev pub NamesCeremony : ℕ → Refusal → Type 0
+NamesCeremony ceremony refusal = refusal ≡ Refusals.Unknown (Things.Ceremony ceremony)
+
+-- none with this number was planned, and the refusal says so
+abbrev pub IsNotPlanned : History → ℕ → Refusal → Type 0
+IsNotPlanned A ceremony refusal = (is_ceremony A ceremony ≡ false) × NamesCeremony ceremony refusal
+
+-- the ceremony was planned, and this is its row
+pub record IsRowOf (A : History) (ceremony : ℕ) (row : CeremonyRow) : Type 0 where
+  pub planned : IsTrue (is_ceremony A ceremony)
+  pub row_is : row ≡ ceremony_row A ceremony
+
+-- why there is no row: want of memory or a fault of the device, or the ceremony was never planned
+abbrev pub HasNoRow : History → ℕ → Refusal → Type 0
+HasNoRow A ceremony refusal = IsFault refusal ⊎ IsNotPlanned A ceremony refusal
+
+-- what may be answered in place of a row, whatever the history
+abbrev pub MayHaveNoRow : ℕ → Refusal → Type 0
+MayHaveNoRow ceremony refusal = IsFault refusal ⊎ NamesCeremony ceremony refusal
