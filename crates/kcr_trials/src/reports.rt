@@ -18,13 +18,13 @@ const LINE: usize = 17;
 
 /// What a report leaves: the bytes that were written, and the fault, if there was one.
 #[derive(Drop)]
-struct Printed {
+struct Report {
     bytes: Vec<u8>,
     fault: Option<PrintFault>,
 }
 
 /// Has the register print custody where so many writes succeed.
-fn printed<S: Alter>(alloc: Global, register: &mut Register<S>, left: usize) -> Printed {
+fn printed<S: Alter>(alloc: Global, register: &mut Register<S>, left: usize) -> Report {
     let mut writer = Counted::new(Narrow {
         bytes: Vec::new(alloc),
         width: 4096,
@@ -36,7 +36,7 @@ fn printed<S: Alter>(alloc: Global, register: &mut Register<S>, left: usize) -> 
         width: _,
         left: _,
     } = writer.into_inner();
-    Printed { bytes, fault }
+    Report { bytes, fault }
 }
 
 /// A report whose third line is not written leaves the two before it, and nothing else: the next one is whole.
