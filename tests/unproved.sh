@@ -11,8 +11,17 @@ mkdir -p "$work/crates/kcr_unproved/src"
 for file in tests/unproved/*.txt; do
   cp "$file" "$work/crates/kcr_unproved/src/$(basename "$file" .txt).rt"
 done
+# the requests of a case, as bytes of the crate
+python3 - "$work/crates/kcr_unproved/src/stream.rt" tests/cases/bag-into-a-box << 'PYTHON'
+import pathlib
+import sys
+
+requests = ", ".join(str(byte) for byte in pathlib.Path(sys.argv[2]).read_bytes())
+text = f"//! The requests of a case.\n\npub(crate) const STREAM: &[u8] = &[{requests}];\n"
+pathlib.Path(sys.argv[1]).write_text(text)
+PYTHON
 cp HANDLES "$work/HANDLES"
-libraries="kcr_base kcr_seats kcr_people kcr_custody kcr_script kcr_room kcr_history kcr_audit kcr_machine kcr_tables sqlite"
+libraries="kcr_base kcr_seats kcr_people kcr_custody kcr_script kcr_room kcr_history kcr_audit kcr_machine kcr_tables kcr_store kcr_print kcr_desk sqlite"
 { cat crates.txt; printf '\nkcr_unproved: %s\n' "$libraries"; } > "$work/crates.txt"
 cd "$work/crates/kcr_unproved"
 rt try --test --seconds 300 > "$work/told" 2>&1 || true
