@@ -5,8 +5,7 @@
 
 A case is NAME (the program's standard input), NAME.args (its words, one a line), NAME.stdout (what it writes) and,
 where it is not 0, NAME.status (its exit status); each line of NAME.stderr, where that file is there, stands in what
-it writes to standard error. FOLDER is tests/cases; the cases of its folder `later` wait for routes that are still to
-come, and are counted. Each request has a field `X-Why:` that says what it shows.
+it writes to standard error. FOLDER is tests/cases. Each request has a field `X-Why:` that says what it shows.
 
 The last line is `N passed, M failed`, and the status is 0 where none failed.
 """
@@ -87,9 +86,6 @@ def main():
         else:
             failed += 1
             print(f"{case.name}:\n{fault}")
-    waiting = len(cases_in(folder / "later"))
-    if waiting:
-        print(f"{waiting} cases wait under {folder.name}/later")
     print(f"{passed} passed, {failed} failed")
     sys.exit(1 if failed or not passed else 0)
 

@@ -24,15 +24,17 @@ use Rattle.kcr_tables.specs.Made.{{text_at, first}}
 """
     for t in TABLES:
         a = t.at
+        # the tables that older versions lack, which are made over the others too
+        public = "pub " if a >= 15 else ""
         out += f"""
-abbrev bare_{t.name} : Table
+abbrev {public}bare_{t.name} : Table
 bare_{t.name} = record {t.name} {{ tree = 0 }}
 
-is_{a} : (command_of (understood (first {a}) (text_at {a})) ≡ CreateTable) × (statement_of (text_at {a}) (understood (first {a}) (text_at {a})) ≡ text_at {a}) × IsPlain (understood (first {a}) (text_at {a})) × (table_defined_by (text_at {a}) ≡ Ok bare_{t.name})
+{public}is_{a} : (command_of (understood (first {a}) (text_at {a})) ≡ CreateTable) × (statement_of (text_at {a}) (understood (first {a}) (text_at {a})) ≡ text_at {a}) × IsPlain (understood (first {a}) (text_at {a})) × (table_defined_by (text_at {a}) ≡ Ok bare_{t.name})
 unfolding understood everything
 is_{a} = (refl, refl, (refl, refl), refl)
 
-defines_{a} : (found : Table) → table_defined_by (text_at {a}) ≡ Ok found → created (first {a}) found ≡ first {a + 1}
+{public}defines_{a} : (found : Table) → table_defined_by (text_at {a}) ≡ Ok found → created (first {a}) found ≡ first {a + 1}
 defines_{a} found h = let both : Ok found ≡ Ok bare_{t.name} = sym h ∙ is_{a}.3 in let same : found ≡ bare_{t.name} = cc in ap (created (first {a})) same
 """
     out += f"""

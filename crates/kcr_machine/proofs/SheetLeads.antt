@@ -42,11 +42,11 @@ use Rattle.kcr_machine.proofs.NewKeys.{new_key}
 -- NEW ROWS ARE PUT IN FRONT
 
 -- no row has the key of one that is put after it
-abbrev IsFresh : {X : Type 0} → (X → X → Bool) → List X → List X → Type 0
+abbrev pub IsFresh : {X : Type 0} → (X → X → Bool) → List X → List X → Type 0
 IsFresh same [] old = Unit {0}
 IsFresh same (x ∷ xs) old = (list_any (same x) old ≡ false) × IsFresh same xs (x ∷ old)
 
-put-fresh : {X : Type 0} (same : X → X → Bool) (xs old : List X) → IsFresh same xs old → IsPermutation (put_all same xs old) (old ++ xs)
+pub put-fresh : {X : Type 0} (same : X → X → Bool) (xs old : List X) → IsFresh same xs old → IsPermutation (put_all same xs old) (old ++ xs)
 put-fresh same [] old h = subst (IsPermutation old) (sym (append-nil old)) (IsPermutation-refl old)
 put-fresh same (x ∷ xs) old h =
     let front : put same x old ≡ x ∷ old = rw h.0 in
@@ -325,7 +325,7 @@ changed_by-sheet : (rows : List SheetRow) (rest : List Change) (t : Tables) → 
 changed_by-sheet [] rest t = refl
 changed_by-sheet (row ∷ rows) rest t = changed_by-sheet rows rest (record t { sheet = put same_sheet_row row t.sheet })
 
-changed_by-stays : (rows : List Stay) (rest : List Change) (t : Tables) → changed_by (map PutStay rows ++ rest) t ≡ changed_by rest (record t { stays = put_all same_stay rows t.stays })
+pub changed_by-stays : (rows : List Stay) (rest : List Change) (t : Tables) → changed_by (map PutStay rows ++ rest) t ≡ changed_by rest (record t { stays = put_all same_stay rows t.stays })
 changed_by-stays [] rest t = refl
 changed_by-stays (row ∷ rows) rest t = changed_by-stays rows rest (record t { stays = put same_stay row t.stays })
 

@@ -3,3 +3,4 @@ pub mod StoreLemmas
 pub mod OpenLemmas
 pub mod ShownLemmas
 pub mod QuestionLemmas
+pub mod RenewLemmas

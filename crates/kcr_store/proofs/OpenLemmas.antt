@@ -1,29 +1,41 @@
 -- What an opening finds.
-use Rattle.std.proofs.Common.{refl, Bool, false, true, ◌≡◌, inl, inr, ℕ, List, [], Option, None, Some, Result, Ok, Err, OnOk, IsSome, IsTrue, codes, sym, ap, subst, ◌∙◌}
+use Rattle.std.proofs.Common.{arith, refl, Bool, false, true, ◌≡◌, ◌⊎◌, inl, inr, ℕ, ◌+◌, List, [], length, take, map, None, Result, Ok, Err, OnOk, IsTrue, sym, ap, subst, ◌∙◌}
+use Rattle.std.proofs.lemmas.List.{length-map}
 use Rattle.sqlite.specs.Schema.{Schema}
 use Rattle.sqlite.specs.Effect.{Database}
 use Rattle.sqlite.specs.Table.{Table}
-use Rattle.sqlite_schema.specs.Names.{table_named, same_name}
-use Rattle.sqlite.specs.State.{State, HasCleanDisk, IsLive, IsUnchanged, IsRolledBack, KeepsCommit, Survives}
+use Rattle.sqlite.proofs.ListingLemmas.{empty_is_sound}
+use Rattle.sqlite.specs.Start.{FindsIn}
+use Rattle.sqlite.specs.State.{State, Opens, HasCleanDisk, IsLive, IsUnchanged, IsRolledBack, KeepsCommit, Survives}
 use Rattle.sqlite.specs.Store.{Ghosts}
 use Rattle.sqlite.specs.Tree.{Trees}
 use Rattle.sqlite.specs.Held.{Held, state}
 use Rattle.sqlite.proofs.StateLemmas.{survives_then}
 use Rattle.kcr_history.specs.History.{History}
-use Rattle.kcr_tables.specs.Schema.{register_schema}
+use Rattle.kcr_tables.specs.Schema.{register_schema, all_tables}
+use Rattle.kcr_tables.specs.Made.{first}
 use Rattle.kcr_tables.specs.Held.{Tables, Holds}
 use Rattle.kcr_tables.proofs.OpenLemmas.{one_schema}
-use Rattle.kcr_store.specs.Stored.{no_schema, Stores, IsTables}
+use Rattle.kcr_older.specs.Older.{IsTablesAs, StoresAs}
+use Rattle.kcr_older.specs.Standing.{outline, LooksLike, IsStrange, no_schema}
+use Rattle.kcr_store.specs.Stored.{Stores, IsTables}
 use Rattle.kcr_store.specs.Register.{Shows, IsKept}
-use Rattle.kcr_store.specs.Opening.{IsFounded, IsForeign}
+use Rattle.sqlite_wal.specs.Recovery.{Image}
+use Rattle.kcr_store.specs.Opening.{IsFounded, IsHeld, IsHeldIn}
 
-pub apart : no_schema ≡ register_schema → ⊥
-apart e = let tables : ◌≡◌ {A = List Table} [] register_schema.tables = ap (λ (s : Schema). s.tables) e in cc
+-- how many tables there are in a database that looks like a register of this version
+counted : (version : ℕ) (s : Schema) → LooksLike version s → length s.tables ≡ length (take (14 + version) all_tables)
+counted version s like = sym (length-map s.tables outline) ∙ ap length like ∙ length-map (take (14 + version) all_tables) outline
 
--- the register's schema has the table of versions
-versions_stand : table_named register_schema (codes "versions") ≡ Some 13
-unfolding same_name
-versions_stand = refl
+abbrev pub count : Schema → ℕ
+count s = length s.tables
+
+-- it has the schema of another version
+pub apart : (version : ℕ) (s t : Schema) → LooksLike version s → s ≡ t → count t ≡ length (take (14 + version) all_tables)
+apart version s t like is = ap count (sym is) ∙ counted version s like
+
+pub of_first : (version : ℕ) (s : Schema) → s ≡ first (14 + version) → LooksLike version s
+of_first version s is = ap (λ (t : Schema). map outline t.tables) is
 
 pub on_ok : {T E : Type 0} (P Q : Type 0) (r : Result T E) → (P → Q) → OnOk r P → OnOk r Q
 on_ok P Q (Ok x) f h = f h
@@ -42,36 +54,74 @@ module _ {S : Type 0} (g : Ghosts S) (settled : (s : S) (db : Trees) → IsTrue 
     crash = λ yes clean db may. let it = found clean accepted (founded yes) in inl (subst (IsTables accepted) (sym (settled new.store db it.1 may)) it.0.committed.tables);
   }
 
--- an empty database has no tables of a register
-pub empty_holds : (db : Database) (t : Tables) → db.schema ≡ no_schema → Holds db t → ⊥
-empty_holds db t none held = apart (sym none ∙ held.schema)
+-- ---- what looks like a register, or like none
+
+pub none_strange : (version : ℕ) (s : Schema) → IsStrange s → s ≡ first (14 + version) → (version ≡ 1) ⊎ ((version ≡ 2) ⊎ (version ≡ 3)) → ⊥
+none_strange version s strange is (inl one) = strange.first (of_first 1 s (subst (λ v. s ≡ first (14 + v)) one is))
+none_strange version s strange is (inr (inl two)) = strange.second (of_first 2 s (subst (λ v. s ≡ first (14 + v)) two is))
+none_strange version s strange is (inr (inr three)) = strange.third (of_first 3 s (subst (λ v. s ≡ first (14 + v)) three is))
 
 -- ---- a database that is one of a register
 
 module _ (accepted : History) (old : State) (settled : IsTrue old.is_open → old.now ≡ old.committed) (lives : IsLive old) (clean : HasCleanDisk old) (live : IsTrue old.is_open) (f : IsFounded accepted old) where
+  now_is : old.now ≡ old.committed
+  now_is = settled live
+
   stored : IsTables accepted old.committed.trees → Stores accepted old.committed
   stored t = record { schema = one_schema old.committed.schema register_schema old.committed.trees refl (lives live).1 t.kept.kept.sound; tables = t }
 
+  stored_as : (version : ℕ) → IsTablesAs version accepted old.committed.trees → StoresAs version accepted old.now
+  stored_as version t =
+      subst (StoresAs version accepted) (sym now_is)
+      (record { schema = one_schema old.committed.schema (first (14 + version)) old.committed.trees refl (lives live).1 t.kept.sound; tables = t })
+
   schema_is : IsTables accepted old.committed.trees → old.now.schema ≡ register_schema
-  schema_is t = ap (λ (d : Database). d.schema) (settled live) ∙ (stored t).schema
+  schema_is t = ap (λ (d : Database). d.schema) now_is ∙ (stored t).schema
 
   pub of_empty : (new : State) → old.now.schema ≡ no_schema → Shows [] new → Shows accepted new
   of_empty new none made = elim (f clean live) [
-    | inl first ↦ subst (λ l. Shows l new) (sym first.1) made
-    | inr t ↦ absurd (apart (sym none ∙ schema_is t))
+    | inl nothing ↦ subst (λ l. Shows l new) (sym nothing.1) made
+    | inr (inl t) ↦ absurd (let e : 0 ≡ 17 = ap count (sym none ∙ schema_is t) in omega (arith, e))
+    | inr (inr (inl one)) ↦ absurd (let e : 0 ≡ 15 = ap count (sym none ∙ (stored_as 1 one).schema) in omega (arith, e))
+    | inr (inr (inr two)) ↦ absurd (let e : 0 ≡ 16 = ap count (sym none ∙ (stored_as 2 two).schema) in omega (arith, e))
   ]
 
-  pub of_ours : IsSome (table_named old.now.schema (codes "versions")) → Shows accepted old
-  of_ours some = elim (f clean live) [
-    | inl first ↦ absurd (let it : IsSome (table_named no_schema (codes "versions")) = subst (λ s. IsSome (table_named s (codes "versions"))) first.0 some in cc)
-    | inr t ↦ record { now = subst (Stores accepted) (sym (settled live)) (stored t); committed = stored t }
+  pub of_ours : LooksLike 3 old.now.schema → Shows accepted old
+  of_ours like = elim (f clean live) [
+    | inl nothing ↦ absurd (let e : 0 ≡ 17 = apart 3 old.now.schema no_schema like nothing.0 in omega (arith, e))
+    | inr (inl t) ↦ record { now = subst (Stores accepted) (sym now_is) (stored t); committed = stored t }
+    | inr (inr (inl one)) ↦ absurd (let e : 15 ≡ 17 = apart 3 old.now.schema _ like (stored_as 1 one).schema in omega (arith, e))
+    | inr (inr (inr two)) ↦ absurd (let e : 16 ≡ 17 = apart 3 old.now.schema _ like (stored_as 2 two).schema in omega (arith, e))
   ]
 
-  pub of_foreign : IsForeign old.now.schema → ⊥
-  of_foreign foreign = elim (f clean live) [
-    | inl first ↦ foreign.0 first.0
-    | inr t ↦ (let none : ◌≡◌ {A = Option ℕ} (Some 13) None = sym versions_stand ∙ subst (λ s. table_named s (codes "versions") ≡ None) (schema_is t) foreign.1 in cc)
+  pub of_first_version : LooksLike 1 old.now.schema → StoresAs 1 accepted old.now
+  of_first_version like = elim (f clean live) [
+    | inl nothing ↦ absurd (let e : 0 ≡ 15 = apart 1 old.now.schema no_schema like nothing.0 in omega (arith, e))
+    | inr (inl t) ↦ absurd (let e : 17 ≡ 15 = apart 1 old.now.schema _ like (schema_is t) in omega (arith, e))
+    | inr (inr (inl one)) ↦ stored_as 1 one
+    | inr (inr (inr two)) ↦ absurd (let e : 16 ≡ 15 = apart 1 old.now.schema _ like (stored_as 2 two).schema in omega (arith, e))
   ]
+
+  pub of_second_version : LooksLike 2 old.now.schema → StoresAs 2 accepted old.now
+  of_second_version like = elim (f clean live) [
+    | inl nothing ↦ absurd (let e : 0 ≡ 16 = apart 2 old.now.schema no_schema like nothing.0 in omega (arith, e))
+    | inr (inl t) ↦ absurd (let e : 17 ≡ 16 = apart 2 old.now.schema _ like (schema_is t) in omega (arith, e))
+    | inr (inr (inl one)) ↦ absurd (let e : 15 ≡ 16 = apart 2 old.now.schema _ like (stored_as 1 one).schema in omega (arith, e))
+    | inr (inr (inr two)) ↦ stored_as 2 two
+  ]
+
+  pub of_strange : IsStrange old.now.schema → ⊥
+  of_strange strange = elim (f clean live) [
+    | inl nothing ↦ strange.something nothing.0
+    | inr (inl t) ↦ none_strange 3 old.now.schema strange (schema_is t) (inr (inr refl))
+    | inr (inr (inl one)) ↦ none_strange 1 old.now.schema strange (stored_as 1 one).schema (inl refl)
+    | inr (inr (inr two)) ↦ none_strange 2 old.now.schema strange (stored_as 2 two).schema (inr (inl refl))
+  ]
+
+-- what a call says where it succeeds, under a premise that its success gives
+pub on_ok_if : {T E : Type 0} (P Q : Type 0) (r : Result T E) → OnOk r P → (P → OnOk r Q) → OnOk r Q
+on_ok_if P Q (Ok x) p f = f p
+on_ok_if P Q (Err e) p f = tt
 
 -- ---- a reading that is rolled back
 
@@ -102,3 +152,13 @@ pub unchanged_shows : (accepted : History) (old new : State) → (IsTrue old.is_
 unchanged_shows accepted old new shows u =
     let s = shows u.0.was_open in
     (record { now = subst (Stores accepted) (sym u.0.now_is) s.now; committed = subst (Stores accepted) (sym u.0.committed_is) s.committed }, u.0.is_open)
+
+-- ---- what the files held is what the connection shows
+
+pub founded_in : (accepted : History) (image : Image) (s : State) → IsHeldIn accepted image → FindsIn image s → Opens s → IsLive s
+    → ((s.now.schema ≡ no_schema) × (accepted ≡ [])) ⊎ IsHeld accepted s.committed.trees
+founded_in accepted image s (inl held) finds opens lives = inr (subst (IsHeld accepted) (sym (finds.holds held.0 held.1)) held.2)
+founded_in accepted image s (inr nothing) finds opens lives =
+    let bare = nothing.1 s.committed.trees finds.reads in
+    let none : s.committed.schema ≡ no_schema = one_schema s.committed.schema no_schema s.committed.trees refl (lives opens.is_open).1 (empty_is_sound s.committed.trees bare.1) in
+    inl (ap (λ (d : Database). d.schema) opens.clean ∙ none, nothing.0)

@@ -1,6 +1,5 @@
 -- What a file holds of a history.
-use Rattle.std.specs.Prelude.{◌≡◌, [], IsTrue}
-use Rattle.sqlite.specs.Schema.{Schema}
+use Rattle.std.specs.Prelude.{◌≡◌, IsTrue}
 use Rattle.sqlite.specs.Tree.{Trees}
 use Rattle.sqlite.specs.Effect.{Database}
 use Rattle.sqlite.specs.State.{State, HasCleanDisk}
@@ -19,10 +18,6 @@ pub record IsTables (accepted : History) (db : Trees) : Type 0 where
 pub record Stores (accepted : History) (db : Database) : Type 0 where
   pub schema : db.schema ≡ register_schema
   pub tables : IsTables accepted db.trees
-
--- the schema of an empty database
-abbrev pub no_schema : Schema
-no_schema = record { tables = []; indexes = []; views = [] }
 
 -- said of each history whose tables the database held, where it was open, by a call that leaves the disk clean
 abbrev pub OfStored : State → State → (History → Type 0) → Type 0

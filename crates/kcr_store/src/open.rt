@@ -1,15 +1,19 @@
 //! Taking a database over.
-ghost use Rattle.std.specs.Prelude.{◌≡◌, ◌≢◌, ◌↔◌, ◌⊎◌, false, List, [], ◌∷◌, IsTrue, IfOk, IfErr, OnOk};
+ghost use Rattle.std.specs.Prelude.{◌≡◌, ◌≢◌, ◌↔◌, ◌⊎◌, ◌+◌, false, List, [], ◌∷◌, IsTrue, IfOk, IfErr, OnOk};
 ghost use Rattle.sqlite.specs.State.{HasCleanDisk, IsLive, IsUnchanged, Survives};
 ghost use Rattle.sqlite.specs.Held.{state};
 ghost use Rattle.kcr_history.specs.History.{History};
 ghost use Rattle.kcr_tables.specs.First.{first_tables};
 ghost use Rattle.kcr_tables.specs.Held.{Tables, Holds};
-ghost use Rattle.kcr_store.specs.Stored.{IsTables, no_schema};
+ghost use Rattle.kcr_older.specs.Older.{StoresAs, HoldsUpTo};
+ghost use Rattle.kcr_older.specs.Standing.{StandsAs, IsStrange, no_schema};
+ghost use Rattle.kcr_older.specs.Versions.{number_of};
+ghost use Rattle.kcr_store.specs.Stored.{IsTables};
 ghost use Rattle.kcr_store.specs.Register.{Shows};
-ghost use Rattle.kcr_store.specs.Opening.{StandsAs, IsForeign, IsFounded, IsVersionAnswer};
+ghost use Rattle.kcr_store.specs.Opening.{IsFounded, IsBrought, IsMadeOf, IsNumberAnswer};
 
 use kcr_base::Refusal;
+use kcr_older::{Older, Standing, bring, standing_of};
 use kcr_tables::{Version, all_rows, make};
 use sqlite::{Alter, Connection, Error, ErrorCode};
 use std::alloc::Global;
@@ -21,9 +25,10 @@ pub enum OpenFault {
     Memory,
     /// The device failed.
     Disk,
-    /// It has something, and no table that tells a register's version.
+    /// It has something, and looks like no register: its tables and columns have other names than those of the versions
+    /// 1, 2 and 3, and it has no table `versions` with one number.
     Foreign,
-    /// It is a register of another version.
+    /// Its table `versions` has the number of another version.
     Version,
 }
 
@@ -40,7 +45,7 @@ fn fault_of(refusal: Refusal) -> OpenFault
     }
 }
 
-fn fault_of_error(error: Error) -> OpenFault
+pub(crate) fn fault_of_error(error: Error) -> OpenFault
     ensures kind { (result ≡ OpenFault.Memory) ⊎ (result ≡ OpenFault.Disk) }
     ensures memory { (result ≡ OpenFault.Memory) ↔ (error ≡ Error.SqliteFailure ErrorCode.OutOfMemory) }
 {
@@ -50,25 +55,15 @@ fn fault_of_error(error: Error) -> OpenFault
     }
 }
 
-/// What a database is, by its schema.
-#[derive(Clone, Copy, Drop)]
-pub(crate) enum Standing {
-    Empty,
-    Ours,
-    Foreign,
-}
-
-fn inspect<S: Alter>(conn: &Connection<S>) -> Standing
-    ensures stands { StandsAs (state S.Store conn.now).now.schema result }
+/// What the database is.
+fn inspect<S: Alter>(alloc: Global, conn: &Connection<S>) -> Result<Standing, OpenFault>
+    ensures stands { IfOk result (StandsAs (state S.Store conn.now).now.schema) }
+    ensures kind { IfErr result (λ e. (e ≡ OpenFault.Memory) ⊎ (e ≡ OpenFault.Disk)) }
     ensures live { IsLive (state S.Store conn.now) }
 {
-    let schema = conn.schema();
-    if schema.table_named(b"versions").is_some() {
-        Standing::Ours
-    } else if schema.tables.is_empty() && schema.indexes.is_empty() && schema.views.is_empty() {
-        Standing::Empty
-    } else {
-        Standing::Foreign
+    match standing_of(alloc, conn.schema()) {
+        Ok(standing) => Ok(standing),
+        Err(refusal) => Err(fault_of(refusal)),
     }
 }
 
@@ -139,7 +134,7 @@ fn resume<S: Alter>(alloc: Global, conn: &mut Connection<S>) -> Result<(), OpenF
         → OnOk result (Shows A (state S.Store conn.new) × IsTrue (state S.Store conn.new).is_open) }
     ensures taken { HasCleanDisk (state S.Store conn.new) → (A : History) → (IsTrue (state S.Store conn.old).is_open → Shows A (state S.Store conn.old))
         → IfErr result (λ e. (e ≡ OpenFault.Memory) ⊎ (e ≡ OpenFault.Disk)) }
-    ensures version { HasCleanDisk (state S.Store conn.new) → (t : Tables) → Holds (state S.Store conn.old).now t → IsVersionAnswer t result }
+    ensures version { HasCleanDisk (state S.Store conn.new) → (t : Tables) → Holds (state S.Store conn.old).now t → IsNumberAnswer 3 t result }
     ensures kind { IfErr result (λ e. e ≢ OpenFault.Foreign) }
     ensures survives { Survives (state S.Store conn.old) (state S.Store conn.new) (λ _. ⊥) }
 {
@@ -155,7 +150,57 @@ fn resume<S: Alter>(alloc: Global, conn: &mut Connection<S>) -> Result<(), OpenF
     }
 }
 
-/// Makes the tables of an empty database, and asks another for its version and whether it serves.
+/// Brings a register of an older version to this one, in a transaction of its own. A crash leaves it as it was, or
+/// brought.
+fn renew<S: Alter>(alloc: Global, conn: &mut Connection<S>, from: Older) -> Result<(), OpenFault>
+    requires autocommit { conn.old.in_transaction ≡ false }
+    ensures autocommit { conn.new.in_transaction ≡ false }
+    ensures shows { HasCleanDisk (state S.Store conn.new) → (A : History) → StoresAs (number_of from) A (state S.Store conn.old).now
+        → OnOk result (Shows A (state S.Store conn.new) × IsTrue (state S.Store conn.new).is_open) }
+    ensures opened { HasCleanDisk (state S.Store conn.new) → OnOk result (IsTrue (state S.Store conn.old).is_open) }
+    ensures taken { HasCleanDisk (state S.Store conn.new) → (A : History) → StoresAs (number_of from) A (state S.Store conn.old).now
+        → IfErr result (λ e. (e ≡ OpenFault.Memory) ⊎ (e ≡ OpenFault.Disk)) }
+    ensures version { HasCleanDisk (state S.Store conn.new) → (t : Tables)
+        → HoldsUpTo (14 + number_of from) (state S.Store conn.old).now t → IsNumberAnswer (number_of from) t result }
+    ensures kind { IfErr result (λ e. e ≢ OpenFault.Foreign) }
+    ensures left { IfErr result (λ e. e ≡ OpenFault.Version → Survives (state S.Store conn.old) (state S.Store conn.new) (λ _. ⊥)) }
+    ensures survives { Survives (state S.Store conn.old) (state S.Store conn.new) (IsBrought (number_of from) (state S.Store conn.old).now) }
+{
+    let mut tx = conn.transaction();
+    match bring(alloc, &mut tx, from) {
+        Ok(true) => match tx.commit() {
+            Ok(()) => Ok(()),
+            Err(error) => Err(fault_of_error(error)),
+        },
+        Ok(false) => {
+            tx.rollback();
+            Err(OpenFault::Version)
+        }
+        Err(refusal) => Err(fault_of(refusal)),
+    }
+}
+
+/// Why a database with a table `versions` of one column `number`, which looks like no register that is taken, is
+/// refused: for its version where that table has one row with a whole number.
+fn stranger<S: Alter>(alloc: Global, conn: &mut Connection<S>) -> OpenFault
+    requires autocommit { conn.old.in_transaction ≡ false }
+    ensures autocommit { conn.new.in_transaction ≡ false }
+    ensures survives { Survives (state S.Store conn.old) (state S.Store conn.new) (λ _. ⊥) }
+{
+    match read_versions(alloc, conn) {
+        Ok(versions) => match versions.as_slice() {
+            [_] => OpenFault::Version,
+            _ => OpenFault::Foreign,
+        },
+        Err(Refusal::Memory) => OpenFault::Memory,
+        Err(_) => match probe(conn) {
+            Ok(()) => OpenFault::Foreign,
+            Err(fault) => fault,
+        },
+    }
+}
+
+/// Makes the tables of an empty database, takes a register of this version, and brings an older one to it.
 pub(crate) fn settle<S: Alter>(alloc: Global, conn: &mut Connection<S>) -> Result<(), OpenFault>
     requires autocommit { conn.old.in_transaction ≡ false }
     ensures autocommit { conn.new.in_transaction ≡ false }
@@ -163,15 +208,23 @@ pub(crate) fn settle<S: Alter>(alloc: Global, conn: &mut Connection<S>) -> Resul
         → OnOk result (Shows A (state S.Store conn.new) × IsTrue (state S.Store conn.new).is_open) }
     ensures taken { HasCleanDisk (state S.Store conn.new) → IsTrue (state S.Store conn.old).is_open → (A : History) → IsFounded A (state S.Store conn.old)
         → IfErr result (λ e. (e ≡ OpenFault.Memory) ⊎ (e ≡ OpenFault.Disk)) }
-    ensures version { HasCleanDisk (state S.Store conn.new) → (t : Tables) → Holds (state S.Store conn.old).now t → IsVersionAnswer t result }
-    ensures foreign { IfErr result (λ e. e ≡ OpenFault.Foreign → IsForeign (state S.Store conn.old).now.schema) }
-    ensures survives { Survives (state S.Store conn.old) (state S.Store conn.new) (λ db. ((state S.Store conn.old).now.schema ≡ no_schema) × IsTables [] db) }
+    ensures version { HasCleanDisk (state S.Store conn.new) → (t : Tables) → Holds (state S.Store conn.old).now t → IsNumberAnswer 3 t result }
+    ensures older { HasCleanDisk (state S.Store conn.new) → (from : Older) → (t : Tables)
+        → HoldsUpTo (14 + number_of from) (state S.Store conn.old).now t → IsNumberAnswer (number_of from) t result }
+    ensures known { IfOk result (λ _. ¬ IsStrange (state S.Store conn.old).now.schema) }
+    ensures foreign { IfErr result (λ e. e ≡ OpenFault.Foreign → IsStrange (state S.Store conn.old).now.schema) }
+    ensures left { IfErr result (λ e. (e ≡ OpenFault.Foreign) ⊎ (e ≡ OpenFault.Version)
+        → Survives (state S.Store conn.old) (state S.Store conn.new) (λ _. ⊥)) }
+    ensures survives { Survives (state S.Store conn.old) (state S.Store conn.new) (IsMadeOf (state S.Store conn.old).now) }
 {
     let is_settled = conn.is_autocommit();
     prove!(is_settled);
-    match inspect(conn) {
+    match inspect(alloc, conn)? {
         Standing::Empty => found(conn),
-        Standing::Ours => resume(alloc, conn),
+        Standing::Current => resume(alloc, conn),
+        Standing::Second => renew(alloc, conn, Older::Second),
+        Standing::First => renew(alloc, conn, Older::First),
+        Standing::Numbered => Err(stranger(alloc, conn)),
         Standing::Foreign => Err(OpenFault::Foreign),
     }
 }

@@ -4,12 +4,12 @@ ghost use Rattle.sqlite.specs.State.{HasCleanDisk};
 ghost use Rattle.sqlite.specs.Held.{state};
 ghost use Rattle.kcr_store.specs.Steps.{Steps, IsNext, IsAsked, MayRefuse};
 
-use crate::open::{OpenFault, settle};
+use crate::open::{OpenFault, fault_of_error, settle};
 use crate::past::Past;
 use crate::perform::{Performed, ask, perform};
 use kcr_base::Refusal;
 use kcr_history::{Command, Question, Reply, Shown};
-use sqlite::{Alter, Connection, MemStore};
+use sqlite::{Alter, Connection, FileFrom, FileStore, MemStore, Start};
 use std::alloc::Global;
 use std::marker::Model;
 
@@ -49,14 +49,16 @@ impl<S: Alter> Model for Register<S> {
 }
 
 impl<S: Alter + Drop> Register<S> {
-    ghost use Rattle.std.specs.Prelude.{Bool, MatchResult, ◌⊎◌, ◌≢◌};
+    ghost use Rattle.std.specs.Prelude.{Bool, MatchResult, ◌⊎◌, ◌≢◌, ◌+◌};
     ghost use Rattle.sqlite.specs.State.{Survives};
     ghost use Rattle.kcr_history.specs.History.{History};
-    ghost use Rattle.kcr_tables.specs.First.{first_tables};
     ghost use Rattle.kcr_tables.specs.Held.{Tables, Holds};
-    ghost use Rattle.kcr_store.specs.Stored.{IsTables, no_schema};
+    ghost use Rattle.kcr_older.specs.Older.{HoldsUpTo, numbered};
+    ghost use Rattle.kcr_older.specs.Standing.{IsStrange};
+    ghost use Rattle.kcr_older.specs.Versions.{number_of};
+    ghost use Rattle.kcr_older.specs.declared.renewal.Older.{Older};
     ghost use Rattle.kcr_store.specs.Register.{IsKept};
-    ghost use Rattle.kcr_store.specs.Opening.{IsForeign, IsFounded};
+    ghost use Rattle.kcr_store.specs.Opening.{IsFounded, IsMadeOf};
 
     /// As `adopt`, for the history that `past` stands for.
     fn adopt_as(
@@ -70,12 +72,24 @@ impl<S: Alter + Drop> Register<S> {
         ensures kept { IfOk result (IsKept S.Store) }
         ensures taken { IfErr result (λ e. IsTrue past.is_founded → IsTrue (state S.Store connection).is_open → HasCleanDisk (state S.Store e.1) → (e.0 ≡ OpenFault.Memory) ⊎ (e.0 ≡ OpenFault.Disk)) }
         ensures version { MatchResult result
-            (λ r. HasCleanDisk (state S.Store r.conn) → (t : Tables) → Holds (state S.Store connection).now t → t.versions ≡ first_tables.versions)
-            (λ e. HasCleanDisk (state S.Store e.1) → (t : Tables) → Holds (state S.Store connection).now t → e.0 ≡ OpenFault.Version → t.versions ≢ first_tables.versions) }
-        ensures foreign { IfErr result (λ e. e.0 ≡ OpenFault.Foreign → IsForeign (state S.Store connection).now.schema) }
+            (λ r. HasCleanDisk (state S.Store r.conn) → (t : Tables) → Holds (state S.Store connection).now t → t.versions ≡ numbered 3)
+            (λ e. HasCleanDisk (state S.Store e.1) → (t : Tables) → Holds (state S.Store connection).now t → e.0 ≡ OpenFault.Version → t.versions ≢ numbered 3) }
+        ensures older { MatchResult result
+            (λ r. HasCleanDisk (state S.Store r.conn) → (from : Older) → (t : Tables) → HoldsUpTo (14 + number_of from) (state S.Store connection).now t
+            → t.versions ≡ numbered (number_of from))
+            (λ e. HasCleanDisk (state S.Store e.1) → (from : Older) → (t : Tables) → HoldsUpTo (14 + number_of from) (state S.Store connection).now t
+            → e.0 ≡ OpenFault.Version → t.versions ≢ numbered (number_of from)) }
+
+        // What looks like no register is not taken, and nothing else is refused as foreign.
+        ensures known { IfOk result (λ _. ¬ IsStrange (state S.Store connection).now.schema) }
+        ensures foreign { IfErr result (λ e. e.0 ≡ OpenFault.Foreign → IsStrange (state S.Store connection).now.schema) }
+        ensures left { IfErr result (λ e. (e.0 ≡ OpenFault.Foreign) ⊎ (e.0 ≡ OpenFault.Version)
+            → Survives (state S.Store connection) (state S.Store e.1) (λ _. ⊥)) }
+
+        // A crash leaves what was there, or what the opening makes of it.
         ensures crash { MatchResult result
-            (λ r. Survives (state S.Store connection) (state S.Store r.conn) (λ db. ((state S.Store connection).now.schema ≡ no_schema) × IsTables [] db))
-            (λ e. Survives (state S.Store connection) (state S.Store e.1) (λ db. ((state S.Store connection).now.schema ≡ no_schema) × IsTables [] db)) }
+            (λ r. Survives (state S.Store connection) (state S.Store r.conn) (IsMadeOf (state S.Store connection).now))
+            (λ e. Survives (state S.Store connection) (state S.Store e.1) (IsMadeOf (state S.Store connection).now)) }
     {
         let mut conn = connection;
         match settle(alloc, &mut conn) {
@@ -93,9 +107,12 @@ impl<S: Alter + Drop> Register<S> {
         }
     }
 
-    /// Takes a database that is empty or a register's, and makes the tables of an empty one. The history that it begins
-    /// with is the one that the caller's proof names, where it is true of the database. A database with something
-    /// else is refused as foreign, one of another version as that; both are left as they are.
+    /// Takes a database that is empty or a register's. An empty one gets its tables, and a register of version 1 or 2 is
+    /// brought to this version, which is 3, each in one transaction: the stays are made of the sheet, and there are no
+    /// withdrawals. The history that it begins with is the one that the caller's proof names, where it is true of the
+    /// database. A database with something else is refused as foreign, one whose number is another version's as that;
+    /// both are left as they are. Where memory is wanting or the device fails, a crash leaves the database as it was
+    /// or as it was to become.
     pub fn adopt(
         alloc: Global,
         connection: Connection<S>,
@@ -107,12 +124,24 @@ impl<S: Alter + Drop> Register<S> {
         ensures kept { IfOk result (IsKept S.Store) }
         ensures taken { IfErr result (λ e. IsTrue past.0 → IsTrue (state S.Store connection).is_open → HasCleanDisk (state S.Store e.1) → (e.0 ≡ OpenFault.Memory) ⊎ (e.0 ≡ OpenFault.Disk)) }
         ensures version { MatchResult result
-            (λ r. HasCleanDisk (state S.Store r.conn) → (t : Tables) → Holds (state S.Store connection).now t → t.versions ≡ first_tables.versions)
-            (λ e. HasCleanDisk (state S.Store e.1) → (t : Tables) → Holds (state S.Store connection).now t → e.0 ≡ OpenFault.Version → t.versions ≢ first_tables.versions) }
-        ensures foreign { IfErr result (λ e. e.0 ≡ OpenFault.Foreign → IsForeign (state S.Store connection).now.schema) }
+            (λ r. HasCleanDisk (state S.Store r.conn) → (t : Tables) → Holds (state S.Store connection).now t → t.versions ≡ numbered 3)
+            (λ e. HasCleanDisk (state S.Store e.1) → (t : Tables) → Holds (state S.Store connection).now t → e.0 ≡ OpenFault.Version → t.versions ≢ numbered 3) }
+        ensures older { MatchResult result
+            (λ r. HasCleanDisk (state S.Store r.conn) → (from : Older) → (t : Tables) → HoldsUpTo (14 + number_of from) (state S.Store connection).now t
+            → t.versions ≡ numbered (number_of from))
+            (λ e. HasCleanDisk (state S.Store e.1) → (from : Older) → (t : Tables) → HoldsUpTo (14 + number_of from) (state S.Store connection).now t
+            → e.0 ≡ OpenFault.Version → t.versions ≢ numbered (number_of from)) }
+
+        // What looks like no register is not taken, and nothing else is refused as foreign.
+        ensures known { IfOk result (λ _. ¬ IsStrange (state S.Store connection).now.schema) }
+        ensures foreign { IfErr result (λ e. e.0 ≡ OpenFault.Foreign → IsStrange (state S.Store connection).now.schema) }
+        ensures left { IfErr result (λ e. (e.0 ≡ OpenFault.Foreign) ⊎ (e.0 ≡ OpenFault.Version)
+            → Survives (state S.Store connection) (state S.Store e.1) (λ _. ⊥)) }
+
+        // A crash leaves what was there, or what the opening makes of it.
         ensures crash { MatchResult result
-            (λ r. Survives (state S.Store connection) (state S.Store r.conn) (λ db. ((state S.Store connection).now.schema ≡ no_schema) × IsTables [] db))
-            (λ e. Survives (state S.Store connection) (state S.Store e.1) (λ db. ((state S.Store connection).now.schema ≡ no_schema) × IsTables [] db)) }
+            (λ r. Survives (state S.Store connection) (state S.Store r.conn) (IsMadeOf (state S.Store connection).now))
+            (λ e. Survives (state S.Store connection) (state S.Store e.1) (IsMadeOf (state S.Store connection).now)) }
     {
         Register::adopt_as(alloc, connection, Past::of())
     }
@@ -135,6 +164,38 @@ impl Register<MemStore> {
         match Register::adopt_as(alloc, connection, Past::of()) {
             Ok(register) => Ok(register),
             Err((fault, _)) => Err(fault),
+        }
+    }
+}
+
+impl<S: Start> Register<FileStore<FileFrom<S>>> {
+    ghost use Rattle.std.specs.Prelude.{Bool};
+    ghost use Rattle.sqlite.specs.Files.{over_files};
+    ghost use Rattle.sqlite.specs.WalFiles.{image_at};
+    ghost use Rattle.kcr_history.specs.History.{History};
+    ghost use Rattle.kcr_store.specs.Register.{IsKept};
+    ghost use Rattle.kcr_store.specs.Opening.{IsHeldIn};
+
+    /// Opens the register in the file at the path and its log beside it, as `adopt` takes a database; a file that is
+    /// not there is made. `start` stands for what the two files held, which no code can read: the history that the
+    /// register begins with is the one that the caller's proof names, where it is true of them. `Disk` comes also where
+    /// another process has the file open, where it is no database, and for the name `:memory:`.
+    pub fn open(
+        rt: &HostRuntime,
+        path: &str,
+        start: S,
+    ) -> Result<Register<FileStore<FileFrom<S>>>, OpenFault>
+        ghost past: { Bool × History }
+        requires founded { IsTrue past.0 → IsHeldIn past.1 (image_at S.Start) }
+        ensures adopted { IfOk result (λ r. (r.is_founded ≡ past.0) × (r.accepted ≡ past.1) × (r.torn ≡ None)) }
+        ensures kept { IfOk result (IsKept over_files) }
+    {
+        match Connection::open_from(rt, path, false, start) {
+            Ok(connection) => match Register::adopt_as(rt.alloc(), connection, Past::of()) {
+                Ok(opened) => Ok(opened),
+                Err((fault, _)) => Err(fault),
+            },
+            Err((error, _)) => Err(fault_of_error(error)),
         }
     }
 }

@@ -164,24 +164,24 @@ is_14 = (refl, refl, (refl, refl), refl)
 defines_14 : (found : Table) → table_defined_by (text_at 14) ≡ Ok found → created (first 14) found ≡ first 15
 defines_14 found h = let both : Ok found ≡ Ok bare_keys = sym h ∙ is_14.3 in let same : found ≡ bare_keys = cc in ap (created (first 14)) same
 
-abbrev bare_stays : Table
+abbrev pub bare_stays : Table
 bare_stays = record stays { tree = 0 }
 
-is_15 : (command_of (understood (first 15) (text_at 15)) ≡ CreateTable) × (statement_of (text_at 15) (understood (first 15) (text_at 15)) ≡ text_at 15) × IsPlain (understood (first 15) (text_at 15)) × (table_defined_by (text_at 15) ≡ Ok bare_stays)
+pub is_15 : (command_of (understood (first 15) (text_at 15)) ≡ CreateTable) × (statement_of (text_at 15) (understood (first 15) (text_at 15)) ≡ text_at 15) × IsPlain (understood (first 15) (text_at 15)) × (table_defined_by (text_at 15) ≡ Ok bare_stays)
 unfolding understood everything
 is_15 = (refl, refl, (refl, refl), refl)
 
-defines_15 : (found : Table) → table_defined_by (text_at 15) ≡ Ok found → created (first 15) found ≡ first 16
+pub defines_15 : (found : Table) → table_defined_by (text_at 15) ≡ Ok found → created (first 15) found ≡ first 16
 defines_15 found h = let both : Ok found ≡ Ok bare_stays = sym h ∙ is_15.3 in let same : found ≡ bare_stays = cc in ap (created (first 15)) same
 
-abbrev bare_withdrawals : Table
+abbrev pub bare_withdrawals : Table
 bare_withdrawals = record withdrawals { tree = 0 }
 
-is_16 : (command_of (understood (first 16) (text_at 16)) ≡ CreateTable) × (statement_of (text_at 16) (understood (first 16) (text_at 16)) ≡ text_at 16) × IsPlain (understood (first 16) (text_at 16)) × (table_defined_by (text_at 16) ≡ Ok bare_withdrawals)
+pub is_16 : (command_of (understood (first 16) (text_at 16)) ≡ CreateTable) × (statement_of (text_at 16) (understood (first 16) (text_at 16)) ≡ text_at 16) × IsPlain (understood (first 16) (text_at 16)) × (table_defined_by (text_at 16) ≡ Ok bare_withdrawals)
 unfolding understood everything
 is_16 = (refl, refl, (refl, refl), refl)
 
-defines_16 : (found : Table) → table_defined_by (text_at 16) ≡ Ok found → created (first 16) found ≡ first 17
+pub defines_16 : (found : Table) → table_defined_by (text_at 16) ≡ Ok found → created (first 16) found ≡ first 17
 defines_16 found h = let both : Ok found ≡ Ok bare_withdrawals = sym h ∙ is_16.3 in let same : found ≡ bare_withdrawals = cc in ap (created (first 16)) same
 
 abbrev pub Next : ℕ → State → State → Type 0

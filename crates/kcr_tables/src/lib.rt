@@ -37,4 +37,5 @@ pub use creation::make;
 pub use kcr_cells::Version;
 pub use last::{last_key_row, last_stay_of};
 pub use table::{AsCell, Finds, Listed, all_rows, rows_under};
+pub use texts::create_text;
 pub use view::view_of;

@@ -1,0 +1,5 @@
+pub mod Older
+pub mod Standing
+pub mod Versions
+pub mod Growth
+pub mod Filled

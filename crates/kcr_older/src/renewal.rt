@@ -1,0 +1,122 @@
+//! Registers of older versions, brought to this one.
+
+ghost use Rattle.std.specs.Prelude.{◌≡◌, ◌↔◌, ◌+◌, IsTrue, IfOk};
+ghost use Rattle.sqlite.specs.Held.{state};
+ghost use Rattle.sqlite.specs.State.{HasCleanDisk};
+ghost use Rattle.kcr_history.specs.History.{History};
+ghost use Rattle.kcr_history.specs.Tables.{tables};
+ghost use Rattle.kcr_tables.specs.Frame.{Reads, Writes};
+ghost use Rattle.kcr_tables.specs.Held.{Tables, Holds};
+ghost use Rattle.kcr_tables.specs.Joint.{HoldsTables};
+ghost use Rattle.kcr_older.specs.Older.{StoresAs, HoldsUpTo, numbered};
+ghost use Rattle.kcr_older.specs.Versions.{number_of};
+
+use crate::fill::fill_stays;
+use crate::grow::{grow_from_1, grow_from_2, set_version};
+use kcr_base::Refusal;
+use kcr_tables::{Version, all_rows};
+use sqlite::{Alter, Transaction};
+use std::alloc::Global;
+
+/// A version before this one.
+#[derive(Clone, Copy, PartialEq, Eq, Debug, Drop)]
+pub enum Older {
+    /// Version 1, which has neither stays nor withdrawals.
+    First,
+    /// Version 2, which has no withdrawals.
+    Second,
+}
+
+/// Whether the table of versions has this version's number, and no other.
+fn has_number<S: Alter>(
+    alloc: Global,
+    tx: &mut Transaction<'_, S>,
+    from: Older,
+) -> Result<bool, Refusal>
+    ensures same_reference { tx.new.conn.ghost_name ≡ tx.old.conn.ghost_name }
+    ensures number { HasCleanDisk (state S.Store tx.new.conn.now) → (t : Tables)
+        → Holds (state S.Store tx.old.conn.now).now t
+        → IfOk result (λ is_so. IsTrue is_so ↔ (t.versions ≡ numbered (number_of from))) }
+    ensures frame { Reads (state S.Store tx.old.conn.now) (state S.Store tx.new.conn.now) result }
+{
+    let versions = all_rows::<_, Version>(alloc, tx)?;
+    Ok(is_number_of(versions.as_slice(), from))
+}
+
+/// Whether these are the rows of this version: the one number.
+fn is_number_of(versions: &[Version], from: Older) -> bool
+    ensures { IsTrue result ↔ (versions.now ≡ numbered (number_of from)) }
+{
+    let number = match from {
+        Older::First => 1,
+        Older::Second => 2,
+    };
+    match versions {
+        [version] => version.number == number,
+        _ => false,
+    }
+}
+
+/// As `bring`, from version 1: it makes the stays of the sheet, a table of withdrawals without rows, and last the number
+/// of this version.
+fn bring_first<S: Alter>(alloc: Global, tx: &mut Transaction<'_, S>) -> Result<bool, Refusal>
+    ensures same_reference { tx.new.conn.ghost_name ≡ tx.old.conn.ghost_name }
+    ensures brought { HasCleanDisk (state S.Store tx.new.conn.now) → (A : History)
+        → StoresAs 1 A (state S.Store tx.old.conn.now).now
+        → IfOk result (λ is_brought. IsTrue is_brought × HoldsTables (tables A) (state S.Store tx.new.conn.now).now) }
+    ensures numbered { HasCleanDisk (state S.Store tx.new.conn.now) → (t : Tables)
+        → HoldsUpTo 15 (state S.Store tx.old.conn.now).now t
+        → IfOk result (λ is_brought. IsTrue is_brought ↔ (t.versions ≡ numbered 1)) }
+    ensures frame { Writes (state S.Store tx.old.conn.now) (state S.Store tx.new.conn.now) result }
+{
+    grow_from_1(tx)?;
+    if !has_number(alloc, tx, Older::First)? {
+        return Ok(false);
+    }
+    fill_stays(alloc, tx)?;
+    set_version(tx)?;
+    Ok(true)
+}
+
+/// As `bring`, from version 2: it makes a table of withdrawals without rows, and last the number of this version.
+fn bring_second<S: Alter>(alloc: Global, tx: &mut Transaction<'_, S>) -> Result<bool, Refusal>
+    ensures same_reference { tx.new.conn.ghost_name ≡ tx.old.conn.ghost_name }
+    ensures brought { HasCleanDisk (state S.Store tx.new.conn.now) → (A : History)
+        → StoresAs 2 A (state S.Store tx.old.conn.now).now
+        → IfOk result (λ is_brought. IsTrue is_brought × HoldsTables (tables A) (state S.Store tx.new.conn.now).now) }
+    ensures numbered { HasCleanDisk (state S.Store tx.new.conn.now) → (t : Tables)
+        → HoldsUpTo 16 (state S.Store tx.old.conn.now).now t
+        → IfOk result (λ is_brought. IsTrue is_brought ↔ (t.versions ≡ numbered 2)) }
+    ensures frame { Writes (state S.Store tx.old.conn.now) (state S.Store tx.new.conn.now) result }
+{
+    grow_from_2(tx)?;
+    if !has_number(alloc, tx, Older::Second)? {
+        return Ok(false);
+    }
+    set_version(tx)?;
+    Ok(true)
+}
+
+/// Brings the tables of a register of an older version to this one: the same history, with the stays of its sheet and
+/// no withdrawals. All other rows stay. It is false where the number of its version is another, and then the caller has
+/// to roll back, as after an error, which is `Memory` for want of memory and else `Disk`: the device failed, or a
+/// statement was refused, as over tables that are not those of that version. What was committed before stays.
+pub fn bring<S: Alter>(
+    alloc: Global,
+    tx: &mut Transaction<'_, S>,
+    from: Older,
+) -> Result<bool, Refusal>
+    ensures same_reference { tx.new.conn.ghost_name ≡ tx.old.conn.ghost_name }
+    ensures brought { HasCleanDisk (state S.Store tx.new.conn.now) → (A : History)
+        → StoresAs (number_of from) A (state S.Store tx.old.conn.now).now
+        → IfOk result (λ is_brought. IsTrue is_brought × HoldsTables (tables A) (state S.Store tx.new.conn.now).now) }
+    ensures numbered { HasCleanDisk (state S.Store tx.new.conn.now) → (t : Tables)
+        → HoldsUpTo (14 + number_of from) (state S.Store tx.old.conn.now).now t
+        → IfOk result (λ is_brought. IsTrue is_brought ↔ (t.versions ≡ numbered (number_of from))) }
+    ensures frame { Writes (state S.Store tx.old.conn.now) (state S.Store tx.new.conn.now) result }
+{
+    match from {
+        Older::First => bring_first(alloc, tx),
+        Older::Second => bring_second(alloc, tx),
+    }
+}
