@@ -5,7 +5,7 @@ use Rattle.kcr_base.specs.Counted.{failures_of, gifts_of}
 use Rattle.kcr_base.specs.declared.counted.Counted.{Counted}
 use Rattle.kcr_desk.specs.declared.fault.DeskFault.{DeskFault}
 use Rattle.kcr_desk.specs.declared.fault.DeskFault.TheVariants as stream
-use Rattle.kcr_tool.specs.declared.act.Fault.TheVariants.{Stream}
+use Rattle.kcr_tool.specs.declared.fault.Fault.TheVariants.{Stream}
 use Rattle.kcr_tool.specs.Faults.{HasCause}
 
 pub stream_cause : {T R W : Type 0} (fault : DeskFault) (old_input new_input : Counted R) (old_output new_output : Counted W)

@@ -1,5 +1,7 @@
 pub mod Parses
+pub mod Numbers
+pub mod Options
 pub mod Taken
 pub mod Causes
-mod Examples
 pub mod Empty
+mod Examples

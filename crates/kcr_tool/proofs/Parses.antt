@@ -10,7 +10,7 @@ use Rattle.clap.specs.declared.parser.matches.SubCommand.{SubCommand}
 use Rattle.clap.specs.declared.parser.matches.ArgMatches.TheViews.{out-SubCommand}
 use Rattle.clap.proofs.OnLiterals.{clap_on_literals}
 use Rattle.kcr_tool.specs.Commands.{tool_app}
-use Rattle.kcr_tool.specs.Tasks.{met_in, faults_of, task_of, task_at}
+use Rattle.kcr_tool.specs.Tasks.{met_in, faults_of, task_of, task_at, file_of, file_at}
 use Rattle.kcr_tool.specs.declared.words.Task.{Task}
 use Rattle.clap.specs.declared.parser.matches.ArgMatches.TheViews.{out-ArgMatches}
 
@@ -64,3 +64,8 @@ met_is words m name rows found n r = sym found ∙ met (out-ArgMatches m).subcom
 pub task_is : (words : List Text) (name : Text) (rows : List Row) (t : Task) → met_in words ≡ Some (name, rows) → task_at (name, rows) ≡ Some t → task_of words ≡ Some t
 unfolding task_of
 task_is words name rows t e h = rw e h
+
+-- the file that they name
+pub file_is : (words : List Text) (name : Text) (rows : List Row) (file : Option Text) → met_in words ≡ Some (name, rows) → file ≡ file_at rows → file_of words ≡ file
+unfolding file_of
+file_is words name rows file e h = rw e (sym h)

@@ -1,26 +1,26 @@
 -- Words that are taken hold a task.
-use Rattle.std.proofs.Common.{◌≡◌, ◌&&◌, ◌||◌, ℕ, Bool, true, false, not, cond, codes, List, [], ◌∷◌, Option, Some, None, refl, sym, ap, ◌∙◌, subst, ◌⊎◌, inl, inr, option_map}
-use Rattle.std.specs.Prelude.{is_some, fold, find, MatchOption}
+use Rattle.std.proofs.Common.{◌≡◌, ◌&&◌, ◌||◌, ℕ, zero, suc, Bool, true, false, not, cond, codes, List, [], ◌∷◌, Option, Some, None, refl, sym, ap, ◌∙◌, subst, ◌⊎◌, inl, inr, option_map}
+use Rattle.std.specs.Prelude.{is_some, fold, find, MatchOption, option_and_then}
+use Rattle.std.specs.List.{AllByRecursion}
 use Rattle.std.specs.Str.{bytes_eq}
 use Rattle.std.proofs.lemmas.Slice.Eq.{bytes_eq-Decides}
 use Rattle.clap.specs.Words.{Kinds, Row, Shape, Text, subcommand_rows_of}
 use Rattle.clap.specs.declared.parser.matches.ArgMatches.{ArgMatches}
-use Rattle.clap.specs.Walk.{Held, Names, Rule, Step, Waiting, Walk, Outcome, done, waits, plain, refused, idle, option, positional, next, trailing, subcommand, value, walked, walked_from, walk, walk_from, word_met, after_step, after_flag, plain_word, long_or_other, short_or_plain, subcommand_met, subcommand_or_other, to_positional, arg_by_index, nothing_held, answers_to, bundle, long_met, arg_by_long, stop_after, finished, settled}
+use Rattle.clap.specs.Walk.{Held, Names, Rule, Step, Waiting, Walk, Outcome, done, waits, plain, refused, idle, option, positional, next, trailing, subcommand, value, walked, walked_from, walk, walk_from, word_met, after_step, after_flag, plain_word, long_or_other, short_or_plain, subcommand_met, subcommand_or_other, to_positional, arg_by_index, nothing_held, answers_to, bundle, long_met, arg_by_long, stop_after, finished, settled, rows_after}
 use Rattle.clap.specs.Lexer.{long_of, short_of}
 use Rattle.clap.specs.Kinds.{or_else, check_kinds}
 use Rattle.clap.specs.Takes.{is_given}
 use Rattle.clap.specs.Facts.{explicit_source}
 use Rattle.std.specs.List.{list_any}
-use Rattle.clap.specs.Faults.{check_fault, defaults_fault, settle_fault, entered_fault, built_fault, walk_fault, turn_fault, word_fault, step_fault, other_fault}
+use Rattle.std.specs.Option.{option_map_or}
+use Rattle.clap.specs.Faults.{check_fault, defaults_fault, settle_fault, entered_fault, built_fault, level_fault, walk_fault, turn_fault, word_fault, step_fault, other_fault}
 use Rattle.clap.specs.declared.error.kind.ErrorKind.TheVariants as kind
-use Rattle.clap.specs.Simple.{App, built, names_of, label_of, entered, rows_at, argument_words, new_shape}
-use Rattle.kcr_tool.specs.Commands.{tool_app}
-use Rattle.kcr_tool.specs.Tasks.{task_at, met_in, faults_of}
-use Rattle.kcr_tool.specs.declared.words.Task.TheVariants.{Run}
-
-both_empty : (a b : Kinds) → or_else a b ≡ [] → (a ≡ []) × (b ≡ [])
-both_empty [] b e = (refl, e)
-both_empty (k ∷ ks) b e = cc
+use Rattle.clap.specs.Simple.{App, built, names_of, label_of, entered, rows_at, argument_words, new_shape, filled, help_rule}
+use Rattle.kcr_tool.specs.Commands.{tool_app, file_rule, number_rule}
+use Rattle.kcr_tool.specs.Tasks.{task_at, met_in, faults_of, number_at, serve_at, ceremony_at}
+use Rattle.kcr_tool.specs.declared.words.Task.{Task}
+use Rattle.kcr_tool.specs.declared.words.Task.TheVariants.{Run, Serve, Print, Attendance, Custody, Audit}
+use Rattle.kcr_tool.proofs.Options.{both_empty, required_number, number_keeps, other_keeps, help_keeps}
 
 -- where a walk has stopped, it is not at `help`
 abbrev PastHelp : Option (Text × List Text) → Type 0
@@ -112,9 +112,14 @@ entered_there false true false some all need help none = cc
 entered_there false false helps some all need help none = cc
 entered_there false true true some all need help none = cc
 
+-- a parse that is not refused
+record IsEntered (a : App) (words : List Text) : Type 0 where
+  there : is_some (entered a (stop_after a.top.rules (names_of a) words)) ≡ true
+  past : PastHelp (stop_after a.top.rules (names_of a) words)
+  calm : entered_fault a (stop_after a.top.rules (names_of a) words) ≡ []
+
 parse_past : (a : App) (words : List Text) → a.top.subcommand_required ≡ true → a.top.arg_required_else_help ≡ false → a.top.disable_help_subcommand ≡ false
-    → built_fault a nothing_held words ≡ []
-    → let stop = stop_after a.top.rules (names_of a) words in (is_some (entered a stop) ≡ true) × PastHelp stop
+    → built_fault a nothing_held words ≡ [] → IsEntered a words
 parse_past a words needs bare helps none =
     let stop = stop_after a.top.rules (names_of a) words in
     let end = (walk a.top.rules (names_of a) nothing_held words).held in
@@ -126,20 +131,23 @@ parse_past a words needs bare helps none =
     let walks = both_empty (walk_fault a.top (names_of a) (walk_from nothing_held) words) (or_else (entered_fault a stop) settling) none in
     let below = both_empty (entered_fault a stop) settling walks.1 in
     let settled' = both_empty (settle_fault a.top.rules a.top.args_override_self end) defaults below.1 in
-    let last = both_empty (defaults_fault (settled a.top.rules end).rows a.top.rules) check settled'.1 in (
-      entered_there has a.top.subcommand_required a.top.arg_required_else_help (not (list_any (λ r. explicit_source r.source) rows))
-          (not (a.top.subcommand_negates_reqs && has) && list_any (λ r. r.required && not (is_given r.id rows)) a.top.rules) needs bare last.1,
-      walk_past a.top (names_of a) helps (walk_from nothing_held) words walks.0 tt,
-    )
+    let last = both_empty (defaults_fault (settled a.top.rules end).rows a.top.rules) check settled'.1 in
+    record {
+      there = entered_there has a.top.subcommand_required a.top.arg_required_else_help (not (list_any (λ r. explicit_source r.source) rows))
+          (not (a.top.subcommand_negates_reqs && has) && list_any (λ r. r.required && not (is_given r.id rows)) a.top.rules) needs bare last.1;
+      past = walk_past a.top (names_of a) helps (walk_from nothing_held) words walks.0 tt;
+      calm = below.0;
+    }
 
--- the first of two that a test finds
-two_found : {X : Type 0} (f : X → Bool) (a b : X) → is_some (find f (a ∷ b ∷ [])) ≡ true → (find f (a ∷ b ∷ []) ≡ Some a) ⊎ (f b ≡ true)
-two_found {X} f a b is = by_tests (f a) (f b) refl is
+-- what is found of a list has what each that is found would have
+found_has : {X : Type 0} (f : X → Bool) (Q : X → Type 0) (xs : List X) → AllByRecursion (λ x. f x ≡ true → Q x) xs → is_some (find f xs) ≡ true
+    → (x : X) × (find f xs ≡ Some x) × Q x
+found_has f Q [] all is = cc
+found_has {X} f Q (x ∷ xs) all is = by_test (found_has f Q xs all.1) (f x) refl is
   where
-    by_tests : (one two : Bool) → f b ≡ two → is_some (cond one (Some a) (cond two (Some b) None)) ≡ true → (cond one (Some a) (cond two (Some b) None) ≡ Some a) ⊎ (f b ≡ true)
-    by_tests true two e is = inl refl
-    by_tests false true e is = inr e
-    by_tests false false e is = cc
+    by_test : (is_some (find f xs) ≡ true → (y : X) × (find f xs ≡ Some y) × Q y) → (b : Bool) → f x ≡ b → is_some (cond b (Some x) (find f xs)) ≡ true → (y : X) × (cond b (Some x) (find f xs) ≡ Some y) × Q y
+    by_test later true e some = (x, refl, all.0 e)
+    by_test later false e some = later some
 
 some_mapped : {X Y : Type 0} (g : X → Y) (o : Option X) → is_some (option_map g o) ≡ true → is_some o ≡ true
 some_mapped g None is = is
@@ -155,44 +163,144 @@ not_help name is past =
     let P : Text → Type 0 = λ t. bytes_eq t (codes "help") ≡ false in
     let no : true ≡ false = subst P (sym e) past in cc
 
--- one of two subcommands was entered, and not the second
-entered_first : (a : App) (one two : Shape) → a.subs ≡ one ∷ two ∷ [] → one.name ≡ codes "run" → label_of two ≡ (codes "help", [])
-    → (stop : Option (Text × List Text)) → PastHelp stop → is_some (entered a stop) ≡ true
-    → (p : Text × List Row) × (entered a stop ≡ Some p) × (task_at p ≡ Some Run)
-entered_first a one two subs runs helps None past is = cc
-entered_first a one two subs runs helps (Some p) past is =
+-- a subcommand whose words are not refused holds a task
+abbrev HoldsTask : Shape → Type 0
+HoldsTask s = (words : List Text) → level_fault s [] nothing_held words false [] ≡ [] → is_some (task_at (rows_at s words)) ≡ true
+
+-- a subcommand was entered that has a task
+entered_task : (a : App) (stop : Option (Text × List Text)) → PastHelp stop → is_some (entered a stop) ≡ true → entered_fault a stop ≡ []
+    → ((name : Text) → bytes_eq name (codes "help") ≡ false → AllByRecursion (λ s. answers_to name (label_of s) ≡ true → HoldsTask s) a.subs)
+    → (p : Text × List Row) × (entered a stop ≡ Some p) × (is_some (task_at p) ≡ true)
+entered_task a None past is calm each = cc
+entered_task a (Some p) past is calm each =
     let f : Shape → Bool = λ s. answers_to p.0 (label_of s) in
-    let rows : Shape → Text × List Row = λ s. rows_at s p.1 in
-    let some : is_some (find f (one ∷ two ∷ [])) ≡ true = subst (λ (subs : List Shape). is_some (find f subs) ≡ true) subs (some_mapped rows (find f a.subs) is) in
-    elim (two_found f one two some) [
-      | inl e ↦ (rows one, ap (λ (subs : List Shape). option_map rows (find f subs)) subs ∙ ap (option_map rows) e, ap (λ (name : Text). cond (bytes_eq name (codes "run")) (Some Run) None) runs)
-      | inr e ↦ absurd (not_help p.0 (or_alone (bytes_eq (codes "help") p.0) (sym (ap (answers_to p.0) helps) ∙ e)) past)
-    ]
+    let met = found_has f HoldsTask a.subs (each p.0 past) (some_mapped (λ s. rows_at s p.1) (find f a.subs) is) in
+    let free : level_fault met.0 [] nothing_held p.1 false [] ≡ [] =
+    sym (ap (λ (o : Option Shape). option_map_or (λ s. level_fault s [] nothing_held p.1 false []) o []) met.1) ∙ calm in
+    (rows_at met.0 p.1, ap (option_map (λ s. rows_at s p.1)) met.1, met.2 p.1 free)
 
-abbrev first_shape : List Shape → Shape
-first_shape [] = new_shape []
-first_shape (s ∷ ss) = s
+-- ---- the program's subcommands
 
-abbrev second_shape : List Shape → Shape
-second_shape [] = new_shape []
-second_shape (s ∷ ss) = first_shape ss
+abbrev shape_at : ℕ → List Shape → Shape
+shape_at n [] = new_shape []
+shape_at zero (s ∷ ss) = s
+shape_at (suc n) (s ∷ ss) = shape_at n ss
 
-two_subs : (built tool_app).subs ≡ first_shape (built tool_app).subs ∷ second_shape (built tool_app).subs ∷ []
+abbrev sub : ℕ → Shape
+sub n = shape_at n (built tool_app).subs
+
+seven_subs : (built tool_app).subs ≡ sub 0 ∷ sub 1 ∷ sub 2 ∷ sub 3 ∷ sub 4 ∷ sub 5 ∷ sub 6 ∷ []
 unfolding tool_app
-two_subs = refl
+seven_subs = refl
 
-first_runs : (first_shape (built tool_app).subs).name ≡ codes "run"
+required_there : (b : Bool) → ((b && true) || false) ≡ false → b ≡ false
+required_there true e = cc
+required_there false e = refl
+
+given : (b : Bool) → not b ≡ false → b ≡ true
+given true e = refl
+given false e = cc
+
+either_none : (a b : Bool) → (a || b) ≡ false → (a ≡ false) × (b ≡ false)
+either_none true b e = cc
+either_none false b e = (refl, e)
+
+run_holds : HoldsTask (sub 0)
 unfolding tool_app
-first_runs = refl
+run_holds words none = refl
 
-second_helps : label_of (second_shape (built tool_app).subs) ≡ (codes "help", [])
+custody_holds : HoldsTask (sub 4)
 unfolding tool_app
-second_helps = refl
+custody_holds words none = refl
 
--- the program's subcommands are `run` and `help`
-entered_runs : (stop : Option (Text × List Text)) → PastHelp stop → is_some (entered (built tool_app) stop) ≡ true
-    → (p : Text × List Row) × (entered (built tool_app) stop ≡ Some p) × (task_at p ≡ Some Run)
-entered_runs stop past is = entered_first (built tool_app) (first_shape (built tool_app).subs) (second_shape (built tool_app).subs) two_subs first_runs second_helps stop past is
+audit_holds : HoldsTask (sub 5)
+unfolding tool_app
+audit_holds words none = refl
+
+some_task : (f : ℕ → Task) (o : Option ℕ) → is_some o ≡ true → is_some (option_map f o) ≡ true
+some_task f None is = is
+some_task f (Some n) is = refl
+
+both_there : (a b : Option ℕ) → is_some a ≡ true → is_some b ≡ true → is_some (option_and_then (λ port. option_map (λ connections. Serve port connections) b) a) ≡ true
+both_there None b one two = one
+both_there (Some x) None one two = two
+both_there (Some x) (Some y) one two = refl
+
+-- the rules of a subcommand about a ceremony: the file, the ceremony, help
+print_ceremony : (words : List Text) → level_fault (sub 2) [] nothing_held words false [] ≡ [] → is_some (ceremony_at (rows_after (sub 2).rules [] words)) ≡ true
+unfolding tool_app
+print_ceremony words none =
+    required_number (sub 2) (codes "ceremony") 9999
+    (other_keeps (sub 2) (codes "ceremony") 9999 (filled file_rule) refl refl, (number_keeps (sub 2) (codes "ceremony") 9999 refl, (help_keeps (sub 2) _ (filled help_rule) refl, tt)))
+    (refl, (refl, (refl, tt))) refl
+    (λ rows free. given (is_given (codes "ceremony") rows) (either_none (not (is_given (codes "ceremony") rows)) false free).0)
+    words none
+
+attendance_ceremony : (words : List Text) → level_fault (sub 3) [] nothing_held words false [] ≡ [] → is_some (ceremony_at (rows_after (sub 3).rules [] words)) ≡ true
+unfolding tool_app
+attendance_ceremony words none =
+    required_number (sub 3) (codes "ceremony") 9999
+    (other_keeps (sub 3) (codes "ceremony") 9999 (filled file_rule) refl refl, (number_keeps (sub 3) (codes "ceremony") 9999 refl, (help_keeps (sub 3) _ (filled help_rule) refl, tt)))
+    (refl, (refl, (refl, tt))) refl
+    (λ rows free. given (is_given (codes "ceremony") rows) (either_none (not (is_given (codes "ceremony") rows)) false free).0)
+    words none
+
+serve_port : (words : List Text) → level_fault (sub 1) [] nothing_held words false [] ≡ [] → is_some (number_at 65535 (codes "port") (rows_after (sub 1).rules [] words)) ≡ true
+unfolding tool_app
+serve_port words none =
+    required_number (sub 1) (codes "port") 65535
+    (other_keeps (sub 1) (codes "port") 65535 (filled file_rule) refl refl, (number_keeps (sub 1) (codes "port") 65535 refl, (other_keeps (sub 1) (codes "port") 65535 (filled (number_rule (codes "connections") 1000000)) refl refl, (help_keeps (sub 1) _ (filled help_rule) refl, tt))))
+    (refl, (refl, (refl, (refl, tt)))) refl
+    (λ rows free. given (is_given (codes "port") rows) (either_none (not (is_given (codes "port") rows)) _ free).0)
+    words none
+
+serve_connections : (words : List Text) → level_fault (sub 1) [] nothing_held words false [] ≡ [] → is_some (number_at 1000000 (codes "connections") (rows_after (sub 1).rules [] words)) ≡ true
+unfolding tool_app
+serve_connections words none =
+    required_number (sub 1) (codes "connections") 1000000
+    (other_keeps (sub 1) (codes "connections") 1000000 (filled file_rule) refl refl, (other_keeps (sub 1) (codes "connections") 1000000 (filled (number_rule (codes "port") 65535)) refl refl, (number_keeps (sub 1) (codes "connections") 1000000 refl, (help_keeps (sub 1) _ (filled help_rule) refl, tt))))
+    (refl, (refl, (refl, (refl, tt)))) refl
+    (λ rows free. given (is_given (codes "connections") rows)
+    (either_none (not (is_given (codes "connections") rows)) false (either_none (not (is_given (codes "port") rows)) _ free).1).0)
+    words none
+
+serve_holds : HoldsTask (sub 1)
+unfolding tool_app
+serve_holds words none = both_there _ _ (serve_port words none) (serve_connections words none)
+
+print_holds : HoldsTask (sub 2)
+unfolding tool_app
+print_holds words none = some_task Print _ (print_ceremony words none)
+
+attendance_holds : HoldsTask (sub 3)
+unfolding tool_app
+attendance_holds words none = some_task Attendance _ (attendance_ceremony words none)
+
+help_label : label_of (sub 6) ≡ (codes "help", [])
+unfolding tool_app
+help_label = refl
+
+subs_hold : (name : Text) → bytes_eq name (codes "help") ≡ false → AllByRecursion (λ s. answers_to name (label_of s) ≡ true → HoldsTask s) (built tool_app).subs
+subs_hold name past =
+    subst (AllByRecursion (λ s. answers_to name (label_of s) ≡ true → HoldsTask s)) (sym seven_subs) (
+      (λ _. run_holds),
+      (
+        (λ _. serve_holds),
+        (
+          (λ _. print_holds),
+          (
+            (λ _. attendance_holds),
+            (
+              (λ _. custody_holds),
+              (
+                (λ _. audit_holds),
+                ((λ is. absurd (not_help name (or_alone (bytes_eq (codes "help") name) (sym (ap (answers_to name) help_label) ∙ is)) past)), tt),
+              ),
+            ),
+          ),
+        ),
+      ),
+    )
 
 needs_one : (built tool_app).top.subcommand_required ≡ true
 unfolding tool_app
@@ -207,11 +315,11 @@ unfolding tool_app
 has_help = refl
 
 -- words that are not refused hold a task
-pub task_there : (words : List Text) → faults_of words ≡ [] → (p : Text × List Row) × (met_in words ≡ Some p) × (task_at p ≡ Some Run)
+pub task_there : (words : List Text) → faults_of words ≡ [] → (p : Text × List Row) × (met_in words ≡ Some p) × (is_some (task_at p) ≡ true)
 unfolding faults_of met_in
 task_there words none =
-    let there = parse_past (built tool_app) (argument_words tool_app words) needs_one takes_none has_help none in
-    entered_runs _ there.1 there.0
+    let entry = parse_past (built tool_app) (argument_words tool_app words) needs_one takes_none has_help none in
+    entered_task (built tool_app) _ entry.past entry.there entry.calm subs_hold
 
 -- so a parse that succeeds has entered a subcommand
 pub never_none : (words : List Text) (m : ArgMatches) → faults_of words ≡ [] → subcommand_rows_of m ≡ met_in words
@@ -225,4 +333,4 @@ pub never_other : (words : List Text) (p : Text × List Row) → faults_of words
 never_other words p none met is =
     let there = task_there words none in
     let same : there.0 ≡ p = (let both : Some there.0 ≡ Some p = sym there.1 ∙ met in cc) in
-    let task : None ≡ Some Run = is ∙ ap task_at (sym same) ∙ there.2 in cc
+    let task : is_some {T = Task} None ≡ true = ap (is_some {T = Task}) (is ∙ ap task_at (sym same)) ∙ there.2 in cc

@@ -1,15 +1,48 @@
 -- The command line of the program, as `clap` reads it.
-use Rattle.std.specs.Prelude.{codes, true}
-use Rattle.clap.specs.Words.{App, new_app, with_subcommand}
+use Rattle.std.specs.Prelude.{◌∷◌, [], ℕ, codes, true, Some, List}
+use Rattle.clap.specs.Words.{App, Rule, Shape, Text, new_app, new_rule, with_rule, with_subcommand}
+use Rattle.clap.specs.declared.builder.value_parser.ValueParser.TheVariants.{Unsigned}
 
--- `kcr run`
-abbrev pub run_app : App
-run_app = new_app (codes "run")
+-- `--file FILE`
+abbrev pub file_rule : Rule
+file_rule = record (new_rule (codes "file")) { long = Some (codes "file"); value_names = 1 }
 
--- a command that is nothing without a subcommand
-abbrev pub requiring : App → App
-requiring a = record a { top = record a.top { subcommand_required = true } }
+-- a required option whose value is a number from 1 to the most
+abbrev pub number_rule : Text → ℕ → Rule
+number_rule name most = record (new_rule name) { long = Some name; value_names = 1; parser = Some (Unsigned 1 most); required = true }
+
+-- a subcommand over a register
+abbrev pub of_file : Text → App
+of_file name = with_rule (new_app name) file_rule
+
+-- `--ceremony N`
+abbrev pub of_ceremony : Text → App
+of_ceremony name = with_rule (of_file name) (number_rule (codes "ceremony") 9999)
+
+-- `kcr serve --port N --connections N`
+abbrev pub serve_app : App
+serve_app =
+    with_rule (with_rule (of_file (codes "serve")) (number_rule (codes "port") 65535)) (number_rule (codes "connections") 1000000)
+
+-- the program is nothing without a subcommand, and tells its version
+abbrev pub root_app : App
+root_app =
+    let a = new_app (codes "kcr") in
+    record a { top = record a.top { subcommand_required = true; has_version = true } }
+
+-- an app with these subcommands more
+abbrev pub with_subcommands : App → List App → App
+with_subcommands a [] = a
+with_subcommands a (sub ∷ subs) = with_subcommands (with_subcommand a sub.top) subs
 
 -- the program, with its subcommands
 unfoldable pub tool_app : App
-tool_app = with_subcommand (requiring (new_app (codes "kcr"))) run_app.top
+tool_app = with_subcommands root_app (
+    of_file (codes "run")
+    ∷ serve_app
+    ∷ of_ceremony (codes "print")
+    ∷ of_ceremony (codes "attendance")
+    ∷ of_file (codes "custody")
+    ∷ of_file (codes "audit")
+    ∷ []
+    )

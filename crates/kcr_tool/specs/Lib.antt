@@ -1,4 +1,6 @@
 pub mod Commands
 pub mod Tasks
-pub mod Runs
+pub mod Lines
 pub mod Faults
+pub mod Runs
+pub mod Audits

@@ -1,16 +1,42 @@
--- What a run of the program leaves on its output.
-use Rattle.std.specs.Prelude.{ℕ, List, [], Option, None}
+-- What a task leaves on the output.
+use Rattle.std.specs.Prelude.{◌≡◌, ℕ, List, Option, None, IsTrue}
+use Rattle.std.specs.Io.KnownBytes.{Appends}
+use Rattle.sqlite.specs.Held.{Held, state}
+use Rattle.sqlite.specs.State.{HasCleanDisk}
+use Rattle.sqlite.specs.Store.{Ghosts}
+use Rattle.kcr_history.specs.Ceremonies.{is_ceremony}
+use Rattle.kcr_history.specs.History.{History}
+use Rattle.kcr_history.specs.Prints.{annotated, attendance, custody}
+use Rattle.kcr_store.specs.Register.{Seen}
 use Rattle.kcr_desk.specs.Run.{IsServed, IsBroken}
 use Rattle.kcr_desk.specs.Answers.{Standing, IsAnswer}
+use Rattle.kcr_tool.specs.Lines.{clean_line, listening_line}
+use Rattle.kcr_tool.specs.declared.words.Task.{Task}
+use Rattle.kcr_tool.specs.declared.words.Task.TheVariants.{Run, Serve, Print, Attendance, Custody, Audit}
 
--- a register that has accepted nothing yet
-abbrev pub empty : Standing
-empty = record { accepted = []; torn = None }
+-- a register with this history that nothing has broken
+abbrev pub whole : History → Standing
+whole A = record { accepted = A; torn = None }
 
--- all of the input was answered: what was written is the answers of a run of the machine from the empty register
-abbrev pub AnswersAll : Option (List ℕ) → Option (List ℕ) → Option (List ℕ) → Type 0
-AnswersAll input old new = (after : Standing) × (count : ℕ) × IsServed IsAnswer input old new empty after count
+-- all of the input was answered: what was written is the answers of a run of the machine from this history
+abbrev pub AnswersAll : History → Option (List ℕ) → Option (List ℕ) → Option (List ℕ) → Type 0
+AnswersAll A input old new = (after : Standing) × (count : ℕ) × IsServed IsAnswer input old new (whole A) after count
 
 -- a beginning of it was answered: what was written begins those answers
-abbrev pub AnswersInPart : Option (List ℕ) → Option (List ℕ) → Option (List ℕ) → Type 0
-AnswersInPart input old new = (after : Standing) × IsBroken IsAnswer input old new empty after
+abbrev pub AnswersInPart : History → Option (List ℕ) → Option (List ℕ) → Option (List ℕ) → Type 0
+AnswersInPart A input old new = (after : Standing) × IsBroken IsAnswer input old new (whole A) after
+
+-- a task over a register with this history went well: a run has answered all of its input, a report is written whole,
+-- and an audit found nothing
+abbrev pub Does : Task → History → Option (List ℕ) → Option (List ℕ) → Option (List ℕ) → Type 0
+Does Run A input old new = AnswersAll A input old new
+Does (Serve port connections) A input old new = Appends old new (listening_line port)
+Does (Print ceremony) A input old new = IsTrue (is_ceremony A ceremony) × Appends old new (annotated A ceremony)
+Does (Attendance ceremony) A input old new = IsTrue (is_ceremony A ceremony) × Appends old new (attendance A ceremony)
+Does Custody A input old new = Appends old new (custody A)
+Does Audit A input old new = Appends old new clean_line
+
+-- said of the history of a register that is not broken, over a store whose disk is never in doubt, as memory is
+abbrev pub OfHistory : {S : Type 0} → Ghosts S → Seen S → (History → Type 0) → Type 0
+OfHistory {S} g register Says =
+    ((conn : Held S) → HasCleanDisk (state g conn)) → IsTrue register.is_founded → register.torn ≡ None → Says register.accepted

@@ -1,94 +1,94 @@
 //! What the program does with its words.
-ghost use Rattle.std.specs.Prelude.{◌≡◌, ◌≢◌, ◌⊎◌, ◌≤◌, [], Some, IfOk, IfErr, OnErr, map, string_bytes};
+ghost use Rattle.std.specs.Prelude.{◌≡◌, ◌≢◌, ◌≤◌, ◌⊎◌, ℕ, List, [], Option, Some, None, IfOk, IfErr, OnErr, map, string_bytes};
 ghost use Rattle.kcr_base.specs.Counted.{inner_of};
 ghost use Rattle.kcr_print.specs.Written.{WritesFront};
-ghost use Rattle.kcr_tool.specs.declared.act.Fault.{Fault};
-ghost use Rattle.kcr_tool.specs.Faults.{line_of, HasCause};
-ghost use Rattle.kcr_tool.specs.Tasks.{task_of, faults_of};
-ghost use Rattle.kcr_tool.specs.Runs.{AnswersAll, AnswersInPart};
+ghost use Rattle.kcr_tool.specs.declared.fault.Fault.{Fault as WhyNot};
+ghost use Rattle.kcr_tool.specs.declared.words.Task.{Task as Order_task};
+ghost use Rattle.kcr_tool.specs.Faults.{IsLineOf};
+ghost use Rattle.kcr_tool.specs.Runs.{Does, OfHistory};
+ghost use Rattle.kcr_tool.specs.Tasks.{task_of, file_of, faults_of};
 
-use crate::words::{Task, WordsFault, read_words, usage};
+use crate::audit::audit;
+use crate::fault::{Fault, tell, tell_fault};
+use crate::listen::listen;
+use crate::opening::open;
+use crate::tasks::{attendance, print, run, whereabouts};
+use crate::words::{Order, Task, WordsFault, read_words, usage};
 use kcr_base::Counted;
-use kcr_desk::{DeskFault, Served, serve};
-use kcr_store::{OpenFault, Register};
-use std::alloc::Global;
+use kcr_store::Register;
+use sqlite::Alter;
 use std::io::{Read, Write};
 
-/// Why a task was not done to its end.
-#[derive(Clone, Copy, PartialEq, Eq)]
-enum Fault {
-    /// The register could not be opened.
-    Open(OpenFault),
-    /// The stream could not be answered to its end.
-    Stream(DeskFault),
-    /// Memory ran out before the words were read.
-    Words,
-}
-
-impl Fault {
-    /// The line that tells it.
-    fn line(self) -> &'static str
-        ensures { result.now ≡ line_of self }
-    {
-        match self {
-            Fault::Open(OpenFault::Memory) => "open: memory\n",
-            Fault::Open(OpenFault::Disk) => "open: disk\n",
-            Fault::Open(OpenFault::Foreign) => "open: foreign\n",
-            Fault::Open(OpenFault::Version) => "open: version\n",
-            Fault::Stream(DeskFault::Read) => "fault: read\n",
-            Fault::Stream(DeskFault::Write) => "fault: write\n",
-            Fault::Stream(DeskFault::Memory) => "fault: memory\n",
-            Fault::Words => "fault: memory\n",
-        }
-    }
-}
-
-/// Answers the stream of requests by a register in memory, which is empty at first.
-fn run<R: Read, W: Write>(
-    alloc: Global,
+/// Does a task over a register, and answers the exit status: 0, or 1 after a finding.
+fn perform<S: Alter + Drop, R: Read, W: Write>(
+    rt: &HostRuntime,
+    register: Register<S>,
+    task: Task,
     input: &mut Counted<R>,
     output: &mut Counted<W>,
-) -> Result<Served, Fault>
-    ensures all { IfOk result (λ _. AnswersAll (R.remaining (inner_of input.old)) (W.contents (inner_of output.old)) (W.contents (inner_of output.new))) }
-    ensures part { OnErr result ((output.new ≡ output.old)
-        ⊎ AnswersInPart (R.remaining (inner_of input.old)) (W.contents (inner_of output.old)) (W.contents (inner_of output.new))) }
-    ensures cause { IfErr result (λ why. HasCause why input.old input.new output.old output.new) }
+) -> Result<u8, Fault>
+    ensures status { IfOk result (λ status. status ≤ 1) }
+    ensures done { OfHistory S.Store register (λ A. IfOk result (λ status. status ≡ 0 → Does task A
+        (R.remaining (inner_of input.old)) (W.contents (inner_of output.old)) (W.contents (inner_of output.new)))) }
 {
-    let mut register = match Register::in_memory(alloc) {
-        Ok(register) => register,
-        Err(fault) => return Err(Fault::Open(fault)),
-    };
-    match serve(alloc, input, output, &mut register) {
-        Ok(served) => Ok(served),
-        Err(fault) => Err(Fault::Stream(fault)),
-    }
-}
-
-/// Writes a line, as far as it can be written.
-fn tell<F: Write>(faults: &mut F, line: &str)
-    ensures { WritesFront (F.contents faults.old) (F.contents faults.new) line.now }
-{
-    let bytes = line.as_bytes();
-    let mut at = 0;
-    while at < bytes.len() {
-        match faults.write(&bytes[at..]) {
-            Ok(0) => return,
-            Ok(count) => at += count,
-            Err(_) => return,
+    let mut register = register;
+    match task {
+        Task::Run => {
+            run(rt.alloc(), &mut register, input, output)?;
+            Ok(0)
         }
+        Task::Serve(port, connections) => {
+            listen(rt, port, connections, &mut register, output)?;
+            Ok(0)
+        }
+        Task::Print(ceremony) => {
+            print(rt.alloc(), &mut register, ceremony, output)?;
+            Ok(0)
+        }
+        Task::Attendance(ceremony) => {
+            attendance(rt.alloc(), &mut register, ceremony, output)?;
+            Ok(0)
+        }
+        Task::Custody => {
+            whereabouts(rt.alloc(), &mut register, output)?;
+            Ok(0)
+        }
+        Task::Audit => audit(rt.alloc(), register, output),
     }
 }
 
-/// Does what the words say, the first of which is the program's name, and answers the exit status: 0
-/// where all went well (refusals within the stream are answers), 1 after a line `open: ` or `fault: ` with
-/// its reason on `faults`, 2 where the words are refused or ask for help, with the usage on `faults`.
-///
-/// `run` answers the requests of `input` on `output` by a register in memory.
+/// Opens the register that the order names, and does its task.
+fn obey<R: Read, W: Write>(
+    rt: &HostRuntime,
+    order: Order<'_>,
+    input: &mut Counted<R>,
+    output: &mut Counted<W>,
+) -> Result<u8, Fault>
+    ensures status { IfOk result (λ status. status ≤ 1) }
+    ensures done { order.entry.file ≡ None → IfOk result (λ status. status ≡ 0 → Does order.entry.task []
+        (R.remaining (inner_of input.old)) (W.contents (inner_of output.old)) (W.contents (inner_of output.new))) }
+{
+    match order.file {
+        Some(path) => match open(rt, path) {
+            Ok(register) => perform(rt, register, order.task, input, output),
+            Err(fault) => Err(Fault::Open(fault)),
+        },
+        None => match Register::in_memory(rt.alloc()) {
+            Ok(register) => perform(rt, register, order.task, input, output),
+            Err(fault) => Err(Fault::Open(fault)),
+        },
+    }
+}
+
+/// Does what the words say, the first of which is the program's name, and answers the exit status: 0 where all went well
+/// (refusals within a stream are answers), 1 after a finding of an audit, or after a line on `faults` that says why the
+/// task was not done to its end, 2 where the words are refused or ask for help or the version, with what `clap` says
+/// on `faults`. The words are read first, then the file is opened, then the port is taken.
 ///
 /// What was written is told of a reader that tells the bytes it has left, and of writers that tell those they hold: as
 /// byte slices and vectors do in this library, and files, sockets and terminals never do.
-pub fn act<A: AllocGlobal, R: Read, W: Write, F: Write>(
-    rt: &A,
+pub fn act<R: Read, W: Write, F: Write>(
+    rt: &HostRuntime,
     words: &[String],
     input: &mut Counted<R>,
     output: &mut Counted<W>,
@@ -96,25 +96,18 @@ pub fn act<A: AllocGlobal, R: Read, W: Write, F: Write>(
 ) -> u8
     ensures status { result ≤ 2 }
 
-    // All went well: the words are a task, and what was written is exactly the answers to the input.
-    ensures done { result ≡ 0 → (task_of (map string_bytes words.now) ≡ Some Task.Run)
-        × AnswersAll (R.remaining (inner_of input.old)) (W.contents (inner_of output.old)) (W.contents (inner_of output.new)) }
-
-    // A fault: nothing was written, or a beginning of the answers. Its line stands on `faults`, as far as it could be
-    // written; it says that a read or a write failed only where one did.
-    ensures cause { result ≡ 1 → (why : Fault) × WritesFront (F.contents faults.old) (F.contents faults.new) (line_of why)
-        × HasCause why input.old input.new output.old output.new }
-    ensures fault { result ≡ 1 → (output.new ≡ output.old)
-        ⊎ AnswersInPart (R.remaining (inner_of input.old)) (W.contents (inner_of output.old)) (W.contents (inner_of output.new)) }
+    // All went well over a register in memory: the words are a task, and what was written is what it says.
+    ensures done { result ≡ 0 → file_of (map string_bytes words.now) ≡ None → (task : Order_task) × (task_of (map string_bytes words.now) ≡ Some task)
+        × Does task [] (R.remaining (inner_of input.old)) (W.contents (inner_of output.old)) (W.contents (inner_of output.new)) }
 
     // The words are no task: nothing was read or written.
     ensures refused { result ≡ 2 → (faults_of (map string_bytes words.now) ≢ []) × (input.new ≡ input.old) × (output.new ≡ output.old) }
 {
     match read_words(rt.alloc(), words) {
-        Ok(Task::Run) => match run(rt.alloc(), input, output) {
-            Ok(_) => 0,
-            Err(why) => {
-                tell(faults, why.line());
+        Ok(order) => match obey(rt, order, input, output) {
+            Ok(status) => status,
+            Err(fault) => {
+                tell_fault(rt.alloc(), faults, &fault);
                 1
             }
         },
@@ -125,7 +118,7 @@ pub fn act<A: AllocGlobal, R: Read, W: Write, F: Write>(
             2
         }
         Err(WordsFault::Memory) => {
-            tell(faults, Fault::Words.line());
+            tell_fault(rt.alloc(), faults, &Fault::Words);
             1
         }
     }

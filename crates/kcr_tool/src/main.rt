@@ -7,6 +7,14 @@
 ghost use Rattle.std.specs.Prelude.{◌≡◌, ◌⊎◌, ◌≤◌};
 
 mod act;
+mod audit;
+mod commands;
+mod fault;
+mod lines;
+mod listen;
+mod opening;
+mod tasks;
+mod view;
 mod words;
 
 use act::act;

@@ -1,12 +1,12 @@
 //! The words of the command line, and the task that they hold.
-ghost use Rattle.std.specs.Prelude.{◌≡◌, ◌≢◌, [], codes, false, Some, IfOk, IfErr, map, string_bytes};
-ghost use Rattle.clap.specs.Words.{App, app_of, new_app, with_subcommand, rows_of, found_of, subcommand_rows_of};
-ghost use Rattle.clap.specs.declared.builder.command.Command.TheViews.{out-Command};
-ghost use Rattle.kcr_tool.specs.Commands.{run_app, requiring, tool_app};
-ghost use Rattle.kcr_tool.specs.Tasks.{task_of, task_at, met_in, faults_of};
+ghost use Rattle.std.specs.Prelude.{◌≡◌, ◌≢◌, ◌≤◌, [], codes, Some, IfOk, IfErr, IfSome, map, option_map, string_bytes};
+ghost use Rattle.clap.specs.Words.{rows_of, found_of, subcommand_rows_of};
+ghost use Rattle.kcr_tool.specs.Tasks.{task_of, task_at, file_of, file_at, number_at, ceremony_at, serve_at, met_in, faults_of};
 
+use crate::commands::tool;
+use clap::ArgMatches;
 use clap::error::ErrorKind;
-use clap::{ArgMatches, Command};
+use kcr_base::CeremonyNumber;
 use std::alloc::{AllocError, Global};
 
 /// What the program is to do.
@@ -14,47 +14,35 @@ use std::alloc::{AllocError, Global};
 pub enum Task {
     /// Answers the stream of requests on standard input on standard output.
     Run,
+    /// Answers requests on a port of 127.0.0.1, 1 to 65,535, on so many connections, 1 to 1,000,000.
+    Serve(u16, u32),
+    /// Prints the annotated script of the ceremony.
+    Print(CeremonyNumber),
+    /// Prints the attendance of the ceremony.
+    Attendance(CeremonyNumber),
+    /// Prints what lies where.
+    Custody,
+    /// Looks for what is wrong in the rows of the register.
+    Audit,
+}
+
+/// What the words ask for: a task, and the file of the register, or None for a register in memory.
+#[derive(Clone, Copy)]
+pub struct Order<'a> {
+    pub task: Task,
+    pub file: Option<&'a str>,
 }
 
 /// Why the words are no task.
 #[derive(Clone, Copy, PartialEq, Eq)]
 pub enum WordsFault {
-    /// `clap` refuses the words, or they ask for help.
+    /// `clap` refuses the words, or they ask for help or the version.
     Line,
     /// Memory ran out.
     Memory,
 }
 
-fn run_command<'a>(alloc: Global) -> Result<Command<'a>, AllocError>
-    ensures app { IfOk result (λ c. app_of c ≡ run_app) }
-    ensures local { IfOk result (λ c. (out-Command c).has_globals ≡ false) }
-{
-    Ok(Command::new(alloc, "run"))
-}
-
-// A command with one more subcommand.
-fn with<'a>(command: Command<'a>, sub: Command<'a>) -> Result<Command<'a>, AllocError>
-    requires { (out-Command sub).has_globals ≡ false }
-    ensures { IfOk result (λ c. app_of c ≡ with_subcommand (app_of command.entry) (app_of sub.entry).top) }
-{
-    command.subcommand(sub)
-}
-
-fn root<'a>(alloc: Global) -> Command<'a>
-    ensures { app_of result ≡ requiring (new_app (codes "kcr")) }
-{
-    Command::new(alloc, "kcr").subcommand_required(true)
-}
-
-// The command line of the program.
-#[tactic(auto, unfolding(crate::specs::Commands::tool_app))]
-fn tool<'a>(alloc: Global) -> Result<Command<'a>, AllocError>
-    ensures { IfOk result (λ c. app_of c ≡ tool_app) }
-{
-    with(root(alloc), run_command(alloc)?)
-}
-
-// What `clap` makes of the words.
+/// What `clap` makes of the words.
 fn parse<'a>(alloc: Global, words: &'a [String]) -> Result<ArgMatches<'a>, WordsFault>
     ensures found { IfOk result (λ m. subcommand_rows_of m ≡ met_in (map string_bytes words.entry.now)) }
     ensures taken { IfOk result (λ _. faults_of (map string_bytes words.entry.now) ≡ []) }
@@ -72,36 +60,79 @@ fn parse<'a>(alloc: Global, words: &'a [String]) -> Result<ArgMatches<'a>, Words
     }
 }
 
-// The task of a subcommand.
+/// The number that an option was given, or None where it is not from 1 to `most`.
+fn read_number(matches: &ArgMatches<'_>, name: &str, most: u32) -> Option<u32>
+    ensures number { result ≡ number_at most name.now (rows_of (found_of matches.now)) }
+    ensures range { IfSome result (λ number. (1 ≤ number) × (number ≤ most)) }
+{
+    let number = matches.get_one::<u32>(name)?;
+    if number == 0 || number > most {
+        return None;
+    }
+    Some(number)
+}
+
+/// The ceremony that was named.
+fn read_ceremony(matches: &ArgMatches<'_>) -> Option<CeremonyNumber>
+    ensures { result ≡ ceremony_at (rows_of (found_of matches.now)) }
+{
+    CeremonyNumber::new(read_number(matches, "ceremony", 9_999)?)
+}
+
+/// The port and the number of connections that were named.
+fn read_serve(matches: &ArgMatches<'_>) -> Option<Task>
+    ensures { result ≡ serve_at (rows_of (found_of matches.now)) }
+{
+    let port = read_number(matches, "port", 65_535)?;
+    let connections = read_number(matches, "connections", 1_000_000)?;
+    Some(Task::Serve(port as u16, connections))
+}
+
+/// The task of a subcommand.
 fn read_task(name: &str, matches: &ArgMatches<'_>) -> Option<Task>
     ensures { result ≡ task_at (name.now, rows_of (found_of matches.now)) }
 {
-    let _ = matches;
     match name {
         "run" => Some(Task::Run),
+        "serve" => read_serve(matches),
+        "print" => Some(Task::Print(read_ceremony(matches)?)),
+        "attendance" => Some(Task::Attendance(read_ceremony(matches)?)),
+        "custody" => Some(Task::Custody),
+        "audit" => Some(Task::Audit),
         _ => None,
     }
 }
 
-/// The task that the words hold, the first of which is the program's name: every list of words that
-/// `clap` takes holds one. `Line` comes only where `clap` refuses the words or they ask for help, and
-/// where it does, no task comes. `Memory` comes only where memory was refused.
-pub fn read_words(alloc: Global, words: &[String]) -> Result<Task, WordsFault>
-    ensures task { IfOk result (λ task. task_of (map string_bytes words.now) ≡ Some task) }
-    ensures taken { IfOk result (λ _. faults_of (map string_bytes words.now) ≡ []) }
-    ensures line { IfErr result (λ e. e ≡ WordsFault.Line → faults_of (map string_bytes words.now) ≢ []) }
+/// The file of the register, if one was named.
+fn read_file<'a>(matches: &ArgMatches<'a>) -> Option<&'a str>
+    ensures { option_map (λ file. file.now) result ≡ file_at (rows_of (found_of matches.now)) }
+{
+    matches.get_str("file")
+}
+
+/// The task that the words hold and the file that they name, the first of which is the program's name: every list of
+/// words that `clap` takes holds a task. `Line` comes only where `clap` refuses the words or they ask for help or the
+/// version, and where it does, no task comes. `Memory` comes only where memory was refused.
+pub fn read_words<'a>(alloc: Global, words: &'a [String]) -> Result<Order<'a>, WordsFault>
+    ensures task { IfOk result (λ order. task_of (map string_bytes words.entry.now) ≡ Some order.task) }
+    ensures file { IfOk result (λ order. file_of (map string_bytes words.entry.now) ≡ option_map (λ file. file.now) order.file) }
+    ensures taken { IfOk result (λ _. faults_of (map string_bytes words.entry.now) ≡ []) }
+    ensures line { IfErr result (λ e. e ≡ WordsFault.Line → faults_of (map string_bytes words.entry.now) ≢ []) }
 {
     let matches = parse(alloc, words)?;
     let Some((name, inner)) = matches.subcommand() else {
         unreachable!()
     };
     match read_task(name, inner) {
-        Some(task) => Ok(task),
+        Some(task) => Ok(Order {
+            task,
+            file: read_file(inner),
+        }),
         None => unreachable!(),
     }
 }
 
-/// What `clap` says of words that it refuses, or the help that they ask for: lines of text. It is empty
+/// What `clap` says of words that it refuses, or the help or version that they ask for: lines of text. It is empty
 /// where the words are taken. The error is want of memory.
 pub fn usage(alloc: Global, words: &[String]) -> Result<String, AllocError> {
     match tool(alloc)?.try_get_matches_from(words) {

@@ -1,6 +1,6 @@
 use Rattle.std.proofs.Common.{sym}
 use Rattle.clap.specs.Words.{rows_of, found_of}
-use Rattle.kcr_tool.proofs.Parses.{met_is, task_is}
+use Rattle.kcr_tool.proofs.Parses.{met_is, task_is, file_is}
 use Rattle.kcr_tool.proofs.Taken.{never_none, never_other}
 use Rattle.kcr_tool.proofs.words.read_words.Goals as goal
 
@@ -17,3 +17,8 @@ pub returns-clause-task : goal.returns-clause-task
 returns-clause-task c =
     task_is _ _ _ c.in-Some-read_task.task (met_is _ c.in_ok-matches.matches c.in-Some.name.now (rows_of (found_of c.in-Some.inner.now)) c.in_ok-matches.ensures.found c.in-Some.ensures.name c.in-Some.ensures.rows)
     (sym c.in-Some-read_task.ensures)
+
+pub returns-clause-file : goal.returns-clause-file
+returns-clause-file c =
+    file_is _ _ _ _ (met_is _ c.in_ok-matches.matches c.in-Some.name.now (rows_of (found_of c.in-Some.inner.now)) c.in_ok-matches.ensures.found c.in-Some.ensures.name c.in-Some.ensures.rows)
+    c.read_file.ensures

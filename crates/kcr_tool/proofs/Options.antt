@@ -1,0 +1,362 @@
+-- Words that are taken give each required number of their subcommand.
+use Rattle.std.proofs.Common.{◌≡◌, ◌&&◌, ◌||◌, ◌==◌, ℕ, zero, suc, Bool, true, false, not, cond, List, [], ◌∷◌, ◌++◌, Option, Some, None, refl, sym, ap, ◌∙◌, subst, length, drop, option_map, arith}
+use Rattle.std.specs.Prelude.{is_some, fold, find, MatchOption, option_and_then, slice_get, encode_utf8}
+use Rattle.std.specs.List.{AllByRecursion, list_any}
+use Rattle.std.specs.Option.{option_map_or}
+use Rattle.std.specs.Str.{bytes_eq, chars}
+use Rattle.std.proofs.lemmas.Bool.{ne_eqb}
+use Rattle.std.proofs.lemmas.Slice.Eq.{bytes_eq-Decides}
+use Rattle.clap.specs.Lexer.{long_of, short_of}
+use Rattle.clap.specs.Kinds.{Kinds, check_kinds, or_else, range_kinds}
+use Rattle.clap.specs.Facts.{explicit_source}
+use Rattle.clap.specs.Takes.{is_given}
+use Rattle.clap.specs.Faults.{bundle_step_fault, check_fault, default_fault, defaults_fault, flags_fault, flag_word_fault, level_fault, repeat_fault, values_fault, long_fault, option_fault, other_fault, positional_fault, react_fault, settle_fault, short_fault, step_fault, stray_fault, turn_fault, use_fault, walk_fault, word_fault}
+use Rattle.clap.specs.Simple.{Shape, filled, rows_at}
+use Rattle.clap.specs.ValueTests.{is_unsigned_in}
+use Rattle.clap.specs.Walk.{Held, Names, Outcome, Row, Rule, Step, Text, Waiting, Walk, action_of, after_flag, after_step, arg_by_id, arg_by_index, arg_by_long, arg_by_short, at_row, attached_value, bundle, bundle_met, bundle_step, done, waits, plain, refused, finished, flag_met, has_row, idle, is_pending, long_met, long_or_other, next, nothing_held, one_of, option, option_met, option_word, plain_word, positional, positional_held, reacted, row_text, rows_after, settled, settled_rows, short_met, short_or_plain, subcommand, subcommand_met, subcommand_or_other, takes_several, takes_values, to_positional, trailing, used, used_by_id, value, walk, walk_from, walked, walked_from, with_default, default_rows, reading_by, stronger, used_as, values_or_missing, with_values, without, word_met}
+use Rattle.clap.specs.declared.error.kind.ErrorKind.{ErrorKind}
+use Rattle.clap.specs.declared.error.kind.ErrorKind.TheVariants as kind
+use Rattle.clap.specs.declared.builder.action.ArgAction.{ArgAction}
+use Rattle.clap.specs.declared.builder.action.ArgAction.TheVariants.{Set, Help}
+use Rattle.clap.specs.declared.parser.matches.ValueSource.TheVariants.{CommandLine}
+use Rattle.clap.specs.declared.builder.value_parser.Reading.TheVariants.{AsWritten}
+use Rattle.clap.specs.declared.builder.value_parser.ValueParser.TheVariants.{Unsigned}
+use Rattle.clap.specs.Values.{refused_kind}
+use Rattle.std.specs.Str.Parse.{digits_value, without_leading_plus}
+use Rattle.clap.specs.declared.parser.matches.ValueSource.{ValueSource}
+use Rattle.clap.specs.declared.builder.value_parser.Reading.{Reading}
+use Rattle.kcr_tool.specs.Commands.{number_rule}
+use Rattle.kcr_tool.specs.Tasks.{number_up_to, number_at}
+
+pub both_empty : (a b : Kinds) → or_else a b ≡ [] → (a ≡ []) × (b ≡ [])
+both_empty [] b e = (refl, e)
+both_empty (k ∷ ks) b e = cc
+
+-- ---- what each use of an option keeps, the whole walk over the words keeps
+
+module _ (s : Shape) (P : List Row → Type 0) where
+  -- a use of the option that does not fail keeps it
+  abbrev pub Keeps : Rule → Type 0
+  Keeps a = (values : List Text) (rows : List Row) → use_fault s.args_override_self a values rows ≡ [] → P rows → P (used a values rows)
+
+  found_keeps : (f : Rule → Bool) (c : List Rule) → AllByRecursion Keeps c → (a : Rule) → find f c ≡ Some a → Keeps a
+  found_keeps f [] all a e = cc
+  found_keeps f (x ∷ xs) all a e = by_test (found_keeps f xs all.1 a) (f x) e
+    where
+      by_test : (find f xs ≡ Some a → Keeps a) → (b : Bool) → cond b (Some x) (find f xs) ≡ Some a → Keeps a
+      by_test later true same = subst Keeps (let is : x ≡ a = cc in is) all.0
+      by_test later false rest = later rest
+
+  module _ (keeps : AllByRecursion Keeps s.rules) where
+    -- a found option is one of the rules
+    abbrev IsRule : Option Rule → Type 0
+    IsRule o = (a : Rule) → o ≡ Some a → Keeps a
+
+    settles_at : (pending : Option (Text × List Text)) (rows : List Row)
+        → option_map_or (λ p. option_map_or (λ a. use_fault s.args_override_self a p.1 rows) (arg_by_id s.rules p.0) []) pending [] ≡ []
+        → P rows → P (settled_rows s.rules pending rows)
+    settles_at None rows none p = p
+    settles_at (Some q) rows none p = by_rule (arg_by_id s.rules q.0) refl none
+      where
+        by_rule : (o : Option Rule) → arg_by_id s.rules q.0 ≡ o → option_map_or (λ a. use_fault s.args_override_self a q.1 rows) o [] ≡ [] → P (used_by_id o q.1 rows)
+        by_rule None e free = p
+        by_rule (Some a) e free = found_keeps (λ x. bytes_eq x.id q.0) s.rules keeps a e q.1 rows free p
+
+    settles : (h : Held) → settle_fault s.rules s.args_override_self h ≡ [] → P h.rows → P (settled s.rules h).rows
+    settles h none p = settles_at h.pending h.rows none p
+
+    reacts : (a : Rule) → Keeps a → (values : List Text) (h : Held) → react_fault s.rules s.args_override_self a values h ≡ [] → P h.rows → P (reacted s.rules a values h).rows
+    reacts a rule values h none p =
+        let each = both_empty (settle_fault s.rules s.args_override_self h) (use_fault s.args_override_self a values (settled s.rules h).rows) none in
+        rule values (settled s.rules h).rows each.1 (settles h each.0 p)
+
+    option_keeps : (a : Rule) → Keeps a → (v : Option Text) (h : Held) → option_fault s.rules s.args_override_self a v h ≡ [] → P h.rows → P (option_met s.rules a v h).0.rows
+    option_keeps a rule (Some v) h none p = reacts a rule (v ∷ []) h none p
+    option_keeps a rule None h none p = settles h none p
+
+    long_keeps : (o : Option Rule) → IsRule o → (v : Option Text) (h : Held) → long_fault s.rules s.args_override_self o v h ≡ [] → P h.rows → P (long_met s.rules o v h).0.rows
+    long_keeps None rule v h none p = p
+    long_keeps (Some a) rule v h none p = by_kind (takes_values a) v none
+      where
+        by_kind : (takes : Bool) (v : Option Text)
+            → cond takes (option_fault s.rules s.args_override_self a v h) (cond (is_some v) (kind.TooManyValues ∷ []) (react_fault s.rules s.args_override_self a [] h)) ≡ []
+            → P (cond takes (option_met s.rules a v h) (flag_met s.rules a v h)).0.rows
+        by_kind true v free = option_keeps a (rule a refl) v h free p
+        by_kind false (Some v) free = p
+        by_kind false None free = reacts a (rule a refl) [] h free p
+
+    short_keeps : (o : Option Rule) → IsRule o → (rest : Text) (h : Held) (go : Held → Held × Outcome) (fault : Held → Kinds)
+        → ((now : Held) → fault now ≡ [] → P now.rows → P (go now).0.rows)
+        → short_fault s.rules s.args_override_self o rest h fault ≡ [] → P h.rows → P (short_met s.rules o rest h go).0.rows
+    short_keeps None rule rest h go fault more none p = p
+    short_keeps (Some a) rule rest h go fault more none p = by_kind (takes_values a) none
+      where
+        by_kind : (takes : Bool)
+            → cond takes (option_fault s.rules s.args_override_self a (attached_value rest) h)
+            (or_else (react_fault s.rules s.args_override_self a [] h) (fault (reacted s.rules a [] h))) ≡ []
+            → P (cond takes (option_met s.rules a (attached_value rest) h) (go (reacted s.rules a [] h))).0.rows
+        by_kind true free = option_keeps a (rule a refl) (attached_value rest) h free p
+        by_kind false free =
+            let each = both_empty (react_fault s.rules s.args_override_self a [] h) (fault (reacted s.rules a [] h)) free in
+            more (reacted s.rules a [] h) each.1 (reacts a (rule a refl) [] h each.0 p)
+
+    bundle_keeps : (k : ℕ) (flags : Text) (skip : ℕ) (so_far : Outcome) (h : Held) → flags_fault s.rules s.args_override_self k flags skip h ≡ []
+        → P h.rows → P (bundle_met s.rules k flags skip so_far h).0.rows
+    unfolding bundle_met flags_fault
+    bundle_keeps zero flags skip so_far h none p = p
+    bundle_keeps (suc k) flags skip so_far h none p = by_flag (bundle_keeps k) (slice_get (chars flags) 0) skip none
+      where
+        by_flag : ((flags : Text) (skip : ℕ) (so_far : Outcome) (h : Held) → flags_fault s.rules s.args_override_self k flags skip h ≡ [] → P h.rows → P (bundle_met s.rules k flags skip so_far h).0.rows)
+            → (o : Option ℕ) (skip : ℕ) → bundle_step_fault s.rules s.args_override_self o flags skip h (flags_fault s.rules s.args_override_self k) ≡ []
+            → P (bundle_step s.rules o flags skip so_far h (bundle_met s.rules k)).0.rows
+        by_flag later None skip free = p
+        by_flag later (Some x) zero free =
+            let rest = drop (length (encode_utf8 x)) flags in
+            short_keeps (arg_by_short s.rules x) (λ a e. found_keeps _ s.rules keeps a e) rest h (bundle_met s.rules k rest 0 done) (flags_fault s.rules s.args_override_self k rest 0)
+            (λ now calm q. later rest 0 done now calm q) free p
+        by_flag later (Some x) (suc less) free = later (drop (length (encode_utf8 x)) flags) less so_far h free p
+
+    plain_keeps : (waiting : Waiting) (word : Text) (h : Held) → P h.rows → P (plain_word s.rules waiting word h).0.rows
+    plain_keeps idle word h p = p
+    plain_keeps positional word h p = p
+    plain_keeps (option id) word h p = by_rule (arg_by_id s.rules id)
+      where
+        by_rule : (o : Option Rule) → P (option_word o id word h).0.rows
+        by_rule None = p
+        by_rule (Some a) = p
+
+    after_keeps : (waiting : Waiting) (word : Text) (h : Held) (o : Outcome) → P h.rows → P (after_flag s.rules waiting word h o).0.rows
+    after_keeps waiting word h done p = p
+    after_keeps waiting word h (waits id) p = p
+    after_keeps waiting word h plain p = plain_keeps waiting word h p
+    after_keeps waiting word h refused p = plain_keeps waiting word h p
+
+    short_word_keeps : (waiting : Waiting) (word : Text) (o : Option Text) (h : Held)
+        → option_map_or (λ flags. flags_fault s.rules s.args_override_self (length flags) flags h.skip (record h { skip = 0 })) o [] ≡ []
+        → P h.rows → P (short_or_plain s.rules waiting word o h).0.rows
+    short_word_keeps waiting word None h none p = plain_keeps waiting word h p
+    short_word_keeps waiting word (Some flags) h none p =
+        let met = bundle s.rules flags h in
+        after_keeps waiting word met.0 met.1 (bundle_keeps (length flags) flags h.skip plain (record h { skip = 0 }) none p)
+
+    flag_keeps : (waiting : Waiting) (word : Text) (o : Option (Text × Option Text)) (h : Held) → flag_word_fault s.rules s.args_override_self o word h ≡ []
+        → P h.rows → P (long_or_other s.rules waiting word o h).0.rows
+    flag_keeps waiting word None h none p = short_word_keeps waiting word (short_of word) h none p
+    flag_keeps waiting word (Some q) h none p =
+        let met = long_met s.rules (arg_by_long s.rules q.0) q.1 h in
+        after_keeps waiting word met.0 met.1 (long_keeps (arg_by_long s.rules q.0) (λ a e. found_keeps _ s.rules keeps a e) q.1 h none p)
+
+    word_keeps : (names : Names) (is_trailing : Bool) (waiting : Waiting) (position : ℕ) (word : Text) (h : Held)
+        → word_fault s names is_trailing waiting word h ≡ [] → P h.rows → P (word_met s.rules names is_trailing waiting position word h).0.rows
+    word_keeps names true waiting position word h none p = p
+    word_keeps names false waiting position word h none p = by_name (subcommand_met names waiting word) none
+      where
+        by_word : (b : Bool) → cond b [] (flag_word_fault s.rules s.args_override_self (long_of word) word h) ≡ []
+            → P (cond b (h, trailing position) (long_or_other s.rules waiting word (long_of word) h)).0.rows
+        by_word true free = p
+        by_word false free = flag_keeps waiting word (long_of word) h free p
+
+        by_name : (name : Option Text) → other_fault s name word h ≡ [] → P (subcommand_or_other s.rules name waiting position word h).0.rows
+        by_name (Some name) free = p
+        by_name None free = by_word (bytes_eq word (45 ∷ 45 ∷ [])) free
+
+    step_keeps : (w : Walk) (word : Text) (h : Held) (step : Step) → step_fault s w.position h step ≡ [] → P h.rows → P (after_step s.rules word w h step).held.rows
+    step_keeps w word h (next waiting) none p = p
+    step_keeps w word h (trailing position) none p = p
+    step_keeps w word h (subcommand name) none p = p
+    step_keeps w word h value none p = by_argument (arg_by_index s.rules w.position) none
+      where
+        by_pending : (a : Rule) (b : Bool) → cond b [] (settle_fault s.rules s.args_override_self h) ≡ [] → P (cond b h (settled s.rules h)).rows
+        by_pending a true free = p
+        by_pending a false free = settles h free p
+
+        by_argument : (o : Option Rule) → option_map_or (λ a. positional_fault s.rules s.args_override_self a h) o (stray_fault s) ≡ []
+            → P (to_positional s.rules o word w h).held.rows
+        by_argument None free = p
+        by_argument (Some a) free = by_pending a (is_pending a h.pending && takes_several a) free
+
+    turn_keeps : (names : Names) (w : Walk) (word : Text) → turn_fault s names w word ≡ [] → P w.held.rows → P (walked s.rules names w word).held.rows
+    unfolding walked
+    turn_keeps names w word none p = by_stop w.stopped none
+      where
+        by_stop : (stopped : Option (Text × List Text))
+            → cond (is_some stopped) [] (or_else (word_fault s names w.is_trailing w.waiting word w.held)
+            (step_fault s w.position (word_met s.rules names w.is_trailing w.waiting w.position word w.held).0 (word_met s.rules names w.is_trailing w.waiting w.position word w.held).1)) ≡ []
+            → P (walked_from s.rules names stopped w word).held.rows
+        by_stop (Some q) free = p
+        by_stop None free =
+            let met = word_met s.rules names w.is_trailing w.waiting w.position word w.held in
+            let each = both_empty (word_fault s names w.is_trailing w.waiting word w.held) (step_fault s w.position met.0 met.1) free in
+            step_keeps w word met.0 met.1 each.1 (word_keeps names w.is_trailing w.waiting w.position word w.held each.0 p)
+
+    walk_keeps : (names : Names) (w : Walk) (words : List Text) → walk_fault s names w words ≡ [] → P w.held.rows → P (fold (walked s.rules names) w words).held.rows
+    unfolding walk_fault
+    walk_keeps names w [] none p = p
+    walk_keeps names w (word ∷ words) none p =
+        let each = both_empty (turn_fault s names w word) (walk_fault s names (walked s.rules names w word) words) none in
+        walk_keeps names (walked s.rules names w word) words each.1 (turn_keeps names w word each.0 p)
+
+-- ---- an option whose value is a number
+
+-- where the option has a row, its text is a number from 1 to the most
+abbrev HasNumber : Text → ℕ → List Row → Type 0
+HasNumber name most rows =
+    MatchOption (find (λ r. bytes_eq r.id name) rows) (Unit {0}) (λ r. is_some (option_and_then (number_up_to most) (row_text r)) ≡ true)
+
+same_bytes : (t : Text) → bytes_eq t t ≡ true
+same_bytes t = (bytes_eq-Decides t t).1 refl
+
+-- a row of one option is none of another
+apart : (x a b : Text) → bytes_eq a b ≡ false → bytes_eq x a ≡ true → bytes_eq x b ≡ false
+apart x a b differ is = subst (λ (t : Text). bytes_eq t b ≡ false) (sym ((bytes_eq-Decides x a).0 is)) differ
+
+-- rows of another option come and go, and the row of this one stays
+without_other : (other name : Text) → bytes_eq other name ≡ false → (rows : List Row) → find (λ r. bytes_eq r.id name) (without other rows) ≡ find (λ r. bytes_eq r.id name) rows
+without_other other name differ [] = refl
+without_other other name differ (r ∷ rs) = by_row (without_other other name differ rs) (bytes_eq r.id other) refl
+  where
+    by_row : find (λ x. bytes_eq x.id name) (without other rs) ≡ find (λ x. bytes_eq x.id name) rs → (b : Bool) → bytes_eq r.id other ≡ b
+        → find (λ x. bytes_eq x.id name) (cond b ([] ++ rs) (r ∷ without other rs)) ≡ cond (bytes_eq r.id name) (Some r) (find (λ x. bytes_eq x.id name) rs)
+    by_row rest true is = sym (ap (λ (b : Bool). cond b (Some r) (find (λ x. bytes_eq x.id name) rs)) (apart r.id other name differ is))
+    by_row rest false is = ap (cond (bytes_eq r.id name) (Some r)) rest
+
+with_other : (other name : Text) (how : Reading) (source : ValueSource) (values : List Text) → bytes_eq other name ≡ false → (rows : List Row)
+    → find (λ r. bytes_eq r.id name) (with_values other how source values rows) ≡ find (λ r. bytes_eq r.id name) rows
+with_other other name how source values differ [] =
+    ap (λ (b : Bool). cond b (Some (record { id = other; values = values; count = None; source = Some source; reading = how })) None) differ
+with_other other name how source values differ (r ∷ rs) = by_row (with_other other name how source values differ rs) (bytes_eq r.id other) refl
+  where
+    changed : Row
+    changed = record r { values = r.values ++ values; source = Some (stronger r.source source) }
+
+    by_row : find (λ x. bytes_eq x.id name) (with_values other how source values rs) ≡ find (λ x. bytes_eq x.id name) rs → (b : Bool) → bytes_eq r.id other ≡ b
+        → find (λ x. bytes_eq x.id name) (cond b ((changed ∷ []) ++ rs) (r ∷ with_values other how source values rs)) ≡ cond (bytes_eq r.id name) (Some r) (find (λ x. bytes_eq x.id name) rs)
+    by_row rest true is =
+        let no = apart r.id other name differ is in
+        ap (λ (b : Bool). cond b (Some changed) (find (λ x. bytes_eq x.id name) rs)) no
+        ∙ sym (ap (λ (b : Bool). cond b (Some r) (find (λ x. bytes_eq x.id name) rs)) no)
+    by_row rest false is = ap (cond (bytes_eq r.id name) (Some r)) rest
+
+-- the first row of an option that had none
+first_row : (name : Text) (how : Reading) (source : ValueSource) (values : List Text) (rows : List Row) → has_row name rows ≡ false
+    → find (λ r. bytes_eq r.id name) (with_values name how source values (without name rows)) ≡ Some (record { id = name; values = values; count = None; source = Some source; reading = how })
+first_row name how source values [] none =
+    ap (λ (b : Bool). cond b (Some (record { id = name; values = values; count = None; source = Some source; reading = how })) None) (same_bytes name)
+first_row name how source values (r ∷ rs) none = by_row (first_row name how source values rs) (bytes_eq r.id name) refl none
+  where
+    added : Row
+    added = record { id = name; values = values; count = None; source = Some source; reading = how }
+
+    by_row : (has_row name rs ≡ false → find (λ x. bytes_eq x.id name) (with_values name how source values (without name rs)) ≡ Some added)
+        → (b : Bool) → bytes_eq r.id name ≡ b → (b || has_row name rs) ≡ false
+        → find (λ x. bytes_eq x.id name) (with_values name how source values (cond b ([] ++ rs) (r ∷ without name rs))) ≡ Some added
+    by_row rest true is e = cc
+    by_row rest false is e =
+        ap (λ (b : Bool). find (λ x. bytes_eq x.id name) (cond b ((record r { values = r.values ++ values; source = Some (stronger r.source source) } ∷ []) ++ without name rs) (r ∷ with_values name how source values (without name rs)))) is
+        ∙ (ap (λ (b : Bool). cond b (Some r) (find (λ x. bytes_eq x.id name) (with_values name how source values (without name rs)))) is
+        ∙ rest e)
+
+some_kind : (k : ErrorKind) (ks : Kinds) → k ∷ ks ≡ [] → ⊥
+some_kind k ks e = cc
+
+true_is_not_false : (b : Bool) → b ≡ true → b ≡ false → ⊥
+true_is_not_false b is other = let bad : true ≡ false = sym is ∙ other in cc
+
+-- one value alone is in the range
+only_one : (empty one : Bool) → cond empty (kind.InvalidValue ∷ []) (cond one [] (kind.WrongNumberOfValues ∷ [])) ≡ [] → one ≡ true
+only_one true one e = cc
+only_one false true e = refl
+only_one false false e = cc
+
+-- an option that sets another value keeps it
+pub other_keeps : (s : Shape) (name : Text) (most : ℕ) (a : Rule) → action_of a ≡ Set → bytes_eq a.id name ≡ false → Keeps s (HasNumber name most) a
+other_keeps s name most a set differ values rows none p =
+    let how = reading_by a in
+    let given = values_or_missing a values in
+    let same = with_other a.id name how CommandLine given differ (without a.id rows) ∙ without_other a.id name differ rows in
+    let kept : HasNumber name most (used_as Set a.id how given rows) =
+    subst (λ (o : Option Row). MatchOption o (Unit {0}) (λ r. is_some (option_and_then (number_up_to most) (row_text r)) ≡ true)) (sym same) p in
+    subst (λ (x : ArgAction). HasNumber name most (used_as x a.id how given rows)) (sym set) kept
+
+-- and so does the one that asks for help
+pub help_keeps : (s : Shape) (P : List Row → Type 0) (a : Rule) → action_of a ≡ Help → Keeps s P a
+help_keeps s P a asks values rows none p =
+    subst (λ (x : ArgAction). P (used_as x a.id (reading_by a) (values_or_missing a values) rows)) (sym asks) p
+
+-- the option itself gives it
+pub number_keeps : (s : Shape) (name : Text) (most : ℕ) → s.args_override_self ≡ false → Keeps s (HasNumber name most) (filled (number_rule name most))
+number_keeps s name most once values rows none p = by_values values none
+  where
+    rule : Rule
+    rule = filled (number_rule name most)
+
+    by_values : (values : List Text) → use_fault s.args_override_self rule values rows ≡ [] → HasNumber name most (used rule values rows)
+    by_values [] free = absurd (some_kind _ _ free)
+    by_values (v ∷ w ∷ vs) free =
+        let many = length (v ∷ w ∷ vs) in
+        let one : (1 == many) ≡ true = only_one (many == 0) (1 == many) (both_empty (range_kinds 1 1 many) _ free).0 in
+        let other : (1 == many) ≡ false = ne_eqb 1 many (λ e. omega (arith, e)) in
+        absurd (true_is_not_false _ one other)
+    by_values (v ∷ []) free =
+        let each = both_empty (repeat_fault s.args_override_self name rows) (values_fault rule (v ∷ [])) free in
+        let fresh : has_row name rows ≡ false = unrepeated (has_row name rows) s.args_override_self once each.0 in
+        let row = first_row name AsWritten CommandLine (v ∷ []) rows fresh in
+        let passes : is_unsigned_in 1 most v ≡ true = accepted (is_unsigned_in 1 most v) each.1 in
+        let is : is_some (number_up_to most v) ≡ true = ap (λ (b : Bool). is_some (cond b (Some (digits_value 10 (without_leading_plus v))) None)) passes in
+        subst (λ (o : Option Row). MatchOption o (Unit {0}) (λ r. is_some (option_and_then (number_up_to most) (row_text r)) ≡ true)) (sym row) is
+      where
+        unrepeated : (has again : Bool) → again ≡ false → cond (has && not again) (kind.ArgumentConflict ∷ []) [] ≡ [] → has ≡ false
+        unrepeated false again e free = refl
+        unrepeated true false e free = cc
+        unrepeated true true e free = cc
+
+        accepted : (b : Bool) → or_else (cond b [] (refused_kind (Unsigned 1 most) ∷ [])) [] ≡ [] → b ≡ true
+        accepted true e = refl
+        accepted false e = cc
+
+-- ---- so a subcommand that is taken has it
+
+no_defaults : (c : List Rule) (rows : List Row) → AllByRecursion (λ a. a.defaults ≡ []) c → fold with_default rows c ≡ rows
+no_defaults [] rows none = refl
+no_defaults (a ∷ c) rows none = ap (λ (now : List Row). fold with_default now c) (same (has_row a.id rows)) ∙ no_defaults c rows none.1
+  where
+    empty : (defaults : List Text) → defaults ≡ [] → default_rows a.id (reading_by a) defaults rows ≡ rows
+    empty [] e = refl
+    empty (v ∷ vs) e = cc
+
+    same : (b : Bool) → cond b rows (default_rows a.id (reading_by a) a.defaults rows) ≡ rows
+    same true = refl
+    same false = empty a.defaults none.0
+
+-- nothing that is required is missing
+none_missing : (help sub missing : Bool) → check_kinds help sub missing ≡ [] → missing ≡ false
+none_missing true sub missing e = cc
+none_missing false true missing e = cc
+none_missing false false true e = cc
+none_missing false false false e = refl
+
+pub required_number : (s : Shape) (name : Text) (most : ℕ) → AllByRecursion (Keeps s (HasNumber name most)) s.rules → AllByRecursion (λ a. a.defaults ≡ []) s.rules
+    → s.subcommand_negates_reqs ≡ false
+    → ((rows : List Row) → list_any (λ a. a.required && not (is_given a.id rows)) s.rules ≡ false → is_given name rows ≡ true)
+    → (words : List Text) → level_fault s [] nothing_held words false [] ≡ [] → is_some (number_at most name (rows_after s.rules [] words)) ≡ true
+required_number s name most keeps plain-rules negates required words none =
+    let end = (walk s.rules [] nothing_held words).held in
+    let rows = finished s.rules end in
+    let check = check_fault s rows false in
+    let defaults = or_else (defaults_fault (settled s.rules end).rows s.rules) check in
+    let each = both_empty (walk_fault s [] (walk_from nothing_held) words) (or_else (settle_fault s.rules s.args_override_self end) defaults) none in
+    let settling = both_empty (settle_fault s.rules s.args_override_self end) defaults each.1 in
+    let last = both_empty (defaults_fault (settled s.rules end).rows s.rules) check settling.1 in
+    let walked-over : HasNumber name most end.rows = walk_keeps s (HasNumber name most) keeps [] (walk_from nothing_held) words each.0 tt in
+    let at-end : HasNumber name most (settled s.rules end).rows = settles s (HasNumber name most) keeps end settling.0 walked-over in
+    let has : HasNumber name most rows = subst (HasNumber name most) (sym (no_defaults s.rules (settled s.rules end).rows plain-rules)) at-end in
+    let missing = list_any (λ a. a.required && not (is_given a.id rows)) s.rules in
+    let all-there : (not (s.subcommand_negates_reqs && false) && missing) ≡ false = none_missing _ _ _ last.1 in
+    let there : is_given name rows ≡ true = required rows (let off : (not (s.subcommand_negates_reqs && false) && missing) ≡ missing = ap (λ (b : Bool). not (b && false) && missing) negates in sym off ∙ all-there) in
+    by_row (find (λ r. bytes_eq r.id name) rows) has there
+  where
+    by_row : (o : Option Row) → MatchOption o (Unit {0}) (λ r. is_some (option_and_then (number_up_to most) (row_text r)) ≡ true)
+        → option_map_or (λ r. explicit_source r.source) o false ≡ true
+        → is_some (option_and_then (number_up_to most) (option_and_then row_text o)) ≡ true
+    by_row None has given = given
+    by_row (Some r) has given = has

@@ -1,0 +1,18 @@
+use Rattle.std.proofs.Common.{◌≡◌, ap, ap₂, ◌∙◌}
+use Rattle.std.proofs.lemmas.Result.{IfOk-weaker}
+use Rattle.clap.specs.Words.{App, with_subcommand}
+use Rattle.kcr_tool.specs.Commands.{tool_app}
+use Rattle.kcr_tool.proofs.commands.tool.Goals as goal
+
+add : App → App → App
+add a b = with_subcommand a b.top
+
+pub returns : goal.returns
+unfolding tool_app add
+returns c =
+    let one = c.in_ok-tool.ensures ∙ ap₂ add c.root.ensures c.in_ok-run.ensures.app in
+    let two = c.in_ok-tool-2.ensures ∙ ap₂ add one c.in_ok-serve.ensures.app in
+    let three = c.in_ok-tool-3.ensures ∙ ap₂ add two c.in_ok-print.ensures.app in
+    let four = c.in_ok-tool-4.ensures ∙ ap₂ add three c.in_ok-attendance.ensures.app in
+    let five = c.in_ok-tool-5.ensures ∙ ap₂ add four c.in_ok-custody.ensures.app in
+    IfOk-weaker c.with-6.result _ _ (λ r h. h ∙ ap₂ add five c.in_ok-audit.ensures.app) c.with-6.ensures

@@ -1,0 +1,34 @@
+-- The lines that the program writes beside reports.
+use Rattle.std.specs.Prelude.{ℕ, List, [], ◌∷◌, ◌++◌, codes}
+use Rattle.std.specs.Fmt.{decimal}
+use Rattle.kcr_base.specs.Moment.{moment_text}
+use Rattle.kcr_history.specs.declared.views.Finding.{Finding}
+use Rattle.kcr_history.specs.declared.views.Finding.TheVariants as Findings
+
+abbrev pub ended : List ℕ → List ℕ
+ended text = text ++ 10 ∷ []
+
+-- a number, and a text behind a space
+abbrev pub numbered : ℕ → List ℕ → List ℕ
+numbered number text = decimal number ++ (codes " " ++ text)
+
+-- the program listens on this port
+abbrev pub listening_line : ℕ → List ℕ
+listening_line port = codes "listening 127.0.0.1:" ++ (decimal port ++ codes "\n")
+
+-- an audit found nothing
+abbrev pub clean_line : List ℕ
+clean_line = ended (codes "audit: nothing found")
+
+-- the line of a kind of finding and what it is about
+abbrev pub found_line : List ℕ → List ℕ → List ℕ
+found_line kind subject = kind ++ (subject ++ codes "\n")
+
+-- what an audit found
+abbrev pub finding_line : Finding → List ℕ
+finding_line (Findings.Seating ceremony step) = found_line (codes "finding: seating ") (numbered ceremony (decimal step))
+finding_line (Findings.Custody item) = found_line (codes "finding: custody ") item
+finding_line (Findings.Bag serial) = found_line (codes "finding: bag ") serial
+finding_line (Findings.Key key) = found_line (codes "finding: key ") key
+finding_line (Findings.Lone ceremony moment) = found_line (codes "finding: lone ") (numbered ceremony (moment_text moment))
+finding_line (Findings.Crowd ceremony moment) = found_line (codes "finding: crowd ") (numbered ceremony (moment_text moment))

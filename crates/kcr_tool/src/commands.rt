@@ -1,0 +1,193 @@
+//! The command line of the program, as `clap` takes it, with what its help says.
+ghost use Rattle.std.specs.Prelude.{◌≡◌, codes, false, IfOk};
+ghost use Rattle.clap.specs.Words.{App, app_of, rule_of, with_rule, with_subcommand};
+ghost use Rattle.clap.specs.declared.builder.command.Command.TheViews.{out-Command};
+ghost use Rattle.kcr_tool.specs.Commands.{file_rule, number_rule, root_app, of_file, of_ceremony, serve_app, tool_app};
+
+use clap::builder::ValueParser;
+use clap::{Arg, Command};
+use std::alloc::{AllocError, Global};
+
+/// The option of the register's file.
+fn file_option<'a>(alloc: Global) -> Arg<'a>
+    ensures rule { rule_of result ≡ file_rule }
+    ensures local { result.global ≡ false }
+{
+    Arg::new(alloc, "file").long("file").value_name("FILE").help(
+        "The register's file; without it the register is in memory, and empty at first",
+    )
+}
+
+/// A required option whose value is a number from 1 to `most`.
+fn number_option<'a>(alloc: Global, name: &'a str, most: u64, help: &'a str) -> Arg<'a>
+    ensures rule { rule_of result ≡ number_rule name.entry.now most }
+    ensures local { result.global ≡ false }
+{
+    Arg::new(alloc, name)
+        .long(name)
+        .value_name("N")
+        .required(true)
+        .value_parser(ValueParser::unsigned(1, most))
+        .help(help)
+}
+
+/// A subcommand over a register, with the option of its file.
+fn over_file<'a>(
+    alloc: Global,
+    name: &'a str,
+    about: &'a str,
+    example: &'a str,
+) -> Result<Command<'a>, AllocError>
+    ensures app { IfOk result (λ c. app_of c ≡ of_file name.entry.now) }
+    ensures local { IfOk result (λ c. (out-Command c).has_globals ≡ false) }
+{
+    Command::new(alloc, name)
+        .about(about)
+        .after_help(example)
+        .arg(file_option(alloc))
+}
+
+/// A command with one more option, whose value is a number from 1 to `most`.
+fn with_number<'a>(
+    alloc: Global,
+    command: Command<'a>,
+    name: &'a str,
+    most: u64,
+    help: &'a str,
+) -> Result<Command<'a>, AllocError>
+    requires { (out-Command command).has_globals ≡ false }
+    ensures app { IfOk result (λ c. app_of c ≡ with_rule (app_of command.entry) (number_rule name.entry.now most)) }
+    ensures local { IfOk result (λ c. (out-Command c).has_globals ≡ false) }
+{
+    command.arg(number_option(alloc, name, most, help))
+}
+
+/// A subcommand about one ceremony of a register.
+fn over_ceremony<'a>(
+    alloc: Global,
+    name: &'a str,
+    about: &'a str,
+    example: &'a str,
+) -> Result<Command<'a>, AllocError>
+    ensures app { IfOk result (λ c. app_of c ≡ of_ceremony name.entry.now) }
+    ensures local { IfOk result (λ c. (out-Command c).has_globals ≡ false) }
+{
+    let command = over_file(alloc, name, about, example)?;
+    with_number(
+        alloc,
+        command,
+        "ceremony",
+        9_999,
+        "The ceremony's number, 1 to 9999",
+    )
+}
+
+fn run<'a>(alloc: Global) -> Result<Command<'a>, AllocError>
+    ensures app { IfOk result (λ c. app_of c ≡ of_file (codes "run")) }
+    ensures local { IfOk result (λ c. (out-Command c).has_globals ≡ false) }
+{
+    over_file(
+        alloc,
+        "run",
+        "Answers the HTTP requests on standard input on standard output",
+        "Example: kcr run --file register.db < requests.http",
+    )
+}
+
+fn serve<'a>(alloc: Global) -> Result<Command<'a>, AllocError>
+    ensures app { IfOk result (λ c. app_of c ≡ serve_app) }
+    ensures local { IfOk result (λ c. (out-Command c).has_globals ≡ false) }
+{
+    let command = over_file(
+        alloc,
+        "serve",
+        "Answers HTTP requests on a port of 127.0.0.1, one connection after the other",
+        "Example: kcr serve --file register.db --port 8053 --connections 100",
+    )?;
+    let command = with_number(alloc, command, "port", 65_535, "The port, 1 to 65535")?;
+    with_number(
+        alloc,
+        command,
+        "connections",
+        1_000_000,
+        "How many connections are served before the program ends, 1 to 1000000",
+    )
+}
+
+fn print<'a>(alloc: Global) -> Result<Command<'a>, AllocError>
+    ensures app { IfOk result (λ c. app_of c ≡ of_ceremony (codes "print")) }
+    ensures local { IfOk result (λ c. (out-Command c).has_globals ≡ false) }
+{
+    over_ceremony(
+        alloc,
+        "print",
+        "Prints the annotated script of a ceremony",
+        "Example: kcr print --file register.db --ceremony 61",
+    )
+}
+
+fn attendance<'a>(alloc: Global) -> Result<Command<'a>, AllocError>
+    ensures app { IfOk result (λ c. app_of c ≡ of_ceremony (codes "attendance")) }
+    ensures local { IfOk result (λ c. (out-Command c).has_globals ≡ false) }
+{
+    over_ceremony(
+        alloc,
+        "attendance",
+        "Prints the attendance of a ceremony as comma separated values",
+        "Example: kcr attendance --file register.db --ceremony 61",
+    )
+}
+
+fn custody<'a>(alloc: Global) -> Result<Command<'a>, AllocError>
+    ensures app { IfOk result (λ c. app_of c ≡ of_file (codes "custody")) }
+    ensures local { IfOk result (λ c. (out-Command c).has_globals ≡ false) }
+{
+    over_file(
+        alloc,
+        "custody",
+        "Prints the safes, the bags with their items, and the loose items",
+        "Example: kcr custody --file register.db",
+    )
+}
+
+fn audit<'a>(alloc: Global) -> Result<Command<'a>, AllocError>
+    ensures app { IfOk result (λ c. app_of c ≡ of_file (codes "audit")) }
+    ensures local { IfOk result (λ c. (out-Command c).has_globals ≡ false) }
+{
+    over_file(
+        alloc,
+        "audit",
+        "Tells what is wrong in the rows of the register, if anything is",
+        "Example: kcr audit --file register.db",
+    )
+}
+
+/// A command with one more subcommand.
+fn with<'a>(command: Command<'a>, sub: Command<'a>) -> Result<Command<'a>, AllocError>
+    requires { (out-Command sub).has_globals ≡ false }
+    ensures { IfOk result (λ c. app_of c ≡ with_subcommand (app_of command.entry) (app_of sub.entry).top) }
+{
+    command.subcommand(sub)
+}
+
+fn root<'a>(alloc: Global) -> Command<'a>
+    ensures { app_of result ≡ root_app }
+{
+    Command::new(alloc, "kcr")
+        .version("0.1.0")
+        .about("The register of the DNSSEC root zone key ceremonies")
+        .after_help("Example: kcr serve --file register.db --port 8053 --connections 100")
+        .subcommand_required(true)
+}
+
+/// The command line of the program. The error is want of memory.
+pub fn tool<'a>(alloc: Global) -> Result<Command<'a>, AllocError>
+    ensures { IfOk result (λ c. app_of c ≡ tool_app) }
+{
+    let tool = with(root(alloc), run(alloc)?)?;
+    let tool = with(tool, serve(alloc)?)?;
+    let tool = with(tool, print(alloc)?)?;
+    let tool = with(tool, attendance(alloc)?)?;
+    let tool = with(tool, custody(alloc)?)?;
+    with(tool, audit(alloc)?)
+}

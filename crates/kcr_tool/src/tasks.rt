@@ -1,0 +1,93 @@
+//! The tasks over a register that end by themselves.
+ghost use Rattle.std.specs.Prelude.{◌≡◌, IfErr, OnOk, OnErr, IsTrue};
+ghost use Rattle.std.specs.Io.KnownBytes.{Appends};
+ghost use Rattle.kcr_base.specs.Counted.{inner_of};
+ghost use Rattle.kcr_history.specs.Ceremonies.{is_ceremony};
+ghost use Rattle.kcr_history.specs.Prints as report;
+ghost use Rattle.kcr_print.specs.Written.{WritesFront};
+ghost use Rattle.kcr_tool.specs.Faults.{HasCause, StopsReport};
+ghost use Rattle.kcr_tool.specs.Runs.{AnswersAll, AnswersInPart, OfHistory};
+
+use crate::fault::Fault;
+use kcr_base::{CeremonyNumber, Counted};
+use kcr_desk::serve;
+use kcr_print::{annotated, attendance_csv, custody};
+use kcr_store::Register;
+use sqlite::Alter;
+use std::alloc::Global;
+use std::io::{Read, Write};
+
+/// Answers the stream of requests by a register.
+pub fn run<S: Alter, R: Read, W: Write>(
+    alloc: Global,
+    register: &mut Register<S>,
+    input: &mut Counted<R>,
+    output: &mut Counted<W>,
+) -> Result<(), Fault>
+    ensures done { OfHistory S.Store register.old (λ A. OnOk result (AnswersAll A
+        (R.remaining (inner_of input.old)) (W.contents (inner_of output.old)) (W.contents (inner_of output.new)))) }
+    ensures part { OfHistory S.Store register.old (λ A. OnErr result (AnswersInPart A
+        (R.remaining (inner_of input.old)) (W.contents (inner_of output.old)) (W.contents (inner_of output.new)))) }
+    ensures cause { IfErr result (λ why. HasCause why input.old input.new output.old output.new) }
+{
+    match serve(alloc, input, output, register) {
+        Ok(_) => Ok(()),
+        Err(fault) => Err(Fault::Stream(fault)),
+    }
+}
+
+/// Prints the annotated script of a ceremony.
+pub fn print<S: Alter, W: Write>(
+    alloc: Global,
+    register: &mut Register<S>,
+    ceremony: CeremonyNumber,
+    output: &mut Counted<W>,
+) -> Result<(), Fault>
+    ensures done { OfHistory S.Store register.old (λ A. OnOk result (IsTrue (is_ceremony A ceremony)
+        × Appends (W.contents (inner_of output.old)) (W.contents (inner_of output.new)) (report.annotated A ceremony))) }
+    ensures part { OfHistory S.Store register.old (λ A. OnErr result
+        (WritesFront (W.contents (inner_of output.old)) (W.contents (inner_of output.new)) (report.annotated A ceremony))) }
+    ensures cause { IfErr result (StopsReport output.old output.new) }
+{
+    match annotated(alloc, register, ceremony, output) {
+        Ok(()) => Ok(()),
+        Err(fault) => Err(Fault::from(fault)),
+    }
+}
+
+/// Prints the attendance of a ceremony.
+pub fn attendance<S: Alter, W: Write>(
+    alloc: Global,
+    register: &mut Register<S>,
+    ceremony: CeremonyNumber,
+    output: &mut Counted<W>,
+) -> Result<(), Fault>
+    ensures done { OfHistory S.Store register.old (λ A. OnOk result (IsTrue (is_ceremony A ceremony)
+        × Appends (W.contents (inner_of output.old)) (W.contents (inner_of output.new)) (report.attendance A ceremony))) }
+    ensures part { OfHistory S.Store register.old (λ A. OnErr result
+        (WritesFront (W.contents (inner_of output.old)) (W.contents (inner_of output.new)) (report.attendance A ceremony))) }
+    ensures cause { IfErr result (StopsReport output.old output.new) }
+{
+    match attendance_csv(alloc, register, ceremony, output) {
+        Ok(()) => Ok(()),
+        Err(fault) => Err(Fault::from(fault)),
+    }
+}
+
+/// Prints what lies where.
+pub fn whereabouts<S: Alter, W: Write>(
+    alloc: Global,
+    register: &mut Register<S>,
+    output: &mut Counted<W>,
+) -> Result<(), Fault>
+    ensures done { OfHistory S.Store register.old (λ A. OnOk result
+        (Appends (W.contents (inner_of output.old)) (W.contents (inner_of output.new)) (report.custody A))) }
+    ensures part { OfHistory S.Store register.old (λ A. OnErr result
+        (WritesFront (W.contents (inner_of output.old)) (W.contents (inner_of output.new)) (report.custody A))) }
+    ensures cause { IfErr result (StopsReport output.old output.new) }
+{
+    match custody(alloc, register, output) {
+        Ok(()) => Ok(()),
+        Err(fault) => Err(Fault::from(fault)),
+    }
+}
