@@ -1,0 +1,340 @@
+"""What the tests of the program `kcr` share: to start it and end it, to cut streams into requests and answers, and to
+read and change a register's file with C's sqlite, by Python's module sqlite3.
+
+It tests nothing by itself: `program.py`, `server.py` and `kills.py` stand on it, and on the kept streams of `files`.
+"""
+import ast
+import contextlib
+import pathlib
+import re
+import shutil
+import socket
+import sqlite3
+import subprocess
+import sys
+import tempfile
+import threading
+
+HERE = pathlib.Path(__file__).resolve().parent
+SECONDS = 300  # nothing that is started lives longer
+SHOWN_BYTES = 200
+TABLES = ("people trainings appointments boxes safes bags items ceremonies marks steps seatings sheet exceptions keys "
+          "stays versions withdrawals").split()
+EMPTY_CUSTODY = b"safe 1 EAST shut\nsafe 2 EAST shut\nsafe 1 WEST shut\nsafe 2 WEST shut\n"
+GO_ON = b"HTTP/1.1 100 Continue\r\n\r\n"
+NOTHING_FOUND = (b"audit: nothing found\n", b"", 0)
+
+
+class Wrong(Exception):
+    """Something is not as it should be; the text says what."""
+
+
+def around(text, place):
+    """Some bytes of a text from shortly before a place on."""
+    start = max(0, place - SHOWN_BYTES // 4)
+    return f"{'..' if start else ''}{text[start:start + SHOWN_BYTES]!r}"
+
+
+def difference(wanted, got):
+    """Two values that differ, in words: of two texts the place where they begin to."""
+    if not (isinstance(wanted, bytes) and isinstance(got, bytes)):
+        return f"wanted {wanted!r:.600}, got {got!r:.600}"
+    place = next((i for i, (one, other) in enumerate(zip(wanted, got)) if one != other), min(len(wanted), len(got)))
+    return f"they differ at byte {place}: wanted {around(wanted, place)}, got {around(got, place)}"
+
+
+def expect(what, wanted, got):
+    """Says what is wrong where two values differ; of tuples it tells the first member that does."""
+    if wanted == got:
+        return
+    if isinstance(wanted, tuple) and isinstance(got, tuple) and len(wanted) == len(got):
+        pairs = next((one, other) for one, other in zip(wanted, got) if one != other)
+        raise Wrong(f"{what}: {difference(*pairs)}; in all {got!r:.600}")
+    raise Wrong(f"{what}: {difference(wanted, got)}")
+
+
+# The program
+
+def call(program, *words, stream=b"", **others):
+    """What the program writes to standard output and to standard error, and its status."""
+    run = subprocess.run([program, *map(str, words)], input=stream, stdout=subprocess.PIPE, stderr=subprocess.PIPE,
+                         timeout=SECONDS, **others)
+    return run.stdout, run.stderr, run.returncode
+
+
+def free_port():
+    """A port of 127.0.0.1 that nobody has now."""
+    with socket.socket() as probe:
+        probe.bind(("127.0.0.1", 0))
+        return probe.getsockname()[1]
+
+
+class Server:
+    """`kcr serve` on a free port, over a file or over memory, from when it listens. It is killed where it is left."""
+
+    def __init__(self, program, connections, file=None, seconds=SECONDS):
+        words = ["serve", "--connections", str(connections)] + (["--file", str(file)] if file else [])
+        for _ in range(5):  # somebody may take the port before the program does
+            self.port = free_port()
+            self.run = subprocess.Popen([program, *words, "--port", str(self.port)], stdin=subprocess.DEVNULL,
+                                        stdout=subprocess.PIPE, stderr=subprocess.PIPE)
+            self.guard = threading.Timer(seconds, self.run.kill)
+            self.guard.start()
+            self.line = self.run.stdout.readline()
+            if self.line:
+                return
+            told = self.end()
+            if told != (b"", b"fault: net\n", 1):
+                raise Wrong(f"the program does not listen: {told!r:.600}")
+        raise Wrong("no free port in five tries")
+
+    def __enter__(self):
+        return self
+
+    def __exit__(self, *_):
+        self.run.kill()
+        self.end()
+
+    def end(self):
+        """Waits for its end: what it still writes to standard output and to standard error, and its status."""
+        try:
+            output, faults = self.run.communicate(timeout=SECONDS)
+        finally:
+            self.guard.cancel()
+        return output, faults, self.run.returncode
+
+    def peak(self):
+        """The most memory that the process has held so far, in kilobytes."""
+        status = pathlib.Path(f"/proc/{self.run.pid}/status").read_text()
+        return int(re.search(r"VmHWM:\s*([0-9]+) kB", status)[1])
+
+
+# Connections
+
+def connect(port):
+    """A connection to the port that nothing delays."""
+    peer = socket.create_connection(("127.0.0.1", port), timeout=SECONDS)
+    peer.setsockopt(socket.IPPROTO_TCP, socket.TCP_NODELAY, 1)
+    return peer
+
+
+def send(peer, pieces):
+    """Sends each piece by itself, as long as anybody takes it, and says that nothing comes after."""
+    with contextlib.suppress(OSError):
+        for piece in pieces:
+            peer.sendall(piece)
+        peer.shutdown(socket.SHUT_WR)
+
+
+def rest_of(peer):
+    """All that still comes over a connection until it ends."""
+    got = b""
+    with contextlib.suppress(ConnectionError):
+        while piece := peer.recv(65_536):
+            got += piece
+    return got
+
+
+def exchange(port, pieces):
+    """What a connection of its own answers to these pieces, until the other side closes."""
+    with connect(port) as peer:
+        sender = threading.Thread(target=send, args=(peer, pieces), daemon=True)
+        sender.start()
+        got = rest_of(peer)
+        sender.join(SECONDS)
+        return got
+
+
+def in_pieces(text, size):
+    """The text in pieces of this size."""
+    return [text[i:i + size] for i in range(0, len(text), size)]
+
+
+# Requests and answers
+
+def request(method, path, body=b""):
+    """The bytes of a request."""
+    return b"%s %s HTTP/1.1\r\nHost: l\r\nContent-Length: %d\r\n\r\n%s" % (method, path, len(body), body)
+
+
+def person(key, who, name):
+    """The request that enters a person."""
+    return request(b"POST", b"/people", b'{"key":"%s","who":"%s","name":"%s"}' % (key, who, name))
+
+
+def answer(status, body, more=b""):
+    """The bytes of an answer in JSON."""
+    return (b"HTTP/1.1 %s\r\ncontent-type: application/json\r\ncontent-length: %d\r\n%s\r\n%s"
+            % (status, len(body), more, body))
+
+
+def accepted(number):
+    """The answer to an accepted command that tells its number alone."""
+    return answer(b"200 OK", b'{"accepted":%d}' % number)
+
+
+def initials(number):
+    """The number-th initials of four letters, in their order, from 0."""
+    return bytes(65 + number // 26 ** place % 26 for place in (3, 2, 1, 0))
+
+
+def messages(stream):
+    """The requests of a stream of whole ones, each with the empty lines before it and its body."""
+    found, start = [], 0
+    while text := stream[start:].lstrip(b"\r\n"):
+        blank = len(stream) - start - len(text)
+        end = re.search(rb"\n\r?\n", text).end()
+        length = re.search(rb"(?im)^content-length:[ \t]*([0-9]+)", text[:end])
+        end += blank + int(length[1] if length else 0)
+        found.append(stream[start:start + end])
+        start += end
+    return found
+
+
+def answers(stream, requests):
+    """The answers of a stream, those of these requests from the first on, each with the `100 Continue` before it."""
+    found, start = [], 0
+    for message in requests:
+        if start == len(stream):
+            break
+        head = start + len(GO_ON) if stream.startswith(GO_ON, start) else start
+        end = stream.index(b"\r\n\r\n", head) + 4
+        length = re.search(rb"content-length: ([0-9]+)", stream[head:end])
+        end += 0 if message.lstrip().startswith(b"HEAD ") else int(length[1])
+        found.append(stream[start:end])
+        start = end
+    return found
+
+
+# The kept streams
+
+def folders():
+    """The kept streams, each a folder."""
+    return sorted(path for path in (HERE / "files").iterdir() if path.is_dir())
+
+
+def kept(folder, name):
+    """A kept text: `requests`, `answers`, or what stands over the file that the requests fill."""
+    return (folder / name).read_bytes()
+
+
+def exchanges(folder):
+    """Each request of a kept stream with its answer; where an answer closes, the requests behind it are left out."""
+    requests = messages(kept(folder, "requests"))
+    return list(zip(requests, answers(kept(folder, "answers"), requests)))
+
+
+def commands(folder):
+    """The accepted commands of a kept stream with their answers, in order, each once."""
+    found = {}
+    for message, told in exchanges(folder):
+        number = re.search(rb'\{"accepted":([0-9]+)', told)
+        if number:
+            found.setdefault(int(number[1]), (message, told))
+    return [found[number] for number in sorted(found)]
+
+
+def key_of(command):
+    """The key that a command carries."""
+    return re.search(rb'"key"\s*:\s*"([A-Za-z0-9-]+)"', command)[1].decode()
+
+
+def reports(folder):
+    """The reports of a kept stream: the words that ask for each, and its bytes."""
+    found = [(("custody",), kept(folder, "custody"))]
+    for path in sorted(folder.iterdir()):
+        word, _, number = path.name.partition("-")
+        if number:
+            found.append(((word, "--ceremony", number), path.read_bytes()))
+    return found
+
+
+def kept_tables(folder):
+    """The rows of each table that the requests of a kept stream leave, in the order of their values."""
+    tables, name = {name: [] for name in TABLES}, None
+    for line in kept(folder, "tables").decode().splitlines():
+        if line.startswith("  "):
+            tables[name].append(ast.literal_eval(line.strip()))
+        else:
+            name = line
+    return {name: sorted(rows) for name, rows in tables.items()}
+
+
+# Files
+
+def log_of(file):
+    """The log beside a register's file."""
+    return file.with_name(file.name + "-wal")
+
+
+def contents(file):
+    """The bytes of a file and of its log, None for what is not there."""
+    return tuple(path.read_bytes() if path.is_file() else None for path in (file, log_of(file)))
+
+
+def copy(file, target):
+    """Copies a register's file and its log."""
+    shutil.copyfile(file, target)
+    if log_of(file).is_file():
+        shutil.copyfile(log_of(file), log_of(target))
+    return target
+
+
+@contextlib.contextmanager
+def opened(file):
+    """A copy of a register's file and its log, opened by sqlite3."""
+    with tempfile.TemporaryDirectory() as room, contextlib.closing(
+            sqlite3.connect(copy(file, pathlib.Path(room) / "copy"))) as database:
+        yield database
+
+
+def change(file, *statements):
+    """Changes a database in place with sqlite3, as one transaction; one that is not there is made."""
+    with contextlib.closing(sqlite3.connect(file)) as database:
+        with database:
+            for statement in statements:
+                database.execute(*((statement,) if isinstance(statement, str) else statement))
+
+
+def schema():
+    """The texts that make the tables of a register, in their order."""
+    told = subprocess.run([sys.executable, HERE.parent / "tools" / "tables.py", "schema"], capture_output=True,
+                          text=True, timeout=SECONDS, check=True)
+    return told.stdout.splitlines()
+
+
+def texts_in(database):
+    """The texts that made what a database has, in their order."""
+    return [f"{text};" for text, in database.execute("SELECT sql FROM sqlite_schema WHERE sql NOT NULL ORDER BY rowid")]
+
+
+def rows_in(database):
+    """The rows of each table of a register, in the order of their values."""
+    return {name: sorted(database.execute(f"SELECT * FROM {name}")) for name in TABLES}
+
+
+def stored(file, tables):
+    """Sees that a file is a sound register with these rows, as sqlite3 reads it."""
+    with opened(file) as database:
+        expect("PRAGMA integrity_check", [("ok",)], database.execute("PRAGMA integrity_check").fetchall())
+        expect("the schema", schema(), texts_in(database))
+        found = rows_in(database)
+    for name in TABLES:
+        expect(f"the table {name}", tables[name], found[name])
+
+
+# Running tests
+
+def judge(tests):
+    """Runs tests, each a name, what it shows and a call that takes an empty folder; prints what is wrong and the
+    numbers, and ends with the status."""
+    failed = 0
+    for name, shows, test in tests:
+        with tempfile.TemporaryDirectory() as room:
+            try:
+                test(pathlib.Path(room))
+            except (Wrong, OSError, ValueError, subprocess.SubprocessError, sqlite3.Error) as fault:
+                failed += 1
+                print(f"not so: {name}: {shows}\n    {type(fault).__name__}: {fault}", flush=True)
+    print(f"{len(tests) - failed} passed, {failed} failed")
+    sys.exit(1 if failed or not tests else 0)

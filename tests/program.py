@@ -1,0 +1,448 @@
+#!/usr/bin/env python3
+"""The program over a register's file: its subcommands, its lines and statuses, and the file as C's sqlite reads it.
+
+    tests/program.py PROGRAM [NAME ..]
+
+Shown are: for each of the twelve kept streams under tests/files that its requests get the kept answers over a file,
+that the reports and the audit of the file are the kept texts, that sqlite3 (Python's module, C's sqlite) finds it sound
+and with the kept rows and the register's schema, and that each accepted command sent again gets its answer again and
+changes nothing; that it makes no difference whether the file is opened anew before each request; that registers of the
+versions 1 and 2, which sqlite3 makes of files that the program wrote or from nothing, are brought to version 3; what
+becomes of files that are no register, and of one that somebody else has open; and what the audit and the reports say of
+a register in which sqlite3 changed a cell. With names only the tests with these names run.
+
+The twelve streams were taken from thirty so that together they have each kind of command accepted, each refusal and
+each table, spot, state and form of line that the thirty have. A folder has the stream (`requests`), what it is answered
+(`answers`), what the subcommands print afterwards (`print-N`, `attendance-N`, `custody`, `audit`) and the rows of the
+tables (`tables`). They come from a program that is not this one, written from the rules alone.
+
+The last line is `N passed, M failed`, and the status is 0 where none failed.
+"""
+import sys
+
+sys.dont_write_bytecode = True  # no files beside these
+
+import contextlib
+import functools
+import os
+import pathlib
+import sqlite3
+
+import kcr
+from kcr import EMPTY_CUSTODY, HERE, NOTHING_FOUND, TABLES, Wrong, call, change, contents, copy, expect, opened
+
+DISK = (b"", b"open: disk\n", 1)
+FOREIGN = (b"", b"open: foreign\n", 1)
+VERSION = (b"", b"open: version\n", 1)
+EMPTY = {name: [] for name in TABLES} | {
+    "safes": [("EAST", 1, 0), ("EAST", 2, 0), ("WEST", 1, 0), ("WEST", 2, 0)], "versions": [(3,)]}
+MOMENTS = 1_739_476_800  # 2025-02-13T20:00:00Z
+
+
+def stream(name):
+    """The folder of a kept stream."""
+    return HERE / "files" / name
+
+
+def filled(program, room, name):
+    """A register's file that the requests of a kept stream have filled."""
+    file = room / f"filled-{name}"
+    told = call(program, "run", "--file", file, stream=kcr.kept(stream(name), "requests"))
+    expect("the answers", (kcr.kept(stream(name), "answers"), b"", 0), told)
+    return file
+
+
+def reported(program, file, folder):
+    """Sees that the reports and the audit of a file are the kept ones."""
+    for words, text in kcr.reports(folder):
+        expect(" ".join(words), (text, b"", 0), call(program, *words, "--file", file))
+    expect("audit", (kcr.kept(folder, "audit"), b"", 0), call(program, "audit", "--file", file))
+
+
+def repeated(program, file, folder):
+    """Sees that each accepted command, sent again in its order, gets its answer again."""
+    commands = kcr.commands(folder)
+    told = call(program, "run", "--file", file, stream=b"".join(message for message, _ in commands))
+    expect("the accepted commands again", (b"".join(answer for _, answer in commands), b"", 0), told)
+
+
+def kept_stream(program, name, room):
+    """A kept stream over a file: answers, reports, rows, and its accepted commands once more."""
+    file, tables = filled(program, room, name), kcr.kept_tables(stream(name))
+    reported(program, file, stream(name))
+    kcr.stored(file, tables)
+    repeated(program, file, stream(name))
+    kcr.stored(file, tables)
+
+
+def opened_anew(program, room):
+    """A process of its own for each request of a stream gives the answers of the one stream."""
+    folder, file = stream("009"), room / "register"
+    for number, (message, answer) in enumerate(kcr.exchanges(folder)):
+        expect(f"request {number}", (answer, b"", 0), call(program, "run", "--file", file, stream=message))
+    kcr.stored(file, kcr.kept_tables(folder))
+    reported(program, file, folder)
+
+
+# Registers of older versions
+
+NEWER = {1: ("stays", "withdrawals"), 2: ("withdrawals",)}
+
+
+def made_older(file, version):
+    """Makes a register's file one of an older version: sqlite3 drops the tables that this has not."""
+    change(file, *(f"DROP TABLE {name}" for name in NEWER[version]), f"UPDATE versions SET number = {version}")
+
+
+def made_anew(file, target, left_out=(), unsaid="", **rows):
+    """Makes a database with the rows of a register's file from nothing, with a rollback journal: without the tables
+    that are left out, without these words in the texts that make them, and with other rows in some."""
+    with opened(file) as database:
+        rows = kcr.rows_in(database) | rows
+        texts = {text.split()[2]: text.replace(unsaid, "") for text in kcr.texts_in(database)}
+    kept = {name: text for name, text in texts.items() if name not in left_out}
+    change(target, *kept.values(), *((f"INSERT INTO {name} VALUES ({', '.join('?' * len(row))})", row)
+                                     for name in kept for row in rows[name]))
+    return target
+
+
+def brought(program, file, folder):
+    """Sees that a register of an older version becomes one of version 3 with the kept rows and reports."""
+    expect("custody", (kcr.kept(folder, "custody"), b"", 0), call(program, "custody", "--file", file))
+    kcr.stored(file, kcr.kept_tables(folder))
+    reported(program, file, folder)
+    repeated(program, file, folder)
+    kcr.stored(file, kcr.kept_tables(folder))
+
+
+def older_from_its_file(program, room):
+    """A file that the program wrote, from which sqlite3 drops the tables of later versions, is brought to version 3."""
+    file = filled(program, room, "009")
+    for version in (1, 2):
+        older = copy(file, room / f"version-{version}")
+        made_older(older, version)
+        brought(program, older, stream("009"))
+
+
+def older_from_nothing(program, room):
+    """A file of an older version that sqlite3 makes from nothing is brought to version 3."""
+    file = filled(program, room, "030")
+    for version in (1, 2):
+        older = made_anew(file, room / f"version-{version}", NEWER[version], versions=[(version,)])
+        brought(program, older, stream("030"))
+
+
+def half_older(program, room):
+    """A register of version 2 or 3 by its tables, but with another number, is refused for its version."""
+    file = filled(program, room, "006")
+    for number in (0, 1, 2, 4, 9):
+        other = copy(file, room / f"three-{number}")
+        change(other, f"UPDATE versions SET number = {number}")
+        refused(program, other, VERSION)
+    older = copy(file, room / "two")
+    made_older(older, 2)
+    change(older, "UPDATE versions SET number = 3")
+    refused(program, older, VERSION)
+
+
+# Files that are no register
+
+def dump(file):
+    """What a database holds, as sqlite3 tells it."""
+    with opened(file) as database:
+        return list(database.iterdump())
+
+
+def refused(program, file, told):
+    """Sees that a file is refused with this line by two subcommands, and left byte for byte as it was."""
+    before, held = file.read_bytes(), None if told == DISK else dump(file)
+    expect(f"custody of {file.name}", told, call(program, "custody", "--file", file))
+    expect(f"run over {file.name}", told, call(program, "run", "--file", file, stream=kcr.request(b"GET", b"/people")))
+    expect(f"the bytes of {file.name}", before, file.read_bytes())
+    if held is not None:
+        expect(f"what {file.name} holds", held, dump(file))
+
+
+def no_file_yet(program, room):
+    """An empty file and one that is not there become registers, and so does one at a path with blanks."""
+    (room / "empty").touch()
+    for name in ("empty", "missing", "a name with blanks, \u00e9 and \u540d.db"):
+        for told in (EMPTY_CUSTODY, EMPTY_CUSTODY):
+            expect(name, (told, b"", 0), call(program, "custody", "--file", room / name))
+        expect(f"audit of {name}", NOTHING_FOUND, call(program, "audit", "--file", room / name))
+        kcr.stored(room / name, EMPTY)
+
+
+def relative_and_linked(program, room):
+    """A path is one from the working folder, and a link leads to the file that it names."""
+    post = kcr.person(b"k1", b"AA", b"Ann Abel")
+    expect("run", (kcr.accepted(1), b"", 0), call(program, "run", "--file", "here", stream=post, cwd=room))
+    (room / "link").symlink_to("here")
+    expect("again", (kcr.accepted(1), b"", 0), call(program, "run", "--file", room / "link", stream=post))
+    kcr.stored(room / "here", EMPTY | {
+        "people": [("AA", "Ann Abel")], "keys": [("k1", 1, "/people\nAA\nAnn Abel", '{"accepted":1}')]})
+    expect("what lies there", {"here", "here-wal", "link"}, set(os.listdir(room)))
+
+
+def no_database(program, room):
+    """What is no database is refused as the disk's fault: a text, a damaged register, a folder, no folder, no name."""
+    (room / "text").write_text("step,activity,seats\n1,Check bags,CA;IW\n" * 50)
+    (room / "short").write_text("no register\n")
+    (room / "zeros").write_bytes(bytes(8_192))
+    whole = filled(program, room, "009")
+    change(whole, "PRAGMA user_version = 0")  # all of it lies in the one file now
+    taken = whole.read_bytes()
+    (room / "half").write_bytes(taken[:len(taken) // 8_192 * 4_096])
+    (room / "cut").write_bytes(taken[:-1_000])
+    (room / "header").write_bytes(b"sQLite format 3" + taken[15:])
+    (room / "page").write_bytes(taken[:4_096] + b"\xff" * 4_096 + taken[8_192:])
+    for name in ("text", "short", "zeros", "half", "cut", "header", "page"):
+        refused(program, room / name, DISK)
+    (room / "folder").mkdir()
+    for path in (room / "folder", room / "no folder" / "register", "", ":memory:"):
+        expect(f"custody of {path!s:.80}", DISK, call(program, "custody", "--file", path, cwd=room))
+    expect("the folder", [], os.listdir(room / "folder"))
+    expect("what is not made", (False, False), ((room / "no folder").exists(), (room / ":memory:").exists()))
+
+
+def foreign_databases(program, room):
+    """A database of somebody else is refused as foreign, or for its version where it has one number of a version."""
+    strangers = [
+        ("other", FOREIGN, ["CREATE TABLE t (a INT, b TEXT)", "INSERT INTO t VALUES (1, 'x')"]),
+        ("view", FOREIGN, ["CREATE VIEW people AS SELECT 1 AS who"]),
+        ("some", FOREIGN, kcr.schema()[:5]),
+        ("columns", FOREIGN, ["CREATE TABLE versions (number INT, name TEXT)", "INSERT INTO versions VALUES (3, 'x')"]),
+        ("none", FOREIGN, ["CREATE TABLE versions (number INT NOT NULL, PRIMARY KEY (number)) STRICT"]),
+        ("word", FOREIGN, ["CREATE TABLE versions (number TEXT)", "INSERT INTO versions VALUES ('x')"]),
+        ("two", FOREIGN, ["CREATE TABLE versions (number INT)", "INSERT INTO versions VALUES (3), (9)"]),
+        ("nine", VERSION, ["CREATE TABLE versions (number INT NOT NULL, PRIMARY KEY (number)) STRICT",
+                           "INSERT INTO versions VALUES (9)"]),
+        ("nine-more", VERSION, ["CREATE TABLE t (a INT)", "CREATE TABLE versions (number INT)",
+                                "INSERT INTO versions VALUES (9)"]),
+    ]
+    for name, told, statements in strangers:
+        change(room / name, *statements)
+        refused(program, room / name, told)
+    change(room / "wal", "CREATE TABLE t (a INT)")
+    with contextlib.closing(sqlite3.connect(room / "wal")) as database:
+        database.execute("PRAGMA journal_mode = wal")
+    refused(program, room / "wal", FOREIGN)
+
+
+def no_one_number(program, room):
+    """A register's tables whose table of versions has no row, or two, are refused for their version."""
+    file = filled(program, room, "006")
+    for name, statement in (("none", "DELETE FROM versions"), ("two", "INSERT INTO versions VALUES (9)")):
+        other = copy(file, room / name)
+        change(other, statement)
+        refused(program, other, VERSION)
+
+
+# Two who have one file open
+
+def held_by_serve(program, room):
+    """A file that `serve` has open is refused to another process, also to sqlite3, and nothing of it is changed."""
+    file = filled(program, room, "006")
+    with kcr.Server(program, 1, file) as server:
+        before = contents(file)
+        for words in (["custody"], ["audit"], ["run"], ["print", "--ceremony", "61"],
+                      ["serve", "--connections", "1", "--port", str(kcr.free_port())]):
+            expect(" ".join(words), DISK, call(program, *words, "--file", file))
+        with contextlib.closing(sqlite3.connect(file, timeout=0)) as database:
+            try:
+                raise Wrong(f"sqlite3 reads {database.execute('SELECT * FROM people').fetchall()}")
+            except sqlite3.OperationalError as fault:
+                expect("what sqlite3 says", "database is locked", str(fault))
+        expect("the files", before, contents(file))
+        commands = kcr.commands(stream("006"))
+        expect("the accepted commands again", b"".join(answer for _, answer in commands),
+               kcr.exchange(server.port, [message for message, _ in commands]))
+        expect("the end of serve", (b"", b"", 0), server.end())
+    kcr.stored(file, kcr.kept_tables(stream("006")))
+
+
+def held_by_sqlite(program, room):
+    """A file in which sqlite3 has a transaction is refused, and taken once that is done."""
+    file = filled(program, room, "006")
+    with contextlib.closing(sqlite3.connect(file, isolation_level=None)) as database:
+        database.execute("BEGIN IMMEDIATE")
+        expect("custody", DISK, call(program, "custody", "--file", file))
+        database.execute("ROLLBACK")
+    reported(program, file, stream("006"))
+
+
+def hot_journal(program, room):
+    """A file with a rollback journal that is to be played back is refused until sqlite3 has done so."""
+    file = filled(program, room, "006")
+    change(file, "PRAGMA user_version = 0")
+    file.with_name(file.name + "-journal").write_bytes(bytes.fromhex("d9d505f920a163d7") + bytes(504))
+    refused(program, file, DISK)
+
+
+# Lines and statuses
+
+def unknown_ceremony(program, room):
+    """A report of a ceremony that was not planned is refused with a line and status 1, and nothing is printed."""
+    file = filled(program, room, "009")
+    told = (b"", b"refused: 12 unknown ceremony 4711\n", 1)
+    for word in ("print", "attendance"):
+        expect(f"{word} over a file", told, call(program, word, "--ceremony", "4711", "--file", file))
+        expect(f"{word} over memory", told, call(program, word, "--ceremony", "4711"))
+    reported(program, file, stream("009"))
+
+
+def over_memory(program, _room):
+    """Without a file each subcommand is over an empty register, which the next one does not find."""
+    post = kcr.person(b"k1", b"AA", b"Ann Abel")
+    for _ in range(2):
+        expect("run", (kcr.accepted(1), b"", 0), call(program, "run", stream=post))
+        expect("custody", (EMPTY_CUSTODY, b"", 0), call(program, "custody"))
+        expect("audit", NOTHING_FOUND, call(program, "audit"))
+
+
+def numbers_out_of_range(program, room):
+    """A ceremony that is no number from 1 to 9,999, or none, is refused with status 2, and no file is made."""
+    file = room / "register"
+    for word in ("print", "attendance"):
+        for number in ("0", "10000", "-1", "6.0", "x", ""):
+            words = [word, f"--ceremony={number}", "--file", file]
+            output, faults, status = call(program, *words)
+            expect(f"{word} of {number!r}", (b"", True, 2), (output, faults != b"", status))
+        output, faults, status = call(program, word, "--file", file)
+        expect(f"{word} of none", (b"", True, 2), (output, faults != b"", status))
+    expect("what is made", [], os.listdir(room))
+
+
+def output_is_full(program, room):
+    """A report that cannot be written is told with a line and status 1."""
+    file = filled(program, room, "009")
+    for words in (["custody"], ["audit"], ["print", "--ceremony", "62"], ["attendance", "--ceremony", "62"]):
+        with open("/dev/full", "wb") as full:
+            run = kcr.subprocess.run([program, *words, "--file", file], stdout=full, stderr=kcr.subprocess.PIPE,
+                                     timeout=kcr.SECONDS)
+        expect(" ".join(words), (b"fault: write\n", 1), (run.stderr, run.returncode))
+    reported(program, file, stream("009"))
+
+
+# Registers in which a cell was changed
+
+def audited(program, file, finding):
+    """Sees that the audit tells this finding, and that it changes nothing."""
+    expect(f"audit of {file.name}", (f"finding: {finding}\n".encode(), b"", 1), call(program, "audit", "--file", file))
+    expect(f"audit of {file.name} again", (f"finding: {finding}\n".encode(), b"", 1),
+           call(program, "audit", "--file", file))
+
+
+def findings(program, room):
+    """One cell that sqlite3 changes in a register gives the finding that it is."""
+    file = filled(program, room, "003")
+    for number, (statement, finding) in enumerate([
+            ("UPDATE seatings SET who = 'NOBO' WHERE ceremony = 63 AND step = 1 AND seat = 1", "seating 63 1"),
+            ("UPDATE seatings SET seat = 3 WHERE ceremony = 63 AND step = 1 AND seat = 2", "seating 63 1"),
+            ("UPDATE steps SET at = at - 3 WHERE ceremony = 63 AND step = 1", "seating 63 1"),
+            ("UPDATE appointments SET until = since + 1 WHERE who = 'ABC'", "seating 63 1"),
+            ("UPDATE items SET serial = 'NONE' WHERE code = 'HSM4'", "custody HSM4"),
+            ("UPDATE bags SET spot = 'spent'", "custody HSM4"),
+            ("UPDATE bags SET spot = 'box 9 EAST'", "bag BB51184288"),
+            ("UPDATE boxes SET box = 7 WHERE box = 2", "bag BB51184288"),
+            (f"UPDATE sheet SET at = at - 1 WHERE who = 'AB' AND at = {MOMENTS + 1}",
+             "lone 63 2025-02-13T20:00:00Z"),
+    ]):
+        changed = copy(file, room / f"changed-{number}")
+        change(changed, statement)
+        audited(program, changed, finding)
+
+
+def doubled_key(program, room):
+    """A key in two rows, in a table that sqlite3 makes without a primary key, is found."""
+    file = filled(program, room, "003")
+    keys = kcr.kept_tables(stream("003"))["keys"]
+    key, _, command, reply = keys[20]
+    audited(program, made_anew(file, room / "doubled", unsaid=', PRIMARY KEY ("key")',
+                               keys=[*keys, (key, 1_000, command, reply)]), f"key {key}")
+
+
+def crowd(program, room):
+    """A hundred and twenty-nine people in a room, since one of them is said to have gone later, are found."""
+    people = [kcr.initials(number) for number in range(129)]
+    sheet = b"/ceremonies/1/sheet"
+    requests = [kcr.person(b"p%d" % number, who, b"N") for number, who in enumerate(people)]
+    requests.append(kcr.request(b"POST", b"/ceremonies", b'{"key":"c","number":1,"facility":"EAST","day":"2025-02-13",'
+                                b'"script":"step,activity,seats\\n1,a,CA\\n"}'))
+    requests.append(kcr.request(b"POST", b"/ceremonies/1/opening", b'{"key":"o","at":"2025-02-13T20:00:00Z"}'))
+    for turn, (way, who, second) in enumerate([(b"in", people[start:start + 32], 1) for start in range(0, 128, 32)]
+                                              + [(b"out", people[:1], 10), (b"in", people[128:], 20)]):
+        named = b",".join(b'"%s"' % one for one in who)
+        requests.append(kcr.request(b"POST", sheet, b'{"key":"s%d","way":"%s","who":[%s],"at":"2025-02-13T20:00:%02dZ"}'
+                                    % (turn, way, named, second)))
+    file = room / "crowd"
+    expect("the answers", (b"".join(kcr.accepted(number + 1) for number in range(len(requests))), b"", 0),
+           call(program, "run", "--file", file, stream=b"".join(requests)))
+    expect("audit", NOTHING_FOUND, call(program, "audit", "--file", file))
+    change(file, f"UPDATE sheet SET at = at + 20 WHERE way = 0 AND at = {MOMENTS + 10}")
+    audited(program, file, "crowd 1 2025-02-13T20:00:20Z")
+
+
+def rows_of_no_register(program, room):
+    """A row that no register stores is refused by the audit as the disk's fault (34)."""
+    file = filled(program, room, "003")
+    for number, statement in enumerate([
+            f"UPDATE people SET name = '{'x' * 121}' WHERE who = 'FIN'",
+            "UPDATE people SET name = 'a' || char(10) WHERE who = 'FIN'",
+            "UPDATE people SET who = 'fin' WHERE who = 'FIN'",
+            "UPDATE trainings SET until = 47482 WHERE who = 'FIN'",
+            "UPDATE appointments SET place = 'CO-EAST-8' WHERE place = 'CO-EAST-4'",
+            "UPDATE bags SET spot = 'shelf'",
+            "UPDATE items SET facility = 'EAST' WHERE code = 'HSM4'",
+            "UPDATE ceremonies SET state = 3 WHERE number = 61",
+            "UPDATE steps SET seats = 'CO;CO' WHERE ceremony = 61 AND step = 1",
+            "UPDATE sheet SET way = 2 WHERE who = 'FIN'",
+            "UPDATE keys SET key = 'a b' WHERE accepted = 1",
+            "UPDATE marks SET at = -1 WHERE ceremony = 61",
+    ]):
+        changed = copy(file, room / f"changed-{number}")
+        change(changed, statement)
+        expect(statement, (b"", b"refused: 34 disk\n", 1), call(program, "audit", "--file", changed))
+
+
+def broken_in_a_stream(program, room):
+    """A row that no register stores breaks the register of a stream (34, then 35); it is whole when opened again."""
+    file = filled(program, room, "003")
+    change(file, f"UPDATE people SET name = '{'x' * 121}' WHERE who = 'FIN'")
+    people, bag = kcr.request(b"GET", b"/people"), kcr.request(b"GET", b"/bags/BB51184288")
+    shown = kcr.answer(b"200 OK", b'{"items":["HSM4"],"serial":"BB51184288","spot":"box 2 EAST"}')
+    disk = kcr.answer(b"500 Internal Server Error", b'{"number":34,"refusal":"disk"}')
+    broken = kcr.answer(b"500 Internal Server Error", b'{"number":35,"refusal":"broken"}')
+    for _ in range(2):
+        expect("the stream", (shown + disk + broken + broken, b"", 0),
+               call(program, "run", "--file", file, stream=bag + people + bag + people))
+
+
+def report_stops(program, room):
+    """A report that meets such a row is refused, and a beginning of it was printed."""
+    file, text = filled(program, room, "003"), kcr.kept(stream("003"), "print-61")
+    change(file, "UPDATE steps SET seats = 'CO;CO' WHERE ceremony = 61 AND step = 3")
+    output, faults, status = call(program, "print", "--ceremony", "61", "--file", file)
+    expect("the end", (b"refused: 34 disk\n", 1), (faults, status))
+    expect("the beginning", text[:len(output)], output)
+    expect("what stands before step 3", text[:text.index(b"\n3 open") + 1], output)
+
+
+TESTS = [opened_anew, older_from_its_file, older_from_nothing, half_older, no_file_yet, relative_and_linked,
+         no_database, foreign_databases, no_one_number, held_by_serve, held_by_sqlite, hot_journal, unknown_ceremony,
+         over_memory, numbers_out_of_range, output_is_full, findings, doubled_key, crowd, rows_of_no_register,
+         broken_in_a_stream, report_stops]
+
+
+def main():
+    if len(sys.argv) < 2:
+        sys.exit(__doc__)
+    program, names = str(pathlib.Path(sys.argv[1]).resolve()), sys.argv[2:]
+    tests = [(folder.name, kept_stream.__doc__, functools.partial(kept_stream, program, folder.name))
+             for folder in kcr.folders()]
+    tests += [(test.__name__, test.__doc__, functools.partial(test, program)) for test in TESTS]
+    kcr.judge([test for test in tests if not names or test[0] in names])
+
+
+if __name__ == "__main__":
+    main()
