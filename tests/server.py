@@ -5,10 +5,10 @@
 
 Shown are: that the kept streams under tests/files get the kept answers over a connection, in one piece, in pieces of 1,
 7 and 1,000 bytes, and each request over a connection of its own; that the program says where it listens, serves as many
-connections as it was told and ends; that it closes where an answer closes, and where a client keeps silent; what it
-says of a port that is taken, of numbers out of range and of a register that breaks; that connections which are cut off
-in a request change nothing, and that a thousand bad clients leave the register, the good clients between them and the
-memory that the program holds as they should be. With names only the tests with these names run.
+connections as it was told and ends; that it closes where an answer closes, and where a client keeps silent or never
+reads; what it says of a port that is taken, of numbers out of range and of a register that breaks; that connections
+which are cut off in a request change nothing, and that a thousand bad clients leave the register, the good clients
+between them and the memory that the program holds as they should be. With names only the tests with these names run.
 
 The last line is `N passed, M failed`, and the status is 0 where none failed.
 """
@@ -23,7 +23,7 @@ import pathlib
 import random
 import socket
 import struct
-import time
+import threading
 
 import kcr
 from kcr import GO_ON, HERE, Server, accepted, answer, call, connect, exchange, expect, in_pieces, person, request
@@ -127,28 +127,39 @@ def cut_connections(program, _room):
         expect("the end", ENDED, server.end())
 
 
-class Silent:
-    """A client that sends half a request and then nothing, and a good one that waits behind it. It begins at once, so
-    that its half minute passes beside the other tests."""
+def says_half(peer):
+    """Sends half a request and then nothing."""
+    peer.sendall(ANN[:40])
 
-    def __init__(self, program):
+
+def never_reads(peer):
+    """Sends requests without end and takes none of the answers."""
+    def pour():
+        with contextlib.suppress(OSError):
+            peer.sendall(PEOPLE * 300_000)
+    threading.Thread(target=pour, daemon=True).start()
+
+
+class Stuck:
+    """A client that holds the desk, and a good one that waits behind it. It begins at once, so that its half minute
+    passes beside the other tests."""
+
+    def __init__(self, program, hold):
         self.server = Server(program, 2, seconds=3_600)
-        self.silent = connect(self.server.port)
-        self.silent.sendall(ANN[:40])
+        self.stuck = connect(self.server.port)
+        hold(self.stuck)
         self.good = connect(self.server.port)
         kcr.send(self.good, [ANN + PEOPLE])
-        self.began = time.monotonic()
 
     def ends(self, _room):
-        """A client that keeps silent is given up, and the one that waits behind it is served."""
-        self.good.settimeout(60)
+        """A client that holds the desk is given up, and the one that waits behind it is served."""
+        self.good.settimeout(90)
         expect("the client behind it", accepted(1) + ANN_ALONE, kcr.rest_of(self.good))
-        expect("the silent client", b"", kcr.rest_of(self.silent).replace(HEAD, b""))
         expect("the end", ENDED, self.server.end())
 
     def close(self):
         """Ends all of it."""
-        self.silent.close()
+        self.stuck.close()
         self.good.close()
         self.server.__exit__()
 
@@ -327,9 +338,10 @@ def main():
     program, names = str(pathlib.Path(sys.argv[1]).resolve()), sys.argv[2:]
     tests = [(test.__name__, test.__doc__, functools.partial(test, program)) for test in TESTS]
     with contextlib.ExitStack() as stack:
-        if not names or "silent" in names:
-            silent = stack.enter_context(contextlib.closing(Silent(program)))
-            tests.append(("silent", Silent.ends.__doc__, silent.ends))
+        for hold in (says_half, never_reads):
+            if not names or hold.__name__ in names:
+                stuck = stack.enter_context(contextlib.closing(Stuck(program, hold)))
+                tests.append((hold.__name__, Stuck.ends.__doc__, stuck.ends))
         kcr.judge([test for test in tests if not names or test[0] in names])
 
 
