@@ -9,7 +9,7 @@ Run it at the top of the repository, then lay the files out and check:
     (cd crates/kcr_tables && rt fmt && rt check)
 
 With the word `schema` it writes nothing, and prints the texts that make the tables instead, one on a line and in their
-order, as `tests/sqlite3.sh` compares them with what sqlite3 reads in a register's file.
+order, as `tests/program.py` compares them with what sqlite3 reads in a register's file.
 
 What differs from table to table stands in `table_list.py`: the columns, the key, and the readings. Everything that this
 program writes is committed; edit a table here and never in the files that are written. The files that are not written

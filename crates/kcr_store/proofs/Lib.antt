@@ -4,3 +4,4 @@ pub mod OpenLemmas
 pub mod ShownLemmas
 pub mod QuestionLemmas
 pub mod RenewLemmas
+pub mod AuditLemmas

@@ -1,9 +1,8 @@
 -- What an opening finds.
-use Rattle.std.proofs.Common.{arith, refl, Bool, false, true, ◌≡◌, ◌⊎◌, inl, inr, ℕ, ◌+◌, List, [], length, take, map, None, Result, Ok, Err, OnOk, IsTrue, sym, ap, subst, ◌∙◌}
+use Rattle.std.proofs.Common.{arith, refl, Bool, false, true, ◌≡◌, ◌⊎◌, inl, inr, ℕ, ◌+◌, [], length, take, map, None, Result, Ok, Err, OnOk, IsTrue, sym, ap, subst, ◌∙◌}
 use Rattle.std.proofs.lemmas.List.{length-map}
 use Rattle.sqlite.specs.Schema.{Schema}
 use Rattle.sqlite.specs.Effect.{Database}
-use Rattle.sqlite.specs.Table.{Table}
 use Rattle.sqlite.proofs.ListingLemmas.{empty_is_sound}
 use Rattle.sqlite.specs.Start.{FindsIn}
 use Rattle.sqlite.specs.State.{State, Opens, HasCleanDisk, IsLive, IsUnchanged, IsRolledBack, KeepsCommit, Survives}

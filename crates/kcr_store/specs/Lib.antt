@@ -5,3 +5,4 @@ pub mod Register
 pub mod Performed
 pub mod Opening
 pub mod Rows
+pub mod Whole

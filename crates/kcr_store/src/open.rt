@@ -1,7 +1,9 @@
 //! Taking a database over.
 ghost use Rattle.std.specs.Prelude.{◌≡◌, ◌≢◌, ◌↔◌, ◌⊎◌, ◌+◌, false, List, [], ◌∷◌, IsTrue, IfOk, IfErr, OnOk};
 ghost use Rattle.sqlite.specs.State.{HasCleanDisk, IsLive, IsUnchanged, Survives};
+ghost use Rattle.sqlite.specs.Files.{file_state};
 ghost use Rattle.sqlite.specs.Held.{state};
+ghost use Rattle.sqlite.specs.WalFiles.{image_at};
 ghost use Rattle.kcr_history.specs.History.{History};
 ghost use Rattle.kcr_tables.specs.First.{first_tables};
 ghost use Rattle.kcr_tables.specs.Held.{Tables, Holds};
@@ -10,12 +12,12 @@ ghost use Rattle.kcr_older.specs.Standing.{StandsAs, IsStrange, no_schema};
 ghost use Rattle.kcr_older.specs.Versions.{number_of};
 ghost use Rattle.kcr_store.specs.Stored.{IsTables};
 ghost use Rattle.kcr_store.specs.Register.{Shows};
-ghost use Rattle.kcr_store.specs.Opening.{IsFounded, IsBrought, IsMadeOf, IsNumberAnswer};
+ghost use Rattle.kcr_store.specs.Opening.{IsFounded, IsHeldIn, IsBrought, IsMadeOf, IsNumberAnswer};
 
 use kcr_base::Refusal;
 use kcr_older::{Older, Standing, bring, standing_of};
 use kcr_tables::{Version, all_rows, make};
-use sqlite::{Alter, Connection, Error, ErrorCode};
+use sqlite::{Alter, Connection, Error, ErrorCode, FileFrom, FileStore, Start};
 use std::alloc::Global;
 
 /// Why a database is not taken.
@@ -45,13 +47,32 @@ fn fault_of(refusal: Refusal) -> OpenFault
     }
 }
 
-pub(crate) fn fault_of_error(error: Error) -> OpenFault
+fn fault_of_error(error: Error) -> OpenFault
     ensures kind { (result ≡ OpenFault.Memory) ⊎ (result ≡ OpenFault.Disk) }
     ensures memory { (result ≡ OpenFault.Memory) ↔ (error ≡ Error.SqliteFailure ErrorCode.OutOfMemory) }
 {
     match error {
         Error::SqliteFailure(ErrorCode::OutOfMemory) => OpenFault::Memory,
         _ => OpenFault::Disk,
+    }
+}
+
+/// Connects to the file at the path and its log beside it; a file that is not there is made. `start` stands for what the
+/// two held, which no code can read: where that was a history's tables, or nothing, so is what the connection finds, and
+/// `Register::adopt` may be told so. `Disk` comes also where another process has the file open, where it is no database,
+/// and for the name `:memory:`.
+pub fn connect<S: Start>(
+    rt: &HostRuntime,
+    path: &str,
+    start: S,
+) -> Result<Connection<FileStore<FileFrom<S>>>, OpenFault>
+    ensures autocommit { IfOk result (λ connection. connection.in_transaction ≡ false) }
+    ensures founded { IfOk result (λ connection. (A : History) → IsHeldIn A (image_at S.Start) → IsFounded A (file_state connection)) }
+    ensures kind { IfErr result (λ e. (e ≡ OpenFault.Memory) ⊎ (e ≡ OpenFault.Disk)) }
+{
+    match Connection::open_from(rt, path, false, start) {
+        Ok(connection) => Ok(connection),
+        Err((error, _)) => Err(fault_of_error(error)),
     }
 }
 

@@ -4,12 +4,13 @@ ghost use Rattle.sqlite.specs.State.{HasCleanDisk};
 ghost use Rattle.sqlite.specs.Held.{state};
 ghost use Rattle.kcr_store.specs.Steps.{Steps, IsNext, IsAsked, MayRefuse};
 
-use crate::open::{OpenFault, fault_of_error, settle};
+use crate::open::{OpenFault, connect, settle};
 use crate::past::Past;
 use crate::perform::{Performed, ask, perform};
+use crate::whole::audit_of;
 use kcr_base::Refusal;
-use kcr_history::{Command, Question, Reply, Shown};
-use sqlite::{Alter, Connection, FileFrom, FileStore, MemStore, Start};
+use kcr_history::{Command, Finding, Question, Reply, Shown};
+use sqlite::{Alter, Connection, FileFrom, FileStore, MemStore, Unknown};
 use std::alloc::Global;
 use std::marker::Model;
 
@@ -22,6 +23,9 @@ pub struct Register<S: Alter> {
     tried: Past,
     pub(crate) alloc: Global,
 }
+
+/// A register in a file, of which no clause knows what it held.
+pub type FileRegister = Register<FileStore<FileFrom<Unknown>>>;
 
 impl<S: Alter + Drop> Drop for Register<S> {
     fn drop(self) {
@@ -168,39 +172,31 @@ impl Register<MemStore> {
     }
 }
 
-impl<S: Start> Register<FileStore<FileFrom<S>>> {
-    ghost use Rattle.std.specs.Prelude.{Bool};
+impl Register<FileStore<FileFrom<Unknown>>> {
     ghost use Rattle.sqlite.specs.Files.{over_files};
-    ghost use Rattle.sqlite.specs.WalFiles.{image_at};
-    ghost use Rattle.kcr_history.specs.History.{History};
     ghost use Rattle.kcr_store.specs.Register.{IsKept};
-    ghost use Rattle.kcr_store.specs.Opening.{IsHeldIn};
 
     /// Opens the register in the file at the path and its log beside it, as `adopt` takes a database; a file that is
-    /// not there is made. `start` stands for what the two files held, which no code can read: the history that the
-    /// register begins with is the one that the caller's proof names, where it is true of them. `Disk` comes also where
-    /// another process has the file open, where it is no database, and for the name `:memory:`.
-    pub fn open(
-        rt: &HostRuntime,
-        path: &str,
-        start: S,
-    ) -> Result<Register<FileStore<FileFrom<S>>>, OpenFault>
-        ghost past: { Bool × History }
-        requires founded { IsTrue past.0 → IsHeldIn past.1 (image_at S.Start) }
-        ensures adopted { IfOk result (λ r. (r.is_founded ≡ past.0) × (r.accepted ≡ past.1) × (r.torn ≡ None)) }
+    /// not there is made. No clause knows what the file held, so nothing is promised of its history; a caller whose
+    /// proof knows it calls `connect` and `adopt`. `Disk` comes also where another process has the file open, where it
+    /// is no database, and for the name `:memory:`.
+    pub fn open(rt: &HostRuntime, path: &str) -> Result<FileRegister, OpenFault>
+        ensures unknown { IfOk result (λ r. (r.is_founded ≡ false) × (r.accepted ≡ []) × (r.torn ≡ None)) }
         ensures kept { IfOk result (IsKept over_files) }
     {
-        match Connection::open_from(rt, path, false, start) {
-            Ok(connection) => match Register::adopt_as(rt.alloc(), connection, Past::of()) {
-                Ok(opened) => Ok(opened),
-                Err((fault, _)) => Err(fault),
-            },
-            Err((error, _)) => Err(fault_of_error(error)),
+        let connection = connect(rt, path, Unknown)?;
+        match Register::adopt_as(rt.alloc(), connection, Past::of()) {
+            Ok(register) => Ok(register),
+            Err((fault, _)) => Err(fault),
         }
     }
 }
 
 impl<S: Alter> Register<S> {
+    ghost use Rattle.kcr_history.specs.Tables.{Tables};
+    ghost use Rattle.kcr_store.specs.Whole.{FindsIn};
+    ghost use Rattle.kcr_tables.specs.Joint.{HoldsTables};
+    ghost use Rattle.kcr_tables.specs.Refusals.{IsFault};
     ghost use Rattle.kcr_store.specs.Register.{IsKept, LeavesEither, Leaves};
 
     /// Decides a command as one transaction. Where the machine accepts it, its reply comes only once it is durable.
@@ -270,6 +266,37 @@ impl<S: Alter> Register<S> {
         }
         match ask(self.alloc, &mut self.conn, question) {
             Ok(shown) => Ok(shown),
+            Err(Refusal::Disk) => {
+                self.tried = Past::same(&self.past);
+                self.broken = true;
+                Err(Refusal::Disk)
+            }
+            Err(refusal) => Err(refusal),
+        }
+    }
+
+    /// What an audit finds in all its rows, whose number its memory grows with: a finding of the first kind that has one,
+    /// or None. In the tables of a history nothing is found. It changes nothing. Beside want of memory (33) it meets only a fault of the device or a row that
+    /// no register stores (34), which breaks the register; a broken one answers 35.
+    pub fn audit(&mut self) -> Result<Option<Finding>, Refusal>
+        ensures broken { IsSome self.old.torn → (result ≡ Err Refusal.Broken) × (self.new ≡ self.old) }
+
+        // Whatever rows the tables hold, what is found is true of them, and nothing of an earlier kind is.
+        ensures found { self.old.torn ≡ None → HasCleanDisk (state S.Store self.new.conn) → (m : Tables) → HoldsTables m (state S.Store self.old.conn).now → IfOk result (FindsIn m) }
+        ensures nothing { IsTrue self.old.is_founded → self.old.torn ≡ None → HasCleanDisk (state S.Store self.new.conn) → IfOk result (λ found. found ≡ None) }
+        ensures cause { self.old.torn ≡ None → IfErr result IsFault }
+        ensures breaks { self.old.torn ≡ None → IsSome self.new.torn ↔ (result ≡ Err Refusal.Disk) }
+        ensures same { self.new.accepted ≡ self.old.accepted }
+        ensures tried { self.old.torn ≡ None → unwrap_or self.new.torn self.new.accepted ≡ self.old.accepted }
+        ensures clean { HasCleanDisk (state S.Store self.new.conn) → HasCleanDisk (state S.Store self.old.conn) }
+        ensures founded { self.new.is_founded ≡ self.old.is_founded }
+        ensures kept { IsKept S.Store self.new }
+    {
+        if self.broken {
+            return Err(Refusal::Broken);
+        }
+        match audit_of(self.alloc, &mut self.conn) {
+            Ok(found) => Ok(found),
             Err(Refusal::Disk) => {
                 self.tried = Past::same(&self.past);
                 self.broken = true;

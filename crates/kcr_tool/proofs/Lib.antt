@@ -3,5 +3,6 @@ pub mod Numbers
 pub mod Options
 pub mod Taken
 pub mod Causes
+pub mod Audits
 pub mod Empty
 mod Examples

@@ -1,13 +1,23 @@
 -- What an audit of a register leaves on the output.
 use Rattle.std.specs.Prelude.{◌≡◌, ◌⊎◌, ℕ, List, Option, Some, None}
 use Rattle.std.specs.Io.KnownBytes.{Appends}
-use Rattle.kcr_history.specs.Audit.{IsAudit}
 use Rattle.kcr_history.specs.declared.views.Finding.{Finding}
-use Rattle.kcr_history.specs.declared.views.View.{View}
+use Rattle.kcr_print.specs.Written.{WritesFront}
 use Rattle.kcr_tool.specs.Lines.{clean_line, finding_line}
 
--- status 0 says that an audit of the rows finds nothing, and 1 that it finds what the line says
-abbrev pub TellsAudit : View → Option (List ℕ) → Option (List ℕ) → ℕ → Type 0
-TellsAudit view old new status =
-    ((status ≡ 0) × IsAudit view None × Appends old new clean_line)
-    ⊎ ((finding : Finding) × (status ≡ 1) × IsAudit view (Some finding) × Appends old new (finding_line finding))
+-- what was found is told in a line: with status 0 where it is nothing, and 1 where it is a finding
+abbrev pub TellsFound : Option Finding → Option (List ℕ) → Option (List ℕ) → ℕ → Type 0
+TellsFound None old new status = (status ≡ 0) × Appends old new clean_line
+TellsFound (Some finding) old new status = (status ≡ 1) × Appends old new (finding_line finding)
+
+-- a finding is told, whole
+abbrev pub TellsFinding : Option (List ℕ) → Option (List ℕ) → Type 0
+TellsFinding old new = (finding : Finding) × Appends old new (finding_line finding)
+
+-- the line of an audit
+abbrev pub IsAuditLine : List ℕ → Type 0
+IsAuditLine line = (line ≡ clean_line) ⊎ ((finding : Finding) × (line ≡ finding_line finding))
+
+-- a beginning of such a line was written
+abbrev pub TellsFront : Option (List ℕ) → Option (List ℕ) → Type 0
+TellsFront old new = (line : List ℕ) × IsAuditLine line × WritesFront old new line

@@ -55,16 +55,16 @@ abbrev pub IsUntouched : {R W : Type 0} → Counted R → Counted R → Counted 
 IsUntouched old_input new_input old_output new_output = (new_input ≡ old_input) × (new_output ≡ old_output)
 
 -- what caused it: a read failed, or 1,000,000 reads gave a byte; a write failed. Of memory, of a refusal and of the net
--- nothing is said, but that where it came before the task, nothing was read and nothing written
+-- nothing is said, but that where memory was wanting or the file was not opened, nothing was read and nothing written
 abbrev pub HasCause : {R W : Type 0} → Fault → Counted R → Counted R → Counted W → Counted W → Type 0
 HasCause (Open fault) old_input new_input old_output new_output = IsUntouched old_input new_input old_output new_output
 HasCause (Stream stream.Read) old_input new_input old_output new_output =
     (failures_of old_input < failures_of new_input) ⊎ (gifts_of new_input ≡ gifts_of old_input + 1000000)
 HasCause (Stream stream.Write) old_input new_input old_output new_output = failures_of old_output < failures_of new_output
 HasCause (Stream stream.Memory) old_input new_input old_output new_output = Unit {0}
-HasCause (Refused r) old_input new_input old_output new_output = new_input ≡ old_input
-HasCause Unwritten old_input new_input old_output new_output = (new_input ≡ old_input) × (failures_of old_output < failures_of new_output)
-HasCause Net old_input new_input old_output new_output = new_input ≡ old_input
+HasCause (Refused r) old_input new_input old_output new_output = Unit {0}
+HasCause Unwritten old_input new_input old_output new_output = failures_of old_output < failures_of new_output
+HasCause Net old_input new_input old_output new_output = Unit {0}
 HasCause Words old_input new_input old_output new_output = IsUntouched old_input new_input old_output new_output
 
 -- why a report, an audit or the line of a port was not written whole: the register refused, or a write failed, which the
@@ -77,3 +77,7 @@ StopsReport old_output new_output other = ⊥
 -- why a port is left before all connections were served: none could be accepted, or the register is broken
 abbrev pub StopsListening : Fault → Type 0
 StopsListening fault = (fault ≡ Net) ⊎ (fault ≡ Refused refusal.Broken)
+
+-- the same of the whole task of listening, which writes a line first
+abbrev pub StopsServing : {W : Type 0} → Counted W → Counted W → Fault → Type 0
+StopsServing old_output new_output fault = StopsListening fault ⊎ StopsReport old_output new_output fault

@@ -2,5 +2,5 @@ pub mod Commands
 pub mod Tasks
 pub mod Lines
 pub mod Faults
-pub mod Runs
 pub mod Audits
+pub mod Runs

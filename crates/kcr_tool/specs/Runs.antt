@@ -9,8 +9,10 @@ use Rattle.kcr_history.specs.History.{History}
 use Rattle.kcr_history.specs.Prints.{annotated, attendance, custody}
 use Rattle.kcr_store.specs.Register.{Seen}
 use Rattle.kcr_desk.specs.Run.{IsServed, IsBroken}
-use Rattle.kcr_desk.specs.Answers.{Standing, IsAnswer}
+use Rattle.kcr_desk.specs.Answers.{Standing, IsAnswer, IsReply}
+use Rattle.kcr_print.specs.Written.{WritesFront}
 use Rattle.kcr_tool.specs.Lines.{clean_line, listening_line}
+use Rattle.kcr_tool.specs.Audits.{TellsFront}
 use Rattle.kcr_tool.specs.declared.words.Task.{Task}
 use Rattle.kcr_tool.specs.declared.words.Task.TheVariants.{Run, Serve, Print, Attendance, Custody, Audit}
 
@@ -35,6 +37,43 @@ Does (Print ceremony) A input old new = IsTrue (is_ceremony A ceremony) × Appen
 Does (Attendance ceremony) A input old new = IsTrue (is_ceremony A ceremony) × Appends old new (attendance A ceremony)
 Does Custody A input old new = Appends old new (custody A)
 Does Audit A input old new = Appends old new clean_line
+
+-- it stopped before its end: what was written is a beginning of that
+abbrev pub DoesInPart : Task → History → Option (List ℕ) → Option (List ℕ) → Option (List ℕ) → Type 0
+DoesInPart Run A input old new = AnswersInPart A input old new
+DoesInPart (Serve port connections) A input old new = WritesFront old new (listening_line port)
+DoesInPart (Print ceremony) A input old new = WritesFront old new (annotated A ceremony)
+DoesInPart (Attendance ceremony) A input old new = WritesFront old new (attendance A ceremony)
+DoesInPart Custody A input old new = WritesFront old new (custody A)
+DoesInPart Audit A input old new = TellsFront old new
+
+-- WHATEVER THE DATABASE HELD
+
+-- each message of the input got a reply, in their order
+abbrev pub RepliesToAll : Option (List ℕ) → Option (List ℕ) → Option (List ℕ) → Type 0
+RepliesToAll input old new =
+    (before : Standing) × (after : Standing) × (count : ℕ) × IsServed IsReply input old new before after count
+
+-- a beginning of its messages got one, the last of them a beginning of one
+abbrev pub RepliesInPart : Option (List ℕ) → Option (List ℕ) → Option (List ℕ) → Type 0
+RepliesInPart input old new = (before : Standing) × (after : Standing) × IsBroken IsReply input old new before after
+
+-- a task went well over a register of which nothing is known: each message got a reply, and the lines of a port and of
+-- an audit are written. Of a report nothing is said
+abbrev pub Leaves : Task → Option (List ℕ) → Option (List ℕ) → Option (List ℕ) → Type 0
+Leaves Run input old new = RepliesToAll input old new
+Leaves (Serve port connections) input old new = Appends old new (listening_line port)
+Leaves Audit input old new = Appends old new clean_line
+Leaves report input old new = Unit {0}
+
+-- it stopped before its end
+abbrev pub LeavesInPart : Task → Option (List ℕ) → Option (List ℕ) → Option (List ℕ) → Type 0
+LeavesInPart Run input old new = RepliesInPart input old new
+LeavesInPart (Serve port connections) input old new = WritesFront old new (listening_line port)
+LeavesInPart Audit input old new = TellsFront old new
+LeavesInPart report input old new = Unit {0}
+
+-- WHOSE HISTORY
 
 -- said of the history of a register that is not broken, over a store whose disk is never in doubt, as memory is
 abbrev pub OfHistory : {S : Type 0} → Ghosts S → Seen S → (History → Type 0) → Type 0

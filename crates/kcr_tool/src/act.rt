@@ -4,14 +4,14 @@ ghost use Rattle.kcr_base.specs.Counted.{inner_of};
 ghost use Rattle.kcr_print.specs.Written.{WritesFront};
 ghost use Rattle.kcr_tool.specs.declared.fault.Fault.{Fault as WhyNot};
 ghost use Rattle.kcr_tool.specs.declared.words.Task.{Task as Order_task};
-ghost use Rattle.kcr_tool.specs.Faults.{IsLineOf};
-ghost use Rattle.kcr_tool.specs.Runs.{Does, OfHistory};
+ghost use Rattle.kcr_tool.specs.Faults.{HasCause, IsLineOf};
+ghost use Rattle.kcr_tool.specs.Audits.{TellsFinding};
+ghost use Rattle.kcr_tool.specs.Runs.{Does, DoesInPart, Leaves, LeavesInPart, OfHistory};
 ghost use Rattle.kcr_tool.specs.Tasks.{task_of, file_of, faults_of};
 
 use crate::audit::audit;
 use crate::fault::{Fault, tell, tell_fault};
 use crate::listen::listen;
-use crate::opening::open;
 use crate::tasks::{attendance, print, run, whereabouts};
 use crate::words::{Order, Task, WordsFault, read_words, usage};
 use kcr_base::Counted;
@@ -20,6 +20,12 @@ use sqlite::Alter;
 use std::io::{Read, Write};
 
 /// Does a task over a register, and answers the exit status: 0, or 1 after a finding.
+#[tactic(auto, using(
+    crate::proofs::Causes::stops_cause,
+    crate::proofs::Causes::serving_cause,
+    crate::proofs::Audits::clean_told,
+    crate::proofs::Audits::finding_told
+))]
 fn perform<S: Alter + Drop, R: Read, W: Write>(
     rt: &HostRuntime,
     register: Register<S>,
@@ -28,6 +34,16 @@ fn perform<S: Alter + Drop, R: Read, W: Write>(
     output: &mut Counted<W>,
 ) -> Result<u8, Fault>
     ensures status { IfOk result (λ status. status ≤ 1) }
+    ensures finding { IfOk result (λ status. status ≡ 1 → (task ≡ Task.Audit)
+        × TellsFinding (W.contents (inner_of output.old)) (W.contents (inner_of output.new))) }
+    ensures nothing { OfHistory S.Store register (λ A. IfOk result (λ status. status ≡ 0)) }
+    ensures answered { IfOk result (λ status. status ≡ 0 → Leaves task
+        (R.remaining (inner_of input.old)) (W.contents (inner_of output.old)) (W.contents (inner_of output.new))) }
+    ensures answered_in_part { OnErr result ((output.new ≡ output.old) ⊎ LeavesInPart task
+        (R.remaining (inner_of input.old)) (W.contents (inner_of output.old)) (W.contents (inner_of output.new))) }
+    ensures cause { IfErr result (λ why. HasCause why input.old input.new output.old output.new) }
+    ensures part { OfHistory S.Store register (λ A. OnErr result ((output.new ≡ output.old) ⊎ DoesInPart task A
+        (R.remaining (inner_of input.old)) (W.contents (inner_of output.old)) (W.contents (inner_of output.new)))) }
     ensures done { OfHistory S.Store register (λ A. IfOk result (λ status. status ≡ 0 → Does task A
         (R.remaining (inner_of input.old)) (W.contents (inner_of output.old)) (W.contents (inner_of output.new)))) }
 {
@@ -53,7 +69,7 @@ fn perform<S: Alter + Drop, R: Read, W: Write>(
             whereabouts(rt.alloc(), &mut register, output)?;
             Ok(0)
         }
-        Task::Audit => audit(rt.alloc(), register, output),
+        Task::Audit => audit(rt.alloc(), &mut register, output),
     }
 }
 
@@ -65,11 +81,21 @@ fn obey<R: Read, W: Write>(
     output: &mut Counted<W>,
 ) -> Result<u8, Fault>
     ensures status { IfOk result (λ status. status ≤ 1) }
+    ensures finding { IfOk result (λ status. status ≡ 1 → (order.entry.task ≡ Task.Audit)
+        × TellsFinding (W.contents (inner_of output.old)) (W.contents (inner_of output.new))) }
+    ensures nothing { order.entry.file ≡ None → IfOk result (λ status. status ≡ 0) }
+    ensures answered { IfOk result (λ status. status ≡ 0 → Leaves order.entry.task
+        (R.remaining (inner_of input.old)) (W.contents (inner_of output.old)) (W.contents (inner_of output.new))) }
+    ensures answered_in_part { OnErr result ((output.new ≡ output.old) ⊎ LeavesInPart order.entry.task
+        (R.remaining (inner_of input.old)) (W.contents (inner_of output.old)) (W.contents (inner_of output.new))) }
+    ensures cause { IfErr result (λ why. HasCause why input.old input.new output.old output.new) }
+    ensures part { order.entry.file ≡ None → OnErr result ((output.new ≡ output.old) ⊎ DoesInPart order.entry.task []
+        (R.remaining (inner_of input.old)) (W.contents (inner_of output.old)) (W.contents (inner_of output.new))) }
     ensures done { order.entry.file ≡ None → IfOk result (λ status. status ≡ 0 → Does order.entry.task []
         (R.remaining (inner_of input.old)) (W.contents (inner_of output.old)) (W.contents (inner_of output.new))) }
 {
     match order.file {
-        Some(path) => match open(rt, path) {
+        Some(path) => match Register::open(rt, path) {
             Ok(register) => perform(rt, register, order.task, input, output),
             Err(fault) => Err(Fault::Open(fault)),
         },
@@ -96,9 +122,27 @@ pub fn act<R: Read, W: Write, F: Write>(
 ) -> u8
     ensures status { result ≤ 2 }
 
-    // All went well over a register in memory: the words are a task, and what was written is what it says.
+    // All went well: the words are a task, and what was written is what it says. Over a register in memory that is by its
+    // history, which was empty; over a file, of whose past nothing is known, each message got a reply.
     ensures done { result ≡ 0 → file_of (map string_bytes words.now) ≡ None → (task : Order_task) × (task_of (map string_bytes words.now) ≡ Some task)
         × Does task [] (R.remaining (inner_of input.old)) (W.contents (inner_of output.old)) (W.contents (inner_of output.new)) }
+    ensures answered { result ≡ 0 → (task : Order_task) × (task_of (map string_bytes words.now) ≡ Some task)
+        × Leaves task (R.remaining (inner_of input.old)) (W.contents (inner_of output.old)) (W.contents (inner_of output.new)) }
+
+    // An audit of a file found something, and its line stands on the output; or a fault stopped the task. Then its line
+    // stands on `faults`, as far as it could be written, and it says that a read or a write failed only where one did.
+    ensures cause { result ≡ 1 → ((file_of (map string_bytes words.now) ≢ None) × (task_of (map string_bytes words.now) ≡ Some Task.Audit)
+        × TellsFinding (W.contents (inner_of output.old)) (W.contents (inner_of output.new)))
+        ⊎ ((why : WhyNot) × ((line : List ℕ) × IsLineOf why line × WritesFront (F.contents faults.old) (F.contents faults.new) line)
+        × HasCause why input.old input.new output.old output.new) }
+
+    // After a fault nothing was written, or a beginning of what the task says.
+    ensures part { result ≡ 1 → file_of (map string_bytes words.now) ≡ None → (output.new ≡ output.old)
+        ⊎ ((task : Order_task) × (task_of (map string_bytes words.now) ≡ Some task)
+        × DoesInPart task [] (R.remaining (inner_of input.old)) (W.contents (inner_of output.old)) (W.contents (inner_of output.new))) }
+    ensures answered_in_part { result ≡ 1 → ((task_of (map string_bytes words.now) ≡ Some Task.Audit) × TellsFinding (W.contents (inner_of output.old)) (W.contents (inner_of output.new)))
+        ⊎ ((output.new ≡ output.old) ⊎ ((task : Order_task) × (task_of (map string_bytes words.now) ≡ Some task)
+        × LeavesInPart task (R.remaining (inner_of input.old)) (W.contents (inner_of output.old)) (W.contents (inner_of output.new)))) }
 
     // The words are no task: nothing was read or written.
     ensures refused { result ≡ 2 → (faults_of (map string_bytes words.now) ≢ []) × (input.new ≡ input.old) × (output.new ≡ output.old) }

@@ -1,19 +1,22 @@
 //! The audit of a register, as lines.
-ghost use Rattle.std.specs.Prelude.{◌≡◌, IfOk, IfErr, Some, None, string_bytes};
-ghost use Rattle.std.specs.Io.KnownBytes.{Appends};
+ghost use Rattle.std.specs.Prelude.{◌≡◌, ◌≤◌, ◌⊎◌, Option, None, IfOk, IfErr, OnErr, string_bytes};
+ghost use Rattle.sqlite.specs.Held.{Held, state};
+ghost use Rattle.sqlite.specs.State.{HasCleanDisk};
 ghost use Rattle.kcr_base.specs.Counted.{inner_of};
-ghost use Rattle.kcr_history.specs.Audit.{IsAudit};
-ghost use Rattle.kcr_history.specs.declared.views.View.{View};
-ghost use Rattle.kcr_tool.specs.Audits.{TellsAudit};
+ghost use Rattle.kcr_history.specs.Tables.{Tables};
+ghost use Rattle.kcr_history.specs.declared.views.Finding.{Finding as Found};
+ghost use Rattle.kcr_store.specs.Whole.{FindsIn};
+ghost use Rattle.kcr_tables.specs.Joint.{HoldsTables};
+ghost use Rattle.kcr_tool.specs.Audits.{TellsFound, TellsFront};
 ghost use Rattle.kcr_tool.specs.Faults.{StopsReport};
 ghost use Rattle.kcr_tool.specs.Lines.{clean_line, finding_line, found_line};
+ghost use Rattle.kcr_tool.specs.Runs.{OfHistory};
 
 use crate::fault::Fault;
 use crate::lines::{around, numbered};
-use crate::view::whole_view;
 use itoa::Buffer;
 use kcr_base::{Counted, Refusal};
-use kcr_history::{Finding, View};
+use kcr_history::Finding;
 use kcr_print::put;
 use kcr_store::Register;
 use sqlite::Alter;
@@ -43,18 +46,24 @@ fn line_of(alloc: Global, finding: &Finding) -> Result<String, AllocError>
     }
 }
 
-/// Writes what an audit of the rows finds, and answers the exit status: 0 where it finds nothing, 1 after a finding.
-fn audit_rows<W: Write>(alloc: Global, view: &View, output: &mut Counted<W>) -> Result<u8, Fault>
-    ensures told { IfOk result (TellsAudit view.now (W.contents (inner_of output.old)) (W.contents (inner_of output.new))) }
+/// Writes the line of what an audit found, and answers the exit status: 0 where it found nothing, 1 after a finding.
+fn tell_found<W: Write>(
+    alloc: Global,
+    found: &Option<Finding>,
+    output: &mut Counted<W>,
+) -> Result<u8, Fault>
+    ensures told { IfOk result (TellsFound found.now (W.contents (inner_of output.old)) (W.contents (inner_of output.new))) }
+    ensures part { OnErr result ((output.new ≡ output.old)
+        ⊎ TellsFront (W.contents (inner_of output.old)) (W.contents (inner_of output.new))) }
     ensures cause { IfErr result (StopsReport output.old output.new) }
 {
-    match kcr_audit::audit(alloc, view) {
-        Ok(None) => match put(output, b"audit: nothing found\n") {
+    match found {
+        None => match put(output, b"audit: nothing found\n") {
             Ok(()) => Ok(0),
             Err(_) => Err(Fault::Unwritten),
         },
-        Ok(Some(finding)) => {
-            let Ok(line) = line_of(alloc, &finding) else {
+        Some(finding) => {
+            let Ok(line) = line_of(alloc, finding) else {
                 return Err(Fault::Refused(Refusal::Memory));
             };
             match put(output, line.as_bytes()) {
@@ -62,28 +71,38 @@ fn audit_rows<W: Write>(alloc: Global, view: &View, output: &mut Counted<W>) -> 
                 Err(_) => Err(Fault::Unwritten),
             }
         }
-        Err(_) => Err(Fault::Refused(Refusal::Memory)),
     }
 }
 
 /// Audits all rows of a register: a line with the first finding of the first kind that has one, or that there is
 /// none, and the exit status, 1 after a finding. Want of memory is refused (33), as is a fault of the device (34) and a
 /// broken register (35), and nothing is written then.
-pub fn audit<S: Alter + Drop, W: Write>(
+#[tactic(auto, using(
+    crate::proofs::Audits::status_told,
+    crate::proofs::Audits::nothing_told
+))]
+pub fn audit<S: Alter, W: Write>(
     alloc: Global,
-    register: Register<S>,
+    register: &mut Register<S>,
     output: &mut Counted<W>,
 ) -> Result<u8, Fault>
-    ensures told { IfOk result (λ status. (view : View)
-        × TellsAudit view (W.contents (inner_of output.old)) (W.contents (inner_of output.new)) status) }
+    ensures status { IfOk result (λ status. status ≤ 1) }
+
+    // What is told is what an audit of the tables that the database holds finds, whoever wrote them.
+    ensures told { IfOk result (λ status. (found : Option Found)
+        × TellsFound found (W.contents (inner_of output.old)) (W.contents (inner_of output.new)) status) }
+    ensures found { ((conn : Held S) → HasCleanDisk (state S.Store conn)) → register.old.torn ≡ None
+        → (m : Tables) → HoldsTables m (state S.Store register.old.conn).now → IfOk result (λ status. (found : Option Found) × FindsIn m found
+        × TellsFound found (W.contents (inner_of output.old)) (W.contents (inner_of output.new)) status) }
+
+    // In the tables of a history it finds nothing.
+    ensures nothing { OfHistory S.Store register.old (λ A. IfOk result (λ status. status ≡ 0)) }
+    ensures part { OnErr result ((output.new ≡ output.old)
+        ⊎ TellsFront (W.contents (inner_of output.old)) (W.contents (inner_of output.new))) }
     ensures cause { IfErr result (StopsReport output.old output.new) }
 {
-    if register.is_broken() {
-        return Err(Fault::Refused(Refusal::Broken));
-    }
-    let mut conn = register.close();
-    match whole_view(alloc, &mut conn) {
-        Ok(view) => audit_rows(alloc, &view, output),
+    match register.audit() {
+        Ok(found) => tell_found(alloc, &found, output),
         Err(refusal) => Err(Fault::Refused(refusal)),
     }
 }

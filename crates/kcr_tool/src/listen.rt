@@ -1,8 +1,9 @@
 //! Answering requests on a port.
-ghost use Rattle.std.specs.Prelude.{◌≡◌, ◌⊎◌, Ok, Err, IfOk, IfErr, OnOk, IsSome, None};
+ghost use Rattle.std.specs.Prelude.{◌≡◌, ◌⊎◌, Ok, Err, IfOk, IfErr, OnOk, OnErr, IsSome, None};
 ghost use Rattle.std.specs.Io.KnownBytes.{Appends};
 ghost use Rattle.kcr_base.specs.Counted.{inner_of};
-ghost use Rattle.kcr_tool.specs.Faults.{StopsListening};
+ghost use Rattle.kcr_tool.specs.Faults.{StopsListening, StopsServing};
+ghost use Rattle.kcr_print.specs.Written.{WritesFront};
 ghost use Rattle.kcr_tool.specs.Lines.{listening_line};
 
 use crate::fault::Fault;
@@ -21,7 +22,7 @@ use std::time::Duration;
 /// How many bytes of a connection are read at a time.
 const PIECE: usize = 65_536;
 
-/// How many seconds a connection may keep silent.
+/// How many seconds a connection may keep silent, or take no byte of an answer.
 const SECONDS: u64 = 30;
 
 /// Serves one connection to its end. A fault of the connection ends it alone; a register that is broken afterwards is
@@ -53,7 +54,9 @@ fn serve_stream<S: Alter>(
 ) -> Result<(), Fault>
     ensures broken { IfErr result (λ why. why ≡ Fault.Refused Refusal.Broken) }
 {
-    let _ = stream.set_read_timeout(Some(Duration::from_secs(SECONDS)));
+    let silence = Some(Duration::from_secs(SECONDS));
+    let _ = stream.set_read_timeout(silence);
+    let _ = stream.set_write_timeout(silence);
     match BufReader::with_capacity(alloc, PIECE, stream) {
         Ok(reader) => one(alloc, reader, stream, register),
         Err(_) => Ok(()),
@@ -91,6 +94,9 @@ pub fn listen<S: Alter, W: Write>(
 ) -> Result<u32, Fault>
     ensures served { IfOk result (λ served. (served ≡ connections)
         × Appends (W.contents (inner_of output.old)) (W.contents (inner_of output.new)) (listening_line port)) }
+    ensures part { OnErr result ((output.new ≡ output.old)
+        ⊎ WritesFront (W.contents (inner_of output.old)) (W.contents (inner_of output.new)) (listening_line port)) }
+    ensures cause { IfErr result (StopsServing output.old output.new) }
 {
     let Ok(listener) = TcpListener::bind(rt, (Ipv4Addr::LOCALHOST, port)) else {
         return Err(Fault::Net);

@@ -1,7 +1,8 @@
 //! The program `kcr`: the register of root zone key ceremonies, answered over HTTP.
 //!
-//! `kcr run` answers the stream of requests on standard input on standard output, by a register in
-//! memory that is empty at first.
+//! `kcr run` answers the stream of requests on standard input on standard output, `kcr serve` those of connections to a
+//! port; `print`, `attendance`, `custody` and `audit` tell of a register. Each works over a register in memory, which is
+//! empty at first, or over a file.
 #![tactic(auto)]
 
 ghost use Rattle.std.specs.Prelude.{◌≡◌, ◌⊎◌, ◌≤◌};
@@ -12,9 +13,7 @@ mod commands;
 mod fault;
 mod lines;
 mod listen;
-mod opening;
 mod tasks;
-mod view;
 mod words;
 
 use act::act;

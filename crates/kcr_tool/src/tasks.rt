@@ -6,7 +6,7 @@ ghost use Rattle.kcr_history.specs.Ceremonies.{is_ceremony};
 ghost use Rattle.kcr_history.specs.Prints as report;
 ghost use Rattle.kcr_print.specs.Written.{WritesFront};
 ghost use Rattle.kcr_tool.specs.Faults.{HasCause, StopsReport};
-ghost use Rattle.kcr_tool.specs.Runs.{AnswersAll, AnswersInPart, OfHistory};
+ghost use Rattle.kcr_tool.specs.Runs.{AnswersAll, AnswersInPart, RepliesToAll, RepliesInPart, OfHistory};
 
 use crate::fault::Fault;
 use kcr_base::{CeremonyNumber, Counted};
@@ -28,6 +28,10 @@ pub fn run<S: Alter, R: Read, W: Write>(
         (R.remaining (inner_of input.old)) (W.contents (inner_of output.old)) (W.contents (inner_of output.new)))) }
     ensures part { OfHistory S.Store register.old (λ A. OnErr result (AnswersInPart A
         (R.remaining (inner_of input.old)) (W.contents (inner_of output.old)) (W.contents (inner_of output.new)))) }
+    ensures answered { OnOk result (RepliesToAll
+        (R.remaining (inner_of input.old)) (W.contents (inner_of output.old)) (W.contents (inner_of output.new))) }
+    ensures answered_in_part { OnErr result (RepliesInPart
+        (R.remaining (inner_of input.old)) (W.contents (inner_of output.old)) (W.contents (inner_of output.new))) }
     ensures cause { IfErr result (λ why. HasCause why input.old input.new output.old output.new) }
 {
     match serve(alloc, input, output, register) {

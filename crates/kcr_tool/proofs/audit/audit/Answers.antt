@@ -1,5 +1,7 @@
 use Rattle.std.proofs.lemmas.Result.{IfOk-weaker}
 use Rattle.kcr_tool.proofs.audit.audit.Goals as goal
 
-pub returns-in-Ok-clause-told : goal.returns-in-Ok-clause-told
-returns-in-Ok-clause-told g c = IfOk-weaker c.audit_rows.result _ _ (λ status told. (c.in-Ok.view, told)) c.audit_rows.ensures.told
+pub returns-in-Ok-clause-found : goal.returns-in-Ok-clause-found
+returns-in-Ok-clause-found g c certain whole m held =
+    let finds = c.in-Ok.ensures.found whole (certain c.audit.new.self.conn) m held in
+    IfOk-weaker c.tell_found.result _ _ (λ status told. (c.in-Ok.found, finds, told)) c.tell_found.ensures.told

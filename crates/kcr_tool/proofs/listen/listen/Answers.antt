@@ -1,7 +1,9 @@
-use Rattle.std.proofs.Common.{◌≡◌, ℕ, List, rules, subst}
-use Rattle.std.proofs.lemmas.Result.{IfOk-weaker}
+use Rattle.std.proofs.Common.{◌≡◌, ℕ, List, rules, subst, inl, inr}
+use Rattle.std.proofs.lemmas.Result.{IfOk-weaker, IfErr-weaker}
 use Rattle.std.specs.Io.KnownBytes.{Appends}
 use Rattle.kcr_base.specs.Counted.{inner_of}
+use Rattle.kcr_tool.proofs.Causes.{on_err, whole_front}
+use Rattle.kcr_print.specs.Written.{WritesFront}
 use Rattle.kcr_tool.specs.Lines.{listening_line}
 use Rattle.kcr_tool.proofs.listen.listen.Goals as goal
 
@@ -11,4 +13,15 @@ returns-in-Ok-put g c =
     let new = g.W.Write.contents (inner_of c.put.new.writer) in
     let line : c.as_bytes.result.now ≡ listening_line c.args.port = search rules in
     let written = subst (λ (text : List ℕ). Appends old new text) line c.in-Ok-put.ensures.written in
-    record { served = IfOk-weaker c.serve_each.result _ _ (λ served all. (all, written)) c.serve_each.ensures.served }
+    record {
+      served = IfOk-weaker c.serve_each.result _ _ (λ served all. (all, written)) c.serve_each.ensures.served;
+      part = on_err c.serve_each.result (inr (whole_front old new (listening_line c.args.port) written));
+      cause = IfErr-weaker c.serve_each.result _ _ (λ why stops. inl stops) c.serve_each.ensures.cause;
+    }
+
+pub returns-clause-part : goal.returns-clause-part
+returns-clause-part g c =
+    let old = g.W.Write.contents (inner_of c.args.output.now) in
+    let new = g.W.Write.contents (inner_of c.put.new.writer) in
+    let line : c.as_bytes.result.now ≡ listening_line c.args.port = search rules in
+    inr (subst (λ (text : List ℕ). WritesFront old new text) line c.in-Err.ensures.written)

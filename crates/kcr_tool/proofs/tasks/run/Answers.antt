@@ -34,3 +34,11 @@ returns-in-Err-clause-part g c certain founded whole =
 
 pub returns-in-Err-clause-cause : goal.returns-in-Err-clause-cause
 returns-in-Err-clause-cause g c = stream_cause c.in-Err.fault _ _ _ _ c.in-Err.ensures.read_fault c.in-Err.ensures.write_fault
+
+pub returns-in-Ok-clause-answered : goal.returns-in-Ok-clause-answered
+returns-in-Ok-clause-answered g c =
+    (standing c.args.register.now, standing c.serve.new.register, c.in-Ok.field-0.requests, c.in-Ok.ensures.answered)
+
+pub returns-in-Err-clause-answered_in_part : goal.returns-in-Err-clause-answered_in_part
+returns-in-Err-clause-answered_in_part g c =
+    (standing c.args.register.now, standing c.serve.new.register, c.in-Err.ensures.answered_in_part)

@@ -1,5 +1,0 @@
-use Rattle.kcr_store.specs.Opening.{unknown}
-use Rattle.kcr_tool.proofs.opening.open.Given as goal
-
-abbrev pub ghost-adopt : goal.ghost-adopt
-ghost-adopt a = unknown
