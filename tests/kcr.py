@@ -1,10 +1,12 @@
 """What the tests of the program `kcr` share: to start it and end it, to cut streams into requests and answers, and to
 read and change a register's file with C's sqlite, by Python's module sqlite3.
 
-It tests nothing by itself: `program.py`, `server.py` and `kills.py` stand on it, and on the kept streams of `files`.
+It tests nothing by itself: `program.py`, `server.py`, `kills.py`, `healthy.py`, `memory.py` and `stops.py` stand on it,
+and on the kept streams of `files`.
 """
 import ast
 import contextlib
+import functools
 import pathlib
 import re
 import shutil
@@ -173,6 +175,28 @@ def accepted(number):
     return answer(b"200 OK", b'{"accepted":%d}' % number)
 
 
+def post(path, key, members):
+    """The request for a command."""
+    return request(b"POST", path, b'{"key":"%s",%s}' % (key, members))
+
+
+def short_ceremony():
+    """Ten commands of a ceremony: two people enter, are trained, come, sign a step, add an item and seal it."""
+    return [
+        person(b"k1", b"AA", b"Ann Abel"),
+        person(b"k2", b"BB", b"Bob Berg"),
+        post(b"/people/AA/roles", b"k3", b'"role":"IW","from":"2025-01-01","until":"2025-02-13"'),
+        post(b"/people/BB/roles", b"k4", b'"role":"CA","from":"2025-01-01","until":"2025-02-13"'),
+        post(b"/ceremonies", b"k5", b'"number":61,"facility":"EAST","day":"2025-02-13",'
+                                    b'"script":"step,activity,seats\\n1,Check bags,CA;IW\\n2,Close,IW\\n"'),
+        post(b"/ceremonies/61/opening", b"k6", b'"at":"2025-02-13T20:00:00Z"'),
+        post(b"/ceremonies/61/sheet", b"k7", b'"way":"in","who":["AA","BB"],"at":"2025-02-13T20:05:00Z"'),
+        post(b"/ceremonies/61/steps/1/signature", b"k8", b'"at":"2025-02-13T20:10:00Z"'),
+        post(b"/items", b"k9", b'"ceremony":61,"item":"HSM4","at":"2025-02-13T20:12:00Z"'),
+        post(b"/ceremonies/61/bags/BB51184287/seal", b"k10", b'"items":["HSM4"],"at":"2025-02-13T20:13:00Z"'),
+    ]
+
+
 def initials(number):
     """The number-th initials of four letters, in their order, from 0."""
     return bytes(65 + number // 26 ** place % 26 for place in (3, 2, 1, 0))
@@ -321,6 +345,46 @@ def stored(file, tables):
         found = rows_in(database)
     for name in TABLES:
         expect(f"the table {name}", tables[name], found[name])
+
+
+# Faults
+
+def compiler():
+    """A C compiler: one that is installed, or that of the toolchain; None where there is none."""
+    found = next((path for name in ("cc", "gcc", "clang") if (path := shutil.which(name))), None)
+    if found or not shutil.which("rt"):
+        return found
+    own = pathlib.Path(shutil.which("rt")).resolve().parent.parent / "toolchain" / "bin" / "clang"
+    return str(own) if own.is_file() else None
+
+
+@contextlib.contextmanager
+def faults():
+    """The library of `faults.c`, which has requests of a process fail; None where there is no C compiler."""
+    with tempfile.TemporaryDirectory() as room:
+        tool, library = compiler(), pathlib.Path(room) / "faults.so"
+        if tool:
+            subprocess.run([tool, "-shared", "-fPIC", "-O1", "-nostdlib", "-o", library, HERE / "faults.c"], check=True,
+                           timeout=SECONDS)
+        yield library if tool else None
+
+
+def faulty(program, library, what, *words, stream=b""):
+    """As `call`, where what the environment `what` says is to fail; and whether anything did."""
+    with tempfile.TemporaryDirectory() as room:
+        mark = pathlib.Path(room) / "failed"
+        told = call(program, *words, stream=stream, env={"LD_PRELOAD": str(library), "FAILED": str(mark), **what})
+        return told, mark.exists()
+
+
+def judge_faults(tests, names, program):
+    """Runs tests that take the program and the library of faults; where there is no C compiler it says so."""
+    with faults() as library:
+        if library is None:
+            print("no C compiler here, so nothing failed")
+            return
+        judge([(test.__name__, test.__doc__, functools.partial(test, program, library)) for test in tests
+               if not names or test.__name__ in names])
 
 
 # Running tests

@@ -1,0 +1,164 @@
+#!/usr/bin/env python3
+"""The program over a file that stops: from some call on each call of the file, or of its log, fails.
+
+    tests/stops.py PROGRAM [NAME ..]
+
+A library that stands before the C library (`faults.c`) passes so many calls of one file on (to read, write, cut or sync
+it or to ask for its length) and has each one behind them fail, for every number from 0 on until a run meets no stop,
+and for the database and its log in turn. That goes on while the tables of a new file are made, while registers of the
+versions 1 and 2 are brought to version 3, and while the ten commands of a ceremony are taken. Shown are: where the
+opening is stopped the program says `open: disk`; a command that is stopped is told that the device failed (34), and all
+behind it that the register is broken (35). What is then left is opened twice: all that was written, as when the program
+alone ends, and only what each file had said to be safe, as when the machine stops. Either has, as sqlite3 reads it, the
+tables as they were before the step that was stopped or as they are after it, and so all commands that were answered;
+and the commands from the last answered one on, sent again, get the answers that they would have had. With names only
+the tests with these names run.
+
+The last line is `N passed, M failed`, and the status is 0 where none failed. Where there is no C compiler nothing is
+tested, and it says so.
+"""
+import sys
+
+sys.dont_write_bytecode = True  # no files beside these
+
+import itertools
+import pathlib
+import shutil
+import sqlite3
+
+import kcr
+from kcr import Wrong, call, change, expect, log_of, opened
+from program import NEWER, made_older
+
+DISK = kcr.answer(b"500 Internal Server Error", b'{"number":34,"refusal":"disk"}')
+BROKEN = kcr.answer(b"500 Internal Server Error", b'{"number":35,"refusal":"broken"}')
+UNOPENED = (b"", b"open: disk\n", 1)
+
+
+def held(file):
+    """The tables of a database with their rows, as sqlite3 reads it; none where there is no database yet."""
+    if not file.is_file() or not file.stat().st_size:
+        return {}
+    with opened(file) as database:
+        try:
+            names = [name for name, in database.execute("SELECT name FROM sqlite_schema WHERE type = 'table'")]
+        except sqlite3.DatabaseError:
+            return {}
+        return {name: sorted(database.execute(f"SELECT * FROM {name}"), key=repr) for name in names}
+
+
+def put(source, target):
+    """Puts the files of a register at another place, where nothing is yet; those that are not there are left out."""
+    for one, other in ((source, target), (log_of(source), log_of(target))):
+        other.unlink(missing_ok=True)
+        if one.is_file():
+            shutil.copyfile(one, other)
+    return target
+
+
+class Trial:
+    """A register's file as it is before, commands, and what comes of them where nothing stops: the answers, and the
+    tables before, once the file is opened, and after each command."""
+
+    def __init__(self, program, library, file, commands):
+        self.program, self.library, self.file, self.commands = program, library, file, commands
+        whole, self.looked_at = put(file, file.with_name("whole")), set()
+        self.answers, self.tables = [], [held(whole)]
+        for command in [b"", *commands]:
+            output, *end = call(program, "run", "--file", whole, stream=command)
+            expect("the end of a command", (b"", 0), tuple(end))
+            self.answers.append(output)
+            self.tables.append(held(whole))
+        self.answers.pop(0)  # of the opening alone
+
+    def steps(self, told):
+        """How many steps were done, the opening being the first, by what the program says."""
+        if told == UNOPENED:
+            return 0
+        count = len(self.commands)
+        for done in range(count + 1):
+            stopped = [DISK] + [BROKEN] * (count - done - 1) if done < count else []
+            if told == (b"".join(self.answers[:done] + stopped), b"", 0):
+                return done + 1
+        raise Wrong(f"what it says: {told!r:.3000}")
+
+    def outlived(self, steps, left):
+        """Sees that files hold the tables before the step that was stopped or after it, and go on from there. The same
+        files are looked at once, since a call that reads changes nothing."""
+        found = (steps, kcr.contents(left))
+        if found in self.looked_at:
+            return
+        self.looked_at.add(found)
+        if held(left) not in self.tables[steps:steps + 2]:
+            raise Wrong(f"{steps} steps were done, and {left.name} holds {held(left)!r:.3000}")
+        again = max(steps - 2, 0)
+        expect("what is sent again", (b"".join(self.answers[again:]), b"", 0),
+               call(self.program, "run", "--file", left, stream=b"".join(self.commands[again:])))
+        expect("the tables in the end", self.tables[-1], held(left))
+
+    def stopped(self, which, calls):
+        """Stops a file after so many calls; whether that came to a stop."""
+        tried = put(self.file, self.file.with_name("tried"))
+        safe = put(self.file, self.file.with_name("tried-safe"))  # what the library keeps of it
+        what = {"REGISTER": str(tried), "CALLS": str(calls)} | ({"LOG": "1"} if which == "log" else {})
+        told, is_stopped = kcr.faulty(self.program, self.library, what, "run", "--file", tried,
+                                      stream=b"".join(self.commands))
+        try:
+            steps = self.steps(told)
+            if not is_stopped:
+                expect("the steps of a run without a stop", len(self.commands) + 1, steps)
+            self.outlived(steps, tried)
+            self.outlived(steps, safe)
+        except Wrong as wrong:
+            raise Wrong(f"the {which} stopped after {calls} calls: {wrong}") from None
+        return is_stopped
+
+    def swept(self, what):
+        """Stops the database and its log after each number of calls, until a run meets no stop."""
+        for which in ("database", "log"):
+            last = next(calls for calls in itertools.count() if not self.stopped(which, calls))
+            print(f"    {what}: the {which} takes {last} calls")
+            if which == "log":
+                expect("something is written to the log", True, last > 0)
+
+
+def tables_are_made(program, library, room):
+    """A new file stops while its tables are made."""
+    Trial(program, library, room / "register", []).swept("a new file")
+
+
+def older_registers_are_brought(program, library, room):
+    """A register of version 1 or 2 stops while it is brought to version 3."""
+    filled = room / "filled"
+    call(program, "run", "--file", filled, stream=b"".join(kcr.short_ceremony()))
+    for version in NEWER:
+        file = put(filled, room / "register")
+        made_older(file, version)
+        Trial(program, library, file, []).swept(f"version {version}")
+
+
+def commands_are_taken(program, library, room):
+    """A file stops while commands are taken, a signature among them."""
+    Trial(program, library, room / "register", kcr.short_ceremony()).swept("ten commands over a new file")
+
+
+def a_signature_is_taken(program, library, room):
+    """A file that was there before stops while a step is signed, an item added and a bag sealed."""
+    file, commands = room / "register", kcr.short_ceremony()
+    call(program, "run", "--file", file, stream=b"".join(commands[:6]))
+    change(file, "PRAGMA user_version = 0")  # all of it lies in the one file now
+    call(program, "run", "--file", file, stream=commands[6])
+    Trial(program, library, file, commands[7:]).swept("three commands over a register's file")
+
+
+TESTS = [tables_are_made, older_registers_are_brought, commands_are_taken, a_signature_is_taken]
+
+
+def main():
+    if len(sys.argv) < 2:
+        sys.exit(__doc__)
+    kcr.judge_faults(TESTS, sys.argv[2:], str(pathlib.Path(sys.argv[1]).resolve()))
+
+
+if __name__ == "__main__":
+    main()
