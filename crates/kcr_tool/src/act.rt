@@ -20,12 +20,7 @@ use sqlite::Alter;
 use std::io::{Read, Write};
 
 /// Does a task over a register, and answers the exit status: 0, or 1 after a finding.
-#[tactic(auto, using(
-    crate::proofs::Causes::stops_cause,
-    crate::proofs::Causes::serving_cause,
-    crate::proofs::Audits::clean_told,
-    crate::proofs::Audits::finding_told
-))]
+#[tactic(auto, using(crate::proofs::Causes::stops_cause, crate::proofs::Causes::serving_cause, crate::proofs::Audits::clean_told, crate::proofs::Audits::finding_told))]
 fn perform<S: Alter + Drop, R: Read, W: Write>(
     rt: &HostRuntime,
     register: Register<S>,

@@ -77,10 +77,7 @@ fn tell_found<W: Write>(
 /// Audits all rows of a register: a line with the first finding of the first kind that has one, or that there is
 /// none, and the exit status, 1 after a finding. Want of memory is refused (33), as is a fault of the device (34) and a
 /// broken register (35), and nothing is written then.
-#[tactic(auto, using(
-    crate::proofs::Audits::status_told,
-    crate::proofs::Audits::nothing_told
-))]
+#[tactic(auto, using(crate::proofs::Audits::status_told, crate::proofs::Audits::nothing_told))]
 pub fn audit<S: Alter, W: Write>(
     alloc: Global,
     register: &mut Register<S>,
