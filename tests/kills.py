@@ -4,7 +4,8 @@
     tests/kills.py PROGRAM [KILLS]
 
 Commands are sent one after the other, the next once the last is answered, and at a random moment (of a fixed seed) the
-program gets SIGKILL. Then it is started anew over the same file, and the command that has no answer yet is sent first.
+program gets SIGKILL: so long after its start in one life, which may be while it opens the file, and so long after its
+first answer in the next, so that half of the lives take commands however slow the machine is. Then it is started anew over the same file, and the command that has no answer yet is sent first.
 Each command has to get its own number: so the file held all that were answered, and at most one more, which was then
 repeated. That goes on with the same file for KILLS times (200 where none is said). At the end an audit finds nothing,
 all commands sent again get their answers again, and sqlite3 finds the file sound.
@@ -23,7 +24,6 @@ import threading
 import kcr
 
 LONGEST_LIFE = 0.15  # seconds
-FEWEST_LIVES = 10  # with an answer, so that the kills come while commands are taken
 
 
 def command(number):
@@ -31,12 +31,14 @@ def command(number):
     return kcr.person(b"k%d" % number, kcr.initials(number), b"Somebody"), kcr.accepted(number + 1)
 
 
-def life(program, file, answered, seconds):
-    """How many commands are answered in all, where the program is killed so many seconds after its start."""
+def life(program, file, answered, seconds, is_answering):
+    """How many commands are answered in all, where the program is killed so many seconds after its start, or, where it
+    is to be answering, after its first answer."""
     with subprocess.Popen([program, "run", "--file", file], stdin=subprocess.PIPE, stdout=subprocess.PIPE,
                           bufsize=0) as run:
         clock = threading.Timer(seconds, run.kill)
-        clock.start()
+        if not is_answering:
+            clock.start()
         while True:
             message, wanted = command(answered)
             try:
@@ -50,19 +52,22 @@ def life(program, file, answered, seconds):
             if told != wanted:
                 break
             answered += 1
-        clock.join()
+            if clock.ident is None:
+                clock.start()
+        if clock.ident is not None:
+            clock.join()
     return answered
 
 
 def killed(program, kills, room):
     """After each kill the file holds all answered commands, and at most one more."""
     file, moments, answered, lives = room / "register", random.Random(20250213), 0, 0
-    for _ in range(kills):
+    for number in range(kills):
         before = answered
-        answered = life(program, file, answered, moments.uniform(0, LONGEST_LIFE))
+        answered = life(program, file, answered, moments.uniform(0, LONGEST_LIFE), number % 2 == 1)
         lives += answered > before
     print(f"    {answered} commands answered in {kills} lives, {lives} of them with an answer")
-    kcr.expect("enough lives have an answer", True, lives >= FEWEST_LIVES)
+    kcr.expect("half of the lives have an answer", True, lives >= kills // 2)
     kcr.expect("audit", (b"audit: nothing found\n", b"", 0), kcr.call(program, "audit", "--file", file))
     commands = [command(number) for number in range(answered)]
     kcr.expect("all commands again", b"".join(answer for _, answer in commands),
