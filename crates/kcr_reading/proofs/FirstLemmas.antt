@@ -1,5 +1,5 @@
 -- A reading of a table that gives the first row alone.
-use Rattle.std.proofs.Common.{◌≡◌, ℕ, List, [], ◌∷◌, ◌++◌, map, filter, take, length, slice_get, Option, Some, None, Result, OnOk, IfErr, IsTrue, ◌<◌, arith, refl, sym, ap, subst, ◌∙◌, Less}
+use Rattle.std.proofs.Common.{◌≡◌, ℕ, List, [], ◌∷◌, ◌++◌, map, filter, take, length, slice_get, Option, Some, None, ◌<◌, arith, refl, sym, ap, subst, ◌∙◌, Less}
 use Rattle.std.specs.List.{AllByRecursion, list_all}
 use Rattle.std.specs.Option.{option_to_list}
 use Rattle.std.specs.List.Sorted.{IsPermutation}
@@ -9,10 +9,9 @@ use Rattle.sqlite.specs.Order.{Row}
 use Rattle.sqlite.specs.Term.{holds}
 use Rattle.sqlite.specs.Query.{Query, IsAnswer, Output, output, output_cmp}
 use Rattle.sqlite.specs.Tree.{Trees, IsAscending}
-use Rattle.sqlite.specs.State.{State, Shown, HasCleanDisk, IsUnchanged, KeepsCommit, Survives}
-use Rattle.sqlite.specs.Listing.{understood}
+use Rattle.sqlite.specs.State.{State, Shown}
 use Rattle.sqlite.specs.Program.{overlay}
-use Rattle.sqlite.proofs.Callers.{IsPlain, reads_as}
+use Rattle.sqlite.proofs.Callers.{reads_as}
 use Rattle.sqlite_sql.proofs.QueryLemmas.{output_cmp_total}
 use Rattle.sqlite_trees.proofs.ListLemmas.{map-map, filter-map, IsPermutation-filter, ascending-map, ascending_weaker, all-permutation, all-filter}
 use Rattle.sqlite_keyed.proofs.SortLemmas.{sorted_unique}
@@ -20,11 +19,6 @@ use Rattle.kcr_rows.specs.Keyed.{cells, Place, Keeps}
 use Rattle.kcr_rows.proofs.ReadLemmas.{matched, map_same}
 use Rattle.kcr_rows.proofs.TableLemmas.{same_values}
 use Rattle.kcr_tables.specs.Schema.{register_schema}
-use Rattle.kcr_base.specs.declared.refusal.Refusal.{Refusal}
-use Rattle.kcr_rows.proofs.FailLemmas.{on_ok_then, plain_in}
-use Rattle.kcr_rows.specs.Refusals.{IsFault}
-use Rattle.kcr_tables.proofs.HoldLemmas.{still_holds}
-use Rattle.kcr_tables.specs.Frame.{Reads}
 use Rattle.kcr_reading.specs.First.{first_of, Choice, ShowsFirst}
 
 map_id : {X : Type 0} (xs : List X) → map (λ x. x) xs ≡ xs
@@ -96,14 +90,3 @@ popped xs (r ∷ r2 ∷ rest) (y ∷ those) (Some x) is split none = absurd (let
 pub no_rows : {X : Type 0} (n : ℕ) (xs : List X) → length xs ≡ n → (0 < n → ⊥) → xs ≡ []
 no_rows n [] same none = refl
 no_rows n (x ∷ xs) same none = absurd (none (omega (arith, same)))
-
--- a reading by a text that changes nothing leaves the tables
-pub reads_by : {A : Type 0} (sql : List ℕ) (old new : State) (r : Result A Refusal) → IsPlain (understood register_schema sql) → (HasCleanDisk new → IsPlain (understood old.now.schema sql) → OnOk r (IsUnchanged old new))
-    → (HasCleanDisk new → IsTrue old.in_transaction → OnOk r (IsTrue new.in_transaction)) → (HasCleanDisk new → IsTrue old.in_transaction → KeepsCommit old new) → Survives old new (λ _. ⊥) → IfErr r IsFault → Reads old new r
-reads_by sql old new r plain same inside kept survives cause = record {
-  holds = λ clean t held. on_ok_then _ _ (still_holds old new t held) r (same clean (plain_in register_schema sql plain old held.schema));
-  inside = inside;
-  kept = kept;
-  survives = survives;
-  cause = cause;
-}

@@ -276,8 +276,8 @@ impl<S: Alter> Register<S> {
     }
 
     /// What an audit finds in all its rows, whose number its memory grows with: a finding of the first kind that has one,
-    /// or None. In the tables of a history nothing is found. It changes nothing. Beside want of memory (33) it meets only a fault of the device or a row that
-    /// no register stores (34), which breaks the register; a broken one answers 35.
+    /// or None. In the tables of a history nothing is found. It changes nothing. Beside want of memory (33) it meets only
+    /// a fault of the device or a row that no register stores (34), which breaks the register; a broken one answers 35.
     pub fn audit(&mut self) -> Result<Option<Finding>, Refusal>
         ensures broken { IsSome self.old.torn → (result ≡ Err Refusal.Broken) × (self.new ≡ self.old) }
 

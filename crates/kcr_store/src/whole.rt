@@ -1,5 +1,5 @@
 //! All rows of a register's tables, and what an audit finds in them.
-ghost use Rattle.std.specs.Prelude.{◌≡◌, false, None, IsTrue, IfOk, IfErr, OnOk};
+ghost use Rattle.std.specs.Prelude.{◌≡◌, false, None, IsPermutation, IsTrue, IfOk, IfErr, OnOk};
 ghost use Rattle.sqlite.specs.State.{HasCleanDisk, KeepsCommit, Survives};
 ghost use Rattle.sqlite.specs.Held.{state};
 ghost use Rattle.kcr_audit.specs.Whole.{tables_of};
@@ -9,116 +9,24 @@ ghost use Rattle.kcr_history.specs.Tables.{Tables, SameTables, tables};
 ghost use Rattle.kcr_tables.specs.Joint.{HoldsTables};
 ghost use Rattle.kcr_tables.specs.Refusals.{IsFault};
 ghost use Rattle.kcr_store.specs.Register.{IsWhole};
-ghost use Rattle.kcr_store.specs.Whole.{AreStaff, AreThings, AreCeremonies, AreInRooms, FindsIn};
+ghost use Rattle.kcr_store.specs.Whole.{FindsIn};
 
 use kcr_audit::{audit, registers_pass};
 use kcr_base::Refusal;
-use kcr_custody::{Bag, BoxRow, Item, SafeRow};
-use kcr_history::{CeremonyRow, ExceptionRow, Finding, KeyRow, MarkRow, SeatingRow, StepRow, View};
-use kcr_people::{Appointment, Person, Training, Withdrawal};
-use kcr_room::{SheetRow, Stay};
-use kcr_tables::all_rows;
+use kcr_history::{Finding, View};
+use kcr_tables::{Listed, all_rows};
 use sqlite::{Alter, Connection, Transaction};
 use std::alloc::Global;
 
-/// All rows of people and their offices.
-#[derive(Drop)]
-pub(crate) struct Staff {
-    people: Vec<Person>,
-    trainings: Vec<Training>,
-    withdrawals: Vec<Withdrawal>,
-    appointments: Vec<Appointment>,
-}
-
-/// All rows of what lies where.
-#[derive(Drop)]
-pub(crate) struct Things {
-    boxes: Vec<BoxRow>,
-    safes: Vec<SafeRow>,
-    bags: Vec<Bag>,
-    items: Vec<Item>,
-}
-
-/// All rows of ceremonies and their steps.
-#[derive(Drop)]
-pub(crate) struct Ceremonies {
-    ceremonies: Vec<CeremonyRow>,
-    marks: Vec<MarkRow>,
-    steps: Vec<StepRow>,
-    seatings: Vec<SeatingRow>,
-}
-
-/// All rows of the rooms, the exceptions and the keys.
-#[derive(Drop)]
-pub(crate) struct Rooms {
-    sheet: Vec<SheetRow>,
-    stays: Vec<Stay>,
-    exceptions: Vec<ExceptionRow>,
-    keys: Vec<KeyRow>,
-}
-
-/// All rows of people and their offices.
-fn staff_rows<S: Alter>(alloc: Global, tx: &mut Transaction<'_, S>) -> Result<Staff, Refusal>
-    ensures same_reference { tx.new.conn.ghost_name ≡ tx.old.conn.ghost_name }
-    ensures rows { HasCleanDisk (state S.Store tx.new.conn.now) → (m : Tables)
-        → HoldsTables m (state S.Store tx.old.conn.now).now → IfOk result (AreStaff m) }
-    ensures tables { HasCleanDisk (state S.Store tx.new.conn.now) → (m : Tables)
-        → HoldsTables m (state S.Store tx.old.conn.now).now → OnOk result (HoldsTables m (state S.Store tx.new.conn.now).now) }
-    ensures opened { HasCleanDisk (state S.Store tx.new.conn.now) → OnOk result (IsTrue (state S.Store tx.old.conn.now).is_open) }
-    ensures kept { HasCleanDisk (state S.Store tx.new.conn.now) → IsTrue (state S.Store tx.old.conn.now).in_transaction
-        → KeepsCommit (state S.Store tx.old.conn.now) (state S.Store tx.new.conn.now) }
-    ensures inside { HasCleanDisk (state S.Store tx.new.conn.now) → IsTrue (state S.Store tx.old.conn.now).in_transaction
-        → OnOk result (IsTrue (state S.Store tx.new.conn.now).in_transaction) }
-    ensures survives { Survives (state S.Store tx.old.conn.now) (state S.Store tx.new.conn.now) (λ _. ⊥) }
-    ensures cause { IfErr result IsFault }
-{
-    let people = all_rows(alloc, tx)?;
-    let trainings = all_rows(alloc, tx)?;
-    let withdrawals = all_rows(alloc, tx)?;
-    let appointments = all_rows(alloc, tx)?;
-    Ok(Staff {
-        people,
-        trainings,
-        withdrawals,
-        appointments,
-    })
-}
-
-/// All rows of what lies where.
-fn things_rows<S: Alter>(alloc: Global, tx: &mut Transaction<'_, S>) -> Result<Things, Refusal>
-    ensures same_reference { tx.new.conn.ghost_name ≡ tx.old.conn.ghost_name }
-    ensures rows { HasCleanDisk (state S.Store tx.new.conn.now) → (m : Tables)
-        → HoldsTables m (state S.Store tx.old.conn.now).now → IfOk result (AreThings m) }
-    ensures tables { HasCleanDisk (state S.Store tx.new.conn.now) → (m : Tables)
-        → HoldsTables m (state S.Store tx.old.conn.now).now → OnOk result (HoldsTables m (state S.Store tx.new.conn.now).now) }
-    ensures opened { HasCleanDisk (state S.Store tx.new.conn.now) → OnOk result (IsTrue (state S.Store tx.old.conn.now).is_open) }
-    ensures kept { HasCleanDisk (state S.Store tx.new.conn.now) → IsTrue (state S.Store tx.old.conn.now).in_transaction
-        → KeepsCommit (state S.Store tx.old.conn.now) (state S.Store tx.new.conn.now) }
-    ensures inside { HasCleanDisk (state S.Store tx.new.conn.now) → IsTrue (state S.Store tx.old.conn.now).in_transaction
-        → OnOk result (IsTrue (state S.Store tx.new.conn.now).in_transaction) }
-    ensures survives { Survives (state S.Store tx.old.conn.now) (state S.Store tx.new.conn.now) (λ _. ⊥) }
-    ensures cause { IfErr result IsFault }
-{
-    let boxes = all_rows(alloc, tx)?;
-    let safes = all_rows(alloc, tx)?;
-    let bags = all_rows(alloc, tx)?;
-    let items = all_rows(alloc, tx)?;
-    Ok(Things {
-        boxes,
-        safes,
-        bags,
-        items,
-    })
-}
-
-/// All rows of ceremonies and their steps.
-fn ceremonies_rows<S: Alter>(
+/// All rows of two tables.
+fn rows_of_two<S: Alter, A: Listed, B: Listed>(
     alloc: Global,
     tx: &mut Transaction<'_, S>,
-) -> Result<Ceremonies, Refusal>
+) -> Result<(Vec<A>, Vec<B>), Refusal>
     ensures same_reference { tx.new.conn.ghost_name ≡ tx.old.conn.ghost_name }
     ensures rows { HasCleanDisk (state S.Store tx.new.conn.now) → (m : Tables)
-        → HoldsTables m (state S.Store tx.old.conn.now).now → IfOk result (AreCeremonies m) }
+        → HoldsTables m (state S.Store tx.old.conn.now).now
+        → IfOk result (λ rows. IsPermutation (A.machine_rows m) rows.0.items × IsPermutation (B.machine_rows m) rows.1.items) }
     ensures tables { HasCleanDisk (state S.Store tx.new.conn.now) → (m : Tables)
         → HoldsTables m (state S.Store tx.old.conn.now).now → OnOk result (HoldsTables m (state S.Store tx.new.conn.now).now) }
     ensures opened { HasCleanDisk (state S.Store tx.new.conn.now) → OnOk result (IsTrue (state S.Store tx.old.conn.now).is_open) }
@@ -129,23 +37,21 @@ fn ceremonies_rows<S: Alter>(
     ensures survives { Survives (state S.Store tx.old.conn.now) (state S.Store tx.new.conn.now) (λ _. ⊥) }
     ensures cause { IfErr result IsFault }
 {
-    let ceremonies = all_rows(alloc, tx)?;
-    let marks = all_rows(alloc, tx)?;
-    let steps = all_rows(alloc, tx)?;
-    let seatings = all_rows(alloc, tx)?;
-    Ok(Ceremonies {
-        ceremonies,
-        marks,
-        steps,
-        seatings,
-    })
+    let ones = all_rows(alloc, tx)?;
+    let others = all_rows(alloc, tx)?;
+    Ok((ones, others))
 }
 
-/// All rows of the rooms, the exceptions and the keys.
-fn rooms_rows<S: Alter>(alloc: Global, tx: &mut Transaction<'_, S>) -> Result<Rooms, Refusal>
+/// All rows of four tables.
+fn rows_of_four<S: Alter, A: Listed, B: Listed, C: Listed, D: Listed>(
+    alloc: Global,
+    tx: &mut Transaction<'_, S>,
+) -> Result<((Vec<A>, Vec<B>), (Vec<C>, Vec<D>)), Refusal>
     ensures same_reference { tx.new.conn.ghost_name ≡ tx.old.conn.ghost_name }
     ensures rows { HasCleanDisk (state S.Store tx.new.conn.now) → (m : Tables)
-        → HoldsTables m (state S.Store tx.old.conn.now).now → IfOk result (AreInRooms m) }
+        → HoldsTables m (state S.Store tx.old.conn.now).now
+        → IfOk result (λ rows. (IsPermutation (A.machine_rows m) rows.0.0.items × IsPermutation (B.machine_rows m) rows.0.1.items)
+        × (IsPermutation (C.machine_rows m) rows.1.0.items × IsPermutation (D.machine_rows m) rows.1.1.items)) }
     ensures tables { HasCleanDisk (state S.Store tx.new.conn.now) → (m : Tables)
         → HoldsTables m (state S.Store tx.old.conn.now).now → OnOk result (HoldsTables m (state S.Store tx.new.conn.now).now) }
     ensures opened { HasCleanDisk (state S.Store tx.new.conn.now) → OnOk result (IsTrue (state S.Store tx.old.conn.now).is_open) }
@@ -156,16 +62,9 @@ fn rooms_rows<S: Alter>(alloc: Global, tx: &mut Transaction<'_, S>) -> Result<Ro
     ensures survives { Survives (state S.Store tx.old.conn.now) (state S.Store tx.new.conn.now) (λ _. ⊥) }
     ensures cause { IfErr result IsFault }
 {
-    let sheet = all_rows(alloc, tx)?;
-    let stays = all_rows(alloc, tx)?;
-    let exceptions = all_rows(alloc, tx)?;
-    let keys = all_rows(alloc, tx)?;
-    Ok(Rooms {
-        sheet,
-        stays,
-        exceptions,
-        keys,
-    })
+    let ones = rows_of_two(alloc, tx)?;
+    let others = rows_of_two(alloc, tx)?;
+    Ok((ones, others))
 }
 
 /// All rows of each table.
@@ -183,27 +82,27 @@ fn all_of<S: Alter>(alloc: Global, tx: &mut Transaction<'_, S>) -> Result<View, 
     ensures survives { Survives (state S.Store tx.old.conn.now) (state S.Store tx.new.conn.now) (λ _. ⊥) }
     ensures cause { IfErr result IsFault }
 {
-    let staff = staff_rows(alloc, tx)?;
-    let things = things_rows(alloc, tx)?;
-    let held = ceremonies_rows(alloc, tx)?;
-    let rooms = rooms_rows(alloc, tx)?;
+    let ((people, trainings), (withdrawals, appointments)) = rows_of_four(alloc, tx)?;
+    let ((boxes, safes), (bags, items)) = rows_of_four(alloc, tx)?;
+    let ((ceremonies, marks), (steps, seatings)) = rows_of_four(alloc, tx)?;
+    let ((sheet, stays), (exceptions, keys)) = rows_of_four(alloc, tx)?;
     Ok(View {
-        people: staff.people,
-        trainings: staff.trainings,
-        withdrawals: staff.withdrawals,
-        appointments: staff.appointments,
-        boxes: things.boxes,
-        safes: things.safes,
-        bags: things.bags,
-        items: things.items,
-        ceremonies: held.ceremonies,
-        marks: held.marks,
-        steps: held.steps,
-        seatings: held.seatings,
-        sheet: rooms.sheet,
-        stays: rooms.stays,
-        exceptions: rooms.exceptions,
-        keys: rooms.keys,
+        people,
+        trainings,
+        withdrawals,
+        appointments,
+        boxes,
+        safes,
+        bags,
+        items,
+        ceremonies,
+        marks,
+        steps,
+        seatings,
+        sheet,
+        stays,
+        exceptions,
+        keys,
     })
 }
 

@@ -1,14 +1,8 @@
 -- What the database holds, by the rows in the order of their keys and by the machine's.
-use Rattle.std.proofs.Common.{sym, subst}
 use Rattle.sqlite.specs.Effect.{Database}
-use Rattle.sqlite.specs.State.{State, IsUnchanged}
 use Rattle.kcr_history.specs.Tables as machine
 use Rattle.kcr_tables.specs.Held.{Tables, Holds}
 use Rattle.kcr_tables.specs.Joint.{Stands, HoldsTables}
-
--- a reading leaves the tables
-pub still_holds : (old new : State) (t : Tables) → Holds old.now t → IsUnchanged old new → Holds new.now t
-still_holds old new t held same = subst (λ (d : Database). Holds d t) (sym same.0.now_is) held
 
 pub held_of : (m : machine.Tables) (db : Database) (h : HoldsTables m db) → Holds db h.tables.t
 held_of m db h = record { schema = h.schema; kept = h.tables.kept }

@@ -1,3 +1,4 @@
+pub mod ExactLemmas
 pub mod FirstLemmas
 pub mod FrameLemmas
 pub mod HasLemmas

@@ -1,10 +1,10 @@
 -- What the statements of a table do, from what it proves of their texts.
-use Rattle.std.proofs.Common.{◌≡◌, ℕ, Bool, true, List, [], map, filter, Ok, sym, subst, ◌∙◌, IsPermutation}
+use Rattle.std.proofs.Common.{◌≡◌, ℕ, Bool, List, map, filter, Ok, sym, subst, ◌∙◌, IsPermutation}
 use Rattle.std.specs.List.{AllByRecursion}
 use Rattle.sqlite.specs.Order.{Row}
 use Rattle.sqlite.specs.State.{State, Shown, Executes}
 use Rattle.kcr_rows.specs.Keyed.{Place, Keeps, cells, put_in}
-use Rattle.kcr_rows.proofs.TableLemmas.{Changes, put_in_rows, shown_checked, shown_exact, filter_every}
+use Rattle.kcr_rows.proofs.TableLemmas.{Changes, put_in_rows, shown_checked, shown_exact}
 use Rattle.sqlite.specs.Tree.{Trees}
 use Rattle.kcr_rows.proofs.OrderLemmas.{put_in_all}
 use Rattle.kcr_rows.proofs.FilterLemmas.{filter_as}
@@ -20,12 +20,9 @@ module _ {X : Type 0} (sql : List ℕ) (place : Place) (params : Row) (passes : 
       shown_checked place register_schema sql params s.test s.project s.order s.names passes s.is s.bare s.shows s.tests s.sorts s.low row_of IsRead IsStored one old new xs has h read ys stored keeps
       ∙ filter_as (λ y. passes (row_of y)) test same ys
 
--- whatever the tree has, the values stand for its rows
-pub every_row : {X : Type 0} (sql : List ℕ) (place : Place) → ShowsRows sql place [] (λ _. true) → (row_of : X → Row) (old new : State) (xs : List X) → old.now.schema ≡ register_schema → Shown sql [] old new (map row_of xs)
-    → IsPermutation (map (cells 1 place.width) (old.now.trees place.tree)) (map row_of xs)
-every_row sql place s row_of old new xs has h =
-    subst (λ l. IsPermutation l (map row_of xs)) (filter_every (map (cells 1 place.width) (old.now.trees place.tree)))
-    (shown_exact place register_schema sql [] s.test s.project s.order s.names (λ _. true) s.is s.bare s.shows s.tests s.sorts s.low row_of old new xs has h)
+  -- whatever the tree has, the values stand for its rows that pass
+  pub every_row : (old new : State) (xs : List X) → old.now.schema ≡ register_schema → Shown sql params old new (map row_of xs) → IsPermutation (filter passes (map (cells 1 place.width) (old.now.trees place.tree))) (map row_of xs)
+  every_row old new xs has h = shown_exact place register_schema sql params s.test s.project s.order s.names passes s.is s.bare s.shows s.tests s.sorts s.low row_of old new xs has h
 
 pub row_put : {X : Type 0} (sql : List ℕ) (place : Place) (row_of : X → Row) → PutsRow sql place row_of → (x : X) (old new : State) (count : ℕ) → old.now.schema ≡ register_schema → Executes sql (row_of x) old new (Ok count)
     → (new.now.schema ≡ register_schema) × Changes place register_schema (row_of x) old.now.trees new.now.trees

@@ -8,6 +8,7 @@ pub mod Changed
 pub mod Joint
 pub mod Asked
 pub mod Frame
+pub mod Exact
 pub mod Statements
 pub mod Parts
 pub mod AppointmentsLaws

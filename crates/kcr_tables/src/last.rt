@@ -1,12 +1,15 @@
 //! The row with the greatest number.
 
-ghost use Rattle.std.specs.Prelude.{◌≡◌, filter, IfOk, OnOk, IsTrue};
+ghost use Rattle.std.specs.Prelude.{◌≡◌, map, filter, IfOk, OnOk, IsTrue};
 ghost use Rattle.sqlite.specs.Held.{state};
 ghost use Rattle.sqlite.specs.State.{HasCleanDisk};
 ghost use Rattle.kcr_base.specs.Same.{same_text};
 ghost use Rattle.kcr_rows.specs.Greatest.{IsGreatest};
-ghost use Rattle.kcr_tables.specs.Held.{Tables, Holds};
+ghost use Rattle.kcr_cells.specs.Rows.{key_row, stay_row};
+ghost use Rattle.kcr_tables.specs.Exact.{rows_at, has_text, IsOneOf};
+ghost use Rattle.kcr_tables.specs.Held.{keys_place, stays_place, Tables, Holds};
 ghost use Rattle.kcr_tables.specs.Frame.{Reads};
+ghost use Rattle.kcr_tables.specs.Schema.{register_schema};
 
 use kcr_base::{Initials, Refusal};
 use kcr_cells::statements::rows_of;
@@ -17,14 +20,18 @@ use sqlite::{Alter, Transaction};
 use std::alloc::Global;
 
 /// The row of the accepted command with the greatest number, alone, or none where there is no row.
-/// Nothing is changed. The error is `Memory` for want of memory, and else `Disk`: the device failed, or a row is one
-/// that no register stores.
+/// Nothing is changed. The error is `Memory` for want of memory, and else `Disk`: the device failed, or the row that
+/// stands last is one that no register stores.
 pub fn last_key_row<S: Alter>(
     alloc: Global,
     tx: &mut Transaction<'_, S>,
 ) -> Result<Vec<KeyRow>, Refusal>
     ensures same_reference { tx.new.conn.ghost_name ≡ tx.old.conn.ghost_name }
     ensures rows { HasCleanDisk (state S.Store tx.new.conn.now) → (t : Tables) → Holds (state S.Store tx.old.conn.now).now t → IfOk result (λ all. IsGreatest (λ x. x.accepted) t.keys all.items) }
+    ensures exact { HasCleanDisk (state S.Store tx.new.conn.now)
+        → (state S.Store tx.old.conn.now).now.schema ≡ register_schema
+        → IfOk result (λ all. IsOneOf (rows_at keys_place (state S.Store tx.old.conn.now).now.trees)
+        (map key_row all.items)) }
     ensures opened { HasCleanDisk (state S.Store tx.new.conn.now) → OnOk result (IsTrue (state S.Store tx.old.conn.now).is_open) }
     ensures frame { Reads (state S.Store tx.old.conn.now) (state S.Store tx.new.conn.now) result }
 {
@@ -44,6 +51,11 @@ pub fn last_stay_of<S: Alter>(
 ) -> Result<Vec<Stay>, Refusal>
     ensures same_reference { tx.new.conn.ghost_name ≡ tx.old.conn.ghost_name }
     ensures rows { HasCleanDisk (state S.Store tx.new.conn.now) → (t : Tables) → Holds (state S.Store tx.old.conn.now).now t → IfOk result (λ all. IsGreatest (λ x. x.since) (filter (λ x. same_text x.who who.now) t.stays) all.items) }
+    ensures exact { HasCleanDisk (state S.Store tx.new.conn.now)
+        → (state S.Store tx.old.conn.now).now.schema ≡ register_schema
+        → IfOk result (λ all. IsOneOf
+        (filter (has_text 0 who.now) (rows_at stays_place (state S.Store tx.old.conn.now).now.trees))
+        (map stay_row all.items)) }
     ensures frame { Reads (state S.Store tx.old.conn.now) (state S.Store tx.new.conn.now) result }
 {
     let c0 = initials_cell(who);

@@ -7,8 +7,11 @@ ghost use Rattle.kcr_history.specs.Views.{ShowsStays, ShowsStaysOf};
 ghost use Rattle.kcr_base.specs.Same.{same_text};
 ghost use Rattle.kcr_room.specs.declared.Stay.{Stay as AnyStay};
 ghost use Rattle.kcr_rows.specs.Greatest.{IsGreatest};
-ghost use Rattle.kcr_tables.specs.Held.{Tables, Holds};
+ghost use Rattle.kcr_cells.specs.Rows.{stay_row};
+ghost use Rattle.kcr_tables.specs.Exact.{rows_at, is_stay_row, AreShown, AskedAreShown};
+ghost use Rattle.kcr_tables.specs.Held.{stays_place, Tables, Holds};
 ghost use Rattle.kcr_tables.specs.Frame.{Reads};
+ghost use Rattle.kcr_tables.specs.Schema.{register_schema};
 
 use crate::last::last_stay_of;
 use crate::table::{all_rows, rows_under};
@@ -43,6 +46,10 @@ fn stays_and_last<S: Alter>(
 ) -> Result<Vec<Stay>, Refusal>
     ensures same_reference { tx.new.conn.ghost_name ≡ tx.old.conn.ghost_name }
     ensures rows { HasCleanDisk (state S.Store tx.new.conn.now) → (t : Tables) → Holds (state S.Store tx.old.conn.now).now t → IfOk result (λ all. ShowsStaysOf asked.now t.stays all.items) }
+    ensures exact { HasCleanDisk (state S.Store tx.new.conn.now)
+        → (state S.Store tx.old.conn.now).now.schema ≡ register_schema
+        → IfOk result (λ all. AreShown stay_row all.items
+        (filter (is_stay_row asked.now) (rows_at stays_place (state S.Store tx.old.conn.now).now.trees))) }
     ensures frame { Reads (state S.Store tx.old.conn.now) (state S.Store tx.new.conn.now) result }
 {
     let mut rows = rows_under(alloc, tx, &asked.ceremony)?;
@@ -62,6 +69,10 @@ pub fn asked_stays<S: Alter>(
 ) -> Result<Vec<Stay>, Refusal>
     ensures same_reference { tx.new.conn.ghost_name ≡ tx.old.conn.ghost_name }
     ensures rows { HasCleanDisk (state S.Store tx.new.conn.now) → (t : Tables) → Holds (state S.Store tx.old.conn.now).now t → IfOk result (λ all. ShowsStays asked.now t.stays all.items) }
+    ensures exact { HasCleanDisk (state S.Store tx.new.conn.now)
+        → (state S.Store tx.old.conn.now).now.schema ≡ register_schema
+        → IfOk result (λ all. AskedAreShown stay_row stays_place is_stay_row asked.now all.items
+        (state S.Store tx.old.conn.now).now.trees) }
     ensures frame { Reads (state S.Store tx.old.conn.now) (state S.Store tx.new.conn.now) result }
 {
     match asked {

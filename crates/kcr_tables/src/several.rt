@@ -7,9 +7,12 @@ ghost use Rattle.sqlite.specs.State.{HasCleanDisk};
 ghost use Rattle.kcr_base.specs.Same.{same_text};
 ghost use Rattle.kcr_history.specs.Views.{Shows, is_of_people, is_item_of, is_appointment_of};
 ghost use Rattle.kcr_history.specs.declared.views.ItemsOf.TheVariants as Wanted;
+ghost use Rattle.kcr_cells.specs.Rows.{person_row, item_row, appointment_row};
 ghost use Rattle.kcr_tables.specs.Asked.{asked_of};
-ghost use Rattle.kcr_tables.specs.Held.{Tables, Holds};
+ghost use Rattle.kcr_tables.specs.Exact.{rows_at, has_any, is_item_row, is_appointment_row, AreShown, AskedAreShown, OnceAreShown};
+ghost use Rattle.kcr_tables.specs.Held.{people_place, items_place, appointments_place, Tables, Holds};
 ghost use Rattle.kcr_tables.specs.Frame.{Reads};
+ghost use Rattle.kcr_tables.specs.Schema.{register_schema};
 
 use crate::table::{all_rows, rows_under};
 use kcr_base::{Initials, ItemCode, Refusal};
@@ -30,6 +33,10 @@ fn person_once<S: Alter>(
     requires { at < length named.now }
     ensures same_reference { tx.new.conn.ghost_name ≡ tx.old.conn.ghost_name }
     ensures rows { HasCleanDisk (state S.Store tx.new.conn.now) → (t : Tables) → Holds (state S.Store tx.old.conn.now).now t → IfOk result (λ all. all.items ≡ (if list_any (same_text (get_or named.now at [])) (take at named.now) then [] else filter (λ x. same_text x.who (get_or named.now at [])) t.people)) }
+    ensures exact { HasCleanDisk (state S.Store tx.new.conn.now)
+        → (state S.Store tx.old.conn.now).now.schema ≡ register_schema
+        → IfOk result (λ all. OnceAreShown person_row people_place named.now at all.items
+        (state S.Store tx.old.conn.now).now.trees) }
     ensures frame { Reads (state S.Store tx.old.conn.now) (state S.Store tx.new.conn.now) result }
 {
     let who = &named[at];
@@ -48,6 +55,10 @@ fn people_named<S: Alter>(
 ) -> Result<Vec<Person>, Refusal>
     ensures same_reference { tx.new.conn.ghost_name ≡ tx.old.conn.ghost_name }
     ensures rows { HasCleanDisk (state S.Store tx.new.conn.now) → (t : Tables) → Holds (state S.Store tx.old.conn.now).now t → IfOk result (λ all. IsPermutation (filter (is_of_people people.now) t.people) all.items) }
+    ensures exact { HasCleanDisk (state S.Store tx.new.conn.now)
+        → (state S.Store tx.old.conn.now).now.schema ≡ register_schema
+        → IfOk result (λ all. AreShown person_row all.items
+        (filter (has_any 0 people.now) (rows_at people_place (state S.Store tx.old.conn.now).now.trees))) }
     ensures frame { Reads (state S.Store tx.old.conn.now) (state S.Store tx.new.conn.now) result }
 {
     let named = people.as_slice();
@@ -67,6 +78,10 @@ pub fn asked_people<S: Alter>(
 ) -> Result<Vec<Person>, Refusal>
     ensures same_reference { tx.new.conn.ghost_name ≡ tx.old.conn.ghost_name }
     ensures rows { HasCleanDisk (state S.Store tx.new.conn.now) → (t : Tables) → Holds (state S.Store tx.old.conn.now).now t → IfOk result (λ all. Shows is_of_people asked.now t.people all.items) }
+    ensures exact { HasCleanDisk (state S.Store tx.new.conn.now)
+        → (state S.Store tx.old.conn.now).now.schema ≡ register_schema
+        → IfOk result (λ all. AskedAreShown person_row people_place (has_any 0) asked.now all.items
+        (state S.Store tx.old.conn.now).now.trees) }
     ensures frame { Reads (state S.Store tx.old.conn.now) (state S.Store tx.new.conn.now) result }
 {
     match asked {
@@ -86,6 +101,10 @@ fn item_once<S: Alter>(
     requires { at < length named.now }
     ensures same_reference { tx.new.conn.ghost_name ≡ tx.old.conn.ghost_name }
     ensures rows { HasCleanDisk (state S.Store tx.new.conn.now) → (t : Tables) → Holds (state S.Store tx.old.conn.now).now t → IfOk result (λ all. all.items ≡ (if list_any (same_text (get_or named.now at [])) (take at named.now) then [] else filter (λ x. same_text x.code (get_or named.now at [])) t.items)) }
+    ensures exact { HasCleanDisk (state S.Store tx.new.conn.now)
+        → (state S.Store tx.old.conn.now).now.schema ≡ register_schema
+        → IfOk result (λ all. OnceAreShown item_row items_place named.now at all.items
+        (state S.Store tx.old.conn.now).now.trees) }
     ensures frame { Reads (state S.Store tx.old.conn.now) (state S.Store tx.new.conn.now) result }
 {
     let code = &named[at];
@@ -104,6 +123,10 @@ fn items_named<S: Alter>(
 ) -> Result<Vec<Item>, Refusal>
     ensures same_reference { tx.new.conn.ghost_name ≡ tx.old.conn.ghost_name }
     ensures rows { HasCleanDisk (state S.Store tx.new.conn.now) → (t : Tables) → Holds (state S.Store tx.old.conn.now).now t → IfOk result (λ all. IsPermutation (filter (is_item_of (Wanted.Codes codes.now)) t.items) all.items) }
+    ensures exact { HasCleanDisk (state S.Store tx.new.conn.now)
+        → (state S.Store tx.old.conn.now).now.schema ≡ register_schema
+        → IfOk result (λ all. AreShown item_row all.items
+        (filter (has_any 0 codes.now) (rows_at items_place (state S.Store tx.old.conn.now).now.trees))) }
     ensures frame { Reads (state S.Store tx.old.conn.now) (state S.Store tx.new.conn.now) result }
 {
     let named = codes.as_slice();
@@ -123,6 +146,10 @@ pub fn asked_items<S: Alter>(
 ) -> Result<Vec<Item>, Refusal>
     ensures same_reference { tx.new.conn.ghost_name ≡ tx.old.conn.ghost_name }
     ensures rows { HasCleanDisk (state S.Store tx.new.conn.now) → (t : Tables) → Holds (state S.Store tx.old.conn.now).now t → IfOk result (λ all. Shows is_item_of asked.now t.items all.items) }
+    ensures exact { HasCleanDisk (state S.Store tx.new.conn.now)
+        → (state S.Store tx.old.conn.now).now.schema ≡ register_schema
+        → IfOk result (λ all. AskedAreShown item_row items_place is_item_row asked.now all.items
+        (state S.Store tx.old.conn.now).now.trees) }
     ensures frame { Reads (state S.Store tx.old.conn.now) (state S.Store tx.new.conn.now) result }
 {
     match asked {
@@ -141,6 +168,10 @@ pub fn asked_appointments<S: Alter>(
 ) -> Result<Vec<Appointment>, Refusal>
     ensures same_reference { tx.new.conn.ghost_name ≡ tx.old.conn.ghost_name }
     ensures rows { HasCleanDisk (state S.Store tx.new.conn.now) → (t : Tables) → Holds (state S.Store tx.old.conn.now).now t → IfOk result (λ all. all.items ≡ asked_of is_appointment_of asked.now t.appointments) }
+    ensures exact { HasCleanDisk (state S.Store tx.new.conn.now)
+        → (state S.Store tx.old.conn.now).now.schema ≡ register_schema
+        → IfOk result (λ all. AskedAreShown appointment_row appointments_place is_appointment_row asked.now all.items
+        (state S.Store tx.old.conn.now).now.trees) }
     ensures frame { Reads (state S.Store tx.old.conn.now) (state S.Store tx.new.conn.now) result }
 {
     match asked {

@@ -20,6 +20,7 @@ ghost use Rattle.kcr_tables.specs.Schema.{register_schema};
 ghost use Rattle.kcr_tables.specs.Held.{Tables, Kept, Holds};
 ghost use Rattle.kcr_tables.specs.Frame.{Writes, Reads};
 ghost use Rattle.kcr_tables.specs.Asked.{asked_of, asked_all};
+ghost use Rattle.kcr_tables.specs.Exact.{rows_at, AskedAreShown, WholeIsShown};
 ghost use Rattle.kcr_tables.specs.Joint.{HoldsTables, Stands};
 ghost use Rattle.kcr_tables.specs.Statements.{ShowsRows, PutsRow};
 
@@ -182,6 +183,9 @@ pub fn all_rows<S: Alter, T: Listed>(
     ensures tables { HasCleanDisk (state S.Store tx.new.conn.now) → (m : machine.Tables) → HoldsTables m (state S.Store tx.old.conn.now).now → OnOk result (HoldsTables m (state S.Store tx.new.conn.now).now) }
     ensures exact { HasCleanDisk (state S.Store tx.new.conn.now) → (state S.Store tx.old.conn.now).now.schema ≡ register_schema
         → IfOk result (λ all. IsPermutation (map (cells 1 T.place.width) ((state S.Store tx.old.conn.now).now.trees T.place.tree)) (map T.row_of all.items)) }
+    ensures same { HasCleanDisk (state S.Store tx.new.conn.now)
+        → (state S.Store tx.old.conn.now).now.schema ≡ register_schema
+        → OnOk result ((state S.Store tx.new.conn.now).now ≡ (state S.Store tx.old.conn.now).now) }
     ensures holds { HasCleanDisk (state S.Store tx.new.conn.now) → (t : Tables) → Holds (state S.Store tx.old.conn.now).now t → OnOk result (Holds (state S.Store tx.new.conn.now).now t) }
     ensures opened { HasCleanDisk (state S.Store tx.new.conn.now) → OnOk result (IsTrue (state S.Store tx.old.conn.now).is_open) }
     ensures inside { HasCleanDisk (state S.Store tx.new.conn.now) → IsTrue (state S.Store tx.old.conn.now).in_transaction → OnOk result (IsTrue (state S.Store tx.new.conn.now).in_transaction) }
@@ -193,7 +197,7 @@ pub fn all_rows<S: Alter, T: Listed>(
 }
 
 /// The rows with this value, in the order of their keys. Nothing is changed. The error is `Memory` for want of memory,
-/// and else `Disk`: the device failed, or a row is one that no register stores.
+/// and else `Disk`: the device failed, or a row with this value is one that no register stores.
 pub fn rows_under<S: Alter, K: AsCell, T: Finds<K>>(
     alloc: Global,
     tx: &mut Transaction<'_, S>,
@@ -201,6 +205,15 @@ pub fn rows_under<S: Alter, K: AsCell, T: Finds<K>>(
 ) -> Result<Vec<T>, Refusal>
     ensures same_reference { tx.new.conn.ghost_name ≡ tx.old.conn.ghost_name }
     ensures rows { HasCleanDisk (state S.Store tx.new.conn.now) → (t : Tables) → Holds (state S.Store tx.old.conn.now).now t → IfOk result (λ all. all.items ≡ filter (T.is_under key.now) (T.rows_in t)) }
+    ensures exact { HasCleanDisk (state S.Store tx.new.conn.now)
+        → (state S.Store tx.old.conn.now).now.schema ≡ register_schema
+        → IfOk result (λ all. IsPermutation
+        (filter (has_value T.column (K.value_of key.now))
+        (rows_at T.place (state S.Store tx.old.conn.now).now.trees))
+        (map T.row_of all.items)) }
+    ensures same { HasCleanDisk (state S.Store tx.new.conn.now)
+        → (state S.Store tx.old.conn.now).now.schema ≡ register_schema
+        → OnOk result ((state S.Store tx.new.conn.now).now ≡ (state S.Store tx.old.conn.now).now) }
     ensures holds { HasCleanDisk (state S.Store tx.new.conn.now) → (t : Tables) → Holds (state S.Store tx.old.conn.now).now t → OnOk result (Holds (state S.Store tx.new.conn.now).now t) }
     ensures opened { HasCleanDisk (state S.Store tx.new.conn.now) → OnOk result (IsTrue (state S.Store tx.old.conn.now).is_open) }
     ensures inside { HasCleanDisk (state S.Store tx.new.conn.now) → IsTrue (state S.Store tx.old.conn.now).in_transaction → OnOk result (IsTrue (state S.Store tx.new.conn.now).in_transaction) }
@@ -211,7 +224,8 @@ pub fn rows_under<S: Alter, K: AsCell, T: Finds<K>>(
     rows_of(alloc, tx, T::find_text(), &[key.cell()])
 }
 
-/// The rows that are asked for. Nothing is changed; the errors are those of a reading.
+/// The rows that are asked for. Nothing is changed; the errors are those of a reading, so `Disk` also where a row that
+/// is asked for is one that no register stores.
 pub fn asked_rows<S: Alter, K: AsCell, T: Finds<K>>(
     alloc: Global,
     tx: &mut Transaction<'_, S>,
@@ -219,6 +233,10 @@ pub fn asked_rows<S: Alter, K: AsCell, T: Finds<K>>(
 ) -> Result<Vec<T>, Refusal>
     ensures same_reference { tx.new.conn.ghost_name ≡ tx.old.conn.ghost_name }
     ensures rows { HasCleanDisk (state S.Store tx.new.conn.now) → (t : Tables) → Holds (state S.Store tx.old.conn.now).now t → IfOk result (λ all. all.items ≡ asked_of T.is_under asked.now (T.rows_in t)) }
+    ensures exact { HasCleanDisk (state S.Store tx.new.conn.now)
+        → (state S.Store tx.old.conn.now).now.schema ≡ register_schema
+        → IfOk result (λ all. AskedAreShown T.row_of T.place (λ key. has_value T.column (K.value_of key)) asked.now
+        all.items (state S.Store tx.old.conn.now).now.trees) }
     ensures frame { Reads (state S.Store tx.old.conn.now) (state S.Store tx.new.conn.now) result }
 {
     match asked {
@@ -236,6 +254,10 @@ pub fn asked_whole<S: Alter, T: Listed>(
 ) -> Result<Vec<T>, Refusal>
     ensures same_reference { tx.new.conn.ghost_name ≡ tx.old.conn.ghost_name }
     ensures rows { HasCleanDisk (state S.Store tx.new.conn.now) → (t : Tables) → Holds (state S.Store tx.old.conn.now).now t → IfOk result (λ all. all.items ≡ asked_all asked (T.rows_in t)) }
+    ensures exact { HasCleanDisk (state S.Store tx.new.conn.now)
+        → (state S.Store tx.old.conn.now).now.schema ≡ register_schema
+        → IfOk result (λ all. WholeIsShown T.row_of T.place asked all.items
+        (state S.Store tx.old.conn.now).now.trees) }
     ensures frame { Reads (state S.Store tx.old.conn.now) (state S.Store tx.new.conn.now) result }
 {
     if asked {

@@ -9,9 +9,11 @@ ghost use Rattle.kcr_history.specs.declared.rows.KeyRow.{KeyRow};
 ghost use Rattle.kcr_rows.specs.Refusals.{IsFault};
 ghost use Rattle.kcr_rows.specs.Greatest.{IsGreatest};
 ghost use Rattle.kcr_tables.specs.Asked.{asked_of, asked_all};
+ghost use Rattle.kcr_tables.specs.Exact.{KeyIsShown, StaffIsShown, CustodyIsShown, CeremoniesAreShown, NoneIsStrange};
 ghost use Rattle.kcr_tables.specs.Frame.{Reads};
 ghost use Rattle.kcr_tables.specs.Held.{Tables, Holds};
 ghost use Rattle.kcr_tables.specs.Joint.{HoldsTables};
+ghost use Rattle.kcr_tables.specs.Schema.{register_schema};
 
 use crate::last::last_key_row;
 use crate::rooms::asked_stays;
@@ -61,6 +63,9 @@ fn asked_keys<S: Alter>(
 ) -> Result<Vec<KeyRow>, Refusal>
     ensures same_reference { tx.new.conn.ghost_name ≡ tx.old.conn.ghost_name }
     ensures rows { HasCleanDisk (state S.Store tx.new.conn.now) → (t : Tables) → Holds (state S.Store tx.old.conn.now).now t → IfOk result (λ all. (last : List KeyRow) × IsGreatest (λ x. x.accepted) t.keys last × (all.items ≡ filter (is_of_key key.now) t.keys ++ last)) }
+    ensures exact { HasCleanDisk (state S.Store tx.new.conn.now)
+        → (state S.Store tx.old.conn.now).now.schema ≡ register_schema
+        → IfOk result (λ all. KeyIsShown key.now all.items (state S.Store tx.old.conn.now).now.trees) }
     ensures opened { HasCleanDisk (state S.Store tx.new.conn.now) → OnOk result (IsTrue (state S.Store tx.old.conn.now).is_open) }
     ensures frame { Reads (state S.Store tx.old.conn.now) (state S.Store tx.new.conn.now) result }
 {
@@ -81,6 +86,10 @@ fn staff_rows<S: Alter>(
     ensures trainings { HasCleanDisk (state S.Store tx.new.conn.now) → (t : Tables) → Holds (state S.Store tx.old.conn.now).now t → IfOk result (λ rows. rows.trainings.items ≡ asked_of is_training_of asks.now.trainings t.trainings) }
     ensures withdrawals { HasCleanDisk (state S.Store tx.new.conn.now) → (t : Tables) → Holds (state S.Store tx.old.conn.now).now t → IfOk result (λ rows. rows.withdrawals.items ≡ asked_of is_withdrawal_of asks.now.withdrawals t.withdrawals) }
     ensures appointments { HasCleanDisk (state S.Store tx.new.conn.now) → (t : Tables) → Holds (state S.Store tx.old.conn.now).now t → IfOk result (λ rows. rows.appointments.items ≡ asked_of is_appointment_of asks.now.appointments t.appointments) }
+    ensures exact { HasCleanDisk (state S.Store tx.new.conn.now)
+        → (state S.Store tx.old.conn.now).now.schema ≡ register_schema
+        → IfOk result (λ rows. StaffIsShown asks.now rows.people.items rows.trainings.items rows.withdrawals.items
+        rows.appointments.items (state S.Store tx.old.conn.now).now.trees) }
     ensures frame { Reads (state S.Store tx.old.conn.now) (state S.Store tx.new.conn.now) result }
 {
     let people = asked_people(alloc, tx, &asks.people)?;
@@ -106,6 +115,10 @@ fn custody_rows<S: Alter>(
     ensures safes { HasCleanDisk (state S.Store tx.new.conn.now) → (t : Tables) → Holds (state S.Store tx.old.conn.now).now t → IfOk result (λ rows. rows.safes.items ≡ asked_all asks.now.safes t.safes) }
     ensures bags { HasCleanDisk (state S.Store tx.new.conn.now) → (t : Tables) → Holds (state S.Store tx.old.conn.now).now t → IfOk result (λ rows. rows.bags.items ≡ asked_of is_of_serial asks.now.bags t.bags) }
     ensures items { HasCleanDisk (state S.Store tx.new.conn.now) → (t : Tables) → Holds (state S.Store tx.old.conn.now).now t → IfOk result (λ rows. Shows is_item_of asks.now.items t.items rows.items.items) }
+    ensures exact { HasCleanDisk (state S.Store tx.new.conn.now)
+        → (state S.Store tx.old.conn.now).now.schema ≡ register_schema
+        → IfOk result (λ rows. CustodyIsShown asks.now rows.boxes.items rows.safes.items rows.bags.items
+        rows.items.items (state S.Store tx.old.conn.now).now.trees) }
     ensures frame { Reads (state S.Store tx.old.conn.now) (state S.Store tx.new.conn.now) result }
 {
     let boxes = asked_whole(alloc, tx, asks.boxes)?;
@@ -132,6 +145,10 @@ fn ceremony_rows<S: Alter>(
     ensures steps { HasCleanDisk (state S.Store tx.new.conn.now) → (t : Tables) → Holds (state S.Store tx.old.conn.now).now t → IfOk result (λ rows. rows.steps.items ≡ asked_of is_step_of asks.now.steps t.steps) }
     ensures exceptions { HasCleanDisk (state S.Store tx.new.conn.now) → (t : Tables) → Holds (state S.Store tx.old.conn.now).now t → IfOk result (λ rows. rows.exceptions.items ≡ asked_of is_exception_of asks.now.exceptions t.exceptions) }
     ensures stays { HasCleanDisk (state S.Store tx.new.conn.now) → (t : Tables) → Holds (state S.Store tx.old.conn.now).now t → IfOk result (λ rows. ShowsStays asks.now.stays t.stays rows.stays.items) }
+    ensures exact { HasCleanDisk (state S.Store tx.new.conn.now)
+        → (state S.Store tx.old.conn.now).now.schema ≡ register_schema
+        → IfOk result (λ rows. CeremoniesAreShown asks.now rows.ceremonies.items rows.marks.items rows.steps.items
+        rows.exceptions.items rows.stays.items (state S.Store tx.old.conn.now).now.trees) }
     ensures frame { Reads (state S.Store tx.old.conn.now) (state S.Store tx.new.conn.now) result }
 {
     let ceremonies = asked_rows(alloc, tx, &asks.ceremonies)?;
@@ -156,6 +173,9 @@ fn rows_asked<S: Alter>(
 ) -> Result<View, Refusal>
     ensures same_reference { tx.new.conn.ghost_name ≡ tx.old.conn.ghost_name }
     ensures view { HasCleanDisk (state S.Store tx.new.conn.now) → (m : machine.Tables) → HoldsTables m (state S.Store tx.old.conn.now).now → IfOk result (IsViewOf asks.now m) }
+    ensures exact { HasCleanDisk (state S.Store tx.new.conn.now)
+        → (state S.Store tx.old.conn.now).now.schema ≡ register_schema
+        → IfOk result (λ view. NoneIsStrange asks.now view (state S.Store tx.old.conn.now).now.trees) }
     ensures opened { HasCleanDisk (state S.Store tx.new.conn.now) → OnOk result (IsTrue (state S.Store tx.old.conn.now).is_open) }
     ensures frame { Reads (state S.Store tx.old.conn.now) (state S.Store tx.new.conn.now) result }
 {
@@ -185,7 +205,7 @@ fn rows_asked<S: Alter>(
 
 /// The rows asked for, of each table: of the accepted commands always the row of the key, if there is one, and the row
 /// with the greatest number. Of a table that is not asked for nothing is read. Nothing is changed. The error is `Memory`
-/// for want of memory, and else `Disk`: the device failed, or a row is one that no register stores.
+/// for want of memory, and else `Disk`: the device failed, or a row asked for is one that no register stores.
 pub fn view_of<S: Alter>(
     alloc: Global,
     tx: &mut Transaction<'_, S>,
@@ -193,6 +213,9 @@ pub fn view_of<S: Alter>(
 ) -> Result<View, Refusal>
     ensures same_reference { tx.new.conn.ghost_name ≡ tx.old.conn.ghost_name }
     ensures view { HasCleanDisk (state S.Store tx.new.conn.now) → (m : machine.Tables) → HoldsTables m (state S.Store tx.old.conn.now).now → IfOk result (IsViewOf asks.now m) }
+    ensures exact { HasCleanDisk (state S.Store tx.new.conn.now)
+        → (state S.Store tx.old.conn.now).now.schema ≡ register_schema
+        → IfOk result (λ view. NoneIsStrange asks.now view (state S.Store tx.old.conn.now).now.trees) }
     ensures stays { HasCleanDisk (state S.Store tx.new.conn.now) → (m : machine.Tables) → HoldsTables m (state S.Store tx.old.conn.now).now → OnOk result (HoldsTables m (state S.Store tx.new.conn.now).now) }
     ensures holds { HasCleanDisk (state S.Store tx.new.conn.now) → (t : Tables) → Holds (state S.Store tx.old.conn.now).now t → OnOk result (Holds (state S.Store tx.new.conn.now).now t) }
     ensures opened { HasCleanDisk (state S.Store tx.new.conn.now) → OnOk result (IsTrue (state S.Store tx.old.conn.now).is_open) }

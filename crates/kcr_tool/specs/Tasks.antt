@@ -5,6 +5,8 @@ use Rattle.std.specs.Str.Parse.{digits_value, without_leading_plus}
 use Rattle.clap.specs.ValueTests.{is_unsigned_in}
 use Rattle.clap.specs.Words.{Kinds, Row, Text, fault_of, first_of, one_of, subcommand_of}
 use Rattle.kcr_tool.specs.Commands.{tool_app}
+use Rattle.kcr_tool.specs.declared.words.WordsFault.{WordsFault}
+use Rattle.kcr_tool.specs.declared.words.WordsFault.TheVariants as WordsFaults
 use Rattle.kcr_tool.specs.declared.words.Task.{Task}
 use Rattle.kcr_tool.specs.declared.words.Task.TheVariants.{Run, Serve, Print, Attendance, Custody, Audit}
 
@@ -55,3 +57,8 @@ task_of words = option_and_then task_at (met_in words)
 -- the file that the words name, if they name one
 unfoldable pub file_of : List Text → Option Text
 file_of words = option_and_then (λ p. file_at p.1) (met_in words)
+
+-- the fault says that the words are refused, or ask for help or the version
+abbrev pub IsLine : WordsFault → Type 0
+IsLine (WordsFaults.Line text) = Unit {0}
+IsLine WordsFaults.Memory = ⊥

@@ -13,7 +13,7 @@ use crate::audit::audit;
 use crate::fault::{Fault, tell, tell_fault};
 use crate::listen::listen;
 use crate::tasks::{attendance, print, run, whereabouts};
-use crate::words::{Order, Task, WordsFault, read_words, usage};
+use crate::words::{Order, Task, WordsFault, read_words};
 use kcr_base::Counted;
 use kcr_store::Register;
 use sqlite::Alter;
@@ -150,10 +150,8 @@ pub fn act<R: Read, W: Write, F: Write>(
                 1
             }
         },
-        Err(WordsFault::Line) => {
-            if let Ok(text) = usage(rt.alloc(), words) {
-                tell(faults, text.as_str());
-            }
+        Err(WordsFault::Line(text)) => {
+            tell(faults, text.as_str());
             2
         }
         Err(WordsFault::Memory) => {

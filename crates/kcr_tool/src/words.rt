@@ -1,13 +1,13 @@
 //! The words of the command line, and the task that they hold.
 ghost use Rattle.std.specs.Prelude.{◌≡◌, ◌≢◌, ◌≤◌, [], codes, Some, IfOk, IfErr, IfSome, map, option_map, string_bytes};
 ghost use Rattle.clap.specs.Words.{rows_of, found_of, subcommand_rows_of};
-ghost use Rattle.kcr_tool.specs.Tasks.{task_of, task_at, file_of, file_at, number_at, ceremony_at, serve_at, met_in, faults_of};
+ghost use Rattle.kcr_tool.specs.Tasks.{IsLine, task_of, task_at, file_of, file_at, number_at, ceremony_at, serve_at, met_in, faults_of};
 
 use crate::commands::tool;
 use clap::ArgMatches;
 use clap::error::ErrorKind;
 use kcr_base::CeremonyNumber;
-use std::alloc::{AllocError, Global};
+use std::alloc::Global;
 
 /// What the program is to do.
 #[derive(Clone, Copy, PartialEq, Eq)]
@@ -34,10 +34,10 @@ pub struct Order<'a> {
 }
 
 /// Why the words are no task.
-#[derive(Clone, Copy, PartialEq, Eq)]
+#[derive(Drop)]
 pub enum WordsFault {
-    /// `clap` refuses the words, or they ask for help or the version.
-    Line,
+    /// `clap` refuses the words, or they ask for help or the version: the lines that it says.
+    Line(String),
     /// Memory ran out.
     Memory,
 }
@@ -46,7 +46,7 @@ pub enum WordsFault {
 fn parse<'a>(alloc: Global, words: &'a [String]) -> Result<ArgMatches<'a>, WordsFault>
     ensures found { IfOk result (λ m. subcommand_rows_of m ≡ met_in (map string_bytes words.entry.now)) }
     ensures taken { IfOk result (λ _. faults_of (map string_bytes words.entry.now) ≡ []) }
-    ensures line { IfErr result (λ e. e ≡ WordsFault.Line → faults_of (map string_bytes words.entry.now) ≢ []) }
+    ensures line { IfErr result (λ e. IsLine e → faults_of (map string_bytes words.entry.now) ≢ []) }
 {
     let Ok(command) = tool(alloc) else {
         return Err(WordsFault::Memory);
@@ -55,7 +55,10 @@ fn parse<'a>(alloc: Global, words: &'a [String]) -> Result<ArgMatches<'a>, Words
         Ok(matches) => Ok(matches),
         Err(error) => match error.kind() {
             ErrorKind::OutOfMemory => Err(WordsFault::Memory),
-            _ => Err(WordsFault::Line),
+            _ => match error.to_string(alloc) {
+                Ok(text) => Err(WordsFault::Line(text)),
+                Err(_) => Err(WordsFault::Memory),
+            },
         },
     }
 }
@@ -117,7 +120,7 @@ pub fn read_words<'a>(alloc: Global, words: &'a [String]) -> Result<Order<'a>, W
     ensures task { IfOk result (λ order. task_of (map string_bytes words.entry.now) ≡ Some order.task) }
     ensures file { IfOk result (λ order. file_of (map string_bytes words.entry.now) ≡ option_map (λ file. file.now) order.file) }
     ensures taken { IfOk result (λ _. faults_of (map string_bytes words.entry.now) ≡ []) }
-    ensures line { IfErr result (λ e. e ≡ WordsFault.Line → faults_of (map string_bytes words.entry.now) ≢ []) }
+    ensures line { IfErr result (λ e. IsLine e → faults_of (map string_bytes words.entry.now) ≢ []) }
 {
     let matches = parse(alloc, words)?;
     let Some((name, inner)) = matches.subcommand() else {
@@ -129,14 +132,5 @@ pub fn read_words<'a>(alloc: Global, words: &'a [String]) -> Result<Order<'a>, W
             file: read_file(inner),
         }),
         None => unreachable!(),
-    }
-}
-
-/// What `clap` says of words that it refuses, or the help or version that they ask for: lines of text. It is empty
-/// where the words are taken. The error is want of memory.
-pub fn usage(alloc: Global, words: &[String]) -> Result<String, AllocError> {
-    match tool(alloc)?.try_get_matches_from(words) {
-        Ok(_) => Ok(String::new(alloc)),
-        Err(error) => error.to_string(alloc),
     }
 }

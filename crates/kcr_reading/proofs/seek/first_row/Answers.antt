@@ -1,8 +1,8 @@
 use Rattle.std.proofs.Common.{◌≡◌, take, sym, subst, rules, IsSome, true≢false}
 use Rattle.sqlite.specs.Held.{state}
 use Rattle.sqlite.specs.Values.{bound}
-use Rattle.kcr_tables.proofs.FrameLemmas.{reads_to}
-use Rattle.kcr_reading.proofs.FirstLemmas.{shown_first, popped, no_rows, reads_by}
+use Rattle.kcr_tables.proofs.FrameLemmas.{reads_by, reads_to}
+use Rattle.kcr_reading.proofs.FirstLemmas.{shown_first, popped, no_rows}
 use Rattle.kcr_reading.proofs.seek.first_row.Goals as goal
 
 pub returns-clause-row : goal.returns-clause-row

@@ -5,7 +5,7 @@ use Rattle.sqlite.specs.State.{Shown}
 use Rattle.kcr_rows.proofs.FailLemmas.{if_ok}
 use Rattle.kcr_cells.specs.Rows.{seating_row}
 use Rattle.kcr_tables.proofs.HoldLemmas.{held_of}
-use Rattle.kcr_reading.proofs.FirstLemmas.{reads_by}
+use Rattle.kcr_tables.proofs.FrameLemmas.{reads_by}
 use Rattle.kcr_reading.proofs.StepLemmas.{seating_text, seating_shows, seated}
 use Rattle.kcr_reading.proofs.steps.seatings_at.Goals as goal
 

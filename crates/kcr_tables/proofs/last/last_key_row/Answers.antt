@@ -1,8 +1,9 @@
+use Rattle.std.proofs.Common.{map}
 use Rattle.sqlite.specs.Held.{state}
-use Rattle.kcr_rows.proofs.FailLemmas.{if_ok, on_ok_then, plain_in}
-use Rattle.kcr_tables.specs.Schema.{register_schema}
-use Rattle.kcr_tables.proofs.HoldLemmas.{still_holds}
-use Rattle.kcr_tables.proofs.LastLemmas.{key_sql, key_plain, last_key}
+use Rattle.kcr_rows.proofs.FailLemmas.{if_ok}
+use Rattle.kcr_cells.specs.Rows.{key_row}
+use Rattle.kcr_tables.proofs.FrameLemmas.{reads_by}
+use Rattle.kcr_tables.proofs.LastLemmas.{key_sql, key_plain, last_key, key_exact}
 use Rattle.kcr_tables.proofs.last.last_key_row.Goals as goal
 
 pub returns-clause-rows : goal.returns-clause-rows
@@ -12,13 +13,13 @@ returns-clause-rows g c clean t held =
     let shown = c.rows_of.ensures.shown clean in
     if_ok _ _ (λ all h. last_key old new all.items t held h) c.rows_of.result shown
 
+pub returns-clause-exact : goal.returns-clause-exact
+returns-clause-exact g c clean has =
+    let old = state g.S.Store c.args.tx.now.conn.now in
+    let new = state g.S.Store c.rows_of.new.tx.conn.now in
+    if_ok _ _ (λ all h. key_exact old new (map key_row all.items) has h) c.rows_of.result (c.rows_of.ensures.shown clean)
+
 pub returns-clause-frame : goal.returns-clause-frame
 returns-clause-frame g c =
-    let old = state g.S.Store c.args.tx.now.conn.now in
-    let did = c.rows_of.ensures in record {
-      holds = λ clean t held. on_ok_then _ _ (still_holds _ (state g.S.Store c.rows_of.new.tx.conn.now) t held) c.rows_of.result (did.same clean (plain_in register_schema key_sql key_plain old held.schema));
-      inside = did.inside;
-      kept = did.kept;
-      survives = did.survives;
-      cause = did.cause;
-    }
+    let did = c.rows_of.ensures in
+    reads_by key_sql (state g.S.Store c.args.tx.now.conn.now) (state g.S.Store c.rows_of.new.tx.conn.now) c.rows_of.result key_plain did.same did.inside did.kept did.survives did.cause

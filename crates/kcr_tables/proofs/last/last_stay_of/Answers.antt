@@ -2,11 +2,10 @@ use Rattle.std.proofs.Common.{[], ◌∷◌, map, IfOk, subst}
 use Rattle.sqlite.specs.Order.{Row}
 use Rattle.sqlite.specs.Held.{state}
 use Rattle.sqlite.specs.State.{Shown}
-use Rattle.kcr_rows.proofs.FailLemmas.{if_ok, on_ok_then, plain_in}
-use Rattle.kcr_tables.specs.Schema.{register_schema}
+use Rattle.kcr_rows.proofs.FailLemmas.{if_ok}
 use Rattle.kcr_cells.specs.Rows.{stay_row}
-use Rattle.kcr_tables.proofs.HoldLemmas.{still_holds}
-use Rattle.kcr_tables.proofs.LastLemmas.{stay_sql, stay_plain, last_stay}
+use Rattle.kcr_tables.proofs.FrameLemmas.{reads_by}
+use Rattle.kcr_tables.proofs.LastLemmas.{stay_sql, stay_plain, last_stay, stay_exact}
 use Rattle.kcr_tables.proofs.last.last_stay_of.Goals as goal
 
 pub returns-clause-rows : goal.returns-clause-rows
@@ -16,13 +15,14 @@ returns-clause-rows g c clean t held =
     let shown = subst (λ (v : Row). IfOk c.rows_of.result (λ all. Shown stay_sql v old new (map stay_row all.items))) (λ i. c.initials_cell-c0.ensures i ∷ []) (c.rows_of.ensures.shown clean) in
     if_ok _ _ (λ all h. last_stay c.args.who.now old new all.items t held h) c.rows_of.result shown
 
+pub returns-clause-exact : goal.returns-clause-exact
+returns-clause-exact g c clean has =
+    let old = state g.S.Store c.args.tx.now.conn.now in
+    let new = state g.S.Store c.rows_of.new.tx.conn.now in
+    let shown = subst (λ (v : Row). IfOk c.rows_of.result (λ all. Shown stay_sql v old new (map stay_row all.items))) (λ i. c.initials_cell-c0.ensures i ∷ []) (c.rows_of.ensures.shown clean) in
+    if_ok _ _ (λ all h. stay_exact c.args.who.now old new (map stay_row all.items) has h) c.rows_of.result shown
+
 pub returns-clause-frame : goal.returns-clause-frame
 returns-clause-frame g c =
-    let old = state g.S.Store c.args.tx.now.conn.now in
-    let did = c.rows_of.ensures in record {
-      holds = λ clean t held. on_ok_then _ _ (still_holds _ (state g.S.Store c.rows_of.new.tx.conn.now) t held) c.rows_of.result (did.same clean (plain_in register_schema stay_sql stay_plain old held.schema));
-      inside = did.inside;
-      kept = did.kept;
-      survives = did.survives;
-      cause = did.cause;
-    }
+    let did = c.rows_of.ensures in
+    reads_by stay_sql (state g.S.Store c.args.tx.now.conn.now) (state g.S.Store c.rows_of.new.tx.conn.now) c.rows_of.result stay_plain did.same did.inside did.kept did.survives did.cause

@@ -1,11 +1,24 @@
-use Rattle.std.proofs.Common.{rules, arith, ◌≡◌, ◌+◌, ◌<◌, ◌++◌, ◌∷◌, [], ◌∙◌, List, ℕ, length, take, get_or, sym, ap, subst, subst₂}
+use Rattle.std.proofs.Common.{rules, arith, ◌≡◌, ◌+◌, ◌<◌, ◌++◌, ◌∷◌, [], ◌∙◌, List, ℕ, length, take, get_or, filter, sym, ap, subst, subst₂}
 use Rattle.std.proofs.lemmas.List.{take_all, take_more}
 use Rattle.sqlite.specs.Held.{state}
 use Rattle.kcr_room.specs.declared.Stay.{Stay}
 use Rattle.kcr_rows.proofs.InsideLemmas.{was_clean}
+use Rattle.kcr_cells.specs.Rows.{stay_row}
+use Rattle.kcr_tables.specs.Exact.{rows_at, is_stay_row, AreShown}
+use Rattle.kcr_tables.specs.Held.{stays_place}
+use Rattle.kcr_tables.proofs.ExactLemmas.{are_shown, shown_left}
 use Rattle.kcr_tables.proofs.FrameLemmas.{reads_then, reads_to, reads_fails}
 use Rattle.kcr_tables.proofs.StayLemmas.{Gathered, more_gathered, gathered_shows, apart_of}
 use Rattle.kcr_tables.proofs.rooms.stays_and_last.Goals as goal
+
+pub loop-who-init : goal.loop-who-init
+loop-who-init g c =
+    let e = c.in_ok-rows.ensures in record {
+      same_reference = e.same_reference;
+      frame = record { same = e.same; holds = e.holds; inside = e.inside; kept = e.kept; survives = e.survives; cause = tt };
+      rows = search rules;
+      exact = λ clean has. are_shown stay_row _ c.in_ok-rows.rows.items (e.exact clean has);
+    }
 
 pub loop-who-preserved : goal.loop-who-preserved
 loop-who-preserved g c =
@@ -27,6 +40,9 @@ loop-who-preserved g c =
           let more : take (i + 1) people ≡ take i people ++ who ∷ [] = take_more people i who low ∙ ap (λ k. take i people ++ k ∷ []) at in
           subst₂ (λ (ks : List (List ℕ)) (l : List Stay). Gathered c.args.asked.now.ceremony ks t.stays l) (sym more) (sym c.in_ok-append.ensures.items)
           (more_gathered c.args.asked.now.ceremony (take i people) t.stays c.loop-who.rows.items last.0 c.in_ok-last.last.items who (had.rows before t held) last.1 last.2);
+      exact = λ clean has.
+          let was = had.exact (was_clean mid new _ step.frame.survives clean) has in
+          subst (λ (l : List Stay). AreShown stay_row l (filter (is_stay_row c.args.asked.now) (rows_at stays_place old.now.trees))) (sym c.in_ok-append.ensures.items) (shown_left stay_row c.loop-who.rows.items c.in_ok-last.last.items _ was);
     }
 
 pub returns-clause-rows : goal.returns-clause-rows

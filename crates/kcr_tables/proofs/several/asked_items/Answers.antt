@@ -6,6 +6,11 @@ use Rattle.kcr_history.specs.declared.views.Rows.TheVariants.{Under}
 use Rattle.kcr_history.specs.declared.views.ItemsOf.{ItemsOf}
 use Rattle.kcr_history.specs.declared.views.ItemsOf.TheVariants.{Codes, Bag}
 use Rattle.kcr_custody.specs.declared.Item.{Item}
+use Rattle.sqlite.specs.Held.{state}
+use Rattle.kcr_cells.specs.Rows.{item_row}
+use Rattle.kcr_tables.specs.Exact.{is_item_row, AskedAreShown}
+use Rattle.kcr_tables.specs.Held.{items_place}
+use Rattle.kcr_tables.proofs.ExactLemmas.{under_asked, all_asked}
 use Rattle.kcr_rows.proofs.FailLemmas.{if_ok}
 use Rattle.kcr_tables.proofs.NamedLemmas.{passing}
 use Rattle.kcr_tables.proofs.several.asked_items.Goals as goal
@@ -22,3 +27,17 @@ returns-in-Under-Bag-clause-rows g c clean t held =
     let inner : c.in-Under-Bag.field-0 ≡ Bag c.in-Under-Bag.serial = search rules in
     subst (λ (q : Rows ItemsOf). IfOk c.rows_under.result (λ all. Shows is_item_of q t.items all.items)) (ap Under (sym inner) ∙ sym c.in-Under-Bag.is)
     (if_ok _ _ (λ all is. passing wanted t.items all.items (subst (λ (l : List Item). IsPermutation (filter wanted t.items) l) (sym is) (IsPermutation-refl (filter wanted t.items)))) c.rows_under.result (c.rows_under.ensures.rows clean t held))
+
+pub returns-in-Under-Codes-clause-exact : goal.returns-in-Under-Codes-clause-exact
+returns-in-Under-Codes-clause-exact g c clean has =
+    let inner : c.in-Under-Codes.field-0 ≡ Codes c.in-Under-Codes.codes = search rules in
+    subst (λ (q : Rows ItemsOf). IfOk c.items_named.result (λ all. AskedAreShown item_row items_place is_item_row q all.items (state g.S.Store c.args.tx.now.conn.now).now.trees)) (ap Under (sym inner) ∙ sym c.in-Under-Codes.is) (c.items_named.ensures.exact clean has)
+
+pub returns-in-Under-Bag-clause-exact : goal.returns-in-Under-Bag-clause-exact
+returns-in-Under-Bag-clause-exact g c clean has =
+    let inner : c.in-Under-Bag.field-0 ≡ Bag c.in-Under-Bag.serial = search rules in
+    under_asked item_row items_place is_item_row c.args.asked.now (state g.S.Store c.args.tx.now.conn.now).now.trees (Bag c.in-Under-Bag.serial) (c.in-Under-Bag.is ∙ ap Under inner) c.rows_under.result (c.rows_under.ensures.exact clean has)
+
+pub returns-in-All-clause-exact : goal.returns-in-All-clause-exact
+returns-in-All-clause-exact g c clean has =
+    all_asked item_row items_place is_item_row c.args.asked.now (state g.S.Store c.args.tx.now.conn.now).now.trees c.in-All.is c.all_rows.result (c.all_rows.ensures.exact clean has)

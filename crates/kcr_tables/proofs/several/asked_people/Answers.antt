@@ -1,6 +1,11 @@
 use Rattle.std.proofs.Common.{List, ℕ, IfOk, sym, subst}
 use Rattle.kcr_history.specs.Views.{is_of_people, Shows}
 use Rattle.kcr_history.specs.declared.views.Rows.{Rows}
+use Rattle.sqlite.specs.Held.{state}
+use Rattle.kcr_cells.specs.Rows.{person_row}
+use Rattle.kcr_tables.specs.Exact.{has_any}
+use Rattle.kcr_tables.specs.Held.{people_place}
+use Rattle.kcr_tables.proofs.ExactLemmas.{all_asked}
 use Rattle.kcr_rows.proofs.FailLemmas.{if_ok}
 use Rattle.kcr_tables.proofs.NamedLemmas.{passing}
 use Rattle.kcr_tables.proofs.several.asked_people.Goals as goal
@@ -9,3 +14,7 @@ pub returns-in-Under-clause-rows : goal.returns-in-Under-clause-rows
 returns-in-Under-clause-rows g c clean t held =
     subst (λ (q : Rows (List (List ℕ))). IfOk c.people_named.result (λ all. Shows is_of_people q t.people all.items)) (sym c.in-Under.is)
     (if_ok _ _ (λ all so. passing (is_of_people (c.in-Under.people)) t.people all.items so) c.people_named.result (c.people_named.ensures.rows clean t held))
+
+pub returns-in-All-clause-exact : goal.returns-in-All-clause-exact
+returns-in-All-clause-exact g c clean has =
+    all_asked person_row people_place (has_any 0) c.args.asked.now (state g.S.Store c.args.tx.now.conn.now).now.trees c.in-All.is c.all_rows.result (c.all_rows.ensures.exact clean has)

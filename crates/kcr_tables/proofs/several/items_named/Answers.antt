@@ -1,4 +1,4 @@
-use Rattle.std.proofs.Common.{rules, arith, ◌≡◌, ◌<◌, ◌≤◌, [], ◌∙◌, List, ℕ, length, take, get_or, filter, refl, sym, ap, subst, subst₂, IsPermutation, if◌then◌else◌}
+use Rattle.std.proofs.Common.{rules, arith, ◌≡◌, ◌+◌, ◌<◌, ◌≤◌, [], ◌∙◌, List, ℕ, length, take, get_or, filter, refl, sym, ap, subst, subst₂, IsPermutation, if◌then◌else◌}
 use Rattle.std.specs.List.{list_any}
 use Rattle.std.proofs.lemmas.List.{take_all, take_more}
 use Rattle.kcr_base.specs.Same.{same_text}
@@ -7,7 +7,11 @@ use Rattle.kcr_history.specs.Views.{is_item_of}
 use Rattle.kcr_history.specs.declared.views.ItemsOf.TheVariants.{Codes}
 use Rattle.kcr_custody.specs.declared.Item.{Item}
 use Rattle.kcr_rows.proofs.InsideLemmas.{was_clean}
-use Rattle.kcr_tables.proofs.FrameLemmas.{reads_none, reads_then, reads_to, reads_fails}
+use Rattle.kcr_cells.specs.Rows.{item_row}
+use Rattle.kcr_tables.specs.Exact.{OnceAreShown}
+use Rattle.kcr_tables.specs.Held.{items_place}
+use Rattle.kcr_tables.proofs.ExactLemmas.{EachAreShown, each_next, each_any}
+use Rattle.kcr_tables.proofs.FrameLemmas.{reads_none, reads_then, reads_to, reads_fails, read_later}
 use Rattle.kcr_tables.proofs.NamedLemmas.{none_named, named_more}
 use Rattle.kcr_tables.proofs.several.items_named.Goals as goal
 
@@ -16,6 +20,7 @@ loop-at-init g c = record {
   same_reference = refl;
   frame = reads_none (state g.S.Store c.args.tx.now.conn.now) tt (search rules);
   rows = λ clean t held. subst (IsPermutation (filter (is_item_of (Codes ([]))) t.items)) (sym c.new-rows.ensures.items) (none_named (λ (x : Item). x.code) t.items);
+  exact = λ clean has. tt;
 }
 
 pub loop-at-preserved : goal.loop-at-preserved
@@ -38,6 +43,15 @@ loop-at-preserved g c =
           subst (λ (l : List (List ℕ)). c.in_ok-found.found.items ≡ (if list_any (same_text (get_or l i [])) (take i l) then [] else filter (λ (x : Item). same_text x.code (get_or l i [])) t.items)) c.as_slice-named.ensures (step.rows clean t now) in
           subst₂ (λ (ks : List (List ℕ)) (l : List Item). IsPermutation (filter (is_item_of (Codes (ks))) t.items) l) (sym (take_more keys i [] low)) (sym c.in_ok-append.ensures.items)
           (named_more (λ (x : Item). x.code) (take i keys) key t.items c.loop-at.rows.items c.in_ok-found.found.items (had.rows before t held) rows);
+      exact = λ clean has.
+          let before = was_clean mid new _ step.frame.survives clean in
+          let i = c.loop-at.at in
+          let keys = c.args.codes.now in
+          let low : i < length keys = search rules in
+          let found = c.in_ok-found.found.items in
+          subst (λ rows. EachAreShown item_row items_place old.now.trees rows (take (i + 1) keys)) (sym c.in_ok-append.ensures.items)
+          (each_next item_row items_place old.now.trees keys i low c.loop-at.rows.items found (had.exact before has)
+          (read_later (OnceAreShown item_row items_place keys i found) old mid tt had.frame before has (λ is. subst (λ (l : List (List ℕ)). OnceAreShown item_row items_place l i found mid.now.trees) c.as_slice-named.ensures (step.exact clean is))));
     }
 
 pub returns-in_err-found-clause-frame : goal.returns-in_err-found-clause-frame
@@ -55,6 +69,13 @@ returns-clause-rows g c clean t held =
     let keys = c.args.codes.now in
     let all : length keys ≤ c.loop-at.at = omega (arith, ap length c.as_slice-named.ensures) in
     subst (λ (ks : List (List ℕ)). IsPermutation (filter (is_item_of (Codes (ks))) t.items) c.loop-at.rows.items) (take_all c.loop-at.at keys all) (c.loop-at.invariant.rows clean t held)
+
+pub returns-clause-exact : goal.returns-clause-exact
+returns-clause-exact g c clean has =
+    let keys = c.args.codes.now in
+    let db = (state g.S.Store c.args.tx.now.conn.now).now.trees in
+    let all : length keys ≤ c.loop-at.at = omega (arith, ap length c.as_slice-named.ensures) in
+    each_any item_row items_place db c.loop-at.rows.items keys (subst (EachAreShown item_row items_place db c.loop-at.rows.items) (take_all c.loop-at.at keys all) (c.loop-at.invariant.exact clean has))
 
 pub returns-clause-frame : goal.returns-clause-frame
 returns-clause-frame g c = reads_to (state g.S.Store c.args.tx.now.conn.now) (state g.S.Store c.loop-at.tx.conn.now) tt _ tt c.loop-at.invariant.frame

@@ -3,7 +3,10 @@ use Rattle.sqlite.specs.Held.{state}
 use Rattle.sqlite.specs.State.{HasCleanDisk}
 use Rattle.kcr_history.specs.Views.{is_of_people}
 use Rattle.kcr_tables.specs.Frame.{Reads}
-use Rattle.kcr_tables.specs.Held.{Tables, Holds}
+use Rattle.kcr_cells.specs.Rows.{person_row}
+use Rattle.kcr_tables.specs.Schema.{register_schema}
+use Rattle.kcr_tables.specs.Held.{people_place, Tables, Holds}
+use Rattle.kcr_tables.proofs.ExactLemmas.{EachAreShown}
 use Rattle.kcr_tables.proofs.several.people_named.Given as goal
 
 abbrev pub invariant-loop-at : goal.invariant-loop-at
@@ -13,4 +16,5 @@ invariant-loop-at g l =
       same_reference : l.tx.conn.ghost_name ≡ l.fn.tx.conn.ghost_name;
       frame : Reads {A = Unit {0}} old now (Ok tt);
       rows : HasCleanDisk now → (t : Tables) → Holds old.now t → IsPermutation (filter (is_of_people (take l.at l.people)) t.people) l.rows.items;
+      exact : HasCleanDisk now → old.now.schema ≡ register_schema → EachAreShown person_row people_place old.now.trees l.rows.items (take l.at l.people);
     }

@@ -3,7 +3,11 @@ use Rattle.std.specs.List.{list_any}
 use Rattle.std.proofs.lemmas.List.{get_or_default}
 use Rattle.kcr_base.specs.Same.{same_text}
 use Rattle.kcr_people.specs.declared.Person.{Person}
+use Rattle.sqlite.specs.Held.{state}
 use Rattle.kcr_rows.proofs.FailLemmas.{if_ok}
+use Rattle.kcr_cells.specs.Rows.{person_row}
+use Rattle.kcr_tables.specs.Held.{people_place}
+use Rattle.kcr_tables.proofs.ExactLemmas.{once_read}
 use Rattle.kcr_tables.proofs.several.person_once.Goals as goal
 
 pub returns-else-is_person_named-clause-rows : goal.returns-else-is_person_named-clause-rows
@@ -16,3 +20,11 @@ returns-else-is_person_named-clause-rows g c clean t held =
     let none : list_any (same_text item) (take c.args.at keys) ≡ false = sym c.is_person_named.ensures ∙ c.if-is_person_named.false in
     if_ok _ _ (λ all is. subst (λ (k : List ℕ). all.items ≡ (if list_any (same_text k) (take c.args.at keys) then [] else filter (λ (x : Person). same_text x.who k) t.people)) (sym key_is)
     (subst (λ (b : Bool). all.items ≡ (if b then [] else filter (λ (x : Person). same_text x.who item) t.people)) (sym none) is)) c.rows_under.result (c.rows_under.ensures.rows clean t held)
+
+pub returns-else-is_person_named-clause-exact : goal.returns-else-is_person_named-clause-exact
+returns-else-is_person_named-clause-exact g c clean has =
+    let keys = c.args.named.now in
+    let item = c.index-named-at.result in
+    let own : get_or keys c.args.at item ≡ item = search rules in
+    once_read person_row people_place (state g.S.Store c.args.tx.now.conn.now).now.trees keys c.args.at item (get_or_default keys c.args.at [] item c.requires ∙ own) (sym c.is_person_named.ensures ∙ c.if-is_person_named.false)
+    c.rows_under.result (c.rows_under.ensures.exact clean has)

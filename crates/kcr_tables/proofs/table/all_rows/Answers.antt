@@ -1,12 +1,13 @@
-use Rattle.std.proofs.Common.{ℕ, List, [], true, map, refl, IfOk, IsPermutation, sym, subst, ◌∙◌}
+use Rattle.std.proofs.Common.{ℕ, List, [], true, map, refl, IfOk, OnOk, IsPermutation, sym, subst, ◌∙◌}
 use Rattle.sqlite.specs.Held.{state}
-use Rattle.sqlite.specs.State.{Shown}
+use Rattle.sqlite.specs.State.{HasCleanDisk, IsUnchanged, Shown}
 use Rattle.sqlite.specs.Given.{IsPlain}
 use Rattle.sqlite.specs.Listing.{understood}
-use Rattle.kcr_rows.proofs.FailLemmas.{if_both, if_ok, on_ok_then, plain_in}
+use Rattle.kcr_rows.proofs.FailLemmas.{if_both, if_ok, on_ok_then}
 use Rattle.kcr_rows.proofs.TableLemmas.{filter_every}
-use Rattle.kcr_tables.specs.Schema.{register_schema}
-use Rattle.kcr_tables.proofs.HoldLemmas.{still_holds, held_of, tables_of}
+use Rattle.kcr_tables.specs.Exact.{rows_at}
+use Rattle.kcr_tables.proofs.FrameLemmas.{same_by, same_holds}
+use Rattle.kcr_tables.proofs.HoldLemmas.{held_of, tables_of}
 use Rattle.kcr_tables.proofs.StatementLemmas.{rows_shown, every_row}
 use Rattle.kcr_tables.proofs.table.all_rows.Goals as goal
 
@@ -27,18 +28,23 @@ returns-clause-exact g c clean has =
     let old = state g.S.Store c.args.tx.now.conn.now in
     let new = state g.S.Store c.rows_of.new.tx.conn.now in
     let shown = subst (λ (sql : List ℕ). IfOk c.rows_of.result (λ all. Shown sql [] old new (map g.T.Stored.row_of all.items))) c.all_text.ensures (c.rows_of.ensures.shown clean) in
-    if_ok _ _ (λ all h. every_row T.all_sql T.place g.met.T.Listed.lists g.T.Stored.row_of old new all.items has h) c.rows_of.result shown
+    if_ok _ _ (λ all h.
+    subst (λ l. IsPermutation l (map g.T.Stored.row_of all.items)) (filter_every (rows_at T.place old.now.trees))
+    (every_row T.all_sql T.place [] (λ _. true) g.met.T.Listed.lists g.T.Stored.row_of old new all.items has h)) c.rows_of.result shown
 
 pub returns-clause-machine : goal.returns-clause-machine
 returns-clause-machine g c clean m h =
     if_ok _ _ (λ all is. subst (IsPermutation (g.T.Listed.machine_rows m)) (sym is) (g.met.T.Listed.stands m h.tables.t h.tables.stands)) c.rows_of.result
     (returns-clause-rows g c clean h.tables.t (held_of m (state g.S.Store c.args.tx.now.conn.now).now h))
 
-pub returns-clause-holds : goal.returns-clause-holds
-returns-clause-holds g c clean t held =
+pub returns-clause-same : goal.returns-clause-same
+returns-clause-same g c =
     let old = state g.S.Store c.args.tx.now.conn.now in
-    let plain = subst (λ (sql : List ℕ). IsPlain (understood old.now.schema sql)) (sym c.all_text.ensures) (plain_in register_schema g.T.Listed.all_sql g.met.T.Listed.lists.bare old held.schema) in
-    on_ok_then _ _ (still_holds _ (state g.S.Store c.rows_of.new.tx.conn.now) t held) c.rows_of.result (c.rows_of.ensures.same clean plain)
+    let new = state g.S.Store c.rows_of.new.tx.conn.now in
+    same_by g.T.Listed.all_sql old new c.rows_of.result g.met.T.Listed.lists.bare (subst (λ (sql : List ℕ). HasCleanDisk new → IsPlain (understood old.now.schema sql) → OnOk c.rows_of.result (IsUnchanged old new)) c.all_text.ensures c.rows_of.ensures.same)
+
+pub returns-clause-holds : goal.returns-clause-holds
+returns-clause-holds g c = same_holds (state g.S.Store c.args.tx.now.conn.now) (state g.S.Store c.rows_of.new.tx.conn.now) c.rows_of.result (returns-clause-same g c)
 
 pub returns-clause-tables : goal.returns-clause-tables
 returns-clause-tables g c clean m h =

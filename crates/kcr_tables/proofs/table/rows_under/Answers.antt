@@ -1,14 +1,13 @@
-use Rattle.std.proofs.Common.{ℕ, List, [], ◌∷◌, map, IfOk, sym, subst, subst₂}
+use Rattle.std.proofs.Common.{ℕ, List, [], ◌∷◌, map, IfOk, OnOk, subst, subst₂}
 use Rattle.sqlite.specs.Order.{Row}
 use Rattle.sqlite.specs.Held.{state}
-use Rattle.sqlite.specs.State.{Shown}
+use Rattle.sqlite.specs.State.{HasCleanDisk, IsUnchanged, Shown}
 use Rattle.sqlite.specs.Given.{IsPlain}
 use Rattle.sqlite.specs.Listing.{understood}
-use Rattle.kcr_rows.proofs.FailLemmas.{if_both, on_ok_then, plain_in}
+use Rattle.kcr_rows.proofs.FailLemmas.{if_both, if_ok}
 use Rattle.kcr_rows.proofs.FilterLemmas.{has_value}
-use Rattle.kcr_tables.specs.Schema.{register_schema}
-use Rattle.kcr_tables.proofs.HoldLemmas.{still_holds}
-use Rattle.kcr_tables.proofs.StatementLemmas.{rows_shown}
+use Rattle.kcr_tables.proofs.FrameLemmas.{same_by, same_holds}
+use Rattle.kcr_tables.proofs.StatementLemmas.{rows_shown, every_row}
 use Rattle.kcr_tables.proofs.table.rows_under.Goals as goal
 
 pub returns-clause-rows : goal.returns-clause-rows
@@ -25,8 +24,21 @@ returns-clause-rows g c clean t held =
     (g.T.Finds.is_under key) (g.met.T.Finds.under key) old new all.items held.schema
     h read (T.rows_in t) (laws.stores old.now.trees t held.kept) (laws.keeps old.now.trees t held.kept)) c.rows_of.result shown c.rows_of.ensures.read
 
-pub returns-clause-holds : goal.returns-clause-holds
-returns-clause-holds g c clean t held =
+pub returns-clause-exact : goal.returns-clause-exact
+returns-clause-exact g c clean has =
+    let T = g.T.Listed in
+    let key = c.args.key.now in
+    let value = g.K.AsCell.value_of key in
     let old = state g.S.Store c.args.tx.now.conn.now in
-    let plain = subst (λ (sql : List ℕ). IsPlain (understood old.now.schema sql)) (sym c.find_text.ensures) (plain_in register_schema g.T.Finds.find_sql (g.met.T.Finds.finds c.args.key.now).bare old held.schema) in
-    on_ok_then _ _ (still_holds _ (state g.S.Store c.rows_of.new.tx.conn.now) t held) c.rows_of.result (c.rows_of.ensures.same clean plain)
+    let new = state g.S.Store c.rows_of.new.tx.conn.now in
+    let shown = subst₂ (λ (sql : List ℕ) (v : Row). IfOk c.rows_of.result (λ all. Shown sql v old new (map g.T.Stored.row_of all.items))) c.find_text.ensures (λ i. c.cell.ensures i ∷ []) (c.rows_of.ensures.shown clean) in
+    if_ok _ _ (λ all h. every_row g.T.Finds.find_sql T.place (value ∷ []) (has_value g.T.Finds.column value) (g.met.T.Finds.finds key) g.T.Stored.row_of old new all.items has h) c.rows_of.result shown
+
+pub returns-clause-same : goal.returns-clause-same
+returns-clause-same g c =
+    let old = state g.S.Store c.args.tx.now.conn.now in
+    let new = state g.S.Store c.rows_of.new.tx.conn.now in
+    same_by g.T.Finds.find_sql old new c.rows_of.result (g.met.T.Finds.finds c.args.key.now).bare (subst (λ (sql : List ℕ). HasCleanDisk new → IsPlain (understood old.now.schema sql) → OnOk c.rows_of.result (IsUnchanged old new)) c.find_text.ensures c.rows_of.ensures.same)
+
+pub returns-clause-holds : goal.returns-clause-holds
+returns-clause-holds g c = same_holds (state g.S.Store c.args.tx.now.conn.now) (state g.S.Store c.rows_of.new.tx.conn.now) c.rows_of.result (returns-clause-same g c)

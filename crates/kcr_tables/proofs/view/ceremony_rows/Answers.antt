@@ -1,6 +1,9 @@
 use Rattle.sqlite.specs.Held.{state}
 use Rattle.kcr_rows.proofs.InsideLemmas.{was_clean}
-use Rattle.kcr_tables.proofs.FrameLemmas.{reads_then, reads_to, reads_fails}
+use Rattle.kcr_cells.specs.Rows.{mark_row, step_row, exception_row, stay_row}
+use Rattle.kcr_tables.specs.Exact.{has_number, is_stay_row, AskedAreShown}
+use Rattle.kcr_tables.specs.Held.{marks_place, steps_place, exceptions_place, stays_place}
+use Rattle.kcr_tables.proofs.FrameLemmas.{reads_then, reads_to, reads_fails, read_later}
 use Rattle.kcr_tables.proofs.view.ceremony_rows.Goals as goal
 
 pub returns-in_err-ceremonies-clause-frame : goal.returns-in_err-ceremonies-clause-frame
@@ -120,3 +123,27 @@ returns-clause-stays g c clean t held =
     let held3 = c.in_ok-steps.ensures.frame.holds clean2 t held2 in
     let held4 = c.in_ok-exceptions.ensures.frame.holds clean3 t held3 in
     c.in_ok-stays.ensures.rows clean4 t held4
+
+pub returns-clause-exact : goal.returns-clause-exact
+returns-clause-exact g c clean has =
+    let old = state g.S.Store c.args.tx.now.conn.now in
+    let asks = c.args.asks.now in
+    let s0 = state g.S.Store c.asked_rows.new.tx.conn.now in
+    let s1 = state g.S.Store c.asked_rows-2.new.tx.conn.now in
+    let s2 = state g.S.Store c.asked_rows-3.new.tx.conn.now in
+    let s3 = state g.S.Store c.asked_rows-4.new.tx.conn.now in
+    let s4 = state g.S.Store c.asked_stays.new.tx.conn.now in
+    let clean3 = was_clean s3 s4 _ c.in_ok-stays.ensures.frame.survives clean in
+    let clean2 = was_clean s2 s3 _ c.in_ok-exceptions.ensures.frame.survives clean3 in
+    let clean1 = was_clean s1 s2 _ c.in_ok-steps.ensures.frame.survives clean2 in
+    let clean0 = was_clean s0 s1 _ c.in_ok-marks.ensures.frame.survives clean1 in
+    let to0 = c.in_ok-ceremonies.ensures.frame in
+    let to1 = reads_then old s0 s1 _ _ to0 c.in_ok-marks.ensures.frame in
+    let to2 = reads_then old s1 s2 _ _ to1 c.in_ok-steps.ensures.frame in
+    let to3 = reads_then old s2 s3 _ _ to2 c.in_ok-exceptions.ensures.frame in record {
+      ceremonies_are = c.in_ok-ceremonies.ensures.exact clean0 has;
+      marks_are = read_later (AskedAreShown mark_row marks_place (has_number 0) asks.marks c.in_ok-marks.marks.items) old s0 _ to0 clean0 has (c.in_ok-marks.ensures.exact clean1);
+      steps_are = read_later (AskedAreShown step_row steps_place (has_number 0) asks.steps c.in_ok-steps.steps.items) old s1 _ to1 clean1 has (c.in_ok-steps.ensures.exact clean2);
+      exceptions_are = read_later (AskedAreShown exception_row exceptions_place (has_number 0) asks.exceptions c.in_ok-exceptions.exceptions.items) old s2 _ to2 clean2 has (c.in_ok-exceptions.ensures.exact clean3);
+      stays_are = read_later (AskedAreShown stay_row stays_place is_stay_row asks.stays c.in_ok-stays.stays.items) old s3 _ to3 clean3 has (c.in_ok-stays.ensures.exact clean);
+    }

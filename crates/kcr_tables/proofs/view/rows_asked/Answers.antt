@@ -3,7 +3,8 @@ use Rattle.sqlite.specs.Held.{state}
 use Rattle.sqlite.specs.State.{HasCleanDisk}
 use Rattle.kcr_history.specs.Views.{is_of_people, is_training_of, is_withdrawal_of, is_appointment_of, is_of_serial, is_item_of, is_of_number, is_mark_of, is_step_of, is_exception_of, row_of_key, greatest_number}
 use Rattle.kcr_rows.proofs.InsideLemmas.{was_clean}
-use Rattle.kcr_tables.proofs.FrameLemmas.{reads_then, reads_to, reads_fails}
+use Rattle.kcr_tables.specs.Exact.{StaffIsShown, CustodyIsShown, CeremoniesAreShown}
+use Rattle.kcr_tables.proofs.FrameLemmas.{reads_then, reads_to, reads_fails, read_later}
 use Rattle.kcr_tables.proofs.HoldLemmas.{held_of}
 use Rattle.kcr_tables.proofs.JointLemmas.{kept_rises}
 use Rattle.kcr_tables.proofs.StayLemmas.{stays_shown, apart_of}
@@ -63,3 +64,23 @@ returns-in_err-ceremony-clause-frame g c = reads_then (state g.S.Store c.args.tx
 
 pub returns-clause-frame : goal.returns-clause-frame
 returns-clause-frame g c = reads_to (state g.S.Store c.args.tx.now.conn.now) (state g.S.Store c.ceremony_rows.new.tx.conn.now) _ _ tt (reads_then (state g.S.Store c.args.tx.now.conn.now) (state g.S.Store c.custody_rows.new.tx.conn.now) (state g.S.Store c.ceremony_rows.new.tx.conn.now) _ _ (reads_then (state g.S.Store c.args.tx.now.conn.now) (state g.S.Store c.staff_rows.new.tx.conn.now) (state g.S.Store c.custody_rows.new.tx.conn.now) _ _ (reads_then (state g.S.Store c.args.tx.now.conn.now) (state g.S.Store c.asked_keys.new.tx.conn.now) (state g.S.Store c.staff_rows.new.tx.conn.now) _ _ c.in_ok-keys.ensures.frame c.in_ok-staff.ensures.frame) c.in_ok-custody.ensures.frame) c.in_ok-ceremony.ensures.frame)
+
+pub returns-clause-exact : goal.returns-clause-exact
+returns-clause-exact g c clean has =
+    let old = state g.S.Store c.args.tx.now.conn.now in
+    let asks = c.args.asks.now in
+    let s0 = state g.S.Store c.asked_keys.new.tx.conn.now in
+    let s1 = state g.S.Store c.staff_rows.new.tx.conn.now in
+    let s2 = state g.S.Store c.custody_rows.new.tx.conn.now in
+    let s3 = state g.S.Store c.ceremony_rows.new.tx.conn.now in
+    let clean2 = was_clean s2 s3 _ c.in_ok-ceremony.ensures.frame.survives clean in
+    let clean1 = was_clean s1 s2 _ c.in_ok-custody.ensures.frame.survives clean2 in
+    let clean0 = was_clean s0 s1 _ c.in_ok-staff.ensures.frame.survives clean1 in
+    let to0 = c.in_ok-keys.ensures.frame in
+    let to1 = reads_then old s0 s1 _ _ to0 c.in_ok-staff.ensures.frame in
+    let to2 = reads_then old s1 s2 _ _ to1 c.in_ok-custody.ensures.frame in record {
+      keys = c.in_ok-keys.ensures.exact clean0 has;
+      staff = read_later (StaffIsShown asks c.in_ok-staff.staff.people.items c.in_ok-staff.staff.trainings.items c.in_ok-staff.staff.withdrawals.items c.in_ok-staff.staff.appointments.items) old s0 _ to0 clean0 has (c.in_ok-staff.ensures.exact clean1);
+      custody = read_later (CustodyIsShown asks c.in_ok-custody.custody.boxes.items c.in_ok-custody.custody.safes.items c.in_ok-custody.custody.bags.items c.in_ok-custody.custody.items.items) old s1 _ to1 clean1 has (c.in_ok-custody.ensures.exact clean2);
+      ceremonies = read_later (CeremoniesAreShown asks c.in_ok-ceremony.ceremony.ceremonies.items c.in_ok-ceremony.ceremony.marks.items c.in_ok-ceremony.ceremony.steps.items c.in_ok-ceremony.ceremony.exceptions.items c.in_ok-ceremony.ceremony.stays.items) old s2 _ to2 clean2 has (c.in_ok-ceremony.ensures.exact clean);
+    }

@@ -8,8 +8,8 @@ returns-in-Ok-try_get_matches_from-clause-found c = found_in _ _ c.in-Ok-try_get
 pub returns-in-Ok-try_get_matches_from-clause-taken : goal.returns-in-Ok-try_get_matches_from-clause-taken
 returns-in-Ok-try_get_matches_from-clause-taken c = taken_in _ _ c.in-Ok.ensures c.in-Ok-try_get_matches_from.ensures.kinds
 
-pub returns : goal.returns
-returns c = record {
+pub returns-in-Ok-to_string : goal.returns-in-Ok-to_string
+returns-in-Ok-to_string c = record {
   found = tt;
   taken = tt;
   line = λ _ none. refused_in _ _ _ c.in-Ok.ensures c.in-Err.ensures.kinds (λ e. c.in_default-kind.not-OutOfMemory (c.kind.ensures ∙ e)) none;

@@ -1,0 +1,119 @@
+-- Of the rows that a decision asks for none is strange: each is the row of a value that is shown, whatever else the tables have.
+use Rattle.std.specs.Prelude.{◌≡◌, ◌⊎◌, ℕ, pos, Bool, List, [], ◌∷◌, map, filter, take, get_or, if◌then◌else◌}
+use Rattle.std.specs.List.{AllByRecursion, list_any}
+use Rattle.sqlite.specs.Order.{Row}
+use Rattle.sqlite.specs.Tree.{Trees}
+use Rattle.sqlite.specs.declared.types.Value.TheVariants.{Int, Text}
+use Rattle.sqlite_rules.specs.Lists.{Has}
+use Rattle.kcr_base.specs.Place.{place_text}
+use Rattle.kcr_base.specs.Same.{same_text}
+use Rattle.kcr_people.specs.declared.Person.{Person}
+use Rattle.kcr_people.specs.declared.Training.{Training}
+use Rattle.kcr_people.specs.declared.Withdrawal.{Withdrawal}
+use Rattle.kcr_people.specs.declared.Appointment.{Appointment}
+use Rattle.kcr_custody.specs.declared.BoxRow.{BoxRow}
+use Rattle.kcr_custody.specs.declared.SafeRow.{SafeRow}
+use Rattle.kcr_custody.specs.declared.Bag.{Bag}
+use Rattle.kcr_custody.specs.declared.Item.{Item}
+use Rattle.kcr_room.specs.declared.Stay.{Stay}
+use Rattle.kcr_history.specs.declared.rows.CeremonyRow.{CeremonyRow}
+use Rattle.kcr_history.specs.declared.rows.MarkRow.{MarkRow}
+use Rattle.kcr_history.specs.declared.rows.StepRow.{StepRow}
+use Rattle.kcr_history.specs.declared.rows.ExceptionRow.{ExceptionRow}
+use Rattle.kcr_history.specs.declared.rows.KeyRow.{KeyRow}
+use Rattle.kcr_history.specs.declared.views.AppointmentsOf.{AppointmentsOf}
+use Rattle.kcr_history.specs.declared.views.AppointmentsOf.TheVariants as Appointments
+use Rattle.kcr_history.specs.declared.views.Asks.{Asks}
+use Rattle.kcr_history.specs.declared.views.ItemsOf.{ItemsOf}
+use Rattle.kcr_history.specs.declared.views.ItemsOf.TheVariants as Items
+use Rattle.kcr_history.specs.declared.views.Rows.{Rows}
+use Rattle.kcr_history.specs.declared.views.StaysOf.{StaysOf}
+use Rattle.kcr_history.specs.declared.views.View.{View}
+use Rattle.kcr_rows.specs.Keyed.{Place, cells}
+use Rattle.kcr_rows.proofs.FilterLemmas.{has_value}
+use Rattle.kcr_cells.specs.Rows.{person_row, training_row, appointment_row, box_row, safe_row, bag_row, item_row, ceremony_row, mark_row, step_row, exception_row, key_row, stay_row, withdrawal_row}
+use Rattle.kcr_tables.specs.Asked.{asked_of, asked_all}
+use Rattle.kcr_tables.specs.Held.{people_place, trainings_place, appointments_place, boxes_place, safes_place, bags_place, items_place, ceremonies_place, marks_place, steps_place, exceptions_place, keys_place, stays_place, withdrawals_place}
+
+-- the rows of a table, whatever they are
+abbrev pub rows_at : Place → Trees → List Row
+rows_at place db = map (cells 1 place.width) (db place.tree)
+
+-- each of the rows is the row of one of the values that are shown
+abbrev pub AreShown : {X : Type 0} → (X → Row) → List X → List Row → Type 0
+AreShown {X = X} row_of shown rows = AllByRecursion (λ row. (x : X) × Has shown x × (row ≡ row_of x)) rows
+
+-- none where there is no row, and else one row of them
+abbrev pub IsOneOf : List Row → List Row → Type 0
+IsOneOf all shown = ((all ≡ []) × (shown ≡ [])) ⊎ ((row : Row) × (shown ≡ row ∷ []) × Has all row)
+
+-- ---- whether a row is one of those asked for, by what stands in its columns
+
+abbrev pub has_text : ℕ → List ℕ → Row → Bool
+has_text at text row = has_value at (Text text) row
+
+abbrev pub has_number : ℕ → ℕ → Row → Bool
+has_number at number row = has_value at (Int (pos number)) row
+
+-- one of the texts
+abbrev pub has_any : ℕ → List (List ℕ) → Row → Bool
+has_any at texts row = list_any (λ text. has_text at text row) texts
+
+abbrev pub is_appointment_row : AppointmentsOf → Row → Bool
+is_appointment_row (Appointments.Place place) row = has_text 0 (place_text place) row
+is_appointment_row (Appointments.Person who) row = has_text 2 who row
+
+abbrev pub is_item_row : ItemsOf → Row → Bool
+is_item_row (Items.Codes codes) row = has_any 0 codes row
+is_item_row (Items.Bag serial) row = has_text 2 serial row
+
+abbrev pub is_stay_row : StaysOf → Row → Bool
+is_stay_row asked row = has_number 2 asked.ceremony row
+
+-- ---- the rows asked for
+
+-- of a table those under a key, or all
+abbrev pub AskedAreShown : {X K : Type 0} → (X → Row) → Place → (K → Row → Bool) → Rows K → List X → Trees → Type 0
+AskedAreShown row_of place is_under asked shown db = AreShown row_of shown (asked_of is_under asked (rows_at place db))
+
+-- of a table all
+abbrev pub WholeIsShown : {X : Type 0} → (X → Row) → Place → Bool → List X → Trees → Type 0
+WholeIsShown row_of place asked shown db = AreShown row_of shown (asked_all asked (rows_at place db))
+
+-- those with the text at a place in a list, unless the text stands before it too
+abbrev pub OnceAreShown : {X : Type 0} → (X → Row) → Place → List (List ℕ) → ℕ → List X → Trees → Type 0
+OnceAreShown row_of place texts at shown db =
+    AreShown row_of shown (if list_any (same_text (get_or texts at [])) (take at texts) then [] else filter (has_text 0 (get_or texts at [])) (rows_at place db))
+
+-- of people and their offices
+pub record StaffIsShown (asks : Asks) (people : List Person) (trainings : List Training) (withdrawals : List Withdrawal) (appointments : List Appointment) (db : Trees) : Type 0 where
+  pub people_are : AskedAreShown person_row people_place (has_any 0) asks.people people db
+  pub trainings_are : AskedAreShown training_row trainings_place (has_text 0) asks.trainings trainings db
+  pub withdrawals_are : AskedAreShown withdrawal_row withdrawals_place (has_text 0) asks.withdrawals withdrawals db
+  pub appointments_are : AskedAreShown appointment_row appointments_place is_appointment_row asks.appointments appointments db
+
+-- of what is kept in the safes
+pub record CustodyIsShown (asks : Asks) (boxes : List BoxRow) (safes : List SafeRow) (bags : List Bag) (items : List Item) (db : Trees) : Type 0 where
+  pub boxes_are : WholeIsShown box_row boxes_place asks.boxes boxes db
+  pub safes_are : WholeIsShown safe_row safes_place asks.safes safes db
+  pub bags_are : AskedAreShown bag_row bags_place (has_text 0) asks.bags bags db
+  pub items_are : AskedAreShown item_row items_place is_item_row asks.items items db
+
+-- of ceremonies; of the stays those of the ceremony
+pub record CeremoniesAreShown (asks : Asks) (ceremonies : List CeremonyRow) (marks : List MarkRow) (steps : List StepRow) (exceptions : List ExceptionRow) (stays : List Stay) (db : Trees) : Type 0 where
+  pub ceremonies_are : AskedAreShown ceremony_row ceremonies_place (has_number 0) asks.ceremonies ceremonies db
+  pub marks_are : AskedAreShown mark_row marks_place (has_number 0) asks.marks marks db
+  pub steps_are : AskedAreShown step_row steps_place (has_number 0) asks.steps steps db
+  pub exceptions_are : AskedAreShown exception_row exceptions_place (has_number 0) asks.exceptions exceptions db
+  pub stays_are : AskedAreShown stay_row stays_place is_stay_row asks.stays stays db
+
+-- the rows under the key of the command
+abbrev pub KeyIsShown : List ℕ → List KeyRow → Trees → Type 0
+KeyIsShown key shown db = AreShown key_row shown (filter (has_text 0 key) (rows_at keys_place db))
+
+-- every row asked for, of each table, is the row of a value in the view
+pub record NoneIsStrange (asks : Asks) (view : View) (db : Trees) : Type 0 where
+  pub keys : KeyIsShown asks.key view.keys.items db
+  pub staff : StaffIsShown asks view.people.items view.trainings.items view.withdrawals.items view.appointments.items db
+  pub custody : CustodyIsShown asks view.boxes.items view.safes.items view.bags.items view.items.items db
+  pub ceremonies : CeremoniesAreShown asks view.ceremonies.items view.marks.items view.steps.items view.exceptions.items view.stays.items db
