@@ -1,22 +1,24 @@
 #!/usr/bin/env bash
 # Times `kcr run --file` over a file on disk: bench/files.sh PROGRAM [N ...]. For each N (1000 and 100000 where none is)
 # a register of N accepted commands, all POST /people, is made in a file. Then it prints, for that file: how long it takes
-# to open (a stream without requests; the least of five runs), and what 1000 further commands take, by the clock and of
-# the processor, less the opening (the least of five runs, each over a copy of the file); and, where strace is there, how
-# often the program asked the disk to keep what it wrote (fsync, fdatasync) for 100 commands, 100 questions and 100
-# repeats. Files lie in the folder that TMPDIR names: for figures of a disk that must be one on a disk.
+# to open (a stream without requests; the least of five runs), and what a further command takes, by the clock and of the
+# processor: 6000 further commands less 1000, over copies of the file, so that the opening, which takes longer than they
+# do, is in both; the median of five such pairs. Where strace is there, it prints how often the program asked the disk to
+# keep what it wrote (fsync, fdatasync) for 100 commands, 100 questions and 100 repeats. Files lie in the folder that
+# TMPDIR names: for figures of a disk that must be one on a disk.
 set -eu
 python3 - "$@" << 'PYTHON'
 import pathlib
 import re
 import resource
 import shutil
+import statistics
 import subprocess
 import sys
 import tempfile
 import time
 
-FURTHER = 1000
+FEW, MANY = 1000, 6000
 TIMES = 5
 LETTERS = "ABCDEFGHIJKLMNOPQRSTUVWXYZ"
 
@@ -59,6 +61,15 @@ def least(program, file, room, stream):
     return min(taken for taken, _, _ in runs), min(spent for _, spent, _ in runs)
 
 
+def further(program, file, room, count):
+    """The microseconds that one more command takes, by the clock and of the processor."""
+    pairs = []
+    for _ in range(TIMES):
+        few, many = [run(program, copy(file, room, "further"), people(count, more)) for more in (FEW, MANY)]
+        pairs.append([(many[k] - few[k]) / (MANY - FEW) * 1e6 for k in (0, 1)])
+    return [statistics.median(pair[k] for pair in pairs) for k in (0, 1)]
+
+
 def syncs(program, file, room, stream):
     """How often the disk was asked to keep what was written."""
     trace = room / "trace"
@@ -78,11 +89,10 @@ def main():
             accepted = told.stdout.count(b'"accepted"')
             if accepted != count:
                 sys.exit(f"{accepted} of {count} commands were accepted")
-            opened, opening = least(program, file, room, b"")
-            taken, spent = least(program, file, room, people(count, FURTHER))
-            print(f"{count} commands: made in {made:.2f} s; opened in {opened:.3f} s; {FURTHER} more take "
-                  f"{(taken - opened) / FURTHER * 1e6:.0f} us each by the clock, "
-                  f"{(spent - opening) / FURTHER * 1e6:.0f} us of the processor")
+            opened, _ = least(program, file, room, b"")
+            taken, spent = further(program, file, room, count)
+            print(f"{count} commands: made in {made:.2f} s; opened in {opened:.3f} s; one more takes "
+                  f"{taken:.0f} us by the clock, {spent:.0f} us of the processor")
             if shutil.which("strace"):
                 none = syncs(program, file, room, b"")
                 question = b"GET /ceremonies/1/room?at=2025-01-01T00:00:00Z HTTP/1.1\r\nHost: l\r\n\r\n"

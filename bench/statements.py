@@ -1,15 +1,16 @@
 #!/usr/bin/env python3
 """What each kind of request asks of the tables: statements, rows and instructions, counted by valgrind.
 
-    bench/statements.py PROGRAM
+    bench/statements.py PROGRAM [--past N] [REQUEST ..]
 
 Two ceremonies are played over a register in memory, with each of the 19 commands, the four questions and the two
 reports; in the first one each statement is compiled, the second one is counted. For each request the stream is played up
 to it and once more with it, and what `valgrind --tool=callgrind` counted is compared: how many statements read and
-wrote, how many rows were read and from which tables, and how many instructions it took. The names by which calls are
-counted are those of a program that LLVM built. The register is small: twelve people who take part, and ceremonies of
-five steps. Last come a repeat and a refusal.
+wrote, and how many instructions it took. The register is small: twelve people who take part, and ceremonies of five
+steps. Last come a repeat and a refusal. With `--past` so many ceremonies of 60 steps and 12 people lie behind. With
+names of requests only these are counted.
 """
+import argparse
 import collections
 import re
 import subprocess
@@ -18,32 +19,34 @@ import tempfile
 
 sys.dont_write_bytecode = True  # no files beside these
 
-from table import EVERYBODY, LETTERS, Client, enter_staff, moment
+from table import EVERYBODY, LETTERS, Client, enter_staff, hold_ceremony, moment
 
-READS = re.compile(r"kcr_cells::statements::decode_all\b")
+READS = re.compile(r"sqlite::transaction::Transaction::query_all\b")
 WRITES = re.compile(r"kcr_cells::statements::write\b")
-ROWS = re.compile(r"kcr_cells::rows::(\w+?)(?:Row)?Stored::decode\b")
 CALL = re.compile(r"(?m)^cfn=\((\d+)\)(?: (.*))?\ncalls=(\d+)")
+SUM = re.compile(r"(?m)^(?:summary|totals): (\d+)")
 NAME = re.compile(r"(?m)^c?fn=\((\d+)\) (.*)$")
 
 SCRIPT = "step,activity,seats\n" + "".join(f"{step},Step {step},CA;IW\n" for step in range(1, 6))
 
 
-def requests_of(number):
-    """The requests around a ceremony: what is counted, by its name, or None for what only comes between; the path, and
-    the members of a command."""
-    room, bag, visitor, keeper, next_keeper = f"/ceremonies/{number}", f"BB{number:04}", f"V{LETTERS[number]}", f"K{LETTERS[number]}", f"N{LETTERS[number]}"
+def requests_of(turn, past):
+    """The requests around a ceremony, the first or the second behind those that lie past: what is counted, by its name,
+    or None for what only comes between; the path, and the members of a command."""
+    number = past + turn
+    room, bag, again = f"/ceremonies/{number}", f"BB{number:04}", f"again{turn}"
+    visitor, keeper, next_keeper, last = [letter + LETTERS[turn] for letter in "VKNZ"]
     at = [moment(number, second) for second in range(20)]
     return [
         ("enter a person", "/people", {"who": visitor, "name": "Vic Visitor"}),
         ("train", f"/people/{visitor}/roles", {"role": "SW", "from": "2000-01-01", "until": "2099-12-31"}),
-        ("withdraw a training", f"/people/{visitor}/withdrawals", {"role": "SW", "day": "2010-01-05"}),
+        ("withdraw a training", f"/people/{visitor}/withdrawals", {"role": "SW", "day": "2010-12-31"}),
         (None, "/people", {"who": keeper, "name": "Kim Keeper"}),
         (None, "/people", {"who": next_keeper, "name": "Nia Next"}),
-        ("appoint", "/custodians", {"place": f"RKSH-{number}", "who": keeper, "day": "2011-01-01"}),
-        ("replace", f"/custodians/RKSH-{number}/replacement", {"who": next_keeper, "day": "2012-01-01"}),
-        ("release", f"/custodians/RKSH-{number}/release", {"day": "2013-01-01"}),
-        ("add a box", "/boxes", {"facility": "EAST", "box": 3 + number, "place": f"CO-EAST-{1 + number}"}),
+        ("appoint", "/custodians", {"place": f"RKSH-{turn}", "who": keeper, "day": "2011-01-01"}),
+        ("replace", f"/custodians/RKSH-{turn}/replacement", {"who": next_keeper, "day": "2012-01-01"}),
+        ("release", f"/custodians/RKSH-{turn}/release", {"day": "2013-01-01"}),
+        ("add a box", "/boxes", {"facility": "EAST", "box": 3 + turn, "place": f"CO-EAST-{1 + turn}"}),
         ("plan a ceremony", "/ceremonies", {"number": number, "facility": "EAST", "day": at[0][:10], "script": SCRIPT}),
         ("open a ceremony", f"{room}/opening", {"at": at[0]}),
         ("twelve people come in", f"{room}/sheet", {"way": "in", "who": EVERYBODY, "at": at[1]}),
@@ -66,8 +69,8 @@ def requests_of(number):
         ("who is in a room", f"{room}/room/{at[9]}", None),
         ("the annotated script", f"{room}/script", None),
         ("attendance", f"{room}/attendance.csv", None),
-        (None, "/people", {"key": f"again{number}", "who": f"Z{LETTERS[number]}", "name": "Zoe Zero"}),
-        ("a repeat", "/people", {"key": f"again{number}", "who": f"Z{LETTERS[number]}", "name": "Zoe Zero"}),
+        (None, "/people", {"key": again, "who": last, "name": "Zoe Zero"}),
+        ("a repeat", "/people", {"key": again, "who": last, "name": "Zoe Zero"}),
         ("a refusal (13, the person is there)", "/people", {"who": visitor, "name": "Vic Visitor"}),
     ]
 
@@ -101,7 +104,7 @@ def counted(program, stream):
         subprocess.run(words, input=stream, capture_output=True, check=True)
         text = told.read()
     names = dict(NAME.findall(text))
-    calls = collections.Counter({"": int(re.search(r"(?m)^(?:summary|totals): (\d+)", text)[1])})
+    calls = collections.Counter({"": int(SUM.search(text)[1])})
     for number, _, times in CALL.findall(text):
         calls[names[number]] += int(times)
     return calls
@@ -114,33 +117,33 @@ def sum_of(calls, pattern):
 
 def row_of(name, calls):
     """The row of a request, of the calls that it alone made."""
-    rows = collections.Counter()
-    for function, times in calls.items():
-        if found := ROWS.search(function):
-            rows[re.sub(r"(?<!^)(?=[A-Z])", " ", found[1]).lower()] += times
-    told = ", ".join(f"{times} {table}" for table, times in rows.items() if times)
-    return [name, sum_of(calls, READS), sum_of(calls, WRITES), sum(rows.values()), told, f"{calls['']:,}"]
+    return f"| {name} | {sum_of(calls, READS)} | {sum_of(calls, WRITES)} | {calls['']:,} |"
 
 
 def main():
-    if len(sys.argv) != 2:
-        sys.exit(__doc__)
+    parser = argparse.ArgumentParser()
+    parser.add_argument("program")
+    parser.add_argument("--past", type=int, default=0)
+    parser.add_argument("requests", nargs="*", metavar="REQUEST")
+    given = parser.parse_intermixed_args()
     client = Client()
     enter_staff(client)
-    first = client.take()[0] + b"".join(made_of(client, requests_of(1)))
-    asked = requests_of(2)
+    for number in range(1, given.past + 1):
+        hold_ceremony(client, number)
+    first = client.take()[0] + b"".join(made_of(client, requests_of(1, given.past)))
+    asked = requests_of(2, given.past)
     made = made_of(client, asked)
-    expect_answers(sys.argv[1], first + b"".join(made), 2)
-    print("| Request | Reads | Writes | Rows | of which tables | Instructions |\n|---|---|---|---|---|---|", flush=True)
+    expect_answers(given.program, first + b"".join(made), 2)
+    print("| Request | Reads | Writes | Instructions |\n|---|---|---|---|", flush=True)
     was = None
     for at, (name, _, _) in enumerate(asked):
-        if name is None:
+        if name is None or given.requests and name not in given.requests:
             was = None
             continue
-        was = was or counted(sys.argv[1], first + b"".join(made[:at]))
-        now = counted(sys.argv[1], first + b"".join(made[:at + 1]))
+        was = was or counted(given.program, first + b"".join(made[:at]))
+        now = counted(given.program, first + b"".join(made[:at + 1]))
         calls = collections.Counter({function: times - was[function] for function, times in now.items()})
-        print("| " + " | ".join(map(str, row_of(name, calls))) + " |", flush=True)
+        print(row_of(name, calls), flush=True)
         was = now
 
 

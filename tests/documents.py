@@ -6,8 +6,9 @@
 Shown are: that each example of docs/API.md and README.md gets the bytes that the page shows; that docs/openapi.yaml and
 the headings of docs/API.md have each path of the program with its methods and no other; that the program takes exactly
 the parts of paths and the members of bodies that docs/openapi.yaml says, shown by values around each form and bound;
-that the examples fit the schemas; and that the refusals in docs/REFUSALS.md, docs/API.md and docs/openapi.yaml have the
-numbers, words, statuses and members of the code. With names only the tests with these names run.
+that the examples fit the schemas; that the refusals in docs/REFUSALS.md, docs/API.md and docs/openapi.yaml have the numbers,
+words, statuses and members of the code; and that the SQL texts are as many as docs/COST.md says. With names only the
+tests with these names run.
 
 An example is a fenced block of a page. `http request` has requests, and the block `http answer` behind it their
 answers. Each line of a head is sent with CR LF, a body is as long as its head says, and the empty lines between two
@@ -38,6 +39,8 @@ from kcr import HERE, SECONDS, Wrong, call, expect
 
 ROOT = HERE.parent
 REGISTER = "register.db"
+PLANS_KEPT = 64  # by the kit's connection, as its README says
+BEGIN_AND_COMMIT = 2
 METHODS = "GET HEAD POST PUT PATCH DELETE OPTIONS get".split()
 MARKED = re.compile(r"(?ms)^```(http|sh|text) (request|answer|example|output|error)( new| [0-9]+)?\n(.*?)^```$")
 MARK = re.compile(r"(?m)^```(?:http|sh [^`\n]|text [^`\n])")
@@ -537,11 +540,21 @@ def unlike(message, head, body):
     return None if fits(schema, json.loads(body) if "json" in kind else body) else f"the answer {body!r:.300}"
 
 
+def texts_fit(_):
+    """The SQL texts of commands, questions and reports are as many as docs/COST.md says; with those that begin and end a
+    transaction they fit among the plans that the connection keeps, so none is made twice."""
+    texts = {text for crate in ("kcr_tables", "kcr_reading") for file in (ROOT / "crates" / crate / "src").glob("*.rt")
+             for text in re.findall(r'"((?:SELECT|INSERT) (?:\\"|[^"])*)"', file.read_text(encoding="utf-8"))}
+    told = re.search(r"(\d+) SQL texts", text_of("docs/COST.md"))
+    expect("the number of texts", int(told[1]), len(texts))
+    expect("whether they fit", True, len(texts) + BEGIN_AND_COMMIT <= PLANS_KEPT)
+
+
 def tests(program):
     """Each test: its name, what it shows, and the call that takes an empty folder."""
     for page in ("docs/API.md", "README.md"):
         yield from examples(program, page)
-    for test in (tabled, named, described, listed, same_paths, same_bodies):
+    for test in (tabled, named, described, listed, same_paths, same_bodies, texts_fit):
         yield test.__name__, test.__doc__, test
     for test in (same_methods, same_parts, same_members):
         yield test.__name__, test.__doc__, functools.partial(test, program)
