@@ -53,10 +53,17 @@ def filled(program, room, name):
 
 
 def reported(program, file, folder):
-    """Sees that the reports and the audit of a file are the kept ones."""
+    """Sees that the reports and the audit of a file are the kept ones, and that it is the register of its commands."""
     for words, text in kcr.reports(folder):
         expect(" ".join(words), (text, b"", 0), call(program, *words, "--file", file))
     expect("audit", (kcr.kept(folder, "audit"), b"", 0), call(program, "audit", "--file", file))
+    verified(program, file, len(kcr.kept_tables(folder)["keys"]))
+
+
+def verified(program, file, commands):
+    """Sees that a file is told to be the register of its commands, of which there are so many."""
+    expect(f"verify {file.name}", (f"verified: {commands} commands\n".encode(), b"", 0),
+           call(program, "verify", "--file", file))
 
 
 def repeated(program, file, folder):
@@ -298,6 +305,7 @@ def over_memory(program, _room):
         expect("run", (kcr.accepted(1), b"", 0), call(program, "run", stream=post))
         expect("custody", (EMPTY_CUSTODY, b"", 0), call(program, "custody"))
         expect("audit", NOTHING_FOUND, call(program, "audit"))
+        expect("verify", (b"verified: 0 commands\n", b"", 0), call(program, "verify"))
 
 
 def numbers_out_of_range(program, room):
@@ -383,6 +391,71 @@ def crowd(program, room):
     audited(program, file, "crowd 1 2025-02-13T20:00:20Z")
 
 
+# One change of each table, which a verification finds: a cell, and a row more. `(table, cells, row)`
+CHANGES = [
+    ("people", "name = 'Ann Abe1' WHERE who = 'AC'", "'AD', 'Ann Abel'"),
+    ("trainings", "until = 20454 WHERE who = 'BA' AND role = 'CA' AND until = 20453", "'AC', 'CA', 20089, 20453"),
+    ("withdrawals", "day = day + 1", "'AC', 'SSC2', 20089, 20452, 20300"),
+    ("appointments", "until = 20136 WHERE who = 'EE'", "'CO-WEST-7', 20089, 'AC', NULL"),
+    ("boxes", "place = 'CO-EAST-3' WHERE box = 3", "'WEST', 1, 'CO-WEST-1'"),
+    ("safes", "state = 1 WHERE facility = 'EAST' AND safe = 1", None),
+    ("bags", "spot = 'table WEST' WHERE serial = 'BB51184288'", "'BB51184289', 'spent'"),
+    ("items", "facility = 'EAST' WHERE code = 'LAPTOP1'", "'LAPTOP2', 'WEST', NULL"),
+    ("ceremonies", "day = day - 1", "62, 'WEST', 20132, 0, NULL, NULL"),
+    ("marks", "at = at + 1", "62, 1739477121"),
+    ("steps", "activity = '#2'", "61, 2, '#2', 'CA', 0, NULL"),
+    ("seatings", "who = 'EE' WHERE seat = 2", "61, 1, 3, 'AA'"),
+    ("sheet", "at = at - 1 WHERE who = 'ZZ' AND at = 1739477122", "'AC', 1739477200, 61, 1"),
+    ("stays", "until = until - 1 WHERE who = 'ZZ' AND until = 1739477122", "'AC', 1739477200, 61, NULL"),
+    ("exceptions", "text = 'Nobody fitted' WHERE exception = 1", "61, 3, 'One more', 1739476926, NULL"),
+]
+
+
+def differed(program, file, finding):
+    """Sees that a verification tells this difference, and that it changes nothing."""
+    for time in ["first", "again"]:
+        expect(f"verify {file.name}, {time}", (f"finding: {finding}\n".encode(), b"", 1),
+               call(program, "verify", "--file", file))
+
+
+def differences(program, room):
+    """A cell that sqlite3 changes in any table, a row that it adds or takes out, is found and its table named."""
+    file = filled(program, room, "072")
+    for table, cells, row in CHANGES:
+        statements = [f"UPDATE {table} SET {cells}", f"DELETE FROM {table} WHERE rowid = (SELECT max(rowid) FROM {table})"]
+        if row is not None:
+            statements.append(f"INSERT INTO {table} VALUES ({row})")
+        for number, statement in enumerate(statements):
+            changed = copy(file, room / f"{table}-{number}")
+            change(changed, statement)
+            differed(program, changed, f"table {table}")
+
+
+def changed_commands(program, room):
+    """What sqlite3 changes among the accepted commands is found, and the command named."""
+    file = filled(program, room, "072")
+    last = len(kcr.kept_tables(stream("072"))["keys"])
+    for number, (statement, finding) in enumerate([
+            ("DELETE FROM keys WHERE accepted = 7", "number 7"),
+            ("UPDATE keys SET accepted = 1000 WHERE accepted = 7", "number 7"),
+            ("UPDATE keys SET accepted = 0 WHERE accepted = 7", "number 1"),
+            ("UPDATE keys SET command = '/people' || char(10) || 'aa' || char(10) || 'A' WHERE accepted = 1", "command 1"),
+            ("UPDATE keys SET command = 'x' WHERE accepted = 13", "command 13"),
+            ("UPDATE keys SET command = '' WHERE accepted = 13", "command 13"),
+            ("UPDATE keys SET command = command || char(10) WHERE accepted = 13", "command 13"),
+            ("UPDATE keys SET reply = '{\"accepted\":14}' WHERE accepted = 13", "reply 13"),
+            ("UPDATE keys SET command = '/people' || char(10) || 'AA' || char(10) || 'Ann Abel' WHERE accepted = 13",
+             "refused 13"),
+            ("UPDATE keys SET command = '/people' || char(10) || 'AC' || char(10) || 'Ann Abel' WHERE accepted = 13",
+             "refused 27"),
+            (f"INSERT INTO keys VALUES ('another', {last + 1}, 'x', '{{}}')", f"command {last + 1}"),
+            (f"DELETE FROM keys WHERE accepted = {last}", "table sheet"),
+    ]):
+        changed = copy(file, room / f"changed-{number}")
+        change(changed, statement)
+        differed(program, changed, finding)
+
+
 def rows_of_no_register(program, room):
     """A row that no register stores is refused by the audit as the disk's fault (34)."""
     file = filled(program, room, "003")
@@ -430,8 +503,8 @@ def report_stops(program, room):
 
 TESTS = [opened_anew, older_from_its_file, older_from_nothing, half_older, no_file_yet, relative_and_linked,
          no_database, foreign_databases, no_one_number, held_by_serve, held_by_sqlite, hot_journal, unknown_ceremony,
-         over_memory, numbers_out_of_range, output_is_full, findings, doubled_key, crowd, rows_of_no_register,
-         broken_in_a_stream, report_stops]
+         over_memory, numbers_out_of_range, output_is_full, findings, doubled_key, crowd, differences,
+         changed_commands, rows_of_no_register, broken_in_a_stream, report_stops]
 
 
 def main():

@@ -1,10 +1,39 @@
--- What an audit of all rows of a database finds.
-use Rattle.std.specs.Prelude.{Option}
+-- All rows of a database, and what an audit of them finds.
+use Rattle.std.specs.Prelude.{◌≡◌, Option}
+use Rattle.sqlite.specs.Tree.{Trees}
 use Rattle.kcr_audit.specs.Whole.{tables_of}
 use Rattle.kcr_history.specs.Audit.{IsAudit}
 use Rattle.kcr_history.specs.Tables.{Tables, SameTables}
 use Rattle.kcr_history.specs.declared.views.Finding.{Finding}
 use Rattle.kcr_history.specs.declared.views.View.{View}
+use Rattle.kcr_tables.specs.Held as held
+
+-- the view has the rows of each table, in the order of their keys
+pub record Lists (t : held.Tables) (view : View) : Type 0 where
+  pub people : view.people.items ≡ t.people
+  pub trainings : view.trainings.items ≡ t.trainings
+  pub withdrawals : view.withdrawals.items ≡ t.withdrawals
+  pub appointments : view.appointments.items ≡ t.appointments
+  pub boxes : view.boxes.items ≡ t.boxes
+  pub safes : view.safes.items ≡ t.safes
+  pub bags : view.bags.items ≡ t.bags
+  pub items : view.items.items ≡ t.items
+  pub ceremonies : view.ceremonies.items ≡ t.ceremonies
+  pub marks : view.marks.items ≡ t.marks
+  pub steps : view.steps.items ≡ t.steps
+  pub seatings : view.seatings.items ≡ t.seatings
+  pub sheet : view.sheet.items ≡ t.sheet
+  pub stays : view.stays.items ≡ t.stays
+  pub exceptions : view.exceptions.items ≡ t.exceptions
+  pub keys : view.keys.items ≡ t.keys
+
+-- the view has the machine's rows, each table's in the order of their keys
+pub record IsListed (m : Tables) (view : View) : Type 0 where
+  pub same : SameTables m (tables_of view)
+  pub db : Trees
+  pub t : held.Tables
+  pub kept : held.Kept db t
+  pub lists : Lists t view
 
 -- what an audit of these tables finds, whatever the order of their rows
 abbrev pub FindsIn : Tables → Option Finding → Type 0

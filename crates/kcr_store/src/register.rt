@@ -7,9 +7,9 @@ ghost use Rattle.kcr_store.specs.Steps.{Steps, IsNext, IsAsked, MayRefuse};
 use crate::open::{OpenFault, connect, settle};
 use crate::past::Past;
 use crate::perform::{Performed, ask, perform};
-use crate::whole::audit_of;
+use crate::whole::{audit_of, view};
 use kcr_base::Refusal;
-use kcr_history::{Command, Finding, Question, Reply, Shown};
+use kcr_history::{Command, Finding, Question, Reply, Shown, View};
 use sqlite::{Alter, Connection, FileFrom, FileStore, MemStore, Unknown};
 use std::alloc::Global;
 use std::marker::Model;
@@ -193,8 +193,9 @@ impl Register<FileStore<FileFrom<Unknown>>> {
 }
 
 impl<S: Alter> Register<S> {
-    ghost use Rattle.kcr_history.specs.Tables.{Tables};
-    ghost use Rattle.kcr_store.specs.Whole.{FindsIn};
+    ghost use Rattle.kcr_history.specs.Machine.{IsRegister};
+    ghost use Rattle.kcr_history.specs.Tables.{Tables, tables};
+    ghost use Rattle.kcr_store.specs.Whole.{FindsIn, IsListed};
     ghost use Rattle.kcr_tables.specs.Joint.{HoldsTables};
     ghost use Rattle.kcr_tables.specs.Refusals.{IsFault};
     ghost use Rattle.kcr_store.specs.Register.{IsKept, LeavesEither, Leaves};
@@ -266,6 +267,39 @@ impl<S: Alter> Register<S> {
         }
         match ask(self.alloc, &mut self.conn, question) {
             Ok(shown) => Ok(shown),
+            Err(Refusal::Disk) => {
+                self.tried = Past::same(&self.past);
+                self.broken = true;
+                Err(Refusal::Disk)
+            }
+            Err(refusal) => Err(refusal),
+        }
+    }
+
+    /// All rows of each table, each table's in the order of their keys; its memory grows with their number. It changes
+    /// nothing. Beside want of memory (33) it meets only a fault of the device or a row that no register stores (34), which
+    /// breaks the register; a broken one answers 35.
+    pub fn tables(&mut self) -> Result<View, Refusal>
+        ensures broken { IsSome self.old.torn → (result ≡ Err Refusal.Broken) × (self.new ≡ self.old) }
+
+        // Whatever rows the tables hold, these are they; of a history they are its tables.
+        ensures rows { self.old.torn ≡ None → HasCleanDisk (state S.Store self.new.conn) → (m : Tables)
+            → HoldsTables m (state S.Store self.old.conn).now → IfOk result (IsListed m) }
+        ensures shown { IsTrue self.old.is_founded → self.old.torn ≡ None → HasCleanDisk (state S.Store self.new.conn)
+            → IfOk result (λ view. IsRegister self.old.accepted × IsListed (tables self.old.accepted) view) }
+        ensures cause { self.old.torn ≡ None → IfErr result IsFault }
+        ensures breaks { self.old.torn ≡ None → IsSome self.new.torn ↔ (result ≡ Err Refusal.Disk) }
+        ensures same { self.new.accepted ≡ self.old.accepted }
+        ensures tried { self.old.torn ≡ None → unwrap_or self.new.torn self.new.accepted ≡ self.old.accepted }
+        ensures clean { HasCleanDisk (state S.Store self.new.conn) → HasCleanDisk (state S.Store self.old.conn) }
+        ensures founded { self.new.is_founded ≡ self.old.is_founded }
+        ensures kept { IsKept S.Store self.new }
+    {
+        if self.broken {
+            return Err(Refusal::Broken);
+        }
+        match view(self.alloc, &mut self.conn) {
+            Ok(view) => Ok(view),
             Err(Refusal::Disk) => {
                 self.tried = Past::same(&self.past);
                 self.broken = true;

@@ -1,15 +1,15 @@
 //! All rows of a register's tables, and what an audit finds in them.
-ghost use Rattle.std.specs.Prelude.{◌≡◌, false, None, IsPermutation, IsTrue, IfOk, IfErr, OnOk};
+ghost use Rattle.std.specs.Prelude.{◌≡◌, false, None, IsTrue, IfOk, IfErr, OnOk};
 ghost use Rattle.sqlite.specs.State.{HasCleanDisk, KeepsCommit, Survives};
 ghost use Rattle.sqlite.specs.Held.{state};
-ghost use Rattle.kcr_audit.specs.Whole.{tables_of};
 ghost use Rattle.kcr_history.specs.History.{History};
 ghost use Rattle.kcr_history.specs.Machine.{IsRegister};
-ghost use Rattle.kcr_history.specs.Tables.{Tables, SameTables, tables};
+ghost use Rattle.kcr_history.specs.Tables.{Tables, tables};
+ghost use Rattle.kcr_tables.specs.Held.{Tables as Held, Holds};
 ghost use Rattle.kcr_tables.specs.Joint.{HoldsTables};
 ghost use Rattle.kcr_tables.specs.Refusals.{IsFault};
 ghost use Rattle.kcr_store.specs.Register.{IsWhole};
-ghost use Rattle.kcr_store.specs.Whole.{FindsIn};
+ghost use Rattle.kcr_store.specs.Whole.{FindsIn, IsListed, Lists};
 
 use kcr_audit::{audit, registers_pass};
 use kcr_base::Refusal;
@@ -24,11 +24,10 @@ fn rows_of_two<S: Alter, A: Listed, B: Listed>(
     tx: &mut Transaction<'_, S>,
 ) -> Result<(Vec<A>, Vec<B>), Refusal>
     ensures same_reference { tx.new.conn.ghost_name ≡ tx.old.conn.ghost_name }
-    ensures rows { HasCleanDisk (state S.Store tx.new.conn.now) → (m : Tables)
-        → HoldsTables m (state S.Store tx.old.conn.now).now
-        → IfOk result (λ rows. IsPermutation (A.machine_rows m) rows.0.items × IsPermutation (B.machine_rows m) rows.1.items) }
-    ensures tables { HasCleanDisk (state S.Store tx.new.conn.now) → (m : Tables)
-        → HoldsTables m (state S.Store tx.old.conn.now).now → OnOk result (HoldsTables m (state S.Store tx.new.conn.now).now) }
+    ensures rows { HasCleanDisk (state S.Store tx.new.conn.now) → (t : Held) → Holds (state S.Store tx.old.conn.now).now t
+        → IfOk result (λ rows. (rows.0.items ≡ A.rows_in t) × (rows.1.items ≡ B.rows_in t)) }
+    ensures holds { HasCleanDisk (state S.Store tx.new.conn.now) → (t : Held) → Holds (state S.Store tx.old.conn.now).now t
+        → OnOk result (Holds (state S.Store tx.new.conn.now).now t) }
     ensures opened { HasCleanDisk (state S.Store tx.new.conn.now) → OnOk result (IsTrue (state S.Store tx.old.conn.now).is_open) }
     ensures kept { HasCleanDisk (state S.Store tx.new.conn.now) → IsTrue (state S.Store tx.old.conn.now).in_transaction
         → KeepsCommit (state S.Store tx.old.conn.now) (state S.Store tx.new.conn.now) }
@@ -48,12 +47,11 @@ fn rows_of_four<S: Alter, A: Listed, B: Listed, C: Listed, D: Listed>(
     tx: &mut Transaction<'_, S>,
 ) -> Result<((Vec<A>, Vec<B>), (Vec<C>, Vec<D>)), Refusal>
     ensures same_reference { tx.new.conn.ghost_name ≡ tx.old.conn.ghost_name }
-    ensures rows { HasCleanDisk (state S.Store tx.new.conn.now) → (m : Tables)
-        → HoldsTables m (state S.Store tx.old.conn.now).now
-        → IfOk result (λ rows. (IsPermutation (A.machine_rows m) rows.0.0.items × IsPermutation (B.machine_rows m) rows.0.1.items)
-        × (IsPermutation (C.machine_rows m) rows.1.0.items × IsPermutation (D.machine_rows m) rows.1.1.items)) }
-    ensures tables { HasCleanDisk (state S.Store tx.new.conn.now) → (m : Tables)
-        → HoldsTables m (state S.Store tx.old.conn.now).now → OnOk result (HoldsTables m (state S.Store tx.new.conn.now).now) }
+    ensures rows { HasCleanDisk (state S.Store tx.new.conn.now) → (t : Held) → Holds (state S.Store tx.old.conn.now).now t
+        → IfOk result (λ rows. ((rows.0.0.items ≡ A.rows_in t) × (rows.0.1.items ≡ B.rows_in t))
+        × ((rows.1.0.items ≡ C.rows_in t) × (rows.1.1.items ≡ D.rows_in t))) }
+    ensures holds { HasCleanDisk (state S.Store tx.new.conn.now) → (t : Held) → Holds (state S.Store tx.old.conn.now).now t
+        → OnOk result (Holds (state S.Store tx.new.conn.now).now t) }
     ensures opened { HasCleanDisk (state S.Store tx.new.conn.now) → OnOk result (IsTrue (state S.Store tx.old.conn.now).is_open) }
     ensures kept { HasCleanDisk (state S.Store tx.new.conn.now) → IsTrue (state S.Store tx.old.conn.now).in_transaction
         → KeepsCommit (state S.Store tx.old.conn.now) (state S.Store tx.new.conn.now) }
@@ -70,10 +68,10 @@ fn rows_of_four<S: Alter, A: Listed, B: Listed, C: Listed, D: Listed>(
 /// All rows of each table.
 fn all_of<S: Alter>(alloc: Global, tx: &mut Transaction<'_, S>) -> Result<View, Refusal>
     ensures same_reference { tx.new.conn.ghost_name ≡ tx.old.conn.ghost_name }
-    ensures rows { HasCleanDisk (state S.Store tx.new.conn.now) → (m : Tables)
-        → HoldsTables m (state S.Store tx.old.conn.now).now → IfOk result (λ view. SameTables m (tables_of view)) }
-    ensures tables { HasCleanDisk (state S.Store tx.new.conn.now) → (m : Tables)
-        → HoldsTables m (state S.Store tx.old.conn.now).now → OnOk result (HoldsTables m (state S.Store tx.new.conn.now).now) }
+    ensures rows { HasCleanDisk (state S.Store tx.new.conn.now) → (t : Held) → Holds (state S.Store tx.old.conn.now).now t
+        → IfOk result (Lists t) }
+    ensures holds { HasCleanDisk (state S.Store tx.new.conn.now) → (t : Held) → Holds (state S.Store tx.old.conn.now).now t
+        → OnOk result (Holds (state S.Store tx.new.conn.now).now t) }
     ensures opened { HasCleanDisk (state S.Store tx.new.conn.now) → OnOk result (IsTrue (state S.Store tx.old.conn.now).is_open) }
     ensures kept { HasCleanDisk (state S.Store tx.new.conn.now) → IsTrue (state S.Store tx.old.conn.now).in_transaction
         → KeepsCommit (state S.Store tx.old.conn.now) (state S.Store tx.new.conn.now) }
@@ -107,14 +105,14 @@ fn all_of<S: Alter>(alloc: Global, tx: &mut Transaction<'_, S>) -> Result<View, 
 }
 
 /// All rows of each table, read in a transaction that is rolled back.
-fn view<S: Alter>(alloc: Global, conn: &mut Connection<S>) -> Result<View, Refusal>
+pub(crate) fn view<S: Alter>(alloc: Global, conn: &mut Connection<S>) -> Result<View, Refusal>
     requires autocommit { conn.old.in_transaction ≡ false }
     ensures autocommit { conn.new.in_transaction ≡ false }
     ensures clean { HasCleanDisk (state S.Store conn.new) → HasCleanDisk (state S.Store conn.old) }
     ensures rows { HasCleanDisk (state S.Store conn.new) → (m : Tables)
-        → HoldsTables m (state S.Store conn.old).now → IfOk result (λ view. SameTables m (tables_of view)) }
+        → HoldsTables m (state S.Store conn.old).now → IfOk result (IsListed m) }
     ensures register { (A : History) → IsWhole A (state S.Store conn.old) → HasCleanDisk (state S.Store conn.new)
-        → IfOk result (λ view. IsRegister A × SameTables (tables A) (tables_of view)) }
+        → IfOk result (λ view. IsRegister A × IsListed (tables A) view) }
     ensures whole { (A : History) → IsWhole A (state S.Store conn.old) → IsWhole A (state S.Store conn.new) }
     ensures cause { IfErr result IsFault }
 {
@@ -125,7 +123,6 @@ fn view<S: Alter>(alloc: Global, conn: &mut Connection<S>) -> Result<View, Refus
 }
 
 /// What an audit finds in the rows of a database, which it leaves as they are.
-#[tactic(auto, using(crate::proofs::AuditLemmas::none_found))]
 pub(crate) fn audit_of<S: Alter>(
     alloc: Global,
     conn: &mut Connection<S>,

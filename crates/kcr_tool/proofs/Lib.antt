@@ -4,5 +4,6 @@ pub mod Options
 pub mod Taken
 pub mod Causes
 pub mod Audits
+pub mod Verifications
 pub mod Empty
 mod Examples

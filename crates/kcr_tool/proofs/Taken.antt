@@ -189,9 +189,9 @@ shape_at (suc n) (s ∷ ss) = shape_at n ss
 abbrev sub : ℕ → Shape
 sub n = shape_at n (built tool_app).subs
 
-seven_subs : (built tool_app).subs ≡ sub 0 ∷ sub 1 ∷ sub 2 ∷ sub 3 ∷ sub 4 ∷ sub 5 ∷ sub 6 ∷ []
+eight_subs : (built tool_app).subs ≡ sub 0 ∷ sub 1 ∷ sub 2 ∷ sub 3 ∷ sub 4 ∷ sub 5 ∷ sub 6 ∷ sub 7 ∷ []
 unfolding tool_app
-seven_subs = refl
+eight_subs = refl
 
 required_there : (b : Bool) → ((b && true) || false) ≡ false → b ≡ false
 required_there true e = cc
@@ -216,6 +216,10 @@ custody_holds words none = refl
 audit_holds : HoldsTask (sub 5)
 unfolding tool_app
 audit_holds words none = refl
+
+verify_holds : HoldsTask (sub 6)
+unfolding tool_app
+verify_holds words none = refl
 
 some_task : (f : ℕ → Task) (o : Option ℕ) → is_some o ≡ true → is_some (option_map f o) ≡ true
 some_task f None is = is
@@ -276,13 +280,13 @@ attendance_holds : HoldsTask (sub 3)
 unfolding tool_app
 attendance_holds words none = some_task Attendance _ (attendance_ceremony words none)
 
-help_label : label_of (sub 6) ≡ (codes "help", [])
+help_label : label_of (sub 7) ≡ (codes "help", [])
 unfolding tool_app
 help_label = refl
 
 subs_hold : (name : Text) → bytes_eq name (codes "help") ≡ false → AllByRecursion (λ s. answers_to name (label_of s) ≡ true → HoldsTask s) (built tool_app).subs
 subs_hold name past =
-    subst (AllByRecursion (λ s. answers_to name (label_of s) ≡ true → HoldsTask s)) (sym seven_subs) (
+    subst (AllByRecursion (λ s. answers_to name (label_of s) ≡ true → HoldsTask s)) (sym eight_subs) (
       (λ _. run_holds),
       (
         (λ _. serve_holds),
@@ -294,7 +298,10 @@ subs_hold name past =
               (λ _. custody_holds),
               (
                 (λ _. audit_holds),
-                ((λ is. absurd (not_help name (or_alone (bytes_eq (codes "help") name) (sym (ap (answers_to name) help_label) ∙ is)) past)), tt),
+                (
+                  (λ _. verify_holds),
+                  ((λ is. absurd (not_help name (or_alone (bytes_eq (codes "help") name) (sym (ap (answers_to name) help_label) ∙ is)) past)), tt),
+                ),
               ),
             ),
           ),

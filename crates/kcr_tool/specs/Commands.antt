@@ -44,5 +44,6 @@ tool_app = with_subcommands root_app (
     ∷ of_ceremony (codes "attendance")
     ∷ of_file (codes "custody")
     ∷ of_file (codes "audit")
+    ∷ of_file (codes "verify")
     ∷ []
     )

@@ -4,6 +4,9 @@ use Rattle.std.specs.Fmt.{decimal}
 use Rattle.kcr_base.specs.Moment.{moment_text}
 use Rattle.kcr_history.specs.declared.views.Finding.{Finding}
 use Rattle.kcr_history.specs.declared.views.Finding.TheVariants as Findings
+use Rattle.kcr_verify.specs.Verified.{name_of}
+use Rattle.kcr_verify.specs.declared.verification.Difference.{Difference}
+use Rattle.kcr_verify.specs.declared.verification.Difference.TheVariants as Differences
 
 abbrev pub ended : List ℕ → List ℕ
 ended text = text ++ 10 ∷ []
@@ -32,3 +35,15 @@ finding_line (Findings.Bag serial) = found_line (codes "finding: bag ") serial
 finding_line (Findings.Key key) = found_line (codes "finding: key ") key
 finding_line (Findings.Lone ceremony moment) = found_line (codes "finding: lone ") (numbered ceremony (moment_text moment))
 finding_line (Findings.Crowd ceremony moment) = found_line (codes "finding: crowd ") (numbered ceremony (moment_text moment))
+
+-- the register is the one of its own commands, of which there are so many
+abbrev pub verified_line : ℕ → List ℕ
+verified_line count = codes "verified: " ++ (decimal count ++ codes " commands\n")
+
+-- what differs, as a verification found it
+abbrev pub difference_line : Difference → List ℕ
+difference_line (Differences.Number place) = found_line (codes "finding: number ") (decimal place)
+difference_line (Differences.Command number) = found_line (codes "finding: command ") (decimal number)
+difference_line (Differences.Refused number) = found_line (codes "finding: refused ") (decimal number)
+difference_line (Differences.Reply number) = found_line (codes "finding: reply ") (decimal number)
+difference_line (Differences.Rows table) = found_line (codes "finding: table ") (name_of table)

@@ -8,7 +8,7 @@ use Rattle.kcr_tool.specs.Commands.{tool_app}
 use Rattle.kcr_tool.specs.declared.words.WordsFault.{WordsFault}
 use Rattle.kcr_tool.specs.declared.words.WordsFault.TheVariants as WordsFaults
 use Rattle.kcr_tool.specs.declared.words.Task.{Task}
-use Rattle.kcr_tool.specs.declared.words.Task.TheVariants.{Run, Serve, Print, Attendance, Custody, Audit}
+use Rattle.kcr_tool.specs.declared.words.Task.TheVariants.{Run, Serve, Print, Attendance, Custody, Audit, Verify}
 
 -- the number that a text is in decimal, where it is one from 1 to the most; a plus may stand before it
 abbrev pub number_up_to : ℕ → Text → Option ℕ
@@ -36,7 +36,8 @@ task_at p =
     if bytes_eq p.0 (codes "print") then option_map Print (ceremony_at p.1) else
     if bytes_eq p.0 (codes "attendance") then option_map Attendance (ceremony_at p.1) else
     if bytes_eq p.0 (codes "custody") then Some Custody else
-    if bytes_eq p.0 (codes "audit") then Some Audit else None
+    if bytes_eq p.0 (codes "audit") then Some Audit else
+    if bytes_eq p.0 (codes "verify") then Some Verify else None
 
 -- the file that was named, if one was
 abbrev pub file_at : List Row → Option Text

@@ -5,14 +5,15 @@ ghost use Rattle.kcr_print.specs.Written.{WritesFront};
 ghost use Rattle.kcr_tool.specs.declared.fault.Fault.{Fault as WhyNot};
 ghost use Rattle.kcr_tool.specs.declared.words.Task.{Task as Order_task};
 ghost use Rattle.kcr_tool.specs.Faults.{HasCause, IsLineOf};
-ghost use Rattle.kcr_tool.specs.Audits.{TellsFinding};
-ghost use Rattle.kcr_tool.specs.Runs.{Does, DoesInPart, Leaves, LeavesInPart, OfHistory};
+ghost use Rattle.kcr_tool.specs.Runs.{Does, DoesInPart, Leaves, LeavesInPart, OfHistory, TellsWrong};
+ghost use Rattle.kcr_verify.specs.Verified.{AreValues};
 ghost use Rattle.kcr_tool.specs.Tasks.{task_of, file_of, faults_of};
 
 use crate::audit::audit;
 use crate::fault::{Fault, tell, tell_fault};
 use crate::listen::listen;
 use crate::tasks::{attendance, print, run, whereabouts};
+use crate::verify::verify;
 use crate::words::{Order, Task, WordsFault, read_words};
 use kcr_base::Counted;
 use kcr_store::Register;
@@ -20,7 +21,7 @@ use sqlite::Alter;
 use std::io::{Read, Write};
 
 /// Does a task over a register, and answers the exit status: 0, or 1 after a finding.
-#[tactic(auto, using(crate::proofs::Causes::stops_cause, crate::proofs::Causes::serving_cause, crate::proofs::Audits::clean_told, crate::proofs::Audits::finding_told))]
+#[tactic(auto, using(crate::proofs::Causes::stops_cause, crate::proofs::Causes::serving_cause, crate::proofs::Audits::clean_told, crate::proofs::Audits::finding_told, crate::proofs::Verifications::whole_told, crate::proofs::Verifications::difference_told))]
 fn perform<S: Alter + Drop, R: Read, W: Write>(
     rt: &HostRuntime,
     register: Register<S>,
@@ -29,9 +30,9 @@ fn perform<S: Alter + Drop, R: Read, W: Write>(
     output: &mut Counted<W>,
 ) -> Result<u8, Fault>
     ensures status { IfOk result (λ status. status ≤ 1) }
-    ensures finding { IfOk result (λ status. status ≡ 1 → (task ≡ Task.Audit)
-        × TellsFinding (W.contents (inner_of output.old)) (W.contents (inner_of output.new))) }
-    ensures nothing { OfHistory S.Store register (λ A. IfOk result (λ status. status ≡ 0)) }
+    ensures finding { IfOk result (λ status. status ≡ 1
+        → TellsWrong task (W.contents (inner_of output.old)) (W.contents (inner_of output.new))) }
+    ensures nothing { OfHistory S.Store register (λ A. AreValues A → IfOk result (λ status. status ≡ 0)) }
     ensures answered { IfOk result (λ status. status ≡ 0 → Leaves task
         (R.remaining (inner_of input.old)) (W.contents (inner_of output.old)) (W.contents (inner_of output.new))) }
     ensures answered_in_part { OnErr result ((output.new ≡ output.old) ⊎ LeavesInPart task
@@ -65,6 +66,7 @@ fn perform<S: Alter + Drop, R: Read, W: Write>(
             Ok(0)
         }
         Task::Audit => audit(rt.alloc(), &mut register, output),
+        Task::Verify => verify(rt.alloc(), &mut register, output),
     }
 }
 
@@ -76,8 +78,8 @@ fn obey<R: Read, W: Write>(
     output: &mut Counted<W>,
 ) -> Result<u8, Fault>
     ensures status { IfOk result (λ status. status ≤ 1) }
-    ensures finding { IfOk result (λ status. status ≡ 1 → (order.entry.task ≡ Task.Audit)
-        × TellsFinding (W.contents (inner_of output.old)) (W.contents (inner_of output.new))) }
+    ensures finding { IfOk result (λ status. status ≡ 1
+        → TellsWrong order.entry.task (W.contents (inner_of output.old)) (W.contents (inner_of output.new))) }
     ensures nothing { order.entry.file ≡ None → IfOk result (λ status. status ≡ 0) }
     ensures answered { IfOk result (λ status. status ≡ 0 → Leaves order.entry.task
         (R.remaining (inner_of input.old)) (W.contents (inner_of output.old)) (W.contents (inner_of output.new))) }
@@ -102,7 +104,7 @@ fn obey<R: Read, W: Write>(
 }
 
 /// Does what the words say, the first of which is the program's name, and answers the exit status: 0 where all went well
-/// (refusals within a stream are answers), 1 after a finding of an audit, or after a line on `faults` that says why the
+/// (refusals within a stream are answers), 1 after a finding, or after a line on `faults` that says why the
 /// task was not done to its end, 2 where the words are refused or ask for help or the version, with what `clap` says
 /// on `faults`. The words are read first, then the file is opened, then the port is taken.
 ///
@@ -124,10 +126,11 @@ pub fn act<R: Read, W: Write, F: Write>(
     ensures answered { result ≡ 0 → (task : Order_task) × (task_of (map string_bytes words.now) ≡ Some task)
         × Leaves task (R.remaining (inner_of input.old)) (W.contents (inner_of output.old)) (W.contents (inner_of output.new)) }
 
-    // An audit of a file found something, and its line stands on the output; or a fault stopped the task. Then its line
+    // Something was found wrong in a file, and its line stands on the output; or a fault stopped the task. Then its line
     // stands on `faults`, as far as it could be written, and it says that a read or a write failed only where one did.
-    ensures cause { result ≡ 1 → ((file_of (map string_bytes words.now) ≢ None) × (task_of (map string_bytes words.now) ≡ Some Task.Audit)
-        × TellsFinding (W.contents (inner_of output.old)) (W.contents (inner_of output.new)))
+    ensures cause { result ≡ 1 → ((file_of (map string_bytes words.now) ≢ None)
+        × ((task : Order_task) × (task_of (map string_bytes words.now) ≡ Some task)
+        × TellsWrong task (W.contents (inner_of output.old)) (W.contents (inner_of output.new))))
         ⊎ ((why : WhyNot) × ((line : List ℕ) × IsLineOf why line × WritesFront (F.contents faults.old) (F.contents faults.new) line)
         × HasCause why input.old input.new output.old output.new) }
 
@@ -135,7 +138,8 @@ pub fn act<R: Read, W: Write, F: Write>(
     ensures part { result ≡ 1 → file_of (map string_bytes words.now) ≡ None → (output.new ≡ output.old)
         ⊎ ((task : Order_task) × (task_of (map string_bytes words.now) ≡ Some task)
         × DoesInPart task [] (R.remaining (inner_of input.old)) (W.contents (inner_of output.old)) (W.contents (inner_of output.new))) }
-    ensures answered_in_part { result ≡ 1 → ((task_of (map string_bytes words.now) ≡ Some Task.Audit) × TellsFinding (W.contents (inner_of output.old)) (W.contents (inner_of output.new)))
+    ensures answered_in_part { result ≡ 1 → ((task : Order_task) × (task_of (map string_bytes words.now) ≡ Some task)
+        × TellsWrong task (W.contents (inner_of output.old)) (W.contents (inner_of output.new)))
         ⊎ ((output.new ≡ output.old) ⊎ ((task : Order_task) × (task_of (map string_bytes words.now) ≡ Some task)
         × LeavesInPart task (R.remaining (inner_of input.old)) (W.contents (inner_of output.old)) (W.contents (inner_of output.new)))) }
 

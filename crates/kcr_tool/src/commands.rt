@@ -162,6 +162,18 @@ fn audit<'a>(alloc: Global) -> Result<Command<'a>, AllocError>
     )
 }
 
+fn verify<'a>(alloc: Global) -> Result<Command<'a>, AllocError>
+    ensures app { IfOk result (λ c. app_of c ≡ of_file (codes "verify")) }
+    ensures local { IfOk result (λ c. (out-Command c).has_globals ≡ false) }
+{
+    over_file(
+        alloc,
+        "verify",
+        "Tells whether the register is the one of its own commands",
+        "Example: kcr verify --file register.db",
+    )
+}
+
 /// A command with one more subcommand.
 fn with<'a>(command: Command<'a>, sub: Command<'a>) -> Result<Command<'a>, AllocError>
     requires { (out-Command sub).has_globals ≡ false }
@@ -189,5 +201,6 @@ pub fn tool<'a>(alloc: Global) -> Result<Command<'a>, AllocError>
     let tool = with(tool, print(alloc)?)?;
     let tool = with(tool, attendance(alloc)?)?;
     let tool = with(tool, custody(alloc)?)?;
-    with(tool, audit(alloc)?)
+    let tool = with(tool, audit(alloc)?)?;
+    with(tool, verify(alloc)?)
 }

@@ -1,7 +1,7 @@
 //! The program `kcr`: the register of root zone key ceremonies, answered over HTTP.
 //!
 //! `kcr run` answers the stream of requests on standard input on standard output, `kcr serve` those of connections to a
-//! port; `print`, `attendance`, `custody` and `audit` tell of a register. Each works over a register in memory, which is
+//! port; `print`, `attendance`, `custody`, `audit` and `verify` tell of a register. Each works over a register in memory, which is
 //! empty at first, or over a file.
 #![tactic(auto)]
 
@@ -14,6 +14,7 @@ mod fault;
 mod lines;
 mod listen;
 mod tasks;
+mod verify;
 mod words;
 
 use act::act;

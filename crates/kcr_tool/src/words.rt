@@ -24,6 +24,8 @@ pub enum Task {
     Custody,
     /// Looks for what is wrong in the rows of the register.
     Audit,
+    /// Sees whether the register is the one of its own commands.
+    Verify,
 }
 
 /// What the words ask for: a task, and the file of the register, or None for a register in memory.
@@ -102,6 +104,7 @@ fn read_task(name: &str, matches: &ArgMatches<'_>) -> Option<Task>
         "attendance" => Some(Task::Attendance(read_ceremony(matches)?)),
         "custody" => Some(Task::Custody),
         "audit" => Some(Task::Audit),
+        "verify" => Some(Task::Verify),
         _ => None,
     }
 }

@@ -4,7 +4,7 @@ use Rattle.kcr_store.proofs.WholeLemmas.{was_clean}
 use Rattle.kcr_store.proofs.whole.all_of.Goals as goal
 
 pub returns-clause-rows : goal.returns-clause-rows
-returns-clause-rows g c clean m held =
+returns-clause-rows g c clean t held =
     let s1 = state g.S.Store c.rows_of_four.new.tx.conn.now in
     let s2 = state g.S.Store c.rows_of_four-2.new.tx.conn.now in
     let s3 = state g.S.Store c.rows_of_four-3.new.tx.conn.now in
@@ -12,13 +12,13 @@ returns-clause-rows g c clean m held =
     let clean3 : HasCleanDisk s3 = was_clean s3 s4 _ c.in_ok-sheet.ensures.survives clean in
     let clean2 : HasCleanDisk s2 = was_clean s2 s3 _ c.in_ok-ceremonies.ensures.survives clean3 in
     let clean1 : HasCleanDisk s1 = was_clean s1 s2 _ c.in_ok-boxes.ensures.survives clean2 in
-    let held1 = c.in_ok-people.ensures.tables clean1 m held in
-    let held2 = c.in_ok-boxes.ensures.tables clean2 m held1 in
-    let held3 = c.in_ok-ceremonies.ensures.tables clean3 m held2 in
-    let staff = c.in_ok-people.ensures.rows clean1 m held in
-    let things = c.in_ok-boxes.ensures.rows clean2 m held1 in
-    let ceremonies = c.in_ok-ceremonies.ensures.rows clean3 m held2 in
-    let rooms = c.in_ok-sheet.ensures.rows clean m held3 in
+    let held1 = c.in_ok-people.ensures.holds clean1 t held in
+    let held2 = c.in_ok-boxes.ensures.holds clean2 t held1 in
+    let held3 = c.in_ok-ceremonies.ensures.holds clean3 t held2 in
+    let staff = c.in_ok-people.ensures.rows clean1 t held in
+    let things = c.in_ok-boxes.ensures.rows clean2 t held1 in
+    let ceremonies = c.in_ok-ceremonies.ensures.rows clean3 t held2 in
+    let rooms = c.in_ok-sheet.ensures.rows clean t held3 in
     record {
       people = staff.0.0;
       trainings = staff.0.1;
@@ -38,8 +38,8 @@ returns-clause-rows g c clean m held =
       keys = rooms.1.1;
     }
 
-pub returns-clause-tables : goal.returns-clause-tables
-returns-clause-tables g c clean m held =
+pub returns-clause-holds : goal.returns-clause-holds
+returns-clause-holds g c clean t held =
     let s1 = state g.S.Store c.rows_of_four.new.tx.conn.now in
     let s2 = state g.S.Store c.rows_of_four-2.new.tx.conn.now in
     let s3 = state g.S.Store c.rows_of_four-3.new.tx.conn.now in
@@ -47,7 +47,7 @@ returns-clause-tables g c clean m held =
     let clean3 : HasCleanDisk s3 = was_clean s3 s4 _ c.in_ok-sheet.ensures.survives clean in
     let clean2 : HasCleanDisk s2 = was_clean s2 s3 _ c.in_ok-ceremonies.ensures.survives clean3 in
     let clean1 : HasCleanDisk s1 = was_clean s1 s2 _ c.in_ok-boxes.ensures.survives clean2 in
-    c.in_ok-sheet.ensures.tables clean m (c.in_ok-ceremonies.ensures.tables clean3 m (c.in_ok-boxes.ensures.tables clean2 m (c.in_ok-people.ensures.tables clean1 m held)))
+    c.in_ok-sheet.ensures.holds clean t (c.in_ok-ceremonies.ensures.holds clean3 t (c.in_ok-boxes.ensures.holds clean2 t (c.in_ok-people.ensures.holds clean1 t held)))
 
 pub returns-clause-opened : goal.returns-clause-opened
 returns-clause-opened g c clean =

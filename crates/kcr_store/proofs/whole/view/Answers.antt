@@ -2,7 +2,8 @@ use Rattle.std.proofs.Common.{rules}
 use Rattle.sqlite.specs.State.{HasCleanDisk}
 use Rattle.sqlite.specs.Held.{state}
 use Rattle.kcr_store.proofs.StoreLemmas.{held_in, if_ok_then}
-use Rattle.kcr_store.proofs.AuditLemmas.{begun_holds}
+use Rattle.kcr_history.specs.Tables.{tables}
+use Rattle.kcr_store.proofs.AuditLemmas.{begun_holds, held_of, listed}
 use Rattle.kcr_store.proofs.WholeLemmas.{begins, if_ok, was_clean, whole_undone}
 use Rattle.kcr_store.proofs.whole.view.Goals as goal
 
@@ -12,7 +13,9 @@ returns-clause-rows g c clean m held =
     let mid = state S c.all_of-view.new.tx.conn.now in
     let late : HasCleanDisk (state S c.rollback.new.self.0) = search rules in
     let before : HasCleanDisk mid = was_clean mid (state S c.rollback.new.self.0) _ c.rollback.ensures.survives late in
-    c.all_of-view.ensures.rows before m (begun_holds S m c.args.conn.now c.transaction-tx.result.conn.now c.transaction-tx.ensures.begun held)
+    if_ok_then _ _ c.all_of-view.result (λ view lists. listed m _ held.tables.t view held.tables.kept held.tables.stands lists)
+    (c.all_of-view.ensures.rows before held.tables.t
+    (begun_holds S held.tables.t c.args.conn.now c.transaction-tx.result.conn.now c.transaction-tx.ensures.begun (held_of m held)))
 
 pub returns-clause-register : goal.returns-clause-register
 returns-clause-register g c accepted was clean =
@@ -25,7 +28,10 @@ returns-clause-register g c accepted was clean =
     if_ok _ _ c.all_of-view.result (c.all_of-view.ensures.opened before)
     (λ live.
     let s = (b.shows (was_clean begun mid _ c.all_of-view.ensures.survives before) live).now in
-    if_ok_then _ _ c.all_of-view.result (λ view rows. (s.tables.register, rows)) (c.all_of-view.ensures.rows before _ (held_in accepted begun.now s)))
+    let held = held_in accepted begun.now s in
+    if_ok_then _ _ c.all_of-view.result
+    (λ view lists. (s.tables.register, listed (tables accepted) _ held.tables.t view held.tables.kept held.tables.stands lists))
+    (c.all_of-view.ensures.rows before held.tables.t (held_of (tables accepted) held)))
 
 pub returns-clause-whole : goal.returns-clause-whole
 returns-clause-whole g c accepted was =

@@ -1,4 +1,5 @@
-use Rattle.std.proofs.Common.{◌≡◌, ◌⊎◌, IfOk, OnErr, subst}
+use Rattle.std.proofs.Common.{◌≡◌, ◌⊎◌, IfOk, OnErr, subst, sym}
+use Rattle.kcr_verify.specs.Verified.{AreValues}
 use Rattle.kcr_base.specs.Counted.{inner_of}
 use Rattle.kcr_history.specs.History.{History}
 use Rattle.kcr_tool.specs.Runs.{Does, DoesInPart}
@@ -26,4 +27,4 @@ returns-in-Ok-in_memory-clause-part g c none =
 pub returns-in-Ok-in_memory-clause-nothing : goal.returns-in-Ok-in_memory-clause-nothing
 returns-in-Ok-in_memory-clause-nothing g c none =
     let first = c.in-Ok-in_memory.ensures.new in
-    c.perform-in-Ok-in_memory.ensures.nothing never_in_doubt first.0 first.2
+    c.perform-in-Ok-in_memory.ensures.nothing never_in_doubt first.0 first.2 (subst AreValues (sym first.1) tt)

@@ -15,4 +15,5 @@ returns c =
     let three = c.in_ok-tool-3.ensures ∙ ap₂ add two c.in_ok-print.ensures.app in
     let four = c.in_ok-tool-4.ensures ∙ ap₂ add three c.in_ok-attendance.ensures.app in
     let five = c.in_ok-tool-5.ensures ∙ ap₂ add four c.in_ok-custody.ensures.app in
-    IfOk-weaker c.with-6.result _ _ (λ r h. h ∙ ap₂ add five c.in_ok-audit.ensures.app) c.with-6.ensures
+    let six = c.in_ok-tool-6.ensures ∙ ap₂ add five c.in_ok-audit.ensures.app in
+    IfOk-weaker c.with-7.result _ _ (λ r h. h ∙ ap₂ add six c.in_ok-verify.ensures.app) c.with-7.ensures

@@ -1,0 +1,469 @@
+-- The readers of the forms read the texts of their values and no others.
+use Rattle.std.proofs.Common.{◌≡◌, ℕ, ◌+◌, ◌-◌, ◌*◌, ◌^◌, ◌≤◌, ◌<◌, ◌⊎◌, Bool, true, false, not, ◌&&◌, eqb, nat_le, List, [], ◌∷◌}
+use Rattle.std.proofs.Common.{◌++◌, length, get_or, codes, Option, Some, None, refl, sym, ap, subst, ◌∙◌, arith, All}
+use Rattle.std.specs.Option.{option_map, option_and_then}
+use Rattle.std.specs.Bool.{⊤}
+use Rattle.std.specs.Fmt.{decimal}
+use Rattle.std.specs.Int.Digits.{digits_of}
+use Rattle.std.specs.List.{find, range_with_len, list_all}
+use Rattle.std.specs.Str.Parse.{AllDigits}
+use Rattle.std.specs.Str.{is_utf8, IsUtf8}
+use Rattle.std.specs.Cmp.Lexicographic.{same_text as equal_texts}
+use Rattle.std.proofs.lemmas.Bool.{leb-true}
+use Rattle.std.proofs.lemmas.Fmt.{decimal_injective, decimal-digits_of, decimal_is_IsNumeral}
+use Rattle.std.proofs.lemmas.List.Elements.{All-nil, All-weaker, All-map, All-append, All-head, All-tail, All-from_recursion}
+use Rattle.std.proofs.lemmas.List.Sums.{AllPass-from_list_all}
+use Rattle.std.proofs.lemmas.List.Splits.{slice_split_none, slice_split_at, join_with_byte-slice_split}
+use Rattle.std.proofs.lemmas.Option.{cond_some, option_and_then_some}
+use Rattle.kcr_base.specs.Same.{same_text}
+use Rattle.kcr_base.specs.Day.{IsDay, day_text}
+use Rattle.kcr_base.specs.Facility.{facility_text}
+use Rattle.kcr_base.specs.Initials.{IsCapital, IsInitials}
+use Rattle.kcr_base.specs.Line.{IsPrinting, IsLine}
+use Rattle.kcr_base.specs.Lists.{IsListed, are_apart}
+use Rattle.kcr_base.specs.Moment.{IsMoment, moment_text}
+use Rattle.kcr_base.specs.Number.{IsNumber}
+use Rattle.kcr_base.specs.Place.{IsPlace, place_text}
+use Rattle.kcr_base.specs.Role.{role_text}
+use Rattle.kcr_base.specs.Serial.{IsDigit, IsSerial}
+use Rattle.kcr_base.specs.declared.place.Facility.{Facility}
+use Rattle.kcr_base.specs.declared.place.Facility.TheVariants.{East, West}
+use Rattle.kcr_base.specs.declared.place.Place.{Place}
+use Rattle.kcr_base.specs.declared.place.Place.TheVariants.{Co, Rksh}
+use Rattle.kcr_base.specs.declared.place.Role.{Role}
+use Rattle.kcr_base.specs.declared.place.Role.TheVariants.{Ca, Iw, Sa, Ssc1, Ssc2, Rkos, Sw}
+use Rattle.kcr_custody.specs.declared.SafeNumber.{SafeNumber}
+use Rattle.kcr_custody.specs.declared.SafeNumber.TheVariants.{One, Two}
+use Rattle.kcr_custody.specs.declared.Store.{Store}
+use Rattle.kcr_custody.specs.declared.Store.TheVariants.{SafeOne, Boxed}
+use Rattle.kcr_room.specs.declared.Way.{Way}
+use Rattle.kcr_room.specs.declared.Way.TheVariants.{Enter, Leave}
+use Rattle.kcr_room.specs.Room.{way_text}
+use Rattle.kcr_history.specs.Texts.{safe_text, store_text, truth_text, listed}
+use Rattle.kcr_forms.specs.Forms.{by_text, number_by_text, initials_of, serial_of, item_of, name_of, remark_of, is_initials, is_serial, is_line, day_of}
+use Rattle.kcr_forms.specs.Forms.{moment_of, ceremony_of, box_of, step_of, role_of, facility_of, way_of, safe_of, places, place_of, store_of, listed_to}
+use Rattle.kcr_forms.specs.Forms.{is_within}
+use Rattle.kcr_forms.proofs.FormLemmas.{initials-read, serial-read, item-read, name-read, remark-read, listed-new}
+use Rattle.kcr_forms.proofs.ValueLemmas.{day-read, moment-read, ceremony-read, box-read, step-read, place-read}
+use Rattle.kcr_again.specs.Acts.{ArePeople, AreItems, IsStore}
+use Rattle.kcr_again.specs.Told.{script_of, truth_of, each_of, between_commas, people_of, items_of}
+use Rattle.kcr_again.proofs.Cutting.{Lacks, lacks-literal}
+use Rattle.kcr_again.proofs.Dates.{day-same, moment-same, day-printing}
+use Rattle.kcr_again.proofs.Readers.{option_map_some, Reads, OnLine, InPath, AtLeast, lacks-below, at_least-less}
+use Rattle.kcr_again.proofs.Scripts.{script-some}
+
+-- ---- values that are found by their texts
+
+find-says : {X : Type 0} (test : X → Bool) (xs : List X) (v : X) → find test xs ≡ Some v → test v ≡ true
+find-says test [] v e = cc
+find-says {X} test (x ∷ xs) v e = by_test (test x) refl (find-says test xs v)
+  where
+    by_test : (b : Bool) → test x ≡ b → (find test xs ≡ Some v → test v ≡ true) → test v ≡ true
+    by_test true t rest = let first : Some x ≡ Some v = rw t at e in let same : x ≡ v = cc in rw (← same) t
+    by_test false t rest = rest (rw t at e)
+
+by_text-found : {V : Type 0} (text_of : V → List ℕ) (values : List V) (text : List ℕ) (v : V) → by_text text_of values text ≡ Some v → text_of v ≡ text
+by_text-found text_of values text v e = equal_texts (text_of v) text (sym (find-says (λ w. same_text (text_of w) text) values v e))
+
+number-found : (text_of : ℕ → List ℕ) (first last : ℕ) (text : List ℕ) (v : ℕ) → number_by_text text_of first last text ≡ Some v → text_of v ≡ text
+unfolding number_by_text
+number-found text_of first last text v e = by_text-found text_of (range_with_len first (last + 1 - first)) text v e
+
+pub days : Reads IsDay day_text day_of
+unfolding day_of
+days = record {
+  found = λ text v e. number-found day_text 10957 47481 text v e;
+  again = λ v is. sym (day-read (day_text v) (Some v) (is, refl) (λ w is_w e. ap Some (day-same v w is is_w (sym e))));
+}
+
+pub moments : Reads IsMoment moment_text moment_of
+unfolding moment_of
+moments = record {
+  found = λ text v e. number-found moment_text (10957 * 86400) (47481 * 86400 + 86399) text v e;
+  again = λ v is. sym (moment-read (moment_text v) (Some v) (is, refl) (λ w is_w e. ap Some (moment-same v w is is_w (sym e))));
+}
+
+number-same : (limit m n : ℕ) → limit < 10000 → IsNumber limit m → IsNumber limit n → decimal m ≡ decimal n → m ≡ n
+number-same limit m n few is_m is_n e = decimal_injective m n (omega (arith, few, is_m.until)) (omega (arith, few, is_n.until)) e
+
+pub ceremonies : Reads (IsNumber 9999) decimal ceremony_of
+unfolding ceremony_of
+ceremonies = record {
+  found = λ text v e. number-found decimal 1 9999 text v e;
+  again = λ v is. sym (ceremony-read (decimal v) (Some v) (record { number = is; text = refl })
+      (λ w h. ap Some (number-same 9999 v w (omega arith) is h.number (sym h.text))));
+}
+
+pub boxes : Reads (IsNumber 9999) decimal box_of
+unfolding box_of
+boxes = record {
+  found = λ text v e. number-found decimal 1 9999 text v e;
+  again = λ v is. sym (box-read (decimal v) (Some v) (record { number = is; text = refl })
+      (λ w h. ap Some (number-same 9999 v w (omega arith) is h.number (sym h.text))));
+}
+
+pub steps : Reads (IsNumber 400) decimal step_of
+unfolding step_of
+steps = record {
+  found = λ text v e. number-found decimal 1 400 text v e;
+  again = λ v is. sym (step-read (decimal v) (Some v) (record { number = is; text = refl })
+      (λ w h. ap Some (number-same 400 v w (omega arith) is h.number (sym h.text))));
+}
+
+role-again : (v : Role) → role_of (role_text v) ≡ Some v
+unfolding role_of
+role-again Ca = refl
+role-again Iw = refl
+role-again Sa = refl
+role-again Ssc1 = refl
+role-again Ssc2 = refl
+role-again Rkos = refl
+role-again Sw = refl
+
+pub roles : Reads (λ _. ⊤) role_text role_of
+unfolding role_of
+roles = record { found = λ text v e. by_text-found role_text (Ca ∷ Iw ∷ Sa ∷ Ssc1 ∷ Ssc2 ∷ Rkos ∷ Sw ∷ []) text v e; again = λ v _. role-again v }
+
+facility-again : (v : Facility) → facility_of (facility_text v) ≡ Some v
+unfolding facility_of
+facility-again East = refl
+facility-again West = refl
+
+pub facilities : Reads (λ _. ⊤) facility_text facility_of
+unfolding facility_of
+facilities = record { found = λ text v e. by_text-found facility_text (East ∷ West ∷ []) text v e; again = λ v _. facility-again v }
+
+way-again : (v : Way) → way_of (way_text v) ≡ Some v
+unfolding way_of
+way-again Enter = refl
+way-again Leave = refl
+
+pub ways : Reads (λ _. ⊤) way_text way_of
+unfolding way_of
+ways = record { found = λ text v e. by_text-found way_text (Enter ∷ Leave ∷ []) text v e; again = λ v _. way-again v }
+
+safe-again : (v : SafeNumber) → safe_of (safe_text v) ≡ Some v
+unfolding safe_of
+safe-again One = refl
+safe-again Two = refl
+
+pub safes : Reads (λ _. ⊤) safe_text safe_of
+unfolding safe_of
+safes = record { found = λ text v e. by_text-found safe_text (One ∷ Two ∷ []) text v e; again = λ v _. safe-again v }
+
+-- texts that differ at a byte
+differ : (i a b : ℕ) (s t : List ℕ) {P : Type 0} → s ≡ t → get_or s i 0 ≡ a → get_or t i 0 ≡ b → (a ≡ b → ⊥) → P
+differ i a b s t e at_s at_t apart = absurd (apart (sym at_s ∙ ap (λ (x : List ℕ). get_or x i 0) e ∙ at_t))
+
+number-at : (i m n : ℕ) (s t : List ℕ) → s ≡ t → get_or s i 0 ≡ 48 + m → get_or t i 0 ≡ 48 + n → m ≡ n
+number-at i m n s t e at_s at_t = omega (arith, sym at_s ∙ ap (λ (x : List ℕ). get_or x i 0) e ∙ at_t)
+
+place-same : (v w : Place) → place_text v ≡ place_text w → v ≡ w
+place-same (Co East n) (Co East m) e = ap (Co East) (number-at 8 n m _ _ e refl refl)
+place-same (Co East n) (Co West m) e = differ 3 69 87 _ _ e refl refl (λ x. omega (arith, x))
+place-same (Co East n) (Rksh m) e = differ 0 67 82 _ _ e refl refl (λ x. omega (arith, x))
+place-same (Co West n) (Co East m) e = differ 3 87 69 _ _ e refl refl (λ x. omega (arith, x))
+place-same (Co West n) (Co West m) e = ap (Co West) (number-at 8 n m _ _ e refl refl)
+place-same (Co West n) (Rksh m) e = differ 0 67 82 _ _ e refl refl (λ x. omega (arith, x))
+place-same (Rksh n) (Co East m) e = differ 0 82 67 _ _ e refl refl (λ x. omega (arith, x))
+place-same (Rksh n) (Co West m) e = differ 0 82 67 _ _ e refl refl (λ x. omega (arith, x))
+place-same (Rksh n) (Rksh m) e = ap Rksh (number-at 5 n m _ _ e refl refl)
+
+pub places-read : Reads IsPlace place_text place_of
+unfolding place_of
+places-read = record {
+  found = λ text v e. by_text-found place_text places text v e;
+  again = λ v is. sym (place-read (place_text v) (Some v) (is, refl) (λ w is_w e. ap Some (place-same v w (sym e))));
+}
+
+-- ---- texts that are their own value
+
+pub initials : Reads IsInitials (λ text. text) initials_of
+unfolding initials_of
+initials = record {
+  found = λ text v e. sym (cond_some (is_initials text) text v e).1;
+  again = λ v is. sym (initials-read (Some v) v (is, refl));
+}
+
+pub serials : Reads IsSerial (λ text. text) serial_of
+unfolding serial_of
+serials = record {
+  found = λ text v e. sym (cond_some (is_serial text) text v e).1;
+  again = λ v is. sym (serial-read (Some v) v (is, refl));
+}
+
+pub items : Reads IsSerial (λ text. text) item_of
+unfolding item_of
+items = record {
+  found = λ text v e. sym (cond_some (is_serial text) text v e).1;
+  again = λ v is. sym (item-read (Some v) v (is, refl));
+}
+
+pub names : Reads (IsLine 120) (λ text. text) name_of
+unfolding name_of
+names = record {
+  found = λ text v e. sym (cond_some (is_line 120 text) text v e).1;
+  again = λ v is. sym (name-read (Some v) v (is, refl));
+}
+
+pub remarks : Reads (IsLine 1000) (λ text. text) remark_of
+unfolding remark_of
+remarks = record {
+  found = λ text v e. sym (cond_some (is_line 1000 text) text v e).1;
+  again = λ v is. sym (remark-read (Some v) v (is, refl));
+}
+
+pub scripts : Reads IsUtf8 (λ text. text) script_of
+unfolding script_of
+scripts = record {
+  found = λ text v e. sym (cond_some (is_utf8 text) text v e).1;
+  again = λ v is. script-some v is;
+}
+
+truth-again : (v : Bool) → truth_of (truth_text v) ≡ Some v
+unfolding truth_of
+truth-again true = refl
+truth-again false = refl
+
+truth-found : (text : List ℕ) (v : Bool) → truth_of text ≡ Some v → truth_text v ≡ text
+unfolding truth_of
+truth-found text v e = by (same_text text (codes "true")) refl (same_text text (codes "false")) refl
+  where
+    by : (a : Bool) → same_text text (codes "true") ≡ a → (b : Bool) → same_text text (codes "false") ≡ b → truth_text v ≡ text
+    by true is b other =
+        let found : Some true ≡ Some v = rw is at e in
+        let same : true ≡ v = cc in
+        ap truth_text (sym same) ∙ sym (equal_texts text (codes "true") (sym is))
+    by false is true other =
+        let found : Some false ≡ Some v = rw (is, other) at e in
+        let same : false ≡ v = cc in
+        ap truth_text (sym same) ∙ sym (equal_texts text (codes "false") (sym other))
+    by false is false other = let bad : ◌≡◌ {A = Option Bool} None (Some v) = rw (is, other) at e in cc
+
+pub truths : Reads (λ _. ⊤) truth_text truth_of
+truths = record { found = truth-found; again = λ v _. truth-again v }
+
+-- ---- where a bag is put
+
+digits-at_least : (n : ℕ) → 0 < n → n < 2 ^ 64 → AtLeast 48 (decimal n)
+digits-at_least n low high =
+    rw (decimal-digits_of n low high) (All-map (λ b. 48 ≤ b) (λ d. 48 + d) (digits_of 10 n) (λ i d h. omega arith))
+
+number-at_least : (limit n : ℕ) → limit < 10000 → IsNumber limit n → AtLeast 48 (decimal n)
+number-at_least limit n few is = digits-at_least n (omega (arith, is.from)) (omega (arith, few, is.until))
+
+store-again : (v : Store) → IsStore v → store_of (store_text v) ≡ Some v
+unfolding store_of
+store-again SafeOne is = refl
+store-again (Boxed n) is = by (same_text (decimal n) (codes "safe1")) refl
+  where
+    by : (b : Bool) → same_text (decimal n) (codes "safe1") ≡ b → store_of (store_text (Boxed n)) ≡ Some (Boxed n)
+    by true e =
+        let digits = (decimal_is_IsNumeral n (omega (arith, is.until))).0.1 in
+        let letter : AllDigits 10 (codes "safe1") = subst (AllDigits 10) (equal_texts (decimal n) (codes "safe1") (sym e)) digits in
+        absurd (omega (arith, letter.0))
+    by false e = rw (e, boxes.again n is) refl
+
+store-found : (text : List ℕ) (v : Store) → store_of text ≡ Some v → store_text v ≡ text
+unfolding store_of
+store-found text v e = by (same_text text (codes "safe1")) refl
+  where
+    by : (b : Bool) → same_text text (codes "safe1") ≡ b → store_text v ≡ text
+    by true is =
+        let found : Some SafeOne ≡ Some v = rw is at e in
+        let same : SafeOne ≡ v = cc in
+        ap store_text (sym same) ∙ sym (equal_texts text (codes "safe1") (sym is))
+    by false is = option_map_some Boxed (box_of text) v (rw is at e) (λ n found same. ap store_text (sym same) ∙ boxes.found text n found)
+
+pub stores : Reads IsStore store_text store_of
+stores = record { found = store-found; again = store-again }
+
+-- ---- lists
+
+each-found : (IsValue : List ℕ → Type 0) (read : List ℕ → Option (List ℕ)) → Reads IsValue (λ text. text) read → (texts list : List (List ℕ))
+    → each_of read texts ≡ Some list → list ≡ texts
+each-found IsValue read reads [] list e = cc
+each-found IsValue read reads (text ∷ texts) list e =
+    option_and_then_some (λ value. option_map (λ values. value ∷ values) (each_of read texts)) (read text) list e (λ value first rest.
+    option_map_some (λ (values : List (List ℕ)). value ∷ values) (each_of read texts) list rest (λ values others same.
+    sym same ∙ (λ j. reads.found text value first j ∷ each-found IsValue read reads texts values others j)))
+
+each-again : (IsValue : List ℕ → Type 0) (read : List ℕ → Option (List ℕ)) → Reads IsValue (λ text. text) read → (list : List (List ℕ))
+    → All IsValue list → each_of read list ≡ Some list
+each-again IsValue read reads [] each = refl
+each-again IsValue read reads (code ∷ codes) each =
+    rw (reads.again code (All-head IsValue code codes each), each-again IsValue read reads codes (All-tail IsValue code codes each)) refl
+
+pieces : (list : List (List ℕ)) → 1 ≤ length list → All (λ code. Lacks 44 code) list → between_commas (listed list) ≡ list
+pieces [] some each = absurd (omega (arith, some))
+pieces (code ∷ []) some each = slice_split_none (λ b. eqb b 44) code (All-head (λ c. Lacks 44 c) code [] each)
+pieces (code ∷ next ∷ more) some each =
+    slice_split_at (λ b. eqb b 44) code 44 (listed (next ∷ more)) (All-head (λ c. Lacks 44 c) code (next ∷ more) each) refl
+    ∙ ap (λ (texts : List (List ℕ)). code ∷ texts) (pieces (next ∷ more) (omega arith) (All-tail (λ c. Lacks 44 c) code (next ∷ more) each))
+
+-- a list of codes that lack commas, each of which its reader reads
+codes-found : (limit : ℕ) (IsValue : List ℕ → Type 0) (read : List ℕ → Option (List ℕ)) → Reads IsValue (λ text. text) read
+    → (text : List ℕ) (list : List (List ℕ))
+    → option_and_then (listed_to limit) (each_of read (between_commas text)) ≡ Some list → listed list ≡ text
+unfolding listed_to
+codes-found limit IsValue read reads text list e =
+    option_and_then_some (listed_to limit) (each_of read (between_commas text)) list e (λ all told few.
+    let same = (cond_some (is_within 1 limit (length all) && are_apart all) all list few).1 in
+    ap listed (sym same ∙ each-found IsValue read reads (between_commas text) all told) ∙ join_with_byte-slice_split 44 text)
+
+codes-again : (limit : ℕ) (IsValue : List ℕ → Type 0) (read : List ℕ → Option (List ℕ)) → Reads IsValue (λ text. text) read
+    → ((code : List ℕ) → IsValue code → Lacks 44 code)
+    → (list : List (List ℕ)) → IsListed limit list → All IsValue list
+    → option_and_then (listed_to limit) (each_of read (between_commas (listed list))) ≡ Some list
+codes-again limit IsValue read reads lacks list is each =
+    ap (λ (texts : List (List ℕ)). option_and_then (listed_to limit) (each_of read texts))
+    (pieces list is.at_least_one (All-weaker IsValue (λ code. Lacks 44 code) lacks list each))
+    ∙ ap (option_and_then (listed_to limit)) (each-again IsValue read reads list each)
+    ∙ sym (listed-new limit list (Some list) (is, refl))
+
+initials-at_least : (text : List ℕ) → IsInitials text → AtLeast 65 text
+initials-at_least text is = All-weaker IsCapital (λ b. 65 ≤ b) (λ b h. h.0) text is.capitals
+
+serial-at_least : (text : List ℕ) → IsSerial text → AtLeast 48 text
+serial-at_least text is = All-weaker (λ b. IsCapital b ⊎ IsDigit b) (λ b. 48 ≤ b) (λ b h. grind arith) text is.each
+
+pub people : Reads ArePeople listed people_of
+unfolding people_of
+people = record {
+  found = λ text v e. codes-found 32 IsInitials initials_of initials text v e;
+  again = λ v are. codes-again 32 IsInitials initials_of initials
+      (λ code is. lacks-below 44 65 code (omega arith) (initials-at_least code is)) v are.listed are.each;
+}
+
+pub item_lists : Reads AreItems listed items_of
+unfolding items_of
+item_lists = record {
+  found = λ text v e. codes-found 64 IsSerial item_of items text v e;
+  again = λ v are. codes-again 64 IsSerial item_of items (λ code is. lacks-below 44 48 code (omega arith) (serial-at_least code is)) v are.listed are.each;
+}
+
+-- ---- texts on lines, and in paths
+
+literal : (low : ℕ) (text : List ℕ) → list_all (λ b. nat_le low b) text ≡ true → AtLeast low text
+literal low text test = All-weaker (λ b. nat_le low b ≡ true) (λ b. low ≤ b) (λ b h. leb-true low b h) text
+    (AllPass-from_list_all (λ b. nat_le low b) text test)
+
+role-printing : (v : Role) → AtLeast 32 (role_text v)
+role-printing Ca = literal 32 (codes "CA") refl
+role-printing Iw = literal 32 (codes "IW") refl
+role-printing Sa = literal 32 (codes "SA") refl
+role-printing Ssc1 = literal 32 (codes "SSC1") refl
+role-printing Ssc2 = literal 32 (codes "SSC2") refl
+role-printing Rkos = literal 32 (codes "RKOS") refl
+role-printing Sw = literal 32 (codes "SW") refl
+
+facility-printing : (v : Facility) → AtLeast 32 (facility_text v)
+facility-printing East = literal 32 (codes "EAST") refl
+facility-printing West = literal 32 (codes "WEST") refl
+
+way-printing : (v : Way) → AtLeast 32 (way_text v)
+way-printing Enter = literal 32 (codes "in") refl
+way-printing Leave = literal 32 (codes "out") refl
+
+truth-printing : (v : Bool) → AtLeast 32 (truth_text v)
+truth-printing true = literal 32 (codes "true") refl
+truth-printing false = literal 32 (codes "false") refl
+
+place-end : (front : List ℕ) (n : ℕ) → list_all (λ b. nat_le 32 b) front ≡ true → AtLeast 32 (front ++ (48 + n) ∷ [])
+place-end front n test = All-append (λ b. 32 ≤ b) front ((48 + n) ∷ []) (literal 32 front test)
+    (All-from_recursion (λ b. 32 ≤ b) ((48 + n) ∷ []) (omega arith, tt))
+
+place-printing : (v : Place) → AtLeast 32 (place_text v)
+place-printing (Co East n) = place-end (codes "CO-EAST-") n refl
+place-printing (Co West n) = place-end (codes "CO-WEST-") n refl
+place-printing (Rksh n) = place-end (codes "RKSH-") n refl
+
+store-printing : (v : Store) → IsStore v → AtLeast 32 (store_text v)
+store-printing SafeOne is = literal 32 (codes "safe1") refl
+store-printing (Boxed n) is = at_least-less 48 32 (decimal n) (omega arith) (number-at_least 9999 n (omega arith) is)
+
+join-at_least : (low : ℕ) (list : List (List ℕ)) → low ≤ 44 → All (λ code. AtLeast low code) list → AtLeast low (listed list)
+join-at_least low [] le each = All-nil (λ b. low ≤ b)
+join-at_least low (code ∷ []) le each = All-head (λ c. AtLeast low c) code [] each
+join-at_least low (code ∷ next ∷ more) le each =
+    All-append (λ b. low ≤ b) code (44 ∷ listed (next ∷ more)) (All-head (λ c. AtLeast low c) code (next ∷ more) each)
+    (All-append (λ b. low ≤ b) (44 ∷ []) (listed (next ∷ more)) (All-from_recursion (λ b. low ≤ b) (44 ∷ []) (le, tt))
+    (join-at_least low (next ∷ more) le (All-tail (λ c. AtLeast low c) code (next ∷ more) each)))
+
+pub roles-line : OnLine (λ _. ⊤) role_text
+roles-line = record { printing = λ v _. role-printing v }
+
+pub facilities-line : OnLine (λ _. ⊤) facility_text
+facilities-line = record { printing = λ v _. facility-printing v }
+
+pub ways-line : OnLine (λ _. ⊤) way_text
+ways-line = record { printing = λ v _. way-printing v }
+
+safe-printing : (v : SafeNumber) → AtLeast 32 (safe_text v)
+safe-printing One = literal 32 (codes "1") refl
+safe-printing Two = literal 32 (codes "2") refl
+
+pub safes-line : OnLine (λ _. ⊤) safe_text
+safes-line = record { printing = λ v _. safe-printing v }
+
+pub truths-line : OnLine (λ _. ⊤) truth_text
+truths-line = record { printing = λ v _. truth-printing v }
+
+pub places-line : OnLine IsPlace place_text
+places-line = record { printing = λ v _. place-printing v }
+
+pub stores-line : OnLine IsStore store_text
+stores-line = record { printing = store-printing }
+
+pub days-line : OnLine IsDay day_text
+days-line = record { printing = λ v _. day-printing v }
+
+pub initials-line : OnLine IsInitials (λ text. text)
+initials-line = record { printing = λ v is. at_least-less 65 32 v (omega arith) (initials-at_least v is) }
+
+pub serials-line : OnLine IsSerial (λ text. text)
+serials-line = record { printing = λ v is. at_least-less 48 32 v (omega arith) (serial-at_least v is) }
+
+pub remarks-line : OnLine (IsLine 1000) (λ text. text)
+remarks-line = record { printing = λ v is. All-weaker IsPrinting (λ b. 32 ≤ b) (λ b h. h.0) v is.printing }
+
+pub numbers-line : OnLine (IsNumber 9999) decimal
+numbers-line = record { printing = λ v is. at_least-less 48 32 (decimal v) (omega arith) (number-at_least 9999 v (omega arith) is) }
+
+pub steps-line : OnLine (IsNumber 400) decimal
+steps-line = record { printing = λ v is. at_least-less 48 32 (decimal v) (omega arith) (number-at_least 400 v (omega arith) is) }
+
+pub people-line : OnLine ArePeople listed
+people-line = record {
+  printing = λ v are. join-at_least 32 v (omega arith) (All-weaker IsInitials (λ code. AtLeast 32 code) (λ code is. initials-line.printing code is) v are.each);
+}
+
+pub items-line : OnLine AreItems listed
+items-line = record {
+  printing = λ v are. join-at_least 32 v (omega arith) (All-weaker IsSerial (λ code. AtLeast 32 code) (λ code is. serials-line.printing code is) v are.each);
+}
+
+no-slash : (front : List ℕ) (n : ℕ) → list_all (λ b. not (eqb b 47)) front ≡ true → Lacks 47 (front ++ (48 + n) ∷ [])
+no-slash front n test =
+    All-append (λ b. eqb b 47 ≡ false) front ((48 + n) ∷ []) (lacks-literal 47 front test)
+    (lacks-below 47 48 ((48 + n) ∷ []) (omega arith) (All-from_recursion (λ b. 48 ≤ b) ((48 + n) ∷ []) (omega arith, tt)))
+
+pub initials-path : InPath IsInitials (λ text. text)
+initials-path = record { no_slash = λ v is. lacks-below 47 65 v (omega arith) (initials-at_least v is) }
+
+pub serials-path : InPath IsSerial (λ text. text)
+serials-path = record { no_slash = λ v is. lacks-below 47 48 v (omega arith) (serial-at_least v is) }
+
+pub numbers-path : InPath (IsNumber 9999) decimal
+numbers-path = record { no_slash = λ v is. lacks-below 47 48 (decimal v) (omega arith) (number-at_least 9999 v (omega arith) is) }
+
+pub steps-path : InPath (IsNumber 400) decimal
+steps-path = record { no_slash = λ v is. lacks-below 47 48 (decimal v) (omega arith) (number-at_least 400 v (omega arith) is) }
+
+place-path : (v : Place) → Lacks 47 (place_text v)
+place-path (Co East n) = no-slash (codes "CO-EAST-") n refl
+place-path (Co West n) = no-slash (codes "CO-WEST-") n refl
+place-path (Rksh n) = no-slash (codes "RKSH-") n refl
+
+pub places-path : InPath IsPlace place_text
+places-path = record { no_slash = λ v _. place-path v }

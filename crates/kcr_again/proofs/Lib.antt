@@ -1,0 +1,9 @@
+pub mod Again
+pub mod Cutting
+pub mod Dates
+pub mod Formed
+pub mod Found
+pub mod Listing
+pub mod Paths
+pub mod Readers
+pub mod Scripts

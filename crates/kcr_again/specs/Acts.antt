@@ -1,0 +1,53 @@
+-- Acts whose parts are values of their types.
+use Rattle.std.specs.Prelude.{ℕ, List, All, IsUtf8}
+use Rattle.kcr_base.specs.Day.{IsDay}
+use Rattle.kcr_base.specs.Initials.{IsInitials}
+use Rattle.kcr_base.specs.Line.{IsLine}
+use Rattle.kcr_base.specs.Lists.{IsListed}
+use Rattle.kcr_base.specs.Moment.{IsMoment}
+use Rattle.kcr_base.specs.Number.{IsNumber}
+use Rattle.kcr_base.specs.Place.{IsPlace}
+use Rattle.kcr_base.specs.Serial.{IsSerial}
+use Rattle.kcr_custody.specs.declared.Store.{Store}
+use Rattle.kcr_custody.specs.declared.Store.TheVariants.{SafeOne, Boxed}
+use Rattle.kcr_history.specs.declared.commands.Act.{Act}
+use Rattle.kcr_history.specs.declared.commands.Act.TheVariants.{Enter, Train, Withdraw, Appoint, Replace, Release}
+use Rattle.kcr_history.specs.declared.commands.Act.TheVariants.{AddBox, AddItem, Plan, Open, Close, Sheet, Sign, Except}
+use Rattle.kcr_history.specs.declared.commands.Act.TheVariants.{TurnSafe, Seal, Take, Put, Cut}
+
+-- one to thirty-two people, none of them twice
+pub record ArePeople (people : List (List ℕ)) : Type 0 where
+  pub listed : IsListed 32 people
+  pub each : All IsInitials people
+
+-- one to sixty-four items, none of them twice
+pub record AreItems (items : List (List ℕ)) : Type 0 where
+  pub listed : IsListed 64 items
+  pub each : All IsSerial items
+
+-- safe 1, or a box with a number that boxes have
+abbrev pub IsStore : Store → Type 0
+IsStore SafeOne = Unit {0}
+IsStore (Boxed number) = IsNumber 9999 number
+
+-- each part of the act is a value of its type; those of which all are, as roles, are left out
+abbrev pub IsAct : Act → Type 0
+IsAct (Enter who name) = IsInitials who × IsLine 120 name
+IsAct (Train who role since until) = IsInitials who × IsDay since × IsDay until
+IsAct (Withdraw who role day) = IsInitials who × IsDay day
+IsAct (Appoint place who day) = IsPlace place × IsInitials who × IsDay day
+IsAct (Replace place who day) = IsPlace place × IsInitials who × IsDay day
+IsAct (Release place day) = IsPlace place × IsDay day
+IsAct (AddBox facility number place) = IsNumber 9999 number × IsPlace place
+IsAct (AddItem ceremony item at) = IsNumber 9999 ceremony × IsSerial item × IsMoment at
+IsAct (Plan number facility day script) = IsNumber 9999 number × IsDay day × IsUtf8 script
+IsAct (Open ceremony at) = IsNumber 9999 ceremony × IsMoment at
+IsAct (Close ceremony at) = IsNumber 9999 ceremony × IsMoment at
+IsAct (Sheet ceremony way who at) = IsNumber 9999 ceremony × ArePeople who × IsMoment at
+IsAct (Sign ceremony step at) = IsNumber 9999 ceremony × IsNumber 400 step × IsMoment at
+IsAct (Except ceremony text pass at) = IsNumber 9999 ceremony × IsLine 1000 text × IsMoment at
+IsAct (TurnSafe ceremony safe state by at) = IsNumber 9999 ceremony × IsInitials by × IsMoment at
+IsAct (Seal ceremony serial items at) = IsNumber 9999 ceremony × IsSerial serial × AreItems items × IsMoment at
+IsAct (Take ceremony serial at) = IsNumber 9999 ceremony × IsSerial serial × IsMoment at
+IsAct (Put ceremony serial to at) = IsNumber 9999 ceremony × IsSerial serial × IsStore to × IsMoment at
+IsAct (Cut ceremony serial at) = IsNumber 9999 ceremony × IsSerial serial × IsMoment at

@@ -1,0 +1,21 @@
+//! Acts read again from their texts.
+//!
+//! The register keeps each accepted command by the text of its act: the path of the command's request, then the
+//! values of its body, each on a line of its own. `read_act` leads back from such a text to the act, and from any other
+//! text to nothing: the first line is cut into the pieces of the path, which say what kind of act it is, and the lines
+//! after it are read as that kind's values. A script is the last value of its act, so it may have lines of its own.
+#![tactic(auto)]
+
+mod bags;
+mod ceremonies;
+mod collections;
+mod cuts;
+pub mod laws;
+mod lists;
+mod parts;
+mod people;
+mod places;
+mod told;
+mod values;
+
+pub use told::read_act;

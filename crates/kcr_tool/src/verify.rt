@@ -1,0 +1,117 @@
+//! The verification of a register, as lines.
+ghost use Rattle.std.specs.Prelude.{◌≡◌, ◌≤◌, ◌⊎◌, None, IfOk, IfErr, OnErr, string_bytes};
+ghost use Rattle.sqlite.specs.Held.{Held, state};
+ghost use Rattle.sqlite.specs.State.{HasCleanDisk};
+ghost use Rattle.kcr_base.specs.Counted.{inner_of};
+ghost use Rattle.kcr_history.specs.Tables.{Tables};
+ghost use Rattle.kcr_tables.specs.Joint.{HoldsTables};
+ghost use Rattle.kcr_tool.specs.Faults.{StopsReport};
+ghost use Rattle.kcr_tool.specs.Lines.{difference_line, found_line, verified_line};
+ghost use Rattle.kcr_tool.specs.Runs.{OfHistory};
+ghost use Rattle.kcr_tool.specs.Verifications.{IsLineFor, TellsVerified, TellsVerifiedFront};
+ghost use Rattle.kcr_verify.specs.Verified.{AreValues, IsTold};
+ghost use Rattle.kcr_verify.specs.declared.verification.Verified.{Verified as Told};
+
+use crate::fault::Fault;
+use crate::lines::around;
+use itoa::Buffer;
+use kcr_base::{Counted, Refusal};
+use kcr_print::put;
+use kcr_store::Register;
+use kcr_verify::{Difference, Verified};
+use sqlite::Alter;
+use std::alloc::{AllocError, Global};
+use std::io::Write;
+
+/// The line of a difference. The error is want of memory.
+fn line_of(alloc: Global, difference: &Difference) -> Result<String, AllocError>
+    ensures { IfOk result (λ line. string_bytes line ≡ difference_line difference.now) }
+{
+    let mut digits = Buffer::new();
+    match difference {
+        Difference::Number(place) => {
+            around(alloc, "finding: number ", digits.format(*place), "\n")
+        }
+        Difference::Command(number) => {
+            around(alloc, "finding: command ", digits.format(*number), "\n")
+        }
+        Difference::Refused(number) => {
+            around(alloc, "finding: refused ", digits.format(*number), "\n")
+        }
+        Difference::Reply(number) => {
+            around(alloc, "finding: reply ", digits.format(*number), "\n")
+        }
+        Difference::Rows(table) => around(alloc, "finding: table ", table.name(), "\n"),
+    }
+}
+
+/// The line of what a verification came to. The error is want of memory.
+fn line_of_verified(alloc: Global, verified: &Verified) -> Result<String, AllocError>
+    ensures { IfOk result (λ line. IsLineFor verified.now (string_bytes line)) }
+{
+    match verified {
+        Verified::Whole(count) => around(
+            alloc,
+            "verified: ",
+            Buffer::new().format(*count),
+            " commands\n",
+        ),
+        Verified::Differs(difference) => line_of(alloc, difference),
+    }
+}
+
+/// Writes the line of what a verification came to, and answers the exit status: 0 where nothing differs, else 1.
+fn tell_verified<W: Write>(
+    alloc: Global,
+    verified: &Verified,
+    output: &mut Counted<W>,
+) -> Result<u8, Fault>
+    ensures told { IfOk result
+        (TellsVerified verified.now (W.contents (inner_of output.old)) (W.contents (inner_of output.new))) }
+    ensures part { OnErr result ((output.new ≡ output.old)
+        ⊎ TellsVerifiedFront (W.contents (inner_of output.old)) (W.contents (inner_of output.new))) }
+    ensures cause { IfErr result (StopsReport output.old output.new) }
+{
+    let Ok(line) = line_of_verified(alloc, verified) else {
+        return Err(Fault::Refused(Refusal::Memory));
+    };
+    match put(output, line.as_bytes()) {
+        Ok(()) => match verified {
+            Verified::Whole(_) => Ok(0),
+            Verified::Differs(_) => Ok(1),
+        },
+        Err(_) => Err(Fault::Unwritten),
+    }
+}
+
+/// Verifies a register: a line that says of how many commands it is the register, or the first thing that differs from
+/// what its commands lead to, and the exit status, 1 where something differs. Want of memory is refused (33), as is a
+/// fault of the device (34) and a broken register (35), and nothing is written then.
+#[tactic(auto, using(crate::proofs::Verifications::status_told, crate::proofs::Verifications::nothing_told))]
+pub fn verify<S: Alter, W: Write>(
+    alloc: Global,
+    register: &mut Register<S>,
+    output: &mut Counted<W>,
+) -> Result<u8, Fault>
+    ensures status { IfOk result (λ status. status ≤ 1) }
+    ensures told { IfOk result (λ status. (told : Told)
+        × TellsVerified told (W.contents (inner_of output.old)) (W.contents (inner_of output.new)) status) }
+
+    // That the register is the one of its commands is told where it is true of the tables that the database holds,
+    // whoever wrote them.
+    ensures found { ((conn : Held S) → HasCleanDisk (state S.Store conn)) → register.old.torn ≡ None
+        → (m : Tables) → HoldsTables m (state S.Store register.old.conn).now
+        → IfOk result (λ status. (told : Told) × IsTold m told
+        × TellsVerified told (W.contents (inner_of output.old)) (W.contents (inner_of output.new)) status) }
+
+    // In the tables of a history nothing differs.
+    ensures nothing { OfHistory S.Store register.old (λ A. AreValues A → IfOk result (λ status. status ≡ 0)) }
+    ensures part { OnErr result ((output.new ≡ output.old)
+        ⊎ TellsVerifiedFront (W.contents (inner_of output.old)) (W.contents (inner_of output.new))) }
+    ensures cause { IfErr result (StopsReport output.old output.new) }
+{
+    match kcr_verify::verify(alloc, register) {
+        Ok(verified) => tell_verified(alloc, &verified, output),
+        Err(refusal) => Err(Fault::Refused(refusal)),
+    }
+}

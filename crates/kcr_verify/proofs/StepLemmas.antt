@@ -1,0 +1,46 @@
+-- A command that is given again is a step of the register.
+use Rattle.std.proofs.Common.{◌≡◌, ◌≢◌, ◌∷◌, List, ℕ, Ok, Err, refl, ap, ap₂, ◌∙◌, subst}
+use Rattle.sqlite.specs.Held.{Held, state}
+use Rattle.sqlite.specs.State.{HasCleanDisk}
+use Rattle.sqlite.specs.Steps.{over_memory}
+use Rattle.sqlite_trees.specs.declared.memory.MemStore.{MemStore}
+use Rattle.sqlite_trees.specs.View.{doubt}
+use Rattle.kcr_base.specs.declared.refusal.Refusal.{Refusal}
+use Rattle.kcr_base.specs.declared.refusal.Refusal.TheVariants.{Memory, Disk}
+use Rattle.kcr_history.specs.History.{History}
+use Rattle.kcr_history.specs.Machine.{IsRegister, machine, Accepts, Refuses}
+use Rattle.kcr_history.specs.Texts.{answer_text}
+use Rattle.kcr_history.specs.declared.commands.Act.{Act}
+use Rattle.kcr_history.specs.declared.commands.Answer.{Answer}
+use Rattle.kcr_history.specs.declared.commands.Command.{Command}
+use Rattle.kcr_history.specs.declared.commands.Entry.{Entry}
+use Rattle.kcr_history.specs.declared.commands.Reply.{Reply}
+use Rattle.kcr_store.specs.Steps.{Steps}
+
+-- the disk of a register in memory is never in doubt
+pub never_in_doubt : (conn : Held MemStore) → HasCleanDisk (state over_memory conn)
+unfolding doubt
+never_in_doubt conn = refl
+
+-- a command by its parts
+pub by_parts : (key : List ℕ) (act : Act) (command : Command) → key ≡ command.key → act ≡ command.act → record { key = key; act = act } ≡ command
+by_parts key act command p q = ap₂ (λ (k : List ℕ) (a : Act). let c : Command = record { key = k; act = a } in c) p q
+
+-- what the law of answers says
+abbrev pub IsFixed : Type 0
+IsFixed = (A : History) (x : Command) (a b : Answer) (B C : History) → machine A x (Accepts a) B → machine A x (Accepts b) C → (a ≡ b) × (B ≡ C)
+
+abbrev pub IsEither : Type 0
+IsEither = (A : History) (x : Command) (a : Answer) (r : Refusal) (B C : History) → machine A x (Accepts a) B → machine A x (Refuses r) C → ⊥
+
+module _ (A : History) (entry : Entry) (h : IsRegister (entry ∷ A)) (command : Command) (same : command ≡ entry.command) (A' : History) where
+  -- a reply to the command of the next entry is that entry's, and the register then has it
+  pub goes_on : IsFixed → (reply : Reply) → Steps A command (Ok reply) A' → (reply.text ≡ answer_text entry.answer) × (A' ≡ entry ∷ A)
+  goes_on fixed reply step =
+      let both = fixed A entry.command step.0 entry.answer A' (entry ∷ A) (subst (λ (x : Command). machine A x (Accepts step.0) A') same step.1) h.0 in
+      (step.2 ∙ ap answer_text both.0, both.1)
+
+  -- and it is not refused, but for want of memory or by a fault of the device
+  pub not_refused : IsEither → (refusal : Refusal) → Steps A command (Err refusal) A' → refusal ≢ Memory → refusal ≢ Disk → ⊥
+  not_refused either refusal step memory disk =
+      either A entry.command entry.answer refusal (entry ∷ A) A' h.0 (subst (λ (x : Command). machine A x (Refuses refusal) A') same (step.1 memory disk))

@@ -1,0 +1,81 @@
+//! The commands of a register, given to another.
+ghost use Rattle.std.specs.Prelude.{◌≡◌, ◌∷◌, [], true, None, IfOk};
+ghost use Rattle.kcr_history.specs.History.{History};
+ghost use Rattle.kcr_history.specs.Machine.{IsRegister};
+ghost use Rattle.kcr_history.specs.Tables.{key_row};
+ghost use Rattle.kcr_history.specs.declared.commands.Entry.{Entry as Accepted};
+ghost use Rattle.kcr_again.specs.Acts.{IsAct};
+ghost use Rattle.kcr_verify.specs.Verified.{AreValues, rows_by_number};
+
+use crate::verification::Difference;
+use kcr_again::read_act;
+use kcr_base::Refusal;
+use kcr_history::{Command, KeyRow, numbers_count_commands};
+use kcr_laws::laws::answers_are_fixed;
+use kcr_store::Register;
+use sqlite::MemStore;
+use std::alloc::Global;
+
+/// Gives the command of a row to the register, and answers what is not as the row says.
+fn give(
+    alloc: Global,
+    row: &KeyRow,
+    register: &mut Register<MemStore>,
+) -> Result<Option<Difference>, Refusal>
+    requires founded { register.old.is_founded ≡ true }
+    requires torn { register.old.torn ≡ None }
+    ensures founded { register.new.is_founded ≡ true }
+    ensures torn { IfOk result (λ _. register.new.torn ≡ None) }
+
+    // Where it is the row of the entry that the machine goes to next, nothing differs, and the register has the entry.
+    ensures own { (entry : Accepted) → IsRegister (entry ∷ register.old.accepted) → IsAct entry.command.act
+        → row.now ≡ key_row entry
+        → IfOk result (λ difference. (difference ≡ None) × (register.new.accepted ≡ entry ∷ register.old.accepted)) }
+{
+    answers_are_fixed();
+    let Some(act) = read_act(alloc, row.command.as_bytes())? else {
+        return Ok(Some(Difference::Command(row.accepted)));
+    };
+    let command = Command { key: row.key, act };
+    match register.apply(&command) {
+        Ok(reply) => {
+            if reply.text == row.reply {
+                Ok(None)
+            } else {
+                Ok(Some(Difference::Reply(row.accepted)))
+            }
+        }
+        Err(Refusal::Memory) => Err(Refusal::Memory),
+        Err(Refusal::Disk) => Err(Refusal::Disk),
+        Err(_) => Ok(Some(Difference::Refused(row.accepted))),
+    }
+}
+
+/// Gives the commands of these rows to an empty register in memory, one after the other, and answers the first thing
+/// that is not as the rows say.
+pub(crate) fn replay(
+    alloc: Global,
+    rows: &[KeyRow],
+    register: &mut Register<MemStore>,
+) -> Result<Option<Difference>, Refusal>
+    requires founded { register.old.is_founded ≡ true }
+    requires torn { register.old.torn ≡ None }
+    requires empty { register.old.accepted ≡ [] }
+    ensures founded { register.new.is_founded ≡ true }
+    ensures torn { IfOk result (λ _. register.new.torn ≡ None) }
+    ensures own { (A : History) → IsRegister A → AreValues A → rows.now ≡ rows_by_number A
+        → IfOk result (λ difference. (difference ≡ None) × (register.new.accepted ≡ A)) }
+{
+    numbers_count_commands();
+    for (index, row) in rows.iter().enumerate() {
+        if row.accepted as usize != index + 1 {
+            return Ok(Some(Difference::Number(index + 1)));
+        }
+        match give(alloc, row, register) {
+            Ok(None) => {}
+            Ok(Some(difference)) => return Ok(Some(difference)),
+            Err(refusal) => return Err(refusal),
+        }
+    }
+    Ok(None)
+}
