@@ -66,6 +66,21 @@ def verified(program, file, commands):
            call(program, "verify", "--file", file))
 
 
+def rebuilt(program, file, name, room):
+    """Sees that a new register of a file's commands has the same rows, and that no file that holds something is touched."""
+    fresh, tables = room / f"rebuilt-{name}", kcr.kept_tables(stream(name))
+    expect("rebuild", (f"rebuilt: {len(tables['keys'])} commands\n".encode(), b"", 0),
+           call(program, "rebuild", "--file", file, "--into", fresh))
+    kcr.stored(fresh, tables)
+    reported(program, fresh, stream(name))
+    for into, fault in [(fresh, b"into: filled\n"), (file, b"into: disk\n")]:
+        expect(f"into {into.name}", (b"", fault, 1), call(program, "rebuild", "--file", file, "--into", into))
+        kcr.stored(into, tables)
+    expect("no register", (b"", b"open: disk\n", 1), call(program, "rebuild", "--file", room, "--into", room / "none"))
+    expect("no new file", False, (room / "none").exists())
+    expect("no new place", (b"", b"into: disk\n", 1), call(program, "rebuild", "--file", file, "--into", room))
+
+
 def repeated(program, file, folder):
     """Sees that each accepted command, sent again in its order, gets its answer again."""
     commands = kcr.commands(folder)
@@ -80,6 +95,7 @@ def kept_stream(program, name, room):
     kcr.stored(file, tables)
     repeated(program, file, stream(name))
     kcr.stored(file, tables)
+    rebuilt(program, file, name, room)
 
 
 def opened_anew(program, room):
@@ -431,6 +447,14 @@ def differences(program, room):
             differed(program, changed, f"table {table}")
 
 
+def kept_commands(finding, last):
+    """How many commands a rebuilt register has after a finding: those before the one named, it too where its reply differs."""
+    kind, name = finding.split()
+    if kind == "table":
+        return last - 1
+    return int(name) if kind == "reply" else int(name) - 1
+
+
 def changed_commands(program, room):
     """What sqlite3 changes among the accepted commands is found, and the command named."""
     file = filled(program, room, "072")
@@ -454,6 +478,9 @@ def changed_commands(program, room):
         changed = copy(file, room / f"changed-{number}")
         change(changed, statement)
         differed(program, changed, finding)
+        expect("rebuild", (f"finding: {finding}\n".encode(), b"", 1),
+               call(program, "rebuild", "--file", changed, "--into", room / f"fresh-{number}"))
+        verified(program, room / f"fresh-{number}", kept_commands(finding, last))
 
 
 def rows_of_no_register(program, room):

@@ -9,8 +9,8 @@ use Rattle.kcr_base.specs.declared.counted.Counted.{Counted}
 use Rattle.kcr_desk.specs.declared.fault.DeskFault.{DeskFault}
 use Rattle.kcr_desk.specs.declared.fault.DeskFault.TheVariants as stream
 use Rattle.kcr_tool.specs.declared.fault.Fault.{Fault}
-use Rattle.kcr_tool.specs.declared.fault.Fault.TheVariants.{Open, Stream, Refused, Unwritten, Net, Words}
-use Rattle.kcr_tool.specs.Faults.{HasCause, StopsReport, StopsServing}
+use Rattle.kcr_tool.specs.declared.fault.Fault.TheVariants.{Open, Into, Stream, Refused, Unwritten, Net, Words}
+use Rattle.kcr_tool.specs.Faults.{HasCause, StopsReport, StopsRebuild, StopsServing}
 
 pub stream_cause : {T R W : Type 0} (fault : DeskFault) (old_input new_input : Counted R) (old_output new_output : Counted W)
     → (IsErrOf {T = T} (Err fault) stream.Read → (failures_of old_input < failures_of new_input) ⊎ (gifts_of new_input ≡ gifts_of old_input + 1000000))
@@ -24,11 +24,23 @@ stream_cause stream.Memory old_input new_input old_output new_output read write 
 pub stops_cause : {R W : Type 0} (why : Fault) (old_input new_input : Counted R) (old_output new_output : Counted W)
     → StopsReport old_output new_output why → HasCause why old_input new_input old_output new_output
 stops_cause (Open fault) i j o p stops = absurd stops
+stops_cause (Into fault) i j o p stops = absurd stops
 stops_cause (Stream fault) i j o p stops = absurd stops
 stops_cause (Refused refusal) i j o p stops = tt
 stops_cause Unwritten i j o p stops = stops
 stops_cause Net i j o p stops = tt
 stops_cause Words i j o p stops = absurd stops
+
+-- and so is what stopped a rebuild, which reads nothing
+pub rebuild_cause : {R W : Type 0} (why : Fault) (input : Counted R) (old_output new_output : Counted W)
+    → StopsRebuild old_output new_output why → HasCause why input input old_output new_output
+rebuild_cause (Into fault) i o p same = (refl, same)
+rebuild_cause (Open fault) i o p stops = absurd stops
+rebuild_cause (Stream fault) i o p stops = absurd stops
+rebuild_cause (Refused refusal) i o p stops = tt
+rebuild_cause Unwritten i o p stops = stops
+rebuild_cause Net i o p stops = absurd stops
+rebuild_cause Words i o p stops = absurd stops
 
 -- and so is what stopped the listening
 pub serving_cause : {R W : Type 0} (why : Fault) (old_input new_input : Counted R) (old_output new_output : Counted W)

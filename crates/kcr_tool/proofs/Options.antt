@@ -1,4 +1,4 @@
--- Words that are taken give each required number of their subcommand.
+-- Words that are taken give each required option of their subcommand.
 use Rattle.std.proofs.Common.{◌≡◌, ◌&&◌, ◌||◌, ◌==◌, ℕ, zero, suc, Bool, true, false, not, cond, List, [], ◌∷◌, ◌++◌, Option, Some, None, refl, sym, ap, ◌∙◌, subst, length, drop, option_map, arith}
 use Rattle.std.specs.Prelude.{is_some, fold, find, MatchOption, option_and_then, slice_get, encode_utf8}
 use Rattle.std.specs.List.{AllByRecursion, list_any}
@@ -11,21 +11,22 @@ use Rattle.clap.specs.Kinds.{Kinds, check_kinds, or_else, range_kinds}
 use Rattle.clap.specs.Facts.{explicit_source}
 use Rattle.clap.specs.Takes.{is_given}
 use Rattle.clap.specs.Faults.{bundle_step_fault, check_fault, default_fault, defaults_fault, flags_fault, flag_word_fault, level_fault, repeat_fault, values_fault, long_fault, option_fault, other_fault, positional_fault, react_fault, settle_fault, short_fault, step_fault, stray_fault, turn_fault, use_fault, walk_fault, word_fault}
-use Rattle.clap.specs.Simple.{Shape, filled, rows_at}
+use Rattle.clap.specs.Simple.{Shape, filled, new_rule, rows_at}
 use Rattle.clap.specs.ValueTests.{is_unsigned_in}
-use Rattle.clap.specs.Walk.{Held, Names, Outcome, Row, Rule, Step, Text, Waiting, Walk, action_of, after_flag, after_step, arg_by_id, arg_by_index, arg_by_long, arg_by_short, at_row, attached_value, bundle, bundle_met, bundle_step, done, waits, plain, refused, finished, flag_met, has_row, idle, is_pending, long_met, long_or_other, next, nothing_held, one_of, option, option_met, option_word, plain_word, positional, positional_held, reacted, row_text, rows_after, settled, settled_rows, short_met, short_or_plain, subcommand, subcommand_met, subcommand_or_other, takes_several, takes_values, to_positional, trailing, used, used_by_id, value, walk, walk_from, walked, walked_from, with_default, default_rows, reading_by, stronger, used_as, values_or_missing, with_values, without, word_met}
+use Rattle.clap.specs.Walk.{Held, Names, Outcome, Row, Rule, Step, Text, Waiting, Walk, action_of, after_flag, after_step, arg_by_id, arg_by_index, arg_by_long, arg_by_short, at_row, attached_value, first_of, bundle, bundle_met, bundle_step, done, waits, plain, refused, finished, flag_met, has_row, idle, is_pending, long_met, long_or_other, next, nothing_held, one_of, option, option_met, option_word, plain_word, positional, positional_held, reacted, row_text, rows_after, settled, settled_rows, short_met, short_or_plain, subcommand, subcommand_met, subcommand_or_other, takes_several, takes_values, to_positional, trailing, used, used_by_id, value, walk, walk_from, walked, walked_from, with_default, default_rows, reading_by, stronger, used_as, values_or_missing, with_values, without, word_met}
 use Rattle.clap.specs.declared.error.kind.ErrorKind.{ErrorKind}
 use Rattle.clap.specs.declared.error.kind.ErrorKind.TheVariants as kind
 use Rattle.clap.specs.declared.builder.action.ArgAction.{ArgAction}
 use Rattle.clap.specs.declared.builder.action.ArgAction.TheVariants.{Set, Help}
 use Rattle.clap.specs.declared.parser.matches.ValueSource.TheVariants.{CommandLine}
 use Rattle.clap.specs.declared.builder.value_parser.Reading.TheVariants.{AsWritten}
+use Rattle.clap.specs.declared.builder.value_parser.ValueParser.{ValueParser}
 use Rattle.clap.specs.declared.builder.value_parser.ValueParser.TheVariants.{Unsigned}
 use Rattle.clap.specs.Values.{refused_kind}
 use Rattle.std.specs.Str.Parse.{digits_value, without_leading_plus}
 use Rattle.clap.specs.declared.parser.matches.ValueSource.{ValueSource}
 use Rattle.clap.specs.declared.builder.value_parser.Reading.{Reading}
-use Rattle.kcr_tool.specs.Commands.{number_rule}
+use Rattle.kcr_tool.specs.Commands.{number_rule, text_rule}
 use Rattle.kcr_tool.specs.Tasks.{number_up_to, number_at}
 
 pub both_empty : (a b : Kinds) → or_else a b ≡ [] → (a ≡ []) × (b ≡ [])
@@ -196,12 +197,19 @@ module _ (s : Shape) (P : List Row → Type 0) where
         let each = both_empty (turn_fault s names w word) (walk_fault s names (walked s.rules names w word) words) none in
         walk_keeps names (walked s.rules names w word) words each.1 (turn_keeps names w word each.0 p)
 
--- ---- an option whose value is a number
+-- ---- an option with a value
 
--- where the option has a row, its text is a number from 1 to the most
-abbrev HasNumber : Text → ℕ → List Row → Type 0
-HasNumber name most rows =
-    MatchOption (find (λ r. bytes_eq r.id name) rows) (Unit {0}) (λ r. is_some (option_and_then (number_up_to most) (row_text r)) ≡ true)
+-- where the option has a row, this holds of it
+abbrev HasRow : (Row → Bool) → Text → List Row → Type 0
+HasRow holds name rows = MatchOption (find (λ r. bytes_eq r.id name) rows) (Unit {0}) (λ r. holds r ≡ true)
+
+-- its text is a number from 1 to the most
+abbrev pub is_number : ℕ → Row → Bool
+is_number most r = is_some (option_and_then (number_up_to most) (row_text r))
+
+-- it has a text
+abbrev pub is_text : Row → Bool
+is_text r = is_some (slice_get r.values 0)
 
 same_bytes : (t : Text) → bytes_eq t t ≡ true
 same_bytes t = (bytes_eq-Decides t t).1 refl
@@ -269,28 +277,44 @@ only_one false true e = refl
 only_one false false e = cc
 
 -- an option that sets another value keeps it
-pub other_keeps : (s : Shape) (name : Text) (most : ℕ) (a : Rule) → action_of a ≡ Set → bytes_eq a.id name ≡ false → Keeps s (HasNumber name most) a
-other_keeps s name most a set differ values rows none p =
+pub other_keeps : (s : Shape) (holds : Row → Bool) (name : Text) (a : Rule) → action_of a ≡ Set → bytes_eq a.id name ≡ false → Keeps s (HasRow holds name) a
+other_keeps s holds name a set differ values rows none p =
     let how = reading_by a in
     let given = values_or_missing a values in
     let same = with_other a.id name how CommandLine given differ (without a.id rows) ∙ without_other a.id name differ rows in
-    let kept : HasNumber name most (used_as Set a.id how given rows) =
-    subst (λ (o : Option Row). MatchOption o (Unit {0}) (λ r. is_some (option_and_then (number_up_to most) (row_text r)) ≡ true)) (sym same) p in
-    subst (λ (x : ArgAction). HasNumber name most (used_as x a.id how given rows)) (sym set) kept
+    let kept : HasRow holds name (used_as Set a.id how given rows) =
+    subst (λ (o : Option Row). MatchOption o (Unit {0}) (λ r. holds r ≡ true)) (sym same) p in
+    subst (λ (x : ArgAction). HasRow holds name (used_as x a.id how given rows)) (sym set) kept
 
 -- and so does the one that asks for help
 pub help_keeps : (s : Shape) (P : List Row → Type 0) (a : Rule) → action_of a ≡ Help → Keeps s P a
 help_keeps s P a asks values rows none p =
     subst (λ (x : ArgAction). P (used_as x a.id (reading_by a) (values_or_missing a values) rows)) (sym asks) p
 
+-- a required option whose values this parser reads
+abbrev required_rule : Text → Option ValueParser → Rule
+required_rule name parser = record (new_rule name) { long = Some name; value_names = 1; parser = parser; required = true }
+
+-- the row of its one value
+abbrev given_row : Text → Text → Row
+given_row name v = record { id = name; values = v ∷ []; count = None; source = Some CommandLine; reading = AsWritten }
+
 -- the option itself gives it
-pub number_keeps : (s : Shape) (name : Text) (most : ℕ) → s.args_override_self ≡ false → Keeps s (HasNumber name most) (filled (number_rule name most))
-number_keeps s name most once values rows none p = by_values values none
+given_keeps : (s : Shape) (holds : Row → Bool) (name : Text) (parser : Option ValueParser) → s.args_override_self ≡ false
+    → reading_by (filled (required_rule name parser)) ≡ AsWritten
+    → ((v : Text) → values_fault (filled (required_rule name parser)) (v ∷ []) ≡ [] → holds (given_row name v) ≡ true)
+    → Keeps s (HasRow holds name) (filled (required_rule name parser))
+given_keeps s holds name parser once plainly passes values rows none p = by_values values none
   where
     rule : Rule
-    rule = filled (number_rule name most)
+    rule = filled (required_rule name parser)
 
-    by_values : (values : List Text) → use_fault s.args_override_self rule values rows ≡ [] → HasNumber name most (used rule values rows)
+    unrepeated : (has again : Bool) → again ≡ false → cond (has && not again) (kind.ArgumentConflict ∷ []) [] ≡ [] → has ≡ false
+    unrepeated false again e free = refl
+    unrepeated true false e free = cc
+    unrepeated true true e free = cc
+
+    by_values : (values : List Text) → use_fault s.args_override_self rule values rows ≡ [] → HasRow holds name (used rule values rows)
     by_values [] free = absurd (some_kind _ _ free)
     by_values (v ∷ w ∷ vs) free =
         let many = length (v ∷ w ∷ vs) in
@@ -301,18 +325,21 @@ number_keeps s name most once values rows none p = by_values values none
         let each = both_empty (repeat_fault s.args_override_self name rows) (values_fault rule (v ∷ [])) free in
         let fresh : has_row name rows ≡ false = unrepeated (has_row name rows) s.args_override_self once each.0 in
         let row = first_row name AsWritten CommandLine (v ∷ []) rows fresh in
-        let passes : is_unsigned_in 1 most v ≡ true = accepted (is_unsigned_in 1 most v) each.1 in
-        let is : is_some (number_up_to most v) ≡ true = ap (λ (b : Bool). is_some (cond b (Some (digits_value 10 (without_leading_plus v))) None)) passes in
-        subst (λ (o : Option Row). MatchOption o (Unit {0}) (λ r. is_some (option_and_then (number_up_to most) (row_text r)) ≡ true)) (sym row) is
-      where
-        unrepeated : (has again : Bool) → again ≡ false → cond (has && not again) (kind.ArgumentConflict ∷ []) [] ≡ [] → has ≡ false
-        unrepeated false again e free = refl
-        unrepeated true false e free = cc
-        unrepeated true true e free = cc
+        let has : HasRow holds name (used_as Set name AsWritten (v ∷ []) rows) =
+        subst (λ (o : Option Row). MatchOption o (Unit {0}) (λ r. holds r ≡ true)) (sym row) (passes v each.1) in
+        subst (λ (how : Reading). HasRow holds name (used_as Set name how (v ∷ []) rows)) (sym plainly) has
 
-        accepted : (b : Bool) → or_else (cond b [] (refused_kind (Unsigned 1 most) ∷ [])) [] ≡ [] → b ≡ true
-        accepted true e = refl
-        accepted false e = cc
+pub number_keeps : (s : Shape) (name : Text) (most : ℕ) → s.args_override_self ≡ false → Keeps s (HasRow (is_number most) name) (filled (number_rule name most))
+number_keeps s name most once = given_keeps s (is_number most) name (Some (Unsigned 1 most)) once refl (
+    λ v free. ap (λ (b : Bool). is_some (cond b (Some (digits_value 10 (without_leading_plus v))) None)) (accepted (is_unsigned_in 1 most v) free)
+    )
+  where
+    accepted : (b : Bool) → or_else (cond b [] (refused_kind (Unsigned 1 most) ∷ [])) [] ≡ [] → b ≡ true
+    accepted true e = refl
+    accepted false e = cc
+
+pub text_keeps : (s : Shape) (name : Text) → s.args_override_self ≡ false → Keeps s (HasRow is_text name) (filled (text_rule name))
+text_keeps s name once = given_keeps s is_text name None once refl (λ v free. refl)
 
 -- ---- so a subcommand that is taken has it
 
@@ -335,11 +362,12 @@ none_missing false true missing e = cc
 none_missing false false true e = cc
 none_missing false false false e = refl
 
-pub required_number : (s : Shape) (name : Text) (most : ℕ) → AllByRecursion (Keeps s (HasNumber name most)) s.rules → AllByRecursion (λ a. a.defaults ≡ []) s.rules
+required_row : (s : Shape) (holds : Row → Bool) (name : Text) → AllByRecursion (Keeps s (HasRow holds name)) s.rules → AllByRecursion (λ a. a.defaults ≡ []) s.rules
     → s.subcommand_negates_reqs ≡ false
     → ((rows : List Row) → list_any (λ a. a.required && not (is_given a.id rows)) s.rules ≡ false → is_given name rows ≡ true)
-    → (words : List Text) → level_fault s [] nothing_held words false [] ≡ [] → is_some (number_at most name (rows_after s.rules [] words)) ≡ true
-required_number s name most keeps plain-rules negates required words none =
+    → (words : List Text) → level_fault s [] nothing_held words false [] ≡ []
+    → (r : Row) × (find (λ r. bytes_eq r.id name) (rows_after s.rules [] words) ≡ Some r) × (holds r ≡ true)
+required_row s holds name keeps plain-rules negates required words none =
     let end = (walk s.rules [] nothing_held words).held in
     let rows = finished s.rules end in
     let check = check_fault s rows false in
@@ -347,16 +375,31 @@ required_number s name most keeps plain-rules negates required words none =
     let each = both_empty (walk_fault s [] (walk_from nothing_held) words) (or_else (settle_fault s.rules s.args_override_self end) defaults) none in
     let settling = both_empty (settle_fault s.rules s.args_override_self end) defaults each.1 in
     let last = both_empty (defaults_fault (settled s.rules end).rows s.rules) check settling.1 in
-    let walked-over : HasNumber name most end.rows = walk_keeps s (HasNumber name most) keeps [] (walk_from nothing_held) words each.0 tt in
-    let at-end : HasNumber name most (settled s.rules end).rows = settles s (HasNumber name most) keeps end settling.0 walked-over in
-    let has : HasNumber name most rows = subst (HasNumber name most) (sym (no_defaults s.rules (settled s.rules end).rows plain-rules)) at-end in
+    let walked-over : HasRow holds name end.rows = walk_keeps s (HasRow holds name) keeps [] (walk_from nothing_held) words each.0 tt in
+    let at-end : HasRow holds name (settled s.rules end).rows = settles s (HasRow holds name) keeps end settling.0 walked-over in
+    let has : HasRow holds name rows = subst (HasRow holds name) (sym (no_defaults s.rules (settled s.rules end).rows plain-rules)) at-end in
     let missing = list_any (λ a. a.required && not (is_given a.id rows)) s.rules in
     let all-there : (not (s.subcommand_negates_reqs && false) && missing) ≡ false = none_missing _ _ _ last.1 in
     let there : is_given name rows ≡ true = required rows (let off : (not (s.subcommand_negates_reqs && false) && missing) ≡ missing = ap (λ (b : Bool). not (b && false) && missing) negates in sym off ∙ all-there) in
     by_row (find (λ r. bytes_eq r.id name) rows) has there
   where
-    by_row : (o : Option Row) → MatchOption o (Unit {0}) (λ r. is_some (option_and_then (number_up_to most) (row_text r)) ≡ true)
-        → option_map_or (λ r. explicit_source r.source) o false ≡ true
-        → is_some (option_and_then (number_up_to most) (option_and_then row_text o)) ≡ true
-    by_row None has given = given
-    by_row (Some r) has given = has
+    by_row : (o : Option Row) → MatchOption o (Unit {0}) (λ r. holds r ≡ true) → option_map_or (λ r. explicit_source r.source) o false ≡ true
+        → (r : Row) × (o ≡ Some r) × (holds r ≡ true)
+    by_row None has given = cc
+    by_row (Some r) has given = (r, refl, has)
+
+pub required_number : (s : Shape) (name : Text) (most : ℕ) → AllByRecursion (Keeps s (HasRow (is_number most) name)) s.rules → AllByRecursion (λ a. a.defaults ≡ []) s.rules
+    → s.subcommand_negates_reqs ≡ false
+    → ((rows : List Row) → list_any (λ a. a.required && not (is_given a.id rows)) s.rules ≡ false → is_given name rows ≡ true)
+    → (words : List Text) → level_fault s [] nothing_held words false [] ≡ [] → is_some (number_at most name (rows_after s.rules [] words)) ≡ true
+required_number s name most keeps plain-rules negates required words none =
+    let row = required_row s (is_number most) name keeps plain-rules negates required words none in
+    ap (λ (o : Option Row). is_some (option_and_then (number_up_to most) (option_and_then row_text o))) row.1 ∙ row.2
+
+pub required_text : (s : Shape) (name : Text) → AllByRecursion (Keeps s (HasRow is_text name)) s.rules → AllByRecursion (λ a. a.defaults ≡ []) s.rules
+    → s.subcommand_negates_reqs ≡ false
+    → ((rows : List Row) → list_any (λ a. a.required && not (is_given a.id rows)) s.rules ≡ false → is_given name rows ≡ true)
+    → (words : List Text) → level_fault s [] nothing_held words false [] ≡ [] → is_some (first_of name (rows_after s.rules [] words)) ≡ true
+required_text s name keeps plain-rules negates required words none =
+    let row = required_row s is_text name keeps plain-rules negates required words none in
+    ap (λ (o : Option Row). is_some (option_and_then (λ r. slice_get r.values 0) o)) row.1 ∙ row.2

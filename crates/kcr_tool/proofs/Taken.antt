@@ -17,10 +17,10 @@ use Rattle.clap.specs.Faults.{check_fault, defaults_fault, settle_fault, entered
 use Rattle.clap.specs.declared.error.kind.ErrorKind.TheVariants as kind
 use Rattle.clap.specs.Simple.{App, built, names_of, label_of, entered, rows_at, argument_words, new_shape, filled, help_rule}
 use Rattle.kcr_tool.specs.Commands.{tool_app, file_rule, number_rule}
-use Rattle.kcr_tool.specs.Tasks.{task_at, met_in, faults_of, number_at, serve_at, ceremony_at}
+use Rattle.kcr_tool.specs.Tasks.{task_at, met_in, faults_of, number_at, serve_at, ceremony_at, into_at}
 use Rattle.kcr_tool.specs.declared.words.Task.{Task}
-use Rattle.kcr_tool.specs.declared.words.Task.TheVariants.{Run, Serve, Print, Attendance, Custody, Audit}
-use Rattle.kcr_tool.proofs.Options.{both_empty, required_number, number_keeps, other_keeps, help_keeps}
+use Rattle.kcr_tool.specs.declared.words.Task.TheVariants.{Run, Serve, Print, Attendance, Custody, Audit, Verify, Rebuild}
+use Rattle.kcr_tool.proofs.Options.{both_empty, is_number, is_text, required_number, required_text, number_keeps, text_keeps, other_keeps, help_keeps}
 
 -- where a walk has stopped, it is not at `help`
 abbrev PastHelp : Option (Text × List Text) → Type 0
@@ -189,9 +189,9 @@ shape_at (suc n) (s ∷ ss) = shape_at n ss
 abbrev sub : ℕ → Shape
 sub n = shape_at n (built tool_app).subs
 
-eight_subs : (built tool_app).subs ≡ sub 0 ∷ sub 1 ∷ sub 2 ∷ sub 3 ∷ sub 4 ∷ sub 5 ∷ sub 6 ∷ sub 7 ∷ []
+nine_subs : (built tool_app).subs ≡ sub 0 ∷ sub 1 ∷ sub 2 ∷ sub 3 ∷ sub 4 ∷ sub 5 ∷ sub 6 ∷ sub 7 ∷ sub 8 ∷ []
 unfolding tool_app
-eight_subs = refl
+nine_subs = refl
 
 required_there : (b : Bool) → ((b && true) || false) ≡ false → b ≡ false
 required_there true e = cc
@@ -221,7 +221,7 @@ verify_holds : HoldsTask (sub 6)
 unfolding tool_app
 verify_holds words none = refl
 
-some_task : (f : ℕ → Task) (o : Option ℕ) → is_some o ≡ true → is_some (option_map f o) ≡ true
+some_task : {X : Type 0} (f : X → Task) (o : Option X) → is_some o ≡ true → is_some (option_map f o) ≡ true
 some_task f None is = is
 some_task f (Some n) is = refl
 
@@ -235,7 +235,7 @@ print_ceremony : (words : List Text) → level_fault (sub 2) [] nothing_held wor
 unfolding tool_app
 print_ceremony words none =
     required_number (sub 2) (codes "ceremony") 9999
-    (other_keeps (sub 2) (codes "ceremony") 9999 (filled file_rule) refl refl, (number_keeps (sub 2) (codes "ceremony") 9999 refl, (help_keeps (sub 2) _ (filled help_rule) refl, tt)))
+    (other_keeps (sub 2) (is_number 9999) (codes "ceremony") (filled file_rule) refl refl, (number_keeps (sub 2) (codes "ceremony") 9999 refl, (help_keeps (sub 2) _ (filled help_rule) refl, tt)))
     (refl, (refl, (refl, tt))) refl
     (λ rows free. given (is_given (codes "ceremony") rows) (either_none (not (is_given (codes "ceremony") rows)) false free).0)
     words none
@@ -244,7 +244,7 @@ attendance_ceremony : (words : List Text) → level_fault (sub 3) [] nothing_hel
 unfolding tool_app
 attendance_ceremony words none =
     required_number (sub 3) (codes "ceremony") 9999
-    (other_keeps (sub 3) (codes "ceremony") 9999 (filled file_rule) refl refl, (number_keeps (sub 3) (codes "ceremony") 9999 refl, (help_keeps (sub 3) _ (filled help_rule) refl, tt)))
+    (other_keeps (sub 3) (is_number 9999) (codes "ceremony") (filled file_rule) refl refl, (number_keeps (sub 3) (codes "ceremony") 9999 refl, (help_keeps (sub 3) _ (filled help_rule) refl, tt)))
     (refl, (refl, (refl, tt))) refl
     (λ rows free. given (is_given (codes "ceremony") rows) (either_none (not (is_given (codes "ceremony") rows)) false free).0)
     words none
@@ -253,7 +253,7 @@ serve_port : (words : List Text) → level_fault (sub 1) [] nothing_held words f
 unfolding tool_app
 serve_port words none =
     required_number (sub 1) (codes "port") 65535
-    (other_keeps (sub 1) (codes "port") 65535 (filled file_rule) refl refl, (number_keeps (sub 1) (codes "port") 65535 refl, (other_keeps (sub 1) (codes "port") 65535 (filled (number_rule (codes "connections") 1000000)) refl refl, (help_keeps (sub 1) _ (filled help_rule) refl, tt))))
+    (other_keeps (sub 1) (is_number 65535) (codes "port") (filled file_rule) refl refl, (number_keeps (sub 1) (codes "port") 65535 refl, (other_keeps (sub 1) (is_number 65535) (codes "port") (filled (number_rule (codes "connections") 1000000)) refl refl, (help_keeps (sub 1) _ (filled help_rule) refl, tt))))
     (refl, (refl, (refl, (refl, tt)))) refl
     (λ rows free. given (is_given (codes "port") rows) (either_none (not (is_given (codes "port") rows)) _ free).0)
     words none
@@ -262,7 +262,7 @@ serve_connections : (words : List Text) → level_fault (sub 1) [] nothing_held 
 unfolding tool_app
 serve_connections words none =
     required_number (sub 1) (codes "connections") 1000000
-    (other_keeps (sub 1) (codes "connections") 1000000 (filled file_rule) refl refl, (other_keeps (sub 1) (codes "connections") 1000000 (filled (number_rule (codes "port") 65535)) refl refl, (number_keeps (sub 1) (codes "connections") 1000000 refl, (help_keeps (sub 1) _ (filled help_rule) refl, tt))))
+    (other_keeps (sub 1) (is_number 1000000) (codes "connections") (filled file_rule) refl refl, (other_keeps (sub 1) (is_number 1000000) (codes "connections") (filled (number_rule (codes "port") 65535)) refl refl, (number_keeps (sub 1) (codes "connections") 1000000 refl, (help_keeps (sub 1) _ (filled help_rule) refl, tt))))
     (refl, (refl, (refl, (refl, tt)))) refl
     (λ rows free. given (is_given (codes "connections") rows)
     (either_none (not (is_given (codes "connections") rows)) false (either_none (not (is_given (codes "port") rows)) _ free).1).0)
@@ -280,13 +280,27 @@ attendance_holds : HoldsTask (sub 3)
 unfolding tool_app
 attendance_holds words none = some_task Attendance _ (attendance_ceremony words none)
 
-help_label : label_of (sub 7) ≡ (codes "help", [])
+-- the rules of `rebuild`: the file, the new file, help
+rebuild_into : (words : List Text) → level_fault (sub 7) [] nothing_held words false [] ≡ [] → is_some (into_at (rows_after (sub 7).rules [] words)) ≡ true
+unfolding tool_app
+rebuild_into words none =
+    required_text (sub 7) (codes "into")
+    (other_keeps (sub 7) is_text (codes "into") (filled file_rule) refl refl, (text_keeps (sub 7) (codes "into") refl, (help_keeps (sub 7) _ (filled help_rule) refl, tt)))
+    (refl, (refl, (refl, tt))) refl
+    (λ rows free. given (is_given (codes "into") rows) (either_none (not (is_given (codes "into") rows)) false free).0)
+    words none
+
+rebuild_holds : HoldsTask (sub 7)
+unfolding tool_app
+rebuild_holds words none = some_task (λ into. Rebuild) _ (rebuild_into words none)
+
+help_label : label_of (sub 8) ≡ (codes "help", [])
 unfolding tool_app
 help_label = refl
 
 subs_hold : (name : Text) → bytes_eq name (codes "help") ≡ false → AllByRecursion (λ s. answers_to name (label_of s) ≡ true → HoldsTask s) (built tool_app).subs
 subs_hold name past =
-    subst (AllByRecursion (λ s. answers_to name (label_of s) ≡ true → HoldsTask s)) (sym eight_subs) (
+    subst (AllByRecursion (λ s. answers_to name (label_of s) ≡ true → HoldsTask s)) (sym nine_subs) (
       (λ _. run_holds),
       (
         (λ _. serve_holds),
@@ -300,7 +314,7 @@ subs_hold name past =
                 (λ _. audit_holds),
                 (
                   (λ _. verify_holds),
-                  ((λ is. absurd (not_help name (or_alone (bytes_eq (codes "help") name) (sym (ap (answers_to name) help_label) ∙ is)) past)), tt),
+                  ((λ _. rebuild_holds), ((λ is. absurd (not_help name (or_alone (bytes_eq (codes "help") name) (sym (ap (answers_to name) help_label) ∙ is)) past)), tt)),
                 ),
               ),
             ),

@@ -11,6 +11,10 @@ file_rule = record (new_rule (codes "file")) { long = Some (codes "file"); value
 abbrev pub number_rule : Text → ℕ → Rule
 number_rule name most = record (new_rule name) { long = Some name; value_names = 1; parser = Some (Unsigned 1 most); required = true }
 
+-- a required option whose value is a text
+abbrev pub text_rule : Text → Rule
+text_rule name = record (new_rule name) { long = Some name; value_names = 1; required = true }
+
 -- a subcommand over a register
 abbrev pub of_file : Text → App
 of_file name = with_rule (new_app name) file_rule
@@ -23,6 +27,10 @@ of_ceremony name = with_rule (of_file name) (number_rule (codes "ceremony") 9999
 abbrev pub serve_app : App
 serve_app =
     with_rule (with_rule (of_file (codes "serve")) (number_rule (codes "port") 65535)) (number_rule (codes "connections") 1000000)
+
+-- `kcr rebuild --into FILE`
+abbrev pub rebuild_app : App
+rebuild_app = with_rule (of_file (codes "rebuild")) (text_rule (codes "into"))
 
 -- the program is nothing without a subcommand, and tells its version
 abbrev pub root_app : App
@@ -45,5 +53,6 @@ tool_app = with_subcommands root_app (
     ∷ of_file (codes "custody")
     ∷ of_file (codes "audit")
     ∷ of_file (codes "verify")
+    ∷ rebuild_app
     ∷ []
     )

@@ -9,9 +9,10 @@ use Rattle.kcr_desk.specs.declared.fault.DeskFault.TheVariants as stream
 use Rattle.kcr_print.specs.declared.fault.PrintFault.{PrintFault}
 use Rattle.kcr_print.specs.declared.fault.PrintFault.TheVariants as print
 use Rattle.kcr_store.specs.declared.«open».OpenFault.TheVariants as opening
+use Rattle.kcr_verify.specs.declared.fresh.FreshFault.TheVariants as fresh
 use Rattle.kcr_tool.specs.Lines.{ended, numbered}
 use Rattle.kcr_tool.specs.declared.fault.Fault.{Fault}
-use Rattle.kcr_tool.specs.declared.fault.Fault.TheVariants.{Open, Stream, Refused, Unwritten, Net, Words}
+use Rattle.kcr_tool.specs.declared.fault.Fault.TheVariants.{Open, Into, Stream, Refused, Unwritten, Net, Words}
 
 -- what a refusal names, and the end of its line
 abbrev pub named : Refusal → List ℕ
@@ -28,6 +29,9 @@ reason_of (Open opening.Memory) = ended (codes "open: memory")
 reason_of (Open opening.Disk) = ended (codes "open: disk")
 reason_of (Open opening.Foreign) = ended (codes "open: foreign")
 reason_of (Open opening.Version) = ended (codes "open: version")
+reason_of (Into fresh.Memory) = ended (codes "into: memory")
+reason_of (Into fresh.Disk) = ended (codes "into: disk")
+reason_of (Into fresh.Filled) = ended (codes "into: filled")
 reason_of (Stream stream.Read) = ended (codes "fault: read")
 reason_of (Stream stream.Write) = ended (codes "fault: write")
 reason_of (Stream stream.Memory) = ended (codes "fault: memory")
@@ -55,9 +59,10 @@ abbrev pub IsUntouched : {R W : Type 0} → Counted R → Counted R → Counted 
 IsUntouched old_input new_input old_output new_output = (new_input ≡ old_input) × (new_output ≡ old_output)
 
 -- what caused it: a read failed, or 1,000,000 reads gave a byte; a write failed. Of memory, of a refusal and of the net
--- nothing is said, but that where memory was wanting or the file was not opened, nothing was read and nothing written
+-- nothing is said, but that where memory was wanting or a file was not opened, nothing was read and nothing written
 abbrev pub HasCause : {R W : Type 0} → Fault → Counted R → Counted R → Counted W → Counted W → Type 0
 HasCause (Open fault) old_input new_input old_output new_output = IsUntouched old_input new_input old_output new_output
+HasCause (Into fault) old_input new_input old_output new_output = IsUntouched old_input new_input old_output new_output
 HasCause (Stream stream.Read) old_input new_input old_output new_output =
     (failures_of old_input < failures_of new_input) ⊎ (gifts_of new_input ≡ gifts_of old_input + 1000000)
 HasCause (Stream stream.Write) old_input new_input old_output new_output = failures_of old_output < failures_of new_output
@@ -73,6 +78,11 @@ abbrev pub StopsReport : {W : Type 0} → Counted W → Counted W → Fault → 
 StopsReport old_output new_output (Refused r) = Unit {0}
 StopsReport old_output new_output Unwritten = failures_of old_output < failures_of new_output
 StopsReport old_output new_output other = ⊥
+
+-- the same of a rebuild, for which no new register could be made: then nothing was written
+abbrev pub StopsRebuild : {W : Type 0} → Counted W → Counted W → Fault → Type 0
+StopsRebuild old_output new_output (Into fault) = new_output ≡ old_output
+StopsRebuild old_output new_output other = StopsReport old_output new_output other
 
 -- why a port is left before all connections were served: none could be accepted, or the register is broken
 abbrev pub StopsListening : Fault → Type 0

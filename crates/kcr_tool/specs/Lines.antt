@@ -37,8 +37,8 @@ finding_line (Findings.Lone ceremony moment) = found_line (codes "finding: lone 
 finding_line (Findings.Crowd ceremony moment) = found_line (codes "finding: crowd ") (numbered ceremony (moment_text moment))
 
 -- the register is the one of its own commands, of which there are so many
-abbrev pub verified_line : ℕ → List ℕ
-verified_line count = codes "verified: " ++ (decimal count ++ codes " commands\n")
+abbrev pub whole_line : List ℕ → ℕ → List ℕ
+whole_line head count = head ++ (decimal count ++ codes " commands\n")
 
 -- what differs, as a verification found it
 abbrev pub difference_line : Difference → List ℕ

@@ -13,9 +13,9 @@ use Rattle.kcr_desk.specs.Answers.{Standing, IsAnswer, IsReply}
 use Rattle.kcr_print.specs.Written.{WritesFront}
 use Rattle.kcr_tool.specs.Lines.{clean_line, listening_line}
 use Rattle.kcr_tool.specs.Audits.{TellsFinding, TellsFront}
-use Rattle.kcr_tool.specs.Verifications.{TellsWhole, TellsDifference, TellsVerifiedFront}
+use Rattle.kcr_tool.specs.Verifications.{TellsWhole, TellsDifference, TellsVerifiedFront, verified_head, rebuilt_head}
 use Rattle.kcr_tool.specs.declared.words.Task.{Task}
-use Rattle.kcr_tool.specs.declared.words.Task.TheVariants.{Run, Serve, Print, Attendance, Custody, Audit, Verify}
+use Rattle.kcr_tool.specs.declared.words.Task.TheVariants.{Run, Serve, Print, Attendance, Custody, Audit, Verify, Rebuild}
 
 -- a register with this history that nothing has broken
 abbrev pub whole : History → Standing
@@ -30,7 +30,7 @@ abbrev pub AnswersInPart : History → Option (List ℕ) → Option (List ℕ) �
 AnswersInPart A input old new = (after : Standing) × IsBroken IsAnswer input old new (whole A) after
 
 -- a task over a register with this history went well: a run has answered all of its input, a report is written whole,
--- an audit found nothing, and a verification no difference
+-- an audit found nothing, and a verification or a rebuild no difference
 abbrev pub Does : Task → History → Option (List ℕ) → Option (List ℕ) → Option (List ℕ) → Type 0
 Does Run A input old new = AnswersAll A input old new
 Does (Serve port connections) A input old new = Appends old new (listening_line port)
@@ -38,7 +38,8 @@ Does (Print ceremony) A input old new = IsTrue (is_ceremony A ceremony) × Appen
 Does (Attendance ceremony) A input old new = IsTrue (is_ceremony A ceremony) × Appends old new (attendance A ceremony)
 Does Custody A input old new = Appends old new (custody A)
 Does Audit A input old new = Appends old new clean_line
-Does Verify A input old new = TellsWhole old new
+Does Verify A input old new = TellsWhole verified_head old new
+Does Rebuild A input old new = TellsWhole rebuilt_head old new
 
 -- it stopped before its end: what was written is a beginning of that
 abbrev pub DoesInPart : Task → History → Option (List ℕ) → Option (List ℕ) → Option (List ℕ) → Type 0
@@ -48,7 +49,8 @@ DoesInPart (Print ceremony) A input old new = WritesFront old new (annotated A c
 DoesInPart (Attendance ceremony) A input old new = WritesFront old new (attendance A ceremony)
 DoesInPart Custody A input old new = WritesFront old new (custody A)
 DoesInPart Audit A input old new = TellsFront old new
-DoesInPart Verify A input old new = TellsVerifiedFront old new
+DoesInPart Verify A input old new = TellsVerifiedFront verified_head old new
+DoesInPart Rebuild A input old new = TellsVerifiedFront rebuilt_head old new
 
 -- WHATEVER THE DATABASE HELD
 
@@ -62,12 +64,13 @@ abbrev pub RepliesInPart : Option (List ℕ) → Option (List ℕ) → Option (L
 RepliesInPart input old new = (before : Standing) × (after : Standing) × IsBroken IsReply input old new before after
 
 -- a task went well over a register of which nothing is known: each message got a reply, and the lines of a port, of an
--- audit and of a verification are written. Of a report nothing is said
+-- audit, of a verification and of a rebuild are written. Of a report nothing is said
 abbrev pub Leaves : Task → Option (List ℕ) → Option (List ℕ) → Option (List ℕ) → Type 0
 Leaves Run input old new = RepliesToAll input old new
 Leaves (Serve port connections) input old new = Appends old new (listening_line port)
 Leaves Audit input old new = Appends old new clean_line
-Leaves Verify input old new = TellsWhole old new
+Leaves Verify input old new = TellsWhole verified_head old new
+Leaves Rebuild input old new = TellsWhole rebuilt_head old new
 Leaves report input old new = Unit {0}
 
 -- it stopped before its end
@@ -75,13 +78,15 @@ abbrev pub LeavesInPart : Task → Option (List ℕ) → Option (List ℕ) → O
 LeavesInPart Run input old new = RepliesInPart input old new
 LeavesInPart (Serve port connections) input old new = WritesFront old new (listening_line port)
 LeavesInPart Audit input old new = TellsFront old new
-LeavesInPart Verify input old new = TellsVerifiedFront old new
+LeavesInPart Verify input old new = TellsVerifiedFront verified_head old new
+LeavesInPart Rebuild input old new = TellsVerifiedFront rebuilt_head old new
 LeavesInPart report input old new = Unit {0}
 
 -- a task found something wrong, and told it whole
 abbrev pub TellsWrong : Task → Option (List ℕ) → Option (List ℕ) → Type 0
 TellsWrong Audit old new = TellsFinding old new
 TellsWrong Verify old new = TellsDifference old new
+TellsWrong Rebuild old new = TellsDifference old new
 TellsWrong other old new = ⊥
 
 -- WHOSE HISTORY

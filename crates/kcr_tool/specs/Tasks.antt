@@ -8,7 +8,7 @@ use Rattle.kcr_tool.specs.Commands.{tool_app}
 use Rattle.kcr_tool.specs.declared.words.WordsFault.{WordsFault}
 use Rattle.kcr_tool.specs.declared.words.WordsFault.TheVariants as WordsFaults
 use Rattle.kcr_tool.specs.declared.words.Task.{Task}
-use Rattle.kcr_tool.specs.declared.words.Task.TheVariants.{Run, Serve, Print, Attendance, Custody, Audit, Verify}
+use Rattle.kcr_tool.specs.declared.words.Task.TheVariants.{Run, Serve, Print, Attendance, Custody, Audit, Verify, Rebuild}
 
 -- the number that a text is in decimal, where it is one from 1 to the most; a plus may stand before it
 abbrev pub number_up_to : ℕ → Text → Option ℕ
@@ -28,6 +28,10 @@ serve_at rows = option_and_then
     (λ port. option_map (λ connections. Serve port connections) (number_at 1000000 (codes "connections") rows))
     (number_at 65535 (codes "port") rows)
 
+-- the file of the new register that was named
+abbrev pub into_at : List Row → Option Text
+into_at rows = first_of (codes "into") rows
+
 -- the task of a subcommand with its matches
 abbrev pub task_at : Text × List Row → Option Task
 task_at p =
@@ -37,7 +41,8 @@ task_at p =
     if bytes_eq p.0 (codes "attendance") then option_map Attendance (ceremony_at p.1) else
     if bytes_eq p.0 (codes "custody") then Some Custody else
     if bytes_eq p.0 (codes "audit") then Some Audit else
-    if bytes_eq p.0 (codes "verify") then Some Verify else None
+    if bytes_eq p.0 (codes "verify") then Some Verify else
+    if bytes_eq p.0 (codes "rebuild") then option_map (λ into. Rebuild) (into_at p.1) else None
 
 -- the file that was named, if one was
 abbrev pub file_at : List Row → Option Text
@@ -58,6 +63,10 @@ task_of words = option_and_then task_at (met_in words)
 -- the file that the words name, if they name one
 unfoldable pub file_of : List Text → Option Text
 file_of words = option_and_then (λ p. file_at p.1) (met_in words)
+
+-- the file of the new register that they name, if they name one
+unfoldable pub into_of : List Text → Option Text
+into_of words = option_and_then (λ p. into_at p.1) (met_in words)
 
 -- the fault says that the words are refused, or ask for help or the version
 abbrev pub IsLine : WordsFault → Type 0

@@ -1,5 +1,5 @@
 //! What the program does with its words.
-ghost use Rattle.std.specs.Prelude.{◌≡◌, ◌≢◌, ◌≤◌, ◌⊎◌, ℕ, List, [], Option, Some, None, IfOk, IfErr, OnErr, map, string_bytes};
+ghost use Rattle.std.specs.Prelude.{◌≡◌, ◌≢◌, ◌≤◌, ◌⊎◌, ℕ, List, [], Option, Some, None, IsSome, IfOk, IfErr, OnErr, map, string_bytes};
 ghost use Rattle.kcr_base.specs.Counted.{inner_of};
 ghost use Rattle.kcr_print.specs.Written.{WritesFront};
 ghost use Rattle.kcr_tool.specs.declared.fault.Fault.{Fault as WhyNot};
@@ -7,32 +7,35 @@ ghost use Rattle.kcr_tool.specs.declared.words.Task.{Task as Order_task};
 ghost use Rattle.kcr_tool.specs.Faults.{HasCause, IsLineOf};
 ghost use Rattle.kcr_tool.specs.Runs.{Does, DoesInPart, Leaves, LeavesInPart, OfHistory, TellsWrong};
 ghost use Rattle.kcr_verify.specs.Verified.{AreValues};
-ghost use Rattle.kcr_tool.specs.Tasks.{task_of, file_of, faults_of};
+ghost use Rattle.kcr_tool.specs.Tasks.{task_of, file_of, into_of, faults_of};
 
 use crate::audit::audit;
 use crate::fault::{Fault, tell, tell_fault};
 use crate::listen::listen;
 use crate::tasks::{attendance, print, run, whereabouts};
-use crate::verify::verify;
+use crate::verify::{rebuild, verify};
 use crate::words::{Order, Task, WordsFault, read_words};
 use kcr_base::Counted;
 use kcr_store::Register;
 use sqlite::Alter;
 use std::io::{Read, Write};
 
-/// Does a task over a register, and answers the exit status: 0, or 1 after a finding.
-#[tactic(auto, using(crate::proofs::Causes::stops_cause, crate::proofs::Causes::serving_cause, crate::proofs::Audits::clean_told, crate::proofs::Audits::finding_told, crate::proofs::Verifications::whole_told, crate::proofs::Verifications::difference_told))]
+/// Does a task over a register, and answers the exit status: 0, or 1 after a finding. A rebuild has the path of the new
+/// register's file.
+#[tactic(auto, using(crate::proofs::Causes::stops_cause, crate::proofs::Causes::serving_cause, crate::proofs::Causes::rebuild_cause, crate::proofs::Audits::clean_told, crate::proofs::Audits::finding_told, crate::proofs::Verifications::whole_told, crate::proofs::Verifications::difference_told))]
 fn perform<S: Alter + Drop, R: Read, W: Write>(
     rt: &HostRuntime,
     register: Register<S>,
     task: Task,
+    into: Option<&str>,
     input: &mut Counted<R>,
     output: &mut Counted<W>,
 ) -> Result<u8, Fault>
+    requires into { task ≡ Task.Rebuild → IsSome into }
     ensures status { IfOk result (λ status. status ≤ 1) }
     ensures finding { IfOk result (λ status. status ≡ 1
         → TellsWrong task (W.contents (inner_of output.old)) (W.contents (inner_of output.new))) }
-    ensures nothing { OfHistory S.Store register (λ A. AreValues A → IfOk result (λ status. status ≡ 0)) }
+    ensures nothing { into.entry ≡ None → OfHistory S.Store register (λ A. AreValues A → IfOk result (λ status. status ≡ 0)) }
     ensures answered { IfOk result (λ status. status ≡ 0 → Leaves task
         (R.remaining (inner_of input.old)) (W.contents (inner_of output.old)) (W.contents (inner_of output.new))) }
     ensures answered_in_part { OnErr result ((output.new ≡ output.old) ⊎ LeavesInPart task
@@ -67,6 +70,10 @@ fn perform<S: Alter + Drop, R: Read, W: Write>(
         }
         Task::Audit => audit(rt.alloc(), &mut register, output),
         Task::Verify => verify(rt.alloc(), &mut register, output),
+        Task::Rebuild => match into {
+            Some(path) => rebuild(rt, &mut register, path, output),
+            None => unreachable!(),
+        },
     }
 }
 
@@ -77,10 +84,11 @@ fn obey<R: Read, W: Write>(
     input: &mut Counted<R>,
     output: &mut Counted<W>,
 ) -> Result<u8, Fault>
+    requires into { order.task ≡ Task.Rebuild → IsSome order.into }
     ensures status { IfOk result (λ status. status ≤ 1) }
     ensures finding { IfOk result (λ status. status ≡ 1
         → TellsWrong order.entry.task (W.contents (inner_of output.old)) (W.contents (inner_of output.new))) }
-    ensures nothing { order.entry.file ≡ None → IfOk result (λ status. status ≡ 0) }
+    ensures nothing { order.entry.file ≡ None → order.entry.into ≡ None → IfOk result (λ status. status ≡ 0) }
     ensures answered { IfOk result (λ status. status ≡ 0 → Leaves order.entry.task
         (R.remaining (inner_of input.old)) (W.contents (inner_of output.old)) (W.contents (inner_of output.new))) }
     ensures answered_in_part { OnErr result ((output.new ≡ output.old) ⊎ LeavesInPart order.entry.task
@@ -93,11 +101,11 @@ fn obey<R: Read, W: Write>(
 {
     match order.file {
         Some(path) => match Register::open(rt, path) {
-            Ok(register) => perform(rt, register, order.task, input, output),
+            Ok(register) => perform(rt, register, order.task, order.into, input, output),
             Err(fault) => Err(Fault::Open(fault)),
         },
         None => match Register::in_memory(rt.alloc()) {
-            Ok(register) => perform(rt, register, order.task, input, output),
+            Ok(register) => perform(rt, register, order.task, order.into, input, output),
             Err(fault) => Err(Fault::Open(fault)),
         },
     }
@@ -110,6 +118,7 @@ fn obey<R: Read, W: Write>(
 ///
 /// What was written is told of a reader that tells the bytes it has left, and of writers that tell those they hold: as
 /// byte slices and vectors do in this library, and files, sockets and terminals never do.
+#[tactic(auto, using(crate::proofs::Verifications::wrong_in_part))]
 pub fn act<R: Read, W: Write, F: Write>(
     rt: &HostRuntime,
     words: &[String],
@@ -128,13 +137,13 @@ pub fn act<R: Read, W: Write, F: Write>(
 
     // Something was found wrong in a file, and its line stands on the output; or a fault stopped the task. Then its line
     // stands on `faults`, as far as it could be written, and it says that a read or a write failed only where one did.
-    ensures cause { result ≡ 1 → ((file_of (map string_bytes words.now) ≢ None)
+    ensures cause { result ≡ 1 → ((file_of (map string_bytes words.now) ≡ None → into_of (map string_bytes words.now) ≢ None)
         × ((task : Order_task) × (task_of (map string_bytes words.now) ≡ Some task)
         × TellsWrong task (W.contents (inner_of output.old)) (W.contents (inner_of output.new))))
         ⊎ ((why : WhyNot) × ((line : List ℕ) × IsLineOf why line × WritesFront (F.contents faults.old) (F.contents faults.new) line)
         × HasCause why input.old input.new output.old output.new) }
 
-    // After a fault nothing was written, or a beginning of what the task says.
+    // Then nothing was written, or a beginning of a line or a text that the task may write.
     ensures part { result ≡ 1 → file_of (map string_bytes words.now) ≡ None → (output.new ≡ output.old)
         ⊎ ((task : Order_task) × (task_of (map string_bytes words.now) ≡ Some task)
         × DoesInPart task [] (R.remaining (inner_of input.old)) (W.contents (inner_of output.old)) (W.contents (inner_of output.new))) }

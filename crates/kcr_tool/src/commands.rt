@@ -2,7 +2,7 @@
 ghost use Rattle.std.specs.Prelude.{◌≡◌, codes, false, IfOk};
 ghost use Rattle.clap.specs.Words.{App, app_of, rule_of, with_rule, with_subcommand};
 ghost use Rattle.clap.specs.declared.builder.command.Command.TheViews.{out-Command};
-ghost use Rattle.kcr_tool.specs.Commands.{file_rule, number_rule, root_app, of_file, of_ceremony, serve_app, tool_app};
+ghost use Rattle.kcr_tool.specs.Commands.{file_rule, number_rule, text_rule, root_app, of_file, of_ceremony, serve_app, rebuild_app, tool_app};
 
 use clap::builder::ValueParser;
 use clap::{Arg, Command};
@@ -29,6 +29,18 @@ fn number_option<'a>(alloc: Global, name: &'a str, most: u64, help: &'a str) -> 
         .required(true)
         .value_parser(ValueParser::unsigned(1, most))
         .help(help)
+}
+
+/// The required option of the file of a new register.
+fn into_option<'a>(alloc: Global) -> Arg<'a>
+    ensures rule { rule_of result ≡ text_rule (codes "into") }
+    ensures local { result.global ≡ false }
+{
+    Arg::new(alloc, "into")
+        .long("into")
+        .value_name("FILE")
+        .required(true)
+        .help("The file of the new register, which is not there yet, or holds nothing")
 }
 
 /// A subcommand over a register, with the option of its file.
@@ -174,6 +186,19 @@ fn verify<'a>(alloc: Global) -> Result<Command<'a>, AllocError>
     )
 }
 
+fn rebuild<'a>(alloc: Global) -> Result<Command<'a>, AllocError>
+    ensures app { IfOk result (λ c. app_of c ≡ rebuild_app) }
+    ensures local { IfOk result (λ c. (out-Command c).has_globals ≡ false) }
+{
+    let command = over_file(
+        alloc,
+        "rebuild",
+        "Makes a new register of the commands of this one, and tells whether it is the same",
+        "Example: kcr rebuild --file register.db --into new.db",
+    )?;
+    command.arg(into_option(alloc))
+}
+
 /// A command with one more subcommand.
 fn with<'a>(command: Command<'a>, sub: Command<'a>) -> Result<Command<'a>, AllocError>
     requires { (out-Command sub).has_globals ≡ false }
@@ -202,5 +227,6 @@ pub fn tool<'a>(alloc: Global) -> Result<Command<'a>, AllocError>
     let tool = with(tool, attendance(alloc)?)?;
     let tool = with(tool, custody(alloc)?)?;
     let tool = with(tool, audit(alloc)?)?;
-    with(tool, verify(alloc)?)
+    let tool = with(tool, verify(alloc)?)?;
+    with(tool, rebuild(alloc)?)
 }

@@ -8,6 +8,7 @@ use kcr_base::Refusal;
 use kcr_desk::DeskFault;
 use kcr_print::{PrintFault, Unwritten};
 use kcr_store::OpenFault;
+use kcr_verify::FreshFault;
 use std::alloc::{AllocError, Global};
 use std::io::Write;
 
@@ -16,6 +17,8 @@ use std::io::Write;
 pub enum Fault {
     /// The register could not be opened.
     Open(OpenFault),
+    /// No new register could be made.
+    Into(FreshFault),
     /// The stream could not be answered to its end.
     Stream(DeskFault),
     /// The register refused what the task asks for.
@@ -100,6 +103,9 @@ fn reason(fault: Fault) -> &'static str
         Fault::Open(OpenFault::Disk) => "open: disk\n",
         Fault::Open(OpenFault::Foreign) => "open: foreign\n",
         Fault::Open(OpenFault::Version) => "open: version\n",
+        Fault::Into(FreshFault::Memory) => "into: memory\n",
+        Fault::Into(FreshFault::Disk) => "into: disk\n",
+        Fault::Into(FreshFault::Filled) => "into: filled\n",
         Fault::Stream(DeskFault::Read) => "fault: read\n",
         Fault::Stream(DeskFault::Write) | Fault::Unwritten => "fault: write\n",
         Fault::Net => "fault: net\n",

@@ -1,14 +1,15 @@
-//! The verification of a register, as lines.
+//! The verification of a register and its rebuilding, as lines.
 ghost use Rattle.std.specs.Prelude.{◌≡◌, ◌≤◌, ◌⊎◌, None, IfOk, IfErr, OnErr, string_bytes};
 ghost use Rattle.sqlite.specs.Held.{Held, state};
 ghost use Rattle.sqlite.specs.State.{HasCleanDisk};
 ghost use Rattle.kcr_base.specs.Counted.{inner_of};
+ghost use Rattle.kcr_history.specs.History.{History};
 ghost use Rattle.kcr_history.specs.Tables.{Tables};
 ghost use Rattle.kcr_tables.specs.Joint.{HoldsTables};
-ghost use Rattle.kcr_tool.specs.Faults.{StopsReport};
-ghost use Rattle.kcr_tool.specs.Lines.{difference_line, found_line, verified_line};
+ghost use Rattle.kcr_tool.specs.Faults.{StopsReport, StopsRebuild};
+ghost use Rattle.kcr_tool.specs.Lines.{difference_line, found_line, whole_line};
 ghost use Rattle.kcr_tool.specs.Runs.{OfHistory};
-ghost use Rattle.kcr_tool.specs.Verifications.{IsLineFor, TellsVerified, TellsVerifiedFront};
+ghost use Rattle.kcr_tool.specs.Verifications.{IsLineFor, TellsVerified, TellsVerifiedFront, verified_head, rebuilt_head};
 ghost use Rattle.kcr_verify.specs.Verified.{AreValues, IsTold};
 ghost use Rattle.kcr_verify.specs.declared.verification.Verified.{Verified as Told};
 
@@ -18,7 +19,7 @@ use itoa::Buffer;
 use kcr_base::{Counted, Refusal};
 use kcr_print::put;
 use kcr_store::Register;
-use kcr_verify::{Difference, Verified};
+use kcr_verify::{Difference, Verified, create};
 use sqlite::Alter;
 use std::alloc::{AllocError, Global};
 use std::io::Write;
@@ -45,17 +46,14 @@ fn line_of(alloc: Global, difference: &Difference) -> Result<String, AllocError>
     }
 }
 
-/// The line of what a verification came to. The error is want of memory.
-fn line_of_verified(alloc: Global, verified: &Verified) -> Result<String, AllocError>
-    ensures { IfOk result (λ line. IsLineFor verified.now (string_bytes line)) }
+/// The line of what a verification came to; `head` begins that of a good end. The error is want of memory.
+fn line_of_verified(alloc: Global, head: &str, verified: &Verified) -> Result<String, AllocError>
+    ensures { IfOk result (λ line. IsLineFor head.now verified.now (string_bytes line)) }
 {
     match verified {
-        Verified::Whole(count) => around(
-            alloc,
-            "verified: ",
-            Buffer::new().format(*count),
-            " commands\n",
-        ),
+        Verified::Whole(count) => {
+            around(alloc, head, Buffer::new().format(*count), " commands\n")
+        }
         Verified::Differs(difference) => line_of(alloc, difference),
     }
 }
@@ -63,16 +61,17 @@ fn line_of_verified(alloc: Global, verified: &Verified) -> Result<String, AllocE
 /// Writes the line of what a verification came to, and answers the exit status: 0 where nothing differs, else 1.
 fn tell_verified<W: Write>(
     alloc: Global,
+    head: &str,
     verified: &Verified,
     output: &mut Counted<W>,
 ) -> Result<u8, Fault>
     ensures told { IfOk result
-        (TellsVerified verified.now (W.contents (inner_of output.old)) (W.contents (inner_of output.new))) }
+        (TellsVerified head.now verified.now (W.contents (inner_of output.old)) (W.contents (inner_of output.new))) }
     ensures part { OnErr result ((output.new ≡ output.old)
-        ⊎ TellsVerifiedFront (W.contents (inner_of output.old)) (W.contents (inner_of output.new))) }
+        ⊎ TellsVerifiedFront head.now (W.contents (inner_of output.old)) (W.contents (inner_of output.new))) }
     ensures cause { IfErr result (StopsReport output.old output.new) }
 {
-    let Ok(line) = line_of_verified(alloc, verified) else {
+    let Ok(line) = line_of_verified(alloc, head, verified) else {
         return Err(Fault::Refused(Refusal::Memory));
     };
     match put(output, line.as_bytes()) {
@@ -95,23 +94,52 @@ pub fn verify<S: Alter, W: Write>(
 ) -> Result<u8, Fault>
     ensures status { IfOk result (λ status. status ≤ 1) }
     ensures told { IfOk result (λ status. (told : Told)
-        × TellsVerified told (W.contents (inner_of output.old)) (W.contents (inner_of output.new)) status) }
+        × TellsVerified verified_head told (W.contents (inner_of output.old)) (W.contents (inner_of output.new)) status) }
 
     // That the register is the one of its commands is told where it is true of the tables that the database holds,
     // whoever wrote them.
     ensures found { ((conn : Held S) → HasCleanDisk (state S.Store conn)) → register.old.torn ≡ None
         → (m : Tables) → HoldsTables m (state S.Store register.old.conn).now
-        → IfOk result (λ status. (told : Told) × IsTold m told
-        × TellsVerified told (W.contents (inner_of output.old)) (W.contents (inner_of output.new)) status) }
+        → IfOk result (λ status. (told : Told) × ((A : History) × IsTold m A told)
+        × TellsVerified verified_head told (W.contents (inner_of output.old)) (W.contents (inner_of output.new)) status) }
 
     // In the tables of a history nothing differs.
     ensures nothing { OfHistory S.Store register.old (λ A. AreValues A → IfOk result (λ status. status ≡ 0)) }
     ensures part { OnErr result ((output.new ≡ output.old)
-        ⊎ TellsVerifiedFront (W.contents (inner_of output.old)) (W.contents (inner_of output.new))) }
+        ⊎ TellsVerifiedFront verified_head (W.contents (inner_of output.old)) (W.contents (inner_of output.new))) }
     ensures cause { IfErr result (StopsReport output.old output.new) }
 {
     match kcr_verify::verify(alloc, register) {
-        Ok(verified) => tell_verified(alloc, &verified, output),
+        Ok(verified) => tell_verified(alloc, "verified: ", &verified, output),
+        Err(refusal) => Err(Fault::Refused(refusal)),
+    }
+}
+
+/// Makes a new register in the file at the path, where there is none or it holds nothing, and gives it the commands of
+/// this one: a line that says of how many commands both are the register, or the first thing that differs from what the
+/// commands lead to, and the exit status, 1 where something differs. The new register has then the commands before the
+/// one that differs, that one too where its reply does, and all of them where a table does. Want of memory is refused (33), as is a fault of a device (34)
+/// and a broken register (35), and nothing is written then.
+#[tactic(auto, using(crate::proofs::Verifications::status_told))]
+pub fn rebuild<S: Alter, W: Write>(
+    rt: &HostRuntime,
+    register: &mut Register<S>,
+    path: &str,
+    output: &mut Counted<W>,
+) -> Result<u8, Fault>
+    ensures status { IfOk result (λ status. status ≤ 1) }
+    ensures told { IfOk result (λ status. (told : Told)
+        × TellsVerified rebuilt_head told (W.contents (inner_of output.old)) (W.contents (inner_of output.new)) status) }
+    ensures part { OnErr result ((output.new ≡ output.old)
+        ⊎ TellsVerifiedFront rebuilt_head (W.contents (inner_of output.old)) (W.contents (inner_of output.new))) }
+    ensures cause { IfErr result (StopsRebuild output.old output.new) }
+{
+    let mut fresh = match create(rt, path) {
+        Ok(fresh) => fresh,
+        Err(fault) => return Err(Fault::Into(fault)),
+    };
+    match kcr_verify::rebuild(rt.alloc(), register, &mut fresh) {
+        Ok(verified) => tell_verified(rt.alloc(), "rebuilt: ", &verified, output),
         Err(refusal) => Err(Fault::Refused(refusal)),
     }
 }

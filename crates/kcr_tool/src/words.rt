@@ -1,7 +1,7 @@
 //! The words of the command line, and the task that they hold.
-ghost use Rattle.std.specs.Prelude.{◌≡◌, ◌≢◌, ◌≤◌, [], codes, Some, IfOk, IfErr, IfSome, map, option_map, string_bytes};
+ghost use Rattle.std.specs.Prelude.{◌≡◌, ◌≢◌, ◌≤◌, [], codes, Some, IfOk, IfErr, IfSome, IsSome, map, option_map, string_bytes};
 ghost use Rattle.clap.specs.Words.{rows_of, found_of, subcommand_rows_of};
-ghost use Rattle.kcr_tool.specs.Tasks.{IsLine, task_of, task_at, file_of, file_at, number_at, ceremony_at, serve_at, met_in, faults_of};
+ghost use Rattle.kcr_tool.specs.Tasks.{IsLine, task_of, task_at, file_of, file_at, into_of, into_at, number_at, ceremony_at, serve_at, met_in, faults_of};
 
 use crate::commands::tool;
 use clap::ArgMatches;
@@ -26,13 +26,17 @@ pub enum Task {
     Audit,
     /// Sees whether the register is the one of its own commands.
     Verify,
+    /// Makes a new register of its commands, and sees whether the two are the same.
+    Rebuild,
 }
 
-/// What the words ask for: a task, and the file of the register, or None for a register in memory.
+/// What the words ask for: a task, the file of the register, or None for a register in memory, and the file of the new
+/// register where one is to be made.
 #[derive(Clone, Copy)]
 pub struct Order<'a> {
     pub task: Task,
     pub file: Option<&'a str>,
+    pub into: Option<&'a str>,
 }
 
 /// Why the words are no task.
@@ -93,6 +97,13 @@ fn read_serve(matches: &ArgMatches<'_>) -> Option<Task>
     Some(Task::Serve(port as u16, connections))
 }
 
+/// The file of the new register, if one was named.
+fn read_into<'a>(matches: &ArgMatches<'a>) -> Option<&'a str>
+    ensures { option_map (λ file. file.now) result ≡ into_at (rows_of (found_of matches.now)) }
+{
+    matches.get_str("into")
+}
+
 /// The task of a subcommand.
 fn read_task(name: &str, matches: &ArgMatches<'_>) -> Option<Task>
     ensures { result ≡ task_at (name.now, rows_of (found_of matches.now)) }
@@ -105,6 +116,7 @@ fn read_task(name: &str, matches: &ArgMatches<'_>) -> Option<Task>
         "custody" => Some(Task::Custody),
         "audit" => Some(Task::Audit),
         "verify" => Some(Task::Verify),
+        "rebuild" => read_into(matches).map(|_| Task::Rebuild),
         _ => None,
     }
 }
@@ -122,6 +134,10 @@ fn read_file<'a>(matches: &ArgMatches<'a>) -> Option<&'a str>
 pub fn read_words<'a>(alloc: Global, words: &'a [String]) -> Result<Order<'a>, WordsFault>
     ensures task { IfOk result (λ order. task_of (map string_bytes words.entry.now) ≡ Some order.task) }
     ensures file { IfOk result (λ order. file_of (map string_bytes words.entry.now) ≡ option_map (λ file. file.now) order.file) }
+    ensures into { IfOk result (λ order. into_of (map string_bytes words.entry.now) ≡ option_map (λ file. file.now) order.into) }
+
+    // A rebuild has a file for the new register.
+    ensures rebuild { IfOk result (λ order. order.task ≡ Task.Rebuild → IsSome order.into) }
     ensures taken { IfOk result (λ _. faults_of (map string_bytes words.entry.now) ≡ []) }
     ensures line { IfErr result (λ e. IsLine e → faults_of (map string_bytes words.entry.now) ≢ []) }
 {
@@ -133,6 +149,7 @@ pub fn read_words<'a>(alloc: Global, words: &'a [String]) -> Result<Order<'a>, W
         Some(task) => Ok(Order {
             task,
             file: read_file(inner),
+            into: read_into(inner),
         }),
         None => unreachable!(),
     }

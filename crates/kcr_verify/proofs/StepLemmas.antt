@@ -1,5 +1,5 @@
 -- A command that is given again is a step of the register.
-use Rattle.std.proofs.Common.{◌≡◌, ◌≢◌, ◌∷◌, List, ℕ, Ok, Err, refl, ap, ap₂, ◌∙◌, subst}
+use Rattle.std.proofs.Common.{◌≡◌, Option, Some, None, sym, ◌≢◌, ◌∷◌, List, ℕ, Ok, Err, refl, ap, ap₂, ◌∙◌, subst}
 use Rattle.sqlite.specs.Held.{Held, state}
 use Rattle.sqlite.specs.State.{HasCleanDisk}
 use Rattle.sqlite.specs.Steps.{over_memory}
@@ -21,6 +21,10 @@ use Rattle.kcr_store.specs.Steps.{Steps}
 pub never_in_doubt : (conn : Held MemStore) → HasCleanDisk (state over_memory conn)
 unfolding doubt
 never_in_doubt conn = refl
+
+-- what is there is not absent
+pub there : {X : Type 0} (o : Option X) (x : X) → o ≡ Some x → o ≡ None → ⊥
+there o x is none = let both : Some x ≡ None = sym is ∙ none in cc
 
 -- a command by its parts
 pub by_parts : (key : List ℕ) (act : Act) (command : Command) → key ≡ command.key → act ≡ command.act → record { key = key; act = act } ≡ command

@@ -9,7 +9,7 @@ use Rattle.kcr_history.specs.Machine.{IsRegister}
 use Rattle.kcr_history.specs.Tables.{Tables, SameTables, tables, key_row}
 use Rattle.kcr_history.specs.declared.views.View.{View}
 use Rattle.kcr_store.specs.Whole.{IsListed}
-use Rattle.kcr_verify.specs.Verified.{AreOwn, Differ, by_number}
+use Rattle.kcr_verify.specs.Verified.{AreOf, Differ, by_number}
 use Rattle.kcr_verify.specs.declared.compare.Table.{Table}
 use Rattle.kcr_verify.specs.declared.compare.Table.TheVariants.{People, Trainings, Withdrawals, Appointments, Boxes, Safes, Bags, Items, Ceremonies, Marks, Steps, Seatings, Sheet, Stays, Exceptions, Keys}
 use Rattle.kcr_verify.specs.declared.verification.Verified.{Verified}
@@ -173,14 +173,13 @@ module _ (view rows : View) (o : IsInOrder view rows) where
 
 module _ (A : History) (h : IsRegister A) (view rows made again : View) (o : IsInOrder view rows) (p : IsInOrder made again) where
   -- the tables of a history that was made again are those that the rows show
-  pub own_of : (m : Tables) → SameTables m (tables_of view) → SameTables (tables A) (tables_of made) → tables_of rows ≡ tables_of again → AreOwn (length rows.keys.items) m
+  pub own_of : (m : Tables) → SameTables m (tables_of view) → SameTables (tables A) (tables_of made) → tables_of rows ≡ tables_of again → AreOf A (length rows.keys.items) m
   own_of m same there is =
       let left = same_then m (tables_of view) (tables_of rows) same (in_order_same view rows o) in
       let right = same_then (tables A) (tables_of made) (tables_of again) there (in_order_same made again p) in
       let whole : SameTables m (tables A) =
       same_then m (tables_of again) (tables A) (subst (SameTables m) is left) (same_back (tables A) (tables_of again) right) in
       record {
-        history = A;
         register = h;
         same = whole;
         counted =

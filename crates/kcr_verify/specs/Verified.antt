@@ -63,14 +63,13 @@ rows_by_number A = reverse (map key_row A)
 abbrev pub AreValues : History → Type 0
 AreValues A = AllByRecursion (λ entry. IsAct entry.command.act) A
 
--- the tables are those of a history that the machine leads to, of so many commands
-pub record AreOwn (count : ℕ) (m : Tables) : Type 0 where
-  pub history : History
+-- the tables are those of this history, which the machine leads to, of so many commands
+pub record AreOf (history : History) (count : ℕ) (m : Tables) : Type 0 where
   pub register : IsRegister history
   pub same : SameTables m (tables history)
   pub counted : length history ≡ count
 
--- what is said of these tables, whoever wrote them: that they are a register's of its own commands is true
-abbrev pub IsTold : Tables → Verified → Type 0
-IsTold m (Whole count) = AreOwn count m
-IsTold m (Differs difference) = Unit {0}
+-- what is said of these tables, whoever wrote them, where their commands led to this history: that they are a register's of its own commands is true
+abbrev pub IsTold : Tables → History → Verified → Type 0
+IsTold m A (Whole count) = AreOf A count m
+IsTold m A (Differs difference) = Unit {0}

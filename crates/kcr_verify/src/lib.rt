@@ -3,12 +3,15 @@
 //! The table of keys holds every accepted command as its text, with its number and its reply; all other rows follow
 //! from these. `verify` gives the commands, in the order of their numbers, to an empty register in memory, compares each
 //! reply, and then compares the tables of the two registers, row by row. Where it finds nothing that differs, the tables
-//! are those of a history that the machine leads to, whoever wrote the file.
+//! are those of a history that the machine leads to, whoever wrote the file. `rebuild` gives them to an empty register of
+//! the caller's, as `create` makes one in a file: so one goes on from a file that one has to doubt.
 #![tactic(auto)]
 
 mod compare;
+mod fresh;
 mod replay;
 mod verification;
 
 pub use compare::Table;
-pub use verification::{Difference, Verified, verify};
+pub use fresh::{FreshFault, create};
+pub use verification::{Difference, Verified, rebuild, verify};

@@ -1,9 +1,12 @@
 //! The commands of a register, given to another.
 ghost use Rattle.std.specs.Prelude.{◌≡◌, ◌∷◌, [], true, None, IfOk};
+ghost use Rattle.sqlite.specs.State.{HasCleanDisk};
+ghost use Rattle.sqlite.specs.Held.{state};
 ghost use Rattle.kcr_history.specs.History.{History};
 ghost use Rattle.kcr_history.specs.Machine.{IsRegister};
 ghost use Rattle.kcr_history.specs.Tables.{key_row};
 ghost use Rattle.kcr_history.specs.declared.commands.Entry.{Entry as Accepted};
+ghost use Rattle.kcr_store.specs.Register.{IsKept};
 ghost use Rattle.kcr_again.specs.Acts.{IsAct};
 ghost use Rattle.kcr_verify.specs.Verified.{AreValues, rows_by_number};
 
@@ -13,22 +16,25 @@ use kcr_base::Refusal;
 use kcr_history::{Command, KeyRow, numbers_count_commands};
 use kcr_laws::laws::answers_are_fixed;
 use kcr_store::Register;
-use sqlite::MemStore;
+use sqlite::Alter;
 use std::alloc::Global;
 
 /// Gives the command of a row to the register, and answers what is not as the row says.
-fn give(
+fn give<S: Alter>(
     alloc: Global,
     row: &KeyRow,
-    register: &mut Register<MemStore>,
+    register: &mut Register<S>,
 ) -> Result<Option<Difference>, Refusal>
     requires founded { register.old.is_founded ≡ true }
     requires torn { register.old.torn ≡ None }
+    requires kept { IsKept S.Store register.old }
     ensures founded { register.new.is_founded ≡ true }
     ensures torn { IfOk result (λ _. register.new.torn ≡ None) }
+    ensures clean { HasCleanDisk (state S.Store register.new.conn) → HasCleanDisk (state S.Store register.old.conn) }
+    ensures kept { IsKept S.Store register.new }
 
     // Where it is the row of the entry that the machine goes to next, nothing differs, and the register has the entry.
-    ensures own { (entry : Accepted) → IsRegister (entry ∷ register.old.accepted) → IsAct entry.command.act
+    ensures own { HasCleanDisk (state S.Store register.new.conn) → (entry : Accepted) → IsRegister (entry ∷ register.old.accepted) → IsAct entry.command.act
         → row.now ≡ key_row entry
         → IfOk result (λ difference. (difference ≡ None) × (register.new.accepted ≡ entry ∷ register.old.accepted)) }
 {
@@ -51,19 +57,23 @@ fn give(
     }
 }
 
-/// Gives the commands of these rows to an empty register in memory, one after the other, and answers the first thing
+/// Gives the commands of these rows to an empty register, one after the other, and answers the first thing
 /// that is not as the rows say.
-pub(crate) fn replay(
+pub(crate) fn replay<S: Alter>(
     alloc: Global,
     rows: &[KeyRow],
-    register: &mut Register<MemStore>,
+    register: &mut Register<S>,
 ) -> Result<Option<Difference>, Refusal>
     requires founded { register.old.is_founded ≡ true }
     requires torn { register.old.torn ≡ None }
+    requires kept { IsKept S.Store register.old }
     requires empty { register.old.accepted ≡ [] }
     ensures founded { register.new.is_founded ≡ true }
     ensures torn { IfOk result (λ _. register.new.torn ≡ None) }
-    ensures own { (A : History) → IsRegister A → AreValues A → rows.now ≡ rows_by_number A
+    ensures clean { HasCleanDisk (state S.Store register.new.conn) → HasCleanDisk (state S.Store register.old.conn) }
+    ensures kept { IsKept S.Store register.new }
+    ensures own { HasCleanDisk (state S.Store register.new.conn) → (A : History) → IsRegister A → AreValues A
+        → rows.now ≡ rows_by_number A
         → IfOk result (λ difference. (difference ≡ None) × (register.new.accepted ≡ A)) }
 {
     numbers_count_commands();

@@ -3,10 +3,12 @@ ghost use Rattle.std.specs.Prelude.{◌≡◌, [], true, None, Err, IfOk, IsSome
 ghost use Rattle.std.specs.List.Sorted.{IsSorted};
 ghost use Rattle.sqlite.specs.State.{HasCleanDisk};
 ghost use Rattle.sqlite.specs.Held.{state};
+ghost use Rattle.sqlite.specs.Steps.{over_memory};
 ghost use Rattle.kcr_history.specs.History.{History};
 ghost use Rattle.kcr_history.specs.Machine.{IsRegister};
 ghost use Rattle.kcr_history.specs.Tables.{Tables, tables};
 ghost use Rattle.kcr_store.specs.Register.{IsKept};
+ghost use Rattle.kcr_store.specs.Whole.{IsListed};
 ghost use Rattle.kcr_tables.specs.Joint.{HoldsTables};
 ghost use Rattle.kcr_verify.specs.Verified.{AreValues, IsTold, by_number};
 
@@ -55,13 +57,41 @@ fn in_order(rows: View) -> View
 
 /// An empty register in memory.
 fn empty(alloc: Global) -> Result<Register<MemStore>, Refusal>
-    ensures { IfOk result (λ r. (r.is_founded ≡ true) × (r.accepted ≡ []) × (r.torn ≡ None)) }
+    ensures { IfOk result (λ r. (r.is_founded ≡ true) × (r.accepted ≡ []) × (r.torn ≡ None) × IsKept over_memory r) }
 {
     match Register::in_memory(alloc) {
         Ok(register) => Ok(register),
         Err(OpenFault::Memory) => Err(Refusal::Memory),
         Err(_) => Err(Refusal::Disk),
     }
+}
+
+/// Gives the commands among these rows to an empty register, and compares its tables with the rows.
+fn follow<S: Alter>(alloc: Global, rows: View, fresh: &mut Register<S>) -> Result<Verified, Refusal>
+    requires founded { fresh.old.is_founded ≡ true }
+    requires torn { fresh.old.torn ≡ None }
+    requires empty { fresh.old.accepted ≡ [] }
+    requires kept { IsKept S.Store fresh.old }
+    ensures told { HasCleanDisk (state S.Store fresh.new.conn) → (m : Tables) → IsListed m rows
+        → IfOk result (IsTold m fresh.new.accepted) }
+    ensures own { HasCleanDisk (state S.Store fresh.new.conn) → (A : History) → IsRegister A → AreValues A
+        → IsListed (tables A) rows
+        → IfOk result (λ told. (told ≡ Verified.Whole (length A)) × (fresh.new.accepted ≡ A)) }
+    ensures founded { fresh.new.is_founded ≡ true }
+    ensures torn { IfOk result (λ _. fresh.new.torn ≡ None) }
+    ensures clean { HasCleanDisk (state S.Store fresh.new.conn) → HasCleanDisk (state S.Store fresh.old.conn) }
+    ensures kept { IsKept S.Store fresh.new }
+{
+    numbers_count_commands();
+    let rows = in_order(rows);
+    if let Some(difference) = replay(alloc, &rows.keys, fresh)? {
+        return Ok(Verified::Differs(difference));
+    }
+    let made = in_order(fresh.tables()?);
+    Ok(match first_difference(&rows, &made) {
+        Some(table) => Verified::Differs(Difference::Rows(table)),
+        None => Verified::Whole(rows.keys.len()),
+    })
 }
 
 /// Gives the register's commands to an empty one in memory, and compares the tables of the two.
@@ -73,7 +103,8 @@ fn empty(alloc: Global) -> Result<Register<MemStore>, Refusal>
 pub fn verify<S: Alter>(alloc: Global, register: &mut Register<S>) -> Result<Verified, Refusal>
     ensures broken { IsSome register.old.torn → (result ≡ Err Refusal.Broken) × (register.new ≡ register.old) }
     ensures told { register.old.torn ≡ None → HasCleanDisk (state S.Store register.new.conn) → (m : Tables)
-        → HoldsTables m (state S.Store register.old.conn).now → IfOk result (IsTold m) }
+        → HoldsTables m (state S.Store register.old.conn).now
+        → IfOk result (λ told. (A : History) × IsTold m A told) }
 
     // Where they are a history's, nothing differs; so it is over a register that was founded, whatever its file.
     ensures own { register.old.torn ≡ None → HasCleanDisk (state S.Store register.new.conn) → (A : History)
@@ -87,15 +118,49 @@ pub fn verify<S: Alter>(alloc: Global, register: &mut Register<S>) -> Result<Ver
     ensures founded { register.new.is_founded ≡ register.old.is_founded }
     ensures kept { IsKept S.Store register.new }
 {
-    numbers_count_commands();
-    let rows = in_order(register.tables()?);
-    let mut again = empty(alloc)?;
-    if let Some(difference) = replay(alloc, &rows.keys, &mut again)? {
-        return Ok(Verified::Differs(difference));
-    }
-    let made = in_order(again.tables()?);
-    Ok(match first_difference(&rows, &made) {
-        Some(table) => Verified::Differs(Difference::Rows(table)),
-        None => Verified::Whole(rows.keys.len()),
-    })
+    let rows = register.tables()?;
+    let mut fresh = empty(alloc)?;
+    follow(alloc, rows, &mut fresh)
+}
+
+/// Gives the register's commands to an empty one, `fresh`, and compares the tables of the two, as `verify` does.
+///
+/// Whatever is said of the old register, the fresh one is founded by its making, so all that is promised of a register
+/// holds of it with no premise about the old one. After `Whole` it has the old one's commands, and its tables are the
+/// old one's. After a difference it has the commands before the one that is named, that one too where its reply differs,
+/// and all of them where a table does.
+/// It changes nothing in the old register. Beside want of memory (33) it meets a fault of one of the devices or a row
+/// that no register stores (34), which breaks the register that met it; a broken old one answers 35. The fresh register
+/// keeps what it accepted before.
+pub fn rebuild<S: Alter, T: Alter>(
+    alloc: Global,
+    register: &mut Register<S>,
+    fresh: &mut Register<T>,
+) -> Result<Verified, Refusal>
+    requires founded { fresh.old.is_founded ≡ true }
+    requires torn { fresh.old.torn ≡ None }
+    requires empty { fresh.old.accepted ≡ [] }
+    requires kept { IsKept T.Store fresh.old }
+    ensures broken { IsSome register.old.torn
+        → (result ≡ Err Refusal.Broken) × (register.new ≡ register.old) × (fresh.new ≡ fresh.old) }
+
+    // The fresh register has the history whose tables these are, whoever wrote them.
+    ensures told { register.old.torn ≡ None → HasCleanDisk (state S.Store register.new.conn)
+        → HasCleanDisk (state T.Store fresh.new.conn) → (m : Tables)
+        → HoldsTables m (state S.Store register.old.conn).now → IfOk result (IsTold m fresh.new.accepted) }
+    ensures own { register.old.torn ≡ None → HasCleanDisk (state S.Store register.new.conn)
+        → HasCleanDisk (state T.Store fresh.new.conn) → (A : History) → IsRegister A → AreValues A
+        → HoldsTables (tables A) (state S.Store register.old.conn).now
+        → IfOk result (λ told. (told ≡ Verified.Whole (length A)) × (fresh.new.accepted ≡ A)) }
+    ensures fresh { fresh.new.is_founded ≡ true }
+    ensures whole { IfOk result (λ _. fresh.new.torn ≡ None) }
+    ensures fresh_kept { IsKept T.Store fresh.new }
+    ensures fresh_clean { HasCleanDisk (state T.Store fresh.new.conn) → HasCleanDisk (state T.Store fresh.old.conn) }
+    ensures same { register.new.accepted ≡ register.old.accepted }
+    ensures clean { HasCleanDisk (state S.Store register.new.conn) → HasCleanDisk (state S.Store register.old.conn) }
+    ensures founded { register.new.is_founded ≡ register.old.is_founded }
+    ensures kept { IsKept S.Store register.new }
+{
+    let rows = register.tables()?;
+    follow(alloc, rows, fresh)
 }

@@ -25,6 +25,6 @@ returns-in-Ok-in_memory-clause-part g c none =
     (c.perform-in-Ok-in_memory.ensures.part never_in_doubt first.0 first.2)
 
 pub returns-in-Ok-in_memory-clause-nothing : goal.returns-in-Ok-in_memory-clause-nothing
-returns-in-Ok-in_memory-clause-nothing g c none =
+returns-in-Ok-in_memory-clause-nothing g c none alone =
     let first = c.in-Ok-in_memory.ensures.new in
-    c.perform-in-Ok-in_memory.ensures.nothing never_in_doubt first.0 first.2 (subst AreValues (sym first.1) tt)
+    c.perform-in-Ok-in_memory.ensures.nothing alone never_in_doubt first.0 first.2 (subst AreValues (sym first.1) tt)

@@ -16,4 +16,5 @@ returns c =
     let four = c.in_ok-tool-4.ensures ∙ ap₂ add three c.in_ok-attendance.ensures.app in
     let five = c.in_ok-tool-5.ensures ∙ ap₂ add four c.in_ok-custody.ensures.app in
     let six = c.in_ok-tool-6.ensures ∙ ap₂ add five c.in_ok-audit.ensures.app in
-    IfOk-weaker c.with-7.result _ _ (λ r h. h ∙ ap₂ add six c.in_ok-verify.ensures.app) c.with-7.ensures
+    let seven = c.in_ok-tool-7.ensures ∙ ap₂ add six c.in_ok-verify.ensures.app in
+    IfOk-weaker c.with-8.result _ _ (λ r h. h ∙ ap₂ add seven c.in_ok-rebuild.ensures.app) c.with-8.ensures

@@ -1,6 +1,6 @@
 use Rattle.std.proofs.Common.{sym}
 use Rattle.clap.specs.Words.{rows_of, found_of}
-use Rattle.kcr_tool.proofs.Parses.{met_is, task_is, file_is}
+use Rattle.kcr_tool.proofs.Parses.{met_is, task_is, file_is, into_is, rebuild_into}
 use Rattle.kcr_tool.proofs.Taken.{never_none, never_other}
 use Rattle.kcr_tool.proofs.words.read_words.Goals as goal
 
@@ -22,3 +22,12 @@ pub returns-clause-file : goal.returns-clause-file
 returns-clause-file c =
     file_is _ _ _ _ (met_is _ c.in_ok-matches.matches c.in-Some.name.now (rows_of (found_of c.in-Some.inner.now)) c.in_ok-matches.ensures.found c.in-Some.ensures.name c.in-Some.ensures.rows)
     c.read_file.ensures
+
+pub returns-clause-into : goal.returns-clause-into
+returns-clause-into c =
+    into_is _ _ _ _ (met_is _ c.in_ok-matches.matches c.in-Some.name.now (rows_of (found_of c.in-Some.inner.now)) c.in_ok-matches.ensures.found c.in-Some.ensures.name c.in-Some.ensures.rows)
+    c.read_into.ensures
+
+pub returns-clause-rebuild : goal.returns-clause-rebuild
+returns-clause-rebuild c is =
+    rebuild_into _ c.in-Some.name.now (rows_of (found_of c.in-Some.inner.now)) c.in-Some-read_task.task c.read_into.result (sym c.in-Some-read_task.ensures) is c.read_into.ensures

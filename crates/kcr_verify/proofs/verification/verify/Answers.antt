@@ -1,67 +1,20 @@
-use Rattle.std.proofs.Common.{rules, ◌≡◌, ◌∙◌, None, refl, length, subst}
-use Rattle.kcr_history.specs.History.{History}
-use Rattle.kcr_history.specs.Tables.{tables}
-use Rattle.kcr_store.specs.Whole.{IsListed}
-use Rattle.kcr_verify.specs.Verified.{IsTold}
-use Rattle.kcr_verify.specs.declared.verification.Verified.TheVariants.{Whole}
-use Rattle.kcr_verify.proofs.NumberLemmas.{in_number_order}
+use Rattle.std.proofs.Common.{rules}
+use Rattle.std.proofs.lemmas.Result.{IfOk-weaker}
 use Rattle.kcr_verify.proofs.StepLemmas.{never_in_doubt}
-use Rattle.kcr_verify.proofs.VerifyLemmas.{IsInOrder, own_of, own_whole}
 use Rattle.kcr_verify.proofs.verification.verify.Goals as goal
-use Rattle.kcr_verify.proofs.verification.verify.Goals.{in-Some-first_difference, in-None}
 
-pub returns-in-Some-clause-own : goal.returns-in-Some-clause-own
-returns-in-Some-clause-own g c whole clean A h values held =
-    let listed : IsListed (tables A) c.in_ok-tables.field-0 = c.in_ok-tables.ensures.rows whole clean (tables A) held in
-    let rows = in_number_order c.numbers_count_commands.ensures A c.in_ok-tables.field-0.keys.items c.in_order-rows.result.keys.items h listed.same.keys c.in_order-rows.ensures.keys c.in_order-rows.ensures.order in
-    let none = (c.in_ok-difference.ensures.own A h values (c.deref.ensures.value ∙ rows)).0 in
-    absurd (let z : c.in_ok-difference.field-0 ≡ None = none in cc)
-
-pub returns-in-Some-clause-whole : goal.returns-in-Some-clause-whole
-returns-in-Some-clause-whole g c founded whole clean values =
-    let shown = c.in_ok-tables.ensures.shown founded whole clean in
-    let rows = in_number_order c.numbers_count_commands.ensures _ c.in_ok-tables.field-0.keys.items c.in_order-rows.result.keys.items shown.0 shown.1.same.keys c.in_order-rows.ensures.keys c.in_order-rows.ensures.order in
-    let none = (c.in_ok-difference.ensures.own _ shown.0 values (c.deref.ensures.value ∙ rows)).0 in
-    absurd (let z : c.in_ok-difference.field-0 ≡ None = none in cc)
-
-pub returns-clause-told : goal.returns-clause-told
-returns-clause-told g c whole clean m held =
-    let listed : IsListed m c.in_ok-tables.field-0 = c.in_ok-tables.ensures.rows whole clean m held in
-    let o : IsInOrder c.in_ok-tables.field-0 c.in_order-rows.result = record { others = c.in_order-rows.ensures.others; keys = c.in_order-rows.ensures.keys; order = c.in_order-rows.ensures.order } in
-    let p : IsInOrder c.in_ok-tables-2.field-0 c.in_order-made.result = record { others = c.in_order-made.ensures.others; keys = c.in_order-made.ensures.keys; order = c.in_order-made.ensures.order } in
-    let shown = c.in_ok-tables-2.ensures.shown (rw c.replay.ensures.founded refl) c.in_ok-difference.ensures.torn (never_in_doubt c.tables-2.new.self.conn) in
-    elim c.match-first_difference.branch [
-      | in-Some-first_difference w ↦ search rules
-      | in-None w ↦ (
-          let none : c.first_difference.result ≡ None = search rules in
-          let own = own_of _ shown.0 c.in_ok-tables.field-0 c.in_order-rows.result c.in_ok-tables-2.field-0 c.in_order-made.result o p m listed.same shown.1.same (c.first_difference.ensures.none none) in
-          let is : Whole (length c.in_order-rows.result.keys.items) ≡ c.match-first_difference.result = search rules in
-          subst (IsTold m) is own)
-    ]
-
-pub returns-clause-own : goal.returns-clause-own
-returns-clause-own g c whole clean A h values held =
-    let listed : IsListed (tables A) c.in_ok-tables.field-0 = c.in_ok-tables.ensures.rows whole clean (tables A) held in
-    let o : IsInOrder c.in_ok-tables.field-0 c.in_order-rows.result = record { others = c.in_order-rows.ensures.others; keys = c.in_order-rows.ensures.keys; order = c.in_order-rows.ensures.order } in
-    let p : IsInOrder c.in_ok-tables-2.field-0 c.in_order-made.result = record { others = c.in_order-made.ensures.others; keys = c.in_order-made.ensures.keys; order = c.in_order-made.ensures.order } in
-    let rows = in_number_order c.numbers_count_commands.ensures A c.in_ok-tables.field-0.keys.items c.in_order-rows.result.keys.items h listed.same.keys c.in_order-rows.ensures.keys c.in_order-rows.ensures.order in
-    let given = c.in_ok-difference.ensures.own A h values (c.deref.ensures.value ∙ rows) in
-    let shown = c.in_ok-tables-2.ensures.shown (rw c.replay.ensures.founded refl) c.in_ok-difference.ensures.torn (never_in_doubt c.tables-2.new.self.conn) in
-    let made : IsListed (tables A) c.in_ok-tables-2.field-0 = subst (λ (B : History). IsListed (tables B) c.in_ok-tables-2.field-0) given.1 shown.1 in
-    own_whole A h c.in_ok-tables.field-0 c.in_order-rows.result c.in_ok-tables-2.field-0 c.in_order-made.result o p c.numbers_count_commands.ensures listed made
-    c.first_difference.result c.first_difference.ensures.some c.match-first_difference.result
-    (λ none. elim c.match-first_difference.branch [ in-Some-first_difference w ↦ search rules | in-None w ↦ search rules ])
-
-pub returns-clause-whole : goal.returns-clause-whole
-returns-clause-whole g c founded whole clean values =
-    let first = c.in_ok-tables.ensures.shown founded whole clean in
-    let A : History = c.args.register.now.accepted in
-    let o : IsInOrder c.in_ok-tables.field-0 c.in_order-rows.result = record { others = c.in_order-rows.ensures.others; keys = c.in_order-rows.ensures.keys; order = c.in_order-rows.ensures.order } in
-    let p : IsInOrder c.in_ok-tables-2.field-0 c.in_order-made.result = record { others = c.in_order-made.ensures.others; keys = c.in_order-made.ensures.keys; order = c.in_order-made.ensures.order } in
-    let rows = in_number_order c.numbers_count_commands.ensures A c.in_ok-tables.field-0.keys.items c.in_order-rows.result.keys.items first.0 first.1.same.keys c.in_order-rows.ensures.keys c.in_order-rows.ensures.order in
-    let given = c.in_ok-difference.ensures.own A first.0 values (c.deref.ensures.value ∙ rows) in
-    let shown = c.in_ok-tables-2.ensures.shown (rw c.replay.ensures.founded refl) c.in_ok-difference.ensures.torn (never_in_doubt c.tables-2.new.self.conn) in
-    let made : IsListed (tables A) c.in_ok-tables-2.field-0 = subst (λ (B : History). IsListed (tables B) c.in_ok-tables-2.field-0) given.1 shown.1 in
-    own_whole A first.0 c.in_ok-tables.field-0 c.in_order-rows.result c.in_ok-tables-2.field-0 c.in_order-made.result o p c.numbers_count_commands.ensures first.1 made
-    c.first_difference.result c.first_difference.ensures.some c.match-first_difference.result
-    (λ none. elim c.match-first_difference.branch [ in-Some-first_difference w ↦ search rules | in-None w ↦ search rules ])
+pub returns : goal.returns
+returns g c = record {
+  broken = search rules;
+  told = λ whole clean m held.
+      IfOk-weaker c.follow.result _ _ (λ told is. (c.follow.new.fresh.accepted, is)) (c.follow.ensures.told (never_in_doubt c.follow.new.fresh.conn) m (c.in_ok-rows.ensures.rows whole clean m held));
+  own = λ whole clean A h values held.
+      IfOk-weaker c.follow.result _ _ (λ told is. is.0) (c.follow.ensures.own (never_in_doubt c.follow.new.fresh.conn) A h values (c.in_ok-rows.ensures.rows whole clean _ held));
+  whole = λ founded whole clean values.
+      let shown = c.in_ok-rows.ensures.shown founded whole clean in
+      IfOk-weaker c.follow.result _ _ (λ told is. is.0) (c.follow.ensures.own (never_in_doubt c.follow.new.fresh.conn) _ shown.0 values shown.1);
+  same = search rules;
+  clean = search rules;
+  founded = search rules;
+  kept = search rules;
+}
