@@ -118,8 +118,9 @@ pub fn verify<S: Alter, W: Write>(
 /// Makes a new register in the file at the path, where there is none or it holds nothing, and gives it the commands of
 /// this one: a line that says of how many commands both are the register, or the first thing that differs from what the
 /// commands lead to, and the exit status, 1 where something differs. The new register has then the commands before the
-/// one that differs, that one too where its reply does, and all of them where a table does. Want of memory is refused (33), as is a fault of a device (34)
-/// and a broken register (35), and nothing is written then.
+/// one that differs, that one too where its reply does, and all of them where a table does. Where no new register can be
+/// made, this one is as it was. Want of memory is refused (33), as is a fault of a device (34) and a broken register (35);
+/// the new register then keeps what it was given. In all these cases nothing is written.
 #[tactic(auto, using(crate::proofs::Verifications::status_told))]
 pub fn rebuild<S: Alter, W: Write>(
     rt: &HostRuntime,
