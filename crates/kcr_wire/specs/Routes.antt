@@ -1,8 +1,8 @@
 -- The routes, and what a router that took them in their order holds.
-use Rattle.std.specs.Prelude.{ℕ, List, [], ◌∷◌, codes, Result, Ok, Err}
+use Rattle.std.specs.Prelude.{ℕ, List, [], ◌∷◌, codes, Result, Ok, Err, Bool, true, false, ◌≡◌, ◌&&◌, Option, Some, None}
 use Rattle.matchit.specs.Rows.{RowsOf}
 use Rattle.matchit.specs.Route.{parse_route, Scan}
-use Rattle.matchit.specs.Router.{RouteOf, route_from}
+use Rattle.matchit.specs.Router.{RouteOf, route_from, nearest}
 use Rattle.matchit.specs.Order.{placed}
 use Rattle.matchit.specs.declared.error.InsertError.{InsertError}
 use Rattle.kcr_wire.specs.declared.route.Route.{Route}
@@ -57,6 +57,24 @@ add held route = added (parse_route (route_text route)) route held
 unfoldable pub add_all : Held → List Route → Held
 add_all held [] = held
 add_all held (r ∷ rest) = add_all (add held r) rest
+
+-- no route that is held conflicts with the new one
+abbrev pub is_free : Option (RouteOf Route) → Bool
+is_free None = true
+is_free (Some other) = false
+
+-- the route's text reads, and no route that is held conflicts with it
+abbrev pub fits : Result Scan InsertError → Held → Bool
+fits (Ok s) held = is_free (nearest s.pattern held)
+fits (Err e) held = false
+
+unfoldable pub can_add : Held → Route → Bool
+can_add held route = fits (parse_route (route_text route)) held
+
+-- each route can be added to those before it
+unfoldable pub can_add_all : Held → List Route → Bool
+can_add_all held [] = true
+can_add_all held (r ∷ rest) = can_add held r && can_add_all (add held r) rest
 
 -- all the routes
 unfoldable pub table : Held

@@ -1,9 +1,9 @@
 //! The routes of the register, and the router over them.
-ghost use Rattle.std.specs.Prelude.{◌≡◌, [], IfOk};
-ghost use Rattle.kcr_wire.specs.Routes.{route_text, table, add_all};
+ghost use Rattle.std.specs.Prelude.{◌≡◌, [], true, IfOk, OnOk};
+ghost use Rattle.kcr_wire.specs.Routes.{route_text, table, add, add_all, can_add, can_add_all};
 
 use matchit::{InsertError, Router};
-use std::alloc::Global;
+use std::alloc::{AllocError, Global};
 
 /// A kind of path, with its parts in braces left out.
 #[derive(Clone, Copy)]
@@ -96,19 +96,35 @@ impl Route {
     }
 }
 
+// Takes one more route, which reads and which no route held conflicts with, so that only memory can be wanting.
+fn add(router: &mut Router<Route>, route: Route) -> Result<(), AllocError>
+    requires { can_add router.old route ≡ true }
+    ensures { OnOk result (router.new ≡ add router.old route) }
+{
+    match router.insert(route.pattern(), route) {
+        Ok(()) => Ok(()),
+        Err(error) => {
+            let is_memory = matches!(error, InsertError::OutOfMemory);
+            prove!(is_memory);
+            Err(AllocError)
+        }
+    }
+}
+
 // A router over these routes.
-fn router_of(alloc: Global, routes: &[Route]) -> Result<Router<Route>, InsertError>
+fn router_of(alloc: Global, routes: &[Route]) -> Result<Router<Route>, AllocError>
+    requires { can_add_all [] routes.now ≡ true }
     ensures { IfOk result (λ r. r ≡ add_all [] routes.now) }
 {
     let mut router = Router::new(alloc);
     for route in routes {
-        router.insert(route.pattern(), *route)?;
+        add(&mut router, *route)?;
     }
     Ok(router)
 }
 
 // The router over all routes.
-pub(crate) fn router(alloc: Global) -> Result<Router<Route>, InsertError>
+pub(crate) fn router(alloc: Global) -> Result<Router<Route>, AllocError>
     ensures { IfOk result (λ r. r ≡ table) }
 {
     router_of(alloc, &ROUTES)

@@ -174,10 +174,8 @@ impl Paths {
     pub fn new(alloc: Global) -> Result<Paths, Refusal>
         ensures { IfErr result (λ e. e ≡ Refusal.Memory) }
     {
-        match router(alloc) {
-            Ok(router) => Ok(Paths { router }),
-            Err(_) => Err(Refusal::Memory),
-        }
+        let router = router(alloc)?;
+        Ok(Paths { router })
     }
 
     /// What a target asks for, or the refusal of a path that the register has not: no route is found

@@ -1,0 +1,13 @@
+use Rattle.std.proofs.Common.{◌≡◌, rules}
+use Rattle.matchit.specs.declared.error.InsertError.TheVariants.{OutOfMemory}
+use Rattle.kcr_wire.proofs.Tables.{add-inserted, only-memory}
+use Rattle.kcr_wire.proofs.route.add.Goals as goal
+use Rattle.kcr_wire.proofs.route.add.Goals.{in-OutOfMemory, in_default}
+
+pub prove-unreachable-requires : goal.prove-unreachable-requires
+prove-unreachable-requires c =
+    let memory : c.in-Err.error ≡ OutOfMemory = only-memory c.args.route _ _ c.pattern.result.now _ c.pattern.ensures c.requires c.in-Err.ensures in
+    elim c.match-matches.branch [ in-OutOfMemory w ↦ search rules | in_default w ↦ search rules ]
+
+pub returns-in-Ok : goal.returns-in-Ok
+returns-in-Ok c = add-inserted c.args.route _ _ c.pattern.result.now c.pattern.ensures c.in-Ok.ensures
