@@ -131,6 +131,13 @@ def made_anew(file, target, left_out=(), unsaid="", **rows):
 
 def brought(program, file, folder):
     """Sees that a register of an older version becomes one of version 3 with the kept rows and reports."""
+    before = dump(file)
+    verified(program, file, len(kcr.kept_tables(folder)["keys"]))
+    fresh = file.with_name(f"{file.name}-rebuilt")
+    expect("rebuild", (f"rebuilt: {len(kcr.kept_tables(folder)['keys'])} commands\n".encode(), b"", 0),
+           call(program, "rebuild", "--file", file, "--into", fresh))
+    kcr.stored(fresh, kcr.kept_tables(folder))
+    expect("not brought by that", before, dump(file))
     expect("custody", (kcr.kept(folder, "custody"), b"", 0), call(program, "custody", "--file", file))
     kcr.stored(file, kcr.kept_tables(folder))
     reported(program, file, folder)
@@ -177,9 +184,10 @@ def dump(file):
 
 
 def refused(program, file, told):
-    """Sees that a file is refused with this line by two subcommands, and left byte for byte as it was."""
+    """Sees that a file is refused with this line by three subcommands, and left byte for byte as it was."""
     before, held = file.read_bytes(), None if told == DISK else dump(file)
     expect(f"custody of {file.name}", told, call(program, "custody", "--file", file))
+    expect(f"verify of {file.name}", told, call(program, "verify", "--file", file))
     expect(f"run over {file.name}", told, call(program, "run", "--file", file, stream=kcr.request(b"GET", b"/people")))
     expect(f"the bytes of {file.name}", before, file.read_bytes())
     if held is not None:
@@ -187,9 +195,12 @@ def refused(program, file, told):
 
 
 def no_file_yet(program, room):
-    """An empty file and one that is not there become registers, and so does one at a path with blanks."""
+    """An empty file and one that is not there become registers, and so does one at a path with blanks; but not by a
+    verification, for which they are registers of no commands."""
     (room / "empty").touch()
     for name in ("empty", "missing", "a name with blanks, \u00e9 and \u540d.db"):
+        verified(program, room / name, 0)
+        expect(f"nothing in {name}", [], [line for line in dump(room / name) if line.startswith("CREATE")])
         for told in (EMPTY_CUSTODY, EMPTY_CUSTODY):
             expect(name, (told, b"", 0), call(program, "custody", "--file", room / name))
         expect(f"audit of {name}", NOTHING_FOUND, call(program, "audit", "--file", room / name))

@@ -3,3 +3,4 @@ pub mod Standing
 pub mod Versions
 pub mod Growth
 pub mod Filled
+pub mod Brought

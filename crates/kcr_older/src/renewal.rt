@@ -8,6 +8,7 @@ ghost use Rattle.kcr_history.specs.Tables.{tables};
 ghost use Rattle.kcr_tables.specs.Frame.{Reads, Writes};
 ghost use Rattle.kcr_tables.specs.Held.{Tables, Holds};
 ghost use Rattle.kcr_tables.specs.Joint.{HoldsTables};
+ghost use Rattle.kcr_older.specs.Brought.{brought};
 ghost use Rattle.kcr_older.specs.Older.{StoresAs, HoldsUpTo, numbered};
 ghost use Rattle.kcr_older.specs.Versions.{number_of};
 
@@ -67,6 +68,9 @@ fn bring_first<S: Alter>(alloc: Global, tx: &mut Transaction<'_, S>) -> Result<b
     ensures numbered { HasCleanDisk (state S.Store tx.new.conn.now) → (t : Tables)
         → HoldsUpTo 15 (state S.Store tx.old.conn.now).now t
         → IfOk result (λ is_brought. IsTrue is_brought ↔ (t.versions ≡ numbered 1)) }
+    ensures rows { HasCleanDisk (state S.Store tx.new.conn.now) → (t : Tables)
+        → HoldsUpTo 15 (state S.Store tx.old.conn.now).now t
+        → IfOk result (λ is_brought. IsTrue is_brought → Holds (state S.Store tx.new.conn.now).now (brought Older.First t)) }
     ensures frame { Writes (state S.Store tx.old.conn.now) (state S.Store tx.new.conn.now) result }
 {
     grow_from_1(tx)?;
@@ -87,6 +91,9 @@ fn bring_second<S: Alter>(alloc: Global, tx: &mut Transaction<'_, S>) -> Result<
     ensures numbered { HasCleanDisk (state S.Store tx.new.conn.now) → (t : Tables)
         → HoldsUpTo 16 (state S.Store tx.old.conn.now).now t
         → IfOk result (λ is_brought. IsTrue is_brought ↔ (t.versions ≡ numbered 2)) }
+    ensures rows { HasCleanDisk (state S.Store tx.new.conn.now) → (t : Tables)
+        → HoldsUpTo 16 (state S.Store tx.old.conn.now).now t
+        → IfOk result (λ is_brought. IsTrue is_brought → Holds (state S.Store tx.new.conn.now).now (brought Older.Second t)) }
     ensures frame { Writes (state S.Store tx.old.conn.now) (state S.Store tx.new.conn.now) result }
 {
     grow_from_2(tx)?;
@@ -113,6 +120,11 @@ pub fn bring<S: Alter>(
     ensures numbered { HasCleanDisk (state S.Store tx.new.conn.now) → (t : Tables)
         → HoldsUpTo (14 + number_of from) (state S.Store tx.old.conn.now).now t
         → IfOk result (λ is_brought. IsTrue is_brought ↔ (t.versions ≡ numbered (number_of from))) }
+
+    // Whoever wrote the rows.
+    ensures rows { HasCleanDisk (state S.Store tx.new.conn.now) → (t : Tables)
+        → HoldsUpTo (14 + number_of from) (state S.Store tx.old.conn.now).now t
+        → IfOk result (λ is_brought. IsTrue is_brought → Holds (state S.Store tx.new.conn.now).now (brought from t)) }
     ensures frame { Writes (state S.Store tx.old.conn.now) (state S.Store tx.new.conn.now) result }
 {
     match from {

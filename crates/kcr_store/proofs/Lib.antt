@@ -5,3 +5,4 @@ pub mod ShownLemmas
 pub mod QuestionLemmas
 pub mod RenewLemmas
 pub mod AuditLemmas
+pub mod ListingLemmas

@@ -77,13 +77,16 @@ module _ (accepted : History) (old : State) (settled : IsTrue old.is_open → ol
   schema_is : IsTables accepted old.committed.trees → old.now.schema ≡ register_schema
   schema_is t = ap (λ (d : Database). d.schema) now_is ∙ (stored t).schema
 
-  pub of_empty : (new : State) → old.now.schema ≡ no_schema → Shows [] new → Shows accepted new
-  of_empty new none made = elim (f clean live) [
-    | inl nothing ↦ subst (λ l. Shows l new) (sym nothing.1) made
+  pub nothing_accepted : old.now.schema ≡ no_schema → accepted ≡ []
+  nothing_accepted none = elim (f clean live) [
+    | inl nothing ↦ nothing.1
     | inr (inl t) ↦ absurd (let e : 0 ≡ 17 = ap count (sym none ∙ schema_is t) in omega (arith, e))
     | inr (inr (inl one)) ↦ absurd (let e : 0 ≡ 15 = ap count (sym none ∙ (stored_as 1 one).schema) in omega (arith, e))
     | inr (inr (inr two)) ↦ absurd (let e : 0 ≡ 16 = ap count (sym none ∙ (stored_as 2 two).schema) in omega (arith, e))
   ]
+
+  pub of_empty : (new : State) → old.now.schema ≡ no_schema → Shows [] new → Shows accepted new
+  of_empty new none made = subst (λ l. Shows l new) (sym (nothing_accepted none)) made
 
   pub of_ours : LooksLike 3 old.now.schema → Shows accepted old
   of_ours like = elim (f clean live) [

@@ -6,3 +6,4 @@ pub mod Performed
 pub mod Opening
 pub mod Rows
 pub mod Whole
+pub mod Listing

@@ -9,6 +9,7 @@
 //! The history of accepted commands, of which the clauses speak, is ghost data: nothing in memory holds it.
 #![tactic(auto)]
 
+mod listing;
 mod open;
 mod past;
 mod perform;
@@ -17,6 +18,7 @@ mod rows;
 mod shown;
 mod whole;
 
+pub use listing::tables_of;
 pub use open::{OpenFault, connect};
 pub use register::{FileRegister, Register};
 pub use rows::Rows;

@@ -37,7 +37,7 @@ pub enum OpenFault {
 /// The version of the tables.
 const VERSION: u32 = 3;
 
-fn fault_of(refusal: Refusal) -> OpenFault
+pub(crate) fn fault_of(refusal: Refusal) -> OpenFault
     ensures kind { (result ≡ OpenFault.Memory) ⊎ (result ≡ OpenFault.Disk) }
     ensures memory { (result ≡ OpenFault.Memory) ↔ (refusal ≡ Refusal.Memory) }
 {
@@ -77,7 +77,7 @@ pub fn connect<S: Start>(
 }
 
 /// What the database is.
-fn inspect<S: Alter>(alloc: Global, conn: &Connection<S>) -> Result<Standing, OpenFault>
+pub(crate) fn inspect<S: Alter>(alloc: Global, conn: &Connection<S>) -> Result<Standing, OpenFault>
     ensures stands { IfOk result (StandsAs (state S.Store conn.now).now.schema) }
     ensures kind { IfErr result (λ e. (e ≡ OpenFault.Memory) ⊎ (e ≡ OpenFault.Disk)) }
     ensures live { IsLive (state S.Store conn.now) }
@@ -138,7 +138,7 @@ fn read_versions<S: Alter>(alloc: Global, conn: &mut Connection<S>) -> Result<Ve
 }
 
 /// Whether these are the rows of this version: the one number.
-fn is_this_version(versions: &[Version]) -> bool
+pub(crate) fn is_this_version(versions: &[Version]) -> bool
     ensures { IsTrue result ↔ (versions.now ≡ first_tables.versions) }
 {
     match versions {
@@ -203,7 +203,7 @@ fn renew<S: Alter>(alloc: Global, conn: &mut Connection<S>, from: Older) -> Resu
 
 /// Why a database with a table `versions` of one column `number`, which looks like no register that is taken, is
 /// refused: for its version where that table has one row with a whole number.
-fn stranger<S: Alter>(alloc: Global, conn: &mut Connection<S>) -> OpenFault
+pub(crate) fn stranger<S: Alter>(alloc: Global, conn: &mut Connection<S>) -> OpenFault
     requires autocommit { conn.old.in_transaction ≡ false }
     ensures autocommit { conn.new.in_transaction ≡ false }
     ensures survives { Survives (state S.Store conn.old) (state S.Store conn.new) (λ _. ⊥) }

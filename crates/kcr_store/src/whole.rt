@@ -66,7 +66,7 @@ fn rows_of_four<S: Alter, A: Listed, B: Listed, C: Listed, D: Listed>(
 }
 
 /// All rows of each table.
-fn all_of<S: Alter>(alloc: Global, tx: &mut Transaction<'_, S>) -> Result<View, Refusal>
+pub(crate) fn all_of<S: Alter>(alloc: Global, tx: &mut Transaction<'_, S>) -> Result<View, Refusal>
     ensures same_reference { tx.new.conn.ghost_name ≡ tx.old.conn.ghost_name }
     ensures rows { HasCleanDisk (state S.Store tx.new.conn.now) → (t : Held) → Holds (state S.Store tx.old.conn.now).now t
         → IfOk result (Lists t) }

@@ -10,7 +10,7 @@ use Rattle.kcr_desk.specs.declared.fault.DeskFault.{DeskFault}
 use Rattle.kcr_desk.specs.declared.fault.DeskFault.TheVariants as stream
 use Rattle.kcr_tool.specs.declared.fault.Fault.{Fault}
 use Rattle.kcr_tool.specs.declared.fault.Fault.TheVariants.{Open, Into, Stream, Refused, Unwritten, Net, Words}
-use Rattle.kcr_tool.specs.Faults.{HasCause, StopsReport, StopsRebuild, StopsServing}
+use Rattle.kcr_tool.specs.Faults.{HasCause, StopsReading, StopsReport, StopsRebuild, StopsServing}
 
 pub stream_cause : {T R W : Type 0} (fault : DeskFault) (old_input new_input : Counted R) (old_output new_output : Counted W)
     → (IsErrOf {T = T} (Err fault) stream.Read → (failures_of old_input < failures_of new_input) ⊎ (gifts_of new_input ≡ gifts_of old_input + 1000000))
@@ -41,6 +41,16 @@ rebuild_cause (Refused refusal) i o p stops = tt
 rebuild_cause Unwritten i o p stops = stops
 rebuild_cause Net i o p stops = absurd stops
 rebuild_cause Words i o p stops = absurd stops
+
+-- and so is why the rows of a register were not read, after which nothing was read or written
+pub reading_cause : {R W : Type 0} (why : Fault) (input : Counted R) (output : Counted W) → StopsReading why → HasCause why input input output output
+reading_cause (Open fault) i o stops = (refl, refl)
+reading_cause (Into fault) i o stops = absurd stops
+reading_cause (Stream fault) i o stops = absurd stops
+reading_cause (Refused refusal) i o stops = tt
+reading_cause Unwritten i o stops = absurd stops
+reading_cause Net i o stops = absurd stops
+reading_cause Words i o stops = absurd stops
 
 -- and so is what stopped the listening
 pub serving_cause : {R W : Type 0} (why : Fault) (old_input new_input : Counted R) (old_output new_output : Counted W)

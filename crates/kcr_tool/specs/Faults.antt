@@ -79,7 +79,13 @@ StopsReport old_output new_output (Refused r) = Unit {0}
 StopsReport old_output new_output Unwritten = failures_of old_output < failures_of new_output
 StopsReport old_output new_output other = ⊥
 
--- the same of a rebuild, for which no new register could be made: then nothing was written
+-- why the rows of a register were not read: it was not opened, or it refused
+abbrev pub StopsReading : Fault → Type 0
+StopsReading (Open fault) = Unit {0}
+StopsReading (Refused r) = Unit {0}
+StopsReading other = ⊥
+
+-- why a rebuild stopped: as a report does, or no new register could be made, and then nothing was written
 abbrev pub StopsRebuild : {W : Type 0} → Counted W → Counted W → Fault → Type 0
 StopsRebuild old_output new_output (Into fault) = new_output ≡ old_output
 StopsRebuild old_output new_output other = StopsReport old_output new_output other

@@ -6,36 +6,35 @@ ghost use Rattle.kcr_tool.specs.declared.fault.Fault.{Fault as WhyNot};
 ghost use Rattle.kcr_tool.specs.declared.words.Task.{Task as Order_task};
 ghost use Rattle.kcr_tool.specs.Faults.{HasCause, IsLineOf};
 ghost use Rattle.kcr_tool.specs.Runs.{Does, DoesInPart, Leaves, LeavesInPart, OfHistory, TellsWrong};
-ghost use Rattle.kcr_verify.specs.Verified.{AreValues};
 ghost use Rattle.kcr_tool.specs.Tasks.{task_of, file_of, into_of, faults_of};
 
 use crate::audit::audit;
 use crate::fault::{Fault, tell, tell_fault};
 use crate::listen::listen;
 use crate::tasks::{attendance, print, run, whereabouts};
-use crate::verify::{rebuild, verify};
+use crate::verify::{rebuild, rows_named, verify};
 use crate::words::{Order, Task, WordsFault, read_words};
 use kcr_base::Counted;
 use kcr_store::Register;
 use sqlite::Alter;
 use std::io::{Read, Write};
 
-/// Does a task over a register, and answers the exit status: 0, or 1 after a finding. A rebuild has the path of the new
-/// register's file.
-#[tactic(auto, using(crate::proofs::Causes::stops_cause, crate::proofs::Causes::serving_cause, crate::proofs::Causes::rebuild_cause, crate::proofs::Audits::clean_told, crate::proofs::Audits::finding_told, crate::proofs::Verifications::whole_told, crate::proofs::Verifications::difference_told))]
+/// Does a task over an open register, and answers the exit status: 0, or 1 after a finding. A verification and a rebuild
+/// are no such tasks.
+#[tactic(auto, using(crate::proofs::Causes::stops_cause, crate::proofs::Causes::serving_cause, crate::proofs::Audits::clean_told, crate::proofs::Audits::finding_told))]
 fn perform<S: Alter + Drop, R: Read, W: Write>(
     rt: &HostRuntime,
     register: Register<S>,
     task: Task,
-    into: Option<&str>,
     input: &mut Counted<R>,
     output: &mut Counted<W>,
 ) -> Result<u8, Fault>
-    requires into { task ≡ Task.Rebuild → IsSome into }
+    requires verify { task ≢ Task.Verify }
+    requires rebuild { task ≢ Task.Rebuild }
     ensures status { IfOk result (λ status. status ≤ 1) }
     ensures finding { IfOk result (λ status. status ≡ 1
         → TellsWrong task (W.contents (inner_of output.old)) (W.contents (inner_of output.new))) }
-    ensures nothing { into.entry ≡ None → OfHistory S.Store register (λ A. AreValues A → IfOk result (λ status. status ≡ 0)) }
+    ensures nothing { OfHistory S.Store register (λ _. IfOk result (λ status. status ≡ 0)) }
     ensures answered { IfOk result (λ status. status ≡ 0 → Leaves task
         (R.remaining (inner_of input.old)) (W.contents (inner_of output.old)) (W.contents (inner_of output.new))) }
     ensures answered_in_part { OnErr result ((output.new ≡ output.old) ⊎ LeavesInPart task
@@ -69,15 +68,49 @@ fn perform<S: Alter + Drop, R: Read, W: Write>(
             Ok(0)
         }
         Task::Audit => audit(rt.alloc(), &mut register, output),
-        Task::Verify => verify(rt.alloc(), &mut register, output),
-        Task::Rebuild => match into {
-            Some(path) => rebuild(rt, &mut register, path, output),
-            None => unreachable!(),
+        Task::Verify | Task::Rebuild => unreachable!(),
+    }
+}
+
+/// Opens the register that is named, or makes one in memory where none is, and does a task over it.
+fn open_and_perform<R: Read, W: Write>(
+    rt: &HostRuntime,
+    file: Option<&str>,
+    task: Task,
+    input: &mut Counted<R>,
+    output: &mut Counted<W>,
+) -> Result<u8, Fault>
+    requires verify { task ≢ Task.Verify }
+    requires rebuild { task ≢ Task.Rebuild }
+    ensures status { IfOk result (λ status. status ≤ 1) }
+    ensures finding { IfOk result (λ status. status ≡ 1
+        → TellsWrong task (W.contents (inner_of output.old)) (W.contents (inner_of output.new))) }
+    ensures nothing { file.entry ≡ None → IfOk result (λ status. status ≡ 0) }
+    ensures answered { IfOk result (λ status. status ≡ 0 → Leaves task
+        (R.remaining (inner_of input.old)) (W.contents (inner_of output.old)) (W.contents (inner_of output.new))) }
+    ensures answered_in_part { OnErr result ((output.new ≡ output.old) ⊎ LeavesInPart task
+        (R.remaining (inner_of input.old)) (W.contents (inner_of output.old)) (W.contents (inner_of output.new))) }
+    ensures cause { IfErr result (λ why. HasCause why input.old input.new output.old output.new) }
+    ensures part { file.entry ≡ None → OnErr result ((output.new ≡ output.old) ⊎ DoesInPart task []
+        (R.remaining (inner_of input.old)) (W.contents (inner_of output.old)) (W.contents (inner_of output.new))) }
+    ensures done { file.entry ≡ None → IfOk result (λ status. status ≡ 0 → Does task []
+        (R.remaining (inner_of input.old)) (W.contents (inner_of output.old)) (W.contents (inner_of output.new))) }
+{
+    match file {
+        Some(path) => match Register::open(rt, path) {
+            Ok(register) => perform(rt, register, task, input, output),
+            Err(fault) => Err(Fault::Open(fault)),
+        },
+        None => match Register::in_memory(rt.alloc()) {
+            Ok(register) => perform(rt, register, task, input, output),
+            Err(fault) => Err(Fault::Open(fault)),
         },
     }
 }
 
-/// Opens the register that the order names, and does its task.
+/// Does the task of an order. A verification and a rebuild read the rows of the register that it names, which stays as it
+/// is; for all others it is opened.
+#[tactic(auto, using(crate::proofs::Causes::stops_cause, crate::proofs::Causes::rebuild_cause, crate::proofs::Causes::reading_cause, crate::proofs::Verifications::whole_told, crate::proofs::Verifications::difference_told))]
 fn obey<R: Read, W: Write>(
     rt: &HostRuntime,
     order: Order<'_>,
@@ -99,15 +132,19 @@ fn obey<R: Read, W: Write>(
     ensures done { order.entry.file ≡ None → IfOk result (λ status. status ≡ 0 → Does order.entry.task []
         (R.remaining (inner_of input.old)) (W.contents (inner_of output.old)) (W.contents (inner_of output.new))) }
 {
-    match order.file {
-        Some(path) => match Register::open(rt, path) {
-            Ok(register) => perform(rt, register, order.task, order.into, input, output),
-            Err(fault) => Err(Fault::Open(fault)),
+    match order.task {
+        Task::Verify => {
+            let rows = rows_named(rt, order.file)?;
+            verify(rt.alloc(), rows, output)
+        }
+        Task::Rebuild => match order.into {
+            Some(path) => {
+                let rows = rows_named(rt, order.file)?;
+                rebuild(rt, rows, path, output)
+            }
+            None => unreachable!(),
         },
-        None => match Register::in_memory(rt.alloc()) {
-            Ok(register) => perform(rt, register, order.task, order.into, input, output),
-            Err(fault) => Err(Fault::Open(fault)),
-        },
+        task => open_and_perform(rt, order.file, task, input, output),
     }
 }
 

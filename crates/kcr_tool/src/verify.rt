@@ -1,14 +1,12 @@
 //! The verification of a register and its rebuilding, as lines.
-ghost use Rattle.std.specs.Prelude.{◌≡◌, ◌≤◌, ◌⊎◌, None, IfOk, IfErr, OnErr, string_bytes};
-ghost use Rattle.sqlite.specs.Held.{Held, state};
-ghost use Rattle.sqlite.specs.State.{HasCleanDisk};
+ghost use Rattle.std.specs.Prelude.{◌≡◌, ◌≤◌, ◌⊎◌, [], None, IfOk, IfErr, OnErr, string_bytes};
 ghost use Rattle.kcr_base.specs.Counted.{inner_of};
 ghost use Rattle.kcr_history.specs.History.{History};
-ghost use Rattle.kcr_history.specs.Tables.{Tables};
-ghost use Rattle.kcr_tables.specs.Joint.{HoldsTables};
-ghost use Rattle.kcr_tool.specs.Faults.{StopsReport, StopsRebuild};
+ghost use Rattle.kcr_history.specs.Machine.{IsRegister};
+ghost use Rattle.kcr_history.specs.Tables.{Tables, tables};
+ghost use Rattle.kcr_store.specs.Whole.{IsListed};
+ghost use Rattle.kcr_tool.specs.Faults.{StopsReading, StopsReport, StopsRebuild};
 ghost use Rattle.kcr_tool.specs.Lines.{difference_line, found_line, whole_line};
-ghost use Rattle.kcr_tool.specs.Runs.{OfHistory};
 ghost use Rattle.kcr_tool.specs.Verifications.{IsLineFor, TellsVerified, TellsVerifiedFront, verified_head, rebuilt_head};
 ghost use Rattle.kcr_verify.specs.Verified.{AreValues, IsTold};
 ghost use Rattle.kcr_verify.specs.declared.verification.Verified.{Verified as Told};
@@ -17,10 +15,11 @@ use crate::fault::Fault;
 use crate::lines::around;
 use itoa::Buffer;
 use kcr_base::{Counted, Refusal};
+use kcr_history::View;
 use kcr_print::put;
-use kcr_store::Register;
+use kcr_store::{Register, connect, tables_of};
 use kcr_verify::{Difference, Verified, create};
-use sqlite::Alter;
+use sqlite::Unknown;
 use std::alloc::{AllocError, Global};
 use std::io::Write;
 
@@ -83,48 +82,66 @@ fn tell_verified<W: Write>(
     }
 }
 
-/// Verifies a register: a line that says of how many commands it is the register, or the first thing that differs from
-/// what its commands lead to, and the exit status, 1 where something differs. Want of memory is refused (33), as is a
-/// fault of the device (34) and a broken register (35), and nothing is written then.
+/// All rows of the register that is named, or of a new one in memory where none is. The file stays as it is, whichever
+/// version its register is of; one that is not there is made, with nothing in it.
+pub fn rows_named(rt: &HostRuntime, file: Option<&str>) -> Result<View, Fault>
+    ensures new { file.entry ≡ None → IfOk result (IsListed (tables [])) }
+    ensures cause { IfErr result StopsReading }
+{
+    match file {
+        Some(path) => match connect(rt, path, Unknown) {
+            Ok(connection) => {
+                let mut connection = connection;
+                tables_of(rt.alloc(), &mut connection).map_err(Fault::Open)
+            }
+            Err(fault) => Err(Fault::Open(fault)),
+        },
+        None => match Register::in_memory(rt.alloc()) {
+            Ok(register) => {
+                let mut register = register;
+                register.tables().map_err(Fault::Refused)
+            }
+            Err(fault) => Err(Fault::Open(fault)),
+        },
+    }
+}
+
+/// Verifies the rows of a register: a line that says of how many commands it is the register, or the first thing that
+/// differs from what its commands lead to, and the exit status, 1 where something differs. Want of memory is refused (33),
+/// which the store in memory may tell as a fault of a device (34), and nothing is written then.
 #[tactic(auto, using(crate::proofs::Verifications::status_told, crate::proofs::Verifications::nothing_told))]
-pub fn verify<S: Alter, W: Write>(
-    alloc: Global,
-    register: &mut Register<S>,
-    output: &mut Counted<W>,
-) -> Result<u8, Fault>
+pub fn verify<W: Write>(alloc: Global, rows: View, output: &mut Counted<W>) -> Result<u8, Fault>
     ensures status { IfOk result (λ status. status ≤ 1) }
     ensures told { IfOk result (λ status. (told : Told)
         × TellsVerified verified_head told (W.contents (inner_of output.old)) (W.contents (inner_of output.new)) status) }
 
-    // That the register is the one of its commands is told where it is true of the tables that the database holds,
-    // whoever wrote them.
-    ensures found { ((conn : Held S) → HasCleanDisk (state S.Store conn)) → register.old.torn ≡ None
-        → (m : Tables) → HoldsTables m (state S.Store register.old.conn).now
-        → IfOk result (λ status. (told : Told) × ((A : History) × IsTold m A told)
+    // That the register is the one of its commands is told where it is true of the tables, whoever wrote them.
+    ensures found { (m : Tables) → IsListed m rows → IfOk result (λ status. (told : Told) × ((A : History) × IsTold m A told)
         × TellsVerified verified_head told (W.contents (inner_of output.old)) (W.contents (inner_of output.new)) status) }
 
     // In the tables of a history nothing differs.
-    ensures nothing { OfHistory S.Store register.old (λ A. AreValues A → IfOk result (λ status. status ≡ 0)) }
+    ensures nothing { (A : History) → IsRegister A → AreValues A → IsListed (tables A) rows
+        → IfOk result (λ status. status ≡ 0) }
     ensures part { OnErr result ((output.new ≡ output.old)
         ⊎ TellsVerifiedFront verified_head (W.contents (inner_of output.old)) (W.contents (inner_of output.new))) }
     ensures cause { IfErr result (StopsReport output.old output.new) }
 {
-    match kcr_verify::verify(alloc, register) {
+    match kcr_verify::verify(alloc, rows) {
         Ok(verified) => tell_verified(alloc, "verified: ", &verified, output),
         Err(refusal) => Err(Fault::Refused(refusal)),
     }
 }
 
-/// Makes a new register in the file at the path, where there is none or it holds nothing, and gives it the commands of
-/// this one: a line that says of how many commands both are the register, or the first thing that differs from what the
-/// commands lead to, and the exit status, 1 where something differs. The new register has then the commands before the
-/// one that differs, that one too where its reply does, and all of them where a table does. Where no new register can be
-/// made, this one is as it was. Want of memory is refused (33), as is a fault of a device (34) and a broken register (35);
-/// the new register then keeps what it was given. In all these cases nothing is written.
+/// Makes a new register in the file at the path, where there is none or it holds nothing, and gives it the commands among
+/// these rows of a register: a line that says of how many commands both are the register, or the first thing that differs
+/// from what the commands lead to, and the exit status, 1 where something differs. The new register has then the commands
+/// before the one that differs, that one too where its reply does, and all of them where a table does. Want of memory is
+/// refused (33), as is a fault of the new register's device (34); it then keeps what it was given. In all these cases, and
+/// where no new register can be made, nothing is written.
 #[tactic(auto, using(crate::proofs::Verifications::status_told))]
-pub fn rebuild<S: Alter, W: Write>(
+pub fn rebuild<W: Write>(
     rt: &HostRuntime,
-    register: &mut Register<S>,
+    rows: View,
     path: &str,
     output: &mut Counted<W>,
 ) -> Result<u8, Fault>
@@ -139,7 +156,7 @@ pub fn rebuild<S: Alter, W: Write>(
         Ok(fresh) => fresh,
         Err(fault) => return Err(Fault::Into(fault)),
     };
-    match kcr_verify::rebuild(rt.alloc(), register, &mut fresh) {
+    match kcr_verify::rebuild(rt.alloc(), rows, &mut fresh) {
         Ok(verified) => tell_verified(rt.alloc(), "rebuilt: ", &verified, output),
         Err(refusal) => Err(Fault::Refused(refusal)),
     }

@@ -1,10 +1,11 @@
 //! Whether a register's tables are those of its own commands.
 //!
 //! The table of keys holds every accepted command as its text, with its number and its reply; all other rows follow
-//! from these. `verify` gives the commands, in the order of their numbers, to an empty register in memory, compares each
-//! reply, and then compares the tables of the two registers, row by row. Where it finds nothing that differs, the tables
-//! are those of a history that the machine leads to, whoever wrote the file. `rebuild` gives them to an empty register of
-//! the caller's, as `create` makes one in a file: so one goes on from a file that one has to doubt.
+//! from these. Of all rows of a register, as `kcr_store` reads them, `verify` gives the commands, in the order of their
+//! numbers, to an empty register in memory, compares each reply, and then compares the tables, row by row. Where it finds
+//! nothing that differs, the rows are the tables of a history that the machine leads to, whoever wrote them. `rebuild`
+//! gives them to an empty register of the caller's, as `create` makes one in a file: so one goes on from a file that one
+//! has to doubt.
 #![tactic(auto)]
 
 mod compare;
@@ -13,5 +14,5 @@ mod replay;
 mod verification;
 
 pub use compare::Table;
-pub use fresh::{FreshFault, create};
+pub use fresh::{FreshFault, create, found};
 pub use verification::{Difference, Verified, rebuild, verify};

@@ -1,5 +1,5 @@
 //! The commands of a register, given to another.
-ghost use Rattle.std.specs.Prelude.{◌≡◌, ◌∷◌, [], true, None, IfOk};
+ghost use Rattle.std.specs.Prelude.{◌≡◌, ◌∷◌, [], true, None, IfOk, IfErr};
 ghost use Rattle.sqlite.specs.State.{HasCleanDisk};
 ghost use Rattle.sqlite.specs.Held.{state};
 ghost use Rattle.kcr_history.specs.History.{History};
@@ -7,6 +7,7 @@ ghost use Rattle.kcr_history.specs.Machine.{IsRegister};
 ghost use Rattle.kcr_history.specs.Tables.{key_row};
 ghost use Rattle.kcr_history.specs.declared.commands.Entry.{Entry as Accepted};
 ghost use Rattle.kcr_store.specs.Register.{IsKept};
+ghost use Rattle.kcr_tables.specs.Refusals.{IsFault};
 ghost use Rattle.kcr_again.specs.Acts.{IsAct};
 ghost use Rattle.kcr_verify.specs.Verified.{AreValues, rows_by_number};
 
@@ -30,6 +31,7 @@ fn give<S: Alter>(
     requires kept { IsKept S.Store register.old }
     ensures founded { register.new.is_founded ≡ true }
     ensures torn { IfOk result (λ _. register.new.torn ≡ None) }
+    ensures cause { IfErr result IsFault }
     ensures clean { HasCleanDisk (state S.Store register.new.conn) → HasCleanDisk (state S.Store register.old.conn) }
     ensures kept { IsKept S.Store register.new }
 
@@ -70,6 +72,7 @@ pub(crate) fn replay<S: Alter>(
     requires empty { register.old.accepted ≡ [] }
     ensures founded { register.new.is_founded ≡ true }
     ensures torn { IfOk result (λ _. register.new.torn ≡ None) }
+    ensures cause { IfErr result IsFault }
     ensures clean { HasCleanDisk (state S.Store register.new.conn) → HasCleanDisk (state S.Store register.old.conn) }
     ensures kept { IsKept S.Store register.new }
     ensures own { HasCleanDisk (state S.Store register.new.conn) → (A : History) → IsRegister A → AreValues A

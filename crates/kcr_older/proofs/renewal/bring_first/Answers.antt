@@ -61,3 +61,20 @@ returns-clause-numbered g c clean t held =
     let says = c.in_ok-has_number.ensures.number clean2 (record t { stays = []; withdrawals = [] }) (c.in_ok-grow_from_1.ensures.holds clean1 t held) in
     let yes : c.in_ok-has_number.field-0 ≡ true = search rules in
     subst (λ b. (IsTrue b → t.versions ≡ numbered 1) × (t.versions ≡ numbered 1 → IsTrue b)) yes says
+
+pub returns-clause-rows : goal.returns-clause-rows
+returns-clause-rows g c clean t held is_so =
+    let one = state g.S.Store c.grow_from_1.new.tx.conn.now in
+    let two = state g.S.Store c.has_number.new.tx.conn.now in
+    let three = state g.S.Store c.fill_stays.new.tx.conn.now in
+    let new = state g.S.Store c.set_version.new.tx.conn.now in
+    let clean3 : HasCleanDisk three = was_clean three new _ c.set_version.ensures.frame.survives clean in
+    let clean2 : HasCleanDisk two = was_clean two three _ c.fill_stays.ensures.frame.survives clean3 in
+    let clean1 : HasCleanDisk one = was_clean one two _ c.has_number.ensures.frame.survives clean2 in
+    let bare : Tables = record t { stays = []; withdrawals = [] } in
+    let held1 = c.in_ok-grow_from_1.ensures.holds clean1 t held in
+    let yes : c.in_ok-has_number.field-0 ≡ true = search rules in
+    let number : t.versions ≡ numbered 1 = (c.in_ok-has_number.ensures.number clean2 bare held1).0 yes in
+    let held2 = c.in_ok-has_number.ensures.frame.holds clean2 bare held1 in
+    let held3 = c.in_ok-fill_stays.ensures.holds clean3 bare held2 in
+    c.in_ok-set_version.ensures.holds clean 1 (with_stays bare) (same_number bare ∙ number) held3

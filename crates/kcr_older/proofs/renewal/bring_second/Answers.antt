@@ -55,3 +55,17 @@ returns-clause-numbered g c clean t held =
     let says = c.in_ok-has_number.ensures.number clean2 (record t { withdrawals = [] }) (c.in_ok-grow_from_2.ensures.holds clean1 t held) in
     let yes : c.in_ok-has_number.field-0 ≡ true = search rules in
     subst (λ b. (IsTrue b → t.versions ≡ numbered 2) × (t.versions ≡ numbered 2 → IsTrue b)) yes says
+
+pub returns-clause-rows : goal.returns-clause-rows
+returns-clause-rows g c clean t held is_so =
+    let one = state g.S.Store c.grow_from_2.new.tx.conn.now in
+    let two = state g.S.Store c.has_number.new.tx.conn.now in
+    let new = state g.S.Store c.set_version.new.tx.conn.now in
+    let clean2 : HasCleanDisk two = was_clean two new _ c.set_version.ensures.frame.survives clean in
+    let clean1 : HasCleanDisk one = was_clean one two _ c.has_number.ensures.frame.survives clean2 in
+    let bare : Tables = record t { withdrawals = [] } in
+    let held1 = c.in_ok-grow_from_2.ensures.holds clean1 t held in
+    let yes : c.in_ok-has_number.field-0 ≡ true = search rules in
+    let number : t.versions ≡ numbered 2 = (c.in_ok-has_number.ensures.number clean2 bare held1).0 yes in
+    let held2 = c.in_ok-has_number.ensures.frame.holds clean2 bare held1 in
+    c.in_ok-set_version.ensures.holds clean 2 bare number held2

@@ -30,6 +30,7 @@ returns g c =
     record {
       founded = search rules;
       torn = search rules;
+      cause = search rules;
       clean = search rules;
       kept = search rules;
       own = λ clean entry h values is.

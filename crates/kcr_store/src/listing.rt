@@ -1,0 +1,171 @@
+//! All rows of a database of any version, which stays as it is.
+ghost use Rattle.std.specs.Prelude.{◌≡◌, ◌≢◌, ◌+◌, [], false, Some, Ok, IfOk, IfErr, MatchOption, IsTrue, OnOk};
+ghost use Rattle.sqlite.specs.State.{HasCleanDisk, Survives};
+ghost use Rattle.sqlite.specs.Held.{state};
+ghost use Rattle.kcr_history.specs.History.{History};
+ghost use Rattle.kcr_history.specs.Tables.{Tables, tables};
+ghost use Rattle.kcr_older.specs.Brought.{brought};
+ghost use Rattle.kcr_older.specs.Older.{StoresAs, HoldsUpTo, numbered};
+ghost use Rattle.kcr_older.specs.Standing.{IsStrange, no_schema};
+ghost use Rattle.kcr_older.specs.Versions.{number_of};
+ghost use Rattle.kcr_store.specs.Listing.{Gives, GivesBrought, GivesNumbered, IsKeptView, IsUnread};
+ghost use Rattle.kcr_store.specs.Opening.{IsFounded};
+ghost use Rattle.kcr_store.specs.Whole.{IsListed};
+ghost use Rattle.kcr_tables.specs.Held.{Tables as Held, Holds};
+ghost use Rattle.kcr_tables.specs.Joint.{HoldsTables};
+ghost use Rattle.kcr_tables.specs.Refusals.{IsFault};
+
+use crate::open::{OpenFault, fault_of, inspect, is_this_version, stranger};
+use crate::whole::all_of;
+use kcr_base::Refusal;
+use kcr_history::View;
+use kcr_older::{Older, Standing, bring};
+use kcr_tables::{Version, all_rows, make};
+use sqlite::{Alter, Connection, Transaction};
+use std::alloc::Global;
+
+/// All rows of a new register, whose tables are made for it.
+fn new_rows<S: Alter>(alloc: Global, tx: &mut Transaction<'_, S>) -> Result<Option<View>, Refusal>
+    ensures same_reference { tx.new.conn.ghost_name ≡ tx.old.conn.ghost_name }
+    ensures rows { HasCleanDisk (state S.Store tx.new.conn.now) → (state S.Store tx.old.conn.now).now.schema ≡ no_schema
+        → IfOk result (λ view. MatchOption view ⊥ (IsListed (tables []))) }
+    ensures opened { HasCleanDisk (state S.Store tx.new.conn.now) → IsTrue (state S.Store tx.old.conn.now).in_transaction
+        → OnOk result (IsTrue (state S.Store tx.old.conn.now).is_open) }
+    ensures survives { Survives (state S.Store tx.old.conn.now) (state S.Store tx.new.conn.now) (λ _. ⊥) }
+    ensures cause { IfErr result IsFault }
+{
+    make(tx)?;
+    Ok(Some(all_of(alloc, tx)?))
+}
+
+/// All rows of a register of this version, or None where its number is another's.
+fn numbered_rows<S: Alter>(
+    alloc: Global,
+    tx: &mut Transaction<'_, S>,
+) -> Result<Option<View>, Refusal>
+    ensures same_reference { tx.new.conn.ghost_name ≡ tx.old.conn.ghost_name }
+    ensures rows { HasCleanDisk (state S.Store tx.new.conn.now) → (t : Held)
+        → Holds (state S.Store tx.old.conn.now).now t → IfOk result (GivesNumbered t) }
+    ensures opened { HasCleanDisk (state S.Store tx.new.conn.now) → IsTrue (state S.Store tx.old.conn.now).in_transaction
+        → OnOk result (IsTrue (state S.Store tx.old.conn.now).is_open) }
+    ensures survives { Survives (state S.Store tx.old.conn.now) (state S.Store tx.new.conn.now) (λ _. ⊥) }
+    ensures cause { IfErr result IsFault }
+{
+    let versions = all_rows::<_, Version>(alloc, tx)?;
+    if !is_this_version(versions.as_slice()) {
+        return Ok(None);
+    }
+    Ok(Some(all_of(alloc, tx)?))
+}
+
+/// All rows that a register of an older version has once it is brought to this one, or None where its number is
+/// another's.
+fn brought_rows<S: Alter>(
+    alloc: Global,
+    tx: &mut Transaction<'_, S>,
+    from: Older,
+) -> Result<Option<View>, Refusal>
+    ensures same_reference { tx.new.conn.ghost_name ≡ tx.old.conn.ghost_name }
+    ensures rows { HasCleanDisk (state S.Store tx.new.conn.now) → (t : Held)
+        → HoldsUpTo (14 + number_of from) (state S.Store tx.old.conn.now).now t → IfOk result (GivesBrought from t) }
+    ensures own { HasCleanDisk (state S.Store tx.new.conn.now) → (A : History)
+        → StoresAs (number_of from) A (state S.Store tx.old.conn.now).now
+        → IfOk result (λ view. MatchOption view ⊥ (IsListed (tables A))) }
+    ensures opened { HasCleanDisk (state S.Store tx.new.conn.now) → IsTrue (state S.Store tx.old.conn.now).in_transaction
+        → IfOk result (λ view. MatchOption view (Unit {0}) (λ _. IsTrue (state S.Store tx.old.conn.now).is_open)) }
+    ensures survives { Survives (state S.Store tx.old.conn.now) (state S.Store tx.new.conn.now) (λ _. ⊥) }
+    ensures cause { IfErr result IsFault }
+{
+    if !bring(alloc, tx, from)? {
+        return Ok(None);
+    }
+    Ok(Some(all_of(alloc, tx)?))
+}
+
+/// The rows, where there are some; else the database's number is another version's.
+fn given(rows: Result<Option<View>, Refusal>) -> Result<View, OpenFault>
+    ensures rows { IfOk result (λ view. rows ≡ Ok (Some view)) }
+    ensures kind { IfErr result (λ e. e ≢ OpenFault.Foreign) }
+{
+    match rows {
+        Ok(Some(view)) => Ok(view),
+        Ok(None) => Err(OpenFault::Version),
+        Err(refusal) => Err(fault_of(refusal)),
+    }
+}
+
+/// All rows of a database of this standing. What it makes for that is in the transaction, and the caller rolls it back.
+fn rows_as<S: Alter>(
+    alloc: Global,
+    tx: &mut Transaction<'_, S>,
+    standing: Standing,
+) -> Result<View, OpenFault>
+    ensures same_reference { tx.new.conn.ghost_name ≡ tx.old.conn.ghost_name }
+    ensures gives { HasCleanDisk (state S.Store tx.new.conn.now) → Gives standing (state S.Store tx.old.conn.now).now result }
+    ensures opened { HasCleanDisk (state S.Store tx.new.conn.now) → IsTrue (state S.Store tx.old.conn.now).in_transaction
+        → OnOk result (IsTrue (state S.Store tx.old.conn.now).is_open) }
+    ensures read { IfOk result (λ _. ¬ IsUnread standing) }
+    ensures foreign { IfErr result (λ e. e ≡ OpenFault.Foreign → IsUnread standing) }
+    ensures survives { Survives (state S.Store tx.old.conn.now) (state S.Store tx.new.conn.now) (λ _. ⊥) }
+{
+    match standing {
+        Standing::Empty => given(new_rows(alloc, tx)),
+        Standing::Current => given(numbered_rows(alloc, tx)),
+        Standing::Second => given(brought_rows(alloc, tx, Older::Second)),
+        Standing::First => given(brought_rows(alloc, tx, Older::First)),
+        Standing::Numbered | Standing::Foreign => Err(OpenFault::Foreign),
+    }
+}
+
+/// The same in a transaction that is rolled back.
+fn rows_back<S: Alter>(
+    alloc: Global,
+    conn: &mut Connection<S>,
+    standing: Standing,
+) -> Result<View, OpenFault>
+    requires autocommit { conn.old.in_transaction ≡ false }
+    ensures autocommit { conn.new.in_transaction ≡ false }
+    ensures gives { HasCleanDisk (state S.Store conn.new) → Gives standing (state S.Store conn.old).now result }
+    ensures opened { HasCleanDisk (state S.Store conn.new) → OnOk result (IsTrue (state S.Store conn.old).is_open) }
+    ensures read { IfOk result (λ _. ¬ IsUnread standing) }
+    ensures foreign { IfErr result (λ e. e ≡ OpenFault.Foreign → IsUnread standing) }
+    ensures survives { Survives (state S.Store conn.old) (state S.Store conn.new) (λ _. ⊥) }
+{
+    let mut tx = conn.transaction();
+    let rows = rows_as(alloc, &mut tx, standing);
+    tx.rollback();
+    rows
+}
+
+/// All rows of the register that a database holds, each table's in the order of their keys; their memory grows with
+/// their number. Nothing is committed, so the database stays as it is: a register of version 1 or 2 is brought to this
+/// version in a transaction that is rolled back, and of a database with nothing the rows are those of a new register.
+/// The faults are those of `Register::adopt`; `Disk` comes also for a row that no register stores.
+#[tactic(auto, using(crate::proofs::ListingLemmas::strange_by))]
+pub fn tables_of<S: Alter>(alloc: Global, conn: &mut Connection<S>) -> Result<View, OpenFault>
+    requires autocommit { conn.old.in_transaction ≡ false }
+    ensures autocommit { conn.new.in_transaction ≡ false }
+
+    // Where the database is that of a history, in whichever version, the rows are its tables.
+    ensures own { HasCleanDisk (state S.Store conn.new) → (A : History) → IsFounded A (state S.Store conn.old)
+        → IfOk result (IsListed (tables A)) }
+
+    // Whoever wrote them, they are the rows that the database holds, and those of an older version brought to this one.
+    ensures rows { HasCleanDisk (state S.Store conn.new) → (m : Tables)
+        → HoldsTables m (state S.Store conn.old).now → IfOk result (IsListed m) }
+    ensures older { HasCleanDisk (state S.Store conn.new) → (from : Older) → (t : Held)
+        → HoldsUpTo (14 + number_of from) (state S.Store conn.old).now t
+        → IfOk result (λ view. (t.versions ≡ numbered (number_of from)) × IsKeptView (brought from t) view) }
+    ensures version { HasCleanDisk (state S.Store conn.new) → (t : Held) → Holds (state S.Store conn.old).now t
+        → IfOk result (λ view. (t.versions ≡ numbered 3) × IsKeptView t view) }
+    ensures known { IfOk result (λ _. ¬ IsStrange (state S.Store conn.old).now.schema) }
+    ensures foreign { IfErr result (λ e. e ≡ OpenFault.Foreign → IsStrange (state S.Store conn.old).now.schema) }
+    ensures survives { Survives (state S.Store conn.old) (state S.Store conn.new) (λ _. ⊥) }
+{
+    let is_settled = conn.is_autocommit();
+    prove!(is_settled);
+    match inspect(alloc, conn)? {
+        Standing::Numbered => Err(stranger(alloc, conn)),
+        standing => rows_back(alloc, conn, standing),
+    }
+}
