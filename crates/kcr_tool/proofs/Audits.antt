@@ -1,5 +1,5 @@
 -- What the status of an audit says of its line.
-use Rattle.std.proofs.Common.{◌≡◌, ◌≤◌, inr, ℕ, List, Option, Some, None, refl, ap, sym, ◌∙◌, arith}
+use Rattle.std.proofs.Common.{◌≡◌, ◌≤◌, inr, ℕ, List, Option, Some, None, refl, arith}
 use Rattle.std.specs.Io.KnownBytes.{Appends}
 use Rattle.kcr_history.specs.declared.views.Finding.{Finding}
 use Rattle.kcr_tool.proofs.Causes.{whole_front}

@@ -1,10 +1,10 @@
 -- Words that are taken hold a task.
-use Rattle.std.proofs.Common.{◌≡◌, ◌&&◌, ◌||◌, ℕ, zero, suc, Bool, true, false, not, cond, codes, List, [], ◌∷◌, Option, Some, None, refl, sym, ap, ◌∙◌, subst, ◌⊎◌, inl, inr, option_map}
+use Rattle.std.proofs.Common.{◌≡◌, ◌&&◌, ◌||◌, ℕ, zero, suc, Bool, true, false, not, cond, codes, List, [], ◌∷◌, Option, Some, None, refl, sym, ap, ◌∙◌, subst, option_map}
 use Rattle.std.specs.Prelude.{is_some, fold, find, MatchOption, option_and_then}
 use Rattle.std.specs.List.{AllByRecursion}
 use Rattle.std.specs.Str.{bytes_eq}
 use Rattle.std.proofs.lemmas.Slice.Eq.{bytes_eq-Decides}
-use Rattle.clap.specs.Words.{Kinds, Row, Shape, Text, subcommand_rows_of}
+use Rattle.clap.specs.Words.{Row, Shape, Text, subcommand_rows_of}
 use Rattle.clap.specs.declared.parser.matches.ArgMatches.{ArgMatches}
 use Rattle.clap.specs.Walk.{Held, Names, Rule, Step, Waiting, Walk, Outcome, done, waits, plain, refused, idle, option, positional, next, trailing, subcommand, value, walked, walked_from, walk, walk_from, word_met, after_step, after_flag, plain_word, long_or_other, short_or_plain, subcommand_met, subcommand_or_other, to_positional, arg_by_index, nothing_held, answers_to, bundle, long_met, arg_by_long, stop_after, finished, settled, rows_after}
 use Rattle.clap.specs.Lexer.{long_of, short_of}
@@ -17,9 +17,9 @@ use Rattle.clap.specs.Faults.{check_fault, defaults_fault, settle_fault, entered
 use Rattle.clap.specs.declared.error.kind.ErrorKind.TheVariants as kind
 use Rattle.clap.specs.Simple.{App, built, names_of, label_of, entered, rows_at, argument_words, new_shape, filled, help_rule}
 use Rattle.kcr_tool.specs.Commands.{tool_app, file_rule, number_rule}
-use Rattle.kcr_tool.specs.Tasks.{task_at, met_in, faults_of, number_at, serve_at, ceremony_at, into_at}
+use Rattle.kcr_tool.specs.Tasks.{task_at, met_in, faults_of, number_at, ceremony_at, into_at}
 use Rattle.kcr_tool.specs.declared.words.Task.{Task}
-use Rattle.kcr_tool.specs.declared.words.Task.TheVariants.{Run, Serve, Print, Attendance, Custody, Audit, Verify, Rebuild}
+use Rattle.kcr_tool.specs.declared.words.Task.TheVariants.{Serve, Print, Attendance, Rebuild}
 use Rattle.kcr_tool.proofs.Options.{both_empty, is_number, is_text, required_number, required_text, number_keeps, text_keeps, other_keeps, help_keeps}
 
 -- where a walk has stopped, it is not at `help`

@@ -1,5 +1,5 @@
 -- What the status of a verification says of its line.
-use Rattle.std.proofs.Common.{◌≡◌, ◌≤◌, inl, inr, ℕ, List, Option, refl, arith}
+use Rattle.std.proofs.Common.{◌≡◌, ◌≤◌, inr, ℕ, List, Option, refl, arith}
 use Rattle.kcr_history.specs.History.{History}
 use Rattle.kcr_tool.proofs.Audits.{finding_front}
 use Rattle.kcr_tool.proofs.Causes.{whole_front}

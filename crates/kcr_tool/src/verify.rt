@@ -88,21 +88,31 @@ pub fn rows_named(rt: &HostRuntime, file: Option<&str>) -> Result<View, Fault>
     ensures new { file.entry ≡ None → IfOk result (IsListed (tables [])) }
     ensures cause { IfErr result StopsReading }
 {
-    match file {
-        Some(path) => match connect(rt, path, Unknown) {
-            Ok(connection) => {
-                let mut connection = connection;
-                tables_of(rt.alloc(), &mut connection).map_err(Fault::Open)
-            }
-            Err(fault) => Err(Fault::Open(fault)),
-        },
-        None => match Register::in_memory(rt.alloc()) {
-            Ok(register) => {
-                let mut register = register;
-                register.tables().map_err(Fault::Refused)
-            }
-            Err(fault) => Err(Fault::Open(fault)),
-        },
+    let Some(path) = file else {
+        return rows_of_none(rt.alloc());
+    };
+    let mut connection = match connect(rt, path, Unknown) {
+        Ok(connection) => connection,
+        Err(fault) => return Err(Fault::Open(fault)),
+    };
+    match tables_of(rt.alloc(), &mut connection) {
+        Ok(rows) => Ok(rows),
+        Err(fault) => Err(Fault::Open(fault)),
+    }
+}
+
+/// All rows of a new register in memory.
+fn rows_of_none(alloc: Global) -> Result<View, Fault>
+    ensures new { IfOk result (IsListed (tables [])) }
+    ensures cause { IfErr result StopsReading }
+{
+    let mut register = match Register::in_memory(alloc) {
+        Ok(register) => register,
+        Err(fault) => return Err(Fault::Open(fault)),
+    };
+    match register.tables() {
+        Ok(rows) => Ok(rows),
+        Err(refusal) => Err(Fault::Refused(refusal)),
     }
 }
 

@@ -1,7 +1,7 @@
-use Rattle.std.proofs.Common.{◌≡◌, None, Option, subst}
+use Rattle.std.proofs.Common.{Option, subst}
 use Rattle.kcr_history.specs.History.{History}
 use Rattle.kcr_base.specs.Counted.{inner_of}
-use Rattle.kcr_desk.specs.Answers.{Standing, IsAnswer, standing}
+use Rattle.kcr_desk.specs.Answers.{IsAnswer, standing}
 use Rattle.kcr_desk.specs.Run.{IsServed, IsBroken}
 use Rattle.kcr_tool.proofs.Causes.{stream_cause}
 use Rattle.kcr_tool.proofs.tasks.run.Goals as goal

@@ -1,4 +1,4 @@
-use Rattle.std.proofs.Common.{rules, ◌∙◌, ◌≡◌, ◌≤◌, sym, arith, inl, inr}
+use Rattle.std.proofs.Common.{rules, ◌∙◌, ◌≤◌, arith, inl, inr}
 use Rattle.clap.specs.Words.{found_of}
 use Rattle.std.specs.Str.Parse.{ParsesUnsigned, ExplainsUnsignedError, HasUnsignedDigitsIfOk}
 use Rattle.kcr_tool.proofs.Numbers.{number_read, number_outside, number_none}
