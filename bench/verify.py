@@ -8,7 +8,9 @@ are half of them, people who are entered the other half. Printed are how many ro
 without requests), `audit`, `verify` and `rebuild` the seconds of the processor and by the clock, and the most memory that
 the program held (kilobytes). Files lie in the folder that TMPDIR names.
 """
+import contextlib
 import pathlib
+import shutil
 import sqlite3
 import sys
 import tempfile
@@ -29,11 +31,13 @@ def stream_of(count):
     return client.take()[0]
 
 
-def rows_in(file):
-    """How many rows the tables of a file have together."""
-    database = sqlite3.connect(file)
-    names = [name for name, in database.execute("SELECT name FROM sqlite_schema WHERE type = 'table'")]
-    return sum(database.execute(f"SELECT count(*) FROM {name}").fetchone()[0] for name in names)
+def rows_in(file, room):
+    """How many rows the tables of a file have together, counted in a copy of it and of the log beside it."""
+    for ending in ("", "-wal"):
+        shutil.copy(f"{file}{ending}", room / f"copy{ending}")
+    with contextlib.closing(sqlite3.connect(room / "copy")) as database:
+        names = [name for name, in database.execute("SELECT name FROM sqlite_schema WHERE type = 'table'")]
+        return sum(database.execute(f"SELECT count(*) FROM {name}").fetchone()[0] for name in names)
 
 
 def cells_of(words, told):
@@ -48,12 +52,12 @@ def show(program, count, room):
     """The rows of the table for a file of so many commands."""
     file = room / f"{count}.db"
     table.run([program, "run", "--file", str(file)], stream_of(count))
-    commands = f" {count} commands\n".encode()
+    commands, rows = f" {count} commands\n".encode(), rows_in(file, room)
     for task, told in [("run", b""), ("audit", b"audit: nothing found\n"), ("verify", b"verified:" + commands),
                        ("rebuild", b"rebuilt:" + commands)]:
         more = ["--into", str(room / f"{count}-rebuilt.db")] if task == "rebuild" else []
         cells = cells_of([program, task, "--file", str(file), *more], told)
-        print("| " + " | ".join([f"{count:,}", f"{rows_in(file):,}", task, *cells]) + " |", flush=True)
+        print("| " + " | ".join([f"{count:,}", f"{rows:,}", task, *cells]) + " |", flush=True)
 
 
 def main():
