@@ -1,6 +1,6 @@
 -- The command line of the program, as `clap` reads it.
 use Rattle.std.specs.Prelude.{◌∷◌, [], ℕ, codes, true, Some, List}
-use Rattle.clap.specs.Words.{App, Rule, Shape, Text, new_app, new_rule, with_rule, with_subcommand}
+use Rattle.clap.specs.Words.{App, Rule, Text, new_app, new_rule, with_rule, with_subcommand}
 use Rattle.clap.specs.declared.builder.value_parser.ValueParser.TheVariants.{Unsigned}
 
 -- `--file FILE`

@@ -1,5 +1,5 @@
 -- Why a task was not done to its end, and what is told of it.
-use Rattle.std.specs.Prelude.{◌≡◌, ◌+◌, ◌<◌, ◌⊎◌, ℕ, List, [], ◌∷◌, ◌++◌, codes}
+use Rattle.std.specs.Prelude.{◌≡◌, ◌+◌, ◌<◌, ◌⊎◌, ℕ, List, ◌++◌, codes}
 use Rattle.kcr_base.specs.Counted.{failures_of, gifts_of}
 use Rattle.kcr_base.specs.Refusal.{number_of, word_of, thing_text}
 use Rattle.kcr_base.specs.declared.counted.Counted.{Counted}
