@@ -478,6 +478,7 @@ def changed_commands(program, room):
             ("UPDATE keys SET command = 'x' WHERE accepted = 13", "command 13"),
             ("UPDATE keys SET command = '' WHERE accepted = 13", "command 13"),
             ("UPDATE keys SET command = command || char(10) WHERE accepted = 13", "command 13"),
+            ("UPDATE keys SET command = replace(command, '/ceremonies/', '/rooms/') WHERE accepted = 16", "command 16"),
             ("UPDATE keys SET reply = '{\"accepted\":14}' WHERE accepted = 13", "reply 13"),
             ("UPDATE keys SET command = '/people' || char(10) || 'AA' || char(10) || 'Ann Abel' WHERE accepted = 13",
              "refused 13"),

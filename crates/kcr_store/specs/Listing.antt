@@ -1,5 +1,5 @@
 -- What a reading of a database of any version gives.
-use Rattle.std.specs.Prelude.{◌≡◌, ◌≢◌, ◌+◌, ◌⊎◌, [], Option, Result, IfOk, MatchOption}
+use Rattle.std.specs.Prelude.{◌≡◌, ◌≢◌, ◌+◌, ◌⊎◌, [], Result, MatchResult}
 use Rattle.sqlite.specs.Effect.{Database}
 use Rattle.sqlite.specs.Tree.{Trees}
 use Rattle.kcr_history.specs.History.{History}
@@ -15,6 +15,7 @@ use Rattle.kcr_older.specs.declared.standing.Standing.{Standing}
 use Rattle.kcr_older.specs.declared.standing.Standing.TheVariants.{Empty, Current, Second, First, Numbered, Foreign}
 use Rattle.kcr_store.specs.Whole.{IsListed, Lists}
 use Rattle.kcr_store.specs.declared.«open».OpenFault.{OpenFault}
+use Rattle.kcr_store.specs.declared.«open».OpenFault.TheVariants.{Version}
 use Rattle.kcr_tables.specs.Held as held
 
 -- the view has these rows, in the order in which a database keeps them
@@ -23,29 +24,31 @@ pub record IsKeptView (t : held.Tables) (view : View) : Type 0 where
   pub kept : held.Kept db t
   pub lists : Lists t view
 
--- of a register of this version its rows, where it has this version's number
-abbrev pub GivesNumbered : held.Tables → Option View → Type 0
-GivesNumbered t view = MatchOption view (t.versions ≢ numbered 3) (λ view. (t.versions ≡ numbered 3) × IsKeptView t view)
+-- of a register of this version the view has its rows, and the number is this version's
+abbrev pub IsNumberedView : held.Tables → View → Type 0
+IsNumberedView t view = (t.versions ≡ numbered 3) × IsKeptView t view
 
--- of one of an older version the rows that it has once it is brought, where it has that version's number
-abbrev pub GivesBrought : Older → held.Tables → Option View → Type 0
-GivesBrought from t view =
-    MatchOption view (t.versions ≢ numbered (number_of from)) (λ view. (t.versions ≡ numbered (number_of from)) × IsKeptView (brought from t) view)
+-- of one of an older version it has the rows that are made of its own, and the number is that version's
+abbrev pub IsBroughtView : Older → held.Tables → View → Type 0
+IsBroughtView from t view = (t.versions ≡ numbered (number_of from)) × IsKeptView (brought from t) view
 
--- the same where nothing else is an answer, and the tables of the history that it is the register of
+-- the rows are as is said of them, and the database is refused for its version only where this holds
+abbrev pub GivesOr : Type 0 → (View → Type 0) → Result View OpenFault → Type 0
+GivesOr Other Is result = MatchResult result Is (λ fault. fault ≡ Version → Other)
+
+-- what is given of a register of an older version, by its rows and by its history
 pub record GivesOlder (from : Older) (db : Database) (result : Result View OpenFault) : Type 0 where
-  pub rows : (t : held.Tables) → HoldsUpTo (14 + number_of from) db t
-      → IfOk result (λ view. (t.versions ≡ numbered (number_of from)) × IsKeptView (brought from t) view)
-  pub own : (A : History) → StoresAs (number_of from) A db → IfOk result (IsListed (tables A))
+  pub rows : (t : held.Tables) → HoldsUpTo (14 + number_of from) db t → GivesOr (t.versions ≢ numbered (number_of from)) (IsBroughtView from t) result
+  pub own : (A : History) → StoresAs (number_of from) A db → GivesOr ⊥ (IsListed (tables A)) result
 
 -- what is given of a database of each standing
 abbrev pub Gives : Standing → Database → Result View OpenFault → Type 0
-Gives Empty db result = db.schema ≡ no_schema → IfOk result (IsListed (tables []))
-Gives Current db result = (t : held.Tables) → held.Holds db t → IfOk result (λ view. (t.versions ≡ numbered 3) × IsKeptView t view)
+Gives Empty db result = db.schema ≡ no_schema → GivesOr ⊥ (IsListed (tables [])) result
+Gives Current db result = (t : held.Tables) → held.Holds db t → GivesOr (t.versions ≢ numbered 3) (IsNumberedView t) result
 Gives Second db result = GivesOlder older.Second db result
 Gives First db result = GivesOlder older.First db result
-Gives Numbered db result = IfOk result (λ _. ⊥)
-Gives Foreign db result = IfOk result (λ _. ⊥)
+Gives Numbered db result = Unit {0}
+Gives Foreign db result = Unit {0}
 
 -- what is not read
 abbrev pub IsUnread : Standing → Type 0

@@ -1,14 +1,13 @@
 //! All rows of a database of any version, which stays as it is.
-ghost use Rattle.std.specs.Prelude.{◌≡◌, ◌≢◌, ◌+◌, [], false, Some, Ok, IfOk, IfErr, MatchOption, IsTrue, OnOk};
+ghost use Rattle.std.specs.Prelude.{◌≡◌, ◌≢◌, ◌+◌, ◌⊎◌, [], false, Some, None, Ok, IfOk, IfErr, MatchOption, IsTrue, OnOk};
 ghost use Rattle.sqlite.specs.State.{HasCleanDisk, Survives};
 ghost use Rattle.sqlite.specs.Held.{state};
 ghost use Rattle.kcr_history.specs.History.{History};
 ghost use Rattle.kcr_history.specs.Tables.{Tables, tables};
-ghost use Rattle.kcr_older.specs.Brought.{brought};
 ghost use Rattle.kcr_older.specs.Older.{StoresAs, HoldsUpTo, numbered};
 ghost use Rattle.kcr_older.specs.Standing.{IsStrange, no_schema};
 ghost use Rattle.kcr_older.specs.Versions.{number_of};
-ghost use Rattle.kcr_store.specs.Listing.{Gives, GivesBrought, GivesNumbered, IsKeptView, IsUnread};
+ghost use Rattle.kcr_store.specs.Listing.{Gives, GivesOr, IsBroughtView, IsNumberedView, IsUnread};
 ghost use Rattle.kcr_store.specs.Opening.{IsFounded};
 ghost use Rattle.kcr_store.specs.Whole.{IsListed};
 ghost use Rattle.kcr_tables.specs.Held.{Tables as Held, Holds};
@@ -45,7 +44,7 @@ fn numbered_rows<S: Alter>(
 ) -> Result<Option<View>, Refusal>
     ensures same_reference { tx.new.conn.ghost_name ≡ tx.old.conn.ghost_name }
     ensures rows { HasCleanDisk (state S.Store tx.new.conn.now) → (t : Held)
-        → Holds (state S.Store tx.old.conn.now).now t → IfOk result (GivesNumbered t) }
+        → Holds (state S.Store tx.old.conn.now).now t → IfOk result (λ view. MatchOption view (t.versions ≢ numbered 3) (IsNumberedView t)) }
     ensures opened { HasCleanDisk (state S.Store tx.new.conn.now) → IsTrue (state S.Store tx.old.conn.now).in_transaction
         → OnOk result (IsTrue (state S.Store tx.old.conn.now).is_open) }
     ensures survives { Survives (state S.Store tx.old.conn.now) (state S.Store tx.new.conn.now) (λ _. ⊥) }
@@ -67,7 +66,8 @@ fn brought_rows<S: Alter>(
 ) -> Result<Option<View>, Refusal>
     ensures same_reference { tx.new.conn.ghost_name ≡ tx.old.conn.ghost_name }
     ensures rows { HasCleanDisk (state S.Store tx.new.conn.now) → (t : Held)
-        → HoldsUpTo (14 + number_of from) (state S.Store tx.old.conn.now).now t → IfOk result (GivesBrought from t) }
+        → HoldsUpTo (14 + number_of from) (state S.Store tx.old.conn.now).now t
+        → IfOk result (λ view. MatchOption view (t.versions ≢ numbered (number_of from)) (IsBroughtView from t)) }
     ensures own { HasCleanDisk (state S.Store tx.new.conn.now) → (A : History)
         → StoresAs (number_of from) A (state S.Store tx.old.conn.now).now
         → IfOk result (λ view. MatchOption view ⊥ (IsListed (tables A))) }
@@ -85,6 +85,7 @@ fn brought_rows<S: Alter>(
 /// The rows, where there are some; else the database's number is another version's.
 fn given(rows: Result<Option<View>, Refusal>) -> Result<View, OpenFault>
     ensures rows { IfOk result (λ view. rows ≡ Ok (Some view)) }
+    ensures version { IfErr result (λ e. e ≡ OpenFault.Version → rows ≡ Ok None) }
     ensures kind { IfErr result (λ e. e ≢ OpenFault.Foreign) }
 {
     match rows {
@@ -150,14 +151,18 @@ pub fn tables_of<S: Alter>(alloc: Global, conn: &mut Connection<S>) -> Result<Vi
     ensures own { HasCleanDisk (state S.Store conn.new) → (A : History) → IsFounded A (state S.Store conn.old)
         → IfOk result (IsListed (tables A)) }
 
-    // Whoever wrote them, they are the rows that the database holds, and those of an older version brought to this one.
+    ensures taken { HasCleanDisk (state S.Store conn.new) → IsTrue (state S.Store conn.old).is_open → (A : History)
+        → IsFounded A (state S.Store conn.old) → IfErr result (λ e. (e ≡ OpenFault.Memory) ⊎ (e ≡ OpenFault.Disk)) }
+
+    // Whoever wrote them, they are the rows that the database holds, and those of an older version brought to this one;
+    // it is refused for its version only where the number is another's.
     ensures rows { HasCleanDisk (state S.Store conn.new) → (m : Tables)
         → HoldsTables m (state S.Store conn.old).now → IfOk result (IsListed m) }
+    ensures version { HasCleanDisk (state S.Store conn.new) → (t : Held) → Holds (state S.Store conn.old).now t
+        → GivesOr (t.versions ≢ numbered 3) (IsNumberedView t) result }
     ensures older { HasCleanDisk (state S.Store conn.new) → (from : Older) → (t : Held)
         → HoldsUpTo (14 + number_of from) (state S.Store conn.old).now t
-        → IfOk result (λ view. (t.versions ≡ numbered (number_of from)) × IsKeptView (brought from t) view) }
-    ensures version { HasCleanDisk (state S.Store conn.new) → (t : Held) → Holds (state S.Store conn.old).now t
-        → IfOk result (λ view. (t.versions ≡ numbered 3) × IsKeptView t view) }
+        → GivesOr (t.versions ≢ numbered (number_of from)) (IsBroughtView from t) result }
     ensures known { IfOk result (λ _. ¬ IsStrange (state S.Store conn.old).now.schema) }
     ensures foreign { IfErr result (λ e. e ≡ OpenFault.Foreign → IsStrange (state S.Store conn.old).now.schema) }
     ensures survives { Survives (state S.Store conn.old) (state S.Store conn.new) (λ _. ⊥) }

@@ -72,42 +72,6 @@ fn perform<S: Alter + Drop, R: Read, W: Write>(
     }
 }
 
-/// Opens the register that is named, or makes one in memory where none is, and does a task over it.
-fn open_and_perform<R: Read, W: Write>(
-    rt: &HostRuntime,
-    file: Option<&str>,
-    task: Task,
-    input: &mut Counted<R>,
-    output: &mut Counted<W>,
-) -> Result<u8, Fault>
-    requires verify { task ≢ Task.Verify }
-    requires rebuild { task ≢ Task.Rebuild }
-    ensures status { IfOk result (λ status. status ≤ 1) }
-    ensures finding { IfOk result (λ status. status ≡ 1
-        → TellsWrong task (W.contents (inner_of output.old)) (W.contents (inner_of output.new))) }
-    ensures nothing { file.entry ≡ None → IfOk result (λ status. status ≡ 0) }
-    ensures answered { IfOk result (λ status. status ≡ 0 → Leaves task
-        (R.remaining (inner_of input.old)) (W.contents (inner_of output.old)) (W.contents (inner_of output.new))) }
-    ensures answered_in_part { OnErr result ((output.new ≡ output.old) ⊎ LeavesInPart task
-        (R.remaining (inner_of input.old)) (W.contents (inner_of output.old)) (W.contents (inner_of output.new))) }
-    ensures cause { IfErr result (λ why. HasCause why input.old input.new output.old output.new) }
-    ensures part { file.entry ≡ None → OnErr result ((output.new ≡ output.old) ⊎ DoesInPart task []
-        (R.remaining (inner_of input.old)) (W.contents (inner_of output.old)) (W.contents (inner_of output.new))) }
-    ensures done { file.entry ≡ None → IfOk result (λ status. status ≡ 0 → Does task []
-        (R.remaining (inner_of input.old)) (W.contents (inner_of output.old)) (W.contents (inner_of output.new))) }
-{
-    match file {
-        Some(path) => match Register::open(rt, path) {
-            Ok(register) => perform(rt, register, task, input, output),
-            Err(fault) => Err(Fault::Open(fault)),
-        },
-        None => match Register::in_memory(rt.alloc()) {
-            Ok(register) => perform(rt, register, task, input, output),
-            Err(fault) => Err(Fault::Open(fault)),
-        },
-    }
-}
-
 /// Does the task of an order. A verification and a rebuild read the rows of the register that it names, which stays as it
 /// is; for all others it is opened.
 #[tactic(auto, using(crate::proofs::Causes::stops_cause, crate::proofs::Causes::rebuild_cause, crate::proofs::Causes::reading_cause, crate::proofs::Verifications::whole_told, crate::proofs::Verifications::difference_told))]
@@ -144,7 +108,16 @@ fn obey<R: Read, W: Write>(
             }
             None => unreachable!(),
         },
-        task => open_and_perform(rt, order.file, task, input, output),
+        task => match order.file {
+            Some(path) => match Register::open(rt, path) {
+                Ok(register) => perform(rt, register, task, input, output),
+                Err(fault) => Err(Fault::Open(fault)),
+            },
+            None => match Register::in_memory(rt.alloc()) {
+                Ok(register) => perform(rt, register, task, input, output),
+                Err(fault) => Err(Fault::Open(fault)),
+            },
+        },
     }
 }
 

@@ -1,28 +1,55 @@
-use Rattle.std.proofs.Common.{rules, IsTrue}
-use Rattle.std.proofs.lemmas.Result.{IfOk-weaker}
+use Rattle.std.proofs.Common.{◌≡◌, rules, IsTrue, IfErr, inl, inr, refl}
+use Rattle.std.proofs.lemmas.Result.{IfOk-weaker, IfErr-weaker}
 use Rattle.sqlite.specs.Held.{state}
 use Rattle.sqlite.specs.State.{HasCleanDisk}
-use Rattle.kcr_older.specs.Standing.{StandsAs}
-use Rattle.kcr_store.proofs.ListingLemmas.{own_by, rows_by, older_by, version_by, known_by}
+use Rattle.kcr_older.specs.Standing.{StandsAs, IsStrange}
+use Rattle.kcr_store.proofs.ListingLemmas.{is_given, own_by, rows_by, older_by, version_by, known_by, strange_by, taken_by, not_strange}
+use Rattle.kcr_store.proofs.OpenLemmas.{none_strange, of_strange}
 use Rattle.kcr_store.proofs.WholeLemmas.{if_ok, was_clean}
 use Rattle.kcr_store.proofs.listing.tables_of.Goals as goal
+
+pub returns-in-Numbered-clause-taken : goal.returns-in-Numbered-clause-taken
+returns-in-Numbered-clause-taken g c clean live A founded =
+    let old = state g.S.Store c.args.conn.now in
+    let strange : IsStrange old.now.schema = search rules in
+    let before = was_clean old (state g.S.Store c.stranger.new.conn) _ c.stranger.ensures.survives clean in
+    absurd (of_strange A old (search rules) c.inspect.ensures.live before live founded strange)
+
+pub returns-in-Numbered-clause-version : goal.returns-in-Numbered-clause-version
+returns-in-Numbered-clause-version g c clean t held =
+    let old = state g.S.Store c.args.conn.now in
+    let strange : IsStrange old.now.schema = search rules in
+    absurd (none_strange 3 old.now.schema strange held.schema (inr (inr refl)))
+
+pub returns-in-Numbered-clause-older : goal.returns-in-Numbered-clause-older
+returns-in-Numbered-clause-older g c clean from t held =
+    let old = state g.S.Store c.args.conn.now in
+    let strange : IsStrange old.now.schema = search rules in
+    absurd (not_strange from t old.now strange held)
 
 pub returns-in_default : goal.returns-in_default
 returns-in_default g c =
     let old = state g.S.Store c.args.conn.now in
     let new = state g.S.Store c.rows_back.new.conn in
     let standing = c.in_ok-standing.standing in
+    let result = c.rows_back.result in
     let stands : StandsAs old.now.schema standing = search rules in
+    let gives = c.rows_back.ensures.gives in
+    let before = was_clean old new _ c.rows_back.ensures.survives in
     record {
       autocommit = search rules;
       own = λ clean A founded.
-          if_ok (IsTrue old.is_open) _ c.rows_back.result (c.rows_back.ensures.opened clean)
-          (λ live. own_by A old (search rules) c.inspect.ensures.live (was_clean old new _ c.rows_back.ensures.survives clean) live founded standing c.rows_back.result stands
-          (c.rows_back.ensures.gives clean));
-      rows = λ clean. rows_by standing old.now c.rows_back.result stands (c.rows_back.ensures.gives clean);
-      older = λ clean. older_by standing old.now c.rows_back.result stands (c.rows_back.ensures.gives clean);
-      version = λ clean. version_by standing old.now c.rows_back.result stands (c.rows_back.ensures.gives clean);
-      known = IfOk-weaker c.rows_back.result _ _ (λ view read. known_by standing old.now.schema stands read) c.rows_back.ensures.read;
+          if_ok (IsTrue old.is_open) _ result (c.rows_back.ensures.opened clean)
+          (λ live. is_given _ _ result (own_by A old (search rules) c.inspect.ensures.live (before clean) live founded standing result stands (gives clean)));
+      taken = λ clean live A founded.
+          taken_by _ result (own_by A old (search rules) c.inspect.ensures.live (before clean) live founded standing result stands (gives clean))
+          (IfErr-weaker result _ _
+          (λ fault unread is. of_strange A old (search rules) c.inspect.ensures.live (before clean) live founded (strange_by standing old.now.schema stands (unread is)))
+          c.rows_back.ensures.foreign);
+      rows = λ clean. rows_by standing old.now result stands (gives clean);
+      version = λ clean. version_by standing old.now result stands (gives clean);
+      older = λ clean. older_by standing old.now result stands (gives clean);
+      known = IfOk-weaker result _ _ (λ view read. known_by standing old.now.schema stands read) c.rows_back.ensures.read;
       foreign = search rules;
       survives = search rules;
     }
