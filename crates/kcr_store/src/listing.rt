@@ -150,7 +150,6 @@ pub fn tables_of<S: Alter>(alloc: Global, conn: &mut Connection<S>) -> Result<Vi
     // Where the database is that of a history, in whichever version, the rows are its tables.
     ensures own { HasCleanDisk (state S.Store conn.new) → (A : History) → IsFounded A (state S.Store conn.old)
         → IfOk result (IsListed (tables A)) }
-
     ensures taken { HasCleanDisk (state S.Store conn.new) → IsTrue (state S.Store conn.old).is_open → (A : History)
         → IsFounded A (state S.Store conn.old) → IfErr result (λ e. (e ≡ OpenFault.Memory) ⊎ (e ≡ OpenFault.Disk)) }
 
