@@ -1,6 +1,6 @@
 -- What an audit of a database's rows finds.
 use Rattle.std.proofs.Common.{◌≡◌, Option, Some, None, true, refl, sym, subst}
-use Rattle.std.specs.Prelude.{IsPermutation}
+use Rattle.std.specs.Prelude.{List, IsPermutation}
 use Rattle.sqlite.specs.Effect.{Database}
 use Rattle.sqlite.specs.Tree.{Trees}
 use Rattle.sqlite.specs.Held.{Held, state}
@@ -9,7 +9,7 @@ use Rattle.kcr_history.specs.Audit.{IsAudit}
 use Rattle.kcr_history.specs.Tables.{Tables}
 use Rattle.kcr_history.specs.declared.views.Finding.{Finding}
 use Rattle.kcr_history.specs.declared.views.View.{View}
-use Rattle.kcr_store.specs.Whole.{IsListed, Lists}
+use Rattle.kcr_store.specs.Whole.{IsListed, IsTable, Lists}
 use Rattle.kcr_tables.specs.Held as held
 use Rattle.kcr_tables.specs.Joint.{HoldsTables, Stands}
 
@@ -22,9 +22,17 @@ none_found view (Some finding) clean found = absurd (clean finding found.0)
 pub begun_holds : {S : Type 0} (g : Ghosts S) (t : held.Tables) (old begun : Held S) → begun ≡ record old { in_transaction = true } → held.Holds (state g old).now t → held.Holds (state g begun).now t
 begun_holds g t old begun is held = rw is held
 
+pub begun_tables : {S : Type 0} (g : Ghosts S) (m : Tables) (old begun : Held S) → begun ≡ record old { in_transaction = true } → HoldsTables m (state g old).now → HoldsTables m (state g begun).now
+begun_tables g m old begun is held = rw is held
+
 -- what the tables are in a database that holds those of the machine
 pub held_of : (m : Tables) {db : Database} (h : HoldsTables m db) → held.Holds db h.tables.t
 held_of m h = record { schema = h.schema; kept = h.tables.kept }
+
+-- rows of one table as a database has them are the machine's, in the order of their keys
+pub in_table : {X : Type 0} (rows_in : held.Tables → List X) (machine_rows : Tables → List X) (m : Tables) {db : Trees} (t : held.Tables) → held.Kept db t → (rows : List X)
+    → rows ≡ rows_in t → IsPermutation (machine_rows m) rows → IsTable rows_in machine_rows m rows
+in_table rows_in machine_rows m {db} t kept rows is same = record { same = same; db = db; t = t; kept = kept; lists = is }
 
 -- rows as a database has them are the machine's, in the order of their keys
 pub listed : (m : Tables) (db : Trees) (t : held.Tables) (view : View) → held.Kept db t → Stands m t → Lists t view → IsListed m view

@@ -1,5 +1,5 @@
 -- All rows of a database, and what an audit of them finds.
-use Rattle.std.specs.Prelude.{◌≡◌, Option}
+use Rattle.std.specs.Prelude.{◌≡◌, List, Option, IsPermutation}
 use Rattle.sqlite.specs.Tree.{Trees}
 use Rattle.kcr_audit.specs.Whole.{tables_of}
 use Rattle.kcr_history.specs.Audit.{IsAudit}
@@ -34,6 +34,14 @@ pub record IsListed (m : Tables) (view : View) : Type 0 where
   pub t : held.Tables
   pub kept : held.Kept db t
   pub lists : Lists t view
+
+-- these are the machine's rows of one table, in the order in which a database keeps them
+pub record IsTable {X : Type 0} (rows_in : held.Tables → List X) (machine_rows : Tables → List X) (m : Tables) (rows : List X) : Type 0 where
+  pub same : IsPermutation (machine_rows m) rows
+  pub db : Trees
+  pub t : held.Tables
+  pub kept : held.Kept db t
+  pub lists : rows ≡ rows_in t
 
 -- what an audit of these tables finds, whatever the order of their rows
 abbrev pub FindsIn : Tables → Option Finding → Type 0

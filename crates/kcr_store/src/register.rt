@@ -7,9 +7,10 @@ ghost use Rattle.kcr_store.specs.Steps.{Steps, IsNext, IsAsked, MayRefuse};
 use crate::open::{OpenFault, connect, settle};
 use crate::past::Past;
 use crate::perform::{Performed, ask, perform};
-use crate::whole::{audit_of, view};
+use crate::whole::{audit_of, rows_in_table};
 use kcr_base::Refusal;
-use kcr_history::{Command, Finding, Question, Reply, Shown, View};
+use kcr_history::{Command, Finding, Question, Reply, Shown};
+use kcr_tables::Listed;
 use sqlite::{Alter, Connection, FileFrom, FileStore, MemStore, Unknown};
 use std::alloc::Global;
 use std::marker::Model;
@@ -195,7 +196,7 @@ impl Register<FileStore<FileFrom<Unknown>>> {
 impl<S: Alter> Register<S> {
     ghost use Rattle.kcr_history.specs.Machine.{IsRegister};
     ghost use Rattle.kcr_history.specs.Tables.{Tables, tables};
-    ghost use Rattle.kcr_store.specs.Whole.{FindsIn, IsListed};
+    ghost use Rattle.kcr_store.specs.Whole.{FindsIn, IsTable};
     ghost use Rattle.kcr_tables.specs.Joint.{HoldsTables};
     ghost use Rattle.kcr_tables.specs.Refusals.{IsFault};
     ghost use Rattle.kcr_store.specs.Register.{IsKept, LeavesEither, Leaves};
@@ -276,17 +277,19 @@ impl<S: Alter> Register<S> {
         }
     }
 
-    /// All rows of each table, each table's in the order of their keys; its memory grows with their number. It changes
-    /// nothing. Beside want of memory (33) it meets only a fault of the device or a row that no register stores (34), which
-    /// breaks the register; a broken one answers 35.
-    pub fn tables(&mut self) -> Result<View, Refusal>
+    /// All rows of one table, in the order of their keys; its memory grows with their number. It changes nothing. Beside
+    /// want of memory (33) it meets only a fault of the device or a row that no register stores (34), which breaks the
+    /// register; a broken one answers 35.
+    pub fn table_rows<R: Listed>(&mut self) -> Result<Vec<R>, Refusal>
         ensures broken { IsSome self.old.torn → (result ≡ Err Refusal.Broken) × (self.new ≡ self.old) }
 
-        // Whatever rows the tables hold, these are they; of a history they are its tables.
+        // Whatever rows the table holds, these are they; of a history they are those of its table.
         ensures rows { self.old.torn ≡ None → HasCleanDisk (state S.Store self.new.conn) → (m : Tables)
-            → HoldsTables m (state S.Store self.old.conn).now → IfOk result (IsListed m) }
+            → HoldsTables m (state S.Store self.old.conn).now
+            → IfOk result (λ rows. IsTable R.rows_in R.machine_rows m rows.items) }
         ensures shown { IsTrue self.old.is_founded → self.old.torn ≡ None → HasCleanDisk (state S.Store self.new.conn)
-            → IfOk result (λ view. IsRegister self.old.accepted × IsListed (tables self.old.accepted) view) }
+            → IfOk result (λ rows. IsRegister self.old.accepted
+            × IsTable R.rows_in R.machine_rows (tables self.old.accepted) rows.items) }
         ensures cause { self.old.torn ≡ None → IfErr result IsFault }
         ensures breaks { self.old.torn ≡ None → IsSome self.new.torn ↔ (result ≡ Err Refusal.Disk) }
         ensures same { self.new.accepted ≡ self.old.accepted }
@@ -298,8 +301,8 @@ impl<S: Alter> Register<S> {
         if self.broken {
             return Err(Refusal::Broken);
         }
-        match view(self.alloc, &mut self.conn) {
-            Ok(view) => Ok(view),
+        match rows_in_table(self.alloc, &mut self.conn) {
+            Ok(rows) => Ok(rows),
             Err(Refusal::Disk) => {
                 self.tried = Past::same(&self.past);
                 self.broken = true;

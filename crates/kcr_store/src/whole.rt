@@ -9,7 +9,7 @@ ghost use Rattle.kcr_tables.specs.Held.{Tables as Held, Holds};
 ghost use Rattle.kcr_tables.specs.Joint.{HoldsTables};
 ghost use Rattle.kcr_tables.specs.Refusals.{IsFault};
 ghost use Rattle.kcr_store.specs.Register.{IsWhole};
-ghost use Rattle.kcr_store.specs.Whole.{FindsIn, IsListed, Lists};
+ghost use Rattle.kcr_store.specs.Whole.{FindsIn, IsListed, IsTable, Lists};
 
 use kcr_audit::{audit, registers_pass};
 use kcr_base::Refusal;
@@ -105,7 +105,7 @@ pub(crate) fn all_of<S: Alter>(alloc: Global, tx: &mut Transaction<'_, S>) -> Re
 }
 
 /// All rows of each table, read in a transaction that is rolled back.
-pub(crate) fn view<S: Alter>(alloc: Global, conn: &mut Connection<S>) -> Result<View, Refusal>
+fn view<S: Alter>(alloc: Global, conn: &mut Connection<S>) -> Result<View, Refusal>
     requires autocommit { conn.old.in_transaction ≡ false }
     ensures autocommit { conn.new.in_transaction ≡ false }
     ensures clean { HasCleanDisk (state S.Store conn.new) → HasCleanDisk (state S.Store conn.old) }
@@ -120,6 +120,27 @@ pub(crate) fn view<S: Alter>(alloc: Global, conn: &mut Connection<S>) -> Result<
     let view = all_of(alloc, &mut tx);
     tx.rollback();
     view
+}
+
+/// All rows of one table, read in a transaction that is rolled back.
+pub(crate) fn rows_in_table<S: Alter, R: Listed>(
+    alloc: Global,
+    conn: &mut Connection<S>,
+) -> Result<Vec<R>, Refusal>
+    requires autocommit { conn.old.in_transaction ≡ false }
+    ensures autocommit { conn.new.in_transaction ≡ false }
+    ensures clean { HasCleanDisk (state S.Store conn.new) → HasCleanDisk (state S.Store conn.old) }
+    ensures rows { HasCleanDisk (state S.Store conn.new) → (m : Tables)
+        → HoldsTables m (state S.Store conn.old).now → IfOk result (λ rows. IsTable R.rows_in R.machine_rows m rows.items) }
+    ensures register { (A : History) → IsWhole A (state S.Store conn.old) → HasCleanDisk (state S.Store conn.new)
+        → IfOk result (λ rows. IsRegister A × IsTable R.rows_in R.machine_rows (tables A) rows.items) }
+    ensures whole { (A : History) → IsWhole A (state S.Store conn.old) → IsWhole A (state S.Store conn.new) }
+    ensures cause { IfErr result IsFault }
+{
+    let mut tx = conn.transaction();
+    let rows = all_rows(alloc, &mut tx);
+    tx.rollback();
+    rows
 }
 
 /// What an audit finds in the rows of a database, which it leaves as they are.

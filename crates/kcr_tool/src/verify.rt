@@ -17,9 +17,9 @@ use itoa::Buffer;
 use kcr_base::{Counted, Refusal};
 use kcr_history::View;
 use kcr_print::put;
-use kcr_store::{Register, connect, tables_of};
+use kcr_store::{OpenFault, connect, tables_of};
 use kcr_verify::{Difference, Verified, create};
-use sqlite::Unknown;
+use sqlite::{Connection, Unknown};
 use std::alloc::{AllocError, Global};
 use std::io::Write;
 
@@ -106,13 +106,12 @@ fn rows_of_none(alloc: Global) -> Result<View, Fault>
     ensures new { IfOk result (IsListed (tables [])) }
     ensures cause { IfErr result StopsReading }
 {
-    let mut register = match Register::in_memory(alloc) {
-        Ok(register) => register,
-        Err(fault) => return Err(Fault::Open(fault)),
+    let Ok(mut connection) = Connection::open_in_memory(alloc) else {
+        return Err(Fault::Open(OpenFault::Memory));
     };
-    match register.tables() {
+    match tables_of(alloc, &mut connection) {
         Ok(rows) => Ok(rows),
-        Err(refusal) => Err(Fault::Refused(refusal)),
+        Err(fault) => Err(Fault::Open(fault)),
     }
 }
 

@@ -33,7 +33,7 @@ one_more entry A = reverse-append (key_row entry ∷ []) (map key_row A)
 abbrev pub NumbersCount : Type 0
 NumbersCount = (A : History) (entry : Entry) → IsRegister (entry ∷ A) → entry.answer.accepted ≡ length (entry ∷ A)
 
-all_end : {X : Type 0} (P : X → Type 0) (xs : List X) (x : X) → AllByRecursion P xs → P x → AllByRecursion P (xs ++ x ∷ [])
+pub all_end : {X : Type 0} (P : X → Type 0) (xs : List X) (x : X) → AllByRecursion P xs → P x → AllByRecursion P (xs ++ x ∷ [])
 all_end P [] x all h = (h, tt)
 all_end P (y ∷ ys) x all h = (all.0, all_end P ys x all.1 h)
 

@@ -1,216 +1,117 @@
 -- What a verification shows of the tables that it compares.
-use Rattle.std.proofs.Common.{◌≡◌, map, length, refl, sym, ap, ◌∙◌, subst, IsPermutation, IsSorted}
+use Rattle.std.proofs.Common.{◌≡◌, ◌+◌, ◌<◌, ◌∷◌, ◌++◌, [], ℕ, List, map, length, take, get_or, refl, sym, ap, ◌∙◌, subst, IsPermutation}
+use Rattle.std.specs.List.{AllByRecursion}
 use Rattle.std.specs.Prelude.{Option, Some, None, IfSome}
-use Rattle.std.proofs.lemmas.List.{length-map, length-reverse}
-use Rattle.std.proofs.lemmas.List.Sorted.{IsPermutation-refl, IsPermutation-sym, IsPermutation-trans, length_permutation}
+use Rattle.std.proofs.lemmas.List.{length-map, take_more}
+use Rattle.std.proofs.lemmas.List.Sorted.{IsPermutation-sym, IsPermutation-trans, length_permutation}
 use Rattle.kcr_audit.specs.Whole.{tables_of}
 use Rattle.kcr_history.specs.History.{History}
 use Rattle.kcr_history.specs.Machine.{IsRegister}
 use Rattle.kcr_history.specs.Tables.{Tables, SameTables, tables, key_row}
 use Rattle.kcr_history.specs.declared.views.View.{View}
-use Rattle.kcr_store.specs.Whole.{IsListed}
-use Rattle.kcr_verify.specs.Verified.{AreOf, Differ, by_number}
+use Rattle.kcr_store.specs.Whole.{IsListed, IsTable}
+use Rattle.kcr_tables.specs.Held as held
+use Rattle.kcr_verify.specs.Verified.{AreOf, HasRows}
 use Rattle.kcr_verify.specs.declared.compare.Table.{Table}
 use Rattle.kcr_verify.specs.declared.compare.Table.TheVariants.{People, Trainings, Withdrawals, Appointments, Boxes, Safes, Bags, Items, Ceremonies, Marks, Steps, Seatings, Sheet, Stays, Exceptions, Keys}
-use Rattle.kcr_verify.specs.declared.verification.Verified.{Verified}
-use Rattle.kcr_verify.specs.declared.verification.Verified.TheVariants.{Whole}
-use Rattle.kcr_verify.proofs.NumberLemmas.{NumbersCount, in_number_order}
-use Rattle.kcr_verify.proofs.OrderLemmas as order
+use Rattle.kcr_verify.proofs.NumberLemmas.{all_end}
 
--- tables are equal where each is
-pub tables_are : (v w : View)
-    → v.people.items ≡ w.people.items
-    → v.trainings.items ≡ w.trainings.items
-    → v.withdrawals.items ≡ w.withdrawals.items
-    → v.appointments.items ≡ w.appointments.items
-    → v.boxes.items ≡ w.boxes.items
-    → v.safes.items ≡ w.safes.items
-    → v.bags.items ≡ w.bags.items
-    → v.items.items ≡ w.items.items
-    → v.ceremonies.items ≡ w.ceremonies.items
-    → v.marks.items ≡ w.marks.items
-    → v.steps.items ≡ w.steps.items
-    → v.seatings.items ≡ w.seatings.items
-    → v.sheet.items ≡ w.sheet.items
-    → v.stays.items ≡ w.stays.items
-    → v.exceptions.items ≡ w.exceptions.items
-    → v.keys.items ≡ w.keys.items
-    → tables_of v ≡ tables_of w
-tables_are v w p0 p1 p2 p3 p4 p5 p6 p7 p8 p9 p10 p11 p12 p13 p14 p15 =
-    rw (p0, p1, p2, p3, p4, p5, p6, p7, p8, p9, p10, p11, p12, p13, p14, p15)
-
-pub same_then : (a b c : Tables) → SameTables a b → SameTables b c → SameTables a c
-same_then a b c p q = record {
-  people = IsPermutation-trans a.people b.people c.people p.people q.people;
-  trainings = IsPermutation-trans a.trainings b.trainings c.trainings p.trainings q.trainings;
-  withdrawals = IsPermutation-trans a.withdrawals b.withdrawals c.withdrawals p.withdrawals q.withdrawals;
-  appointments = IsPermutation-trans a.appointments b.appointments c.appointments p.appointments q.appointments;
-  boxes = IsPermutation-trans a.boxes b.boxes c.boxes p.boxes q.boxes;
-  safes = IsPermutation-trans a.safes b.safes c.safes p.safes q.safes;
-  bags = IsPermutation-trans a.bags b.bags c.bags p.bags q.bags;
-  items = IsPermutation-trans a.items b.items c.items p.items q.items;
-  ceremonies = IsPermutation-trans a.ceremonies b.ceremonies c.ceremonies p.ceremonies q.ceremonies;
-  marks = IsPermutation-trans a.marks b.marks c.marks p.marks q.marks;
-  steps = IsPermutation-trans a.steps b.steps c.steps p.steps q.steps;
-  seatings = IsPermutation-trans a.seatings b.seatings c.seatings p.seatings q.seatings;
-  sheet = IsPermutation-trans a.sheet b.sheet c.sheet p.sheet q.sheet;
-  stays = IsPermutation-trans a.stays b.stays c.stays p.stays q.stays;
-  exceptions = IsPermutation-trans a.exceptions b.exceptions c.exceptions p.exceptions q.exceptions;
-  keys = IsPermutation-trans a.keys b.keys c.keys p.keys q.keys;
-}
-
-pub same_back : (a b : Tables) → SameTables a b → SameTables b a
-same_back a b p = record {
-  people = IsPermutation-sym a.people b.people p.people;
-  trainings = IsPermutation-sym a.trainings b.trainings p.trainings;
-  withdrawals = IsPermutation-sym a.withdrawals b.withdrawals p.withdrawals;
-  appointments = IsPermutation-sym a.appointments b.appointments p.appointments;
-  boxes = IsPermutation-sym a.boxes b.boxes p.boxes;
-  safes = IsPermutation-sym a.safes b.safes p.safes;
-  bags = IsPermutation-sym a.bags b.bags p.bags;
-  items = IsPermutation-sym a.items b.items p.items;
-  ceremonies = IsPermutation-sym a.ceremonies b.ceremonies p.ceremonies;
-  marks = IsPermutation-sym a.marks b.marks p.marks;
-  steps = IsPermutation-sym a.steps b.steps p.steps;
-  seatings = IsPermutation-sym a.seatings b.seatings p.seatings;
-  sheet = IsPermutation-sym a.sheet b.sheet p.sheet;
-  stays = IsPermutation-sym a.stays b.stays p.stays;
-  exceptions = IsPermutation-sym a.exceptions b.exceptions p.exceptions;
-  keys = IsPermutation-sym a.keys b.keys p.keys;
-}
-
--- no table of equal ones differs
-pub no_difference : (a b : Tables) (found : Option Table) → a ≡ b → IfSome found (λ table. Differ table a b) → found ≡ None
-no_difference a b None e h = refl
-no_difference a b (Some People) e h = absurd (h (ap (λ (t : Tables). t.people) e))
-no_difference a b (Some Trainings) e h = absurd (h (ap (λ (t : Tables). t.trainings) e))
-no_difference a b (Some Withdrawals) e h = absurd (h (ap (λ (t : Tables). t.withdrawals) e))
-no_difference a b (Some Appointments) e h = absurd (h (ap (λ (t : Tables). t.appointments) e))
-no_difference a b (Some Boxes) e h = absurd (h (ap (λ (t : Tables). t.boxes) e))
-no_difference a b (Some Safes) e h = absurd (h (ap (λ (t : Tables). t.safes) e))
-no_difference a b (Some Bags) e h = absurd (h (ap (λ (t : Tables). t.bags) e))
-no_difference a b (Some Items) e h = absurd (h (ap (λ (t : Tables). t.items) e))
-no_difference a b (Some Ceremonies) e h = absurd (h (ap (λ (t : Tables). t.ceremonies) e))
-no_difference a b (Some Marks) e h = absurd (h (ap (λ (t : Tables). t.marks) e))
-no_difference a b (Some Steps) e h = absurd (h (ap (λ (t : Tables). t.steps) e))
-no_difference a b (Some Seatings) e h = absurd (h (ap (λ (t : Tables). t.seatings) e))
-no_difference a b (Some Sheet) e h = absurd (h (ap (λ (t : Tables). t.sheet) e))
-no_difference a b (Some Stays) e h = absurd (h (ap (λ (t : Tables). t.stays) e))
-no_difference a b (Some Exceptions) e h = absurd (h (ap (λ (t : Tables). t.exceptions) e))
-no_difference a b (Some Keys) e h = absurd (h (ap (λ (t : Tables). t.keys) e))
+through : {X : Type 0} (xs ys zs : List X) → IsPermutation xs zs → IsPermutation ys zs → IsPermutation xs ys
+through xs ys zs p q = IsPermutation-trans xs zs ys p (IsPermutation-sym ys zs q)
 
 -- the rows of a view, with those of the accepted commands in another order
 pub record IsInOrder (view rows : View) : Type 0 where
   pub others : rows ≡ record view { keys = rows.keys }
   pub keys : IsPermutation view.keys.items rows.keys.items
-  pub order : IsSorted by_number rows.keys.items
 
-module _ (view rows : View) (o : IsInOrder view rows) where
-  people_as_before : rows.people.items ≡ view.people.items
-  people_as_before = ap (λ (v : View). v.people.items) o.others
+-- tables that a view has are the same as those of which it has the rows
+rows_same : (m a : Tables) (view rows : View) → IsPermutation view.keys.items rows.keys.items → SameTables m (tables_of view)
+    → ((table : Table) → HasRows table a (record view { keys = rows.keys })) → SameTables m a
+rows_same m a view rows order same has = record {
+  people = through m.people a.people view.people.items same.people (has People).same;
+  trainings = through m.trainings a.trainings view.trainings.items same.trainings (has Trainings).same;
+  withdrawals = through m.withdrawals a.withdrawals view.withdrawals.items same.withdrawals (has Withdrawals).same;
+  appointments = through m.appointments a.appointments view.appointments.items same.appointments (has Appointments).same;
+  boxes = through m.boxes a.boxes view.boxes.items same.boxes (has Boxes).same;
+  safes = through m.safes a.safes view.safes.items same.safes (has Safes).same;
+  bags = through m.bags a.bags view.bags.items same.bags (has Bags).same;
+  items = through m.items a.items view.items.items same.items (has Items).same;
+  ceremonies = through m.ceremonies a.ceremonies view.ceremonies.items same.ceremonies (has Ceremonies).same;
+  marks = through m.marks a.marks view.marks.items same.marks (has Marks).same;
+  steps = through m.steps a.steps view.steps.items same.steps (has Steps).same;
+  seatings = through m.seatings a.seatings view.seatings.items same.seatings (has Seatings).same;
+  sheet = through m.sheet a.sheet view.sheet.items same.sheet (has Sheet).same;
+  stays = through m.stays a.stays view.stays.items same.stays (has Stays).same;
+  exceptions = through m.exceptions a.exceptions view.exceptions.items same.exceptions (has Exceptions).same;
+  keys = through m.keys a.keys rows.keys.items (IsPermutation-trans m.keys view.keys.items rows.keys.items same.keys order) (has Keys);
+}
 
-  trainings_as_before : rows.trainings.items ≡ view.trainings.items
-  trainings_as_before = ap (λ (v : View). v.trainings.items) o.others
+-- where the rows are those of a history that was made again, they are the tables of that history
+pub own_of : (A : History) → IsRegister A → (m : Tables) (view rows : View) → IsInOrder view rows → SameTables m (tables_of view)
+    → ((table : Table) → HasRows table (tables A) rows) → AreOf A (length rows.keys.items) m
+own_of A h m view rows o same has = record {
+  register = h;
+  same = rows_same m (tables A) view rows o.keys same (λ table. subst (HasRows table (tables A)) o.others (has table));
+  counted = sym (length_permutation (map key_row A) rows.keys.items (has Keys) ∙ length-map A key_row);
+}
 
-  withdrawals_as_before : rows.withdrawals.items ≡ view.withdrawals.items
-  withdrawals_as_before = ap (λ (v : View). v.withdrawals.items) o.others
+in_view : {X : Type 0} (rows_in : held.Tables → List X) (machine_rows : Tables → List X) (m : Tables) (view : View) (v : IsListed m view) (rows : List X)
+    → IsPermutation (machine_rows m) rows → rows ≡ rows_in v.t → IsTable rows_in machine_rows m rows
+in_view rows_in machine_rows m view v rows same is = record { same = same; db = v.db; t = v.t; kept = v.kept; lists = is }
 
-  appointments_as_before : rows.appointments.items ≡ view.appointments.items
-  appointments_as_before = ap (λ (v : View). v.appointments.items) o.others
+listed_table : (A : History) (view : View) → IsListed (tables A) view → (rows : View) → IsPermutation view.keys.items rows.keys.items
+    → (table : Table) → HasRows table (tables A) (record view { keys = rows.keys })
+listed_table A view v keys order People = in_view (λ t. t.people) (λ m. m.people) (tables A) view v view.people.items v.same.people v.lists.people
+listed_table A view v keys order Trainings = in_view (λ t. t.trainings) (λ m. m.trainings) (tables A) view v view.trainings.items v.same.trainings v.lists.trainings
+listed_table A view v keys order Withdrawals = in_view (λ t. t.withdrawals) (λ m. m.withdrawals) (tables A) view v view.withdrawals.items v.same.withdrawals v.lists.withdrawals
+listed_table A view v keys order Appointments = in_view (λ t. t.appointments) (λ m. m.appointments) (tables A) view v view.appointments.items v.same.appointments v.lists.appointments
+listed_table A view v keys order Boxes = in_view (λ t. t.boxes) (λ m. m.boxes) (tables A) view v view.boxes.items v.same.boxes v.lists.boxes
+listed_table A view v keys order Safes = in_view (λ t. t.safes) (λ m. m.safes) (tables A) view v view.safes.items v.same.safes v.lists.safes
+listed_table A view v keys order Bags = in_view (λ t. t.bags) (λ m. m.bags) (tables A) view v view.bags.items v.same.bags v.lists.bags
+listed_table A view v keys order Items = in_view (λ t. t.items) (λ m. m.items) (tables A) view v view.items.items v.same.items v.lists.items
+listed_table A view v keys order Ceremonies = in_view (λ t. t.ceremonies) (λ m. m.ceremonies) (tables A) view v view.ceremonies.items v.same.ceremonies v.lists.ceremonies
+listed_table A view v keys order Marks = in_view (λ t. t.marks) (λ m. m.marks) (tables A) view v view.marks.items v.same.marks v.lists.marks
+listed_table A view v keys order Steps = in_view (λ t. t.steps) (λ m. m.steps) (tables A) view v view.steps.items v.same.steps v.lists.steps
+listed_table A view v keys order Seatings = in_view (λ t. t.seatings) (λ m. m.seatings) (tables A) view v view.seatings.items v.same.seatings v.lists.seatings
+listed_table A view v keys order Sheet = in_view (λ t. t.sheet) (λ m. m.sheet) (tables A) view v view.sheet.items v.same.sheet v.lists.sheet
+listed_table A view v keys order Stays = in_view (λ t. t.stays) (λ m. m.stays) (tables A) view v view.stays.items v.same.stays v.lists.stays
+listed_table A view v keys order Exceptions = in_view (λ t. t.exceptions) (λ m. m.exceptions) (tables A) view v view.exceptions.items v.same.exceptions v.lists.exceptions
+listed_table A view v keys order Keys = IsPermutation-trans (map key_row A) view.keys.items keys.keys.items v.same.keys order
 
-  boxes_as_before : rows.boxes.items ≡ view.boxes.items
-  boxes_as_before = ap (λ (v : View). v.boxes.items) o.others
+no_difference : (P : Table → Type 0) → ((table : Table) → P table) → (found : Option Table) → IfSome found (λ table. ¬ P table) → found ≡ None
+no_difference P all None e = refl
+no_difference P all (Some table) not = absurd (not (all table))
 
-  safes_as_before : rows.safes.items ≡ view.safes.items
-  safes_as_before = ap (λ (v : View). v.safes.items) o.others
+-- of a history's own tables none differs
+pub none_differs : (A : History) (view rows : View) → IsInOrder view rows → IsListed (tables A) view
+    → (found : Option Table) → IfSome found (λ table. ¬ HasRows table (tables A) rows) → found ≡ None
+none_differs A view rows o v =
+    no_difference (λ table. HasRows table (tables A) rows) (λ table. subst (HasRows table (tables A)) (sym o.others) (listed_table A view v rows o.keys table))
 
-  bags_as_before : rows.bags.items ≡ view.bags.items
-  bags_as_before = ap (λ (v : View). v.bags.items) o.others
+-- one more table was looked at
+pub one_more_table : (P : Table → Type 0) (tables : List Table) (i : ℕ) (table : Table) → i < length tables → get_or tables i table ≡ table
+    → AllByRecursion P (take i tables) → P table → AllByRecursion P (take (i + 1) tables)
+one_more_table P tables i table low at all h =
+    subst (AllByRecursion P) (sym (take_more tables i table low ∙ ap (λ (t : Table). take i tables ++ t ∷ []) at)) (all_end P (take i tables) table all h)
 
-  items_as_before : rows.items.items ≡ view.items.items
-  items_as_before = ap (λ (v : View). v.items.items) o.others
+-- what holds of the accepted commands and of each table in the list of the others holds of every table
+abbrev pub other_tables : List Table
+other_tables = People ∷ Trainings ∷ Withdrawals ∷ Appointments ∷ Boxes ∷ Safes ∷ Bags ∷ Items ∷ Ceremonies ∷ Marks ∷ Steps ∷ Seatings ∷ Sheet ∷ Stays ∷ Exceptions ∷ []
 
-  ceremonies_as_before : rows.ceremonies.items ≡ view.ceremonies.items
-  ceremonies_as_before = ap (λ (v : View). v.ceremonies.items) o.others
-
-  marks_as_before : rows.marks.items ≡ view.marks.items
-  marks_as_before = ap (λ (v : View). v.marks.items) o.others
-
-  steps_as_before : rows.steps.items ≡ view.steps.items
-  steps_as_before = ap (λ (v : View). v.steps.items) o.others
-
-  seatings_as_before : rows.seatings.items ≡ view.seatings.items
-  seatings_as_before = ap (λ (v : View). v.seatings.items) o.others
-
-  sheet_as_before : rows.sheet.items ≡ view.sheet.items
-  sheet_as_before = ap (λ (v : View). v.sheet.items) o.others
-
-  stays_as_before : rows.stays.items ≡ view.stays.items
-  stays_as_before = ap (λ (v : View). v.stays.items) o.others
-
-  exceptions_as_before : rows.exceptions.items ≡ view.exceptions.items
-  exceptions_as_before = ap (λ (v : View). v.exceptions.items) o.others
-
-  pub in_order_same : SameTables (tables_of view) (tables_of rows)
-  in_order_same = record {
-    people = subst (IsPermutation view.people.items) (sym people_as_before) (IsPermutation-refl view.people.items);
-    trainings = subst (IsPermutation view.trainings.items) (sym trainings_as_before) (IsPermutation-refl view.trainings.items);
-    withdrawals = subst (IsPermutation view.withdrawals.items) (sym withdrawals_as_before) (IsPermutation-refl view.withdrawals.items);
-    appointments = subst (IsPermutation view.appointments.items) (sym appointments_as_before) (IsPermutation-refl view.appointments.items);
-    boxes = subst (IsPermutation view.boxes.items) (sym boxes_as_before) (IsPermutation-refl view.boxes.items);
-    safes = subst (IsPermutation view.safes.items) (sym safes_as_before) (IsPermutation-refl view.safes.items);
-    bags = subst (IsPermutation view.bags.items) (sym bags_as_before) (IsPermutation-refl view.bags.items);
-    items = subst (IsPermutation view.items.items) (sym items_as_before) (IsPermutation-refl view.items.items);
-    ceremonies = subst (IsPermutation view.ceremonies.items) (sym ceremonies_as_before) (IsPermutation-refl view.ceremonies.items);
-    marks = subst (IsPermutation view.marks.items) (sym marks_as_before) (IsPermutation-refl view.marks.items);
-    steps = subst (IsPermutation view.steps.items) (sym steps_as_before) (IsPermutation-refl view.steps.items);
-    seatings = subst (IsPermutation view.seatings.items) (sym seatings_as_before) (IsPermutation-refl view.seatings.items);
-    sheet = subst (IsPermutation view.sheet.items) (sym sheet_as_before) (IsPermutation-refl view.sheet.items);
-    stays = subst (IsPermutation view.stays.items) (sym stays_as_before) (IsPermutation-refl view.stays.items);
-    exceptions = subst (IsPermutation view.exceptions.items) (sym exceptions_as_before) (IsPermutation-refl view.exceptions.items);
-    keys = o.keys;
-  }
-
-module _ (A : History) (h : IsRegister A) (view rows made again : View) (o : IsInOrder view rows) (p : IsInOrder made again) where
-  -- the tables of a history that was made again are those that the rows show
-  pub own_of : (m : Tables) → SameTables m (tables_of view) → SameTables (tables A) (tables_of made) → tables_of rows ≡ tables_of again → AreOf A (length rows.keys.items) m
-  own_of m same there is =
-      let left = same_then m (tables_of view) (tables_of rows) same (in_order_same view rows o) in
-      let right = same_then (tables A) (tables_of made) (tables_of again) there (in_order_same made again p) in
-      let whole : SameTables m (tables A) =
-      same_then m (tables_of again) (tables A) (subst (SameTables m) is left) (same_back (tables A) (tables_of again) right) in
-      record {
-        register = h;
-        same = whole;
-        counted =
-            sym (length-map A key_row) ∙ sym (length_permutation (map key_row A) again.keys.items right.keys) ∙ sym (ap (λ (t : Tables). length t.keys) is);
-      }
-
-  -- where both are the tables of the history, they are equal, row by row
-  pub rows_equal : NumbersCount → IsListed (tables A) view → IsListed (tables A) made → tables_of rows ≡ tables_of again
-  rows_equal count v w =
-      tables_are rows again
-      (people_as_before view rows o ∙ sym (order.same_people (tables A) view made v w) ∙ sym (people_as_before made again p))
-      (trainings_as_before view rows o ∙ sym (order.same_trainings (tables A) view made v w) ∙ sym (trainings_as_before made again p))
-      (withdrawals_as_before view rows o ∙ sym (order.same_withdrawals (tables A) view made v w) ∙ sym (withdrawals_as_before made again p))
-      (appointments_as_before view rows o ∙ sym (order.same_appointments (tables A) view made v w) ∙ sym (appointments_as_before made again p))
-      (boxes_as_before view rows o ∙ sym (order.same_boxes (tables A) view made v w) ∙ sym (boxes_as_before made again p))
-      (safes_as_before view rows o ∙ sym (order.same_safes (tables A) view made v w) ∙ sym (safes_as_before made again p))
-      (bags_as_before view rows o ∙ sym (order.same_bags (tables A) view made v w) ∙ sym (bags_as_before made again p))
-      (items_as_before view rows o ∙ sym (order.same_items (tables A) view made v w) ∙ sym (items_as_before made again p))
-      (ceremonies_as_before view rows o ∙ sym (order.same_ceremonies (tables A) view made v w) ∙ sym (ceremonies_as_before made again p))
-      (marks_as_before view rows o ∙ sym (order.same_marks (tables A) view made v w) ∙ sym (marks_as_before made again p))
-      (steps_as_before view rows o ∙ sym (order.same_steps (tables A) view made v w) ∙ sym (steps_as_before made again p))
-      (seatings_as_before view rows o ∙ sym (order.same_seatings (tables A) view made v w) ∙ sym (seatings_as_before made again p))
-      (sheet_as_before view rows o ∙ sym (order.same_sheet (tables A) view made v w) ∙ sym (sheet_as_before made again p))
-      (stays_as_before view rows o ∙ sym (order.same_stays (tables A) view made v w) ∙ sym (stays_as_before made again p))
-      (exceptions_as_before view rows o ∙ sym (order.same_exceptions (tables A) view made v w) ∙ sym (exceptions_as_before made again p))
-      (in_number_order count A view.keys.items rows.keys.items h v.same.keys o.keys o.order ∙ sym (in_number_order count A made.keys.items again.keys.items h w.same.keys p.keys p.order))
-
-  -- so what comes of a comparison without a difference is their number
-  pub own_whole : NumbersCount → IsListed (tables A) view → IsListed (tables A) made → (found : Option Table) → IfSome found (λ table. Differ table (tables_of rows) (tables_of again))
-      → (told : Verified) → (found ≡ None → told ≡ Whole (length rows.keys.items)) → told ≡ Whole (length A)
-  own_whole count v w found differ told none =
-      let number : length rows.keys.items ≡ length A =
-      ap length (in_number_order count A view.keys.items rows.keys.items h v.same.keys o.keys o.order) ∙ length-reverse (map key_row A) ∙ length-map A key_row in
-      none (no_difference (tables_of rows) (tables_of again) found (rows_equal count v w) differ) ∙ ap Whole number
+pub at_each : (P : Table → Type 0) → P Keys → AllByRecursion P other_tables → (table : Table) → P table
+at_each P keys h People = h.0
+at_each P keys h Trainings = h.1.0
+at_each P keys h Withdrawals = h.1.1.0
+at_each P keys h Appointments = h.1.1.1.0
+at_each P keys h Boxes = h.1.1.1.1.0
+at_each P keys h Safes = h.1.1.1.1.1.0
+at_each P keys h Bags = h.1.1.1.1.1.1.0
+at_each P keys h Items = h.1.1.1.1.1.1.1.0
+at_each P keys h Ceremonies = h.1.1.1.1.1.1.1.1.0
+at_each P keys h Marks = h.1.1.1.1.1.1.1.1.1.0
+at_each P keys h Steps = h.1.1.1.1.1.1.1.1.1.1.0
+at_each P keys h Seatings = h.1.1.1.1.1.1.1.1.1.1.1.0
+at_each P keys h Sheet = h.1.1.1.1.1.1.1.1.1.1.1.1.0
+at_each P keys h Stays = h.1.1.1.1.1.1.1.1.1.1.1.1.1.0
+at_each P keys h Exceptions = h.1.1.1.1.1.1.1.1.1.1.1.1.1.1.0
+at_each P keys h Keys = keys

@@ -1,13 +1,21 @@
 -- What a verification of a register's tables says.
-use Rattle.std.specs.Prelude.{◌≡◌, ◌≢◌, ℕ, List, length, map, reverse, codes}
+use Rattle.std.specs.Prelude.{◌≡◌, ℕ, List, Result, true, None, IfOk, IfErr, IsPermutation, length, map, reverse, codes}
 use Rattle.std.specs.declared.cmp.Ordering.{Ordering}
 use Rattle.std.specs.Ordering.{nat_cmp}
 use Rattle.std.specs.List.{AllByRecursion}
+use Rattle.sqlite.specs.Held.{state}
+use Rattle.sqlite.specs.State.{HasCleanDisk}
+use Rattle.sqlite.specs.Store.{Ghosts}
 use Rattle.kcr_again.specs.Acts.{IsAct}
+use Rattle.kcr_base.specs.declared.refusal.Refusal.{Refusal}
 use Rattle.kcr_history.specs.History.{History}
 use Rattle.kcr_history.specs.Machine.{IsRegister}
 use Rattle.kcr_history.specs.Tables.{Tables, SameTables, tables, key_row}
 use Rattle.kcr_history.specs.declared.rows.KeyRow.{KeyRow}
+use Rattle.kcr_history.specs.declared.views.View.{View}
+use Rattle.kcr_store.specs.Register.{Seen, IsKept}
+use Rattle.kcr_store.specs.Whole.{IsTable}
+use Rattle.kcr_tables.specs.Refusals.{IsFault}
 use Rattle.kcr_verify.specs.declared.compare.Table.{Table}
 use Rattle.kcr_verify.specs.declared.compare.Table.TheVariants.{People, Trainings, Withdrawals, Appointments, Boxes, Safes, Bags, Items, Ceremonies, Marks, Steps, Seatings, Sheet, Stays, Exceptions, Keys}
 use Rattle.kcr_verify.specs.declared.verification.Verified.{Verified}
@@ -32,24 +40,33 @@ name_of Stays = codes "stays"
 name_of Exceptions = codes "exceptions"
 name_of Keys = codes "keys"
 
--- the rows of the table are not the same
-abbrev pub Differ : Table → Tables → Tables → Type 0
-Differ People a b = a.people ≢ b.people
-Differ Trainings a b = a.trainings ≢ b.trainings
-Differ Withdrawals a b = a.withdrawals ≢ b.withdrawals
-Differ Appointments a b = a.appointments ≢ b.appointments
-Differ Boxes a b = a.boxes ≢ b.boxes
-Differ Safes a b = a.safes ≢ b.safes
-Differ Bags a b = a.bags ≢ b.bags
-Differ Items a b = a.items ≢ b.items
-Differ Ceremonies a b = a.ceremonies ≢ b.ceremonies
-Differ Marks a b = a.marks ≢ b.marks
-Differ Steps a b = a.steps ≢ b.steps
-Differ Seatings a b = a.seatings ≢ b.seatings
-Differ Sheet a b = a.sheet ≢ b.sheet
-Differ Stays a b = a.stays ≢ b.stays
-Differ Exceptions a b = a.exceptions ≢ b.exceptions
-Differ Keys a b = a.keys ≢ b.keys
+-- the view has the machine's rows of this table, in the order in which a database keeps them; the accepted commands in any order
+abbrev pub HasRows : Table → Tables → View → Type 0
+HasRows People m view = IsTable (λ t. t.people) (λ m. m.people) m view.people.items
+HasRows Trainings m view = IsTable (λ t. t.trainings) (λ m. m.trainings) m view.trainings.items
+HasRows Withdrawals m view = IsTable (λ t. t.withdrawals) (λ m. m.withdrawals) m view.withdrawals.items
+HasRows Appointments m view = IsTable (λ t. t.appointments) (λ m. m.appointments) m view.appointments.items
+HasRows Boxes m view = IsTable (λ t. t.boxes) (λ m. m.boxes) m view.boxes.items
+HasRows Safes m view = IsTable (λ t. t.safes) (λ m. m.safes) m view.safes.items
+HasRows Bags m view = IsTable (λ t. t.bags) (λ m. m.bags) m view.bags.items
+HasRows Items m view = IsTable (λ t. t.items) (λ m. m.items) m view.items.items
+HasRows Ceremonies m view = IsTable (λ t. t.ceremonies) (λ m. m.ceremonies) m view.ceremonies.items
+HasRows Marks m view = IsTable (λ t. t.marks) (λ m. m.marks) m view.marks.items
+HasRows Steps m view = IsTable (λ t. t.steps) (λ m. m.steps) m view.steps.items
+HasRows Seatings m view = IsTable (λ t. t.seatings) (λ m. m.seatings) m view.seatings.items
+HasRows Sheet m view = IsTable (λ t. t.sheet) (λ m. m.sheet) m view.sheet.items
+HasRows Stays m view = IsTable (λ t. t.stays) (λ m. m.stays) m view.stays.items
+HasRows Exceptions m view = IsTable (λ t. t.exceptions) (λ m. m.exceptions) m view.exceptions.items
+HasRows Keys m view = IsPermutation m.keys view.keys.items
+
+-- what a call that only reads leaves of a register, whatever it answers
+pub record Reads {S : Type 0} (g : Ghosts S) {A : Type 0} (old new : Seen S) (result : Result A Refusal) : Type 0 where
+  pub founded : new.is_founded ≡ true
+  pub torn : IfOk result (λ _. new.torn ≡ None)
+  pub same : new.accepted ≡ old.accepted
+  pub cause : IfErr result IsFault
+  pub clean : HasCleanDisk (state g new.conn) → HasCleanDisk (state g old.conn)
+  pub kept : IsKept g new
 
 -- the order of accepted commands by their numbers
 abbrev pub by_number : KeyRow → KeyRow → Ordering

@@ -1,13 +1,29 @@
-//! Rows that are compared with each other.
-ghost use Rattle.std.specs.Prelude.{◌≡◌, ◌↔◌, IsTrue, None, IfSome};
-ghost use Rattle.kcr_audit.specs.Whole.{tables_of};
-ghost use Rattle.kcr_verify.specs.Verified.{Differ, name_of};
+//! Rows that are compared with those of a register.
+ghost use Rattle.std.specs.Prelude.{◌≡◌, ◌↔◌, IsTrue, true, None, IfOk, IfSome, IsPermutation, map};
+ghost use Rattle.std.specs.List.{AllByRecursion};
+ghost use Rattle.std.specs.List.Sorted.{IsSorted};
+ghost use Rattle.sqlite.specs.State.{HasCleanDisk};
+ghost use Rattle.sqlite.specs.Held.{state};
+ghost use Rattle.kcr_history.specs.Machine.{IsRegister};
+ghost use Rattle.kcr_history.specs.Tables as machine;
+ghost use Rattle.kcr_history.specs.Tables.{key_row};
+ghost use Rattle.kcr_store.specs.Register.{IsKept};
+ghost use Rattle.kcr_store.specs.Whole.{IsTable};
+ghost use Rattle.kcr_verify.specs.declared.compare.Table.{Table as Named};
+ghost use Rattle.kcr_verify.specs.Verified.{HasRows, Reads, by_number, name_of};
 
+use crate::order::put_in_order;
+use kcr_base::Refusal;
 use kcr_custody::{Bag, BoxRow, Item, SafeRow};
-use kcr_history::{CeremonyRow, ExceptionRow, KeyRow, MarkRow, SeatingRow, StepRow, View};
+use kcr_history::{
+    CeremonyRow, ExceptionRow, KeyRow, MarkRow, SeatingRow, StepRow, View, numbers_count_commands,
+};
 use kcr_people::{Appointment, Person, Training, Withdrawal};
 use kcr_room::{SheetRow, Stay};
 use kcr_script::Seat;
+use kcr_store::Register;
+use kcr_tables::Listed;
+use sqlite::Alter;
 
 /// A table of the register.
 #[derive(Clone, Copy)]
@@ -29,6 +45,25 @@ pub enum Table {
     Exceptions,
     Keys,
 }
+
+/// Every table but that of the accepted commands.
+const TABLES: [Table; 15] = [
+    Table::People,
+    Table::Trainings,
+    Table::Withdrawals,
+    Table::Appointments,
+    Table::Boxes,
+    Table::Safes,
+    Table::Bags,
+    Table::Items,
+    Table::Ceremonies,
+    Table::Marks,
+    Table::Steps,
+    Table::Seatings,
+    Table::Sheet,
+    Table::Stays,
+    Table::Exceptions,
+];
 
 impl Table {
     /// Its name in the database.
@@ -192,111 +227,123 @@ fn same_rows<T: Compared>(one: &[T], other: &[T]) -> bool
     true
 }
 
-/// The first table of people and their offices that differs.
-fn staff_difference(one: &View, other: &View) -> Option<Table>
-    ensures people { result ≡ None → one.now.people.items ≡ other.now.people.items }
-    ensures trainings { result ≡ None → one.now.trainings.items ≡ other.now.trainings.items }
-    ensures withdrawals { result ≡ None → one.now.withdrawals.items ≡ other.now.withdrawals.items }
-    ensures appointments { result ≡ None → one.now.appointments.items ≡ other.now.appointments.items }
-    ensures some { IfSome result (λ table. Differ table (tables_of one.now) (tables_of other.now)) }
+/// Whether these are the rows of a table of the register, in the order of their keys. The register's own are in memory
+/// meanwhile.
+fn has_rows<S: Alter, R: Listed + Compared>(
+    register: &mut Register<S>,
+    rows: &[R],
+) -> Result<bool, Refusal>
+    requires founded { register.old.is_founded ≡ true }
+    requires torn { register.old.torn ≡ None }
+    requires kept { IsKept S.Store register.old }
+    ensures are { HasCleanDisk (state S.Store register.new.conn)
+        → IfOk result (λ are. IsTrue are ↔ IsTable R.rows_in R.machine_rows (machine.tables register.new.accepted) rows.now) }
+    ensures register { HasCleanDisk (state S.Store register.new.conn)
+        → IfOk result (λ _. IsRegister register.new.accepted) }
+    ensures frame { Reads S.Store register.old register.new result }
 {
-    if !same_rows(&one.people, &other.people) {
-        return Some(Table::People);
-    }
-    if !same_rows(&one.trainings, &other.trainings) {
-        return Some(Table::Trainings);
-    }
-    if !same_rows(&one.withdrawals, &other.withdrawals) {
-        return Some(Table::Withdrawals);
-    }
-    if !same_rows(&one.appointments, &other.appointments) {
-        return Some(Table::Appointments);
-    }
-    None
+    let own = register.table_rows::<R>()?;
+    Ok(same_rows(rows, &own))
 }
 
-/// The first table of what is kept in the safes that differs.
-fn custody_difference(one: &View, other: &View) -> Option<Table>
-    ensures boxes { result ≡ None → one.now.boxes.items ≡ other.now.boxes.items }
-    ensures safes { result ≡ None → one.now.safes.items ≡ other.now.safes.items }
-    ensures bags { result ≡ None → one.now.bags.items ≡ other.now.bags.items }
-    ensures items { result ≡ None → one.now.items.items ≡ other.now.items.items }
-    ensures some { IfSome result (λ table. Differ table (tables_of one.now) (tables_of other.now)) }
+/// Whether these, which are in the order of their numbers, are the register's accepted commands.
+fn has_commands<S: Alter>(register: &mut Register<S>, rows: &[KeyRow]) -> Result<bool, Refusal>
+    requires founded { register.old.is_founded ≡ true }
+    requires torn { register.old.torn ≡ None }
+    requires kept { IsKept S.Store register.old }
+    requires order { IsSorted by_number rows.now }
+    ensures are { HasCleanDisk (state S.Store register.new.conn)
+        → IfOk result (λ are. IsTrue are ↔ IsPermutation (map key_row register.new.accepted) rows.now) }
+    ensures register { HasCleanDisk (state S.Store register.new.conn)
+        → IfOk result (λ _. IsRegister register.new.accepted) }
+    ensures frame { Reads S.Store register.old register.new result }
 {
-    if !same_rows(&one.boxes, &other.boxes) {
-        return Some(Table::Boxes);
-    }
-    if !same_rows(&one.safes, &other.safes) {
-        return Some(Table::Safes);
-    }
-    if !same_rows(&one.bags, &other.bags) {
-        return Some(Table::Bags);
-    }
-    if !same_rows(&one.items, &other.items) {
-        return Some(Table::Items);
-    }
-    None
+    numbers_count_commands();
+    let mut commands = register.table_rows::<KeyRow>()?;
+    put_in_order(&mut commands);
+    Ok(same_rows(rows, &commands))
 }
 
-/// The first table of ceremonies and their scripts that differs.
-fn script_difference(one: &View, other: &View) -> Option<Table>
-    ensures ceremonies { result ≡ None → one.now.ceremonies.items ≡ other.now.ceremonies.items }
-    ensures marks { result ≡ None → one.now.marks.items ≡ other.now.marks.items }
-    ensures steps { result ≡ None → one.now.steps.items ≡ other.now.steps.items }
-    ensures seatings { result ≡ None → one.now.seatings.items ≡ other.now.seatings.items }
-    ensures some { IfSome result (λ table. Differ table (tables_of one.now) (tables_of other.now)) }
+/// Whether the rows of this table are the register's.
+fn has_table<S: Alter>(
+    register: &mut Register<S>,
+    table: Table,
+    rows: &View,
+) -> Result<bool, Refusal>
+    requires founded { register.old.is_founded ≡ true }
+    requires torn { register.old.torn ≡ None }
+    requires kept { IsKept S.Store register.old }
+    requires order { IsSorted by_number rows.now.keys.items }
+    ensures has { HasCleanDisk (state S.Store register.new.conn)
+        → IfOk result (λ has. IsTrue has ↔ HasRows table (machine.tables register.new.accepted) rows.now) }
+    ensures register { HasCleanDisk (state S.Store register.new.conn)
+        → IfOk result (λ _. IsRegister register.new.accepted) }
+    ensures frame { Reads S.Store register.old register.new result }
 {
-    if !same_rows(&one.ceremonies, &other.ceremonies) {
-        return Some(Table::Ceremonies);
+    match table {
+        Table::People => has_rows(register, &rows.people),
+        Table::Trainings => has_rows(register, &rows.trainings),
+        Table::Withdrawals => has_rows(register, &rows.withdrawals),
+        Table::Appointments => has_rows(register, &rows.appointments),
+        Table::Boxes => has_rows(register, &rows.boxes),
+        Table::Safes => has_rows(register, &rows.safes),
+        Table::Bags => has_rows(register, &rows.bags),
+        Table::Items => has_rows(register, &rows.items),
+        Table::Ceremonies => has_rows(register, &rows.ceremonies),
+        Table::Marks => has_rows(register, &rows.marks),
+        Table::Steps => has_rows(register, &rows.steps),
+        Table::Seatings => has_rows(register, &rows.seatings),
+        Table::Sheet => has_rows(register, &rows.sheet),
+        Table::Stays => has_rows(register, &rows.stays),
+        Table::Exceptions => has_rows(register, &rows.exceptions),
+        Table::Keys => has_commands(register, &rows.keys),
     }
-    if !same_rows(&one.marks, &other.marks) {
-        return Some(Table::Marks);
-    }
-    if !same_rows(&one.steps, &other.steps) {
-        return Some(Table::Steps);
-    }
-    if !same_rows(&one.seatings, &other.seatings) {
-        return Some(Table::Seatings);
-    }
-    None
 }
 
-/// The first table of who was in the room, of exceptions and of accepted commands that differs.
-fn room_difference(one: &View, other: &View) -> Option<Table>
-    ensures sheet { result ≡ None → one.now.sheet.items ≡ other.now.sheet.items }
-    ensures stays { result ≡ None → one.now.stays.items ≡ other.now.stays.items }
-    ensures exceptions { result ≡ None → one.now.exceptions.items ≡ other.now.exceptions.items }
-    ensures keys { result ≡ None → one.now.keys.items ≡ other.now.keys.items }
-    ensures some { IfSome result (λ table. Differ table (tables_of one.now) (tables_of other.now)) }
+/// The first of these tables whose rows are not the register's.
+fn first_of<S: Alter>(
+    register: &mut Register<S>,
+    tables: &[Table],
+    rows: &View,
+) -> Result<Option<Table>, Refusal>
+    requires founded { register.old.is_founded ≡ true }
+    requires torn { register.old.torn ≡ None }
+    requires kept { IsKept S.Store register.old }
+    requires order { IsSorted by_number rows.now.keys.items }
+    ensures none { HasCleanDisk (state S.Store register.new.conn) → IfOk result (λ found. found ≡ None
+        → AllByRecursion (λ table. HasRows table (machine.tables register.new.accepted) rows.now) tables.now) }
+    ensures some { HasCleanDisk (state S.Store register.new.conn)
+        → IfOk result (λ found. IfSome found (λ table. ¬ HasRows table (machine.tables register.new.accepted) rows.now)) }
+    ensures frame { Reads S.Store register.old register.new result }
 {
-    if !same_rows(&one.sheet, &other.sheet) {
-        return Some(Table::Sheet);
+    for table in tables {
+        if !has_table(register, *table, rows)? {
+            return Ok(Some(*table));
+        }
     }
-    if !same_rows(&one.stays, &other.stays) {
-        return Some(Table::Stays);
-    }
-    if !same_rows(&one.exceptions, &other.exceptions) {
-        return Some(Table::Exceptions);
-    }
-    if !same_rows(&one.keys, &other.keys) {
-        return Some(Table::Keys);
-    }
-    None
+    Ok(None)
 }
 
-/// The first table whose rows, in the order in which they come, are not the same in both.
-pub(crate) fn first_difference(one: &View, other: &View) -> Option<Table>
-    ensures none { result ≡ None → tables_of one.now ≡ tables_of other.now }
-    ensures some { IfSome result (λ table. Differ table (tables_of one.now) (tables_of other.now)) }
+/// The first table whose rows are not the register's, the accepted commands before the others; one table at a time is read. The accepted commands among these
+/// rows are in the order of their numbers, the rows of each other table in that of their keys.
+pub(crate) fn first_difference<S: Alter>(
+    register: &mut Register<S>,
+    rows: &View,
+) -> Result<Option<Table>, Refusal>
+    requires founded { register.old.is_founded ≡ true }
+    requires torn { register.old.torn ≡ None }
+    requires kept { IsKept S.Store register.old }
+    requires order { IsSorted by_number rows.now.keys.items }
+    ensures none { HasCleanDisk (state S.Store register.new.conn) → IfOk result (λ found. found ≡ None
+        → (table : Named) → HasRows table (machine.tables register.new.accepted) rows.now) }
+    ensures some { HasCleanDisk (state S.Store register.new.conn)
+        → IfOk result (λ found. IfSome found (λ table. ¬ HasRows table (machine.tables register.new.accepted) rows.now)) }
+    ensures register { HasCleanDisk (state S.Store register.new.conn)
+        → IfOk result (λ _. IsRegister register.new.accepted) }
+    ensures frame { Reads S.Store register.old register.new result }
 {
-    if let Some(table) = staff_difference(one, other) {
-        return Some(table);
+    if !has_table(register, Table::Keys, rows)? {
+        return Ok(Some(Table::Keys));
     }
-    if let Some(table) = custody_difference(one, other) {
-        return Some(table);
-    }
-    if let Some(table) = script_difference(one, other) {
-        return Some(table);
-    }
-    room_difference(one, other)
+    first_of(register, &TABLES, rows)
 }

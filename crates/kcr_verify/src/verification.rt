@@ -1,6 +1,5 @@
 //! The verification of a register.
-ghost use Rattle.std.specs.Prelude.{◌≡◌, [], true, None, IfOk, IfErr, IsPermutation, length};
-ghost use Rattle.std.specs.List.Sorted.{IsSorted};
+ghost use Rattle.std.specs.Prelude.{◌≡◌, [], true, None, IfOk, IfErr, length};
 ghost use Rattle.sqlite.specs.State.{HasCleanDisk};
 ghost use Rattle.sqlite.specs.Held.{state};
 ghost use Rattle.sqlite.specs.Steps.{over_memory};
@@ -10,9 +9,10 @@ ghost use Rattle.kcr_history.specs.Tables.{Tables, tables};
 ghost use Rattle.kcr_store.specs.Register.{IsKept};
 ghost use Rattle.kcr_store.specs.Whole.{IsListed};
 ghost use Rattle.kcr_tables.specs.Refusals.{IsFault};
-ghost use Rattle.kcr_verify.specs.Verified.{AreValues, IsTold, by_number};
+ghost use Rattle.kcr_verify.specs.Verified.{AreValues, IsTold};
 
 use crate::compare::{Table, first_difference};
+use crate::order::put_in_order;
 use crate::replay::replay;
 use kcr_base::Refusal;
 use kcr_history::{View, numbers_count_commands};
@@ -44,17 +44,6 @@ pub enum Verified {
     Differs(Difference),
 }
 
-/// The same rows, with the accepted commands in the order of their numbers.
-fn in_order(rows: View) -> View
-    ensures others { result ≡ record rows { keys = result.keys } }
-    ensures keys { IsPermutation rows.keys.items result.keys.items }
-    ensures order { IsSorted by_number result.keys.items }
-{
-    let mut rows = rows;
-    rows.keys.sort_unstable_by_key(|row| row.accepted);
-    rows
-}
-
 /// An empty register in memory.
 fn empty(alloc: Global) -> Result<Register<MemStore>, Refusal>
     ensures new { IfOk result (λ r. (r.is_founded ≡ true) × (r.accepted ≡ []) × (r.torn ≡ None) × IsKept over_memory r) }
@@ -68,7 +57,7 @@ fn empty(alloc: Global) -> Result<Register<MemStore>, Refusal>
 }
 
 /// Gives the commands among these rows, which are those of a register, to an empty register, `fresh`, and compares its
-/// tables with the rows.
+/// tables with the rows, one table after the other.
 ///
 /// Whatever is said of where the rows come from, the fresh register is founded by its making, so all that is promised of a
 /// register holds of it with no premise about them. After `Whole` its tables are the rows. After a difference it has the
@@ -100,12 +89,12 @@ pub fn rebuild<S: Alter>(
     ensures kept { IsKept S.Store fresh.new }
 {
     numbers_count_commands();
-    let rows = in_order(rows);
+    let mut rows = rows;
+    put_in_order(&mut rows.keys);
     if let Some(difference) = replay(alloc, &rows.keys, fresh)? {
         return Ok(Verified::Differs(difference));
     }
-    let made = in_order(fresh.tables()?);
-    Ok(match first_difference(&rows, &made) {
+    Ok(match first_difference(fresh, &rows)? {
         Some(table) => Verified::Differs(Difference::Rows(table)),
         None => Verified::Whole(rows.keys.len()),
     })
@@ -115,8 +104,9 @@ pub fn rebuild<S: Alter>(
 /// tables.
 ///
 /// Where it answers `Whole`, the rows are the tables of a history that the machine leads to, whoever wrote them, and the
-/// accepted commands are that history's. Its memory and its time grow with the number of rows. It meets only want of
-/// memory (33), which the store in memory may tell as a fault of a device (34).
+/// accepted commands are that history's. Its time grows with the number of rows, and its memory too: beside `rows` it holds
+/// the register in memory, and of that one table's rows. It meets only want of memory (33), which the store in memory may
+/// tell as a fault of a device (34).
 pub fn verify(alloc: Global, rows: View) -> Result<Verified, Refusal>
     ensures told { (m : Tables) → IsListed m rows → IfOk result (λ told. (A : History) × IsTold m A told) }
 

@@ -2,25 +2,25 @@ use Rattle.std.proofs.Common.{rules, refl, ◌≡◌, false, inl, subst, IsTrue}
 use Rattle.kcr_history.specs.History.{History}
 use Rattle.kcr_history.specs.Machine.{IsRegister}
 use Rattle.kcr_history.specs.Tables.{tables}
-use Rattle.kcr_store.specs.Whole.{IsListed}
+use Rattle.kcr_store.specs.Whole.{IsTable}
 use Rattle.sqlite.specs.Held.{state}
 use Rattle.kcr_tables.specs.Joint.{HoldsTables}
-use Rattle.kcr_store.proofs.register.Register.tables.Goals as goal
+use Rattle.kcr_store.proofs.register.Register.table_rows.Goals as goal
 
 pub invariant_of-self : goal.invariant_of-self
 invariant_of-self g c =
     rw c.if-self.false (record {
-      autocommit = c.view.ensures.autocommit;
-      whole = λ yes _. c.view.ensures.whole _ (c.self.invariant.whole yes (rw c.if-self.false refl));
-      crash = λ yes clean db may. inl ((c.view.ensures.whole _ (c.self.invariant.whole yes (rw c.if-self.false refl))).crash clean db may);
+      autocommit = c.rows_in_table.ensures.autocommit;
+      whole = λ yes _. c.rows_in_table.ensures.whole _ (c.self.invariant.whole yes (rw c.if-self.false refl));
+      crash = λ yes clean db may. inl ((c.rows_in_table.ensures.whole _ (c.self.invariant.whole yes (rw c.if-self.false refl))).crash clean db may);
     })
 
 pub invariant_of-self-in-Err : goal.invariant_of-self-in-Err
 invariant_of-self-in-Err g c =
     rw c.if-self.false (record {
-      autocommit = c.view.ensures.autocommit;
-      whole = λ yes _. c.view.ensures.whole _ (c.self.invariant.whole yes (rw c.if-self.false refl));
-      crash = λ yes clean db may. inl ((c.view.ensures.whole _ (c.self.invariant.whole yes (rw c.if-self.false refl))).crash clean db may);
+      autocommit = c.rows_in_table.ensures.autocommit;
+      whole = λ yes _. c.rows_in_table.ensures.whole _ (c.self.invariant.whole yes (rw c.if-self.false refl));
+      crash = λ yes clean db may. inl ((c.rows_in_table.ensures.whole _ (c.self.invariant.whole yes (rw c.if-self.false refl))).crash clean db may);
     })
 
 pub returns-in-Ok-clause-kept : goal.returns-in-Ok-clause-kept
@@ -51,5 +51,5 @@ pub returns-in-Ok-clause-shown : goal.returns-in-Ok-clause-shown
 returns-in-Ok-clause-shown g c founded whole clean =
     let mine : IsTrue c.self.inside.past.is_founded = search rules in
     let entries : c.self.inside.past.entries ≡ c.args.self.now.accepted = search rules in
-    subst (λ (A : History). IsRegister A × IsListed (tables A) c.in-Ok.view) entries
+    subst (λ (A : History). IsRegister A × IsTable g.R.Listed.rows_in g.R.Listed.machine_rows (tables A) c.in-Ok.rows.items) entries
     (c.in-Ok.ensures.register c.self.inside.past.entries (c.self.invariant.whole mine (rw c.if-self.false refl)) clean)
