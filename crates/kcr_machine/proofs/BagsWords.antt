@@ -1,19 +1,18 @@
 -- What the rows of a view say of bags, items, safes and boxes is what the history says.
-use Rattle.std.proofs.Common.{◌≡◌, ℕ, Bool, true, false, cond, ◌||◌, ◌&&◌, eqb, List, [], ◌∷◌, filter, Option, Some, None, option_map, is_some, is_none, refl, sym, ap, ◌∙◌, subst}
+use Rattle.std.proofs.Common.{◌≡◌, ℕ, Bool, true, false, cond, ◌||◌, ◌&&◌, eqb, List, [], ◌∷◌, filter, Option, Some, None, option_map, is_some, is_none, refl, sym, ap, ◌∙◌, subst, ◌==◌}
 use Rattle.std.specs.Prelude.{unwrap_or}
 use Rattle.std.specs.List.{list_any, cons_option, AllByRecursion}
 use Rattle.std.specs.List.Sorted.{IsPermutation}
 use Rattle.std.proofs.lemmas.List.Sorted.{list_any-IsPermutation}
 use Rattle.std.proofs.lemmas.Bool.{true≢false, false≢true, or_parts, and_parts, eqb-true}
 use Rattle.kcr_base.proofs.RefuseLemmas.{none_holds, unmet}
-use Rattle.kcr_base.specs.Refuse.{when}
 use Rattle.kcr_base.specs.Rows.{or_else}
 use Rattle.kcr_base.specs.Same.{same_text, same_facility}
 use Rattle.kcr_base.specs.declared.place.Facility.{Facility}
 use Rattle.kcr_base.specs.declared.place.Facility.TheVariants.{East, West}
 use Rattle.kcr_base.specs.declared.refusal.Refusal.TheVariants.{Unknown, Taken}
 use Rattle.kcr_base.specs.declared.refusal.Thing.TheVariants as Things
-use Rattle.kcr_custody.proofs.Puts.{text_same}
+use Rattle.kcr_custody.proofs.Puts.{text_same, text_refl}
 use Rattle.kcr_custody.specs.declared.Bag.{Bag}
 use Rattle.kcr_custody.specs.declared.BoxRow.{BoxRow}
 use Rattle.kcr_custody.specs.declared.Item.{Item}
@@ -35,15 +34,19 @@ use Rattle.kcr_history.specs.Views.{is_of_serial, is_item_of}
 use Rattle.kcr_history.specs.Conditions.{conditions, fault, no_item, first_with}
 use Rattle.kcr_history.specs.Machine.{IsRegister}
 use Rattle.kcr_history.proofs.Steps.{took}
-use Rattle.kcr_machine.proofs.BagsFound.{found-shown, found-order, any-made, all-made}
 use Rattle.kcr_laws.proofs.Stored.{there, sealed_somewhere, box-there}
+use Rattle.kcr_base.proofs.RowsLemmas.{filter-order}
+use Rattle.kcr_base.specs.declared.place.Place.TheVariants.{Rksh}
+use Rattle.kcr_machine.proofs.FirstRefusals.{none-first}
+use Rattle.kcr_machine.proofs.Keyed.{said-shown, said-view}
+use Rattle.kcr_machine.proofs.Members.{IsIn, any-in, in-any}
+use Rattle.kcr_machine.proofs.Scenes.{said-then, some-where}
 
 -- where the bag is, by the rows of its serial
 pub spot-shown : (A : History) → IsRegister A → (s : List ℕ) (rows : List Bag) → IsPermutation (filter (is_of_serial s) (bags A)) (filter (is_of_serial s) rows) → spot_by rows s ≡ spot A s
 spot-shown A h s rows p =
-    found-shown (λ row. same_text row.serial s) (is_of_serial s) (λ row e. e) (λ row. row.spot) (spot A s) (bags A) rows p
-    (all-made (λ row. row.serial) (λ row. row.spot) (bag_row A) (λ k. refl) s (spot A s) Spent refl (all_said sealed_serial A))
-    (any-made (λ row. row.serial) (λ row. row.spot) (bag_row A) (λ k. refl) s (all_said sealed_serial A) ∙ sealed_somewhere A h s)
+    said-view (λ row. same_text row.serial s) (is_of_serial s) (bag_row A) (bag_row A s) (λ row. row.spot) (spot A s) Spent (λ row e. e) (λ k e. ap (bag_row A) (text_same k s e)) (all_said sealed_serial A) rows p
+    (sealed_somewhere A h s) refl
 
 -- ITEMS
 
@@ -68,18 +71,15 @@ added_somewhere [] k = refl
 added_somewhere (entry ∷ A) k = added_after A entry.command.act k (added_somewhere A k)
 
 -- each of the items that a command may list is somewhere
-pub items_known : (A : History) (k : List ℕ) (codes : List (List ℕ)) → first_with (no_item A) codes ≡ None → list_any (same_text k) codes ≡ true → is_some (rest A k) ≡ true
-items_known A k [] n h = absurd (false≢true h)
-items_known A k (code ∷ codes) n h = by_known (is_none (rest A code)) refl n (items_known A k codes)
-  where
-    by_known : (b : Bool) → is_none (rest A code) ≡ b → or_else (when b (Unknown (Things.Item code))) (first_with (no_item A) codes) ≡ None
-        → (first_with (no_item A) codes ≡ None → list_any (same_text k) codes ≡ true → is_some (rest A k) ≡ true) → is_some (rest A k) ≡ true
-    by_known true e g ih = absurd (let q : Some (Unknown (Things.Item code)) ≡ None = g in cc)
-    by_known false e g ih = by_test (same_text k code) refl h
-      where
-        by_test : (b : Bool) → same_text k code ≡ b → (b || list_any (same_text k) codes) ≡ true → is_some (rest A k) ≡ true
-        by_test true f t = subst (λ x. is_some (rest A x) ≡ true) (sym (text_same k code f)) (there (rest A code) e)
-        by_test false f t = ih g t
+pub items_known : (A : History) (k : List ℕ) (codes : List (List ℕ)) → first_with (no_item A) codes ≡ None → IsIn k codes → is_some (rest A k) ≡ true
+items_known A k codes n i = there (rest A k) (unmet (is_none (rest A k)) (Unknown (Things.Item k)) (none-first (no_item A) codes n k i))
+
+-- a text that a test finds in a list is in it
+pub listed-in : (k : List ℕ) (ks : List (List ℕ)) → list_any (same_text k) ks ≡ true → IsIn k ks
+listed-in k ks h = let a = any-in (same_text k) ks h in subst (λ x. IsIn x ks) (sym (text_same k a.0 a.2)) a.1
+
+pub in-listed : (k : List ℕ) (ks : List (List ℕ)) → IsIn k ks → list_any (same_text k) ks ≡ true
+in-listed k ks i = in-any (same_text k) k ks i (text_refl k)
 
 some_rest : (S : Option (List ℕ)) (D : Option Facility) (inside : List ℕ → Rest) → is_some (or_else (option_map inside S) (option_map Loose D)) ≡ (is_some S || is_some D)
 some_rest (Some s) D inside = refl
@@ -90,29 +90,22 @@ abbrev last_bag : History → List ℕ → Option (List ℕ)
 last_bag A k = last_said (sealed_in k) A
 
 -- an item that was sealed was added
-sealed_added_after : (A : History) (act : Act) (k : List ℕ) → fault A act ≡ None → (is_some (last_bag A k) ≡ true → is_some (added A k) ≡ true)
-    → is_some (or_else (sealed_in k act) (last_bag A k)) ≡ true → is_some (or_else (added_at (facility_of A) k act) (added A k)) ≡ true
-sealed_added_after A (AddItem c item at) k f ih s = by_test (same_text item k) (ih s)
-  where
-    by_test : (b : Bool) → is_some (added A k) ≡ true → is_some (or_else (cond b (Some (facility_of A c)) None) (added A k)) ≡ true
-    by_test true g = refl
-    by_test false g = g
-sealed_added_after A (Seal c serial codes at) k f ih s = by_test (list_any (same_text k) codes) refl s
+sealed_added : (A : History) → IsRegister A → (k : List ℕ) → is_some (last_bag A k) ≡ true → is_some (added A k) ≡ true
+sealed_added [] h k s = absurd (false≢true s)
+sealed_added (entry ∷ A) h k s =
+    said-then (sealed_in k entry.command.act) (last_bag A k) (added_at (facility_of A) k entry.command.act) (added A k)
+    (by_act entry.command.act (took A entry h.0).no_fault (sealed_added A h.1 k)) (sealed_added A h.1 k) s
   where
     join : (x y : Bool) → (x ≡ true → y ≡ true) → (x || y) ≡ true → y ≡ true
     join true y g e = g refl
     join false y g e = e
 
-    by_test : (b : Bool) → list_any (same_text k) codes ≡ b → is_some (or_else (cond b (Some serial) None) (last_bag A k)) ≡ true → is_some (added A k) ≡ true
-    by_test true e g =
-        join (is_some (last_bag A k)) _ ih
-        (sym (some_rest (last_bag A k) (added A k) (rest_in A)) ∙ items_known A k codes (none_holds (conditions A (Seal c serial codes at)) f).1.0 e)
-    by_test false e g = ih g
-sealed_added_after A act k f ih s = ih s
-
-sealed_added : (A : History) → IsRegister A → (k : List ℕ) → is_some (last_bag A k) ≡ true → is_some (added A k) ≡ true
-sealed_added [] h k s = absurd (false≢true s)
-sealed_added (entry ∷ A) h k s = sealed_added_after A entry.command.act k (took A entry h.0).no_fault (sealed_added A h.1 k) s
+    by_act : (act : Act) → fault A act ≡ None → (is_some (last_bag A k) ≡ true → is_some (added A k) ≡ true) → is_some (sealed_in k act) ≡ true → is_some (added A k) ≡ true
+    by_act (Seal c serial codes at) f ih e =
+        join (is_some (last_bag A k)) (is_some (added A k)) ih
+        (sym (some_rest (last_bag A k) (added A k) (rest_in A))
+        ∙ items_known A k codes (none_holds (conditions A (Seal c serial codes at)) f).1.0 (listed-in k codes (some-where (list_any (same_text k) codes) serial e)))
+    by_act act f ih e = absurd (false≢true e)
 
 -- an item is somewhere exactly where it was added
 pub added_rest : (A : History) → IsRegister A → (k : List ℕ) → list_any (λ i. same_text i k) (all_said added_item A) ≡ is_some (rest A k)
@@ -126,18 +119,16 @@ added_rest A h k =
     join false y f = refl
 
 -- where an item is, by rows among which its own is
-pub rest-shown : (A : History) → IsRegister A → (of : Item → Bool) (k : List ℕ) → ((row : Item) → same_text row.code k ≡ true → of row ≡ true) → (rows : List Item)
+rest-shown : (A : History) → IsRegister A → (of : Item → Bool) (k : List ℕ) → ((row : Item) → same_text row.code k ≡ true → of row ≡ true) → (rows : List Item)
     → IsPermutation (filter of (items A)) (filter of rows) → rest_by rows k ≡ rest A k
 rest-shown A h of k own rows p =
-    found-shown (λ row. same_text row.code k) of own (λ row. row.rest) (rest A k) (items A) rows p
-    (all-made (λ row. row.code) (λ row. row.rest) (item_row A) (λ i. refl) k (rest A k) (Loose East) refl (all_said added_item A))
-    (any-made (λ row. row.code) (λ row. row.rest) (item_row A) (λ i. refl) k (all_said added_item A) ∙ added_rest A h k)
+    said-view (λ row. same_text row.code k) of (item_row A) (item_row A k) (λ row. row.rest) (rest A k) (Loose East) own (λ j e. ap (item_row A) (text_same j k e)) (all_said added_item A) rows p
+    (added_rest A h k) refl
 
 -- the same of items that are asked for by their codes
 pub rest-coded : (A : History) → IsRegister A → (codes : List (List ℕ)) (rows : List Item) → IsPermutation (filter (is_item_of (Items.Codes codes)) (items A)) (filter (is_item_of (Items.Codes codes)) rows)
-    → (k : List ℕ) → list_any (same_text k) codes ≡ true → rest_by rows k ≡ rest A k
-rest-coded A h codes rows p k among =
-    rest-shown A h (is_item_of (Items.Codes codes)) k (λ row e. subst (λ c. list_any (same_text c) codes ≡ true) (sym (text_same row.code k e)) among) rows p
+    → (k : List ℕ) → IsIn k codes → rest_by rows k ≡ rest A k
+rest-coded A h codes rows p k i = rest-shown A h (is_item_of (Items.Codes codes)) k (λ row e. in-any (same_text row.code) k codes i e) rows p
 
 -- SAFES
 
@@ -200,6 +191,11 @@ placed (entry ∷ A) h f n = placed_after A entry.command.act f n (took A entry 
 -- the place of a box, by all boxes in any order
 pub place-shown : (A : History) → IsRegister A → (rows : List BoxRow) → IsPermutation (boxes A) rows → (f : Facility) (n : ℕ) → place_of_box_by rows f n ≡ place_of_box A f n
 place-shown A h rows p f n =
-    found-order (is_box f n) (λ row. row.place) (place_of_box A f n) (boxes A) rows p
-    (each (Placed A f n) (λ row. is_box f n row ≡ true → unwrap_or (place_of_box A f n) row.place ≡ row.place) (λ row g e. ap (λ o. unwrap_or o row.place) (g e)) (boxes A) (placed A h f n))
-    (box-there A f n)
+    said-shown (is_box f n) (λ row. true) own (λ row. row.place) (place_of_box A f n) (Rksh 0) (λ row e. refl) (boxes A) rows (filter-order (λ row. true) (boxes A) rows p)
+    (each (Placed A f n) (λ row. is_box f n row ≡ true → row ≡ own) same (boxes A) (placed A h f n)) (box-there A f n) refl
+  where
+    own : BoxRow
+    own = record { facility = f; number = n; place = unwrap_or (place_of_box A f n) (Rksh 0) }
+
+    same : (row : BoxRow) → Placed A f n row → is_box f n row ≡ true → row ≡ own
+    same row g e = let p = and_parts (same_facility row.facility f) (row.number == n) e in rw (g e, ← facility-same row.facility f p.0, ← eqb-true row.number n p.1) refl

@@ -1,7 +1,5 @@
 -- The changes of an act that has no fault lead from the tables before it to those after it.
-use Rattle.std.proofs.Common.{◌≡◌, ℕ, Bool, true, false, List, [], ◌∷◌, ◌++◌, map, None, refl, ◌∙◌, subst}
-use Rattle.std.specs.List.{list_any}
-use Rattle.std.proofs.lemmas.Bool.{false≢true}
+use Rattle.std.proofs.Common.{◌≡◌, ℕ, true, false, List, [], ◌∷◌, map, None, refl, ◌∙◌, Option, Some}
 use Rattle.std.specs.List.Sorted.{IsPermutation}
 use Rattle.std.proofs.lemmas.List.Sorted.{IsPermutation-refl, IsPermutation-sym}
 use Rattle.kcr_base.specs.Rows.{put, put_all}
@@ -19,96 +17,45 @@ use Rattle.kcr_history.specs.declared.commands.Act.{Act}
 use Rattle.kcr_history.specs.declared.commands.Act.TheVariants.{Enter, Train, Withdraw, Appoint, Replace, Release, AddBox, AddItem, Plan, Open, Close, Sheet, TurnSafe, Sign, Except, Seal, Take, Put, Cut}
 use Rattle.kcr_history.specs.declared.commands.Answer.{Answer}
 use Rattle.kcr_history.specs.declared.commands.Command.{Command}
-use Rattle.kcr_history.specs.declared.views.Change.{Change}
 use Rattle.kcr_history.specs.declared.views.Change.TheVariants.{PutWithdrawal, PutKey}
 use Rattle.kcr_history.specs.declared.views.View.{View}
 use Rattle.kcr_history.specs.History.{History, some_command, entry_of}
 use Rattle.kcr_history.specs.Training.{is_person, is_training}
-use Rattle.kcr_history.specs.Tables.{Tables, SameTables, people, trainings, withdrawals, appointments, ended, tables}
-use Rattle.kcr_history.specs.Changes.{same_person, same_appointment, changed_by}
+use Rattle.kcr_history.specs.Tables.{SameTables, people, trainings, withdrawals, appointments, ended, tables}
+use Rattle.kcr_history.specs.Changes.{same_person, same_appointment}
 use Rattle.kcr_history.specs.Views.{IsViewOf}
 use Rattle.kcr_history.specs.Asked.{asks_by}
-use Rattle.kcr_history.specs.Conditions.{conditions, fault, is_full}
-use Rattle.kcr_history.specs.Machine.{IsRegister, with_command}
+use Rattle.kcr_history.specs.Conditions.{conditions, fault}
+use Rattle.kcr_history.specs.Machine.{IsRegister, with_command, answer_to}
 use Rattle.kcr_history.proofs.Words.{is_person-people, is_training-trainings}
 use Rattle.kcr_history.proofs.Stacked.{or_parts, closing, lasts-ended, no_begin, put-ended, open-order}
 use Rattle.kcr_history.proofs.Orderly.{standing, orderly}
 use Rattle.kcr_history.proofs.Distinct.{trainings-apart}
-use Rattle.kcr_acts.specs.ByRows.{refusal_by, changes_by, new_appointment}
-use Rattle.kcr_acts.specs.Kinds.{is_plain}
+use Rattle.kcr_acts.specs.ByRows.{changes_by, new_appointment, sitting_by, IsSeatedFor, all_changes_by}
 use Rattle.kcr_machine.specs.RowDecision.{new_key_row}
-use Rattle.kcr_machine.proofs.NewKeys.{new_key}
-use Rattle.kcr_machine.proofs.Refusals.{open-shown}
-use Rattle.kcr_machine.proofs.Boxes.{add_box-leads}
-use Rattle.kcr_machine.proofs.Opening.{open-leads}
-use Rattle.kcr_machine.proofs.Planning.{plan-leads}
-use Rattle.kcr_machine.proofs.Closed.{close-leads}
-use Rattle.kcr_machine.proofs.Turned.{turn-leads}
-use Rattle.kcr_machine.proofs.AddedItems.{add_item-leads}
-use Rattle.kcr_machine.proofs.SheetFaults.{sheet-made, name-once, named_once}
-use Rattle.kcr_machine.proofs.SheetLeads.{sheet-leads-by}
-use Rattle.kcr_machine.proofs.BagsLeads.{seal-leads, take-leads, put-leads, cut-leads}
+use Rattle.kcr_machine.proofs.Ceremonies.{close-leads, open-leads, plan-leads}
+use Rattle.kcr_machine.proofs.CustodyLeads.{add_box-leads, add_item-leads, cut-leads, put-leads, seal-leads, take-leads, turn-leads}
+use Rattle.kcr_machine.proofs.Keyed.{put-new}
+use Rattle.kcr_machine.proofs.Leads.{Leads, changed_by-rows, changed_with, command_of, new_key, other-order, same-tables}
+use Rattle.kcr_machine.proofs.Refusals.{open_row-shown}
+use Rattle.kcr_machine.proofs.SheetFaults.{named_once, sheet-made}
+use Rattle.kcr_machine.proofs.SheetLeads.{sheet-leads}
+use Rattle.kcr_machine.proofs.Signed.{pass-leads, sign-leads, state-leads}
 use Rattle.kcr_machine.proofs.Withdrawn.{ShowsTrainings, ShowsWithdrawals, withdrawn_rows-shown}
 
--- TABLES THAT ARE EQUAL HAVE THE SAME ROWS
+-- PEOPLE AND PLACES
 
--- tables that differ in the order of their withdrawals alone
-other-withdrawals : (t : Tables) (ws : List Withdrawal) → IsPermutation ws t.withdrawals → SameTables (record t { withdrawals = ws }) t
-other-withdrawals t ws p =
-    record {
-      people = IsPermutation-refl t.people;
-      trainings = IsPermutation-refl t.trainings;
-      withdrawals = p;
-      appointments = IsPermutation-refl t.appointments;
-      boxes = IsPermutation-refl t.boxes;
-      safes = IsPermutation-refl t.safes;
-      bags = IsPermutation-refl t.bags;
-      items = IsPermutation-refl t.items;
-      ceremonies = IsPermutation-refl t.ceremonies;
-      marks = IsPermutation-refl t.marks;
-      steps = IsPermutation-refl t.steps;
-      seatings = IsPermutation-refl t.seatings;
-      sheet = IsPermutation-refl t.sheet;
-      stays = IsPermutation-refl t.stays;
-      exceptions = IsPermutation-refl t.exceptions;
-      keys = IsPermutation-refl t.keys;
-    }
-
-same-own : (t : Tables) → SameTables t t
-same-own t = other-withdrawals t t.withdrawals (IsPermutation-refl t.withdrawals)
-
-pub same-tables : (t u : Tables) → t ≡ u → SameTables t u
-same-tables t u e = subst (SameTables t) e (same-own t)
-
--- ROWS THAT ARE NEW
-
--- a row whose key is not there is put in front
-put_new : {X : Type 0} (same : X → X → Bool) (row : X) (rows : List X) → list_any (same row) rows ≡ false → put same row rows ≡ row ∷ rows
-put_new same row rows h = rw h
-
--- THE KINDS
-
--- the changes of the act and its row of a key, made in the tables, give those of the history with the command
-abbrev Leads : History → View → Command → Answer → Type 0
-Leads A view x answer = changed_by (changes_by view x.act ++ PutKey (new_key_row x answer) ∷ []) (tables A) ≡ tables (with_command A x answer)
-
-enter-leads : (A : History) (key who name : List ℕ) (view : View) (answer : Answer) → entry_of A key ≡ None → fault A (Enter who name) ≡ None → Leads A view (record { key = key; act = Enter who name }) answer
+enter-leads : (A : History) (key who name : List ℕ) (view : View) (answer : Answer) → entry_of A key ≡ None → fault A (Enter who name) ≡ None → Leads A view (command_of key (Enter who name)) answer
 enter-leads A key who name view answer k f =
     let absent = is_person-people A who ∙ unmet (is_person A who) Taken (none_holds (conditions A (Enter who name)) f).0 in
-    rw (put_new same_person (record { who = who; name = name }) (people A) absent, new_key A (record { key = key; act = Enter who name }) answer k)
+    rw (put-new same_person (record { who = who; name = name }) (people A) absent, new_key A (command_of key (Enter who name)) answer k)
 
 train-leads : (A : History) (key who : List ℕ) (role : Role) (since until : ℕ) (view : View) (answer : Answer) → entry_of A key ≡ None → fault A (Train who role since until) ≡ None
-    → Leads A view (record { key = key; act = Train who role since until }) answer
+    → Leads A view (command_of key (Train who role since until)) answer
 train-leads A key who role since until view answer k f =
     let new : Training = record { who = who; role = role; since = since; until = until } in
     let absent = is_training-trainings A new ∙ unmet (some_command (is_training who role since until) A) Taken (none_holds (conditions A (Train who role since until)) f).1.0 in
-    rw (put_new same_training new (trainings A) absent, new_key A (record { key = key; act = Train who role since until }) answer k)
-
--- the rows of withdrawals put one after the other
-changed_by-withdrawals : (rows : List Withdrawal) (rest : List Change) (t : Tables)
-    → changed_by (map PutWithdrawal rows ++ rest) t ≡ changed_by rest (record t { withdrawals = put_all same_withdrawn rows t.withdrawals })
-changed_by-withdrawals [] rest t = refl
-changed_by-withdrawals (row ∷ rows) rest t = changed_by-withdrawals rows rest (record t { withdrawals = put same_withdrawn row t.withdrawals })
+    rw (put-new same_training new (trainings A) absent, new_key A (command_of key (Train who role since until)) answer k)
 
 -- by the rows shown the same rows are put, in some order; no two of them have one key
 withdrawals-put : (A : History) → IsRegister A → (who : List ℕ) (role : Role) (day : ℕ) (us : List Training) (vs : List Withdrawal) → ShowsTrainings who (trainings A) us → ShowsWithdrawals who (withdrawals A) vs
@@ -120,24 +67,28 @@ withdrawals-put A h who role day us vs p q =
     (withdrawn_rows-apart (trainings A) (withdrawals A) who role day (trainings-apart A h)))
 
 withdraw-leads : (A : History) → IsRegister A → (key who : List ℕ) (role : Role) (day : ℕ) (view : View) (answer : Answer) → IsViewOf (asks_by key (Withdraw who role day)) (tables A) view → entry_of A key ≡ None
-    → SameTables (changed_by (changes_by view (Withdraw who role day) ++ PutKey (new_key_row (record { key = key; act = Withdraw who role day }) answer) ∷ []) (tables A)) (tables (with_command A (record { key = key; act = Withdraw who role day }) answer))
+    → SameTables (changed_with (changes_by view (Withdraw who role day)) (command_of key (Withdraw who role day)) answer (tables A)) (tables (with_command A (command_of key (Withdraw who role day)) answer))
 withdraw-leads A h key who role day view answer v k =
-    let x : Command = record { key = key; act = Withdraw who role day } in
+    let x : Command = command_of key (Withdraw who role day) in
+    let after = tables (with_command A x answer) in
     let rows = withdrawn_rows view.trainings.items view.withdrawals.items who role day in
-    rw (changed_by-withdrawals rows (PutKey (new_key_row x answer) ∷ []) (tables A), new_key A x answer k)
-    (other-withdrawals (tables (with_command A x answer)) (put_all same_withdrawn rows (withdrawals A))
-    (withdrawals-put A h who role day view.trainings.items view.withdrawals.items v.trainings v.withdrawals))
+    rw (
+      changed_by-rows PutWithdrawal same_withdrawn (λ rows t. record t { withdrawals = rows }) (λ row rows t. refl) rows (withdrawals A) (PutKey (new_key_row x answer) ∷ []) (tables A),
+      new_key A x answer k,
+    )
+    (other-order after (put_all same_withdrawn rows (withdrawals A)) after.sheet after.stays (withdrawals-put A h who role day view.trainings.items view.withdrawals.items v.trainings v.withdrawals)
+    (IsPermutation-refl after.sheet) (IsPermutation-refl after.stays))
 
 appoint-leads : (A : History) → IsRegister A → (key : List ℕ) (place : Place) (who : List ℕ) (day : ℕ) (view : View) (answer : Answer) → entry_of A key ≡ None → fault A (Appoint place who day) ≡ None
-    → Leads A view (record { key = key; act = Appoint place who day }) answer
+    → Leads A view (command_of key (Appoint place who day)) answer
 appoint-leads A h key place who day view answer k f =
     let n = none_holds (conditions A (Appoint place who day)) f in
     let free = (or_parts (place_held_from_by (appointments A) place day) (person_holds_from_by (appointments A) who day) (unmet _ Held n.1.1.0)).0 in
     let absent = no_begin place day (appointments A) (orderly A h).1 free in
-    rw (put_new same_appointment (new_appointment place who day) (appointments A) absent, new_key A (record { key = key; act = Appoint place who day }) answer k)
+    rw (put-new same_appointment (new_appointment place who day) (appointments A) absent, new_key A (command_of key (Appoint place who day)) answer k)
 
 replace-leads : (A : History) → IsRegister A → (key : List ℕ) (place : Place) (who : List ℕ) (day : ℕ) (view : View) (answer : Answer) → open_row_by view.appointments.items place ≡ open_row_by (appointments A) place
-    → entry_of A key ≡ None → fault A (Replace place who day) ≡ None → Leads A view (record { key = key; act = Replace place who day }) answer
+    → entry_of A key ≡ None → fault A (Replace place who day) ≡ None → Leads A view (command_of key (Replace place who day)) answer
 replace-leads A h key place who day view answer shown k f =
     let n = none_holds (conditions A (Replace place who day)) f in
     let st = standing (open_row_by (appointments A) place) day (unmet _ Range n.1.0) (unmet _ Vacant n.1.1.1.1.0) in
@@ -146,40 +97,47 @@ replace-leads A h key place who day view answer shown k f =
     = rw (shown ∙ st.1) (put-ended place day st.0 (appointments A) o.0 o.1 st.1) in
     let free = closing place day st.0 (appointments A) o.0 st.1 st.2 in
     let fresh = no_begin place day (map (ended place day) (appointments A)) (lasts-ended place day st.0 (appointments A) o.0 o.1 st.1 st.2) free in
-    rw (p, put_new same_appointment (new_appointment place who day) (map (ended place day) (appointments A)) fresh, new_key A (record { key = key; act = Replace place who day }) answer k)
+    rw (p, put-new same_appointment (new_appointment place who day) (map (ended place day) (appointments A)) fresh, new_key A (command_of key (Replace place who day)) answer k)
 
 release-leads : (A : History) → IsRegister A → (key : List ℕ) (place : Place) (day : ℕ) (view : View) (answer : Answer) → open_row_by view.appointments.items place ≡ open_row_by (appointments A) place
-    → entry_of A key ≡ None → fault A (Release place day) ≡ None → Leads A view (record { key = key; act = Release place day }) answer
+    → entry_of A key ≡ None → fault A (Release place day) ≡ None → Leads A view (command_of key (Release place day)) answer
 release-leads A h key place day view answer shown k f =
     let n = none_holds (conditions A (Release place day)) f in
     let st = standing (open_row_by (appointments A) place) day (unmet _ Range n.0) (unmet _ Vacant n.1.0) in
     let o = orderly A h in
     let p : put same_appointment (end_of (open_row_by view.appointments.items place) day (nobody place day)) (appointments A) ≡ map (ended place day) (appointments A)
     = rw (shown ∙ st.1) (put-ended place day st.0 (appointments A) o.0 o.1 st.1) in
-    rw (p, new_key A (record { key = key; act = Release place day }) answer k)
+    rw (p, new_key A (command_of key (Release place day)) answer k)
 
-pub leads : (A : History) → IsRegister A → (key : List ℕ) (act : Act) (view : View) (answer : Answer) → IsViewOf (asks_by key act) (tables A) view → entry_of A key ≡ None → fault A act ≡ None
-    → refusal_by view (is_full A) act ≡ None → is_plain act ≡ true → SameTables (changed_by (changes_by view act ++ PutKey (new_key_row (record { key = key; act = act }) answer) ∷ []) (tables A)) (tables (with_command A (record { key = key; act = act }) answer))
-leads A h key (Enter who name) view answer v k f none p = same-tables _ _ (enter-leads A key who name view answer k f)
-leads A h key (Train who role since until) view answer v k f none p = same-tables _ _ (train-leads A key who role since until view answer k f)
-leads A h key (Withdraw who role day) view answer v k f none p = withdraw-leads A h key who role day view answer v k
-leads A h key (Appoint place who day) view answer v k f none p = same-tables _ _ (appoint-leads A h key place who day view answer k f)
-leads A h key (Replace place who day) view answer v k f none p =
+-- THE KINDS
+
+-- the changes of an act that has no fault, with those of its seats, lead from the tables before it to those after it
+pub leads : (A : History) → IsRegister A → (key : List ℕ) (act : Act) (view : View) (seats : Option (List (List ℕ))) (answer : Answer) → IsViewOf (asks_by key act) (tables A) view → entry_of A key ≡ None → fault A act ≡ None
+    → IsSeatedFor view (sitting_by view act) seats → answer ≡ answer_to A act seats
+    → SameTables (changed_with (all_changes_by view act seats) (command_of key act) answer (tables A)) (tables (with_command A (command_of key act) answer))
+leads A h key (Enter who name) view seats answer v k f g e = same-tables _ _ (enter-leads A key who name view answer k f)
+leads A h key (Train who role since until) view seats answer v k f g e = same-tables _ _ (train-leads A key who role since until view answer k f)
+leads A h key (Withdraw who role day) view seats answer v k f g e = withdraw-leads A h key who role day view answer v k
+leads A h key (Appoint place who day) view seats answer v k f g e = same-tables _ _ (appoint-leads A h key place who day view answer k f)
+leads A h key (Replace place who day) view seats answer v k f g e =
     same-tables _ _ (replace-leads A h key place who day view answer (open-order place (appointments A) view.appointments.items (orderly A h).0 v.appointments) k f)
-leads A h key (Release place day) view answer v k f none p =
-    same-tables _ _ (release-leads A h key place day view answer (open-shown A h place view.appointments.items v.appointments) k f)
-leads A h key (AddBox facility number place) view answer v k f none p = same-tables _ _ (add_box-leads A key facility number place view answer k f)
-leads A h key (Plan number facility day script) view answer v k f none p = same-tables _ _ (plan-leads A h key answer number facility day script f view k)
-leads A h key (Open ceremony at) view answer v k f none p = same-tables _ _ (open-leads A h key answer ceremony at f view v.ceremonies k)
-leads A h key (Close ceremony at) view answer v k f none p = same-tables _ _ (close-leads A key answer ceremony at f view v.ceremonies k)
-leads A h key (Seal c serial codes at) view answer v k f none p = same-tables _ _ (seal-leads A h key c serial codes at view answer v k f)
-leads A h key (Take c serial at) view answer v k f none p = same-tables _ _ (take-leads A h key c serial at view answer v k f)
-leads A h key (Put c serial to at) view answer v k f none p = same-tables _ _ (put-leads A h key c serial to at view answer v k f)
-leads A h key (Cut c serial at) view answer v k f none p = same-tables _ _ (cut-leads A h key c serial at view answer v k f)
-leads A h key (AddItem c item at) view answer v k f none p = same-tables _ _ (add_item-leads A h key c item at view answer v k f)
-leads A h key (Sheet c way all at) view answer v k f none p =
+leads A h key (Release place day) view seats answer v k f g e =
+    same-tables _ _ (release-leads A h key place day view answer (open_row-shown A h place view.appointments.items v.appointments) k f)
+leads A h key (AddBox facility number place) view seats answer v k f g e = same-tables _ _ (add_box-leads A key facility number place view answer k f)
+leads A h key (Plan number facility day script) view seats answer v k f g e = same-tables _ _ (plan-leads A h key answer number facility day script f view k)
+leads A h key (Open ceremony at) view seats answer v k f g e = same-tables _ _ (open-leads A h key answer ceremony at f view v.ceremonies k)
+leads A h key (Close ceremony at) view seats answer v k f g e = same-tables _ _ (close-leads A key answer ceremony at f view v.ceremonies k)
+leads A h key (Seal c serial codes at) view seats answer v k f g e = same-tables _ _ (seal-leads A h key c serial codes at view answer v k f)
+leads A h key (Take c serial at) view seats answer v k f g e = same-tables _ _ (take-leads A h key c serial at view answer v k f)
+leads A h key (Put c serial to at) view seats answer v k f g e = same-tables _ _ (put-leads A h key c serial to at view answer v k f)
+leads A h key (Cut c serial at) view seats answer v k f g e = same-tables _ _ (cut-leads A h key c serial at view answer v k f)
+leads A h key (AddItem c item at) view seats answer v k f g e = same-tables _ _ (add_item-leads A h key c item at view answer v k f)
+leads A h key (Sheet c way all at) view seats answer v k f g e =
     let n = none_holds (conditions A (Sheet c way all at)) f in
-    sheet-leads-by A (sheet-made A h (name-once (λ B d w people t g. named_once people (none_holds (conditions B (Sheet d w people t)) g).1.1.1.1.0) A h)) key c way all at (named_once all n.1.1.1.1.0) view answer v k n.1.1.1.1.1.0
-leads A h key (TurnSafe c safe state by at) view answer v k f none p = same-tables _ _ (turn-leads A h key c safe state by at view answer v k f)
-leads A h key (Sign ceremony step at) view answer v k f none p = absurd (false≢true p)
-leads A h key (Except ceremony text pass at) view answer v k f none p = absurd (false≢true p)
+    sheet-leads A (sheet-made A h) key c way all at (named_once all n.1.1.1.1.0) view answer v k n.1.1.1.1.1.0
+leads A h key (TurnSafe c safe state by at) view seats answer v k f g e = same-tables _ _ (turn-leads A h key c safe state by at view answer v k f)
+leads A h key (Sign c k at) view None answer v q f g e = absurd g
+leads A h key (Sign c k at) view (Some seats) answer v q f g e = same-tables _ _ (sign-leads A h key c k at view seats answer v q f e)
+leads A h key (Except c text true at) view None answer v q f g e = absurd g
+leads A h key (Except c text true at) view (Some seats) answer v q f g e = same-tables _ _ (pass-leads A h key c text at view seats answer v q f e)
+leads A h key (Except c text false at) view seats answer v q f g e = same-tables _ _ (state-leads A h key c text at view answer v q f e)

@@ -1,9 +1,6 @@
 -- A decision by the rows of a view is a step of the machine.
-use Rattle.std.specs.Prelude.{slice_get}
-use Rattle.std.proofs.Common.{◌≡◌, ◌≢◌, ℕ, suc, ◌+◌, true, false, nat_le, List, [], ◌∷◌, ◌++◌, map, length, Option, Some, None, option_map, refl, sym, ap, ◌∙◌, subst, arith, inl, inr, Result, Ok, Err, MatchOption}
-use Rattle.kcr_base.specs.Days.{day_of}
+use Rattle.std.proofs.Common.{◌≡◌, ◌≢◌, ℕ, suc, ◌+◌, true, false, nat_le, List, [], ◌∷◌, map, length, Option, Some, None, option_map, refl, sym, ap, ◌∙◌, subst, arith, inl, inr, Result, Ok, Err, MatchOption}
 use Rattle.kcr_base.specs.Same.{same_text}
-use Rattle.kcr_base.proofs.RefuseLemmas.{none_holds}
 use Rattle.kcr_base.specs.declared.refusal.Refusal.{Refusal}
 use Rattle.kcr_base.specs.declared.refusal.Refusal.TheVariants.{Key, Short, Memory}
 use Rattle.kcr_history.specs.declared.commands.Act.{Act}
@@ -11,38 +8,28 @@ use Rattle.kcr_history.specs.declared.commands.Act.TheVariants.{Enter, Train, Wi
 use Rattle.kcr_history.specs.declared.commands.Answer.{Answer}
 use Rattle.kcr_history.specs.declared.commands.Command.{Command}
 use Rattle.kcr_history.specs.declared.commands.Entry.{Entry}
-use Rattle.kcr_history.specs.declared.views.Change.TheVariants.{PutKey}
 use Rattle.kcr_history.specs.declared.views.Verdict.{Verdict}
 use Rattle.kcr_history.specs.declared.views.View.{View}
 use Rattle.kcr_history.specs.History.{History, entry_of}
-use Rattle.kcr_history.specs.Ceremonies.{facility_of, steps_of}
 use Rattle.kcr_history.specs.Texts.{command_text}
 use Rattle.kcr_history.specs.Seating.{IsFirst, IsLeast}
-use Rattle.kcr_history.specs.Tables.{SameTables, seats_at, keys, key_row, tables}
-use Rattle.kcr_history.specs.Changes.{changed_by}
+use Rattle.kcr_history.specs.Tables.{keys, key_row, tables}
 use Rattle.kcr_history.specs.Views.{greatest_number, row_of_key, IsViewOf}
 use Rattle.kcr_history.specs.Asked.{asks_by, asks_of}
-use Rattle.kcr_history.specs.Conditions.{conditions, fault, is_full}
+use Rattle.kcr_history.specs.Conditions.{fault, is_full}
 use Rattle.kcr_history.specs.Machine.{Accepts, Refuses, Sitting, sitting, answer_to, with_command, accepts, seats, acts, repeats, IsRegister, IsAcceptance, IsRepeat, IsDecision}
 use Rattle.kcr_history.proofs.Steps.{took, number_of_answer}
 use Rattle.kcr_history.proofs.Words.{row_of_key-keys}
-use Rattle.kcr_acts.specs.ByRows.{refusal_by, is_overdone, sitting_by, IsSeatedFor, IsUnseatedFor, all_changes_by, IsRefused}
-use Rattle.kcr_machine.specs.RowDecision.{is_full_by, answer_by, new_key_row, AcceptsNew, RepeatsRow, IsRowVerdict, IsRowDecision}
-use Rattle.kcr_scene.specs.Signing.{staff, IsSeatedBy, IsUnseatedBy}
-use Rattle.kcr_machine.proofs.Refusals.{enter-fault, train-fault, withdraw-fault, appoint-fault, replace-fault, release-fault}
-use Rattle.kcr_machine.proofs.Boxes.{add_box-fault}
-use Rattle.kcr_machine.proofs.Opening.{open-fault}
-use Rattle.kcr_machine.proofs.Planning.{plan-fault}
-use Rattle.kcr_machine.proofs.Closed.{close-fault}
-use Rattle.kcr_machine.proofs.Turned.{turn-fault}
-use Rattle.kcr_machine.proofs.AddedItems.{add_item-fault}
-use Rattle.kcr_machine.proofs.SheetFaults.{sheet-made, name-once, named_once, sheet-fault}
-use Rattle.kcr_machine.proofs.BagsFaults.{seal-fault, take-fault, put-fault, cut-fault}
-use Rattle.kcr_machine.proofs.Changes.{same-tables, leads}
-use Rattle.kcr_machine.proofs.InRoom.{present-shown}
-use Rattle.kcr_machine.proofs.Scenes.{facility-shown}
-use Rattle.kcr_machine.proofs.Signed.{sign-fault, except-fault, sign-there, seats-shown, fits-shown, staff-shown, seated-first, unseated-least, sign-leads, pass-leads, state-leads}
-use Rattle.kcr_machine.proofs.StepRows.{done-shown, not_overdone, stated-shown}
+use Rattle.kcr_acts.specs.ByRows.{refusal_by, is_overdone, sitting_by, IsSeatedFor, IsUnseatedFor, IsRefused}
+use Rattle.kcr_machine.specs.RowDecision.{is_full_by, answer_by, AcceptsNew, RepeatsRow, IsRowVerdict, IsRowDecision}
+use Rattle.kcr_scene.specs.Signing.{IsSeatedBy, IsUnseatedBy}
+use Rattle.kcr_machine.proofs.Ceremonies.{close-fault, open-fault, plan-fault}
+use Rattle.kcr_machine.proofs.Changes.{leads}
+use Rattle.kcr_machine.proofs.CustodyFaults.{add_box-fault, add_item-fault, cut-fault, put-fault, seal-fault, take-fault, turn-fault}
+use Rattle.kcr_machine.proofs.Refusals.{appoint-fault, enter-fault, release-fault, replace-fault, train-fault, withdraw-fault}
+use Rattle.kcr_machine.proofs.SheetFaults.{sheet-fault, sheet-made}
+use Rattle.kcr_machine.proofs.Signed.{except-fault, seated-first, seats-shown, sign-fault, sitting-is, unseated-least}
+use Rattle.kcr_machine.proofs.StepRows.{done-shown, not_overdone, sign-there, stated-shown}
 
 -- the greatest number is the number of entries
 greatest-keys : (A : History) → IsRegister A → greatest_number (keys A) ≡ length A
@@ -72,7 +59,7 @@ fault-shown A h key (Put ceremony serial to at) view v = put-fault A h ceremony 
 fault-shown A h key (Cut ceremony serial at) view v = cut-fault A h ceremony serial at key view v
 fault-shown A h key (AddItem c item at) view v = add_item-fault A h c item at key view v
 fault-shown A h key (Sheet c way all at) view v =
-    sheet-fault A h (sheet-made A h (name-once (λ B d w people t g. named_once people (none_holds (conditions B (Sheet d w people t)) g).1.1.1.1.0) A h)) c way all at key view v
+    sheet-fault A h (sheet-made A h) c way all at key view v
 fault-shown A h key (TurnSafe c safe state by at) view v = turn-fault A h c safe state by at key view v
 fault-shown A h key (Sign ceremony step at) view v = sign-fault A h ceremony step at key view v
 fault-shown A h key (Except ceremony text pass at) view v = except-fault A h ceremony text pass at key view v
@@ -93,43 +80,9 @@ sitting-shown A h key (Except c text true at) view v none = refl
 sitting-shown A h key (Except c text false at) view v none = refl
 sitting-shown A h key act view v none = refl
 
-same_sitting : (s t : Sitting) → Some s ≡ Some t → s ≡ t
-same_sitting s t e = cc
-
--- the people who are seated by the rows are the first seating of the history
-first-shown : (A : History) → IsRegister A → (key : List ℕ) (act : Act) (view : View) → IsViewOf (asks_by key act) (tables A) view
-    → (s : Sitting) (people : List (List ℕ)) → sitting A act ≡ Some s → IsSeatedBy view s people → IsFirst A s.ceremony s.at s.seats people
-first-shown A h key (Sign c k at) view v s people e =
-    let own : Sitting = record { ceremony = c; at = at; seats = seats_at (steps_of A c) k } in
-    subst (λ s. IsSeatedBy view s people → IsFirst A s.ceremony s.at s.seats people) (same_sitting own s e)
-    (seated-first A h view own (facility-shown A c view.ceremonies.items v.ceremonies) (present-shown A c view.stays.items v.stays.room at)
-    (λ j who. fits-shown A h view v.trainings v.withdrawals v.appointments (facility_of A c) (day_of at) (slice_get (seats_at (steps_of A c) k) j) who) people)
-first-shown A h key (Except c text true at) view v s people e =
-    let own : Sitting = record { ceremony = c; at = at; seats = staff } in
-    subst (λ s. IsSeatedBy view s people → IsFirst A s.ceremony s.at s.seats people) (same_sitting own s e)
-    (seated-first A h view own (facility-shown A c view.ceremonies.items v.ceremonies) (present-shown A c view.stays.items v.stays.room at)
-    (staff-shown A h view v.trainings v.withdrawals (facility_of A c) (day_of at)) people)
-first-shown A h key (Except c text false at) view v s people e = absurd (let f : None ≡ Some s = e in cc)
-first-shown A h key act view v s people e = absurd (let f : None ≡ Some s = e in cc)
-
 -- the seats that lack people by the rows are a least shortage of the history
 abbrev Lacks : History → Sitting → Refusal → Type 0
 Lacks A s refusal = (positions : List ℕ) × IsLeast A s.ceremony s.at s.seats positions × (refusal ≡ Short (map suc positions))
-
-least-shown : (A : History) → IsRegister A → (key : List ℕ) (act : Act) (view : View) → IsViewOf (asks_by key act) (tables A) view
-    → (s : Sitting) (refusal : Refusal) → sitting A act ≡ Some s → IsUnseatedBy view s refusal → Lacks A s refusal
-least-shown A h key (Sign c k at) view v s refusal e =
-    let own : Sitting = record { ceremony = c; at = at; seats = seats_at (steps_of A c) k } in
-    subst (λ s. IsUnseatedBy view s refusal → Lacks A s refusal) (same_sitting own s e)
-    (unseated-least A h view own (facility-shown A c view.ceremonies.items v.ceremonies) (present-shown A c view.stays.items v.stays.room at)
-    (λ j who. fits-shown A h view v.trainings v.withdrawals v.appointments (facility_of A c) (day_of at) (slice_get (seats_at (steps_of A c) k) j) who) refusal)
-least-shown A h key (Except c text true at) view v s refusal e =
-    let own : Sitting = record { ceremony = c; at = at; seats = staff } in
-    subst (λ s. IsUnseatedBy view s refusal → Lacks A s refusal) (same_sitting own s e)
-    (unseated-least A h view own (facility-shown A c view.ceremonies.items v.ceremonies) (present-shown A c view.stays.items v.stays.room at)
-    (staff-shown A h view v.trainings v.withdrawals (facility_of A c) (day_of at)) refusal)
-least-shown A h key (Except c text false at) view v s refusal e = absurd (let f : None ≡ Some s = e in cc)
-least-shown A h key act view v s refusal e = absurd (let f : None ≡ Some s = e in cc)
 
 -- the rows tell of no more steps done than a script has
 not_overdone-shown : (A : History) → IsRegister A → (key : List ℕ) (act : Act) (view : View) → IsViewOf (asks_by key act) (tables A) view → is_overdone view act ≡ false
@@ -151,22 +104,6 @@ answer-shown A h key (Except c text true at) view v people g =
 answer-shown A h key (Except c text false at) view v people g =
     rw (number-shown A (Except c text false at) key view h v, stated-shown A h c view.exceptions.items v.exceptions, g) refl
 answer-shown A h key act view v people g = rw (number-shown A act key view h v, g) refl
-
--- CHANGES
-
-abbrev one : List ℕ → Act → Command
-one key act = record { key = key; act = act }
-
--- the changes of an act that has no fault, with those of its seats, lead from the tables before it to those after it
-leads-all : (A : History) → IsRegister A → (key : List ℕ) (act : Act) (view : View) (people : Option (List (List ℕ))) (answer : Answer) → IsViewOf (asks_by key act) (tables A) view → entry_of A key ≡ None → fault A act ≡ None
-    → refusal_by view (is_full A) act ≡ None → IsSeatedFor view (sitting_by view act) people → answer ≡ answer_to A act people
-    → SameTables (changed_by (all_changes_by view act people ++ PutKey (new_key_row (one key act) answer) ∷ []) (tables A)) (tables (with_command A (one key act) answer))
-leads-all A h key (Sign c k at) view None answer v q f none g e = absurd g
-leads-all A h key (Sign c k at) view (Some people) answer v q f none g e = same-tables _ _ (sign-leads A h key c k at view people answer v q f e)
-leads-all A h key (Except c text true at) view None answer v q f none g e = absurd g
-leads-all A h key (Except c text true at) view (Some people) answer v q f none g e = same-tables _ _ (pass-leads A h key c text at view people answer v q f e)
-leads-all A h key (Except c text false at) view people answer v q f none g e = same-tables _ _ (state-leads A h key c text at view answer v q f e)
-leads-all A h key act view people answer v q f none g e = leads A h key act view answer v q f none refl
 
 -- ACCEPTED
 
@@ -192,10 +129,10 @@ accepted A x view verdict answer h v k g =
     let fine : fault A x.act ≡ None = sym (fault-shown A h x.key x.act view v) ∙ none in
     let next : answer ≡ answer_to A x.act answer.seating = g.next ∙ answer-shown A h x.key x.act view v answer.seating g.seated in
     let seated : IsSeatedFor view (sitting A x.act) answer.seating = subst (λ o. IsSeatedFor view o answer.seating) (sitting-shown A h x.key x.act view v none) g.seated in
-    let step = by_sitting A x view answer (sitting A x.act) seated (λ s ps. first-shown A h x.key x.act view v s ps) next in
+    let step = by_sitting A x view answer (sitting A x.act) seated (λ s ps e. seated-first A h view s (sitting-is A h x.key x.act view v s e) ps) next in
     record {
       step = rw (k, fine) step;
-      tables = rw g.changes (leads-all A h x.key x.act view answer.seating answer v k fine none g.seated next);
+      tables = rw g.changes (leads A h x.key x.act view answer.seating answer v k fine g.seated next);
       reply = g.reply;
     }
 
@@ -230,7 +167,7 @@ refused_new A h x view refusal ne v e (Some first) f g = rw (sym e ∙ f) (ap Re
 refused_new A h x view refusal ne v e None f g =
     let fine : fault A x.act ≡ None = sym e ∙ f in
     let w : IsUnseatedFor view (sitting A x.act) refusal = subst (λ o. IsUnseatedFor view o refusal) (sitting-shown A h x.key x.act view v f) g in
-    rw fine (unseated A x view refusal (sitting A x.act) w (λ s. least-shown A h x.key x.act view v s refusal))
+    rw fine (unseated A x view refusal (sitting A x.act) w (λ s e. unseated-least A h view s (sitting-is A h x.key x.act view v s e) refusal))
 
 refused : (A : History) (x : Command) (view : View) (refusal : Refusal) → refusal ≢ Memory → IsRegister A → IsViewOf (asks_of x) (tables A) view → (k : Option Entry)
     → MatchOption (option_map key_row k) (IsRefused view (is_full_by view) x.act refusal) (λ row. (same_text row.command (command_text x.act) ≡ false) × (refusal ≡ Key))

@@ -1,84 +1,153 @@
--- Tables whose rows are functions of their keys: a row is found in any order of the rows shown, and put under its key.
-use Rattle.std.proofs.Common.{◌≡◌, Bool, true, false, cond, ◌||◌, List, [], ◌∷◌, map, filter, Option, Some, None, find, refl, sym, ap, ◌∙◌}
+-- Tables whose rows are functions of their keys: what is found among the rows that a view shows, in any order, and what a row put under its key makes of a table.
+use Rattle.std.proofs.Common.{◌≡◌, Bool, true, false, cond, ◌&&◌, ◌||◌, List, [], ◌∷◌, map, filter, find, Option, Some, None, option_map, is_some, refl, sym, ap, ◌∙◌, inl, inr}
+use Rattle.std.specs.Prelude.{unwrap_or}
 use Rattle.std.specs.List.{list_any, AllByRecursion}
 use Rattle.std.specs.List.Sorted.{IsPermutation}
-use Rattle.std.proofs.lemmas.Bool.{both_ways, true≢false}
+use Rattle.std.proofs.lemmas.Bool.{both_ways, cases_Bool, or_parts}
 use Rattle.std.proofs.lemmas.List.Sorted.{list_any-IsPermutation, All-permutation}
 use Rattle.std.proofs.lemmas.List.Elements.{All-from_recursion, recursion_from_All, All-filter}
-use Rattle.kcr_base.specs.Rows.{put}
-use Rattle.kcr_machine.proofs.Shown.{any-filter}
-use Rattle.kcr_laws.proofs.Finds.{some_if, find-all}
+use Rattle.kcr_base.specs.Rows.{put, put_all}
+use Rattle.kcr_base.proofs.RowsLemmas.{filter-order}
+use Rattle.kcr_room.proofs.Lists as RoomLists
+use Rattle.kcr_room.proofs.Lists.{any-same, map-map, filter-kept}
+use Rattle.kcr_history.proofs.Stacked.{find-none}
+use Rattle.kcr_laws.proofs.Finds.{some_if, find-all, none-find, some-find}
+use Rattle.kcr_machine.proofs.Members.{IsIn, map-same-in}
 
 pub any-map : {X Y : Type 0} (test : Y → Bool) (f : X → Y) (xs : List X) → list_any test (map f xs) ≡ list_any (λ x. test (f x)) xs
 any-map test f [] = refl
 any-map test f (x ∷ xs) = ap (λ b. test (f x) || b) (any-map test f xs)
 
-unfilter : {X : Type 0} (test of : X → Bool) (v : X) → ((x : X) → test x ≡ true → of x ≡ true) → (rows : List X)
-    → AllByRecursion (λ x. test x ≡ true → x ≡ v) (filter of rows) → AllByRecursion (λ x. test x ≡ true → x ≡ v) rows
-unfilter test of v f [] a = tt
-unfilter test of v f (x ∷ rows) a = by_test (of x) refl (unfilter test of v f rows) a
+-- ROWS THAT ARE SHOWN: those of a table that pass `of`, in any order. Only such rows pass the test
+
+pub any-filter : {X : Type 0} (test of : X → Bool) → ((x : X) → test x ≡ true → of x ≡ true) → (rows : List X) → list_any test (filter of rows) ≡ list_any test rows
+any-filter test of inside rows = RoomLists.any-filter of test rows ∙ any-same (λ x. of x && test x) test rows (λ x. within (of x) (test x) (inside x))
   where
-    by_test : (b : Bool) → of x ≡ b → (AllByRecursion (λ x. test x ≡ true → x ≡ v) (filter of rows) → AllByRecursion (λ x. test x ≡ true → x ≡ v) rows) → AllByRecursion (λ x. test x ≡ true → x ≡ v) (cond b (x ∷ filter of rows) (filter of rows))
-        → (test x ≡ true → x ≡ v) × AllByRecursion (λ x. test x ≡ true → x ≡ v) rows
-    by_test true e ih a = (a.0, ih a.1)
-    by_test false e ih a = (λ q. absurd (both_ways _ e (f x q)), ih a)
+    within : (o t : Bool) → (t ≡ true → o ≡ true) → (o && t) ≡ t
+    within true t i = refl
+    within false true i = i refl
+    within false false i = refl
+
+-- what the test finds in the table it finds among them
+pub any-shown : {X : Type 0} (test of : X → Bool) → ((x : X) → test x ≡ true → of x ≡ true) → (table rows : List X) → IsPermutation (filter of table) (filter of rows)
+    → list_any test rows ≡ list_any test table
+any-shown test of inside table rows p =
+    sym (any-filter test of inside rows) ∙ sym (list_any-IsPermutation test (filter of table) (filter of rows) p) ∙ any-filter test of inside table
+
+-- what it keeps of the table it keeps of them, in some order
+pub filter-shown : {X : Type 0} (test of : X → Bool) → ((x : X) → test x ≡ true → of x ≡ true) → (table rows : List X) → IsPermutation (filter of table) (filter of rows)
+    → IsPermutation (filter test table) (filter test rows)
+filter-shown test of inside table rows p =
+    rw (← filter-kept test of table inside, ← filter-kept test of rows inside) (filter-order test (filter of table) (filter of rows) p)
+
+-- what holds of the rows that are asked for, and of all others, holds of all
+unfilter : {X : Type 0} (P : X → Type 0) (of : X → Bool) → ((x : X) → of x ≡ false → P x) → (rows : List X) → AllByRecursion P (filter of rows) → AllByRecursion P rows
+unfilter P of other [] a = tt
+unfilter P of other (x ∷ rows) a = elim (cases_Bool (of x)) [
+  | inl e ↦ let b = rw e at a in (b.0, unfilter P of other rows b.1)
+  | inr e ↦ (other x e, unfilter P of other rows (rw e at a))
+]
+
+-- where all rows of the table that pass are one, that one is found
+pub found-shown : {X : Type 0} (test of : X → Bool) (v : X) → ((x : X) → test x ≡ true → of x ≡ true) → (table rows : List X) → IsPermutation (filter of table) (filter of rows)
+    → AllByRecursion (λ x. test x ≡ true → x ≡ v) table → find test rows ≡ some_if (list_any test table) v
+found-shown {X} test of v inside table rows p only =
+    let P : X → Type 0 = λ x. test x ≡ true → x ≡ v in
+    let shown = recursion_from_All P (filter of rows) (All-permutation P (filter of table) (filter of rows) p (All-filter of P table (All-from_recursion P table only))) in
+    find-all test v rows (unfilter P of (λ x e t. absurd (both_ways (of x) e (inside x t))) rows shown) ∙ ap (λ b. some_if b v) (any-shown test of inside table rows p)
+
+pub find-shown : {X : Type 0} (test of : X → Bool) → ((x : X) → test x ≡ true → of x ≡ true) → (table rows : List X) → IsPermutation (filter of table) (filter of rows)
+    → ((r : X) → find test table ≡ Some r → AllByRecursion (λ row. test row ≡ true → row ≡ r) table) → find test rows ≡ find test table
+find-shown {X} test of inside table rows p only = by_row (find test table) refl
+  where
+    by_row : (o : Option X) → find test table ≡ o → find test rows ≡ o
+    by_row None e = find-none test rows (any-shown test of inside table rows p ∙ none-find test table e)
+    by_row (Some r) e = found-shown test of r inside table rows p (only r e) ∙ ap (λ b. some_if b r) (some-find test r table e)
+
+-- what that one says is what the history says, where it is there exactly where the history says something
+pub said-shown : {X Y : Type 0} (test of : X → Bool) (v : X) (says : X → Y) (said : Option Y) (other : Y) → ((x : X) → test x ≡ true → of x ≡ true) → (table rows : List X)
+    → IsPermutation (filter of table) (filter of rows) → AllByRecursion (λ x. test x ≡ true → x ≡ v) table → list_any test table ≡ is_some said → says v ≡ unwrap_or said other
+    → option_map says (find test rows) ≡ said
+said-shown {X} {Y} test of v says said other inside table rows p only there own =
+    ap (option_map says) (found-shown test of v inside table rows p only ∙ ap (λ b. some_if b v) there) ∙ by_said said own
+  where
+    by_said : (o : Option Y) → says v ≡ unwrap_or o other → option_map says (some_if (is_some o) v) ≡ o
+    by_said None e = refl
+    by_said (Some y) e = ap Some e
+
+-- THE SAME OF ROWS THAT ARE FUNCTIONS OF THEIR KEYS
 
 all-keys : {K X : Type 0} (test : X → Bool) (row_of : K → X) (v : X) → ((k : K) → test (row_of k) ≡ true → row_of k ≡ v) → (keys : List K)
     → AllByRecursion (λ x. test x ≡ true → x ≡ v) (map row_of keys)
 all-keys test row_of v same [] = tt
 all-keys test row_of v same (k ∷ keys) = (same k, all-keys test row_of v same keys)
 
--- a row that is a function of its key is found in any order, where only the rows under a key of theirs are shown
-pub find-view : {K X : Type 0} (test of : X → Bool) (row_of : K → X) (v : X)
-    → ((x : X) → test x ≡ true → of x ≡ true) → ((k : K) → test (row_of k) ≡ true → row_of k ≡ v)
-    → (keys : List K) (rows : List X) → IsPermutation (filter of (map row_of keys)) (filter of rows)
-    → find test rows ≡ some_if (list_any (λ k. test (row_of k)) keys) v
+pub find-view : {K X : Type 0} (test of : X → Bool) (row_of : K → X) (v : X) → ((x : X) → test x ≡ true → of x ≡ true) → ((k : K) → test (row_of k) ≡ true → row_of k ≡ v)
+    → (keys : List K) (rows : List X) → IsPermutation (filter of (map row_of keys)) (filter of rows) → find test rows ≡ some_if (list_any (λ k. test (row_of k)) keys) v
 find-view test of row_of v inside same keys rows p =
-    let all = All-permutation (λ x. test x ≡ true → x ≡ v) (filter of (map row_of keys)) (filter of rows) p
-    (All-filter of (λ x. test x ≡ true → x ≡ v) (map row_of keys) (All-from_recursion (λ x. test x ≡ true → x ≡ v) (map row_of keys) (all-keys test row_of v same keys))) in
-    let some : list_any test rows ≡ list_any (λ k. test (row_of k)) keys
-    = sym (any-filter test of inside rows) ∙ sym (list_any-IsPermutation test (filter of (map row_of keys)) (filter of rows) p) ∙ any-filter test of inside (map row_of keys) ∙ any-map test row_of keys in
-    find-all test v rows (unfilter test of v inside rows (recursion_from_All (λ x. test x ≡ true → x ≡ v) (filter of rows) all)) ∙ ap (λ b. some_if b v) some
+    found-shown test of v inside (map row_of keys) rows p (all-keys test row_of v same keys) ∙ ap (λ b. some_if b v) (any-map test row_of keys)
 
--- A ROW IS PUT
+pub said-view : {K X Y : Type 0} (test of : X → Bool) (row_of : K → X) (v : X) (says : X → Y) (said : Option Y) (other : Y) → ((x : X) → test x ≡ true → of x ≡ true)
+    → ((k : K) → test (row_of k) ≡ true → row_of k ≡ v) → (keys : List K) (rows : List X) → IsPermutation (filter of (map row_of keys)) (filter of rows)
+    → list_any (λ k. test (row_of k)) keys ≡ is_some said → says v ≡ unwrap_or said other → option_map says (find test rows) ≡ said
+said-view test of row_of v says said other inside same keys rows p there own =
+    said-shown test of v says said other inside (map row_of keys) rows p (all-keys test row_of v same keys) (any-map test row_of keys ∙ there) own
+
+-- ROWS ARE PUT
 
 -- a row whose key is not there is put in front
 pub put-new : {X : Type 0} (same : X → X → Bool) (row : X) (rows : List X) → list_any (same row) rows ≡ false → put same row rows ≡ row ∷ rows
 put-new same row rows h = rw h
 
--- g gives the new row at the key, and elsewhere what f gives
-module _ {K X : Type 0} (same : X → X → Bool) (is_key : K → Bool) (f g : K → X) (row : X)
-    (by_key : (k : K) → same row (f k) ≡ is_key k) (here : (k : K) → is_key k ≡ true → row ≡ g k) (elsewhere : (k : K) → is_key k ≡ false → f k ≡ g k) where
-  put-one : (k : K) (b : Bool) → is_key k ≡ b → cond b row (f k) ≡ g k
-  put-one k true e = here k e
-  put-one k false e = elsewhere k e
-
-  put-all : (ks : List K) → map (λ old. cond (same row old) row old) (map f ks) ≡ map g ks
-  put-all [] = refl
-  put-all (k ∷ ks) = rw (by_key k) (ap (λ x. x ∷ map (λ old. cond (same row old) row old) (map f ks)) (put-one k (is_key k) refl) ∙ ap (λ xs. g k ∷ xs) (put-all ks))
-
-  is-there : (ks : List K) → list_any (same row) (map f ks) ≡ list_any is_key ks
-  is-there [] = refl
-  is-there (k ∷ ks) = ap (λ b. b || list_any (same row) (map f ks)) (by_key k) ∙ ap (λ b. is_key k || b) (is-there ks)
-
-  -- the row under a key that is there
-  pub put-at : (ks : List K) → list_any is_key ks ≡ true → put same row (map f ks) ≡ map g ks
-  put-at ks h = rw (is-there ks, h) (put-all ks)
-
--- where no key changes its row, the rows stay
-pub rows-stay : {K X : Type 0} (f g : K → X) → ((k : K) → f k ≡ g k) → (ks : List K) → map f ks ≡ map g ks
-rows-stay f g same [] = refl
-rows-stay f g same (k ∷ ks) = rw (same k, rows-stay f g same ks) refl
-
--- a new row in front, where no other key changes its row
+-- where no other key changes its row
 pub put-first : {K X : Type 0} (same : X → X → Bool) (f g : K → X) (row : X) → ((k : K) → same row (f k) ≡ false → f k ≡ g k) → (ks : List K)
-    → list_any (same row) (map f ks) ≡ false → put same row (map f ks) ≡ row ∷ map g ks
-put-first {K = K} same f g row keep ks h = put-new same row (map f ks) h ∙ ap (λ rows. row ∷ rows) (kept ks h)
+    → list_any (λ k. same row (f k)) ks ≡ false → put same row (map f ks) ≡ row ∷ map g ks
+put-first {K} same f g row keep ks new = put-new same row (map f ks) (any-map (same row) f ks ∙ new) ∙ ap (λ rows. row ∷ rows) (kept ks new)
   where
-    both : (k : Bool) (r : Bool) → (k || r) ≡ false → (k ≡ false) × (r ≡ false)
-    both true r e = absurd (true≢false e)
-    both false r e = (refl, e)
-
-    kept : (ks : List K) → list_any (same row) (map f ks) ≡ false → map f ks ≡ map g ks
+    kept : (ks : List K) → list_any (λ k. same row (f k)) ks ≡ false → map f ks ≡ map g ks
     kept [] h = refl
-    kept (k ∷ ks) h = let p = both (same row (f k)) (list_any (same row) (map f ks)) h in rw (keep k p.0, kept ks p.1) refl
+    kept (k ∷ ks) h = let p = or_parts (same row (f k)) (list_any (λ k. same row (f k)) ks) h in rw (keep k p.0, kept ks p.1) refl
+
+-- a row under a key that is there: g gives the new row at the key, and elsewhere what f gives
+put-there : {K X : Type 0} (same : X → X → Bool) (f g : K → X) (row : X) (ks : List K) → list_any (λ k. same row (f k)) ks ≡ true
+    → ((k : K) → IsIn k ks → cond (same row (f k)) row (f k) ≡ g k) → put same row (map f ks) ≡ map g ks
+put-there same f g row ks there now =
+    rw (any-map (same row) f ks ∙ there) (map-map (λ old. cond (same row old) row old) f ks ∙ map-same-in (λ k. cond (same row (f k)) row (f k)) g ks now)
+
+by_key : {X : Type 0} (b : Bool) (row old new : X) → (b ≡ true → row ≡ new) → (b ≡ false → old ≡ new) → cond b row old ≡ new
+by_key true row old new here elsewhere = here refl
+by_key false row old new here elsewhere = elsewhere refl
+
+pub put-at : {K X : Type 0} (same : X → X → Bool) (f g : K → X) (row : X) → ((k : K) → same row (f k) ≡ true → row ≡ g k) → ((k : K) → same row (f k) ≡ false → f k ≡ g k) → (ks : List K)
+    → list_any (λ k. same row (f k)) ks ≡ true → put same row (map f ks) ≡ map g ks
+put-at same f g row here elsewhere ks there = put-there same f g row ks there (λ k i. by_key (same row (f k)) row (f k) (g k) (here k) (elsewhere k))
+
+-- rows under keys that are all there, one after the other: each that is put is the new row of its key
+module _ {K X : Type 0} (same : X → X → Bool) (is : K → K → Bool) (new : K → X) (new_key : (c k : K) → same (new c) (new k) ≡ is c k) (all : List K) where
+  pub put-rows : (cs : List K) → ((c : K) → IsIn c cs → list_any (is c) all ≡ true) → ((c k : K) → IsIn c cs → IsIn k all → is c k ≡ true → new c ≡ new k)
+      → (f : K → X) → ((c k : K) → same (new c) (f k) ≡ is c k) → put_all same (map new cs) (map f all) ≡ map (λ k. cond (list_any (λ c. is c k) cs) (new k) (f k)) all
+  put-rows [] there one f key = refl
+  put-rows (c ∷ cs) there one f key =
+      ap (put_all same (map new cs)) (put-there same f next (new c) all (any-same (λ k. same (new c) (f k)) (is c) all (key c) ∙ there c (inl refl)) now)
+      ∙ put-rows cs (λ d i. there d (inr i)) (λ d k i. one d k (inr i)) next next-key
+      ∙ map-same-in (λ k. cond (list_any (λ d. is d k) cs) (new k) (next k)) (λ k. cond (is c k || list_any (λ d. is d k) cs) (new k) (f k)) all
+      (λ k i. merge (list_any (λ d. is d k) cs) (is c k) (new k) (f k))
+    where
+      next : K → X
+      next k = cond (is c k) (new k) (f k)
+
+      now : (k : K) → IsIn k all → cond (same (new c) (f k)) (new c) (f k) ≡ next k
+      now k i = rw (key c k) (by_key (is c k) (new c) (f k) (next k) (λ e. rw e (one c k (inl refl) i e)) (λ e. rw e refl))
+
+      next-key : (d k : K) → same (new d) (next k) ≡ is d k
+      next-key d k = by_test (is c k)
+        where
+          by_test : (b : Bool) → same (new d) (cond b (new k) (f k)) ≡ is d k
+          by_test true = new_key d k
+          by_test false = key d k
+
+      merge : (a b : Bool) (u v : X) → cond a u (cond b u v) ≡ cond (b || a) u v
+      merge true true u v = refl
+      merge true false u v = refl
+      merge false true u v = refl
+      merge false false u v = refl

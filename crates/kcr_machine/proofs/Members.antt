@@ -1,8 +1,8 @@
 -- What is in a list.
-use Rattle.std.proofs.Common.{◌≡◌, Bool, true, false, cond, ◌||◌, List, [], ◌∷◌, ◌++◌, map, filter, Option, Some, None, refl, sym, ap, ◌∙◌, subst, ◌⊎◌, inl, inr}
-use Rattle.std.specs.List.{list_any, AllByRecursion, filter_map, cons_option}
+use Rattle.std.proofs.Common.{◌≡◌, Bool, true, false, cond, List, [], ◌∷◌, ◌++◌, map, filter, find, Option, Some, None, refl, sym, ap, ◌∙◌, subst, ◌⊎◌, inl, inr}
+use Rattle.std.specs.List.{list_any, list_all, AllByRecursion, filter_map, cons_option}
 use Rattle.std.specs.List.Sorted.{IsPermutation}
-use Rattle.std.proofs.lemmas.Bool.{true≢false, false≢true}
+use Rattle.std.proofs.lemmas.Bool.{true≢false, false≢true, cases_Bool, or_left, or_right, false_from_ne_true}
 use Rattle.std.proofs.lemmas.List.Sorted.{All-permutation}
 use Rattle.std.proofs.lemmas.List.Elements.{All-from_recursion, recursion_from_All}
 
@@ -35,79 +35,90 @@ map-in f x [] i = absurd i
 map-in f x (z ∷ xs) (inl e) = inl (ap f e)
 map-in f x (z ∷ xs) (inr i) = inr (map-in f x xs i)
 
-pub in-filter : {X : Type 0} (test : X → Bool) (x : X) (xs : List X) → IsIn x (filter test xs) → IsIn x xs × (test x ≡ true)
-in-filter test x [] i = absurd i
-in-filter test x (z ∷ xs) i = by_test (test z) refl i (in-filter test x xs)
-  where
-    by_test : (b : Bool) → test z ≡ b → IsIn x (cond b (z ∷ filter test xs) (filter test xs)) → (IsIn x (filter test xs) → IsIn x xs × (test x ≡ true)) → ((x ≡ z) ⊎ IsIn x xs) × (test x ≡ true)
-    by_test true e (inl same) ih = (inl same, ap test same ∙ e)
-    by_test true e (inr j) ih = let k = ih j in (inr k.0, k.1)
-    by_test false e j ih = let k = ih j in (inr k.0, k.1)
-
-pub filter-in : {X : Type 0} (test : X → Bool) (x : X) (xs : List X) → IsIn x xs → test x ≡ true → IsIn x (filter test xs)
-filter-in test x [] i t = absurd i
-filter-in test x (z ∷ xs) i t = by_test (test z) refl i (filter-in test x xs)
-  where
-    by_test : (b : Bool) → test z ≡ b → (x ≡ z) ⊎ IsIn x xs → (IsIn x xs → test x ≡ true → IsIn x (filter test xs)) → IsIn x (cond b (z ∷ filter test xs) (filter test xs))
-    by_test true e (inl same) ih = inl same
-    by_test true e (inr j) ih = inr (ih j t)
-    by_test false e (inl same) ih = absurd (true≢false (sym t ∙ ap test same ∙ e))
-    by_test false e (inr j) ih = ih j t
-
 pub in-filter_map : {X Y : Type 0} (f : X → Option Y) (y : Y) (xs : List X) → IsIn y (filter_map f xs) → (x : X) × IsIn x xs × (f x ≡ Some y)
 in-filter_map f y [] i = absurd i
-in-filter_map {X} {Y} f y (z ∷ xs) i = by_value (f z) refl i (in-filter_map f y xs)
+in-filter_map {X} {Y} f y (z ∷ xs) i = by_value (f z) refl i (λ j. let k = in-filter_map f y xs j in (k.0, inr k.1, k.2))
   where
-    by_value : (o : Option Y) → f z ≡ o → IsIn y (cons_option o (filter_map f xs)) → (IsIn y (filter_map f xs) → (x : X) × IsIn x xs × (f x ≡ Some y)) → (x : X) × ((x ≡ z) ⊎ IsIn x xs) × (f x ≡ Some y)
-    by_value None e j ih = let k = ih j in (k.0, inr k.1, k.2)
-    by_value (Some v) e (inl same) ih = (z, inl refl, e ∙ ap Some (sym same))
-    by_value (Some v) e (inr j) ih = let k = ih j in (k.0, inr k.1, k.2)
+    by_value : (o : Option Y) → f z ≡ o → IsIn y (cons_option o (filter_map f xs)) → (IsIn y (filter_map f xs) → (x : X) × IsIn x (z ∷ xs) × (f x ≡ Some y)) → (x : X) × IsIn x (z ∷ xs) × (f x ≡ Some y)
+    by_value None e j later = later j
+    by_value (Some v) e (inl same) later = (z, inl refl, e ∙ ap Some (sym same))
+    by_value (Some v) e (inr j) later = later j
 
 pub filter_map-in : {X Y : Type 0} (f : X → Option Y) (x : X) (y : Y) (xs : List X) → IsIn x xs → f x ≡ Some y → IsIn y (filter_map f xs)
 filter_map-in f x y [] i e = absurd i
-filter_map-in {X} {Y} f x y (z ∷ xs) i e = by_value (f z) refl i (filter_map-in f x y xs)
+filter_map-in f x y (z ∷ xs) (inl same) e = rw (sym (ap f same) ∙ e) (inl refl)
+filter_map-in {X} {Y} f x y (z ∷ xs) (inr i) e = by_value (f z) (filter_map-in f x y xs i e)
   where
-    by_value : (o : Option Y) → f z ≡ o → (x ≡ z) ⊎ IsIn x xs → (IsIn x xs → f x ≡ Some y → IsIn y (filter_map f xs)) → IsIn y (cons_option o (filter_map f xs))
-    by_value None g (inl same) ih = absurd (let h : None ≡ Some y = sym g ∙ ap f (sym same) ∙ e in cc)
-    by_value None g (inr j) ih = ih j e
-    by_value (Some v) g (inl same) ih = inl (let h : Some v ≡ Some y = sym g ∙ ap f (sym same) ∙ e in sym (inside v y h))
-      where
-        inside : (a b : Y) → Some a ≡ Some b → a ≡ b
-        inside a b h = cc
-    by_value (Some v) g (inr j) ih = inr (ih j e)
+    by_value : (o : Option Y) → IsIn y (filter_map f xs) → IsIn y (cons_option o (filter_map f xs))
+    by_value None j = j
+    by_value (Some v) j = inr j
+
+pub in-filter : {X : Type 0} (test : X → Bool) (x : X) (xs : List X) → IsIn x (filter test xs) → IsIn x xs × (test x ≡ true)
+in-filter test x [] i = absurd i
+in-filter {X} test x (z ∷ xs) i = by_test (test z) refl i (λ j. let k = in-filter test x xs j in (inr k.0, k.1))
+  where
+    by_test : (b : Bool) → test z ≡ b → IsIn x (cond b (z ∷ filter test xs) (filter test xs)) → (IsIn x (filter test xs) → IsIn x (z ∷ xs) × (test x ≡ true)) → IsIn x (z ∷ xs) × (test x ≡ true)
+    by_test true e (inl same) later = (inl same, ap test same ∙ e)
+    by_test true e (inr j) later = later j
+    by_test false e j later = later j
+
+pub filter-in : {X : Type 0} (test : X → Bool) (x : X) (xs : List X) → IsIn x xs → test x ≡ true → IsIn x (filter test xs)
+filter-in test x [] i t = absurd i
+filter-in test x (z ∷ xs) (inl same) t = rw (sym (ap test same) ∙ t) (inl same)
+filter-in test x (z ∷ xs) (inr i) t = by_test (test z) (filter-in test x xs i t)
+  where
+    by_test : (b : Bool) → IsIn x (filter test xs) → IsIn x (cond b (z ∷ filter test xs) (filter test xs))
+    by_test true j = inr j
+    by_test false j = j
 
 -- TESTS
 
 pub any-in : {X : Type 0} (test : X → Bool) (xs : List X) → list_any test xs ≡ true → (x : X) × IsIn x xs × (test x ≡ true)
 any-in test [] h = absurd (false≢true h)
-any-in {X} test (z ∷ xs) h = by_test (test z) refl h (any-in test xs)
-  where
-    by_test : (b : Bool) → test z ≡ b → (b || list_any test xs) ≡ true → (list_any test xs ≡ true → (x : X) × IsIn x xs × (test x ≡ true)) → (x : X) × ((x ≡ z) ⊎ IsIn x xs) × (test x ≡ true)
-    by_test true e g ih = (z, inl refl, e)
-    by_test false e g ih = let k = ih g in (k.0, inr k.1, k.2)
+any-in test (z ∷ xs) h = elim (cases_Bool (test z)) [
+  | inl e ↦ (z, inl refl, e)
+  | inr e ↦ let k = any-in test xs (rw e at h) in (k.0, inr k.1, k.2)
+]
 
 pub in-any : {X : Type 0} (test : X → Bool) (x : X) (xs : List X) → IsIn x xs → test x ≡ true → list_any test xs ≡ true
 in-any test x [] i t = absurd i
-in-any test x (z ∷ xs) (inl e) t = ap (λ b. b || list_any test xs) (sym (ap test e) ∙ t)
+in-any test x (z ∷ xs) (inl e) t = or_left (test z) (list_any test xs) (sym (ap test e) ∙ t)
 in-any test x (z ∷ xs) (inr i) t = or_right (test z) (list_any test xs) (in-any test x xs i t)
-  where
-    or_right : (a b : Bool) → b ≡ true → (a || b) ≡ true
-    or_right true b h = refl
-    or_right false b h = h
+
+-- a test that implies another finds no more
+pub any-imp : {X : Type 0} (p q : X → Bool) → ((x : X) → p x ≡ true → q x ≡ true) → (xs : List X) → list_any p xs ≡ true → list_any q xs ≡ true
+any-imp p q imp xs h = let a = any-in p xs h in in-any q a.0 xs a.1 (imp a.0 a.2)
 
 -- what no test finds does not pass it
 pub none-in : {X : Type 0} (test : X → Bool) (x : X) (xs : List X) → list_any test xs ≡ false → IsIn x xs → test x ≡ false
-none-in test x xs h i = by_test (test x) refl
-  where
-    by_test : (b : Bool) → test x ≡ b → b ≡ false
-    by_test false e = refl
-    by_test true e = absurd (true≢false (sym (in-any test x xs i e) ∙ h))
+none-in test x xs h i = false_from_ne_true (test x) (λ e. true≢false (sym (in-any test x xs i e) ∙ h))
+
+-- and where nothing passes it, it finds nothing
+pub none-passes : {X : Type 0} (test : X → Bool) (xs : List X) → ((x : X) → IsIn x xs → test x ≡ false) → list_any test xs ≡ false
+none-passes test xs h = false_from_ne_true (list_any test xs) (λ e. let a = any-in test xs e in true≢false (sym a.2 ∙ h a.0 a.1))
+
+pub filter-none : {X : Type 0} (test : X → Bool) (xs : List X) → ((x : X) → IsIn x xs → test x ≡ false) → filter test xs ≡ []
+filter-none test [] h = refl
+filter-none test (x ∷ xs) h = rw (h x (inl refl)) (filter-none test xs (λ y i. h y (inr i)))
 
 pub same-answers : (a b : Bool) → (a ≡ true → b ≡ true) → (b ≡ true → a ≡ true) → a ≡ b
-same-answers true true f g = refl
-same-answers true false f g = sym (f refl)
+same-answers true b f g = sym (f refl)
 same-answers false true f g = g refl
 same-answers false false f g = refl
+
+-- WHAT AGREES ON A LIST
+
+pub map-same-in : {X Y : Type 0} (f g : X → Y) (xs : List X) → ((x : X) → IsIn x xs → f x ≡ g x) → map f xs ≡ map g xs
+map-same-in f g [] h = refl
+map-same-in f g (x ∷ xs) h = rw (h x (inl refl), map-same-in f g xs (λ y i. h y (inr i))) refl
+
+pub all-same-in : {X : Type 0} (p q : X → Bool) (xs : List X) → ((x : X) → IsIn x xs → p x ≡ q x) → list_all p xs ≡ list_all q xs
+all-same-in p q [] h = refl
+all-same-in p q (x ∷ xs) h = rw (h x (inl refl), all-same-in p q xs (λ y i. h y (inr i))) refl
+
+pub find-same-in : {X : Type 0} (p q : X → Bool) (xs : List X) → ((x : X) → IsIn x xs → p x ≡ q x) → find p xs ≡ find q xs
+find-same-in p q [] h = refl
+find-same-in p q (x ∷ xs) h = rw (h x (inl refl), find-same-in p q xs (λ y i. h y (inr i))) refl
 
 -- ANOTHER ORDER
 

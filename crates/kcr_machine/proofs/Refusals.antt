@@ -1,9 +1,9 @@
 -- The first refusal by the rows of a view is the fault by the history.
-use Rattle.std.proofs.Common.{◌≡◌, ℕ, Bool, true, false, ◌||◌, ◌&&◌, eqb, List, [], ◌∷◌, filter, sym, ◌∙◌, is_none}
+use Rattle.std.proofs.Common.{◌≡◌, ℕ, true, false, ◌&&◌, eqb, List, [], ◌∷◌, filter, sym, ◌∙◌, is_none}
 use Rattle.std.specs.List.{list_any}
 use Rattle.std.specs.List.Sorted.{IsPermutation}
 use Rattle.std.proofs.lemmas.List.Sorted.{list_any-IsPermutation}
-use Rattle.std.proofs.lemmas.Bool.{and_parts}
+use Rattle.std.proofs.lemmas.Bool.{or_left, and_parts}
 use Rattle.std.specs.Cmp.Lexicographic.{bytes_decides}
 use Rattle.kcr_base.specs.Same.{same_text, same_role, same_place}
 use Rattle.kcr_base.specs.declared.place.Place.{Place}
@@ -27,18 +27,15 @@ use Rattle.kcr_history.proofs.Stacked.{open-order, only-one}
 use Rattle.kcr_history.proofs.Orderly.{orderly}
 use Rattle.kcr_history.proofs.Settled.{settled-rows}
 use Rattle.kcr_acts.specs.ByRows.{refusal_by}
-use Rattle.kcr_machine.proofs.Shown.{any-shown, find-shown}
+use Rattle.kcr_machine.proofs.Keyed.{any-shown, find-shown}
 use Rattle.kcr_machine.proofs.Withdrawn.{trained_from-shown}
 
 text-turn : (a b : List ℕ) → same_text a b ≡ true → same_text b a ≡ true
 text-turn a b h = (bytes_decides b a).1 (sym ((bytes_decides a b).0 h))
 
-or_left : (a b : Bool) → a ≡ true → (a || b) ≡ true
-or_left a b h = rw h
-
 -- WORDS ON THE ROWS THAT A VIEW SHOWS
 
-person-shown : (A : History) (who : List ℕ) (rows : List Person) → IsPermutation (filter (is_of_people (who ∷ [])) (people A)) (filter (is_of_people (who ∷ [])) rows) → is_person_by rows who ≡ is_person A who
+pub person-shown : (A : History) (who : List ℕ) (rows : List Person) → IsPermutation (filter (is_of_people (who ∷ [])) (people A)) (filter (is_of_people (who ∷ [])) rows) → is_person_by rows who ≡ is_person A who
 person-shown A who rows p =
     any-shown (λ row. same_text row.who who) (is_of_people (who ∷ [])) (λ row h. or_left (same_text row.who who) false h) (people A) rows p ∙ is_person-people A who
 
@@ -62,9 +59,9 @@ put-shown : (A : History) (who : List ℕ) (rows : List Appointment) → IsPermu
 put-shown A who rows p = any-shown (λ row. same_text row.who who) (is_appointment_of (Appointments.Person who)) (λ row h. h) (appointments A) rows p
 
 -- the open appointment of a place, among those of the place
-pub open-shown : (A : History) → IsRegister A → (place : Place) (rows : List Appointment) → IsPermutation (filter (is_appointment_of (Appointments.Place place)) (appointments A)) (filter (is_appointment_of (Appointments.Place place)) rows)
+pub open_row-shown : (A : History) → IsRegister A → (place : Place) (rows : List Appointment) → IsPermutation (filter (is_appointment_of (Appointments.Place place)) (appointments A)) (filter (is_appointment_of (Appointments.Place place)) rows)
     → open_row_by rows place ≡ open_row_by (appointments A) place
-open-shown A h place rows p =
+open_row-shown A h place rows p =
     find-shown (stands place) (is_appointment_of (Appointments.Place place)) (λ row e. (and_parts (same_place row.place place) (is_none row.until) e).0) (appointments A) rows p
     (λ r e. only-one place r (appointments A) (orderly A h).0 e)
 
@@ -117,4 +114,4 @@ replace-fault A h place who day key view v =
 
 pub release-fault : (A : History) → IsRegister A → (place : Place) (day : ℕ) (key : List ℕ) (view : View) → IsViewOf (asks_by key (Release place day)) (tables A) view
     → refusal_by view (is_full A) (Release place day) ≡ fault A (Release place day)
-release-fault A h place day key view v = rw (open-shown A h place view.appointments.items v.appointments, settled-rows A view.marks.items v.marks)
+release-fault A h place day key view v = rw (open_row-shown A h place view.appointments.items v.appointments, settled-rows A view.marks.items v.marks)

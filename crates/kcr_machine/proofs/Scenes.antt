@@ -1,12 +1,12 @@
 -- What the rows of a view say of a ceremony is what the history says of it.
-use Rattle.std.proofs.Common.{◌≡◌, ℕ, Bool, true, false, cond, not, ◌||◌, ◌&&◌, eqb, nat_lt, List, [], ◌∷◌, map, filter, Option, Some, None, option_map, is_none, refl, sym, ap, ◌∙◌, subst, arith}
+use Rattle.std.proofs.Common.{◌≡◌, ℕ, Bool, true, false, cond, ◌||◌, ◌&&◌, eqb, nat_lt, List, [], ◌∷◌, ◌++◌, map, filter, Option, Some, None, option_map, is_none, refl, sym, ap, ◌∙◌, subst, arith}
 use Rattle.std.specs.Prelude.{is_some, unwrap_or}
 use Rattle.std.specs.List.{list_any, cons_option}
 use Rattle.std.specs.List.Sorted.{IsPermutation}
 use Rattle.std.specs.Result.{result_unwrap_or}
-use Rattle.std.proofs.lemmas.Bool.{true≢false, false≢true, eqb-true, eq-eqb, and_parts, ltb-false}
+use Rattle.std.proofs.lemmas.Bool.{true≢false, false≢true, eqb-true, eq-eqb, and_parts, and_left, ltb-false, false_from_ne_true}
 use Rattle.kcr_base.specs.Rows.{put, or_else}
-use Rattle.kcr_base.specs.Refuse.{when, first_of}
+use Rattle.kcr_base.specs.Refuse.{first_of}
 use Rattle.kcr_base.specs.declared.place.Facility.TheVariants.{East}
 use Rattle.kcr_base.specs.declared.refusal.Refusal.{Refusal}
 use Rattle.kcr_base.specs.declared.refusal.Refusal.TheVariants.{Unknown, State, Late}
@@ -24,27 +24,36 @@ use Rattle.kcr_history.specs.declared.rows.CeremonyState.TheVariants as States
 use Rattle.kcr_history.specs.declared.rows.MarkRow.{MarkRow}
 use Rattle.kcr_history.specs.declared.views.View.{View}
 use Rattle.kcr_history.specs.History.{History, all_said, greatest, max_with}
-use Rattle.kcr_history.specs.Ceremonies.{Planned, planned_as, plan_of, is_ceremony, facility_of, day_planned, opening, opened, closed, is_open, marked, mark, opened_number}
+use Rattle.kcr_history.specs.Ceremonies.{Planned, planned_as, plan_of, is_ceremony, facility_of, opening, opened, closed, is_open, marked, mark, opened_number}
 use Rattle.kcr_history.specs.Tables.{planned_number, ceremony_row, ceremonies, mark_row, marks}
 use Rattle.kcr_history.specs.Changes.{same_mark}
 use Rattle.kcr_history.specs.Views.{is_of_number, is_mark_of}
 use Rattle.kcr_history.specs.Conditions.{conditions, fault, is_full, full, not_open, is_late, late}
 use Rattle.kcr_history.specs.Machine.{IsRegister}
 use Rattle.kcr_history.proofs.Steps.{took}
-use Rattle.kcr_scene.specs.Scene.{ceremony_by, facility_by, day_by, is_open_state, is_open_row, mark_by, scene_by}
-use Rattle.kcr_machine.proofs.Keyed.{any-map, find-view, put-at, put-first}
+use Rattle.kcr_scene.specs.Scene.{ceremony_by, facility_by, is_open_state, is_open_row, mark_by, scene_by}
 use Rattle.kcr_laws.proofs.Finds.{some_if}
-
-pub met : (b : Bool) (r : Refusal) → when (not b) r ≡ None → b ≡ true
-met true r h = refl
-met false r h = absurd (let e : Some r ≡ None = h in cc)
+use Rattle.kcr_machine.proofs.FirstRefusals.{behind, met, nested}
+use Rattle.kcr_machine.proofs.Keyed.{find-view, put-at, said-view}
 
 pub turned : (a b : ℕ) → eqb b a ≡ false → eqb a b ≡ false
-turned a b h = by_test (eqb a b) refl
-  where
-    by_test : (x : Bool) → eqb a b ≡ x → x ≡ false
-    by_test false e = refl
-    by_test true e = absurd (true≢false (sym (eq-eqb b a (sym (eqb-true a b e))) ∙ h))
+turned a b h = false_from_ne_true (eqb a b) (λ e. true≢false (sym (eq-eqb b a (sym (eqb-true a b e))) ∙ h))
+
+-- WHAT IS SAID ONLY OF WHAT WAS SAID BEFORE
+
+-- by one more command something is said still
+pub still : {X : Type 0} (o p : Option X) → is_some p ≡ true → is_some (or_else o p) ≡ true
+still None p e = e
+still (Some x) p e = refl
+
+-- what is said only after something else was said, by one more command as before it
+pub said-then : {X Y : Type 0} (o p : Option X) (q r : Option Y) → (is_some o ≡ true → is_some r ≡ true) → (is_some p ≡ true → is_some r ≡ true) → is_some (or_else o p) ≡ true → is_some (or_else q r) ≡ true
+said-then None p q r new old e = still q r (old e)
+said-then (Some x) p q r new old e = still q r (new refl)
+
+pub some-where : {X : Type 0} (b : Bool) (x : X) → is_some (cond b (Some x) None) ≡ true → b ≡ true
+some-where true x e = refl
+some-where false x e = absurd (false≢true e)
 
 -- THE CEREMONY
 
@@ -74,23 +83,14 @@ ceremony-shown A c rows p =
 -- THE STATE
 
 -- only a planned ceremony is opened
-opened_planned_after : (A : History) (act : Act) (c : ℕ) → fault A act ≡ None → (is_some (opened A c) ≡ true → is_ceremony A c ≡ true)
-    → is_some (or_else (opening c act) (opened A c)) ≡ true → is_some (or_else (planned_as c act) (plan_of A c)) ≡ true
-opened_planned_after A (Plan number facility day script) c f ih h = still (planned_as c (Plan number facility day script)) (plan_of A c) (ih h)
-  where
-    still : (o p : Option Planned) → is_some p ≡ true → is_some (or_else o p) ≡ true
-    still None p e = e
-    still (Some x) p e = refl
-opened_planned_after A (Open d at) c f ih h = by_test (eqb d c) refl h
-  where
-    by_test : (b : Bool) → eqb d c ≡ b → is_some (or_else (cond b (Some at) None) (opened A c)) ≡ true → is_ceremony A c ≡ true
-    by_test true e g = subst (λ c. is_ceremony A c ≡ true) (eqb-true d c e) (met (is_ceremony A d) (Unknown (Things.Ceremony d)) (none_holds (conditions A (Open d at)) f).0)
-    by_test false e g = ih g
-opened_planned_after A act c f ih h = ih h
-
 pub opened-planned : (A : History) → IsRegister A → (c : ℕ) → is_some (opened A c) ≡ true → is_ceremony A c ≡ true
 opened-planned [] h c e = absurd (false≢true e)
-opened-planned (entry ∷ A) h c e = opened_planned_after A entry.command.act c (took A entry h.0).no_fault (opened-planned A h.1 c) e
+opened-planned (entry ∷ A) h c e =
+    said-then (opening c entry.command.act) (opened A c) (planned_as c entry.command.act) (plan_of A c) (by_act entry.command.act (took A entry h.0).no_fault) (opened-planned A h.1 c) e
+  where
+    by_act : (act : Act) → fault A act ≡ None → is_some (opening c act) ≡ true → is_ceremony A c ≡ true
+    by_act (Open d at) f e = subst (λ c. is_ceremony A c ≡ true) (eqb-true d c (some-where (eqb d c) at e)) (met (is_ceremony A d) (Unknown (Things.Ceremony d)) (none_holds (conditions A (Open d at)) f).0)
+    by_act act f e = absurd (false≢true e)
 
 -- the state of a row tells whether the ceremony is open
 pub open-state : (A : History) (c : ℕ) → is_open_row (Some (ceremony_row A c)) ≡ is_open A c
@@ -103,11 +103,7 @@ open-state A c = by_both (closed A c) (opened A c)
     by_both (Some at) (Some now) = refl
 
 never-open : (A : History) → IsRegister A → (c : ℕ) → is_ceremony A c ≡ false → is_open A c ≡ false
-never-open A h c e = by_test (is_some (opened A c)) refl
-  where
-    by_test : (b : Bool) → is_some (opened A c) ≡ b → (b && is_none (closed A c)) ≡ false
-    by_test true o = absurd (true≢false (sym (opened-planned A h c o) ∙ e))
-    by_test false o = refl
+never-open A h c e = and_left (is_some (opened A c)) (is_none (closed A c)) (false_from_ne_true (is_some (opened A c)) (λ o. true≢false (sym (opened-planned A h c o) ∙ e)))
 
 module _ (A : History) (c : ℕ) (rows : List CeremonyRow) (p : ShowsCeremony c (ceremonies A) rows) where
   -- whether there is such a ceremony
@@ -123,14 +119,6 @@ module _ (A : History) (c : ℕ) (rows : List CeremonyRow) (p : ShowsCeremony c 
   facility-shown = ap facility_by (ceremony-shown A c rows p) ∙ by_plan (plan_of A c)
     where
       by_plan : (o : Option Planned) → facility_by (some_if (is_some o) (record (ceremony_row A c) { facility = unwrap_or (option_map (λ plan. plan.facility) o) East })) ≡ unwrap_or (option_map (λ plan. plan.facility) o) East
-      by_plan None = refl
-      by_plan (Some plan) = refl
-
-  -- its day
-  pub day-shown : day_by (ceremony_by rows c) ≡ day_planned A c
-  day-shown = ap day_by (ceremony-shown A c rows p) ∙ by_plan (plan_of A c)
-    where
-      by_plan : (o : Option Planned) → day_by (some_if (is_some o) (record (ceremony_row A c) { day = unwrap_or (option_map (λ plan. plan.day) o) 0 })) ≡ unwrap_or (option_map (λ plan. plan.day) o) 0
       by_plan None = refl
       by_plan (Some plan) = refl
 
@@ -176,7 +164,7 @@ ready A (Put c serial to at) f = let n = none_holds (conditions A (Put c serial 
 ready A (Cut c serial at) f = let n = none_holds (conditions A (Cut c serial at)) f in (met (is_open A c) State n.1.1.0, n.1.1.1.0)
 ready A act f = tt
 
-open-opened : (A : History) (c : ℕ) → is_open A c ≡ true → is_some (opened A c) ≡ true
+pub open-opened : (A : History) (c : ℕ) → is_open A c ≡ true → is_some (opened A c) ≡ true
 open-opened A c e = (and_parts (is_some (opened A c)) (is_none (closed A c)) e).0
 
 -- a ceremony has a mark where it was opened
@@ -217,19 +205,11 @@ opened-number (entry ∷ A) c = opened_after entry.command.act c (all_said opene
 abbrev pub ShowsMark : ℕ → List MarkRow → List MarkRow → Type 0
 ShowsMark c table rows = IsPermutation (filter (is_mark_of c) table) (filter (is_mark_of c) rows)
 
-marked-at : (o : Option ℕ) (c : ℕ) (b : Bool) → is_some o ≡ b → option_map (λ (row : MarkRow). row.at) (some_if b (record { ceremony = c; at = unwrap_or o 0 })) ≡ o
-marked-at None c true h = absurd (false≢true h)
-marked-at None c false h = refl
-marked-at (Some m) c true h = refl
-marked-at (Some m) c false h = absurd (true≢false h)
-
 -- the mark of the ceremony
 pub mark-shown : (A : History) → IsRegister A → (c : ℕ) (rows : List MarkRow) → ShowsMark c (marks A) rows → mark_by rows c ≡ mark A c
 mark-shown A h c rows p =
-    ap (option_map (λ row. row.at))
-    (find-view (is_mark_of c) (is_mark_of c) (mark_row A) (mark_row A c) (λ x e. e) (λ k e. ap (mark_row A) (eqb-true k c e)) (all_said opened_number A) rows p
-    ∙ ap (λ b. some_if b (mark_row A c)) (opened-number A c))
-    ∙ marked-at (mark A c) c (is_some (opened A c)) (marked-opened A h c)
+    said-view (is_mark_of c) (is_mark_of c) (mark_row A) (mark_row A c) (λ row. row.at) (mark A c) 0 (λ x e. e) (λ k e. ap (mark_row A) (eqb-true k c e)) (all_said opened_number A) rows p
+    (opened-number A c ∙ sym (marked-opened A h c)) refl
 
 -- THE MARK'S ROW IS PUT
 
@@ -245,47 +225,17 @@ row_at c at = record { ceremony = c; at = at }
 pub marks-put : (A : History) (entry : Entry) (c at : ℕ) → fault A entry.command.act ≡ None → marked entry.command.act ≡ Some (c, at) → opened_number entry.command.act ≡ None
     → put same_mark (record { ceremony = c; at = at }) (marks A) ≡ marks (entry ∷ A)
 marks-put A entry c at f m o =
-    put-at same_mark (λ k. eqb k c) (mark_row A) (mark_row (entry ∷ A)) (row_at c at) (λ k. refl) here elsewhere (all_said opened_number A) (opened-number A c ∙ open-opened A c go.0)
+    put-at same_mark (mark_row A) (mark_row (entry ∷ A)) (row_at c at) here elsewhere (all_said opened_number A) (opened-number A c ∙ open-opened A c go.0)
     ∙ ap (λ n. map (mark_row (entry ∷ A)) (cons_option n (all_said opened_number A))) (sym o)
   where
     go : IsReady A (Some (c, at)) None
     go = subst (λ n. IsReady A (Some (c, at)) n) o (subst (λ n. IsReady A n (opened_number entry.command.act)) m (ready A entry.command.act f))
 
-    next : (k : ℕ) → mark (entry ∷ A) k ≡ cond (eqb c k) (Some (max_with at (mark A k))) (mark A k)
-    next k = mark-after A entry k ∙ ap (λ n. mark_with n k (mark A k)) m
-
     here : (k : ℕ) → eqb k c ≡ true → row_at c at ≡ mark_row (entry ∷ A) k
-    here k e =
-        let same : k ≡ c = eqb-true k c e in
-        let new : mark (entry ∷ A) c ≡ Some at = next c ∙ ap (λ b. cond b (Some (max_with at (mark A c))) (mark A c)) (eq-eqb c c refl) ∙ ap Some (mark-now (mark A c) at go.1) in
-        sym (ap (mark_row (entry ∷ A)) same ∙ ap (λ n. row_at c (unwrap_or n 0)) new)
+    here k e = let same : k ≡ c = eqb-true k c e in rw (same, mark-after A entry c, m, eq-eqb c c refl, mark-now (mark A c) at go.1) refl
 
     elsewhere : (k : ℕ) → eqb k c ≡ false → mark_row A k ≡ mark_row (entry ∷ A) k
-    elsewhere k e = ap (λ n. row_at k (unwrap_or n 0)) (sym (next k ∙ ap (λ b. cond b (Some (max_with at (mark A k))) (mark A k)) (turned c k e)))
-
--- an opening that is accepted: putting the mark's row gives the marks after it
-pub marks-opened : (A : History) (entry : Entry) (c at : ℕ) → IsRegister A → fault A entry.command.act ≡ None → entry.command.act ≡ Open c at
-    → put same_mark (record { ceremony = c; at = at }) (marks A) ≡ marks (entry ∷ A)
-marks-opened A entry c at h f is =
-    put-first same_mark (mark_row A) (mark_row (entry ∷ A)) (row_at c at) elsewhere (all_said opened_number A) (any-map (same_mark (row_at c at)) (mark_row A) (all_said opened_number A) ∙ opened-number A c ∙ closed_yet)
-    ∙ ap (λ row. row ∷ map (mark_row (entry ∷ A)) (all_said opened_number A)) (ap (λ n. row_at c (unwrap_or n 0)) (sym new))
-    ∙ ap (λ act. map (mark_row (entry ∷ A)) (cons_option (opened_number act) (all_said opened_number A))) (sym is)
-  where
-    closed_yet : is_some (opened A c) ≡ false
-    closed_yet = unmet (is_some (opened A c)) State (none_holds (conditions A (Open c at)) (subst (λ act. fault A act ≡ None) is f)).1.1.0
-
-    next : (k : ℕ) → mark (entry ∷ A) k ≡ cond (eqb c k) (Some (max_with at (mark A k))) (mark A k)
-    next k = mark-after A entry k ∙ ap (λ act. mark_with (marked act) k (mark A k)) is
-
-    none : (o : Option ℕ) → is_some o ≡ false → o ≡ None
-    none None e = refl
-    none (Some m) e = absurd (true≢false e)
-
-    new : mark (entry ∷ A) c ≡ Some at
-    new = next c ∙ ap (λ b. cond b (Some (max_with at (mark A c))) (mark A c)) (eq-eqb c c refl) ∙ ap (λ o. Some (max_with at o)) (none (mark A c) (marked-opened A h c ∙ closed_yet))
-
-    elsewhere : (k : ℕ) → eqb k c ≡ false → mark_row A k ≡ mark_row (entry ∷ A) k
-    elsewhere k e = ap (λ n. row_at k (unwrap_or n 0)) (sym (next k ∙ ap (λ b. cond b (Some (max_with at (mark A k))) (mark A k)) (turned c k e)))
+    elsewhere k e = rw (mark-after A entry k, m, turned c k e) refl
 
 -- THE SCENE
 
@@ -309,17 +259,13 @@ scene-shown A h c at has_ca view p q =
     let rows = view.ceremonies.items in
     rw (known-shown A c rows p, facility-shown A c rows p, is_open-shown A c rows p h, mark-shown A h c view.marks.items q) refl
 
--- what an act of custody tests of its ceremony first, one after the other
-pub ready-by : (A : History) (c at : ℕ) (has_ca : Bool) (rest : List (Option Refusal))
-    → first_of (not_ready (scene_of A c at has_ca) ∷ rest) ≡ first_of (not_open A c ∷ late A c at ∷ full A ∷ rest)
-ready-by A c at has_ca rest = by_tests (not_open A c) (mark A c) (full A)
+-- what an act of custody tests of its ceremony, behind some conditions, one after the other
+pub ready-by : (A : History) (c at : ℕ) (has_ca : Bool) (os rest : List (Option Refusal))
+    → first_of (os ++ not_ready (scene_of A c at has_ca) ∷ rest) ≡ first_of (os ++ not_open A c ∷ late A c at ∷ full A ∷ rest)
+ready-by A c at has_ca os rest =
+    behind os (not_ready (scene_of A c at has_ca) ∷ rest) (not_open A c ∷ late A c at ∷ full A ∷ rest)
+    (nested (not_open A c ∷ Custody.late (mark A c) at ∷ full A ∷ []) rest ∙ ap (λ o. first_of (not_open A c ∷ o ∷ full A ∷ rest)) (by_mark (mark A c)))
   where
-    by_late : (o p : Option Refusal) → first_of (first_of (o ∷ p ∷ []) ∷ rest) ≡ first_of (o ∷ p ∷ rest)
-    by_late (Some r) p = refl
-    by_late None (Some r) = refl
-    by_late None None = refl
-
-    by_tests : (o : Option Refusal) (m : Option ℕ) (p : Option Refusal) → first_of (first_of (o ∷ Custody.late m at ∷ p ∷ []) ∷ rest) ≡ first_of (o ∷ is_late at m ∷ p ∷ rest)
-    by_tests (Some r) m p = refl
-    by_tests None None p = by_late None p
-    by_tests None (Some m) p = by_late (when (nat_lt at m) (Late m)) p
+    by_mark : (m : Option ℕ) → Custody.late m at ≡ is_late at m
+    by_mark None = refl
+    by_mark (Some m) = refl

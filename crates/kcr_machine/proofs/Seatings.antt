@@ -1,39 +1,175 @@
--- The search's answers over those present by the history are the machine's: the first seating, and a least shortage.
-use Rattle.std.proofs.Common.{◌≡◌, ◌≢◌, ℕ, zero, suc, ◌+◌, ◌<◌, ◌≤◌, Bool, true, false, cond, not, ◌||◌, ◌&&◌, ◌==◌, nat_lt, nat_le, List, [], ◌∷◌, map, filter, length, get_or, Option, Some, None, refl, sym, ap, ◌∙◌, arith, subst}
-use Rattle.std.specs.Prelude.{slice_get, slice_index, EachIndex}
+-- The search's answers by numbers, over those present, are the machine's: a first seating of people, and a least shortage of seats.
+use Rattle.std.proofs.Common.{◌≡◌, ◌≢◌, ℕ, zero, suc, ◌+◌, ◌<◌, ◌≤◌, Bool, true, false, cond, ◌||◌, nat_lt, List, [], ◌∷◌, map, filter, length, get_or, refl, sym, ap, ◌∙◌, arith, subst, not, ◌&&◌, ◌==◌, nat_le, Option, Some, None, inl, inr}
+use Rattle.std.specs.Prelude.{slice_get, slice_index, if◌then◌else◌, EachIndex}
 use Rattle.std.specs.List.{list_any, list_all, SomeIndex}
-use Rattle.std.specs.List.Sorted.{IsStrictlyIncreasing}
-use Rattle.std.proofs.lemmas.Bool.{false≢true, both_ways, and_parts, and_from, or_parts, not-true, eqb-true, eq-eqb, ne_eqb, leb-true, le-leb, ltb-true, ltb-false, lt-ltb}
-use Rattle.std.proofs.lemmas.List.Folds.{list_any_at}
-use Rattle.kcr_base.specs.Days.{day_of}
+use Rattle.std.proofs.lemmas.Bool.{false≢true, both_ways, ltb-true, and_parts, and_from, or_parts, not-true, eqb-true, eq-eqb, ne_eqb, leb-true, le-leb, lt-ltb, cases_order, or_from, false_from_ne_true, true_from_ne_false, true≢false}
+use Rattle.std.proofs.lemmas.List.{length-map, get_or-map}
+use Rattle.std.proofs.lemmas.List.Folds.{list_any_at, list_all_at}
 use Rattle.kcr_base.specs.Same.{same_text, is_before}
-use Rattle.kcr_room.specs.Laws.{are_rising}
 use Rattle.kcr_room.proofs.Agreement.{same-is, same-itself}
-use Rattle.kcr_room.proofs.Keeping.{present_are_in}
-use Rattle.kcr_room.proofs.Rising.{present_are_rising}
+use Rattle.kcr_room.proofs.Orders.{before-turned}
 use Rattle.kcr_script.specs.declared.seat.Seat.{Seat}
 use Rattle.kcr_seats.specs.Seating as Search
+use Rattle.kcr_seats.specs.Seating.{count_below, can_take}
+use Rattle.kcr_scene.specs.Signing.{on_seat, fits_of}
+use Rattle.std.specs.List.Sorted.{IsStrictlyIncreasing}
+use Rattle.kcr_base.specs.Days.{day_of}
+use Rattle.kcr_room.specs.Laws.{are_rising}
+use Rattle.kcr_room.proofs.Keeping.{present_are_in}
+use Rattle.kcr_room.proofs.Rising.{present_are_rising}
 use Rattle.kcr_history.specs.History.{History}
 use Rattle.kcr_history.specs.Ceremonies.{facility_of}
 use Rattle.kcr_history.specs.Room.{sheet, is_in, present}
-use Rattle.kcr_history.specs.Seating.{fits, eligible, is_seating, comes_first, IsFirst, is_eligible_at, who_fit, rise, is_short, is_proper_part, IsLeast}
-use Rattle.kcr_scene.specs.Signing.{on_seat, fits_of}
-use Rattle.kcr_machine.proofs.Shown.{any-filter}
-use Rattle.kcr_machine.proofs.StepRows.{or_true}
-use Rattle.kcr_machine.proofs.Lift.{IsSeatingOf, IsFirstOf, can_take_one, any-ext, first-lift, takers}
+use Rattle.kcr_history.specs.Seating.{fits, eligible, is_seating, comes_first, IsFirst, is_eligible_at, who_fit, rise, is_short, IsLeast}
+use Rattle.std.proofs.lemmas.List.Elements.{filter_agree}
+use Rattle.kcr_people.proofs.Orders.{any-same}
+use Rattle.kcr_custody.proofs.Puts.{or_true}
+use Rattle.kcr_laws.proofs.Hall.{is_one}
+use Rattle.kcr_machine.proofs.Keyed.{any-filter}
 
-pub neither : (x y : Bool) → x ≡ false → y ≡ false → (x || y) ≡ false
-neither x y p q = rw (p, q)
+-- SEATINGS OF PEOPLE, POSITION BY POSITION
+
+-- the people, as many as there are seats and all distinct, are each eligible for the seat in their position
+pub record IsSeatingOf (E : Seat → List ℕ → Bool) (seats : List Seat) (people : List (List ℕ)) : Type 0 where
+  pub each_seat : length people ≡ length seats
+  pub fitting : (k : ℕ) → k < length seats → on_seat E (slice_get seats k) (get_or people k []) ≡ true
+  pub distinct : (j k : ℕ) → j < length seats → k < length seats → get_or people j [] ≡ get_or people k [] → j ≡ k
+
+-- a seating, and in every other seating the first position that differs has initials later in byte order
+pub record IsFirstOf (E : Seat → List ℕ → Bool) (seats : List Seat) (people : List (List ℕ)) : Type 0 where
+  pub seating : IsSeatingOf E seats people
+  pub first : (others : List (List ℕ)) (k : ℕ) → IsSeatingOf E seats others → k < length seats
+      → ((j : ℕ) → j < k → get_or others j [] ≡ get_or people j []) → get_or others k [] ≢ get_or people k []
+      → is_before (get_or people k []) (get_or others k []) ≡ true
+
+-- the person is eligible for at least one of the positions
+abbrev pub can_take_one : (Seat → List ℕ → Bool) → List Seat → List ℕ → List ℕ → Bool
+can_take_one E seats S who = list_any (λ s. on_seat E (slice_get seats s) who) S
+
+before_itself : (a : List ℕ) → is_before a a ≡ false
+before_itself a = false_from_ne_true (is_before a a) (λ e. true≢false (sym e ∙ before-turned a a e))
+
+-- where a person of the list stands
+abbrev position_of : List (List ℕ) → List ℕ → ℕ
+position_of [] who = 0
+position_of (p ∷ P) who = if same_text who p then 0 else suc (position_of P who)
+
+position : (P : List (List ℕ)) (who : List ℕ) → list_any (same_text who) P ≡ true → (position_of P who < length P) × (get_or P (position_of P who) [] ≡ who)
+position [] who h = absurd (false≢true h)
+position (p ∷ P) who h = by_test (same_text who p) refl h (position P who)
+  where
+    by_test : (b : Bool) → same_text who p ≡ b → (b || list_any (same_text who) P) ≡ true → (list_any (same_text who) P ≡ true → (position_of P who < length P) × (get_or P (position_of P who) [] ≡ who))
+        → (cond b 0 (suc (position_of P who)) < suc (length P)) × (get_or (p ∷ P) (cond b 0 (suc (position_of P who))) [] ≡ who)
+    by_test true e g ih = (omega arith, sym (same-is who p e))
+    by_test false e g ih = let q = ih g in (omega (arith, q.0), q.1)
+
+-- COUNTING
+
+count-shift : (test : ℕ → Bool) (n : ℕ) → count_below test (suc n) ≡ cond (test 0) 1 0 + count_below (λ i. test (suc i)) n
+unfolding count_below
+count-shift test zero = omega arith
+count-shift test (suc n) = omega (arith, count-shift test n)
+
+count-people : (test : List ℕ → Bool) (P : List (List ℕ)) → count_below (λ p. test (get_or P p [])) (length P) ≡ length (filter test P)
+unfolding count_below
+count-people test [] = refl
+count-people test (x ∷ P) = count-shift (λ p. test (get_or (x ∷ P) p [])) (length P) ∙ by_test (test x) (count-people test P)
+  where
+    by_test : (b : Bool) → count_below (λ p. test (get_or P p [])) (length P) ≡ length (filter test P) → cond b 1 0 + count_below (λ p. test (get_or P p [])) (length P) ≡ length (cond b (x ∷ filter test P) (filter test P))
+    by_test true ih = omega (arith, ih)
+    by_test false ih = omega (arith, ih)
+
+count-agree : (f g : ℕ → Bool) (n : ℕ) → ((i : ℕ) → i < n → f i ≡ g i) → count_below f n ≡ count_below g n
+unfolding count_below
+count-agree f g zero e = refl
+count-agree f g (suc n) e = ap (λ m. m + cond (f n) 1 0) (count-agree f g n (λ i l. e i (omega (arith, l)))) ∙ ap (λ b. count_below g n + cond b 1 0) (e n (omega arith))
+
+-- E says who is eligible, F who fits by the rows; P are the people present
+module _ (E F : Seat → List ℕ → Bool) (L : List Seat) (P : List (List ℕ))
+    (rising : (i j : ℕ) → i < j → j < length P → is_before (get_or P i []) (get_or P j []) ≡ true)
+    (agree : (k : ℕ) (who : List ℕ) → list_any (same_text who) P ≡ true → on_seat F (slice_get L k) who ≡ on_seat E (slice_get L k) who)
+    (inside : (k : ℕ) (who : List ℕ) → on_seat E (slice_get L k) who ≡ true → list_any (same_text who) P ≡ true) where
+  apart : (i j : ℕ) → i < length P → j < length P → get_or P i [] ≡ get_or P j [] → i ≡ j
+  apart i j a b e = elim (cases_order i j) [
+    | inl same ↦ same
+    | inr differ ↦ elim differ [ inl l ↦ absurd (both_ways _ (before_itself (get_or P j [])) (subst (λ t. is_before t (get_or P j []) ≡ true) e (rising i j l b))) | inr l ↦ absurd (both_ways _ (before_itself (get_or P i [])) (subst (λ t. is_before t (get_or P i []) ≡ true) (sym e) (rising j i l a))) ]
+  ]
+
+  here : (p : ℕ) → p < length P → list_any (same_text (get_or P p [])) P ≡ true
+  here p l = list_any_at (same_text (get_or P p [])) P p [] l (same-itself (get_or P p []))
+
+  fits-same : (k p : ℕ) → p < length P → fits_of F L P k p ≡ on_seat E (slice_get L k) (get_or P p [])
+  fits-same k p l = agree k (get_or P p []) (here p l)
+
+  abbrev named : List ℕ → List (List ℕ)
+  named w = map (λ p. get_or P p []) w
+
+  name-at : (w : List ℕ) (k : ℕ) → k < length w → get_or (named w) k [] ≡ get_or P (slice_index w k) []
+  name-at w k l = get_or-map (λ p. get_or P p []) w k 0 [] l
+
+  -- a seating of numbers is one of people
+  pub seating-lift : (w : List ℕ) → Search.IsSeating (fits_of F L P) (length L) (length P) w → IsSeatingOf E L (named w)
+  seating-lift w s = record {
+    each_seat = length-map w (λ p. get_or P p []) ∙ s.each_seat;
+    fitting = λ k l.
+        let m : k < length w = omega (arith, l, s.each_seat) in
+        ap (on_seat E (slice_get L k)) (name-at w k m) ∙ sym (fits-same k (slice_index w k) (s.in_range k l)) ∙ s.fitting k l;
+    distinct = λ j k a b e.
+        let m : j < length w = omega (arith, a, s.each_seat) in
+        let n : k < length w = omega (arith, b, s.each_seat) in
+        s.distinct j k a b (apart (slice_index w j) (slice_index w k) (s.in_range j a) (s.in_range k b) (sym (name-at w j m) ∙ e ∙ name-at w k n));
+  }
+
+  abbrev numbered_as : List (List ℕ) → List ℕ
+  numbered_as W = map (position_of P) W
+
+  -- the people of a seating are present, so they have numbers
+  placed : (W : List (List ℕ)) → IsSeatingOf E L W → (k : ℕ) → k < length L → (slice_index (numbered_as W) k < length P) × (get_or P (slice_index (numbered_as W) k) [] ≡ get_or W k [])
+  placed W s k l =
+      let q = position P (get_or W k []) (inside k (get_or W k []) (s.fitting k l)) in
+      rw (get_or-map (position_of P) W k [] 0 (omega (arith, l, s.each_seat))) q
+
+  seating-back : (W : List (List ℕ)) → IsSeatingOf E L W → Search.IsSeating (fits_of F L P) (length L) (length P) (numbered_as W)
+  seating-back W s = record {
+    each_seat = length-map W (position_of P) ∙ s.each_seat;
+    in_range = λ k l. (placed W s k l).0;
+    fitting = λ k l.
+        let q = placed W s k l in
+        fits-same k (slice_index (numbered_as W) k) q.0 ∙ ap (on_seat E (slice_get L k)) q.1 ∙ s.fitting k l;
+    distinct = λ j k a b e. s.distinct j k a b (sym (placed W s j a).1 ∙ ap (λ p. get_or P p []) e ∙ (placed W s k b).1);
+  }
+
+  -- the first seating of numbers is the first one of people
+  pub first-lift : (w : List ℕ) → Search.IsFirst (fits_of F L P) (length L) (length P) w → IsFirstOf E L (named w)
+  first-lift w f = record {
+    seating = seating-lift w f.seating;
+    first = λ others k s l same differ.
+        let at : (j : ℕ) → j < length L → get_or (named w) j [] ≡ get_or P (slice_index w j) [] = λ j m. name-at w j (omega (arith, m, f.seating.each_seat)) in
+        let q = placed others s k l in
+        let alike : (j : ℕ) → j < k → slice_index (numbered_as others) j ≡ slice_index w j
+        = λ j m. let r = placed others s j (omega (arith, m, l)) in apart _ _ r.0 (f.seating.in_range j (omega (arith, m, l))) (r.1 ∙ same j m ∙ at j (omega (arith, m, l))) in
+        let low : slice_index w k ≤ slice_index (numbered_as others) k = f.first (numbered_as others) k (seating-back others s) l alike in
+        let other : slice_index w k ≢ slice_index (numbered_as others) k = λ e. differ (sym q.1 ∙ ap (λ p. get_or P p []) (sym e) ∙ sym (at k l)) in
+        let up : slice_index w k < slice_index (numbered_as others) k = omega (arith, low, other) in
+        rw (at k l, sym q.1) (rising (slice_index w k) (slice_index (numbered_as others) k) up q.0);
+  }
+
+  -- SHORT
+
+  -- as many of them can take one of the seats as the search counts
+  pub takers : (S : List ℕ) → count_below (can_take (fits_of F L P) S) (length P) ≡ length (filter (can_take_one E L S) P)
+  takers S =
+      count-agree (can_take (fits_of F L P) S) (λ p. can_take_one E L S (get_or P p [])) (length P)
+      (λ p l. any-same (λ k. fits_of F L P k p) (λ k. on_seat E (slice_get L k) (get_or P p [])) (λ k. fits-same k p l) S)
+      ∙ count-people (can_take_one E L S) P
 
 -- SEATINGS, POSITION BY POSITION AND ONE AFTER THE OTHER
 
 not_there : (who : List ℕ) (people : List (List ℕ)) → ((j : ℕ) → j < length people → get_or people j [] ≡ who → ⊥) → list_any (same_text who) people ≡ false
 not_there who [] f = refl
-not_there who (p ∷ people) f = neither (same_text who p) _ (by_test (same_text who p) refl) (not_there who people (λ j l. f (suc j) (omega (arith, l))))
-  where
-    by_test : (b : Bool) → same_text who p ≡ b → b ≡ false
-    by_test true e = absurd (f 0 (omega arith) (sym (same-is who p e)))
-    by_test false e = refl
+not_there who (p ∷ people) f =
+    or_from (same_text who p) (list_any (same_text who) people) (false_from_ne_true (same_text who p) (λ e. f 0 (omega arith) (sym (same-is who p e))))
+    (not_there who people (λ j l. f (suc j) (omega (arith, l))))
 
 seating-is : (A : History) (c t : ℕ) (L : List Seat) (people : List (List ℕ)) → IsSeatingOf (eligible A c t) L people → is_seating A c t L people ≡ true
 seating-is A c t [] [] s = refl
@@ -90,7 +226,10 @@ seating-of A c t L people h =
     record {
       each_seat = count;
       fitting = fit_at A c t L people h;
-      distinct = λ j k a b e. by_order j k a b e (nat_lt j k) refl (nat_lt k j) refl;
+      distinct = λ j k a b e. elim (cases_order j k) [
+        | inl same ↦ same
+        | inr other ↦ elim other [ inl l ↦ absurd (differ j k l b e) | inr l ↦ absurd (differ k j l a (sym e)) ]
+      ];
     }
   where
     count : length people ≡ length L
@@ -100,11 +239,6 @@ seating-of A c t L people h =
     differ j k l b e =
         both_ways _ (apart_at A c t L people h j k l (omega (arith, b, count)))
         (ap (same_text (get_or people j [])) (sym e) ∙ same-itself (get_or people j []))
-
-    by_order : (j k : ℕ) → j < length L → k < length L → get_or people j [] ≡ get_or people k [] → (x : Bool) → nat_lt j k ≡ x → (y : Bool) → nat_lt k j ≡ y → j ≡ k
-    by_order j k a b e true p y q = absurd (differ j k (ltb-true j k p) b e)
-    by_order j k a b e false p true q = absurd (differ k j (ltb-true k j q) a (sym e))
-    by_order j k a b e false p false q = omega (arith, ltb-false j k p, ltb-false k j q)
 
 -- where the first position that differs has a later person, the first list comes first
 comes-first : (people others : List (List ℕ)) → length people ≡ length others → others ≢ people
@@ -144,14 +278,10 @@ at-seat A c t [] who p = refl
 at-seat A c t (seat ∷ L) who zero = refl
 at-seat A c t (seat ∷ L) who (suc p) = at-seat A c t L who p
 
-filter-ext : {X : Type 0} (p q : X → Bool) → ((x : X) → p x ≡ q x) → (xs : List X) → filter p xs ≡ filter q xs
-filter-ext p q f [] = refl
-filter-ext p q f (x ∷ xs) = rw (f x, filter-ext p q f xs) refl
-
 takers-fit : (A : History) (c t : ℕ) (L : List Seat) (S : List ℕ) → who_fit A c t L S ≡ filter (can_take_one (eligible A c t) L S) (present A c t)
 takers-fit A c t L S =
-    filter-ext (λ who. list_any (is_eligible_at A c t L who) S) (can_take_one (eligible A c t) L S)
-    (λ who. any-ext (is_eligible_at A c t L who) (λ s. on_seat (eligible A c t) (slice_get L s) who) (at-seat A c t L who) S) (present A c t)
+    filter_agree (λ who. list_any (is_eligible_at A c t L who) S) (can_take_one (eligible A c t) L S)
+    (λ who. any-same (is_eligible_at A c t L who) (λ s. on_seat (eligible A c t) (slice_get L s) who) (at-seat A c t L who) S) (present A c t)
 
 -- rising numbers in a range, position by position and one after the other
 tail-rises : (p : ℕ) (S : List ℕ) → IsStrictlyIncreasing (p ∷ S) → IsStrictlyIncreasing S
@@ -184,9 +314,6 @@ rises-of low high (p ∷ q ∷ S) r (suc k) l =
     (rises-of (suc p) high (q ∷ S) (and_parts (nat_le low p && nat_lt p high) (rise (suc p) high (q ∷ S)) r).1 k (omega (arith, l)))
 
 -- PARTS
-
-abbrev is_one : ℕ → List ℕ → Bool
-is_one p ps = list_any (λ q. q == p) ps
 
 below : (low high : ℕ) (ps : List ℕ) → rise low high ps ≡ true → (p : ℕ) → is_one p ps ≡ true → low ≤ p
 below low high [] r p h = absurd (false≢true h)
@@ -255,15 +382,11 @@ one-of whole part h p o =
 
 -- OVER THOSE PRESENT
 
-all-at : (test : List ℕ → Bool) (P : List (List ℕ)) → list_all test P ≡ true → (j : ℕ) → j < length P → test (get_or P j []) ≡ true
-all-at test [] h j l = absurd (omega (arith, l))
-all-at test (x ∷ P) h zero l = (and_parts (test x) (list_all test P) h).0
-all-at test (x ∷ P) h (suc j) l = all-at test P (and_parts (test x) (list_all test P) h).1 j (omega (arith, l))
-
 rising-at : (P : List (List ℕ)) → are_rising P ≡ true → (i j : ℕ) → i < j → j < length P → is_before (get_or P i []) (get_or P j []) ≡ true
 rising-at [] h i j l m = absurd (omega (arith, m))
 rising-at (x ∷ P) h i zero l m = absurd (omega (arith, l))
-rising-at (x ∷ P) h zero (suc j) l m = all-at (is_before x) P (and_parts (list_all (is_before x) P) (are_rising P) h).0 j (omega (arith, m))
+rising-at (x ∷ P) h zero (suc j) l m =
+    true_from_ne_false (is_before x (get_or P j [])) (λ e. true≢false (sym (and_parts (list_all (is_before x) P) (are_rising P) h).0 ∙ list_all_at (is_before x) P j [] (omega (arith, m)) e))
 rising-at (x ∷ P) h (suc i) (suc j) l m = rising-at P (and_parts (list_all (is_before x) P) (are_rising P) h).1 i j (omega (arith, l)) (omega (arith, m))
 
 -- F says who fits by the rows, and of the seats at hand says what the history does
@@ -310,12 +433,12 @@ module _ (A : History) (c t : ℕ) (F : Seat → List ℕ → Bool) (L : List Se
 
   -- a least shortage
   pub least-of : (S : List ℕ) → Search.IsLeast (fits_of F L (present A c t)) (length L) (length (present A c t)) S → IsLeast A c t L S
-  least-of S f = record { short = short-is S f.short; least = λ part proper. by_test part proper (is_short A c t L part) refl }
-    where
-      by_test : (part : List ℕ) → is_proper_part part S ≡ true → (b : Bool) → is_short A c t L part ≡ b → b ≡ false
-      by_test part proper false e = refl
-      by_test part proper true e =
-          let p = and_parts (list_all (λ p. is_one p S) part) (nat_lt (length part) (length S)) proper in
-          let back = f.least part (short-of part e) (part-of part S p.0) in
-          let rises = (and_parts (rise 0 (length L) S) (nat_lt (length (who_fit A c t L S)) (length S)) (short-is S f.short)).0 in
-          absurd (omega (arith, ltb-true (length part) (length S) p.1, pigeon 0 (length L) S part rises (one-of S part back)))
+  least-of S f =
+      record {
+        short = short-is S f.short;
+        least = λ part proper. false_from_ne_true (is_short A c t L part) (λ e.
+            let p = and_parts (list_all (λ p. is_one p S) part) (nat_lt (length part) (length S)) proper in
+            let back = f.least part (short-of part e) (part-of part S p.0) in
+            let rises = (and_parts (rise 0 (length L) S) (nat_lt (length (who_fit A c t L S)) (length S)) (short-is S f.short)).0 in
+            omega (arith, ltb-true (length part) (length S) p.1, pigeon 0 (length L) S part rises (one-of S part back)));
+      }

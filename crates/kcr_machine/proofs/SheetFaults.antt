@@ -1,4 +1,4 @@
--- The first refusal of a request of the sheet by the rows of a view is its fault by the history, where the sheet was made in turn and each person is named once.
+-- The first refusal of a request of the sheet by the rows of a view is its fault by the history, and so the sheet of a register was made in turn.
 use Rattle.std.proofs.Common.{◌≡◌, ℕ, ◌+◌, Bool, true, false, cond, not, ◌||◌, ◌&&◌, ◌==◌, nat_le, nat_lt, List, [], ◌∷◌, ◌++◌, map, filter, find, reverse, Option, Some, None, option_map, is_none, refl, sym, ap, ◌∙◌, subst, arith, append-nil, inl, inr}
 use Rattle.std.specs.Prelude.{is_some, count_by}
 use Rattle.std.specs.List.{list_any, cons_option}
@@ -9,7 +9,6 @@ use Rattle.std.proofs.lemmas.List.Sorted.{IsPermutation-refl, IsPermutation-reve
 use Rattle.std.proofs.lemmas.List.Sums.{sum_by-append}
 use Rattle.kcr_base.specs.Refuse.{when, first_of}
 use Rattle.kcr_base.proofs.RefuseLemmas.{none_holds}
-use Rattle.kcr_base.specs.Rows.{or_else}
 use Rattle.kcr_base.specs.Same.{same_text}
 use Rattle.kcr_base.specs.declared.refusal.Refusal.{Refusal}
 use Rattle.kcr_base.specs.declared.refusal.Refusal.TheVariants.{Unknown, State, Late, Turn, Lone, Full}
@@ -43,11 +42,14 @@ use Rattle.kcr_history.specs.Conditions.{conditions, fault, is_full, first_with,
 use Rattle.kcr_history.specs.Machine.{IsRegister}
 use Rattle.kcr_history.proofs.Steps.{took}
 use Rattle.kcr_history.proofs.Words.{is_person-people}
-use Rattle.kcr_acts.specs.SheetRows.{elsewhere, last_elsewhere, stays_of_request, first_unknown, first_twice, named_twice, room_refusal, sheet_refusal_by}
-use Rattle.kcr_machine.proofs.Shown.{any-shown}
-use Rattle.kcr_machine.proofs.Members.{IsIn, in-append, in-front, in-behind, in-filter, filter-in, in-filter_map, filter_map-in, in-any}
+use Rattle.kcr_acts.specs.SheetRows.{elsewhere, last_elsewhere, stays_of_request, first_twice, named_twice, room_refusal, sheet_refusal_by}
+use Rattle.std.proofs.lemmas.Option.{none-some, same_Some}
+use Rattle.kcr_laws.proofs.Signing.{no_first}
+use Rattle.kcr_machine.proofs.FirstRefusals.{behind, first-found, met, nested}
+use Rattle.kcr_machine.proofs.Keyed.{any-shown}
+use Rattle.kcr_machine.proofs.Members.{IsIn, filter-in, filter-none, filter_map-in, find-same-in, in-any, in-append, in-behind, in-filter, in-filter_map, in-front}
+use Rattle.kcr_machine.proofs.Scenes.{is_open-shown, known-shown, mark-shown, marked-opened}
 use Rattle.kcr_machine.proofs.SheetStays.{IsClear, clear-order, clear-sheet, last-in, turn-last}
-use Rattle.kcr_machine.proofs.Scenes.{known-shown, is_open-shown, mark-shown, marked-opened, met}
 
 -- THE STAYS THAT A REQUEST BEARS ON
 
@@ -65,26 +67,20 @@ stays-shown table rows c people p h =
     IsPermutation-append (filter (of_ceremony c) table) (filter (of_ceremony c) rows) (last_elsewhere table c people) (last_elsewhere rows c people) p
     (subst (IsPermutation (last_elsewhere table c people)) (sym (last-same table rows c people h)) (IsPermutation-refl (last_elsewhere table c people)))
 
-is-last : (c : ℕ) (o : Option Stay) (s : Stay) → elsewhere c o ≡ Some s → o ≡ Some s
-is-last c None s e = absurd (let f : None ≡ Some s = e in cc)
-is-last c (Some stay) s e = by_test (stay.ceremony == c) e
+-- a last stay elsewhere is the last stay, and is elsewhere
+is-last : (c : ℕ) (o : Option Stay) (s : Stay) → elsewhere c o ≡ Some s → (o ≡ Some s) × (of_ceremony c s ≡ false)
+is-last c None s e = absurd (none-some s e)
+is-last c (Some stay) s e = by_test (stay.ceremony == c) refl e
   where
-    by_test : (b : Bool) → cond b None (Some stay) ≡ Some s → Some stay ≡ Some s
-    by_test true f = absurd (let g : None ≡ Some s = f in cc)
-    by_test false f = f
+    by_test : (b : Bool) → stay.ceremony == c ≡ b → cond b None (Some stay) ≡ Some s → (Some stay ≡ Some s) × (of_ceremony c s ≡ false)
+    by_test true f g = absurd (none-some s g)
+    by_test false f g = (g, ap (of_ceremony c) (sym (same_Some stay s g)) ∙ f)
 
 -- none of them is of the ceremony
 not-here : (stays : List Stay) (c : ℕ) (people : List (List ℕ)) → filter (of_ceremony c) (last_elsewhere stays c people) ≡ []
-not-here stays c [] = refl
-not-here stays c (who ∷ people) = by_last (last_stay stays who) (not-here stays c people)
-  where
-    by_test : (s : Stay) (b : Bool) → s.ceremony == c ≡ b → filter (of_ceremony c) (last_elsewhere stays c people) ≡ [] → filter (of_ceremony c) (cons_option (cond b None (Some s)) (last_elsewhere stays c people)) ≡ []
-    by_test s true e ih = ih
-    by_test s false e ih = ap (λ b. cond b (s ∷ filter (of_ceremony c) (last_elsewhere stays c people)) (filter (of_ceremony c) (last_elsewhere stays c people))) e ∙ ih
-
-    by_last : (o : Option Stay) → filter (of_ceremony c) (last_elsewhere stays c people) ≡ [] → filter (of_ceremony c) (cons_option (elsewhere c o) (last_elsewhere stays c people)) ≡ []
-    by_last None ih = ih
-    by_last (Some s) ih = by_test s (s.ceremony == c) refl ih
+not-here stays c people =
+    filter-none (of_ceremony c) (last_elsewhere stays c people) (λ r i.
+    let k = in-filter_map (λ who. elsewhere c (last_stay stays who)) r people i in (is-last c (last_stay stays k.0) r k.2).1)
 
 -- of the ceremony they have the stays that all have
 own-stays : (stays : List Stay) (c : ℕ) (people : List (List ℕ)) → filter (of_ceremony c) (stays_of_request stays c people) ≡ filter (of_ceremony c) stays
@@ -102,7 +98,7 @@ same-after stays c Ways.Leave people at = ap (map (closed people at)) (own-stays
 pub among-all : (stays : List Stay) (c : ℕ) (people : List (List ℕ)) (r : Stay) → IsIn r (stays_of_request stays c people) → IsIn r stays
 among-all stays c people r i = elim (in-append r (filter (of_ceremony c) stays) (last_elsewhere stays c people) i) [
   | inl j ↦ (in-filter (of_ceremony c) r stays j).0
-  | inr j ↦ let k = in-filter_map (λ who. elsewhere c (last_stay stays who)) r people j in last-in stays k.0 r (is-last c (last_stay stays k.0) r k.2)
+  | inr j ↦ let k = in-filter_map (λ who. elsewhere c (last_stay stays who)) r people j in last-in stays k.0 r (is-last c (last_stay stays k.0) r k.2).0
 ]
 
 has-last : (stays : List Stay) (c : ℕ) (people : List (List ℕ)) (who : List ℕ) → IsIn who people → (s : Stay) → last_stay stays who ≡ Some s → IsIn s (stays_of_request stays c people)
@@ -114,21 +110,17 @@ has-last stays c people who i s e = by_test (s.ceremony == c) refl
         in-behind s (filter (of_ceremony c) stays) (last_elsewhere stays c people)
         (filter_map-in (λ who. elsewhere c (last_stay stays who)) who s people i (ap (elsewhere c) e ∙ ap (λ b. cond b None (Some s)) f))
 
-find-in : (p q : List ℕ → Bool) (people : List (List ℕ)) → ((who : List ℕ) → IsIn who people → p who ≡ q who) → find p people ≡ find q people
-find-in p q [] h = refl
-find-in p q (who ∷ people) h = ap (λ b. cond b (Some who) (find p people)) (h who (inl refl)) ∙ ap (λ o. cond (q who) (Some who) o) (find-in p q people (λ w i. h w (inr i)))
-
 -- a request is refused by them for what it is refused for by all
 some-refusal : (stays : List Stay) → IsClear stays → (c m : ℕ) (full : Bool) (way : Way) (people : List (List ℕ)) (at : ℕ)
     → stays_refusal (stays_of_request stays c people) c m full way people at ≡ stays_refusal stays c m full way people at
 some-refusal stays clear c m full way people at =
     ap (λ o. first_of (when (nat_le at m) (Late m) ∷ turn_refusal o ∷ later_refusal (after (stays_of_request stays c people) c way people at) c full way ∷ []))
-    (find-in (is_out_of_turn_in (stays_of_request stays c people) c way at) (is_out_of_turn_in stays c way at) people
+    (find-same-in (is_out_of_turn_in (stays_of_request stays c people) c way at) (is_out_of_turn_in stays c way at) people
     (λ who i. turn-last stays (stays_of_request stays c people) who clear (among-all stays c people) (has-last stays c people who i) c way at))
     ∙ ap (λ later. first_of (when (nat_le at m) (Late m) ∷ turn_refusal (find (is_out_of_turn_in stays c way at) people) ∷ later_refusal later c full way ∷ [])) (same-after stays c way people at)
 
 -- so by the rows of a view it is refused for what it is refused for by the sheet
-pub request-refusal : (rows : List SheetRow) → IsSheet rows → (shown : List Stay) (c m : ℕ) (full : Bool) (way : Way) (people : List (List ℕ)) (at : ℕ)
+request-refusal : (rows : List SheetRow) → IsSheet rows → (shown : List Stay) (c m : ℕ) (full : Bool) (way : Way) (people : List (List ℕ)) (at : ℕ)
     → IsPermutation (filter (of_ceremony c) (reverse (stays_by rows))) (filter (of_ceremony c) shown) → ShowsLast people (reverse (stays_by rows)) shown → are_apart people ≡ true
     → stays_refusal (stays_of_request shown c people) c m full way people at ≡ rows_refusal rows c m full way people at
 request-refusal rows s shown c m full way people at p l a =
@@ -181,26 +173,13 @@ overfull-stays rows c Ways.Leave = refl
 
 -- THE CONDITIONS
 
+-- the first of them whose turn it is not
 pub turns-first : (A : History) (c : ℕ) (way : Way) (at : ℕ) (people : List (List ℕ)) → turn_refusal (find (is_out_of_turn_by (sheet A) c way at) people) ≡ first_with (out_of_turn A c way at) people
-turns-first A c way at [] = refl
-turns-first A c way at (who ∷ people) = by_test (is_out_of_turn_by (sheet A) c way at who) (turns-first A c way at people)
+turns-first A c way at people = told (find (is_out_of_turn_by (sheet A) c way at) people) ∙ first-found (is_out_of_turn_by (sheet A) c way at) (is_out_of_turn_by (sheet A) c way at) Turn people (λ who i. refl)
   where
-    by_test : (b : Bool) → turn_refusal (find (is_out_of_turn_by (sheet A) c way at) people) ≡ first_with (out_of_turn A c way at) people
-        → turn_refusal (cond b (Some who) (find (is_out_of_turn_by (sheet A) c way at) people)) ≡ or_else (when b (Turn who)) (first_with (out_of_turn A c way at) people)
-    by_test true ih = refl
-    by_test false ih = ih
-
-unknown-first : (A : History) (rows : List Person) (all : List (List ℕ)) → ((who : List ℕ) → IsIn who all → is_person_by rows who ≡ is_person A who)
-    → option_map (λ who. Unknown (Things.Person who)) (first_unknown rows all) ≡ first_with (no_person A) all
-unknown-first A rows [] h = refl
-unknown-first A rows (who ∷ all) h =
-    ap (λ b. option_map (λ who. Unknown (Things.Person who)) (cond (not b) (Some who) (first_unknown rows all))) (h who (inl refl))
-    ∙ by_test (is_person A who) (unknown-first A rows all (λ w i. h w (inr i)))
-  where
-    by_test : (b : Bool) → option_map (λ who. Unknown (Things.Person who)) (first_unknown rows all) ≡ first_with (no_person A) all
-        → option_map (λ who. Unknown (Things.Person who)) (cond (not b) (Some who) (first_unknown rows all)) ≡ or_else (when (not b) (Unknown (Things.Person who))) (first_with (no_person A) all)
-    by_test true ih = ih
-    by_test false ih = refl
+    told : (o : Option (List ℕ)) → turn_refusal o ≡ option_map Turn o
+    told None = refl
+    told (Some who) = refl
 
 -- the people are in the register by their rows where they are by the history
 people-shown : (A : History) (rows : List Person) (all : List (List ℕ)) → IsPermutation (filter (is_of_people all) (people A)) (filter (is_of_people all) rows)
@@ -224,21 +203,17 @@ flat None None None None true false = refl
 flat None None None None false true = refl
 flat None None None None false false = refl
 
-behind : (o : Option Refusal) (xs ys : List (Option Refusal)) → first_of xs ≡ first_of ys → first_of (o ∷ xs) ≡ first_of (o ∷ ys)
-behind None xs ys h = h
-behind (Some r) xs ys h = refl
-
 -- whoever is named once is named apart
 pub named_once : (people : List (List ℕ)) → named_twice people ≡ None → are_apart people ≡ true
 named_once [] h = refl
 named_once (who ∷ people) h = by_test (list_any (same_text who) people) h (named_once people)
   where
     by_test : (b : Bool) → turn_refusal (cond b (Some who) (first_twice people)) ≡ None → (named_twice people ≡ None → are_apart people ≡ true) → (not b && are_apart people) ≡ true
-    by_test true e ih = absurd (let f : Some (Turn who) ≡ None = e in cc)
+    by_test true e ih = absurd (none-some (Turn who) (sym e))
     by_test false e ih = ih e
 
 -- what a request is refused for behind its mark, but for somebody named twice
-abbrev pub room_conditions : History → ℕ → Way → List (List ℕ) → ℕ → List (Option Refusal)
+abbrev room_conditions : History → ℕ → Way → List (List ℕ) → ℕ → List (Option Refusal)
 room_conditions A c way all at =
     first_with (out_of_turn A c way at) all
     ∷ crowded (sheet A ++ map (new_row c way at) all) c
@@ -248,7 +223,7 @@ room_conditions A c way all at =
     ∷ []
 
 -- by the sheet's rows the conditions are the history's
-pub rows-conditions : (A : History) (c m : ℕ) (way : Way) (all : List (List ℕ)) (at : ℕ)
+rows-conditions : (A : History) (c m : ℕ) (way : Way) (all : List (List ℕ)) (at : ℕ)
     → first_of (rows_refusal (sheet A) c m (is_full A) way all at ∷ []) ≡ first_of (when (nat_le at m) (Late m) ∷ room_conditions A c way all at)
 rows-conditions A c m way all at =
     flat (when (nat_le at m) (Late m)) (turn_refusal (find (is_out_of_turn_by (sheet A) c way at) all)) (crowded more c) (lone_refusal (first_lone_in_by (stays_by more) c)) (is_full A) (is_overfull_by (stays_by more) c way)
@@ -263,38 +238,21 @@ rows-conditions A c m way all at =
 twice-first : (l n r : Option Refusal) (xs : List (Option Refusal)) → (n ≡ None → first_of (r ∷ []) ≡ first_of (l ∷ xs)) → first_of (first_of (l ∷ n ∷ r ∷ []) ∷ []) ≡ first_of (l ∷ n ∷ xs)
 twice-first (Some x) n r xs h = refl
 twice-first None (Some x) r xs h = refl
-twice-first None None r xs h = alone r ∙ h refl
-  where
-    alone : (o : Option Refusal) → first_of (first_of (o ∷ []) ∷ []) ≡ first_of (o ∷ [])
-    alone None = refl
-    alone (Some x) = refl
+twice-first None None r xs h = nested (r ∷ []) [] ∙ h refl
 
--- by the rows of a view a request is refused for the first of its conditions, that somebody is named twice among them
-pub sheet-refusal : (A : History) → IsRegister A → IsSheet (sheet A) → (c : ℕ) (way : Way) (all : List (List ℕ)) (at : ℕ)
-    → (key : List ℕ) (view : View) → IsViewOf (asks_by key (Sheet c way all at)) (tables A) view → sheet_refusal_by view (is_full A) c way all at
-    ≡ first_of
-    (no_ceremony A c
-    ∷ first_with (no_person A) all
-    ∷ not_open A c
-    ∷ not_later A c at
-    ∷ named_twice all
-    ∷ room_conditions A c way all at)
-sheet-refusal A h s c way all at key view v =
+-- by the rows of a view a request is refused for its fault
+pub sheet-fault : (A : History) → IsRegister A → IsSheet (sheet A) → (c : ℕ) (way : Way) (all : List (List ℕ)) (at : ℕ)
+    → (key : List ℕ) (view : View) → IsViewOf (asks_by key (Sheet c way all at)) (tables A) view → sheet_refusal_by view (is_full A) c way all at ≡ fault A (Sheet c way all at)
+sheet-fault A h s c way all at key view v =
     rw (
       known-shown A c view.ceremonies.items v.ceremonies,
-      unknown-first A view.people.items all (people-shown A view.people.items all v.people),
+      first-found (λ who. not (is_person_by view.people.items who)) (λ who. not (is_person A who)) (λ who. Unknown (Things.Person who)) all (λ who i. ap not (people-shown A view.people.items all v.people who i)),
       is_open-shown A c view.ceremonies.items v.ceremonies h,
       mark-shown A h c view.marks.items v.marks,
     )
-    (in-three (no_ceremony A c) (first_with (no_person A) all) (not_open A c) (room_refusal (stays_of_request view.stays.items c all) c (mark A c) (is_full A) way all at)
-    ∙ behind (no_ceremony A c) _ _ (behind (first_with (no_person A) all) _ _ (by_mark (mark A c) refl)))
+    (nested (no_ceremony A c ∷ first_with (no_person A) all ∷ not_open A c ∷ []) (room_refusal (stays_of_request view.stays.items c all) c (mark A c) (is_full A) way all at ∷ [])
+    ∙ behind (no_ceremony A c ∷ first_with (no_person A) all ∷ []) _ _ (by_mark (mark A c) refl))
   where
-    in-three : (a b c d : Option Refusal) → first_of (first_of (a ∷ b ∷ c ∷ []) ∷ d ∷ []) ≡ first_of (a ∷ b ∷ c ∷ d ∷ [])
-    in-three (Some x) b c d = refl
-    in-three None (Some x) c d = refl
-    in-three None None (Some x) d = refl
-    in-three None None None d = refl
-
     never : mark A c ≡ None → is_open A c ≡ false
     never e = ap (λ b. b && is_none (closed_at A c)) (sym (marked-opened A h c) ∙ ap is_some e)
 
@@ -302,68 +260,30 @@ sheet-refusal A h s c way all at key view v =
         → first_of (not_open A c ∷ room_refusal (stays_of_request view.stays.items c all) c o (is_full A) way all at ∷ []) ≡ first_of (not_open A c ∷ is_not_later at o ∷ named_twice all ∷ room_conditions A c way all at)
     by_mark None e = rw (never e) refl
     by_mark (Some m) e =
-        behind (not_open A c) _ _
+        behind (not_open A c ∷ []) _ _
         (twice-first (when (nat_le at m) (Late m)) (named_twice all) (stays_refusal (stays_of_request view.stays.items c all) c m (is_full A) way all at) (room_conditions A c way all at)
         (λ n. ap (λ r. first_of (r ∷ [])) (request-refusal (sheet A) s view.stays.items c m (is_full A) way all at v.stays.room v.stays.last (named_once all n)) ∙ rows-conditions A c m way all at))
 
--- that is its fault
-pub sheet-fault : (A : History) → IsRegister A → IsSheet (sheet A) → (c : ℕ) (way : Way) (all : List (List ℕ)) (at : ℕ)
-    → (key : List ℕ) (view : View) → IsViewOf (asks_by key (Sheet c way all at)) (tables A) view → sheet_refusal_by view (is_full A) c way all at ≡ fault A (Sheet c way all at)
-sheet-fault A h s c way all at key view v = sheet-refusal A h s c way all at key view v
-
 -- SHEETS ARE MADE IN TURN
 
--- a request names each person once
-abbrev pub NamesOnce : Act → Type 0
-NamesOnce (Sheet c way all at) = are_apart all ≡ true
-NamesOnce act = Unit {0}
-
-abbrev pub AllNameOnce : History → Type 0
-AllNameOnce [] = Unit {0}
-AllNameOnce (entry ∷ A) = NamesOnce entry.command.act × AllNameOnce A
-
-none-behind : (o : Option Refusal) (xs : List (Option Refusal)) → first_of (o ∷ xs) ≡ None → first_of xs ≡ None
-none-behind None xs h = h
-none-behind (Some r) xs h = absurd (let e : Some r ≡ None = h in cc)
-
-alone-none : (o : Option Refusal) → first_of (o ∷ []) ≡ None → o ≡ None
-alone-none None h = refl
-alone-none (Some r) h = absurd (let e : Some r ≡ None = h in cc)
-
-without-second : (a b : Option Refusal) (xs : List (Option Refusal)) → first_of (a ∷ b ∷ xs) ≡ None → first_of (a ∷ xs) ≡ None
-without-second None b xs h = none-behind b xs h
-without-second (Some r) b xs h = absurd (let e : Some r ≡ None = h in cc)
-
 -- a request in an open ceremony, behind whose mark no condition holds, keeps the sheet in turn
-pub made-by : (A : History) → IsRegister A → (c : ℕ) (way : Way) (all : List (List ℕ)) (at : ℕ) → are_apart all ≡ true → is_open A c ≡ true → first_of (not_later A c at ∷ room_conditions A c way all at) ≡ None
+made-by : (A : History) → IsRegister A → (c : ℕ) (way : Way) (all : List (List ℕ)) (at : ℕ) → are_apart all ≡ true → is_open A c ≡ true → first_of (not_later A c at ∷ room_conditions A c way all at) ≡ None
     → IsSheet (sheet A) → IsSheet (sheet A ++ map (new_row c way at) all)
 made-by A h c way all at a is f s = by_mark (mark A c) refl
   where
     by_mark : (o : Option ℕ) → mark A c ≡ o → IsSheet (sheet A ++ map (new_row c way at) all)
     by_mark None e = absurd (true≢false (sym is ∙ ap (λ b. b && is_none (closed_at A c)) (sym (marked-opened A h c) ∙ ap is_some e)))
     by_mark (Some m) e =
-        turns_keep (sheet A) c m (is_full A) way all at a
-        (alone-none (rows_refusal (sheet A) c m (is_full A) way all at) (rows-conditions A c m way all at ∙ ap (λ o. first_of (is_not_later at o ∷ room_conditions A c way all at)) (sym e) ∙ f)) s
+        let none = rows-conditions A c m way all at ∙ ap (λ o. first_of (is_not_later at o ∷ room_conditions A c way all at)) (sym e) ∙ f in
+        turns_keep (sheet A) c m (is_full A) way all at a (none_holds (rows_refusal (sheet A) c m (is_full A) way all at ∷ []) none).0 s
 
-made_after : (A : History) (act : Act) → IsRegister A → fault A act ≡ None → NamesOnce act → IsSheet (sheet A) → IsSheet (sheet_after act (sheet A))
-made_after A (Sheet c way all at) h f a s =
-    made-by A h c way all at a (met (is_open A c) State (none_holds (conditions A (Sheet c way all at)) f).1.1.0)
-    (without-second (not_later A c at) (named_twice all) (room_conditions A c way all at)
-    (none-behind (not_open A c) (not_later A c at ∷ named_twice all ∷ room_conditions A c way all at)
-    (none-behind (first_with (no_person A) all) (not_open A c ∷ not_later A c at ∷ named_twice all ∷ room_conditions A c way all at)
-    (none-behind (no_ceremony A c) (first_with (no_person A) all ∷ not_open A c ∷ not_later A c at ∷ named_twice all ∷ room_conditions A c way all at) f)))) s
-made_after A act h f a s = s
+made_after : (A : History) (act : Act) → IsRegister A → fault A act ≡ None → IsSheet (sheet A) → IsSheet (sheet_after act (sheet A))
+made_after A (Sheet c way all at) h f s =
+    let n = none_holds (conditions A (Sheet c way all at)) f in
+    made-by A h c way all at (named_once all n.1.1.1.1.0) (met (is_open A c) State n.1.1.0) (no_first (not_later A c at ∷ room_conditions A c way all at) (n.1.1.1.0, n.1.1.1.1.1)) s
+made_after A act h f s = s
 
--- the sheet of a register whose requests name each person once was made in turn
-pub sheet-made : (A : History) → IsRegister A → AllNameOnce A → IsSheet (sheet A)
-sheet-made [] h a = refl
-sheet-made (entry ∷ A) h a = made_after A entry.command.act h.1 (took A entry h.0).no_fault a.0 (sheet-made A h.1 a.1)
-
--- where no request that is accepted names anybody twice, none of a register does
-pub name-once : ((B : History) (c : ℕ) (way : Way) (all : List (List ℕ)) (at : ℕ) → fault B (Sheet c way all at) ≡ None → are_apart all ≡ true) → (A : History) → IsRegister A → AllNameOnce A
-name-once once [] h = tt
-name-once once (entry ∷ A) h = (by_act entry.command.act (took A entry h.0).no_fault, name-once once A h.1)
-  where
-    by_act : (act : Act) → fault A act ≡ None → NamesOnce act
-    by_act (Sheet c way all at) f = once A c way all at f
-    by_act act f = tt
+-- the sheet of a register was made in turn
+pub sheet-made : (A : History) → IsRegister A → IsSheet (sheet A)
+sheet-made [] h = refl
+sheet-made (entry ∷ A) h = made_after A entry.command.act h.1 (took A entry h.0).no_fault (sheet-made A h.1)

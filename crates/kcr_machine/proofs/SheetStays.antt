@@ -2,7 +2,7 @@
 use Rattle.std.proofs.Common.{◌≡◌, ℕ, ◌<◌, ◌≤◌, Bool, true, false, cond, not, ◌||◌, ◌&&◌, ◌==◌, nat_le, List, [], ◌∷◌, ◌++◌, map, filter, Option, Some, None, refl, sym, ap, ◌∙◌, subst, arith, append-nil, append_assoc, ◌⊎◌, inl, inr}
 use Rattle.std.specs.List.{list_any}
 use Rattle.std.specs.List.Sorted.{IsPermutation}
-use Rattle.std.proofs.lemmas.Bool.{true≢false, false≢true, and_parts, and_from, or_parts, or_cases, not-true, leb-true, leb-false, le-leb}
+use Rattle.std.proofs.lemmas.Bool.{true≢false, false≢true, and_parts, and_from, or_parts, or_cases, not-true, leb-true, leb-false, le-leb, and_right}
 use Rattle.kcr_base.specs.Same.{same_text}
 use Rattle.kcr_room.specs.declared.SheetRow.{SheetRow}
 use Rattle.kcr_room.specs.declared.Stay.{Stay}
@@ -15,7 +15,7 @@ use Rattle.kcr_room.proofs.Agreement.{same-is, same-turned}
 use Rattle.kcr_room.proofs.Keeping.{in_turn-append}
 use Rattle.kcr_room.proofs.Sheets.{tells-sheet, same-turns, stays-append, added, added-onto}
 use Rattle.kcr_history.specs.Views.{later_stay, last_of, last_stay}
-use Rattle.kcr_machine.proofs.Members.{IsIn, in-append, in-map, in-filter, filter-in, any-in, in-any, none-in, same-answers, in-order}
+use Rattle.kcr_machine.proofs.Members.{IsIn, any-in, filter-in, in-any, in-append, in-filter, in-map, in-order, none-in, same-answers}
 
 -- THE LAST STAY OF A LIST
 
@@ -28,20 +28,19 @@ last_of-is : (stays : List Stay) → IsLastOf stays (last_of stays)
 last_of-is [] = λ r i. i
 last_of-is (stay ∷ stays) = by_last (last_of stays) (last_of-is stays)
   where
+    own : (r : Stay) → r ≡ stay → r.since ≤ stay.since
+    own r same = let k : r.since ≡ stay.since = ap (λ s. s.since) same in omega arith
+
     by_test : (other : Stay) (b : Bool) → nat_le other.since stay.since ≡ b → IsLastOf stays (Some other) → IsLastOf (stay ∷ stays) (cond b (Some stay) (Some other))
-    by_test other true e h =
-        let l = leb-true other.since stay.since e in
-        (inl refl, λ r i. elim i [ inl same ↦ let k : r.since ≡ stay.since = ap (λ s. s.since) same in omega arith | inr j ↦ let k = h.1 r j in omega (arith, k, l) ])
-    by_test other false e h =
-        let l = leb-false other.since stay.since e in
-        (inr h.0, λ r i. elim i [ inl same ↦ let k : r.since ≡ stay.since = ap (λ s. s.since) same in omega arith | inr j ↦ h.1 r j ])
+    by_test other true e h = (inl refl, λ r i. elim i [ inl same ↦ own r same | inr j ↦ omega (arith, h.1 r j, leb-true other.since stay.since e) ])
+    by_test other false e h = (inr h.0, λ r i. elim i [ inl same ↦ omega (arith, own r same, leb-false other.since stay.since e) | inr j ↦ h.1 r j ])
 
     by_last : (o : Option Stay) → IsLastOf stays o → IsLastOf (stay ∷ stays) (later_stay stay o)
-    by_last None h = (inl refl, λ r i. elim i [ inl same ↦ let k : r.since ≡ stay.since = ap (λ s. s.since) same in omega arith | inr j ↦ absurd (h r j) ])
+    by_last None h = (inl refl, λ r i. elim i [ inl same ↦ own r same | inr j ↦ absurd (h r j) ])
     by_last (Some other) h = by_test other (nat_le other.since stay.since) refl h
 
 -- a person who has a stay has a last one
-pub last-stay : (stays : List Stay) (who : List ℕ) (r : Stay) → IsIn r stays → same_text r.who who ≡ true
+last-stay : (stays : List Stay) (who : List ℕ) (r : Stay) → IsIn r stays → same_text r.who who ≡ true
     → (s : Stay) × (last_stay stays who ≡ Some s) × IsIn s stays × (same_text s.who who ≡ true) × (r.since ≤ s.since)
 last-stay stays who r i e = by_last (last_stay stays who) refl (last_of-is own)
   where
@@ -68,17 +67,12 @@ last-in stays who s e = (in-filter (λ stay. same_text stay.who who) s stays (su
 abbrev pub EndsBy : ℕ → Option ℕ → Type 0
 EndsBy at until = (u : ℕ) × (until ≡ Some u) × (u ≤ at)
 
--- of a person's stays each ended before the next began, and no two began at one moment
+-- two stays of a person are one, or the earlier ended before the later began
 pub record IsClear (stays : List Stay) : Type 0 where
-  pub ended : (r s : Stay) → IsIn r stays → IsIn s stays → same_text r.who s.who ≡ true → r.since < s.since → EndsBy s.since r.until
-  pub single : (r s : Stay) → IsIn r stays → IsIn s stays → same_text r.who s.who ≡ true → r.since ≡ s.since → r ≡ s
+  pub apart : (r s : Stay) → IsIn r stays → IsIn s stays → same_text r.who s.who ≡ true → r.since ≤ s.since → (r ≡ s) ⊎ ((r.since < s.since) × EndsBy s.since r.until)
 
 pub clear-order : (xs ys : List Stay) → IsPermutation xs ys → IsClear xs → IsClear ys
-clear-order xs ys p h =
-    record {
-      ended = λ r s i j. h.ended r s (in-order r xs ys p i) (in-order s xs ys p j);
-      single = λ r s i j. h.single r s (in-order r xs ys p i) (in-order s xs ys p j);
-    }
+clear-order xs ys p h = record { apart = λ r s i j. h.apart r s (in-order r xs ys p i) (in-order s xs ys p j) }
 
 -- a stay of somebody whose turn it is to come: it ended before
 pub before-enter : (stays : List Stay) (c at : ℕ) (who : List ℕ) → is_out_of_turn_in stays c Enter at who ≡ false → (r : Stay) → IsIn r stays → same_text r.who who ≡ true → (r.since < at) × EndsBy at r.until
@@ -95,11 +89,7 @@ before-enter stays c at who h r i e =
     by_parts false k since until f g = absurd (false≢true k)
 
 clear-enter : (stays : List Stay) (c at : ℕ) (who : List ℕ) → is_out_of_turn_in stays c Enter at who ≡ false → IsClear stays → IsClear (stays ++ new_stay c at who ∷ [])
-clear-enter stays c at who h clear =
-    record {
-      ended = λ r s i j e l. both r s (in-append r stays (new ∷ []) i) (in-append s stays (new ∷ []) j) e l;
-      single = λ r s i j e l. one r s (in-append r stays (new ∷ []) i) (in-append s stays (new ∷ []) j) e l;
-    }
+clear-enter stays c at who h clear = record { apart = λ r s i j. both r s (in-append r stays (new ∷ []) i) (in-append s stays (new ∷ []) j) }
   where
     new : Stay
     new = new_stay c at who
@@ -108,66 +98,29 @@ clear-enter stays c at who h clear =
     same_at r (inl e) = e
     same_at r (inr i) = absurd i
 
-    earlier : (r s : Stay) → IsIn r stays → s ≡ new → same_text r.who s.who ≡ true → (r.since < at) × EndsBy at r.until
-    earlier r s i k e = before-enter stays c at who h r i (ap (λ t. same_text r.who t.who) (sym k) ∙ e)
+    earlier : (r s : Stay) → IsIn r stays → s ≡ new → same_text r.who s.who ≡ true → (r.since < s.since) × EndsBy s.since r.until
+    earlier r s i k e = rw k (before-enter stays c at who h r i (rw k at e))
 
-    both : (r s : Stay) → IsIn r stays ⊎ IsIn r (new ∷ []) → IsIn s stays ⊎ IsIn s (new ∷ []) → same_text r.who s.who ≡ true → r.since < s.since → EndsBy s.since r.until
-    both r s (inl i) (inl j) e l = clear.ended r s i j e l
-    both r s (inl i) (inr j) e l = let k = same_at s j in subst (λ m. EndsBy m r.until) (sym (ap (λ t. t.since) k)) (earlier r s i k e).1
-    both r s (inr i) (inl j) e l =
-        let k = same_at r i in
-        let m : r.since ≡ at = ap (λ t. t.since) k in
-        let n = (earlier s r j k (same-turned s.who r.who ∙ e)).0 in
-        absurd (omega (arith, m, n, l))
-    both r s (inr i) (inr j) e l =
-        let m : r.since ≡ at = ap (λ t. t.since) (same_at r i) in
-        let n : s.since ≡ at = ap (λ t. t.since) (same_at s j) in
-        absurd (omega (arith, m, n, l))
-
-    one : (r s : Stay) → IsIn r stays ⊎ IsIn r (new ∷ []) → IsIn s stays ⊎ IsIn s (new ∷ []) → same_text r.who s.who ≡ true → r.since ≡ s.since → r ≡ s
-    one r s (inl i) (inl j) e l = clear.single r s i j e l
-    one r s (inl i) (inr j) e l =
-        let k = same_at s j in
-        let m : s.since ≡ at = ap (λ t. t.since) k in
-        let n = (earlier r s i k e).0 in
-        absurd (omega (arith, m, n, l))
-    one r s (inr i) (inl j) e l =
-        let k = same_at r i in
-        let m : r.since ≡ at = ap (λ t. t.since) k in
-        let n = (earlier s r j k (same-turned s.who r.who ∙ e)).0 in
-        absurd (omega (arith, m, n, l))
-    one r s (inr i) (inr j) e l = same_at r i ∙ sym (same_at s j)
+    both : (r s : Stay) → IsIn r stays ⊎ IsIn r (new ∷ []) → IsIn s stays ⊎ IsIn s (new ∷ []) → same_text r.who s.who ≡ true → r.since ≤ s.since → (r ≡ s) ⊎ ((r.since < s.since) × EndsBy s.since r.until)
+    both r s (inl i) (inl j) e l = clear.apart r s i j e l
+    both r s (inl i) (inr j) e l = inr (earlier r s i (same_at s j) e)
+    both r s (inr i) (inl j) e l = absurd (let m = (earlier s r j (same_at r i) (same-turned s.who r.who ∙ e)).0 in omega (arith, m, l))
+    both r s (inr i) (inr j) e l = inl (same_at r i ∙ sym (same_at s j))
 
 -- a stay that has an end keeps it
-pub closed-ended : (people : List (List ℕ)) (at : ℕ) (stay : Stay) (u : ℕ) → stay.until ≡ Some u → (closed people at stay).until ≡ Some u
+closed-ended : (people : List (List ℕ)) (at : ℕ) (stay : Stay) (u : ℕ) → stay.until ≡ Some u → (closed people at stay).until ≡ Some u
 closed-ended people at stay u e =
-    ap (λ o. cond (is_among people stay.who && is_open o) (Some at) o) e ∙ ap (λ b. cond b (Some at) (Some u)) (and_none (is_among people stay.who))
-  where
-    and_none : (b : Bool) → (b && false) ≡ false
-    and_none true = refl
-    and_none false = refl
+    ap (λ o. cond (is_among people stay.who && is_open o) (Some at) o) e ∙ ap (λ b. cond b (Some at) (Some u)) (and_right (is_among people stay.who) false refl)
 
 clear-leave : (stays : List Stay) (at : ℕ) (people : List (List ℕ)) → IsClear stays → IsClear (map (closed people at) stays)
-clear-leave stays at people clear =
-    record {
-      ended = λ r s i j e l. both r s (in-map (closed people at) r stays i) (in-map (closed people at) s stays j) e l;
-      single = λ r s i j e l. one r s (in-map (closed people at) r stays i) (in-map (closed people at) s stays j) e l;
-    }
+clear-leave stays at people clear = record { apart = λ r s i j. both r s (in-map (closed people at) r stays i) (in-map (closed people at) s stays j) }
   where
-    both : (r s : Stay) → (x : Stay) × IsIn x stays × (r ≡ closed people at x) → (y : Stay) × IsIn y stays × (s ≡ closed people at y) → same_text r.who s.who ≡ true → r.since < s.since → EndsBy s.since r.until
-    both r s (x, i, f) (y, j, g) e l =
-        let a : r.since ≡ x.since = ap (λ t. t.since) f in
-        let b : s.since ≡ y.since = ap (λ t. t.since) g in
-        let w : same_text x.who y.who ≡ true = sym (ap (λ t. same_text t.who s.who) f ∙ ap (λ t. same_text x.who t.who) g) ∙ e in
-        let q = clear.ended x y i j w (omega (arith, a, b, l)) in
-        (q.0, ap (λ t. t.until) f ∙ closed-ended people at x q.0 q.1, omega (arith, b, q.2))
-
-    one : (r s : Stay) → (x : Stay) × IsIn x stays × (r ≡ closed people at x) → (y : Stay) × IsIn y stays × (s ≡ closed people at y) → same_text r.who s.who ≡ true → r.since ≡ s.since → r ≡ s
-    one r s (x, i, f) (y, j, g) e l =
-        let a : r.since ≡ x.since = ap (λ t. t.since) f in
-        let b : s.since ≡ y.since = ap (λ t. t.since) g in
-        let w : same_text x.who y.who ≡ true = sym (ap (λ t. same_text t.who s.who) f ∙ ap (λ t. same_text x.who t.who) g) ∙ e in
-        f ∙ ap (closed people at) (clear.single x y i j w (sym a ∙ l ∙ b)) ∙ sym g
+    both : (r s : Stay) → (x : Stay) × IsIn x stays × (r ≡ closed people at x) → (y : Stay) × IsIn y stays × (s ≡ closed people at y) → same_text r.who s.who ≡ true → r.since ≤ s.since
+        → (r ≡ s) ⊎ ((r.since < s.since) × EndsBy s.since r.until)
+    both r s (x, i, f) (y, j, g) e l = elim (clear.apart x y i j (rw (f, g) at e) (rw (f, g) at l)) [
+      | inl same ↦ inl (f ∙ ap (closed people at) same ∙ sym g)
+      | inr q ↦ inr (rw (f, g) q.0, (q.1.0, ap (λ t. t.until) f ∙ closed-ended people at x q.1.0 q.1.1, rw g q.1.2))
+    ]
 
 -- one more row in its turn
 clear-row : (c : ℕ) (way : Way) (at : ℕ) (who : List ℕ) (before : List SheetRow) → IsSheet before → is_out_of_turn_by before c way at who ≡ false → IsClear (stays_by before) → IsClear (added c way at (who ∷ []) (stays_by before))
@@ -181,8 +134,7 @@ clear-next before row s h clear =
     (clear-row row.ceremony row.way row.at row.who before s h clear)
   where
     turned : (b : Bool) → b ≡ false → turn_refusal (cond b (Some row.who) None) ≡ None
-    turned true e = absurd (true≢false e)
-    turned false e = refl
+    turned b e = rw e refl
 
 clear-onto : (rows before : List SheetRow) → IsSheet before → in_turn_onto before rows ≡ true → IsClear (stays_by before) → IsClear (stays_by (before ++ rows))
 clear-onto [] before s t clear = subst (λ rows. IsClear (stays_by rows)) (sym (append-nil before)) clear
@@ -195,7 +147,7 @@ clear-onto (row ∷ rows) before s t clear =
 
 -- the stays of a sheet made in turn
 pub clear-sheet : (rows : List SheetRow) → IsSheet rows → IsClear (stays_by rows)
-clear-sheet rows s = clear-onto rows [] refl s (record { ended = λ r t i. absurd i; single = λ r t i. absurd i })
+clear-sheet rows s = clear-onto rows [] refl s (record { apart = λ r t i. absurd i })
 
 -- WHOSE TURN IT IS, BY SOME OF THE STAYS
 
@@ -205,29 +157,25 @@ IsOfLast who test =
     ((r : Stay) → test r ≡ true → same_text r.who who ≡ true)
     × ((r s : Stay) → same_text s.who who ≡ true → r.since < s.since → EndsBy s.since r.until → test r ≡ true → test s ≡ true)
 
-pub any-last : (all some : List Stay) (who : List ℕ) → IsClear all → ((r : Stay) → IsIn r some → IsIn r all) → ((s : Stay) → last_stay all who ≡ Some s → IsIn s some)
+any-last : (all some : List Stay) (who : List ℕ) → IsClear all → ((r : Stay) → IsIn r some → IsIn r all) → ((s : Stay) → last_stay all who ≡ Some s → IsIn s some)
     → (test : Stay → Bool) → IsOfLast who test → list_any test some ≡ list_any test all
 any-last all some who clear sub has test of = same-answers (list_any test some) (list_any test all) out back
   where
     out : list_any test some ≡ true → list_any test all ≡ true
     out h = let a = any-in test some h in in-any test a.0 all (sub a.0 a.1) a.2
 
-    by_since : (r s : Stay) → IsIn r all → IsIn s all → same_text r.who who ≡ true → same_text s.who who ≡ true → r.since ≤ s.since → test r ≡ true → (b : Bool) → nat_le s.since r.since ≡ b → test s ≡ true
-    by_since r s i j e f l t true k =
-        let m = leb-true s.since r.since k in
-        let w : same_text r.who s.who ≡ true = ap (λ z. same_text r.who z) (same-is s.who who f) ∙ e in
-        subst (λ z. test z ≡ true) (clear.single r s i j w (omega (arith, l, m))) t
-    by_since r s i j e f l t false k =
-        let m = leb-false s.since r.since k in
-        let w : same_text r.who s.who ≡ true = ap (λ z. same_text r.who z) (same-is s.who who f) ∙ e in
-        of.1 r s f m (clear.ended r s i j w m) t
+    by_since : (r s : Stay) → IsIn r all → IsIn s all → same_text r.who who ≡ true → same_text s.who who ≡ true → r.since ≤ s.since → test r ≡ true → test s ≡ true
+    by_since r s i j e f l t = elim (clear.apart r s i j (ap (same_text r.who) (same-is s.who who f) ∙ e) l) [
+      | inl same ↦ subst (λ z. test z ≡ true) same t
+      | inr q ↦ of.1 r s f q.0 q.1 t
+    ]
 
     back : list_any test all ≡ true → list_any test some ≡ true
     back h =
         let a = any-in test all h in
         let own = of.0 a.0 a.2 in
         let z = last-stay all who a.0 a.1 own in
-        in-any test z.0 some (has z.0 z.1) (by_since a.0 z.0 a.1 z.2 own z.3 z.4 a.2 (nat_le z.0.since a.0.since) refl)
+        in-any test z.0 some (has z.0 z.1) (by_since a.0 z.0 a.1 z.2 own z.3 z.4 a.2)
 
 of-reaches : (who : List ℕ) (at : ℕ) → IsOfLast who (reaches who at)
 of-reaches who at = (λ r h. (and_parts (same_text r.who who) (nat_le at r.since || ends_from at r.until) h).0, later)
@@ -242,22 +190,21 @@ of-reaches who at = (λ r h. (and_parts (same_text r.who who) (nat_le at r.since
         ] in
         and_from (same_text s.who who) (nat_le at s.since || ends_from at s.until) e (ap (λ b. b || ends_from at s.until) m)
 
-of-inside : (who : List ℕ) → IsOfLast who (is_inside who)
-of-inside who = (
-  λ r h. (and_parts (same_text r.who who) (is_open r.until) h).0,
-  λ r s e l q h. absurd (true≢false (sym (and_parts (same_text r.who who) (is_open r.until) h).1 ∙ ap is_open q.1)),
-)
-
-of-inside_of : (c : ℕ) (who : List ℕ) → IsOfLast who (is_inside_of c who)
-of-inside_of c who = (
-  λ r h. (and_parts (same_text r.who who) (is_open r.until) (and_parts (is_inside who r) (r.ceremony == c) h).0).0,
-  λ r s e l q h. absurd (true≢false (sym (and_parts (same_text r.who who) (is_open r.until) (and_parts (is_inside who r) (r.ceremony == c) h).0).1 ∙ ap is_open q.1)),
+-- a test that only stays in the room pass
+of-inside : (who : List ℕ) (test : Stay → Bool) → ((r : Stay) → test r ≡ true → is_inside who r ≡ true) → IsOfLast who test
+of-inside who test inside = (
+  λ r h. (and_parts (same_text r.who who) (is_open r.until) (inside r h)).0,
+  λ r s e l q h. absurd (true≢false (sym (and_parts (same_text r.who who) (is_open r.until) (inside r h)).1 ∙ ap is_open q.1)),
 )
 
 -- it is somebody's turn by some of the stays, the last one among them, where it is by all
 pub turn-last : (all some : List Stay) (who : List ℕ) → IsClear all → ((r : Stay) → IsIn r some → IsIn r all) → ((s : Stay) → last_stay all who ≡ Some s → IsIn s some)
     → (c : ℕ) (way : Way) (at : ℕ) → is_out_of_turn_in some c way at who ≡ is_out_of_turn_in all c way at who
 turn-last all some who clear sub has c Enter at =
-    rw (any-last all some who clear sub has (reaches who at) (of-reaches who at), any-last all some who clear sub has (is_inside who) (of-inside who)) refl
+    rw (any-last all some who clear sub has (reaches who at) (of-reaches who at), any-last all some who clear sub has (is_inside who) (of-inside who (is_inside who) (λ r h. h))) refl
 turn-last all some who clear sub has c Leave at =
-    rw (any-last all some who clear sub has (reaches who at) (of-reaches who at), any-last all some who clear sub has (is_inside_of c who) (of-inside_of c who)) refl
+    rw (
+      any-last all some who clear sub has (reaches who at) (of-reaches who at),
+      any-last all some who clear sub has (is_inside_of c who) (of-inside who (is_inside_of c who) (λ r h. (and_parts (is_inside who r) (r.ceremony == c) h).0)),
+    )
+    refl

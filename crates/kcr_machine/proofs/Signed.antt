@@ -1,5 +1,5 @@
 -- Signatures and exceptions: what the rows of a view say of them is what the history says, and their changes lead on.
-use Rattle.std.proofs.Common.{◌≡◌, ℕ, zero, suc, ◌<◌, Bool, true, false, nat_lt, List, [], ◌∷◌, ◌++◌, map, length, get_or, Option, Some, None, is_none, refl, sym, ap, ◌∙◌, subst, arith, inl, inr}
+use Rattle.std.proofs.Common.{◌≡◌, ℕ, zero, suc, ◌<◌, Bool, true, false, nat_lt, List, [], ◌∷◌, ◌++◌, map, length, get_or, Option, Some, None, is_none, refl, sym, ap, ◌∙◌, subst, arith, inl, inr, append_assoc}
 use Rattle.std.specs.Prelude.{is_some, slice_get}
 use Rattle.std.specs.List.Sorted.{IsPermutation}
 use Rattle.std.proofs.lemmas.Bool.{ltb-true}
@@ -11,9 +11,7 @@ use Rattle.kcr_base.specs.declared.place.Place.{Place}
 use Rattle.kcr_base.specs.declared.place.Place.TheVariants as Places
 use Rattle.kcr_base.specs.declared.place.Role.TheVariants.{Ca, Iw}
 use Rattle.kcr_base.specs.declared.refusal.Refusal.{Refusal}
-use Rattle.kcr_base.specs.declared.refusal.Refusal.TheVariants.{Unknown, Order, Short}
-use Rattle.kcr_base.specs.declared.refusal.Thing.TheVariants as Things
-use Rattle.kcr_base.proofs.RefuseLemmas.{none_holds, unmet}
+use Rattle.kcr_base.specs.declared.refusal.Refusal.TheVariants.{Short}
 use Rattle.kcr_script.specs.declared.script.Step.{Step}
 use Rattle.kcr_script.specs.declared.seat.Seat.{Seat}
 use Rattle.kcr_script.specs.declared.seat.Seat.TheVariants.{Staff, AnyCo, AnyRksh, Co, Rksh}
@@ -22,11 +20,10 @@ use Rattle.kcr_history.specs.declared.commands.Act.{Act}
 use Rattle.kcr_history.specs.declared.commands.Act.TheVariants.{Sign, Except}
 use Rattle.kcr_history.specs.declared.commands.Answer.{Answer}
 use Rattle.kcr_history.specs.declared.commands.Command.{Command}
-use Rattle.kcr_history.specs.declared.commands.Entry.{Entry}
 use Rattle.kcr_history.specs.declared.rows.StepState.{StepState}
 use Rattle.kcr_history.specs.declared.rows.StepState.TheVariants.{Signed, Passed}
 use Rattle.kcr_history.specs.declared.views.Change.{Change}
-use Rattle.kcr_history.specs.declared.views.Change.TheVariants.{PutStep, PutSeating, PutException, PutKey}
+use Rattle.kcr_history.specs.declared.views.Change.TheVariants.{PutStep, PutSeating, PutKey}
 use Rattle.kcr_history.specs.declared.views.View.{View}
 use Rattle.kcr_history.specs.History.{History, entry_of, stacked_on}
 use Rattle.kcr_history.specs.Training.{is_holder}
@@ -37,22 +34,22 @@ use Rattle.kcr_history.specs.Tables.{Tables, tables, marks, steps, step_row, sea
 use Rattle.kcr_history.specs.Changes.{changed_by, same_step, same_mark, same_exception}
 use Rattle.kcr_history.specs.Views.{IsViewOf}
 use Rattle.kcr_history.specs.Asked.{asks_by}
-use Rattle.kcr_history.specs.Conditions.{conditions, fault, is_full}
-use Rattle.kcr_history.specs.Machine.{Sitting, answer_to, with_command, IsRegister}
+use Rattle.kcr_history.specs.Conditions.{fault, is_full}
+use Rattle.kcr_history.specs.Machine.{Sitting, answer_to, with_command, IsRegister, sitting}
 use Rattle.kcr_scene.specs.Scene.{ceremony_by, facility_by}
-use Rattle.kcr_scene.specs.Signing.{step_by, seats_by, next_by, sign_refusal, except_refusal, is_holder_by, fits_by, on_seat, fits_of, room_by, IsSeatedBy, IsUnseatedBy, staff, step_change, mark_change, seat_changes, exception_change}
+use Rattle.kcr_scene.specs.Signing.{step_by, seats_by, next_by, sign_refusal, except_refusal, is_holder_by, fits_by, on_seat, fits_of, room_by, IsSeatedBy, IsUnseatedBy, staff, mark_change, seat_changes, exception_change}
 use Rattle.kcr_machine.specs.RowDecision.{new_key_row}
 use Rattle.kcr_laws.proofs.Alone.{rooms}
-use Rattle.kcr_machine.proofs.NewKeys.{new_key}
-use Rattle.kcr_machine.proofs.InRoom.{trained-all, holder-shown}
-use Rattle.kcr_machine.proofs.Keyed.{put-new}
-use Rattle.kcr_machine.proofs.Lift.{any-ext}
-use Rattle.kcr_machine.proofs.Scenes.{known-shown, is_open-shown, mark-shown, marks-put}
-use Rattle.kcr_machine.proofs.Seatings.{first-of, least-of}
-use Rattle.kcr_machine.proofs.StepChanges.{changed-append, put-step, put-seats, fresh-seats, fresh-exception}
-use Rattle.kcr_machine.proofs.StepRows.{ShowsSteps, there, step-shown, done-shown, stated-shown}
 use Rattle.kcr_laws.proofs.Done.{next_signed}
 use Rattle.kcr_laws.proofs.Finds.{some_if}
+use Rattle.kcr_people.proofs.Orders.{any-same}
+use Rattle.std.proofs.lemmas.Option.{same_Some, none-some}
+use Rattle.kcr_machine.proofs.InRoom.{holder-shown, present-shown, trained-all}
+use Rattle.kcr_machine.proofs.Keyed.{put-new}
+use Rattle.kcr_machine.proofs.Leads.{changed-append, changed_with, command_of, entry_as, new_key}
+use Rattle.kcr_machine.proofs.Scenes.{facility-shown, is_open-shown, known-shown, mark-shown, marks-put}
+use Rattle.kcr_machine.proofs.Seatings.{first-of, least-of}
+use Rattle.kcr_machine.proofs.StepRows.{ShowsSteps, done-shown, fresh-exception, fresh-seats, pass-there, put-seats, put-step, sign-there, stated-shown, step-shown}
 
 -- THE FIRST REFUSAL
 
@@ -89,15 +86,6 @@ except-fault A h c text pass at key view v =
 
 -- SEATS
 
--- the step of a signature that has no fault is in the script
-pub sign-there : (A : History) (c k at : ℕ) → fault A (Sign c k at) ≡ None → is_some (step_at (steps_of A c) k) ≡ true
-sign-there A c k at f =
-    there (step_at (steps_of A c) k) (unmet (is_none (step_at (steps_of A c) k)) (Unknown (Things.Step k)) (none_holds (conditions A (Sign c k at)) f).1.0)
-
-pub pass-there : (A : History) (c : ℕ) (text : List ℕ) (at : ℕ) → fault A (Except c text true at) ≡ None → is_some (step_at (steps_of A c) (next_step A c)) ≡ true
-pass-there A c text at f =
-    there (step_at (steps_of A c) (next_step A c)) (unmet (is_none (step_at (steps_of A c) (next_step A c))) (Order (next_step A c)) (none_holds (conditions A (Except c text true at)) f).1.1.1.0)
-
 -- the seats of the step's row are those of the script
 pub seats-shown : (A : History) → IsRegister A → (c : ℕ) (view : View) → ShowsSteps c (steps A) view.steps.items → (k : ℕ) → is_some (step_at (steps_of A c) k) ≡ true
     → seats_by (step_by view.steps.items c k) ≡ seats_at (steps_of A c) k
@@ -117,10 +105,10 @@ pub fits-shown : (A : History) → IsRegister A → (view : View) → IsPermutat
 fits-shown A h view p q r f day None who = refl
 fits-shown A h view p q r f day (Some (Staff role)) who = trained-all A h view.trainings.items view.withdrawals.items p q who role day
 fits-shown A h view p q r f day (Some AnyCo) who =
-    any-ext (λ n. is_holder_by view.appointments.items (Places.Co f n) day who) (λ n. is_holder A (Places.Co f n) day who) (λ n. is_holder-shown A h view r (Places.Co f n) day who) one_to_seven
+    any-same (λ n. is_holder_by view.appointments.items (Places.Co f n) day who) (λ n. is_holder A (Places.Co f n) day who) (λ n. is_holder-shown A h view r (Places.Co f n) day who) one_to_seven
 fits-shown A h view p q r f day (Some (Co n)) who = is_holder-shown A h view r (Places.Co f n) day who
 fits-shown A h view p q r f day (Some AnyRksh) who =
-    any-ext (λ n. is_holder_by view.appointments.items (Places.Rksh n) day who) (λ n. is_holder A (Places.Rksh n) day who) (λ n. is_holder-shown A h view r (Places.Rksh n) day who) one_to_seven
+    any-same (λ n. is_holder_by view.appointments.items (Places.Rksh n) day who) (λ n. is_holder A (Places.Rksh n) day who) (λ n. is_holder-shown A h view r (Places.Rksh n) day who) one_to_seven
 fits-shown A h view p q r f day (Some (Rksh n)) who = is_holder-shown A h view r (Places.Rksh n) day who
 
 -- of the seats of a passing exception trainings and withdrawals are enough
@@ -130,28 +118,54 @@ staff-shown A h view p q f day zero who = trained-all A h view.trainings.items v
 staff-shown A h view p q f day (suc zero) who = trained-all A h view.trainings.items view.withdrawals.items p q who Iw day
 staff-shown A h view p q f day (suc (suc k)) who = refl
 
+-- what the seats of a sitting are filled by, the same by the rows of a view as by the history
+pub record IsShown (A : History) (view : View) (s : Sitting) : Type 0 where
+  pub facility : facility_by (ceremony_by view.ceremonies.items s.ceremony) ≡ facility_of A s.ceremony
+  pub room : room_by view s ≡ present A s.ceremony s.at
+  pub fit : (k : ℕ) (who : List ℕ) → on_seat (by_view A view s) (slice_get s.seats k) who ≡ on_seat (fits A (facility_of A s.ceremony) (day_of s.at)) (slice_get s.seats k) who
+
+-- the sitting of an act is shown so
+sign-sitting : (A : History) → IsRegister A → (key : List ℕ) (c k at : ℕ) (view : View) → IsViewOf (asks_by key (Sign c k at)) (tables A) view → IsShown A view (record { ceremony = c; at = at; seats = seats_at (steps_of A c) k })
+sign-sitting A h key c k at view v =
+    record {
+      facility = facility-shown A c view.ceremonies.items v.ceremonies;
+      room = present-shown A c view.stays.items v.stays.room at;
+      fit = λ j who. fits-shown A h view v.trainings v.withdrawals v.appointments (facility_of A c) (day_of at) (slice_get (seats_at (steps_of A c) k) j) who;
+    }
+
+pass-sitting : (A : History) → IsRegister A → (key : List ℕ) (c : ℕ) (text : List ℕ) (at : ℕ) (view : View) → IsViewOf (asks_by key (Except c text true at)) (tables A) view → IsShown A view (record { ceremony = c; at = at; seats = staff })
+pass-sitting A h key c text at view v =
+    record {
+      facility = facility-shown A c view.ceremonies.items v.ceremonies;
+      room = present-shown A c view.stays.items v.stays.room at;
+      fit = staff-shown A h view v.trainings v.withdrawals (facility_of A c) (day_of at);
+    }
+
+pub sitting-is : (A : History) → IsRegister A → (key : List ℕ) (act : Act) (view : View) → IsViewOf (asks_by key act) (tables A) view → (s : Sitting) → sitting A act ≡ Some s → IsShown A view s
+sitting-is A h key (Sign c k at) view v s e = subst (IsShown A view) (same_Some _ s e) (sign-sitting A h key c k at view v)
+sitting-is A h key (Except c text true at) view v s e = subst (IsShown A view) (same_Some _ s e) (pass-sitting A h key c text at view v)
+sitting-is A h key (Except c text false at) view v s e = absurd (none-some s e)
+sitting-is A h key act view v s e = absurd (none-some s e)
+
 -- the people whom the search names are the first seating, and the seats that it names a least shortage
-module _ (A : History) (h : IsRegister A) (view : View) (s : Sitting)
-    (facility : facility_by (ceremony_by view.ceremonies.items s.ceremony) ≡ facility_of A s.ceremony)
-    (room : room_by view s ≡ present A s.ceremony s.at)
-    (fit : (k : ℕ) (who : List ℕ) → on_seat (by_view A view s) (slice_get s.seats k) who ≡ on_seat (fits A (facility_of A s.ceremony) (day_of s.at)) (slice_get s.seats k) who) where
+module _ (A : History) (h : IsRegister A) (view : View) (s : Sitting) (shown : IsShown A view s) where
   abbrev relation : Facility → List (List ℕ) → ℕ → ℕ → Bool
   relation f P = fits_of (fits_by view.trainings.items view.withdrawals.items view.appointments.items f (day_of s.at)) s.seats P
 
   pub seated-first : (people : List (List ℕ)) → IsSeatedBy view s people → IsFirst A s.ceremony s.at s.seats people
   seated-first people g =
-      let one = subst (λ f. Search.IsFirst (relation f (room_by view s)) (length s.seats) (length (room_by view s)) g.numbers) facility g.first in
-      let two = subst (λ P. Search.IsFirst (relation (facility_of A s.ceremony) P) (length s.seats) (length P) g.numbers) room one in
-      subst (IsFirst A s.ceremony s.at s.seats) (sym (g.named ∙ ap (λ P. map (λ p. get_or P p []) g.numbers) room))
-      (first-of A s.ceremony s.at (by_view A view s) s.seats fit g.numbers two)
+      let one = subst (λ f. Search.IsFirst (relation f (room_by view s)) (length s.seats) (length (room_by view s)) g.numbers) shown.facility g.first in
+      let two = subst (λ P. Search.IsFirst (relation (facility_of A s.ceremony) P) (length s.seats) (length P) g.numbers) shown.room one in
+      subst (IsFirst A s.ceremony s.at s.seats) (sym (g.named ∙ ap (λ P. map (λ p. get_or P p []) g.numbers) shown.room))
+      (first-of A s.ceremony s.at (by_view A view s) s.seats shown.fit g.numbers two)
 
   pub unseated-least : (refusal : Refusal) → IsUnseatedBy view s refusal → (positions : List ℕ) × IsLeast A s.ceremony s.at s.seats positions × (refusal ≡ Short (map suc positions))
   unseated-least refusal (inl (positions, g, e)) =
-      let one = subst (λ f. Search.IsLeast (relation f (room_by view s)) (length s.seats) (length (room_by view s)) g.numbers) facility g.least in
-      let two = subst (λ P. Search.IsLeast (relation (facility_of A s.ceremony) P) (length s.seats) (length P) g.numbers) room one in
-      (g.numbers, least-of A s.ceremony s.at (by_view A view s) s.seats fit g.numbers two, e ∙ ap Short g.counted)
+      let one = subst (λ f. Search.IsLeast (relation f (room_by view s)) (length s.seats) (length (room_by view s)) g.numbers) shown.facility g.least in
+      let two = subst (λ P. Search.IsLeast (relation (facility_of A s.ceremony) P) (length s.seats) (length P) g.numbers) shown.room one in
+      (g.numbers, least-of A s.ceremony s.at (by_view A view s) s.seats shown.fit g.numbers two, e ∙ ap Short g.counted)
   unseated-least refusal (inr (e, g)) =
-      let many : 128 < length (present A s.ceremony s.at) = ltb-true 128 (length (present A s.ceremony s.at)) (ap (λ P. nat_lt 128 (length P)) (sym room) ∙ g) in
+      let many : 128 < length (present A s.ceremony s.at) = ltb-true 128 (length (present A s.ceremony s.at)) (ap (λ P. nat_lt 128 (length P)) (sym shown.room) ∙ g) in
       absurd (omega (arith, many, (rooms A h s.ceremony s.at).1))
 
 -- CHANGES
@@ -165,63 +179,51 @@ seat-tables A c k at state people h l =
     changed-append (map PutSeating (seat_rows c k 0 people)) (mark_change c at ∷ []) t
     ∙ ap (λ t. changed_by (mark_change c at ∷ []) t) (put-seats c k 0 people t (λ j m. fresh-seats A h c k j l))
 
-abbrev one : List ℕ → Act → Answer → Entry
-one key act answer = record { command = record { key = key; act = act }; answer = answer }
+-- by the rows of the view the step's row is that one
+seats-changed : (A : History) → IsRegister A → (view : View) → (c k at : ℕ) (state : StepState) (people : List (List ℕ)) → ShowsSteps c (steps A) view.steps.items → is_some (step_at (steps_of A c) k) ≡ true → steps_done A c < k
+    → (rest : List Change) → changed_by (seat_changes view state c k at people ++ rest) (tables A)
+    ≡ changed_by rest (record (tables A) { steps = put same_step (record (step_row A (c, k)) { state = state; at = Some at }) (steps A); seatings = stacked_on (seat_rows c k 0 people) (seatings A); marks = put same_mark (record { ceremony = c; at = at }) (marks A) })
+seats-changed A h view c k at state people p inside l rest =
+    rw (step-shown A h c view.steps.items p k, inside)
+    (changed-append (PutStep (record (step_row A (c, k)) { state = state; at = Some at }) ∷ map PutSeating (seat_rows c k 0 people) ++ mark_change c at ∷ []) rest (tables A)
+    ∙ ap (changed_by rest) (seat-tables A c k at state people h l))
 
 -- a signature
 pub sign-leads : (A : History) → IsRegister A → (key : List ℕ) (c k at : ℕ) (view : View) (people : List (List ℕ)) (answer : Answer) → IsViewOf (asks_by key (Sign c k at)) (tables A) view → entry_of A key ≡ None
     → fault A (Sign c k at) ≡ None → answer ≡ answer_to A (Sign c k at) (Some people)
-    → changed_by (seat_changes view Signed c k at people ++ PutKey (new_key_row (record { key = key; act = Sign c k at }) answer) ∷ []) (tables A)
-    ≡ tables (with_command A (record { key = key; act = Sign c k at }) answer)
+    → changed_with (seat_changes view Signed c k at people) (command_of key (Sign c k at)) answer (tables A) ≡ tables (with_command A (command_of key (Sign c k at)) answer)
 sign-leads A h key c k at view people answer v absent f e =
-    let x : Command = record { key = key; act = Sign c k at } in
+    let x : Command = command_of key (Sign c k at) in
     let inside = sign-there A c k at f in
-    let number : steps_done A c < k = omega (arith, next_signed A c k at f) in
-    let q = new_key A x answer absent in
-    let s = put-step A h (one key (Sign c k at) answer) c k at Signed (λ d j. refl) (λ d. refl) refl inside in
-    let m = marks-put A (one key (Sign c k at) answer) c at f refl refl in
-    let old : step_change (step_by view.steps.items c k) Signed at ≡ PutStep (record (step_row A (c, k)) { state = Signed; at = Some at }) ∷ [] = rw (step-shown A h c view.steps.items v.steps k, inside) refl in
-    ap (λ changes. changed_by ((changes ++ map PutSeating (seat_rows c k 0 people) ++ mark_change c at ∷ []) ++ PutKey (new_key_row x answer) ∷ []) (tables A)) old
-    ∙ changed-append (PutStep (record (step_row A (c, k)) { state = Signed; at = Some at }) ∷ map PutSeating (seat_rows c k 0 people) ++ mark_change c at ∷ []) (PutKey (new_key_row x answer) ∷ []) (tables A)
-    ∙ ap (changed_by (PutKey (new_key_row x answer) ∷ [])) (seat-tables A c k at Signed people h number)
-    ∙ rw (q, s, m, e) refl
+    let s = put-step A h (entry_as key x.act answer) c k at Signed (λ d j. refl) (λ d. refl) refl inside in
+    seats-changed A h view c k at Signed people v.steps inside (omega (arith, next_signed A c k at f)) (PutKey (new_key_row x answer) ∷ [])
+    ∙ rw (new_key A x answer absent, s, marks-put A (entry_as key x.act answer) c at f refl refl, e) refl
+
+-- the row of an exception is put in front
+put-exception : (A : History) → IsRegister A → (c : ℕ) (text : List ℕ) (at : ℕ) (passed : Option ℕ)
+    → put same_exception (record { ceremony = c; exception = suc (exceptions_of A c); text = text; at = at; passed = passed }) (exceptions A) ≡ record { ceremony = c; exception = suc (exceptions_of A c); text = text; at = at; passed = passed } ∷ exceptions A
+put-exception A h c text at passed =
+    put-new same_exception (record { ceremony = c; exception = suc (exceptions_of A c); text = text; at = at; passed = passed }) (exceptions A) (fresh-exception A h c (suc (exceptions_of A c)) (omega arith))
 
 -- an exception that passes a step
 pub pass-leads : (A : History) → IsRegister A → (key : List ℕ) (c : ℕ) (text : List ℕ) (at : ℕ) (view : View) (people : List (List ℕ)) (answer : Answer) → IsViewOf (asks_by key (Except c text true at)) (tables A) view → entry_of A key ≡ None
     → fault A (Except c text true at) ≡ None → answer ≡ answer_to A (Except c text true at) (Some people)
-    → changed_by ((seat_changes view Passed c (next_by view.steps.items c) at people ++ exception_change view c text at (Some (next_by view.steps.items c)) ∷ []) ++ PutKey (new_key_row (record { key = key; act = Except c text true at }) answer) ∷ []) (tables A)
-    ≡ tables (with_command A (record { key = key; act = Except c text true at }) answer)
+    → changed_with (seat_changes view Passed c (next_by view.steps.items c) at people ++ exception_change view c text at (Some (next_by view.steps.items c)) ∷ []) (command_of key (Except c text true at)) answer (tables A)
+    ≡ tables (with_command A (command_of key (Except c text true at)) answer)
 pass-leads A h key c text at view people answer v absent f e =
-    let y : Command = record { key = key; act = Except c text true at } in
+    let x : Command = command_of key (Except c text true at) in
+    let k = next_step A c in
     let inside = pass-there A c text at f in
-    let q = new_key A y answer absent in
-    let s = put-step A h (one key (Except c text true at) (answer_to A (Except c text true at) (Some people))) c (next_step A c) at Passed (λ d j. refl) (λ d. refl) refl inside in
-    let m = marks-put A (one key (Except c text true at) answer) c at f refl refl in
-    let w = put-new same_exception (record { ceremony = c; exception = suc (exceptions_of A c); text = text; at = at; passed = Some (next_step A c) }) (exceptions A) (fresh-exception A h c (suc (exceptions_of A c)) (omega arith)) in
-    let old : step_change (step_by view.steps.items c (next_step A c)) Passed at ≡ PutStep (record (step_row A (c, next_step A c)) { state = Passed; at = Some at }) ∷ []
-    = rw (step-shown A h c view.steps.items v.steps (next_step A c), inside) refl in
-    let E : Change = PutException (record { ceremony = c; exception = suc (exceptions_of A c); text = text; at = at; passed = Some (next_step A c) }) in
-    let ups : List Change = PutStep (record (step_row A (c, next_step A c)) { state = Passed; at = Some at }) ∷ map PutSeating (seat_rows c (next_step A c) 0 people) ++ mark_change c at ∷ [] in
-    let tell : exception_change view c text at (Some (next_by view.steps.items c)) ≡ E = rw (stated-shown A h c view.exceptions.items v.exceptions, done-shown A h c view.steps.items v.steps) refl in
-    let seats : seat_changes view Passed c (next_by view.steps.items c) at people ≡ ups
-    = rw (done-shown A h c view.steps.items v.steps) (ap (λ changes. changes ++ map PutSeating (seat_rows c (next_step A c) 0 people) ++ mark_change c at ∷ []) old) in
-    ap (λ changes. changed_by ((changes ++ exception_change view c text at (Some (next_by view.steps.items c)) ∷ []) ++ PutKey (new_key_row y answer) ∷ []) (tables A)) seats
-    ∙ ap (λ change. changed_by ((ups ++ change ∷ []) ++ PutKey (new_key_row y answer) ∷ []) (tables A)) tell
-    ∙ changed-append (ups ++ E ∷ []) (PutKey (new_key_row y answer) ∷ []) (tables A)
-    ∙ ap (changed_by (PutKey (new_key_row y answer) ∷ []))
-    (changed-append ups (E ∷ []) (tables A)
-    ∙ ap (changed_by (E ∷ [])) (seat-tables A c (next_step A c) at Passed people h (omega arith)))
-    ∙ rw (w, q, m, e) (rw s refl)
+    let tell = PutKey (new_key_row x answer) ∷ [] in
+    let s = put-step A h (entry_as key x.act (answer_to A x.act (Some people))) c k at Passed (λ d j. refl) (λ d. refl) refl inside in
+    rw (done-shown A h c view.steps.items v.steps, append_assoc (seat_changes view Passed c k at people) (exception_change view c text at (Some k) ∷ []) tell)
+    (seats-changed A h view c k at Passed people v.steps inside (omega arith) (exception_change view c text at (Some k) ∷ tell)
+    ∙ rw (stated-shown A h c view.exceptions.items v.exceptions, put-exception A h c text at (Some k), new_key A x answer absent, marks-put A (entry_as key x.act answer) c at f refl refl, e) (rw s refl))
 
 -- an exception that passes no step
 pub state-leads : (A : History) → IsRegister A → (key : List ℕ) (c : ℕ) (text : List ℕ) (at : ℕ) (view : View) (answer : Answer) → IsViewOf (asks_by key (Except c text false at)) (tables A) view → entry_of A key ≡ None
     → fault A (Except c text false at) ≡ None → answer ≡ answer_to A (Except c text false at) None
-    → changed_by ((mark_change c at ∷ exception_change view c text at None ∷ []) ++ PutKey (new_key_row (record { key = key; act = Except c text false at }) answer) ∷ []) (tables A)
-    ≡ tables (with_command A (record { key = key; act = Except c text false at }) answer)
+    → changed_with (mark_change c at ∷ exception_change view c text at None ∷ []) (command_of key (Except c text false at)) answer (tables A) ≡ tables (with_command A (command_of key (Except c text false at)) answer)
 state-leads A h key c text at view answer v absent f e =
-    let z : Command = record { key = key; act = Except c text false at } in
-    let q = new_key A z answer absent in
-    let m = marks-put A (one key (Except c text false at) answer) c at f refl refl in
-    let w = put-new same_exception (record { ceremony = c; exception = suc (exceptions_of A c); text = text; at = at; passed = None }) (exceptions A) (fresh-exception A h c (suc (exceptions_of A c)) (omega arith)) in
-    let tell : exception_change view c text at None ≡ PutException (record { ceremony = c; exception = suc (exceptions_of A c); text = text; at = at; passed = None }) = rw (stated-shown A h c view.exceptions.items v.exceptions) refl in
-    ap (λ change. changed_by ((mark_change c at ∷ change ∷ []) ++ PutKey (new_key_row z answer) ∷ []) (tables A)) tell ∙ rw (w, q, m, e) refl
+    let x : Command = command_of key (Except c text false at) in
+    rw (stated-shown A h c view.exceptions.items v.exceptions, put-exception A h c text at None, new_key A x answer absent, marks-put A (entry_as key x.act answer) c at f refl refl, e) refl

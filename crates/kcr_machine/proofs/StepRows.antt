@@ -1,14 +1,13 @@
--- How many steps are signed or passed, and exceptions stated: by the rows as by the history. Each step is done once and in order.
-use Rattle.std.proofs.Common.{◌≡◌, ◌≢◌, ℕ, zero, suc, ◌+◌, ◌-◌, ◌≤◌, Bool, true, false, cond, ◌||◌, ◌&&◌, nat_le, List, [], ◌∷◌, map, filter, length, Option, Some, None, is_none, Result, Ok, Err, nat_lt, refl, sym, ap, ◌∙◌, arith, subst}
-use Rattle.std.specs.Prelude.{is_some, slice_get, ◌==◌, unwrap_or, option_map}
+-- Steps and exceptions: how many there are by the rows as by the history, each step once and in order, and the rows of one that is done.
+use Rattle.std.proofs.Common.{◌≡◌, ℕ, zero, suc, ◌+◌, ◌-◌, ◌≤◌, Bool, true, false, cond, ◌||◌, ◌&&◌, nat_le, List, [], ◌∷◌, map, filter, length, Option, Some, None, is_none, Result, Ok, Err, nat_lt, refl, sym, ap, ◌∙◌, arith, subst, ◌<◌, ◌==◌, ◌++◌, append-nil}
+use Rattle.std.specs.Prelude.{is_some, slice_get, unwrap_or, option_map}
 use Rattle.std.specs.List.{list_any}
 use Rattle.std.specs.List.Sorted.{IsPermutation}
 use Rattle.std.specs.Result.{result_unwrap_or}
-use Rattle.std.proofs.lemmas.Bool.{true≢false, false≢true, both_ways, leb-true, leb-false, le-leb, le-ltb, eqb-true, eq-eqb, ne_eqb, and_parts}
-use Rattle.std.proofs.lemmas.List.Sorted.{sum_by-IsPermutation}
-use Rattle.std.proofs.lemmas.List.Sums.{length-filter}
+use Rattle.std.proofs.lemmas.Bool.{true≢false, false≢true, leb-true, leb-false, le-leb, le-ltb, eqb-true, eq-eqb, ne_eqb, and_parts, and_right, or_from}
+use Rattle.std.proofs.lemmas.List.Sorted.{length_permutation, list_any-IsPermutation, IsPermutation-refl, IsPermutation-trans, IsPermutation-sym, IsPermutation-middle}
 use Rattle.std.proofs.lemmas.Option.{slice_get_past}
-use Rattle.kcr_base.specs.Rows.{or_else}
+use Rattle.kcr_base.specs.Rows.{or_else, put}
 use Rattle.kcr_base.specs.declared.refusal.Refusal.TheVariants.{Taken, Unknown, Order}
 use Rattle.kcr_base.specs.declared.refusal.Thing.TheVariants as Things
 use Rattle.kcr_base.proofs.RefuseLemmas.{none_holds, unmet}
@@ -26,78 +25,53 @@ use Rattle.kcr_history.specs.History.{History, stacked_on}
 use Rattle.kcr_history.specs.Ceremonies.{Planned, planned_as, plan_of, is_ceremony, steps_of, step_at, does_step, steps_done, next_step, is_exception, exceptions_of}
 use Rattle.kcr_history.specs.Conditions.{conditions, fault}
 use Rattle.kcr_history.specs.Machine.{answer_to, IsRegister}
-use Rattle.kcr_history.specs.Tables.{numbered, step_keys, step_keys_after, step_done, fate_of, step_row, steps, exceptions}
+use Rattle.kcr_history.specs.Tables.{numbered, step_keys, step_keys_after, step_done, fate_of, step_row, steps, exceptions, Tables, seatings, seat_rows, seating_rows, ceremony_of_step}
 use Rattle.kcr_history.specs.Views.{is_step_of, is_exception_of}
 use Rattle.kcr_history.proofs.Steps.{took}
 use Rattle.kcr_scene.specs.Signing.{is_done, done_by, stated_by, step_by}
-use Rattle.kcr_machine.proofs.Keyed.{find-view}
 use Rattle.kcr_laws.proofs.Done.{one_more, count-cons, next_signed, done-after, fate-done}
 use Rattle.kcr_laws.proofs.Finds.{some_if}
+use Rattle.kcr_history.specs.declared.commands.Entry.{Entry}
+use Rattle.kcr_history.specs.declared.rows.SeatingRow.{SeatingRow}
+use Rattle.kcr_history.specs.declared.views.Change.TheVariants.{PutSeating}
+use Rattle.kcr_history.specs.Changes.{same_step, same_seating, changed_by}
+use Rattle.std.proofs.lemmas.List.Folds.{list_any-append}
+use Rattle.std.proofs.lemmas.List.Elements.{filter_agree}
+use Rattle.kcr_base.proofs.RowsLemmas.{filter-order}
+use Rattle.kcr_base.specs.declared.place.Facility.{Facility}
+use Rattle.kcr_room.proofs.Lists as RoomLists
+use Rattle.kcr_room.proofs.Lists.{filter-and, any-same}
+use Rattle.kcr_laws.proofs.Stored.{there}
+use Rattle.kcr_machine.proofs.Keyed.{filter-shown, find-view, put-at, put-new}
+use Rattle.kcr_machine.proofs.Members.{same-answers}
 
 -- COUNTING
 
 -- how many of a list pass the test
-abbrev pub tally : {X : Type 0} → (X → Bool) → List X → ℕ
+abbrev tally : {X : Type 0} → (X → Bool) → List X → ℕ
 tally test xs = length (filter test xs)
 
 -- what became of a step, as its row says it
-abbrev pub state_by : Option (StepState × ℕ) → StepState
+abbrev state_by : Option (StepState × ℕ) → StepState
 state_by fate = unwrap_or (option_map (λ said. said.0) fate) Undone
 
-pub there : {X : Type 0} (o : Option X) → is_none o ≡ false → is_some o ≡ true
-there None h = absurd (true≢false h)
-there (Some x) h = refl
+count-ext : {X : Type 0} (p q : X → Bool) → ((x : X) → p x ≡ q x) → (xs : List X) → tally p xs ≡ tally q xs
+count-ext p q f xs = ap length (filter_agree p q f xs)
 
-pub or_true : (x : Bool) {y : Bool} → y ≡ true → (x || y) ≡ true
-or_true true h = refl
-or_true false h = h
-
-pub count-ext : {X : Type 0} (p q : X → Bool) → ((x : X) → p x ≡ q x) → (xs : List X) → tally p xs ≡ tally q xs
-count-ext p q f [] = refl
-count-ext p q f (x ∷ xs) = ap (λ b. length (cond b (x ∷ filter p xs) (filter p xs))) (f x) ∙ by_test (q x) (count-ext p q f xs)
-  where
-    by_test : (b : Bool) → tally p xs ≡ tally q xs → length (cond b (x ∷ filter p xs) (filter p xs)) ≡ length (cond b (x ∷ filter q xs) (filter q xs))
-    by_test true h = ap suc h
-    by_test false h = h
-
-pub count-map : {X Y : Type 0} (p : Y → Bool) (f : X → Y) (xs : List X) → tally p (map f xs) ≡ tally (λ x. p (f x)) xs
+count-map : {X Y : Type 0} (p : Y → Bool) (f : X → Y) (xs : List X) → tally p (map f xs) ≡ tally (λ x. p (f x)) xs
 count-map p f [] = refl
 count-map p f (x ∷ xs) = count-cons p (f x) (map f xs) ∙ ap (one_more (p (f x))) (count-map p f xs) ∙ sym (count-cons (λ x. p (f x)) x xs)
 
-pub any-stacked : {X : Type 0} (p : X → Bool) (xs ys : List X) → list_any p (stacked_on xs ys) ≡ (list_any p xs || list_any p ys)
-any-stacked p [] ys = refl
-any-stacked p (x ∷ xs) ys = any-stacked p xs (x ∷ ys) ∙ swap_or (p x) (list_any p xs) (list_any p ys)
-  where
-    swap_or : (a b c : Bool) → (b || (a || c)) ≡ ((a || b) || c)
-    swap_or true true c = refl
-    swap_or true false c = refl
-    swap_or false b c = refl
+count-view : {X : Type 0} (test of : X → Bool) → ((x : X) → test x ≡ true → of x ≡ true) → (table rows : List X) → IsPermutation (filter of table) (filter of rows) → tally test rows ≡ tally test table
+count-view test of inside table rows p = length_permutation (filter test table) (filter test rows) (filter-shown test of inside table rows p)
 
-pub count-stacked : {X : Type 0} (p : X → Bool) (xs ys : List X) → tally p (stacked_on xs ys) ≡ tally p xs + tally p ys
-count-stacked p [] ys = omega arith
-count-stacked p (x ∷ xs) ys = count-stacked p xs (x ∷ ys) ∙ ap (λ n. tally p xs + n) (count-cons p x ys) ∙ by_test (p x) ∙ ap (λ n. n + tally p ys) (sym (count-cons p x xs))
-  where
-    by_test : (b : Bool) → tally p xs + one_more b (tally p ys) ≡ one_more b (tally p xs) + tally p ys
-    by_test true = omega arith
-    by_test false = refl
+stacked-order : {X : Type 0} (xs ys : List X) → IsPermutation (xs ++ ys) (stacked_on xs ys)
+stacked-order [] ys = IsPermutation-refl ys
+stacked-order (x ∷ xs) ys =
+    IsPermutation-trans (x ∷ (xs ++ ys)) (xs ++ x ∷ ys) (stacked_on xs (x ∷ ys)) (IsPermutation-sym (xs ++ x ∷ ys) (x ∷ (xs ++ ys)) (IsPermutation-middle xs x ys)) (stacked-order xs (x ∷ ys))
 
-pub count-filter : {X : Type 0} (p of : X → Bool) → ((x : X) → p x ≡ true → of x ≡ true) → (xs : List X) → tally p (filter of xs) ≡ tally p xs
-count-filter p of f [] = refl
-count-filter p of f (x ∷ xs) = by_test (of x) refl (count-filter p of f xs) ∙ sym (count-cons p x xs)
-  where
-    by_test : (b : Bool) → of x ≡ b → tally p (filter of xs) ≡ tally p xs → tally p (cond b (x ∷ filter of xs) (filter of xs)) ≡ one_more (p x) (tally p xs)
-    by_test true e ih = count-cons p x (filter of xs) ∙ ap (one_more (p x)) ih
-    by_test false e ih = ih ∙ sym (ap (λ b. one_more b (tally p xs)) (unmet (p x) (λ q. both_ways _ e (f x q))))
-      where
-        unmet : (b : Bool) → (b ≡ true → ⊥) → b ≡ false
-        unmet true g = absurd (g refl)
-        unmet false g = refl
-
-pub count-order : {X : Type 0} (p : X → Bool) (xs ys : List X) → IsPermutation xs ys → tally p ys ≡ tally p xs
-count-order p xs ys h = length-filter p ys ∙ sum_by-IsPermutation (λ x. cond (p x) 1 0) xs ys h ∙ sym (length-filter p xs)
-
-pub count-view : {X : Type 0} (test of : X → Bool) → ((x : X) → test x ≡ true → of x ≡ true) → (table rows : List X) → IsPermutation (filter of table) (filter of rows) → tally test rows ≡ tally test table
-count-view test of inside table rows p = sym (count-filter test of inside rows) ∙ count-order test (filter of table) (filter of rows) p ∙ count-filter test of inside table
+any-stacked : {X : Type 0} (p : X → Bool) (xs ys : List X) → list_any p (stacked_on xs ys) ≡ (list_any p xs || list_any p ys)
+any-stacked p xs ys = sym (list_any-IsPermutation p (xs ++ ys) (stacked_on xs ys) (stacked-order xs ys)) ∙ list_any-append p xs ys
 
 -- THE STEPS OF A CEREMONY
 
@@ -105,7 +79,7 @@ unplanned : (o : Option Planned) → is_some o ≡ false → unwrap_or (option_m
 unplanned None h = refl
 unplanned (Some p) h = absurd (true≢false h)
 
-pub no_steps : (A : History) (c : ℕ) → is_ceremony A c ≡ false → steps_of A c ≡ []
+no_steps : (A : History) (c : ℕ) → is_ceremony A c ≡ false → steps_of A c ≡ []
 no_steps A c h = unplanned (plan_of A c) h
 
 is_within : (steps : List Step) (n : ℕ) → is_some (step_at steps (suc n)) ≡ true → suc n ≤ length steps
@@ -115,46 +89,45 @@ is_within steps n h = by_test (nat_le (length steps) n) refl
     by_test true e = absurd (false≢true (ap is_some (sym (slice_get_past steps n (leb-true (length steps) n e))) ∙ h))
     by_test false e = leb-false (length steps) n e
 
+-- the step of a signature or of a passing exception that has no fault is in the script
+pub sign-there : (A : History) (c k at : ℕ) → fault A (Sign c k at) ≡ None → is_some (step_at (steps_of A c) k) ≡ true
+sign-there A c k at f =
+    there (step_at (steps_of A c) k) (unmet (is_none (step_at (steps_of A c) k)) (Unknown (Things.Step k)) (none_holds (conditions A (Sign c k at)) f).1.0)
+
+pub pass-there : (A : History) (c : ℕ) (text : List ℕ) (at : ℕ) → fault A (Except c text true at) ≡ None → is_some (step_at (steps_of A c) (next_step A c)) ≡ true
+pass-there A c text at f =
+    there (step_at (steps_of A c) (next_step A c)) (unmet (is_none (step_at (steps_of A c) (next_step A c))) (Order (next_step A c)) (none_holds (conditions A (Except c text true at)) f).1.1.1.0)
+
+next-there : (A : History) (act : Act) (c : ℕ) → fault A act ≡ None → does_step c act ≡ true → is_some (step_at (steps_of A c) (next_step A c)) ≡ true
+next-there A (Sign d k at) c f e =
+    subst (λ c. is_some (step_at (steps_of A c) (next_step A c)) ≡ true) (eqb-true d c e)
+    (subst (λ k. is_some (step_at (steps_of A d) k) ≡ true) (next_signed A d k at f) (sign-there A d k at f))
+next-there A (Except d text true at) c f e =
+    subst (λ c. is_some (step_at (steps_of A c) (next_step A c)) ≡ true) (eqb-true d c (and_parts (d == c) true e).0) (pass-there A d text at f)
+next-there A (Except d text false at) c f e = absurd (false≢true (and_parts (d == c) false e).1)
+next-there A act c f e = absurd (false≢true e)
+
+one_below : (b : Bool) (n : ℕ) (ss : List Step) → (b ≡ true → is_some (step_at ss (suc n)) ≡ true) → n ≤ length ss → one_more b n ≤ length ss
+one_below true n ss inside l = is_within ss n (inside refl)
+one_below false n ss inside l = l
+
+-- a ceremony that is planned now had no steps
+new_planned : (A : History) (number : ℕ) (facility : Facility) (day : ℕ) (script : List ℕ) (c : ℕ) → fault A (Plan number facility day script) ≡ None → (number == c) ≡ true → steps_of A c ≡ []
+new_planned A number facility day script c f q =
+    no_steps A c (subst (λ c. is_ceremony A c ≡ false) (eqb-true number c q) (unmet (is_ceremony A number) Taken (none_holds (conditions A (Plan number facility day script)) f).0))
+
 below_after : (A : History) (act : Act) (answer : Answer) (key : List ℕ) (c : ℕ) → fault A act ≡ None → steps_done A c ≤ length (steps_of A c)
     → one_more (does_step c act) (steps_done A c) ≤ length (steps_of (record { command = record { key = key; act = act }; answer = answer } ∷ A) c)
 below_after A (Plan number facility day script) answer key c f ih = by_ceremony (number == c) refl
   where
-    ss : List Step
-    ss = result_unwrap_or (script_of script) []
-
-    by_ceremony : (b : Bool) → (number == c) ≡ b → steps_done A c ≤ length (unwrap_or (option_map (λ plan. plan.steps) (or_else (cond b (Some (record { facility = facility; day = day; steps = ss })) None) (plan_of A c))) [])
+    by_ceremony : (b : Bool) → (number == c) ≡ b
+        → steps_done A c ≤ length (unwrap_or (option_map (λ plan. plan.steps) (or_else (cond b (Some (record { facility = facility; day = day; steps = result_unwrap_or (script_of script) [] })) None) (plan_of A c))) [])
     by_ceremony false q = ih
-    by_ceremony true q =
-        let same : number ≡ c = eqb-true number c q in
-        let none : is_ceremony A c ≡ false = subst (λ c. is_ceremony A c ≡ false) same (unmet (is_ceremony A number) Taken (none_holds (conditions A (Plan number facility day script)) f).0) in
-        let few : steps_done A c ≤ 0 = rw (no_steps A c none) at ih in
-        omega (arith, few)
-below_after A (Sign d k at) answer key c f ih = by_ceremony (d == c) refl
-  where
-    by_ceremony : (b : Bool) → (d == c) ≡ b → one_more b (steps_done A c) ≤ length (steps_of A c)
-    by_ceremony false q = ih
-    by_ceremony true q =
-        let same : d ≡ c = eqb-true d c q in
-        let inside : is_some (step_at (steps_of A d) k) ≡ true = there (step_at (steps_of A d) k) (unmet (is_none (step_at (steps_of A d) k)) (Unknown (Things.Step k)) (none_holds (conditions A (Sign d k at)) f).1.0) in
-        let inside2 : is_some (step_at (steps_of A d) (suc (steps_done A d))) ≡ true = subst (λ k. is_some (step_at (steps_of A d) k) ≡ true) (next_signed A d k at f) inside in
-        is_within (steps_of A c) (steps_done A c) (subst (λ c. is_some (step_at (steps_of A c) (suc (steps_done A c))) ≡ true) same inside2)
-below_after A (Except d text true at) answer key c f ih = by_ceremony (d == c) refl
-  where
-    by_ceremony : (b : Bool) → (d == c) ≡ b → one_more (b && true) (steps_done A c) ≤ length (steps_of A c)
-    by_ceremony false q = ih
-    by_ceremony true q =
-        let same : d ≡ c = eqb-true d c q in
-        let inside : is_some (step_at (steps_of A d) (next_step A d)) ≡ true = there (step_at (steps_of A d) (next_step A d)) (unmet (is_none (step_at (steps_of A d) (next_step A d))) (Order (next_step A d)) (none_holds (conditions A (Except d text true at)) f).1.1.1.0) in
-        is_within (steps_of A c) (steps_done A c) (subst (λ c. is_some (step_at (steps_of A c) (suc (steps_done A c))) ≡ true) same inside)
-below_after A (Except d text false at) answer key c f ih = by_ceremony (d == c)
-  where
-    by_ceremony : (b : Bool) → one_more (b && false) (steps_done A c) ≤ length (steps_of A c)
-    by_ceremony true = ih
-    by_ceremony false = ih
-below_after A act answer key c f ih = ih
+    by_ceremony true q = let few : steps_done A c ≤ 0 = rw (new_planned A number facility day script c f q) at ih in omega (arith, few)
+below_after A act answer key c f ih = one_below (does_step c act) (steps_done A c) (steps_of A c) (next-there A act c f) ih
 
 -- no more steps are done than the script has
-pub done-below : (A : History) → IsRegister A → (c : ℕ) → steps_done A c ≤ length (steps_of A c)
+done-below : (A : History) → IsRegister A → (c : ℕ) → steps_done A c ≤ length (steps_of A c)
 done-below [] h c = omega arith
 done-below (entry ∷ A) h c =
     let t = took A entry h.0 in
@@ -176,89 +149,82 @@ few_after (Plan number facility day script) c plan ih = by_test (number == c)
     by_test false = ih
 few_after act c plan ih = ih
 
-pub few-steps : (A : History) (c : ℕ) → length (steps_of A c) ≤ 400
+few-steps : (A : History) (c : ℕ) → length (steps_of A c) ≤ 400
 few-steps [] c = omega arith
 few-steps (entry ∷ A) c = few_after entry.command.act c (plan_of A c) (few-steps A c)
 
 -- THE KEYS OF STEPS
 
-own : (c i : ℕ) (g : ℕ → Bool) (ss : List Step) → list_any (λ key. key.0 == c && g key.1) (numbered c i ss) ≡ list_any (λ key. g key.1) (numbered c i ss)
-own c i g [] = refl
-own c i g (s ∷ ss) = rw (eq-eqb c c refl) (ap (λ b. g (suc i) || b) (own c (suc i) g ss))
+own-keys : (c i : ℕ) (ss : List Step) → filter (λ key. key.0 == c) (numbered c i ss) ≡ numbered c i ss
+own-keys c i [] = refl
+own-keys c i (s ∷ ss) = rw (eq-eqb c c refl) (ap (λ keys. (c, suc i) ∷ keys) (own-keys c (suc i) ss))
 
-foreign : (c d i : ℕ) (g : ℕ → Bool) (ss : List Step) → (d == c) ≡ false → list_any (λ key. key.0 == c && g key.1) (numbered d i ss) ≡ false
-foreign c d i g [] e = refl
-foreign c d i g (s ∷ ss) e = rw e (foreign c d (suc i) g ss e)
+other-keys : (c d i : ℕ) (ss : List Step) → (d == c) ≡ false → filter (λ key. key.0 == c) (numbered d i ss) ≡ []
+other-keys c d i [] e = refl
+other-keys c d i (s ∷ ss) e = rw e (other-keys c d (suc i) ss e)
 
-own-count : (c i : ℕ) (g : ℕ → Bool) (ss : List Step) → tally (λ key. key.0 == c && g key.1) (numbered c i ss) ≡ tally (λ key. g key.1) (numbered c i ss)
-own-count c i g [] = refl
-own-count c i g (s ∷ ss) =
-    count-cons (λ key. key.0 == c && g key.1) (c, suc i) (numbered c (suc i) ss)
-    ∙ ap (λ b. one_more (b && g (suc i)) (tally (λ key. key.0 == c && g key.1) (numbered c (suc i) ss))) (eq-eqb c c refl)
-    ∙ ap (one_more (g (suc i))) (own-count c (suc i) g ss)
-    ∙ sym (count-cons (λ key. g key.1) (c, suc i) (numbered c (suc i) ss))
-
-foreign-count : (c d i : ℕ) (g : ℕ → Bool) (ss : List Step) → (d == c) ≡ false → tally (λ key. key.0 == c && g key.1) (numbered d i ss) ≡ 0
-foreign-count c d i g [] e = refl
-foreign-count c d i g (s ∷ ss) e =
-    count-cons (λ key. key.0 == c && g key.1) (d, suc i) (numbered d (suc i) ss)
-    ∙ ap (λ b. one_more (b && g (suc i)) (tally (λ key. key.0 == c && g key.1) (numbered d (suc i) ss))) e
-    ∙ foreign-count c d (suc i) g ss e
+filter-stacked : {X : Type 0} (p : X → Bool) (xs ys : List X) → filter p (stacked_on xs ys) ≡ stacked_on (filter p xs) (filter p ys)
+filter-stacked p [] ys = refl
+filter-stacked p (x ∷ xs) ys = filter-stacked p xs (x ∷ ys) ∙ by_test (p x)
+  where
+    by_test : (b : Bool) → stacked_on (filter p xs) (cond b (x ∷ filter p ys) (filter p ys)) ≡ stacked_on (cond b (x ∷ filter p xs) (filter p xs)) (filter p ys)
+    by_test true = refl
+    by_test false = refl
 
 -- the keys of a ceremony's steps in the table are those of its script
-pub keys-any : (A : History) → IsRegister A → (c : ℕ) (g : ℕ → Bool) → list_any (λ key. key.0 == c && g key.1) (step_keys A) ≡ list_any (λ key. g key.1) (numbered c 0 (steps_of A c))
-keys-any [] h c g = refl
-keys-any (entry ∷ A) h c g = by_act entry.command.act (took A entry h.0).no_fault (keys-any A h.1 c g)
+keys-stacked : (A : History) → IsRegister A → (c : ℕ) → filter (λ key. key.0 == c) (step_keys A) ≡ stacked_on (numbered c 0 (steps_of A c)) []
+keys-stacked [] h c = refl
+keys-stacked (entry ∷ A) h c = by_act entry.command.act (took A entry h.0).no_fault (keys-stacked A h.1 c)
   where
-    by_act : (act : Act) → fault A act ≡ None → list_any (λ key. key.0 == c && g key.1) (step_keys A) ≡ list_any (λ key. g key.1) (numbered c 0 (steps_of A c))
-        → list_any (λ key. key.0 == c && g key.1) (step_keys_after act (step_keys A)) ≡ list_any (λ key. g key.1) (numbered c 0 (steps_of (record { command = record { key = entry.command.key; act = act }; answer = entry.answer } ∷ A) c))
-    by_act (Plan number facility day script) f ih =
-        any-stacked (λ key. key.0 == c && g key.1) (numbered number 0 (result_unwrap_or (script_of script) [])) (step_keys A) ∙ by_ceremony (number == c) refl
+    by_act : (act : Act) → fault A act ≡ None → filter (λ key. key.0 == c) (step_keys A) ≡ stacked_on (numbered c 0 (steps_of A c)) []
+        → filter (λ key. key.0 == c) (step_keys_after act (step_keys A)) ≡ stacked_on (numbered c 0 (steps_of (record { command = record { key = entry.command.key; act = act }; answer = entry.answer } ∷ A) c)) []
+    by_act (Plan number facility day script) f ih = filter-stacked (λ key. key.0 == c) (numbered number 0 ss) (step_keys A) ∙ by_ceremony (number == c) refl
       where
         ss : List Step
         ss = result_unwrap_or (script_of script) []
 
-        or_false : (b : Bool) → (b || false) ≡ b
-        or_false true = refl
-        or_false false = refl
-
-        by_ceremony : (b : Bool) → (number == c) ≡ b
-            → (list_any (λ key. key.0 == c && g key.1) (numbered number 0 ss) || list_any (λ key. key.0 == c && g key.1) (step_keys A))
-            ≡ list_any (λ key. g key.1) (numbered c 0 (unwrap_or (option_map (λ plan. plan.steps) (or_else (cond b (Some (record { facility = facility; day = day; steps = ss })) None) (plan_of A c))) []))
-        by_ceremony false q = ap (λ b. b || list_any (λ key. key.0 == c && g key.1) (step_keys A)) (foreign c number 0 g ss q) ∙ ih
-        by_ceremony true q =
-            let same : number ≡ c = eqb-true number c q in
-            let none : is_ceremony A c ≡ false = subst (λ c. is_ceremony A c ≡ false) same (unmet (is_ceremony A number) Taken (none_holds (conditions A (Plan number facility day script)) f).0) in
-            let older : list_any (λ key. key.0 == c && g key.1) (step_keys A) ≡ false = ih ∙ ap (λ ss. list_any (λ key. g key.1) (numbered c 0 ss)) (no_steps A c none) in
-            let newer : list_any (λ key. key.0 == c && g key.1) (numbered number 0 ss) ≡ list_any (λ key. g key.1) (numbered c 0 ss) = ap (λ d. list_any (λ key. key.0 == c && g key.1) (numbered d 0 ss)) same ∙ own c 0 g ss in
-            ap (λ b. list_any (λ key. key.0 == c && g key.1) (numbered number 0 ss) || b) older ∙ or_false (list_any (λ key. key.0 == c && g key.1) (numbered number 0 ss)) ∙ newer
+        by_ceremony : (b : Bool) → (number == c) ≡ b → stacked_on (filter (λ key. key.0 == c) (numbered number 0 ss)) (filter (λ key. key.0 == c) (step_keys A))
+            ≡ stacked_on (numbered c 0 (unwrap_or (option_map (λ plan. plan.steps) (or_else (cond b (Some (record { facility = facility; day = day; steps = ss })) None) (plan_of A c))) [])) []
+        by_ceremony false q = rw (other-keys c number 0 ss q) ih
+        by_ceremony true q = rw (ih, new_planned A number facility day script c f q, eqb-true number c q, own-keys c 0 ss) refl
     by_act act f ih = ih
 
-pub keys-count : (A : History) → IsRegister A → (c : ℕ) (g : ℕ → Bool) → tally (λ key. key.0 == c && g key.1) (step_keys A) ≡ tally (λ key. g key.1) (numbered c 0 (steps_of A c))
-keys-count [] h c g = refl
-keys-count (entry ∷ A) h c g = by_act entry.command.act (took A entry h.0).no_fault (keys-count A h.1 c g)
+keys-order : (A : History) → IsRegister A → (c : ℕ) → IsPermutation (filter (λ key. key.0 == c) (step_keys A)) (numbered c 0 (steps_of A c))
+keys-order A h c =
+    let all = numbered c 0 (steps_of A c) in
+    rw (keys-stacked A h c) (IsPermutation-sym all (stacked_on all []) (subst (λ keys. IsPermutation keys (stacked_on all [])) (append-nil all) (stacked-order all [])))
+
+keys-any : (A : History) → IsRegister A → (c : ℕ) (g : ℕ → Bool) → list_any (λ key. key.0 == c && g key.1) (step_keys A) ≡ list_any (λ key. g key.1) (numbered c 0 (steps_of A c))
+keys-any A h c g =
+    sym (RoomLists.any-filter (λ key. key.0 == c) (λ key. g key.1) (step_keys A))
+    ∙ list_any-IsPermutation (λ key. g key.1) (filter (λ key. key.0 == c) (step_keys A)) (numbered c 0 (steps_of A c)) (keys-order A h c)
+
+keys-count : (A : History) → IsRegister A → (c : ℕ) (g : ℕ → Bool) → tally (λ key. key.0 == c && g key.1) (step_keys A) ≡ tally (λ key. g key.1) (numbered c 0 (steps_of A c))
+keys-count A h c g =
+    let own = filter (λ (key : ℕ × ℕ). key.0 == c) (step_keys A) in
+    let all = numbered c 0 (steps_of A c) in
+    ap length (sym (filter-and (λ key. key.0 == c) (λ key. g key.1) (step_keys A)))
+    ∙ sym (length_permutation (filter (λ key. g key.1) own) (filter (λ key. g key.1) all) (filter-order (λ key. g key.1) own all (keys-order A h c)))
+
+-- as many rows of steps as the script has steps
+pub steps-count : (A : History) → IsRegister A → (c : ℕ) → length (filter (is_step_of c) (steps A)) ≡ length (steps_of A c)
+steps-count A h c =
+    count-map (is_step_of c) (step_row A) (step_keys A)
+    ∙ sym (length_permutation (filter (λ key. key.0 == c) (step_keys A)) (numbered c 0 (steps_of A c)) (keys-order A h c)) ∙ by_number 0 (steps_of A c)
   where
-    by_act : (act : Act) → fault A act ≡ None → tally (λ key. key.0 == c && g key.1) (step_keys A) ≡ tally (λ key. g key.1) (numbered c 0 (steps_of A c))
-        → tally (λ key. key.0 == c && g key.1) (step_keys_after act (step_keys A)) ≡ tally (λ key. g key.1) (numbered c 0 (steps_of (record { command = record { key = entry.command.key; act = act }; answer = entry.answer } ∷ A) c))
-    by_act (Plan number facility day script) f ih =
-        count-stacked (λ key. key.0 == c && g key.1) (numbered number 0 (result_unwrap_or (script_of script) [])) (step_keys A) ∙ by_ceremony (number == c) refl
-      where
-        ss : List Step
-        ss = result_unwrap_or (script_of script) []
+    by_number : (i : ℕ) (ss : List Step) → length (numbered c i ss) ≡ length ss
+    by_number i [] = refl
+    by_number i (s ∷ ss) = ap suc (by_number (suc i) ss)
 
-        by_ceremony : (b : Bool) → (number == c) ≡ b
-            → tally (λ key. key.0 == c && g key.1) (numbered number 0 ss) + tally (λ key. key.0 == c && g key.1) (step_keys A)
-            ≡ tally (λ key. g key.1) (numbered c 0 (unwrap_or (option_map (λ plan. plan.steps) (or_else (cond b (Some (record { facility = facility; day = day; steps = ss })) None) (plan_of A c))) []))
-        by_ceremony false q =
-            let none : tally (λ key. key.0 == c && g key.1) (numbered number 0 ss) ≡ 0 = foreign-count c number 0 g ss q in
-            omega (arith, none, ih)
-        by_ceremony true q =
-            let same : number ≡ c = eqb-true number c q in
-            let none : is_ceremony A c ≡ false = subst (λ c. is_ceremony A c ≡ false) same (unmet (is_ceremony A number) Taken (none_holds (conditions A (Plan number facility day script)) f).0) in
-            let older : tally (λ key. key.0 == c && g key.1) (step_keys A) ≡ 0 = ih ∙ ap (λ ss. tally (λ key. g key.1) (numbered c 0 ss)) (no_steps A c none) in
-            let newer : tally (λ key. key.0 == c && g key.1) (numbered number 0 ss) ≡ tally (λ key. g key.1) (numbered c 0 ss) = ap (λ d. tally (λ key. key.0 == c && g key.1) (numbered d 0 ss)) same ∙ own-count c 0 g ss in
-            omega (arith, older, newer)
-    by_act act f ih = ih
+-- no step of a ceremony that was not planned has a key
+pub keys-planned : (A : History) → IsRegister A → (c : ℕ) → is_ceremony A c ≡ false → list_any (λ key. key.0 == c) (step_keys A) ≡ false
+keys-planned A h c e =
+    any-same (λ key. key.0 == c) (λ key. key.0 == c && true) (step_keys A) (λ key. sym (and_true (key.0 == c)))
+    ∙ keys-any A h c (λ k. true) ∙ ap (λ ss. list_any (λ key. true) (numbered c 0 ss)) (no_steps A c e)
+  where
+    and_true : (b : Bool) → (b && true) ≡ b
+    and_true true = refl
+    and_true false = refl
 
 none_zero : (c i : ℕ) (ss : List Step) → list_any (λ key. key.1 == 0) (numbered c i ss) ≡ false
 none_zero c i [] = refl
@@ -292,26 +258,23 @@ count-numbered n c i (s ∷ ss) l =
     by_test false e = omega (arith, leb-false (suc i) n e)
 
 -- what became of a step is that it was signed or passed
+done_one : (b : Bool) (state : StepState) (at : ℕ) (fate : Option (StepState × ℕ)) → is_done state ≡ true → is_done (state_by fate) ≡ is_some fate
+    → is_done (state_by (or_else (cond b (Some (state, at)) None) fate)) ≡ is_some (or_else (cond b (Some (state, at)) None) fate)
+done_one true state at fate e ih = e
+done_one false state at fate e ih = ih
+
 done_after : (c k : ℕ) (act : Act) (said : Option ℕ) (fate : Option (StepState × ℕ)) → is_done (state_by fate) ≡ is_some fate → is_done (state_by (or_else (step_done c k act said) fate)) ≡ is_some (or_else (step_done c k act said) fate)
-done_after c k (Sign d step at) said fate ih = by_key (d == c && step == k)
-  where
-    by_key : (b : Bool) → is_done (state_by (or_else (cond b (Some (Signed, at)) None) fate)) ≡ is_some (or_else (cond b (Some (Signed, at)) None) fate)
-    by_key true = refl
-    by_key false = ih
-done_after c k (Except d text pass at) (Some step) fate ih = by_key (d == c && step == k)
-  where
-    by_key : (b : Bool) → is_done (state_by (or_else (cond b (Some (Passed, at)) None) fate)) ≡ is_some (or_else (cond b (Some (Passed, at)) None) fate)
-    by_key true = refl
-    by_key false = ih
+done_after c k (Sign d step at) said fate ih = done_one (d == c && step == k) Signed at fate refl ih
+done_after c k (Except d text pass at) (Some step) fate ih = done_one (d == c && step == k) Passed at fate refl ih
 done_after c k (Except d text pass at) None fate ih = ih
 done_after c k act said fate ih = ih
 
-pub done-fate : (A : History) (c k : ℕ) → is_done (state_by (fate_of A c k)) ≡ is_some (fate_of A c k)
+done-fate : (A : History) (c k : ℕ) → is_done (state_by (fate_of A c k)) ≡ is_some (fate_of A c k)
 done-fate [] c k = refl
 done-fate (entry ∷ A) c k = done_after c k entry.command.act entry.answer.step (fate_of A c k) (done-fate A c k)
 
 -- the number of signed and passed steps by the rows of a register's table is the number by its history
-pub done-steps : (A : History) → IsRegister A → (c : ℕ) → done_by (steps A) c ≡ steps_done A c
+done-steps : (A : History) → IsRegister A → (c : ℕ) → done_by (steps A) c ≡ steps_done A c
 done-steps A h c =
     count-map (λ row. is_step_of c row && is_done row.state) (step_row A) (step_keys A)
     ∙ count-ext (λ key. key.0 == c && is_done (state_by (fate_of A key.0 key.1))) (λ key. key.0 == c && is_some (fate_of A c key.1)) here (step_keys A)
@@ -329,7 +292,7 @@ done-steps A h c =
 
 -- EXCEPTIONS
 
-pub stated-exceptions : (A : History) → IsRegister A → (c : ℕ) → stated_by (exceptions A) c ≡ exceptions_of A c
+stated-exceptions : (A : History) → IsRegister A → (c : ℕ) → stated_by (exceptions A) c ≡ exceptions_of A c
 stated-exceptions [] h c = refl
 stated-exceptions (entry ∷ A) h c =
     let t = took A entry h.0 in
@@ -376,3 +339,110 @@ not_overdone A h c rows p = le-ltb 400 (done_by rows c) (omega (arith, done-show
 -- how many exceptions are stated
 pub stated-shown : (A : History) → IsRegister A → (c : ℕ) (rows : List ExceptionRow) → ShowsExceptions c (exceptions A) rows → stated_by rows c ≡ exceptions_of A c
 stated-shown A h c rows p = count-view (is_exception_of c) (is_exception_of c) (λ x e. e) (exceptions A) rows p ∙ stated-exceptions A h c
+
+-- THE ROW OF A STEP THAT IS DONE
+
+same-number : (a b : ℕ) → (a == b) ≡ (b == a)
+same-number a b = same-answers (a == b) (b == a) (λ e. eq-eqb b a (sym (eqb-true a b e))) (λ e. eq-eqb a b (sym (eqb-true b a e)))
+
+-- an act does step k of c, and leaves scripts as they are: putting the step's row gives the steps after it
+module _ (A : History) (h : IsRegister A) (entry : Entry) (c k at : ℕ) (state : StepState)
+    (fate_now : (d j : ℕ) → fate_of (entry ∷ A) d j ≡ or_else (cond (c == d && k == j) (Some (state, at)) None) (fate_of A d j))
+    (steps_same : (d : ℕ) → steps_of (entry ∷ A) d ≡ steps_of A d)
+    (keys_same : step_keys (entry ∷ A) ≡ step_keys A)
+    (inside : is_some (step_at (steps_of A c) k) ≡ true) where
+  turned : (s : ℕ × ℕ) → (c == s.0 && k == s.1) ≡ (s.0 == c && s.1 == k)
+  turned s = ap (λ b. b && k == s.1) (same-number c s.0) ∙ ap (λ b. s.0 == c && b) (same-number k s.1)
+
+  pub put-step : put same_step (record (step_row A (c, k)) { state = state; at = Some at }) (steps A) ≡ steps (entry ∷ A)
+  put-step =
+      put-at same_step (step_row A) (step_row (entry ∷ A)) (record (step_row A (c, k)) { state = state; at = Some at })
+      (λ s e.
+      let p = and_parts (s.0 == c) (s.1 == k) e in
+      rw (fate_now s.0 s.1, turned s ∙ e, steps_same s.0, eqb-true s.0 c p.0, eqb-true s.1 k p.1) refl)
+      (λ s e. rw (fate_now s.0 s.1, turned s ∙ e, steps_same s.0))
+      (step_keys A) (has-step A h c k ∙ inside)
+      ∙ ap (map (step_row (entry ∷ A))) (sym keys_same)
+
+-- SEATS
+
+-- the row is of that seat of the step
+abbrev is_seat_of : ℕ → ℕ → ℕ → SeatingRow → Bool
+is_seat_of c k j row = row.ceremony == c && row.step == k && row.seat == j
+
+pub put-seats : (c k i : ℕ) (people : List (List ℕ)) (t : Tables) → ((j : ℕ) → i < j → list_any (is_seat_of c k j) t.seatings ≡ false)
+    → changed_by (map PutSeating (seat_rows c k i people)) t ≡ record t { seatings = stacked_on (seat_rows c k i people) t.seatings }
+put-seats c k i [] t fresh = refl
+put-seats c k i (who ∷ people) t fresh =
+    let row : SeatingRow = record { ceremony = c; step = k; seat = suc i; who = who } in
+    ap (λ rows. changed_by (map PutSeating (seat_rows c k (suc i) people)) (record t { seatings = rows })) (put-new same_seating row t.seatings (fresh (suc i) (omega arith)))
+    ∙ put-seats c k (suc i) people (record t { seatings = row ∷ t.seatings })
+    (λ j l. or_from ((c == c && k == k) && suc i == j) _ (and_right (c == c && k == k) (suc i == j) (ne_eqb (suc i) j (λ e. omega (arith, e, l)))) (fresh j (omega (arith, l))))
+
+foreign-seats : (c k d s i j : ℕ) (people : List (List ℕ)) → (d == c && s == k) ≡ false → list_any (is_seat_of c k j) (seat_rows d s i people) ≡ false
+foreign-seats c k d s i j [] e = refl
+foreign-seats c k d s i j (who ∷ people) e = rw e (foreign-seats c k d s (suc i) j people e)
+
+-- of a step that is not done yet no seats are recorded
+pub fresh-seats : (A : History) → IsRegister A → (c k j : ℕ) → steps_done A c < k → list_any (is_seat_of c k j) (seatings A) ≡ false
+fresh-seats [] h c k j l = refl
+fresh-seats (entry ∷ A) h c k j l =
+    let t = took A entry h.0 in
+    let l2 : one_more (does_step c entry.command.act) (steps_done A c) < k = rw (done-after A entry c) at l in
+    any-stacked (is_seat_of c k j) (seating_rows (ceremony_of_step entry.command.act) entry.answer.step entry.answer.seating) (seatings A)
+    ∙ or_from _ _
+    (ap (λ answer. list_any (is_seat_of c k j) (seating_rows (ceremony_of_step entry.command.act) answer.step answer.seating)) t.answer ∙ by_act entry.command.act t.people t.no_fault l2)
+    (fresh-seats A h.1 c k j (less (does_step c entry.command.act) (steps_done A c) l2))
+  where
+    less : (b : Bool) (n : ℕ) → one_more b n < k → n < k
+    less true n q = omega (arith, q)
+    less false n q = q
+
+    rows_of : (d s : ℕ) (people : Option (List (List ℕ))) → (d == c && s == k) ≡ false → list_any (is_seat_of c k j) (seating_rows (Some d) (Some s) people) ≡ false
+    rows_of d s None e = refl
+    rows_of d s (Some people) e = foreign-seats c k d s 0 j people e
+
+    other : (d s : ℕ) (b : Bool) → (d == c) ≡ b → s ≡ suc (steps_done A d) → one_more b (steps_done A c) < k → (d == c && s == k) ≡ false
+    other d s true e q l =
+        let same : d ≡ c = eqb-true d c e in
+        let number : s ≡ suc (steps_done A c) = q ∙ ap (λ d. suc (steps_done A d)) same in
+        and_right (d == c) (s == k) (ne_eqb s k (λ r. omega (arith, r, number, l)))
+    other d s false e q l = ap (λ b. b && s == k) e
+
+    and_one : (b : Bool) → one_more (b && true) (steps_done A c) < k → one_more b (steps_done A c) < k
+    and_one true q = q
+    and_one false q = q
+
+    by_act : (act : Act) (people : Option (List (List ℕ))) → fault A act ≡ None → one_more (does_step c act) (steps_done A c) < k
+        → list_any (is_seat_of c k j) (seating_rows (ceremony_of_step act) (answer_to A act people).step (answer_to A act people).seating) ≡ false
+    by_act (Sign d s at) people f l = rows_of d s people (other d s (d == c) refl (next_signed A d s at f) l)
+    by_act (Except d text true at) people f l = rows_of d (next_step A d) people (other d (next_step A d) (d == c) refl refl (and_one (d == c) l))
+    by_act (Except d text false at) people f l = refl
+    by_act act people f l = refl
+
+-- EXCEPTIONS
+
+-- the row is of the ceremony's exception with that number
+abbrev is_numbered : ℕ → ℕ → ExceptionRow → Bool
+is_numbered c j row = row.ceremony == c && row.exception == j
+
+pub fresh-exception : (A : History) → IsRegister A → (c j : ℕ) → exceptions_of A c < j → list_any (is_numbered c j) (exceptions A) ≡ false
+fresh-exception [] h c j l = refl
+fresh-exception (entry ∷ A) h c j l =
+    let t = took A entry h.0 in
+    let l2 : one_more (is_exception c entry.command.act) (exceptions_of A c) < j = rw (count-cons (λ entry. is_exception c entry.command.act) entry A) at l in
+    by_act entry.command.act entry.answer t.people t.answer l2 (fresh-exception A h.1 c j)
+  where
+    other : (d : ℕ) (b : Bool) → (d == c) ≡ b → one_more b (exceptions_of A c) < j → (exceptions_of A c < j → list_any (is_numbered c j) (exceptions A) ≡ false)
+        → ((d == c && suc (exceptions_of A d) == j) || list_any (is_numbered c j) (exceptions A)) ≡ false
+    other d true e q ih =
+        let same : d ≡ c = eqb-true d c e in
+        let number : suc (exceptions_of A d) ≡ suc (exceptions_of A c) = ap (λ d. suc (exceptions_of A d)) same in
+        or_from (d == c && suc (exceptions_of A d) == j) _ (and_right (d == c) (suc (exceptions_of A d) == j) (ne_eqb (suc (exceptions_of A d)) j (λ r. omega (arith, r, number, q)))) (ih (omega (arith, q)))
+    other d false e q ih = or_from (d == c && suc (exceptions_of A d) == j) _ (ap (λ b. b && suc (exceptions_of A d) == j) e) (ih q)
+
+    by_act : (act : Act) (answer : Answer) (people : Option (List (List ℕ))) → answer ≡ answer_to A act people → one_more (is_exception c act) (exceptions_of A c) < j → (exceptions_of A c < j → list_any (is_numbered c j) (exceptions A) ≡ false)
+        → list_any (is_numbered c j) (exceptions (record { command = record { key = entry.command.key; act = act }; answer = answer } ∷ A)) ≡ false
+    by_act (Except d text true at) answer people e l ih = rw e (other d (d == c) refl l ih)
+    by_act (Except d text false at) answer people e l ih = rw e (other d (d == c) refl l ih)
+    by_act act answer people e l ih = ih l

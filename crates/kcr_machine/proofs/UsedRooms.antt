@@ -29,10 +29,9 @@ use Rattle.kcr_history.specs.Machine.{IsRegister}
 use Rattle.kcr_history.specs.Views.{is_stay_of}
 use Rattle.kcr_history.proofs.Steps.{took}
 use Rattle.kcr_acts.specs.CeremonyRows.{is_unended}
-use Rattle.kcr_machine.proofs.Keyed.{any-map}
-use Rattle.kcr_machine.proofs.Shown.{any-shown}
 use Rattle.kcr_laws.proofs.Rooms.{HaveTurns, onto_append, none_yet, none_of, not_behind}
 use Rattle.kcr_laws.proofs.Alone.{turns}
+use Rattle.kcr_machine.proofs.Keyed.{any-map, any-shown}
 
 -- TESTS ON LISTS
 

@@ -1,5 +1,6 @@
 -- The rows of a withdrawal, by the trainings and withdrawals that a view shows.
-use Rattle.std.proofs.Common.{◌≡◌, ℕ, Bool, true, false, cond, not, ◌||◌, ◌&&◌, nat_le, max, List, [], ◌∷◌, map, filter, refl, sym, ap, ◌∙◌, subst, arith}
+use Rattle.std.proofs.Common.{◌≡◌, ℕ, Bool, true, false, not, ◌||◌, ◌&&◌, nat_le, max, List, filter, refl, sym, ap, ◌∙◌, subst, arith}
+use Rattle.std.specs.List.{list_any}
 use Rattle.std.specs.List.Sorted.{IsPermutation}
 use Rattle.std.proofs.lemmas.Bool.{and_parts, leb-true, le-leb}
 use Rattle.std.proofs.lemmas.List.Sorted.{IsPermutation-map}
@@ -11,7 +12,8 @@ use Rattle.kcr_people.specs.People.{is_of, is_withdrawn_by, covers, trains, trai
 use Rattle.kcr_people.proofs.Orders.{any-same}
 use Rattle.kcr_people.proofs.Withdrawn.{is_of-true, least-day}
 use Rattle.kcr_history.specs.Views.{is_training_of, is_withdrawal_of}
-use Rattle.kcr_machine.proofs.Shown.{any-shown, filter-shown}
+use Rattle.kcr_machine.proofs.Keyed.{any-shown, filter-shown}
+use Rattle.kcr_machine.proofs.Members.{in-filter, map-same-in}
 
 -- the rows of the person that the table has are those that are shown, in some order
 abbrev pub ShowsTrainings : List ℕ → List Training → List Training → Type 0
@@ -44,21 +46,23 @@ trains-shown who table rows p role day row = by_cover (covers who role day row) 
     by_cover true e = ap not (withdrawn-shown who table rows p row (covers-who who role day row e) day)
     by_cover false e = refl
 
+-- whether some training of the person holds on a day of its own
+trains-any : (who : List ℕ) (ts us : List Training) (ws vs : List Withdrawal) → ShowsTrainings who ts us → ShowsWithdrawals who ws vs → (role : Role) (on : Training → ℕ)
+    → list_any (λ row. trains vs who role (on row) row) us ≡ list_any (λ row. trains ws who role (on row) row) ts
+trains-any who ts us ws vs p q role on =
+    any-same (λ row. trains vs who role (on row) row) (λ row. trains ws who role (on row) row) (λ row. trains-shown who ws vs q role (on row) row) us
+    ∙ any-shown (λ row. trains ws who role (on row) row) (is_training_of who)
+    (λ row h. covers-who who role (on row) row (and_parts (covers who role (on row) row) (not (is_withdrawn_by ws row (on row))) h).0) ts us p
+
 -- whether the person is trained on the day or a later one
 pub trained_from-shown : (who : List ℕ) (ts us : List Training) (ws vs : List Withdrawal) → ShowsTrainings who ts us → ShowsWithdrawals who ws vs → (role : Role) (day : ℕ)
     → trained_from_by us vs who role day ≡ trained_from_by ts ws who role day
-trained_from-shown who ts us ws vs p q role day =
-    any-same (λ row. trains vs who role (max row.since day) row) (λ row. trains ws who role (max row.since day) row) (λ row. trains-shown who ws vs q role (max row.since day) row) us
-    ∙ any-shown (λ row. trains ws who role (max row.since day) row) (is_training_of who)
-    (λ row h. covers-who who role (max row.since day) row (and_parts (covers who role (max row.since day) row) (not (is_withdrawn_by ws row (max row.since day))) h).0) ts us p
+trained_from-shown who ts us ws vs p q role day = trains-any who ts us ws vs p q role (λ row. max row.since day)
 
 -- whether the person is trained on the day
 pub trained-shown : (who : List ℕ) (ts us : List Training) (ws vs : List Withdrawal) → ShowsTrainings who ts us → ShowsWithdrawals who ws vs → (role : Role) (day : ℕ)
     → trained_by us vs who role day ≡ trained_by ts ws who role day
-trained-shown who ts us ws vs p q role day =
-    any-same (trains vs who role day) (trains ws who role day) (λ row. trains-shown who ws vs q role day row) us
-    ∙ any-shown (trains ws who role day) (is_training_of who)
-    (λ row h. covers-who who role day row (and_parts (covers who role day row) (not (is_withdrawn_by ws row day)) h).0) ts us p
+trained-shown who ts us ws vs p q role day = trains-any who ts us ws vs p q role (λ row. day)
 
 -- THE ROWS OF A WITHDRAWAL
 
@@ -79,20 +83,12 @@ ends_from-who who role day row h =
     let a = and_parts (same_text row.who who && same_role row.role role) (nat_le day row.until) h in
     (and_parts (same_text row.who who) (same_role row.role role) a.0).0
 
--- two makers that make the same of each that passes the test
-map-filter : {X Y : Type 0} (f g : X → Y) (test : X → Bool) → ((x : X) → test x ≡ true → f x ≡ g x) → (xs : List X) → map f (filter test xs) ≡ map g (filter test xs)
-map-filter f g test h [] = refl
-map-filter f g test h (x ∷ xs) = by_test (test x) refl (map-filter f g test h xs)
-  where
-    by_test : (b : Bool) → test x ≡ b → map f (filter test xs) ≡ map g (filter test xs) → map f (cond b (x ∷ filter test xs) (filter test xs)) ≡ map g (cond b (x ∷ filter test xs) (filter test xs))
-    by_test true e ih = rw (h x e, ih)
-    by_test false e ih = ih
-
 -- the same rows are to be put, in some order
 pub withdrawn_rows-shown : (who : List ℕ) (ts us : List Training) (ws vs : List Withdrawal) → ShowsTrainings who ts us → ShowsWithdrawals who ws vs → (role : Role) (day : ℕ)
     → IsPermutation (withdrawn_rows ts ws who role day) (withdrawn_rows us vs who role day)
 withdrawn_rows-shown who ts us ws vs p q role day =
-    rw (map-filter (withdrawal_of vs day) (withdrawal_of ws day) (ends_from who role day)
-    (λ row h. ap (λ d. record { who = row.who; role = row.role; since = row.since; until = row.until; day = d }) (least-shown who ws vs q row (ends_from-who who role day row h) day)) us)
+    rw (map-same-in (withdrawal_of vs day) (withdrawal_of ws day) (filter (ends_from who role day) us)
+    (λ row i. ap (λ d. record { who = row.who; role = row.role; since = row.since; until = row.until; day = d })
+    (least-shown who ws vs q row (ends_from-who who role day row (in-filter (ends_from who role day) row us i).1) day)))
     (IsPermutation-map (withdrawal_of ws day) (filter (ends_from who role day) ts) (filter (ends_from who role day) us)
     (filter-shown (ends_from who role day) (is_training_of who) (λ row h. ends_from-who who role day row h) ts us p))

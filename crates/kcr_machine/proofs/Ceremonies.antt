@@ -1,0 +1,347 @@
+-- Planning, opening and closing: whether the rows let a ceremony be planned, opened or closed, and the rows of one that is.
+use Rattle.std.proofs.Common.{◌≡◌, ℕ, Bool, true, false, cond, not, ◌&&◌, eqb, nat_lt, List, [], ◌∷◌, ◌++◌, map, Option, Some, None, refl, sym, ap, ◌∙◌, subst, suc, ◌+◌, ◌||◌, filter, length, arith, ◌≤◌, add-one}
+use Rattle.std.specs.Prelude.{is_some, unwrap_or, slice_get}
+use Rattle.std.specs.List.{list_any}
+use Rattle.std.specs.List.Sorted.{IsPermutation}
+use Rattle.std.proofs.lemmas.Bool.{true≢false, false≢true, eqb-true, eq-eqb, and_parts, lt-ltb, ne_eqb, and_right, false_from_ne_true, and_left, ltb-true}
+use Rattle.std.proofs.lemmas.List.Sorted.{list_any-IsPermutation, length_permutation}
+use Rattle.kcr_base.specs.Days.{day_of}
+use Rattle.kcr_base.specs.Refuse.{when, first_of}
+use Rattle.kcr_base.specs.Rows.{put}
+use Rattle.kcr_base.specs.Same.{same_facility}
+use Rattle.kcr_base.specs.declared.refusal.Refusal.TheVariants as Refusals
+use Rattle.kcr_base.specs.declared.refusal.Refusal.TheVariants.{Unknown, Range, Taken}
+use Rattle.kcr_base.specs.declared.refusal.Thing.TheVariants as Things
+use Rattle.kcr_base.proofs.RefuseLemmas.{none_holds, unmet}
+use Rattle.kcr_base.proofs.RowsLemmas.{filter-order}
+use Rattle.kcr_people.proofs.Orders.{any-same}
+use Rattle.kcr_history.specs.declared.commands.Act.{Act}
+use Rattle.kcr_history.specs.declared.commands.Act.TheVariants.{Open, Close, Plan, Sign, Except}
+use Rattle.kcr_history.specs.declared.commands.Answer.{Answer}
+use Rattle.kcr_history.specs.declared.rows.CeremonyRow.{CeremonyRow}
+use Rattle.kcr_history.specs.declared.rows.CeremonyState.TheVariants as States
+use Rattle.kcr_history.specs.declared.rows.MarkRow.{MarkRow}
+use Rattle.kcr_history.specs.declared.views.Change.TheVariants.{PutKey, PutStep}
+use Rattle.kcr_history.specs.declared.views.View.{View}
+use Rattle.kcr_history.specs.History.{History, all_said, entry_of, stacked_on}
+use Rattle.kcr_history.specs.Ceremonies.{is_ceremony, facility_of, day_planned, opening, opened, closing, closed, is_open, mark, opened_number, steps_of, steps_done, planned_as, plan_of}
+use Rattle.kcr_history.specs.Tables.{planned_number, ceremony_row, ceremonies, mark_row, marks, tables, sealed_serial, bag_row, bags, numbered, step_keys, step_row, steps, fate_of, Tables, step_done}
+use Rattle.kcr_history.specs.Changes.{same_ceremony, same_mark, changed_by, same_step}
+use Rattle.kcr_history.specs.Views.{is_of_number, IsViewOf, is_step_of}
+use Rattle.kcr_history.specs.Asked.{asks_by}
+use Rattle.kcr_history.specs.Conditions.{conditions, fault, is_full, busy, not_open, late, full, unfinished, no_ceremony}
+use Rattle.kcr_history.specs.Machine.{IsRegister, with_command}
+use Rattle.kcr_history.proofs.Steps.{took}
+use Rattle.kcr_scene.specs.Scene.{ceremony_by}
+use Rattle.kcr_acts.specs.CeremonyRows.{is_open_beside, opening_refusal, is_undone, is_undone_of, lies_on_table, closing_refusal, planned_row, undone_row, undone_rows}
+use Rattle.kcr_acts.specs.ByRows.{refusal_by}
+use Rattle.kcr_machine.specs.RowDecision.{new_key_row}
+use Rattle.kcr_laws.proofs.Finds.{some_if}
+use Rattle.kcr_base.specs.declared.place.Facility.{Facility}
+use Rattle.kcr_custody.specs.declared.Bag.{Bag}
+use Rattle.kcr_custody.specs.declared.SafeNumber.TheVariants.{One, Two}
+use Rattle.kcr_custody.specs.declared.Spot.{Spot}
+use Rattle.kcr_custody.specs.declared.Spot.TheVariants.{Spent}
+use Rattle.kcr_custody.specs.Custody.{is_on_table}
+use Rattle.kcr_script.specs.declared.script.Step.{Step}
+use Rattle.kcr_history.specs.declared.rows.StepRow.{StepRow}
+use Rattle.kcr_history.specs.declared.rows.StepState.{StepState}
+use Rattle.kcr_history.specs.declared.rows.StepState.TheVariants.{Undone, Signed, Passed}
+use Rattle.kcr_history.specs.Custody.{spot}
+use Rattle.kcr_scene.specs.Signing.{is_done}
+use Rattle.kcr_laws.proofs.Done.{none-there}
+use Rattle.std.specs.Result.{result_unwrap_or}
+use Rattle.kcr_script.specs.Reading.{script_of}
+use Rattle.kcr_history.specs.declared.views.Change.{Change}
+use Rattle.std.proofs.lemmas.List.Filters.{length-filter_both}
+use Rattle.kcr_room.proofs.Lists as RoomLists
+use Rattle.kcr_room.proofs.Lists.{filter-and}
+use Rattle.kcr_machine.proofs.BagsWords.{open-shown}
+use Rattle.kcr_machine.proofs.FirstRefusals.{met}
+use Rattle.kcr_machine.proofs.Keyed.{any-map, put-at, put-first, put-new}
+use Rattle.kcr_machine.proofs.Leads.{Leads, command_of, entry_as, new_key}
+use Rattle.kcr_machine.proofs.Members.{IsIn, map-same-in, none-in, none-passes, same-answers}
+use Rattle.kcr_machine.proofs.Scenes.{ShowsCeremony, ceremony-shown, known-shown, mark-after, mark-shown, marked-opened, open-opened, open-state, opened-number, opened-planned, planned-number, said-then, some-where, turned}
+use Rattle.kcr_machine.proofs.StepRows.{done-shown, keys-planned, steps-count}
+use Rattle.kcr_machine.proofs.UsedRooms.{used-shown}
+
+-- OPENING
+
+-- the row of the ceremony, where all rows are shown
+row-shown : (A : History) (c : ℕ) (rows : List CeremonyRow) → IsPermutation (ceremonies A) rows → ceremony_by rows c ≡ some_if (is_ceremony A c) (ceremony_row A c)
+row-shown A c rows p = ceremony-shown A c rows (filter-order (is_of_number c) (ceremonies A) rows p)
+
+-- whether another ceremony is open in its facility
+busy-shown : (A : History) (c : ℕ) (rows : List CeremonyRow) → IsPermutation (ceremonies A) rows
+    → list_any (is_open_beside (ceremony_row A c)) rows ≡ list_any (λ other. not (eqb other c) && same_facility (facility_of A other) (facility_of A c) && is_open A other) (all_said planned_number A)
+busy-shown A c rows p =
+    sym (list_any-IsPermutation (is_open_beside (ceremony_row A c)) (ceremonies A) rows p)
+    ∙ any-map (is_open_beside (ceremony_row A c)) (ceremony_row A) (all_said planned_number A)
+    ∙ any-same (λ other. is_open_beside (ceremony_row A c) (ceremony_row A other)) (λ other. not (eqb other c) && same_facility (facility_of A other) (facility_of A c) && is_open A other)
+    (λ other. ap (λ b. not (eqb other c) && same_facility (facility_of A other) (facility_of A c) && b) (open-state A other)) (all_said planned_number A)
+
+pub open-fault : (A : History) (c at : ℕ) (key : List ℕ) (view : View) → IsViewOf (asks_by key (Open c at)) (tables A) view
+    → refusal_by view (is_full A) (Open c at) ≡ fault A (Open c at)
+open-fault A c at key view v = rw (row-shown A c view.ceremonies.items v.ceremonies) (by_plan (is_ceremony A c))
+  where
+    by_plan : (b : Bool) → opening_refusal view.ceremonies.items (is_full A) c at (some_if b (ceremony_row A c))
+        ≡ first_of
+        (when (not b) (Unknown (Things.Ceremony c))
+        ∷ when (nat_lt (day_of at) (day_planned A c)) Range
+        ∷ when (is_some (opened A c)) Refusals.State
+        ∷ busy A c
+        ∷ when (is_full A) Refusals.Full
+        ∷ [])
+    by_plan false = refl
+    by_plan true = rw (busy-shown A c view.ceremonies.items v.ceremonies)
+
+-- only a ceremony that was opened is closed
+closed-opened : (A : History) → IsRegister A → (c : ℕ) → is_some (closed A c) ≡ true → is_some (opened A c) ≡ true
+closed-opened [] h c e = absurd (false≢true e)
+closed-opened (entry ∷ A) h c e =
+    said-then (closing c entry.command.act) (closed A c) (opening c entry.command.act) (opened A c) (by_act entry.command.act (took A entry h.0).no_fault) (closed-opened A h.1 c) e
+  where
+    by_act : (act : Act) → fault A act ≡ None → is_some (closing c act) ≡ true → is_some (opened A c) ≡ true
+    by_act (Close d at) f e =
+        let open_now = met (is_open A d) Refusals.State (none_holds (conditions A (Close d at)) f).1.0 in
+        subst (λ c. is_some (opened A c) ≡ true) (eqb-true d c (some-where (eqb d c) at e)) (open-opened A d open_now)
+    by_act act f e = absurd (false≢true e)
+
+-- one that was never opened was never closed
+never-closed : (A : History) → IsRegister A → (c : ℕ) → is_some (opened A c) ≡ false → closed A c ≡ None
+never-closed A h c e = none-there (closed A c) (false_from_ne_true (is_some (closed A c)) (λ g. true≢false (sym (closed-opened A h c g) ∙ e)))
+
+-- one row is put under its number, and the others stay
+ceremony-put : (A B : History) (c : ℕ) (row : CeremonyRow) → row ≡ ceremony_row B c → ((k : ℕ) → eqb k c ≡ false → ceremony_row A k ≡ ceremony_row B k) → is_ceremony A c ≡ true
+    → put same_ceremony row (ceremonies A) ≡ map (ceremony_row B) (all_said planned_number A)
+ceremony-put A B c row own other known =
+    ap (λ row. put same_ceremony row (ceremonies A)) own
+    ∙ put-at same_ceremony (ceremony_row A) (ceremony_row B) (ceremony_row B c) (λ k e. ap (ceremony_row B) (sym (eqb-true k c e))) other (all_said planned_number A) (planned-number A c ∙ known)
+
+-- the tables with one that is opened
+module _ (A : History) (h : IsRegister A) (key : List ℕ) (answer : Answer) (c at : ℕ) (f : fault A (Open c at) ≡ None) where
+  abbrev opened_now : History
+  opened_now = with_command A (command_of key (Open c at)) answer
+
+  known : is_ceremony A c ≡ true
+  known = met (is_ceremony A c) (Unknown (Things.Ceremony c)) (none_holds (conditions A (Open c at)) f).0
+
+  fresh : is_some (opened A c) ≡ false
+  fresh = unmet (is_some (opened A c)) Refusals.State (none_holds (conditions A (Open c at)) f).1.1.0
+
+  abbrev open_row : CeremonyRow
+  open_row = record (ceremony_row A c) { state = States.Open; opened = Some at }
+
+  ceremonies-opened : put same_ceremony open_row (ceremonies A) ≡ ceremonies opened_now
+  ceremonies-opened = ceremony-put A opened_now c open_row (rw (eq-eqb c c refl, never-closed A h c fresh) refl) (λ k e. rw (turned c k e) refl) known
+
+  abbrev first_mark : MarkRow
+  first_mark = record { ceremony = c; at = at }
+
+  marks-first : put same_mark first_mark (marks A) ≡ marks opened_now
+  marks-first =
+      put-first same_mark (mark_row A) (mark_row opened_now) first_mark (λ k e. rw (mark-after A (entry_as key (Open c at) answer) k, turned c k e) refl) (all_said opened_number A) (opened-number A c ∙ fresh)
+      ∙ ap (λ row. row ∷ map (mark_row opened_now) (all_said opened_number A)) own
+    where
+      own : first_mark ≡ mark_row opened_now c
+      own = rw (mark-after A (entry_as key (Open c at) answer) c, eq-eqb c c refl, none-there (mark A c) (marked-opened A h c ∙ fresh)) refl
+
+  pub open-leads : (view : View) → IsPermutation (ceremonies A) view.ceremonies.items → entry_of A key ≡ None → Leads A view (command_of key (Open c at)) answer
+  open-leads view v k = rw (row-shown A c view.ceremonies.items v, known) (rw (ceremonies-opened, marks-first, new_key A (command_of key (Open c at)) answer k) refl)
+
+-- CLOSING
+
+-- STEPS THAT ARE NEITHER SIGNED NOR PASSED
+
+undone-state : (state : StepState) → is_undone state ≡ not (is_done state)
+undone-state Undone = refl
+undone-state Signed = refl
+undone-state Passed = refl
+
+any-counted : {X : Type 0} (p : X → Bool) (xs : List X) → list_any p xs ≡ nat_lt 0 (length (filter p xs))
+any-counted p [] = refl
+any-counted p (x ∷ xs) = by_test (p x) (any-counted p xs)
+  where
+    by_test : (b : Bool) → list_any p xs ≡ nat_lt 0 (length (filter p xs)) → (b || list_any p xs) ≡ nat_lt 0 (length (cond b (x ∷ filter p xs) (filter p xs)))
+    by_test true ih = sym (lt-ltb 0 (length (x ∷ filter p xs)) (omega arith))
+    by_test false ih = ih
+
+-- a step is left where not all were done: those that are shown are as many as the script has, done or not
+steps-shown : (A : History) → IsRegister A → (c : ℕ) (rows : List StepRow) → IsPermutation (filter (is_step_of c) (steps A)) (filter (is_step_of c) rows)
+    → list_any (is_undone_of c) rows ≡ nat_lt (steps_done A c) (length (steps_of A c))
+steps-shown A h c rows p =
+    sym (RoomLists.any-filter (is_step_of c) (λ row. is_undone row.state) rows)
+    ∙ any-counted (λ row. is_undone row.state) own
+    ∙ same-answers (nat_lt 0 undone) (nat_lt (steps_done A c) (length (steps_of A c)))
+    (λ e. lt-ltb (steps_done A c) (length (steps_of A c)) (omega (arith, ltb-true 0 undone e, parts)))
+    (λ e. lt-ltb 0 undone (omega (arith, ltb-true (steps_done A c) (length (steps_of A c)) e, parts)))
+  where
+    own : List StepRow
+    own = filter (is_step_of c) rows
+
+    undone : ℕ
+    undone = length (filter (λ row. is_undone row.state) own)
+
+    parts : steps_done A c + undone ≡ length (steps_of A c)
+    parts =
+        ap (λ n. n + undone) (sym (done-shown A h c rows p) ∙ ap length (sym (filter-and (is_step_of c) (λ row. is_done row.state) rows)))
+        ∙ length-filter_both (λ row. is_done row.state) (λ row. is_undone row.state) (λ row. undone-state row.state) own
+        ∙ length_permutation (filter (is_step_of c) (steps A)) own p
+        ∙ steps-count A h c
+
+-- BAGS ON THE TABLE
+
+spent : (facility : Facility) (o : Option Spot) → is_on_table facility (Some (unwrap_or o Spent)) ≡ is_on_table facility o
+spent facility None = refl
+spent facility (Some at) = refl
+
+table-shown : (A : History) (facility : Facility) (rows : List Bag) → IsPermutation (bags A) rows → list_any (lies_on_table facility) rows ≡ list_any (λ serial. is_on_table facility (spot A serial)) (all_said sealed_serial A)
+table-shown A facility rows p =
+    sym (list_any-IsPermutation (lies_on_table facility) (bags A) rows p)
+    ∙ any-map (lies_on_table facility) (bag_row A) (all_said sealed_serial A)
+    ∙ any-same (λ serial. lies_on_table facility (bag_row A serial)) (λ serial. is_on_table facility (spot A serial)) (λ serial. spent facility (spot A serial)) (all_said sealed_serial A)
+
+-- THE KIND
+
+pub close-fault : (A : History) → IsRegister A → (c at : ℕ) (key : List ℕ) (view : View) → IsViewOf (asks_by key (Close c at)) (tables A) view
+    → refusal_by view (is_full A) (Close c at) ≡ fault A (Close c at)
+close-fault A h c at key view v = rw (ceremony-shown A c view.ceremonies.items v.ceremonies) (by_plan (is_ceremony A c))
+  where
+    by_plan : (b : Bool) → closing_refusal view (is_full A) c at (some_if b (ceremony_row A c))
+        ≡ first_of
+        (when (not b) (Unknown (Things.Ceremony c))
+        ∷ not_open A c
+        ∷ late A c at
+        ∷ full A
+        ∷ unfinished A c at
+        ∷ [])
+    by_plan false = refl
+    by_plan true =
+        rw (
+          open-state A c,
+          mark-shown A h c view.marks.items v.marks,
+          steps-shown A h c view.steps.items v.steps,
+          used-shown A h c at view.stays.items v.stays.room,
+          open-shown A view.safes.items v.safes (facility_of A c) One,
+          open-shown A view.safes.items v.safes (facility_of A c) Two,
+          table-shown A (facility_of A c) view.bags.items v.bags,
+        )
+        refl
+
+-- the tables with one that is closed
+module _ (A : History) (key : List ℕ) (answer : Answer) (c at : ℕ) (f : fault A (Close c at) ≡ None) where
+  abbrev closed_now : History
+  closed_now = with_command A (command_of key (Close c at)) answer
+
+  to_close : is_ceremony A c ≡ true
+  to_close = met (is_ceremony A c) (Unknown (Things.Ceremony c)) (none_holds (conditions A (Close c at)) f).0
+
+  abbrev closed_row : CeremonyRow
+  closed_row = record (ceremony_row A c) { state = States.Closed; closed = Some at }
+
+  ceremonies-closed : put same_ceremony closed_row (ceremonies A) ≡ ceremonies closed_now
+  ceremonies-closed = ceremony-put A closed_now c closed_row (rw (eq-eqb c c refl) refl) (λ k e. rw (turned c k e) refl) to_close
+
+  pub close-leads : (view : View) → ShowsCeremony c (ceremonies A) view.ceremonies.items → entry_of A key ≡ None → Leads A view (command_of key (Close c at)) answer
+  close-leads view v k = rw (ceremony-shown A c view.ceremonies.items v, to_close) (rw (ceremonies-closed, new_key A (command_of key (Close c at)) answer k) refl)
+
+-- PLANNING
+
+pub plan-fault : (A : History) (number : ℕ) (facility : Facility) (day : ℕ) (script key : List ℕ) (view : View) → IsViewOf (asks_by key (Plan number facility day script)) (tables A) view
+    → refusal_by view (is_full A) (Plan number facility day script) ≡ fault A (Plan number facility day script)
+plan-fault A number facility day script key view v = rw (known-shown A number view.ceremonies.items v.ceremonies) refl
+
+-- ROWS OF A CEREMONY THAT WAS NOT PLANNED
+
+-- only steps of a planned ceremony are signed or passed
+done-planned : (A : History) → IsRegister A → (c k : ℕ) → is_some (fate_of A c k) ≡ true → is_ceremony A c ≡ true
+done-planned [] h c k e = absurd (false≢true e)
+done-planned (entry ∷ A) h c k e =
+    said-then (step_done c k entry.command.act entry.answer.step) (fate_of A c k) (planned_as c entry.command.act) (plan_of A c)
+    (by_act entry.command.act entry.answer.step (took A entry h.0).no_fault) (done-planned A h.1 c k) e
+  where
+    own : (d step : ℕ) → no_ceremony A d ≡ None → (eqb d c && eqb step k) ≡ true → is_ceremony A c ≡ true
+    own d step f e = subst (λ c. is_ceremony A c ≡ true) (eqb-true d c (and_parts (eqb d c) (eqb step k) e).0) (met (is_ceremony A d) (Unknown (Things.Ceremony d)) f)
+
+    by_act : (act : Act) (said : Option ℕ) → fault A act ≡ None → is_some (step_done c k act said) ≡ true → is_ceremony A c ≡ true
+    by_act (Sign d step at) said f e = own d step (none_holds (conditions A (Sign d step at)) f).0 (some-where (eqb d c && eqb step k) (Signed, at) e)
+    by_act (Except d text pass at) (Some step) f e = own d step (none_holds (conditions A (Except d text pass at)) f).0 (some-where (eqb d c && eqb step k) (Passed, at) e)
+    by_act (Except d text pass at) None f e = absurd (false≢true e)
+    by_act act said f e = absurd (false≢true e)
+
+-- what implies that a ceremony was planned is not so of one that was not
+not-planned : {X : Type 0} (o : Option X) (b : Bool) → (is_some o ≡ true → b ≡ true) → b ≡ false → o ≡ None
+not-planned o b imp e = none-there o (false_from_ne_true (is_some o) (λ i. true≢false (sym (imp i) ∙ e)))
+
+map-stacked : {X Y : Type 0} (f : X → Y) (xs ys : List X) → map f (stacked_on xs ys) ≡ stacked_on (map f xs) (map f ys)
+map-stacked f [] ys = refl
+map-stacked f (x ∷ xs) ys = map-stacked f xs (x ∷ ys)
+
+-- THE STEPS' ROWS
+
+-- rows of steps that are all new are put in front, one planned_now the other
+put-steps : (c i : ℕ) (ss : List Step) (rest : List Change) (t : Tables) → ((j : ℕ) → i ≤ j → list_any (λ row. eqb row.ceremony c && eqb row.step j) t.steps ≡ false)
+    → changed_by (map PutStep (undone_rows c i ss) ++ rest) t ≡ changed_by rest (record t { steps = stacked_on (undone_rows c i ss) t.steps })
+put-steps c i [] rest t not_known = refl
+put-steps c i (s ∷ ss) rest t not_known =
+    let row : StepRow = undone_row c i s in
+    ap (λ rows. changed_by (map PutStep (undone_rows c (i + 1) ss) ++ rest) (record t { steps = rows })) (put-new same_step row t.steps (not_known i (omega arith)))
+    ∙ put-steps c (i + 1) ss rest (record t { steps = row ∷ t.steps })
+    (λ j l. rw (and_right (eqb c c) (eqb i j) (ne_eqb i j (λ e. omega (arith, e, l))), not_known j (omega (arith, l))) refl)
+
+-- the rows of a ceremony's steps, none of which was done
+own-rows : (B : History) (c i : ℕ) (all ss : List Step) → steps_of B c ≡ all → ((k : ℕ) → fate_of B c k ≡ None) → ((j : ℕ) → slice_get all (i + j) ≡ slice_get ss j)
+    → map (step_row B) (numbered c i ss) ≡ undone_rows c (suc i) ss
+own-rows B c i all [] e undone at = refl
+own-rows B c i all (s ∷ ss) e undone at =
+    let here : slice_get all i ≡ Some s = ap (slice_get all) (let z : i ≡ i + 0 = omega arith in z) ∙ at 0 in
+    rw (e, undone (suc i), here)
+    (ap (λ rows. undone_row c (suc i) s ∷ rows)
+    (own-rows B c (suc i) all ss e undone (λ j. ap (slice_get all) (let z : suc i + j ≡ i + suc j = omega arith in z) ∙ at (suc j)) ∙ ap (λ n. undone_rows c n ss) (sym (add-one (suc i)))))
+
+-- the tables with one that is planned
+module _ (A : History) (h : IsRegister A) (key : List ℕ) (answer : Answer) (c : ℕ) (facility : Facility) (day : ℕ) (script : List ℕ) (f : fault A (Plan c facility day script) ≡ None) where
+  abbrev planned_now : History
+  planned_now = with_command A (command_of key (Plan c facility day script)) answer
+
+  abbrev its_steps : List Step
+  its_steps = result_unwrap_or (script_of script) []
+
+  not_known : is_ceremony A c ≡ false
+  not_known = unmet (is_ceremony A c) Taken (none_holds (conditions A (Plan c facility day script)) f).0
+
+  not_opened : opened A c ≡ None
+  not_opened = not-planned (opened A c) (is_ceremony A c) (opened-planned A h c) not_known
+
+  ceremonies-planned : put same_ceremony (planned_row c facility day) (ceremonies A) ≡ ceremonies planned_now
+  ceremonies-planned =
+      put-first same_ceremony (ceremony_row A) (ceremony_row planned_now) (planned_row c facility day) (λ k e. rw (turned c k e) refl) (all_said planned_number A) (planned-number A c ∙ not_known)
+      ∙ ap (λ row. row ∷ map (ceremony_row planned_now) (all_said planned_number A)) own
+    where
+      own : planned_row c facility day ≡ ceremony_row planned_now c
+      own = rw (eq-eqb c c refl, never-closed A h c (ap is_some not_opened), not_opened) refl
+
+  its_own : steps_of planned_now c ≡ its_steps
+  its_own = rw (eq-eqb c c refl) refl
+
+  -- no key of a step is one of these
+  no_key : (k : ℕ × ℕ) → IsIn k (step_keys A) → eqb k.0 c ≡ false
+  no_key k i = none-in (λ k. eqb k.0 c) k (step_keys A) (keys-planned A h c not_known) i
+
+  steps-put : stacked_on (undone_rows c 1 its_steps) (steps A) ≡ steps planned_now
+  steps-put =
+      sym (map-stacked (step_row planned_now) (numbered c 0 its_steps) (step_keys A)
+      ∙ ap (λ rows. stacked_on rows (map (step_row planned_now) (step_keys A))) (own-rows planned_now c 0 its_steps its_steps its_own (λ k. not-planned (fate_of A c k) (is_ceremony A c) (done-planned A h c k) not_known) (λ j. ap (slice_get its_steps) (let z : 0 + j ≡ j = omega arith in z)))
+      ∙ ap (λ rows. stacked_on (undone_rows c 1 its_steps) rows) (sym (map-same-in (step_row A) (step_row planned_now) (step_keys A) (λ k i. rw (turned c k.0 (no_key k i)) refl))))
+
+  new_steps : (j : ℕ) → list_any (λ row. eqb row.ceremony c && eqb row.step j) (steps A) ≡ false
+  new_steps j =
+      any-map (λ row. eqb row.ceremony c && eqb row.step j) (step_row A) (step_keys A)
+      ∙ none-passes (λ k. eqb k.0 c && eqb k.1 j) (step_keys A) (λ k i. and_left (eqb k.0 c) (eqb k.1 j) (no_key k i))
+
+  pub plan-leads : (view : View) → entry_of A key ≡ None → Leads A view (command_of key (Plan c facility day script)) answer
+  plan-leads view k =
+      let rest : List Change = PutKey (new_key_row (command_of key (Plan c facility day script)) answer) ∷ [] in
+      ap (λ rows. changed_by (map PutStep (undone_rows c 1 its_steps) ++ rest) (record (tables A) { ceremonies = rows })) ceremonies-planned
+      ∙ put-steps c 1 its_steps rest (record (tables A) { ceremonies = ceremonies planned_now }) (λ j l. new_steps j)
+      ∙ rw (steps-put, new_key A (command_of key (Plan c facility day script)) answer k) refl

@@ -1,0 +1,408 @@
+-- The rows that an act of custody puts, on a box, an item, a safe or a bag, lead from the tables before it to those after it.
+use Rattle.std.proofs.Common.{◌≡◌, ℕ, Bool, true, false, cond, not, ◌&&◌, List, [], ◌∷◌, map, filter, Option, Some, None, option_map, is_some, is_none, refl, sym, ap, ◌∙◌, ◌++◌, subst}
+use Rattle.std.specs.Prelude.{unwrap_or}
+use Rattle.std.specs.List.{list_any}
+use Rattle.std.specs.List.Sorted.{IsPermutation}
+use Rattle.std.proofs.lemmas.List.Sorted.{IsPermutation-sym}
+use Rattle.std.proofs.lemmas.Bool.{true≢false, false≢true}
+use Rattle.kcr_base.proofs.RefuseLemmas.{none_holds, unmet}
+use Rattle.kcr_base.specs.Refuse.{when}
+use Rattle.kcr_base.specs.Rows.{or_else, put, put_all}
+use Rattle.kcr_base.specs.Same.{same_text, same_facility}
+use Rattle.kcr_base.specs.declared.place.Facility.{Facility}
+use Rattle.kcr_base.specs.declared.place.Facility.TheVariants.{East, West}
+use Rattle.kcr_base.specs.declared.refusal.Refusal.TheVariants.{Unknown, Taken, Elsewhere}
+use Rattle.kcr_custody.proofs.Puts.{text_same, text_refl, text_flip}
+use Rattle.kcr_custody.specs.declared.Item.{Item}
+use Rattle.kcr_custody.specs.declared.Rest.{Rest}
+use Rattle.kcr_custody.specs.declared.Rest.TheVariants.{Loose, Within}
+use Rattle.kcr_custody.specs.declared.Spot.{Spot}
+use Rattle.kcr_custody.specs.declared.Spot.TheVariants.{Table, Equipment, InBox, Spent}
+use Rattle.kcr_custody.specs.declared.Store.{Store}
+use Rattle.kcr_custody.specs.declared.Store.TheVariants.{SafeOne, Boxed}
+use Rattle.kcr_custody.specs.Balance.{same_bag, same_item, same_box}
+use Rattle.kcr_custody.specs.Custody.{is_on_table, safe_of, is_within, lies_in, within, loosened, packed, spot_of_store, same_safe}
+use Rattle.kcr_history.specs.declared.commands.Act.{Act}
+use Rattle.kcr_history.specs.declared.commands.Act.TheVariants.{Seal, Take, Put, Cut, AddItem, TurnSafe, AddBox}
+use Rattle.kcr_history.specs.declared.commands.Answer.{Answer}
+use Rattle.kcr_history.specs.History.{History, all_said, last_said, last_told, entry_of, some_command}
+use Rattle.kcr_history.specs.Ceremonies.{facility_of}
+use Rattle.kcr_history.specs.Custody.{moved, spot, is_spent, sealed_in, cut_at, added_at, rest_in, rest, turned, place_of_box, boxes_place}
+use Rattle.kcr_history.specs.Tables.{bags, bag_row, sealed_serial, items, item_row, added_item, Tables, tables, safes, boxes}
+use Rattle.kcr_history.specs.Conditions.{conditions, fault, no_bag}
+use Rattle.kcr_history.specs.Machine.{IsRegister, with_command}
+use Rattle.kcr_laws.proofs.Stored.{there, sealed_somewhere, box-there}
+use Rattle.kcr_custody.specs.declared.Bag.{Bag}
+use Rattle.kcr_history.specs.declared.views.Change.{Change}
+use Rattle.kcr_history.specs.declared.views.Change.TheVariants.{PutBag, PutItem, PutMark, PutKey}
+use Rattle.kcr_history.specs.declared.views.View.{View}
+use Rattle.kcr_history.specs.Changes.{changed, changed_by, same_safe_row}
+use Rattle.kcr_history.specs.Views.{IsViewOf}
+use Rattle.kcr_history.specs.Asked.{asks_by}
+use Rattle.kcr_machine.specs.RowDecision.{new_key_row}
+use Rattle.kcr_custody.specs.declared.SafeNumber.{SafeNumber}
+use Rattle.kcr_custody.specs.declared.SafeNumber.TheVariants.{One, Two}
+use Rattle.kcr_custody.specs.declared.SafeRow.{SafeRow}
+use Rattle.kcr_base.specs.declared.place.Place.{Place}
+use Rattle.kcr_custody.specs.declared.BoxRow.{BoxRow}
+use Rattle.kcr_history.proofs.Stacked.{or_parts}
+use Rattle.kcr_room.proofs.Lists.{map-same, map-map}
+use Rattle.kcr_base.specs.declared.refusal.Thing.TheVariants as Things
+use Rattle.kcr_machine.proofs.BagsWords.{added_rest, in-listed, items_known, listed-in}
+use Rattle.kcr_machine.proofs.FirstRefusals.{met}
+use Rattle.kcr_machine.proofs.Keyed.{put-at, put-first, put-new, put-rows}
+use Rattle.kcr_machine.proofs.Leads.{Leads, changed_by-rows, command_of, entry_as, new_key}
+use Rattle.kcr_machine.proofs.Members.{IsIn, filter-in, in-any, in-filter, in-map, in-order, map-in, map-same-in, same-answers}
+use Rattle.kcr_machine.proofs.Scenes.{facility-shown, marks-put, still}
+
+-- the history with an act accepted after it
+abbrev then_act : History → List ℕ → Act → Answer → History
+then_act A key act answer = with_command A (command_of key act) answer
+
+-- A BOX
+
+pub add_box-leads : (A : History) (key : List ℕ) (facility : Facility) (number : ℕ) (place : Place) (view : View) (answer : Answer) → entry_of A key ≡ None → fault A (AddBox facility number place) ≡ None
+    → Leads A view (command_of key (AddBox facility number place)) answer
+add_box-leads A key facility number place view answer k f =
+    let new : BoxRow = record { facility = facility; number = number; place = place } in
+    let free = (or_parts (is_some (place_of_box A facility number)) (some_command (boxes_place place) A) (unmet _ Taken (none_holds (conditions A (AddBox facility number place)) f).0)).0 in
+    rw (put-new same_box new (boxes A) (box-there A facility number ∙ free), new_key A (command_of key (AddBox facility number place)) answer k)
+
+-- A SAFE
+
+-- what is said of a safe by one more command
+abbrev next_state : Facility → SafeNumber → Bool → Facility → SafeNumber → Option Bool → Bool
+next_state here safe state facility other before = unwrap_or (or_else (cond (same_facility here facility && same_safe safe other) (Some state) None) before) false
+
+abbrev row_of : Facility → SafeNumber → Bool → SafeRow
+row_of facility safe is_open = record { facility = facility; safe = safe; is_open = is_open }
+
+put-safe : (here : Facility) (safe : SafeNumber) (state : Bool) (a b c d : Option Bool)
+    → put same_safe_row (row_of here safe state) (row_of East One (unwrap_or a false) ∷ row_of East Two (unwrap_or b false) ∷ row_of West One (unwrap_or c false) ∷ row_of West Two (unwrap_or d false) ∷ [])
+    ≡ row_of East One (next_state here safe state East One a) ∷ row_of East Two (next_state here safe state East Two b) ∷ row_of West One (next_state here safe state West One c) ∷ row_of West Two (next_state here safe state West Two d) ∷ []
+put-safe East One state a b c d = refl
+put-safe East Two state a b c d = refl
+put-safe West One state a b c d = refl
+put-safe West Two state a b c d = refl
+
+abbrev last_turn : History → Facility → SafeNumber → Option Bool
+last_turn A facility safe = last_told (λ before. turned (facility_of before) facility safe) A
+
+safes-put : (A : History) (key : List ℕ) (answer : Answer) (c : ℕ) (safe : SafeNumber) (state : Bool) (by : List ℕ) (at : ℕ)
+    → put same_safe_row (row_of (facility_of A c) safe state) (safes A) ≡ safes (with_command A (command_of key (TurnSafe c safe state by at)) answer)
+safes-put A key answer c safe state by at = put-safe (facility_of A c) safe state (last_turn A East One) (last_turn A East Two) (last_turn A West One) (last_turn A West Two)
+
+pub turn-leads : (A : History) → IsRegister A → (key : List ℕ) (c : ℕ) (safe : SafeNumber) (state : Bool) (by : List ℕ) (at : ℕ) (view : View) (answer : Answer) → IsViewOf (asks_by key (TurnSafe c safe state by at)) (tables A) view
+    → entry_of A key ≡ None → fault A (TurnSafe c safe state by at) ≡ None → Leads A view (command_of key (TurnSafe c safe state by at)) answer
+turn-leads A h key c safe state by at view answer v k f =
+    let act = TurnSafe c safe state by at in
+    rw (
+      facility-shown A c view.ceremonies.items v.ceremonies,
+      safes-put A key answer c safe state by at,
+      marks-put A (entry_as key act answer) c at f refl refl,
+      new_key A (command_of key act) answer k,
+    )
+    refl
+
+-- AN ITEM
+
+abbrev last_bag : History → List ℕ → Option (List ℕ)
+last_bag A k = last_said (sealed_in k) A
+
+abbrev added : History → List ℕ → Option Rest
+added A k = option_map Loose (last_told (λ before. added_at (facility_of before) k) A)
+
+-- an item that is nowhere was never sealed
+no_bag_yet : (A : History) (k : List ℕ) → is_some (rest A k) ≡ false → last_bag A k ≡ None
+no_bag_yet A k h = by_bag (last_bag A k) h
+  where
+    by_bag : (o : Option (List ℕ)) → is_some (or_else (option_map (rest_in A) o) (added A k)) ≡ false → o ≡ None
+    by_bag None e = refl
+    by_bag (Some s) e = absurd (true≢false e)
+
+-- its row is put in front, and the others stay
+items-added : (A : History) → IsRegister A → (key : List ℕ) (answer : Answer) (c : ℕ) (item : List ℕ) (at : ℕ) → is_some (rest A item) ≡ false
+    → put same_item (record { code = item; rest = Loose (facility_of A c) }) (items A) ≡ items (with_command A (command_of key (AddItem c item at)) answer)
+items-added A h key answer c item at free =
+    put-first same_item (item_row A) (item_row B) (record { code = item; rest = Loose (facility_of A c) }) (λ k e. rw (text_flip item k ∙ e) refl) (all_said added_item A) (added_rest A h item ∙ free)
+    ∙ ap (λ row. row ∷ map (item_row B) (all_said added_item A)) own
+  where
+    B : History
+    B = with_command A (command_of key (AddItem c item at)) answer
+
+    own : record { code = item; rest = Loose (facility_of A c) } ≡ item_row B item
+    own = rw (no_bag_yet A item free, text_refl item) refl
+
+pub add_item-leads : (A : History) → IsRegister A → (key : List ℕ) (c : ℕ) (item : List ℕ) (at : ℕ) (view : View) (answer : Answer) → IsViewOf (asks_by key (AddItem c item at)) (tables A) view
+    → entry_of A key ≡ None → fault A (AddItem c item at) ≡ None → Leads A view (command_of key (AddItem c item at)) answer
+add_item-leads A h key c item at view answer v k f =
+    let act = AddItem c item at in
+    rw (
+      facility-shown A c view.ceremonies.items v.ceremonies,
+      items-added A h key answer c item at (unmet (is_some (rest A item)) Taken (none_holds (conditions A act) f).1.0),
+      marks-put A (entry_as key act answer) c at f refl refl,
+      new_key A (command_of key act) answer k,
+    )
+    refl
+
+-- THE ROW OF A BAG
+
+-- moved to a place, or as it was
+abbrev moved_row : History → List ℕ → Spot → List ℕ → Bag
+moved_row A t to k = record { serial = k; spot = unwrap_or (or_else (cond (same_text t k) (Some to) None) (spot A k)) Spent }
+
+bags_moved : (A : History) → IsRegister A → (t : List ℕ) (to : Spot) → no_bag A t ≡ None → put same_bag (record { serial = t; spot = to }) (bags A) ≡ map (moved_row A t to) (all_said sealed_serial A)
+bags_moved A h t to n =
+    put-at same_bag (bag_row A) (moved_row A t to) (record { serial = t; spot = to })
+    (λ k e. let q : k ≡ t = text_same k t e in rw (q, text_refl t) refl) (λ k e. rw (text_flip t k ∙ e) refl)
+    (all_said sealed_serial A) (sealed_somewhere A h t ∙ there (spot A t) (unmet (is_none (spot A t)) (Unknown (Things.Bag t)) n))
+
+-- the row of a new bag is put in front
+bags_sealed : (A : History) → IsRegister A → (t : List ℕ) (to : Spot) → is_some (spot A t) ≡ false
+    → put same_bag (record { serial = t; spot = to }) (bags A) ≡ record { serial = t; spot = to } ∷ map (moved_row A t to) (all_said sealed_serial A)
+bags_sealed A h t to new =
+    put-first same_bag (bag_row A) (moved_row A t to) (record { serial = t; spot = to }) (λ k e. rw (text_flip t k ∙ e) refl) (all_said sealed_serial A) (sealed_somewhere A h t ∙ new)
+
+-- ITEMS OF A BAG THAT IS TAKEN OR PUT
+
+abbrev loosed : History → List ℕ → Rest
+loosed A s = Loose (unwrap_or (last_told (λ before. cut_at (facility_of before) s) A) East)
+
+-- a bag that is not spent, moved to where it is not either, leaves its items in it
+still_in : (A : History) (t : List ℕ) (to : Spot) → is_spent (spot A t) ≡ false → is_spent (Some to) ≡ false → (s : List ℕ)
+    → rest_in A s ≡ cond (is_spent (or_else (cond (same_text t s) (Some to) None) (spot A s))) (loosed A s) (Within s)
+still_in A t to u v s = by_test (same_text t s) refl
+  where
+    by_test : (b : Bool) → same_text t s ≡ b → rest_in A s ≡ cond (is_spent (or_else (cond b (Some to) None) (spot A s))) (loosed A s) (Within s)
+    by_test false e = refl
+    by_test true e = let q : t ≡ s = text_same t s e in ap (λ b. cond b (loosed A s) (Within s)) (ap (λ k. is_spent (spot A k)) (sym q) ∙ u ∙ sym v)
+
+items_stay : (A : History) (t : List ℕ) (to : Spot) → is_spent (spot A t) ≡ false → is_spent (Some to) ≡ false → (ks : List (List ℕ))
+    → map (item_row A) ks
+    ≡ map (λ k. record { code = k; rest = unwrap_or (or_else (option_map (λ s. cond (is_spent (or_else (cond (same_text t s) (Some to) None) (spot A s))) (loosed A s) (Within s)) (last_bag A k)) (added A k)) (Loose East) }) ks
+items_stay A t to u v ks = map-same (item_row A) _ ks (λ k. ap (λ o. record { code = k; rest = unwrap_or (or_else o (added A k)) (Loose East) }) (in_bag (last_bag A k)))
+  where
+    in_bag : (o : Option (List ℕ)) → option_map (rest_in A) o ≡ option_map (λ s. cond (is_spent (or_else (cond (same_text t s) (Some to) None) (spot A s))) (loosed A s) (Within s)) o
+    in_bag None = refl
+    in_bag (Some s) = ap Some (still_in A t to u v s)
+
+-- a bag in a safe is not spent, nor is one on a table
+unspent : (o : Option Spot) → (o ≡ Some Spent → ⊥) → is_spent o ≡ false
+unspent None h = refl
+unspent (Some (Table f)) h = refl
+unspent (Some (Equipment f)) h = refl
+unspent (Some (InBox f number)) h = refl
+unspent (Some Spent) h = absurd (h refl)
+
+stored : (facility : Facility) (o : Option Spot) → when (is_none (safe_of facility o)) Elsewhere ≡ None → is_spent o ≡ false
+stored facility o m = unspent o (λ e. true≢false (rw e at (unmet (is_none (safe_of facility o)) Elsewhere m)))
+
+on_table : (facility : Facility) (o : Option Spot) → when (not (is_on_table facility o)) Elsewhere ≡ None → is_spent o ≡ false
+on_table facility o m = unspent o (λ e. false≢true (rw e at (met (is_on_table facility o) Elsewhere m)))
+
+stored_there : (facility : Facility) (to : Store) → is_spent (Some (spot_of_store facility to)) ≡ false
+stored_there facility SafeOne = refl
+stored_there facility (Boxed number) = refl
+
+-- ITEMS THAT ARE SEALED
+
+sealed_spot_after : (A : History) (act : Act) (k s : List ℕ) → (last_said (sealed_in k) A ≡ Some s → is_some (spot A s) ≡ true)
+    → or_else (sealed_in k act) (last_said (sealed_in k) A) ≡ Some s → is_some (or_else (moved (facility_of A) s act) (spot A s)) ≡ true
+sealed_spot_after A (Seal c serial codes at) k s ih e = by_test (list_any (same_text k) codes) e
+  where
+    by_test : (b : Bool) → or_else (cond b (Some serial) None) (last_said (sealed_in k) A) ≡ Some s
+        → is_some (or_else (cond (same_text serial s) (Some (Table (facility_of A c))) None) (spot A s)) ≡ true
+    by_test true g = let q : serial ≡ s = (let w : Some serial ≡ Some s = g in cc) in rw (q, text_refl s)
+    by_test false g = still (cond (same_text serial s) (Some (Table (facility_of A c))) None) (spot A s) (ih g)
+sealed_spot_after A act k s ih e = still (moved (facility_of A) s act) (spot A s) (ih e)
+
+-- a bag that an item was sealed in is somewhere
+sealed_spot : (A : History) (k s : List ℕ) → last_said (sealed_in k) A ≡ Some s → is_some (spot A s) ≡ true
+sealed_spot [] k s e = absurd (let q : None ≡ Some s = e in cc)
+sealed_spot (entry ∷ A) k s e = sealed_spot_after A entry.command.act k s (sealed_spot A k s) e
+
+-- an item's row, in the new bag or as it was
+sealed_row : (A : History) (key : List ℕ) (c : ℕ) (serial : List ℕ) (codes : List (List ℕ)) (at : ℕ) (answer : Answer) → is_some (spot A serial) ≡ false → (k : List ℕ)
+    → cond (list_any (same_text k) codes) (within serial k) (item_row A k) ≡ item_row (then_act A key (Seal c serial codes at) answer) k
+sealed_row A key c serial codes at answer n k = by_test (list_any (same_text k) codes)
+  where
+    bag : Option Spot → List ℕ → Option Spot
+    bag old s = or_else (cond (same_text serial s) (Some (Table (facility_of A c))) None) old
+
+    in_new : cond (is_spent (bag (spot A serial) serial)) (loosed A serial) (Within serial) ≡ Within serial
+    in_new = rw (text_refl serial)
+
+    in_old : (o : Option (List ℕ)) → ((s : List ℕ) → o ≡ Some s → is_some (spot A s) ≡ true)
+        → or_else (option_map (rest_in A) o) (added A k)
+        ≡ or_else (option_map (λ s. cond (is_spent (bag (spot A s) s)) (loosed A s) (Within s)) o) (added A k)
+    in_old None f = refl
+    in_old (Some s) f = ap Some (one (same_text serial s) refl)
+      where
+        one : (b : Bool) → same_text serial s ≡ b → rest_in A s ≡ cond (is_spent (or_else (cond b (Some (Table (facility_of A c))) None) (spot A s))) (loosed A s) (Within s)
+        one true e = let q : serial ≡ s = text_same serial s e in absurd (true≢false (sym (f s refl) ∙ ap (λ t. is_some (spot A t)) (sym q) ∙ n))
+        one false e = refl
+
+    by_test : (b : Bool) → cond b (within serial k) (item_row A k)
+        ≡ record {
+          code = k;
+          rest = unwrap_or (or_else (option_map (λ s. cond (is_spent (bag (spot A s) s)) (loosed A s) (Within s)) (or_else (cond b (Some serial) None) (last_bag A k))) (added A k)) (Loose East);
+        }
+    by_test true = ap (λ r. record { code = k; rest = r }) (sym in_new)
+    by_test false = ap (λ o. record { code = k; rest = unwrap_or o (Loose East) }) (in_old (last_bag A k) (sealed_spot A k))
+
+items-seal : (A : History) → IsRegister A → (key : List ℕ) (c : ℕ) (serial : List ℕ) (codes : List (List ℕ)) (at : ℕ) (answer : Answer) → fault A (Seal c serial codes at) ≡ None
+    → put_all same_item (packed serial codes) (items A) ≡ items (then_act A key (Seal c serial codes at) answer)
+items-seal A h key c serial codes at answer n =
+    let met = none_holds (conditions A (Seal c serial codes at)) n in
+    put-rows same_item (λ c k. same_text k c) (within serial) (λ c k. refl) (all_said added_item A) codes (λ code i. added_rest A h code ∙ items_known A code codes met.1.0 i)
+    (λ c k i j e. ap (within serial) (sym (text_same k c e))) (item_row A) (λ c k. refl)
+    ∙ map-same (λ k. cond (list_any (same_text k) codes) (within serial k) (item_row A k)) (item_row (then_act A key (Seal c serial codes at) answer)) (all_said added_item A)
+    (sealed_row A key c serial codes at answer (unmet (is_some (spot A serial)) Taken met.1.1.0))
+
+-- ITEMS OF A BAG THAT IS CUT
+
+abbrev itemed : List ℕ → Rest → Item
+itemed code rest = record { code = code; rest = rest }
+
+-- an item's row, loose where its bag was cut or as it was
+cut_row : (A : History) (key : List ℕ) (c : ℕ) (t : List ℕ) (at : ℕ) (answer : Answer) → is_spent (spot A t) ≡ false → (k : List ℕ)
+    → cond (is_within t (unwrap_or (rest A k) (Loose East))) (itemed k (Loose (facility_of A c))) (item_row A k) ≡ item_row (then_act A key (Cut c t at) answer) k
+cut_row A key c t at answer n k = by_bag (last_said (sealed_in k) A) (added A k) (outside (last_told (λ before. added_at (facility_of before) k) A))
+  where
+    outside : (o : Option Facility) → is_within t (unwrap_or (option_map Loose o) (Loose East)) ≡ false
+    outside None = refl
+    outside (Some f) = refl
+
+    loosed_now : List ℕ → Rest
+    loosed_now s = Loose (unwrap_or (or_else (cond (same_text t s) (Some (facility_of A c)) None) (last_told (λ before. cut_at (facility_of before) s) A)) East)
+
+    now : List ℕ → Rest
+    now s = cond (is_spent (or_else (cond (same_text t s) (Some Spent) None) (spot A s))) (loosed_now s) (Within s)
+
+    one : (s : List ℕ) (b : Bool) → same_text t s ≡ b → cond (is_within t (rest_in A s)) (itemed k (Loose (facility_of A c))) (itemed k (rest_in A s))
+        ≡ itemed k (cond (is_spent (or_else (cond b (Some Spent) None) (spot A s))) (Loose (unwrap_or (or_else (cond b (Some (facility_of A c)) None) (last_told (λ before. cut_at (facility_of before) s) A)) East)) (Within s))
+    one s true e = let q : t ≡ s = text_same t s e in rw (← q, n, text_refl t)
+    one s false e = by_spent (is_spent (spot A s))
+      where
+        by_spent : (x : Bool) → cond (is_within t (cond x (loosed A s) (Within s))) (itemed k (Loose (facility_of A c))) (itemed k (cond x (loosed A s) (Within s)))
+            ≡ itemed k (cond x (loosed A s) (Within s))
+        by_spent true = refl
+        by_spent false = rw (text_flip s t, e)
+
+    by_bag : (o : Option (List ℕ)) (d : Option Rest) → is_within t (unwrap_or d (Loose East)) ≡ false
+        → cond (is_within t (unwrap_or (or_else (option_map (rest_in A) o) d) (Loose East))) (itemed k (Loose (facility_of A c))) (itemed k (unwrap_or (or_else (option_map (rest_in A) o) d) (Loose East)))
+        ≡ itemed k (unwrap_or (or_else (option_map now o) d) (Loose East))
+    by_bag None d m = rw m
+    by_bag (Some s) d m = one s (same_text t s) refl
+
+abbrev itemed_loose : Facility → List ℕ → Item
+itemed_loose facility code = record { code = code; rest = Loose facility }
+
+-- the codes of the items of a bag, found in any order, are those of the register's items that lie in it
+module _ (A : History) (t : List ℕ) (rows : List Item) (p : IsPermutation (filter (lies_in t) (items A)) (filter (lies_in t) rows)) where
+  abbrev codes_in : List (List ℕ)
+  codes_in = map (λ row. row.code) (filter (lies_in t) rows)
+
+  code-in : (k : List ℕ) → IsIn k codes_in → IsIn k (all_said added_item A) × (lies_in t (item_row A k) ≡ true)
+  code-in k i =
+      let m = in-map (λ row. row.code) k (filter (lies_in t) rows) i in
+      let n = in-filter (lies_in t) m.0 (items A) (in-order m.0 (filter (lies_in t) (items A)) (filter (lies_in t) rows) p m.1) in
+      let q = in-map (item_row A) m.0 (all_said added_item A) n.0 in
+      let e : k ≡ q.0 = m.2 ∙ ap (λ row. row.code) q.2 in
+      (subst (λ k. IsIn k (all_said added_item A)) (sym e) q.1, ap (λ k. lies_in t (item_row A k)) e ∙ ap (lies_in t) (sym q.2) ∙ n.1)
+
+  lies-told : (k : List ℕ) → IsIn k (all_said added_item A) → list_any (same_text k) codes_in ≡ lies_in t (item_row A k)
+  lies-told k i =
+      same-answers (list_any (same_text k) codes_in) (lies_in t (item_row A k)) (λ h. (code-in k (listed-in k codes_in h)).1)
+      (λ e. in-listed k codes_in (map-in (λ row. row.code) (item_row A k) (filter (lies_in t) rows)
+      (in-order (item_row A k) (filter (lies_in t) rows) (filter (lies_in t) (items A)) (IsPermutation-sym (filter (lies_in t) (items A)) (filter (lies_in t) rows) p)
+      (filter-in (lies_in t) (item_row A k) (items A) (map-in (item_row A) k (all_said added_item A) i) e))))
+
+-- so they lead to the table after the cut
+items-cut : (A : History) (key : List ℕ) (c : ℕ) (t : List ℕ) (at : ℕ) (answer : Answer) → fault A (Cut c t at) ≡ None
+    → (rows : List Item) → IsPermutation (filter (lies_in t) (items A)) (filter (lies_in t) rows)
+    → put_all same_item (loosened rows t (facility_of A c)) (items A) ≡ items (then_act A key (Cut c t at) answer)
+items-cut A key c t at answer n rows p =
+    let here = facility_of A c in
+    let all = all_said added_item A in
+    let codes = codes_in A t rows p in
+    ap (λ changes. put_all same_item changes (items A)) (sym (map-map (itemed_loose here) (λ (row : Item). row.code) (filter (lies_in t) rows)))
+    ∙ put-rows same_item (λ c k. same_text k c) (itemed_loose here) (λ c k. refl) all codes (λ code i. in-any (λ k. same_text k code) code all (code-in A t rows p code i).0 (text_refl code))
+    (λ c k i j e. ap (itemed_loose here) (sym (text_same k c e))) (item_row A) (λ c k. refl)
+    ∙ map-same-in (λ k. cond (list_any (same_text k) codes) (itemed_loose here k) (item_row A k)) (item_row (then_act A key (Cut c t at) answer)) all
+    (λ k i. ap (λ b. cond b (itemed_loose here k) (item_row A k)) (lies-told A t rows p k i)
+    ∙ cut_row A key c t at answer (on_table here (spot A t) (none_holds (conditions A (Cut c t at)) n).1.1.1.1.1.0) k)
+
+-- THE CHANGES
+
+pub take-leads : (A : History) → IsRegister A → (key : List ℕ) (c : ℕ) (t : List ℕ) (at : ℕ) (view : View) (answer : Answer) → IsViewOf (asks_by key (Take c t at)) (tables A) view
+    → entry_of A key ≡ None → fault A (Take c t at) ≡ None → Leads A view (command_of key (Take c t at)) answer
+take-leads A h key c t at view answer v k f =
+    let act = Take c t at in
+    let here = facility_of A c in
+    let n = none_holds (conditions A act) f in
+    rw (
+      facility-shown A c view.ceremonies.items v.ceremonies,
+      bags_moved A h t (Table here) n.1.0,
+      marks-put A (entry_as key act answer) c at f refl refl,
+      new_key A (command_of key act) answer k,
+      items_stay A t (Table here) (stored here (spot A t) n.1.1.1.1.1.1.0) refl (all_said added_item A),
+    )
+    refl
+
+pub put-leads : (A : History) → IsRegister A → (key : List ℕ) (c : ℕ) (t : List ℕ) (to : Store) (at : ℕ) (view : View) (answer : Answer) → IsViewOf (asks_by key (Put c t to at)) (tables A) view
+    → entry_of A key ≡ None → fault A (Put c t to at) ≡ None → Leads A view (command_of key (Put c t to at)) answer
+put-leads A h key c t to at view answer v k f =
+    let act = Put c t to at in
+    let here = facility_of A c in
+    let n = none_holds (conditions A act) f in
+    rw (
+      facility-shown A c view.ceremonies.items v.ceremonies,
+      bags_moved A h t (spot_of_store here to) n.1.0,
+      marks-put A (entry_as key act answer) c at f refl refl,
+      new_key A (command_of key act) answer k,
+      items_stay A t (spot_of_store here to) (on_table here (spot A t) n.1.1.1.1.1.1.1.0) (stored_there here to) (all_said added_item A),
+    )
+    refl
+
+-- the rows of items put one after the other
+items-changed : (rows : List Item) (rest : List Change) (t : Tables) → changed_by (map PutItem rows ++ rest) t ≡ changed_by rest (record t { items = put_all same_item rows t.items })
+items-changed rows rest t = changed_by-rows PutItem same_item (λ rows t. record t { items = rows }) (λ row rows t. refl) rows t.items rest t
+
+-- the tables with the bag's row and the mark's
+abbrev with_bag : Bag → ℕ → ℕ → Tables → Tables
+with_bag bag c at t = changed (PutMark (record { ceremony = c; at = at })) (changed (PutBag bag) t)
+
+pub seal-leads : (A : History) → IsRegister A → (key : List ℕ) (c : ℕ) (t : List ℕ) (codes : List (List ℕ)) (at : ℕ) (view : View) (answer : Answer) → IsViewOf (asks_by key (Seal c t codes at)) (tables A) view
+    → entry_of A key ≡ None → fault A (Seal c t codes at) ≡ None → Leads A view (command_of key (Seal c t codes at)) answer
+seal-leads A h key c t codes at view answer v k f =
+    let act = Seal c t codes at in
+    let here = facility_of A c in
+    let n = none_holds (conditions A act) f in
+    let tell = PutKey (new_key_row (command_of key act) answer) ∷ [] in
+    ap (λ facility. changed_by (map PutItem (packed t codes) ++ tell) (with_bag (record { serial = t; spot = Table facility }) c at (tables A))) (facility-shown A c view.ceremonies.items v.ceremonies)
+    ∙ items-changed (packed t codes) tell (with_bag (record { serial = t; spot = Table here }) c at (tables A))
+    ∙ rw (
+      bags_sealed A h t (Table here) (unmet (is_some (spot A t)) Taken n.1.1.0),
+      marks-put A (entry_as key act answer) c at f refl refl,
+      items-seal A h key c t codes at answer f,
+      new_key A (command_of key act) answer k,
+    )
+    (rw (text_refl t) refl)
+
+pub cut-leads : (A : History) → IsRegister A → (key : List ℕ) (c : ℕ) (t : List ℕ) (at : ℕ) (view : View) (answer : Answer) → IsViewOf (asks_by key (Cut c t at)) (tables A) view
+    → entry_of A key ≡ None → fault A (Cut c t at) ≡ None → Leads A view (command_of key (Cut c t at)) answer
+cut-leads A h key c t at view answer v k f =
+    let act = Cut c t at in
+    let here = facility_of A c in
+    let tell = PutKey (new_key_row (command_of key act) answer) ∷ [] in
+    let bag : Bag = record { serial = t; spot = Spent } in
+    ap (λ facility. changed_by (map PutItem (loosened view.items.items t facility) ++ tell) (with_bag bag c at (tables A))) (facility-shown A c view.ceremonies.items v.ceremonies)
+    ∙ items-changed (loosened view.items.items t here) tell (with_bag bag c at (tables A))
+    ∙ rw (
+      bags_moved A h t Spent (none_holds (conditions A act) f).1.0,
+      marks-put A (entry_as key act answer) c at f refl refl,
+      items-cut A key c t at answer f view.items.items v.items,
+      new_key A (command_of key act) answer k,
+    )
+    refl

@@ -1,0 +1,89 @@
+-- Where the changes of an act lead: what they make of the tables of a history, and when these are the tables of the history with its command.
+use Rattle.std.proofs.Common.{◌≡◌, ℕ, List, [], ◌∷◌, ◌++◌, map, None, option_map, refl, ap, ◌∙◌, subst}
+use Rattle.std.specs.List.Sorted.{IsPermutation}
+use Rattle.std.proofs.lemmas.List.Sorted.{IsPermutation-refl}
+use Rattle.std.specs.Prelude.{Bool}
+use Rattle.kcr_base.specs.Rows.{put, put_all}
+use Rattle.kcr_people.specs.declared.Withdrawal.{Withdrawal}
+use Rattle.kcr_room.specs.declared.SheetRow.{SheetRow}
+use Rattle.kcr_room.specs.declared.Stay.{Stay}
+use Rattle.kcr_history.specs.declared.commands.Act.{Act}
+use Rattle.kcr_history.specs.declared.commands.Answer.{Answer}
+use Rattle.kcr_history.specs.declared.commands.Command.{Command}
+use Rattle.kcr_history.specs.declared.commands.Entry.{Entry}
+use Rattle.kcr_history.specs.declared.views.Change.{Change}
+use Rattle.kcr_history.specs.declared.views.Change.TheVariants.{PutKey}
+use Rattle.kcr_history.specs.declared.views.View.{View}
+use Rattle.kcr_history.specs.History.{History, entry_of}
+use Rattle.kcr_history.specs.Tables.{Tables, SameTables, keys, key_row, tables}
+use Rattle.kcr_history.specs.Changes.{changed, changed_by, same_key_row}
+use Rattle.kcr_history.specs.Machine.{with_command}
+use Rattle.kcr_history.specs.Views.{is_of_key}
+use Rattle.kcr_history.proofs.Words.{row_of_key-keys}
+use Rattle.kcr_laws.proofs.Finds.{none-find}
+use Rattle.kcr_acts.specs.ByRows.{changes_by}
+use Rattle.kcr_machine.specs.RowDecision.{new_key_row}
+use Rattle.kcr_machine.proofs.Keyed.{put-new}
+
+-- THE COMMAND
+
+abbrev pub command_of : List ℕ → Act → Command
+command_of key act = record { key = key; act = act }
+
+abbrev pub entry_as : List ℕ → Act → Answer → Entry
+entry_as key act answer = record { command = command_of key act; answer = answer }
+
+-- the tables with the changes, and with the row of the command's key
+abbrev pub changed_with : List Change → Command → Answer → Tables → Tables
+changed_with changes x answer t = changed_by (changes ++ PutKey (new_key_row x answer) ∷ []) t
+
+-- the changes of the act and its row of a key, made in the tables, give those of the history with the command
+abbrev pub Leads : History → View → Command → Answer → Type 0
+Leads A view x answer = changed_with (changes_by view x.act) x answer (tables A) ≡ tables (with_command A x answer)
+
+-- the row of a command whose key is new is put in front
+pub new_key : (A : History) (x : Command) (answer : Answer) → entry_of A x.key ≡ None → put same_key_row (new_key_row x answer) (keys A) ≡ new_key_row x answer ∷ keys A
+new_key A x answer k = put-new same_key_row (new_key_row x answer) (keys A) (none-find (is_of_key x.key) (keys A) (row_of_key-keys A x.key ∙ ap (option_map key_row) k))
+
+-- CHANGES ONE AFTER THE OTHER
+
+pub changed-append : (xs ys : List Change) (t : Tables) → changed_by (xs ++ ys) t ≡ changed_by ys (changed_by xs t)
+changed-append [] ys t = refl
+changed-append (x ∷ xs) ys t = changed-append xs ys (changed x t)
+
+-- rows of one table, where `to` is the change that puts one and `with_rows` gives the table other rows
+pub changed_by-rows : {X : Type 0} (to : X → Change) (same : X → X → Bool) (with_rows : List X → Tables → Tables)
+    → ((row : X) (rows : List X) (t : Tables) → changed (to row) (with_rows rows t) ≡ with_rows (put same row rows) t)
+    → (xs rows : List X) (rest : List Change) (t : Tables) → changed_by (map to xs ++ rest) (with_rows rows t) ≡ changed_by rest (with_rows (put_all same xs rows) t)
+changed_by-rows to same with_rows one [] rows rest t = refl
+changed_by-rows to same with_rows one (x ∷ xs) rows rest t =
+    ap (changed_by (map to xs ++ rest)) (one x rows t) ∙ changed_by-rows to same with_rows one xs (put same x rows) rest t
+
+-- THE SAME ROWS IN ANOTHER ORDER
+
+-- tables that differ in the order of their withdrawals, of the sheet and of the stays alone
+pub other-order : (t : Tables) (withdrawn : List Withdrawal) (sheet : List SheetRow) (stays : List Stay) → IsPermutation withdrawn t.withdrawals → IsPermutation sheet t.sheet → IsPermutation stays t.stays
+    → SameTables (record t { withdrawals = withdrawn; sheet = sheet; stays = stays }) t
+other-order t withdrawn sheet stays p q r =
+    record {
+      people = IsPermutation-refl t.people;
+      trainings = IsPermutation-refl t.trainings;
+      withdrawals = p;
+      appointments = IsPermutation-refl t.appointments;
+      boxes = IsPermutation-refl t.boxes;
+      safes = IsPermutation-refl t.safes;
+      bags = IsPermutation-refl t.bags;
+      items = IsPermutation-refl t.items;
+      ceremonies = IsPermutation-refl t.ceremonies;
+      marks = IsPermutation-refl t.marks;
+      steps = IsPermutation-refl t.steps;
+      seatings = IsPermutation-refl t.seatings;
+      sheet = q;
+      stays = r;
+      exceptions = IsPermutation-refl t.exceptions;
+      keys = IsPermutation-refl t.keys;
+    }
+
+pub same-tables : (t u : Tables) → t ≡ u → SameTables t u
+same-tables t u e =
+    subst (SameTables t) e (other-order t t.withdrawals t.sheet t.stays (IsPermutation-refl t.withdrawals) (IsPermutation-refl t.sheet) (IsPermutation-refl t.stays))
