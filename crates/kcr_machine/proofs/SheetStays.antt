@@ -2,20 +2,20 @@
 use Rattle.std.proofs.Common.{◌≡◌, ℕ, ◌<◌, ◌≤◌, Bool, true, false, cond, not, ◌||◌, ◌&&◌, ◌==◌, nat_le, List, [], ◌∷◌, ◌++◌, map, filter, Option, Some, None, refl, sym, ap, ◌∙◌, subst, arith, append-nil, append_assoc, ◌⊎◌, inl, inr}
 use Rattle.std.specs.List.{list_any}
 use Rattle.std.specs.List.Sorted.{IsPermutation}
-use Rattle.std.proofs.lemmas.Bool.{true≢false, false≢true, and_parts, and_from, or_parts, or_cases, not-true, leb-true, leb-false, le-leb, and_right}
+use Rattle.std.proofs.lemmas.Bool.{true≢false, false≢true, and_parts, and_from, or_parts, or_cases, not-true, leb-true, leb-false, le-leb, and_right, eqb-true, not-false}
 use Rattle.kcr_base.specs.Same.{same_text}
 use Rattle.kcr_room.specs.declared.SheetRow.{SheetRow}
 use Rattle.kcr_room.specs.declared.Stay.{Stay}
 use Rattle.kcr_room.specs.declared.Way.{Way}
 use Rattle.kcr_room.specs.declared.Way.TheVariants.{Enter, Leave}
 use Rattle.kcr_room.specs.Stays.{stays_by}
-use Rattle.kcr_room.specs.Adding.{is_open, ends_from, reaches, is_inside, is_inside_of, is_out_of_turn_in, is_out_of_turn_by, new_stay, is_among, closed, turn_refusal}
+use Rattle.kcr_room.specs.Adding.{is_open, ends_from, reaches, is_inside, is_inside_of, is_out_of_turn_in, is_out_of_turn_by, new_stay, is_among, closed, turn_refusal, new_row}
 use Rattle.kcr_room.specs.Laws.{in_turn_onto, IsSheet}
 use Rattle.kcr_room.proofs.Agreement.{same-is, same-turned}
 use Rattle.kcr_room.proofs.Keeping.{in_turn-append}
 use Rattle.kcr_room.proofs.Sheets.{tells-sheet, same-turns, stays-append, added, added-onto}
 use Rattle.kcr_history.specs.Views.{later_stay, last_of, last_stay}
-use Rattle.kcr_machine.proofs.Members.{IsIn, any-in, filter-in, in-any, in-append, in-filter, in-map, in-order, none-in, same-answers}
+use Rattle.kcr_machine.proofs.Members.{IsIn, any-in, filter-in, in-any, in-append, in-behind, in-filter, in-front, in-map, in-order, map-in, none-in, same-answers}
 
 -- THE LAST STAY OF A LIST
 
@@ -122,32 +122,86 @@ clear-leave stays at people clear = record { apart = λ r s i j. both r s (in-ma
       | inr q ↦ inr (rw (f, g) q.0, (q.1.0, ap (λ t. t.until) f ∙ closed-ended people at x q.1.0 q.1.1, rw g q.1.2))
     ]
 
--- one more row in its turn
-clear-row : (c : ℕ) (way : Way) (at : ℕ) (who : List ℕ) (before : List SheetRow) → IsSheet before → is_out_of_turn_by before c way at who ≡ false → IsClear (stays_by before) → IsClear (added c way at (who ∷ []) (stays_by before))
-clear-row c Enter at who before s h clear = clear-enter (stays_by before) c at who (sym (same-turns before s c Enter at who) ∙ h) clear
-clear-row c Leave at who before s h clear = clear-leave (stays_by before) at (who ∷ []) clear
+-- SHEETS MADE IN TURN, ROW BY ROW
 
-clear-next : (before : List SheetRow) (row : SheetRow) → IsSheet before → is_out_of_turn_by before row.ceremony row.way row.at row.who ≡ false → IsClear (stays_by before) → IsClear (stays_by (before ++ row ∷ []))
-clear-next before row s h clear =
-    subst IsClear
-    (sym (stays-append before (row ∷ []) [] [] ∙ added-onto row.ceremony row.way row.at (row.who ∷ []) before (stays_by before) (tells-sheet before s) refl (turned (is_out_of_turn_by before row.ceremony row.way row.at row.who) h)))
-    (clear-row row.ceremony row.way row.at row.who before s h clear)
-  where
-    turned : (b : Bool) → b ≡ false → turn_refusal (cond b (Some row.who) None) ≡ None
-    turned b e = rw e refl
+module _ (P : List SheetRow → Type 0)
+    (next : (before : List SheetRow) (row : SheetRow) → is_out_of_turn_in (stays_by before) row.ceremony row.way row.at row.who ≡ false
+    → stays_by (before ++ row ∷ []) ≡ added row.ceremony row.way row.at (row.who ∷ []) (stays_by before) → P before → P (before ++ row ∷ [])) where
+  made-onto : (rows before : List SheetRow) → IsSheet before → in_turn_onto before rows ≡ true → P before → P (before ++ rows)
+  made-onto [] before s t p = subst P (sym (append-nil before)) p
+  made-onto (row ∷ rows) before s t p =
+      let out = is_out_of_turn_by before row.ceremony row.way row.at row.who in
+      let q = and_parts (not out) (in_turn_onto (before ++ (row ∷ [])) rows) t in
+      let turn : out ≡ false = not-true out q.0 in
+      let told : turn_refusal (cond out (Some row.who) None) ≡ None = rw turn refl in
+      let stays = stays-append before (row ∷ []) [] [] ∙ added-onto row.ceremony row.way row.at (row.who ∷ []) before (stays_by before) (tells-sheet before s) refl told in
+      let more : IsSheet (before ++ (row ∷ [])) = in_turn-append [] before (row ∷ []) ∙ and_from (in_turn_onto [] before) (in_turn_onto before (row ∷ [])) s (ap (λ b. b && true) q.0) in
+      subst P (append_assoc before (row ∷ []) rows)
+      (made-onto rows (before ++ (row ∷ [])) more q.1 (next before row (sym (same-turns before s row.ceremony row.way row.at row.who) ∙ turn) stays p))
 
-clear-onto : (rows before : List SheetRow) → IsSheet before → in_turn_onto before rows ≡ true → IsClear (stays_by before) → IsClear (stays_by (before ++ rows))
-clear-onto [] before s t clear = subst (λ rows. IsClear (stays_by rows)) (sym (append-nil before)) clear
-clear-onto (row ∷ rows) before s t clear =
-    let p = and_parts (not (is_out_of_turn_by before row.ceremony row.way row.at row.who)) (in_turn_onto (before ++ (row ∷ [])) rows) t in
-    let turn = not-true (is_out_of_turn_by before row.ceremony row.way row.at row.who) p.0 in
-    let more : IsSheet (before ++ (row ∷ [])) = in_turn-append [] before (row ∷ []) ∙ and_from (in_turn_onto [] before) (in_turn_onto before (row ∷ [])) s (ap (λ b. b && true) p.0) in
-    subst (λ all. IsClear (stays_by all)) (append_assoc before (row ∷ []) rows)
-    (clear-onto rows (before ++ (row ∷ [])) more p.1 (clear-next before row s turn clear))
+  pub made-in-turn : P [] → (rows : List SheetRow) → IsSheet rows → P rows
+  made-in-turn none rows s = made-onto rows [] refl s none
 
 -- the stays of a sheet made in turn
+clear-row : (c : ℕ) (way : Way) (at : ℕ) (who : List ℕ) (stays : List Stay) → is_out_of_turn_in stays c way at who ≡ false → IsClear stays → IsClear (added c way at (who ∷ []) stays)
+clear-row c Enter at who stays h clear = clear-enter stays c at who h clear
+clear-row c Leave at who stays h clear = clear-leave stays at (who ∷ []) clear
+
 pub clear-sheet : (rows : List SheetRow) → IsSheet rows → IsClear (stays_by rows)
-clear-sheet rows s = clear-onto rows [] refl s (record { apart = λ r t i. absurd i })
+clear-sheet =
+    made-in-turn (λ rows. IsClear (stays_by rows)) (λ before row turn e clear. rw e (clear-row row.ceremony row.way row.at row.who (stays_by before) turn clear)) (record { apart = λ r t i. absurd i })
+
+-- a stay of the row's ceremony begins or ends at its moment
+abbrev Bounds : List Stay → SheetRow → Type 0
+Bounds stays row = (s : Stay) × IsIn s stays × (s.ceremony ≡ row.ceremony) × ((s.since ≡ row.at) ⊎ (s.until ≡ Some row.at))
+
+bounds-kept : (c : ℕ) (way : Way) (at : ℕ) (who : List ℕ) (stays : List Stay) (row : SheetRow) → Bounds stays row → Bounds (added c way at (who ∷ []) stays) row
+bounds-kept c Enter at who stays row (s, i, e, b) = (s, in-front s stays (new_stay c at who ∷ []) i, e, b)
+bounds-kept c Leave at who stays row (s, i, e, inl since) = (closed (who ∷ []) at s, map-in (closed (who ∷ []) at) s stays i, e, inl since)
+bounds-kept c Leave at who stays row (s, i, e, inr until) = (closed (who ∷ []) at s, map-in (closed (who ∷ []) at) s stays i, e, inr (closed-ended (who ∷ []) at s row.at until))
+
+bounds-new : (c : ℕ) (way : Way) (at : ℕ) (who : List ℕ) (stays : List Stay) → is_out_of_turn_in stays c way at who ≡ false → Bounds (added c way at (who ∷ []) stays) (new_row c way at who)
+bounds-new c Enter at who stays h = (new_stay c at who, in-behind (new_stay c at who) stays (new_stay c at who ∷ []) (inl refl), refl, inl refl)
+bounds-new c Leave at who stays h =
+    let a = any-in (is_inside_of c who) stays (not-false (list_any (is_inside_of c who) stays) (or_parts (list_any (reaches who at) stays) (not (list_any (is_inside_of c who) stays)) h).1) in
+    let p = and_parts (is_inside who a.0) (a.0.ceremony == c) a.2 in
+    let q = and_parts (same_text a.0.who who) (is_open a.0.until) p.0 in
+    (closed (who ∷ []) at a.0, map-in (closed (who ∷ []) at) a.0 stays a.1, eqb-true a.0.ceremony c p.1, inr (rw (q.0, q.1) refl))
+
+-- each row of a sheet made in turn begins or ends a stay
+pub row-bounds : (rows : List SheetRow) → IsSheet rows → (row : SheetRow) → IsIn row rows → Bounds (stays_by rows) row
+row-bounds = made-in-turn (λ rows. (row : SheetRow) → IsIn row rows → Bounds (stays_by rows) row) next (λ row i. absurd i)
+  where
+    next : (before : List SheetRow) (row : SheetRow) → is_out_of_turn_in (stays_by before) row.ceremony row.way row.at row.who ≡ false
+        → stays_by (before ++ row ∷ []) ≡ added row.ceremony row.way row.at (row.who ∷ []) (stays_by before) → ((r : SheetRow) → IsIn r before → Bounds (stays_by before) r)
+        → (r : SheetRow) → IsIn r (before ++ row ∷ []) → Bounds (stays_by (before ++ row ∷ [])) r
+    next before row turn e old r i = rw e (elim (in-append r before (row ∷ []) i) [
+      | inl j ↦ bounds-kept row.ceremony row.way row.at row.who (stays_by before) r (old r j)
+      | inr j ↦ elim j [ inl same ↦ rw same (bounds-new row.ceremony row.way row.at row.who (stays_by before) turn) | inr none ↦ absurd none ]
+    ])
+
+-- and each stay began with a row of its ceremony
+abbrev Begun : List SheetRow → Stay → Type 0
+Begun rows s = (row : SheetRow) × IsIn row rows × (row.ceremony ≡ s.ceremony) × (row.at ≡ s.since)
+
+pub stay-begun : (rows : List SheetRow) → IsSheet rows → (s : Stay) → IsIn s (stays_by rows) → Begun rows s
+stay-begun = made-in-turn (λ rows. (s : Stay) → IsIn s (stays_by rows) → Begun rows s) next (λ s i. absurd i)
+  where
+    by_way : (before : List SheetRow) (c : ℕ) (way : Way) (at : ℕ) (who : List ℕ) → ((s : Stay) → IsIn s (stays_by before) → Begun before s)
+        → (s : Stay) → IsIn s (added c way at (who ∷ []) (stays_by before)) → Begun (before ++ new_row c way at who ∷ []) s
+    by_way before c Enter at who old s i = elim (in-append s (stays_by before) (new_stay c at who ∷ []) i) [
+      | inl j ↦ let r = old s j in (r.0, in-front r.0 before (new_row c Enter at who ∷ []) r.1, r.2, r.3)
+      | inr j ↦ elim j [ inl same ↦ rw same (new_row c Enter at who, in-behind (new_row c Enter at who) before (new_row c Enter at who ∷ []) (inl refl), refl, refl) | inr none ↦ absurd none ]
+    ]
+    by_way before c Leave at who old s i =
+        let m = in-map (closed (who ∷ []) at) s (stays_by before) i in
+        let r = old m.0 m.1 in
+        rw m.2 (r.0, in-front r.0 before (new_row c Leave at who ∷ []) r.1, r.2, r.3)
+
+    next : (before : List SheetRow) (row : SheetRow) → is_out_of_turn_in (stays_by before) row.ceremony row.way row.at row.who ≡ false
+        → stays_by (before ++ row ∷ []) ≡ added row.ceremony row.way row.at (row.who ∷ []) (stays_by before) → ((s : Stay) → IsIn s (stays_by before) → Begun before s)
+        → (s : Stay) → IsIn s (stays_by (before ++ row ∷ [])) → Begun (before ++ row ∷ []) s
+    next before row turn e old s i = by_way before row.ceremony row.way row.at row.who old s (subst (IsIn s) e i)
 
 -- WHOSE TURN IT IS, BY SOME OF THE STAYS
 
