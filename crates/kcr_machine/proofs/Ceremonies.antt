@@ -27,14 +27,12 @@ use Rattle.kcr_history.specs.History.{History, all_said, entry_of, stacked_on}
 use Rattle.kcr_history.specs.Ceremonies.{is_ceremony, facility_of, day_planned, opening, opened, closing, closed, is_open, mark, opened_number, steps_of, steps_done, planned_as, plan_of}
 use Rattle.kcr_history.specs.Tables.{planned_number, ceremony_row, ceremonies, mark_row, marks, tables, sealed_serial, bag_row, bags, numbered, step_keys, step_row, steps, fate_of, Tables, step_done}
 use Rattle.kcr_history.specs.Changes.{same_ceremony, same_mark, changed_by, same_step}
-use Rattle.kcr_history.specs.Views.{is_of_number, IsViewOf, is_step_of}
-use Rattle.kcr_history.specs.Asked.{asks_by}
+use Rattle.kcr_history.specs.Views.{is_of_number, is_step_of}
 use Rattle.kcr_history.specs.Conditions.{conditions, fault, is_full, busy, not_open, late, full, unfinished, no_ceremony}
 use Rattle.kcr_history.specs.Machine.{IsRegister, with_command}
 use Rattle.kcr_history.proofs.Steps.{took}
 use Rattle.kcr_scene.specs.Scene.{ceremony_by}
 use Rattle.kcr_acts.specs.CeremonyRows.{is_open_beside, opening_refusal, is_undone, is_undone_of, lies_on_table, closing_refusal, planned_row, undone_row, undone_rows}
-use Rattle.kcr_acts.specs.ByRows.{refusal_by}
 use Rattle.kcr_machine.specs.RowDecision.{new_key_row}
 use Rattle.kcr_laws.proofs.Finds.{some_if}
 use Rattle.kcr_base.specs.declared.place.Facility.{Facility}
@@ -59,7 +57,7 @@ use Rattle.kcr_room.proofs.Lists.{filter-and}
 use Rattle.kcr_machine.proofs.BagsWords.{open-shown}
 use Rattle.kcr_machine.proofs.FirstRefusals.{met}
 use Rattle.kcr_machine.proofs.Keyed.{any-map, put-at, put-first, put-new}
-use Rattle.kcr_machine.proofs.Leads.{Leads, command_of, entry_as, new_key}
+use Rattle.kcr_machine.proofs.Leads.{FaultShown, Leads, command_of, entry_as, new_key}
 use Rattle.kcr_machine.proofs.Members.{IsIn, map-same-in, none-in, none-passes, same-answers}
 use Rattle.kcr_machine.proofs.Scenes.{ShowsCeremony, ceremony-shown, known-shown, mark-after, mark-shown, marked-opened, open-opened, open-state, opened-number, opened-planned, planned-number, said-then, some-where, turned}
 use Rattle.kcr_machine.proofs.StepRows.{done-shown, keys-planned, steps-count}
@@ -80,8 +78,7 @@ busy-shown A c rows p =
     ∙ any-same (λ other. is_open_beside (ceremony_row A c) (ceremony_row A other)) (λ other. not (eqb other c) && same_facility (facility_of A other) (facility_of A c) && is_open A other)
     (λ other. ap (λ b. not (eqb other c) && same_facility (facility_of A other) (facility_of A c) && b) (open-state A other)) (all_said planned_number A)
 
-pub open-fault : (A : History) (c at : ℕ) (key : List ℕ) (view : View) → IsViewOf (asks_by key (Open c at)) (tables A) view
-    → refusal_by view (is_full A) (Open c at) ≡ fault A (Open c at)
+pub open-fault : (A : History) (c at : ℕ) → FaultShown A (Open c at)
 open-fault A c at key view v = rw (row-shown A c view.ceremonies.items v.ceremonies) (by_plan (is_ceremony A c))
   where
     by_plan : (b : Bool) → opening_refusal view.ceremonies.items (is_full A) c at (some_if b (ceremony_row A c))
@@ -203,8 +200,7 @@ table-shown A facility rows p =
 
 -- THE KIND
 
-pub close-fault : (A : History) → IsRegister A → (c at : ℕ) (key : List ℕ) (view : View) → IsViewOf (asks_by key (Close c at)) (tables A) view
-    → refusal_by view (is_full A) (Close c at) ≡ fault A (Close c at)
+pub close-fault : (A : History) → IsRegister A → (c at : ℕ) → FaultShown A (Close c at)
 close-fault A h c at key view v = rw (ceremony-shown A c view.ceremonies.items v.ceremonies) (by_plan (is_ceremony A c))
   where
     by_plan : (b : Bool) → closing_refusal view (is_full A) c at (some_if b (ceremony_row A c))
@@ -247,8 +243,7 @@ module _ (A : History) (key : List ℕ) (answer : Answer) (c at : ℕ) (f : faul
 
 -- PLANNING
 
-pub plan-fault : (A : History) (number : ℕ) (facility : Facility) (day : ℕ) (script key : List ℕ) (view : View) → IsViewOf (asks_by key (Plan number facility day script)) (tables A) view
-    → refusal_by view (is_full A) (Plan number facility day script) ≡ fault A (Plan number facility day script)
+pub plan-fault : (A : History) (number : ℕ) (facility : Facility) (day : ℕ) (script : List ℕ) → FaultShown A (Plan number facility day script)
 plan-fault A number facility day script key view v = rw (known-shown A number view.ceremonies.items v.ceremonies) refl
 
 -- ROWS OF A CEREMONY THAT WAS NOT PLANNED

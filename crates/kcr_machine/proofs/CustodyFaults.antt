@@ -27,18 +27,15 @@ use Rattle.kcr_history.specs.History.{History, some_command}
 use Rattle.kcr_history.specs.Ceremonies.{facility_of}
 use Rattle.kcr_history.specs.Custody.{spot, rest, place_of_box, boxes_place, is_safe_open}
 use Rattle.kcr_history.specs.Room
-use Rattle.kcr_history.specs.Tables.{boxes, safes, tables, box_row, ceremonies, marks, trainings, withdrawals}
-use Rattle.kcr_history.specs.Views.{IsViewOf}
-use Rattle.kcr_history.specs.Asked.{asks_by}
-use Rattle.kcr_history.specs.Conditions.{fault, is_full, no_ceremony, no_bag, no_item, no_box, first_with, shut, has_holder_in, no_holder, no_ca, no_person, may_turn}
+use Rattle.kcr_history.specs.Tables.{boxes, safes, box_row, ceremonies, marks, trainings, withdrawals}
+use Rattle.kcr_history.specs.Conditions.{is_full, no_ceremony, no_bag, no_item, no_box, first_with, shut, has_holder_in, no_holder, no_ca, no_person, may_turn}
 use Rattle.kcr_history.specs.Machine.{IsRegister}
 use Rattle.kcr_scene.specs.Scene.{is_attended_by, has_holder_in_by}
-use Rattle.kcr_acts.specs.CustodyRows.{has_keeper_by, place_to_take, place_to_put, seal_refusal_in, take_refusal_in, put_refusal_in, cut_refusal_in, scene_in}
-use Rattle.kcr_acts.specs.RoomRows.{add_item_refusal_by, keeper_by, turn_refusal_by}
+use Rattle.kcr_acts.specs.CustodyRows.{has_keeper_by, place_to_take, place_to_put, scene_in}
+use Rattle.kcr_acts.specs.RoomRows.{keeper_by}
 use Rattle.std.proofs.lemmas.List.Sorted.{list_any-IsPermutation}
 use Rattle.kcr_history.specs.declared.commands.Act.{Act}
 use Rattle.kcr_laws.proofs.Stored.{box-there}
-use Rattle.kcr_acts.specs.ByRows.{refusal_by}
 use Rattle.kcr_base.specs.Days.{day_of}
 use Rattle.kcr_custody.specs.declared.SafeNumber.TheVariants.{One, Two}
 use Rattle.kcr_history.specs.Training.{is_person, trained}
@@ -48,8 +45,9 @@ use Rattle.kcr_room.specs.Stays.{stays_by}
 use Rattle.kcr_machine.proofs.BagsWords.{open-shown, place-shown, rest-coded, spot-shown}
 use Rattle.kcr_machine.proofs.FirstRefusals.{first-found}
 use Rattle.kcr_machine.proofs.InRoom.{ShowsRoom, attended-shown, holder_in-shown, in-shown, trained-own}
+use Rattle.kcr_machine.proofs.Leads.{FaultShown}
 use Rattle.kcr_machine.proofs.Members.{IsIn, all-same-in}
-use Rattle.kcr_machine.proofs.Refusals.{person-shown}
+use Rattle.kcr_machine.proofs.People.{person-shown}
 use Rattle.kcr_machine.proofs.Scenes.{ShowsCeremony, ShowsMark, facility-shown, ready-by, scene-shown, scene_of}
 
 -- SAFES AND BOXES
@@ -110,8 +108,7 @@ place-there : (A : History) (place : Place) → list_any (λ old. same_place old
 place-there [] place = refl
 place-there (entry ∷ A) place = place_after place entry.command.act (boxes A) ∙ ap (λ b. boxes_place place entry.command.act || b) (place-there A place)
 
-pub add_box-fault : (A : History) (facility : Facility) (number : ℕ) (place : Place) (key : List ℕ) (view : View) → IsViewOf (asks_by key (AddBox facility number place)) (tables A) view
-    → refusal_by view (is_full A) (AddBox facility number place) ≡ fault A (AddBox facility number place)
+pub add_box-fault : (A : History) (facility : Facility) (number : ℕ) (place : Place) → FaultShown A (AddBox facility number place)
 add_box-fault A facility number place key view v =
     rw (
       ← list_any-IsPermutation (is_box facility number) (boxes A) view.boxes.items v.boxes,
@@ -120,15 +117,13 @@ add_box-fault A facility number place key view v =
       place-there A place,
     )
 
-pub add_item-fault : (A : History) → IsRegister A → (c : ℕ) (item : List ℕ) (at : ℕ) (key : List ℕ) (view : View) → IsViewOf (asks_by key (AddItem c item at)) (tables A) view
-    → add_item_refusal_by view (is_full A) c item at ≡ fault A (AddItem c item at)
+pub add_item-fault : (A : History) → IsRegister A → (c : ℕ) (item : List ℕ) (at : ℕ) → FaultShown A (AddItem c item at)
 add_item-fault A h c item at key view v =
     ap (λ scene. add_item_refusal scene view.items.items item) (ca-scene A h c at view v.ceremonies v.marks v.stays.room v.trainings v.withdrawals)
     ∙ rw (rest-coded A h (item ∷ []) view.items.items v.items item (inl refl))
     (ready-by A c at (has_ca A c at) (no_ceremony A c ∷ when (is_some (rest A item)) Taken ∷ []) (no_ca A c at ∷ []))
 
-pub turn-fault : (A : History) → IsRegister A → (c : ℕ) (safe : SafeNumber) (state : Bool) (by : List ℕ) (at : ℕ) (key : List ℕ) (view : View) → IsViewOf (asks_by key (TurnSafe c safe state by at)) (tables A) view
-    → turn_refusal_by view (is_full A) c safe state by at ≡ fault A (TurnSafe c safe state by at)
+pub turn-fault : (A : History) → IsRegister A → (c : ℕ) (safe : SafeNumber) (state : Bool) (by : List ℕ) (at : ℕ) → FaultShown A (TurnSafe c safe state by at)
 turn-fault A h c safe state by at key view v =
     ap (λ scene. turn_refusal scene view.safes.items safe state (keeper_by view c by at)) (scene-shown A h c at false view v.ceremonies v.marks)
     ∙ rw (
@@ -151,15 +146,13 @@ turn-fault A h c safe state by at key view v =
     by_safe One = refl
     by_safe Two = refl
 
-pub cut-fault : (A : History) → IsRegister A → (c : ℕ) (t : List ℕ) (at : ℕ) (key : List ℕ) (view : View) → IsViewOf (asks_by key (Cut c t at)) (tables A) view
-    → cut_refusal_in view (is_full A) c t at ≡ fault A (Cut c t at)
+pub cut-fault : (A : History) → IsRegister A → (c : ℕ) (t : List ℕ) (at : ℕ) → FaultShown A (Cut c t at)
 cut-fault A h c t at key view v =
     ap (λ scene. cut_refusal scene view.bags.items t) (ca-scene A h c at view v.ceremonies v.marks v.stays.room v.trainings v.withdrawals)
     ∙ rw (spot-shown A h t view.bags.items v.bags)
     (ready-by A c at (has_ca A c at) (no_ceremony A c ∷ no_bag A t ∷ []) (when (not (is_on_table (facility_of A c) (spot A t))) Elsewhere ∷ no_ca A c at ∷ []))
 
-pub seal-fault : (A : History) → IsRegister A → (c : ℕ) (t : List ℕ) (codes : List (List ℕ)) (at : ℕ) (key : List ℕ) (view : View) → IsViewOf (asks_by key (Seal c t codes at)) (tables A) view
-    → seal_refusal_in view (is_full A) c t codes at ≡ fault A (Seal c t codes at)
+pub seal-fault : (A : History) → IsRegister A → (c : ℕ) (t : List ℕ) (codes : List (List ℕ)) (at : ℕ) → FaultShown A (Seal c t codes at)
 seal-fault A h c t codes at key view v =
     let here = facility_of A c in
     let same = rest-coded A h codes view.items.items v.items in
@@ -168,8 +161,7 @@ seal-fault A h c t codes at key view v =
     (ready-by A c at (has_ca A c at) (no_ceremony A c ∷ first_with (no_item A) codes ∷ when (is_some (spot A t)) Taken ∷ [])
     (when (not (list_all (λ k. is_loose_at here (rest A k)) codes)) Elsewhere ∷ no_ca A c at ∷ []))
 
-pub take-fault : (A : History) → IsRegister A → (c : ℕ) (t : List ℕ) (at : ℕ) (key : List ℕ) (view : View) → IsViewOf (asks_by key (Take c t at)) (tables A) view
-    → take_refusal_in view (is_full A) c t at ≡ fault A (Take c t at)
+pub take-fault : (A : History) → IsRegister A → (c : ℕ) (t : List ℕ) (at : ℕ) → FaultShown A (Take c t at)
 take-fault A h c t at key view v =
     let here = facility_of A c in
     ap (λ scene. take_refusal scene view.safes.items view.boxes.items view.bags.items t (has_keeper_by view c at (place_to_take view c t)))
@@ -183,8 +175,7 @@ take-fault A h c t at key view v =
     (ready-by A c at (has_ca A c at) (no_ceremony A c ∷ no_bag A t ∷ [])
     (shut A here (safe_of here (spot A t)) ∷ when (is_none (safe_of here (spot A t))) Elsewhere ∷ no_ca A c at ∷ no_holder A here c at (box_of (spot A t)) ∷ []))
 
-pub put-fault : (A : History) → IsRegister A → (c : ℕ) (t : List ℕ) (to : Store) (at : ℕ) (key : List ℕ) (view : View) → IsViewOf (asks_by key (Put c t to at)) (tables A) view
-    → put_refusal_in view (is_full A) c t to at ≡ fault A (Put c t to at)
+pub put-fault : (A : History) → IsRegister A → (c : ℕ) (t : List ℕ) (to : Store) (at : ℕ) → FaultShown A (Put c t to at)
 put-fault A h c t to at key view v =
     let here = facility_of A c in
     ap (λ scene. put_refusal scene view.safes.items view.boxes.items view.bags.items t to (has_keeper_by view c at (place_to_put view c to)))

@@ -25,7 +25,7 @@ use Rattle.kcr_custody.specs.Custody.{is_on_table, safe_of, is_within, lies_in, 
 use Rattle.kcr_history.specs.declared.commands.Act.{Act}
 use Rattle.kcr_history.specs.declared.commands.Act.TheVariants.{Seal, Take, Put, Cut, AddItem, TurnSafe, AddBox}
 use Rattle.kcr_history.specs.declared.commands.Answer.{Answer}
-use Rattle.kcr_history.specs.History.{History, all_said, last_said, last_told, entry_of, some_command}
+use Rattle.kcr_history.specs.History.{History, all_said, last_said, last_told, some_command}
 use Rattle.kcr_history.specs.Ceremonies.{facility_of}
 use Rattle.kcr_history.specs.Custody.{moved, spot, is_spent, sealed_in, cut_at, added_at, rest_in, rest, turned, place_of_box, boxes_place}
 use Rattle.kcr_history.specs.Tables.{bags, bag_row, sealed_serial, items, item_row, added_item, Tables, tables, safes, boxes}
@@ -35,10 +35,7 @@ use Rattle.kcr_laws.proofs.Stored.{there, sealed_somewhere, box-there}
 use Rattle.kcr_custody.specs.declared.Bag.{Bag}
 use Rattle.kcr_history.specs.declared.views.Change.{Change}
 use Rattle.kcr_history.specs.declared.views.Change.TheVariants.{PutBag, PutItem, PutMark, PutKey}
-use Rattle.kcr_history.specs.declared.views.View.{View}
 use Rattle.kcr_history.specs.Changes.{changed, changed_by, same_safe_row}
-use Rattle.kcr_history.specs.Views.{IsViewOf}
-use Rattle.kcr_history.specs.Asked.{asks_by}
 use Rattle.kcr_machine.specs.RowDecision.{new_key_row}
 use Rattle.kcr_custody.specs.declared.SafeNumber.{SafeNumber}
 use Rattle.kcr_custody.specs.declared.SafeNumber.TheVariants.{One, Two}
@@ -51,7 +48,7 @@ use Rattle.kcr_base.specs.declared.refusal.Thing.TheVariants as Things
 use Rattle.kcr_machine.proofs.BagsWords.{added_rest, in-listed, items_known, listed-in}
 use Rattle.kcr_machine.proofs.FirstRefusals.{met}
 use Rattle.kcr_machine.proofs.Keyed.{put-at, put-first, put-new, put-rows}
-use Rattle.kcr_machine.proofs.Leads.{Leads, changed_by-rows, command_of, entry_as, new_key}
+use Rattle.kcr_machine.proofs.Leads.{LeadsOn, changed_by-rows, command_of, entry_as, new_key}
 use Rattle.kcr_machine.proofs.Members.{IsIn, filter-in, in-any, in-filter, in-map, in-order, map-in, map-same-in, same-answers}
 use Rattle.kcr_machine.proofs.Scenes.{facility-shown, marks-put, still}
 
@@ -61,9 +58,8 @@ then_act A key act answer = with_command A (command_of key act) answer
 
 -- A BOX
 
-pub add_box-leads : (A : History) (key : List ℕ) (facility : Facility) (number : ℕ) (place : Place) (view : View) (answer : Answer) → entry_of A key ≡ None → fault A (AddBox facility number place) ≡ None
-    → Leads A view (command_of key (AddBox facility number place)) answer
-add_box-leads A key facility number place view answer k f =
+pub add_box-leads : (A : History) (facility : Facility) (number : ℕ) (place : Place) → LeadsOn A (AddBox facility number place)
+add_box-leads A facility number place key view answer v k f =
     let new : BoxRow = record { facility = facility; number = number; place = place } in
     let free = (or_parts (is_some (place_of_box A facility number)) (some_command (boxes_place place) A) (unmet _ Taken (none_holds (conditions A (AddBox facility number place)) f).0)).0 in
     rw (put-new same_box new (boxes A) (box-there A facility number ∙ free), new_key A (command_of key (AddBox facility number place)) answer k)
@@ -92,9 +88,8 @@ safes-put : (A : History) (key : List ℕ) (answer : Answer) (c : ℕ) (safe : S
     → put same_safe_row (row_of (facility_of A c) safe state) (safes A) ≡ safes (with_command A (command_of key (TurnSafe c safe state by at)) answer)
 safes-put A key answer c safe state by at = put-safe (facility_of A c) safe state (last_turn A East One) (last_turn A East Two) (last_turn A West One) (last_turn A West Two)
 
-pub turn-leads : (A : History) → IsRegister A → (key : List ℕ) (c : ℕ) (safe : SafeNumber) (state : Bool) (by : List ℕ) (at : ℕ) (view : View) (answer : Answer) → IsViewOf (asks_by key (TurnSafe c safe state by at)) (tables A) view
-    → entry_of A key ≡ None → fault A (TurnSafe c safe state by at) ≡ None → Leads A view (command_of key (TurnSafe c safe state by at)) answer
-turn-leads A h key c safe state by at view answer v k f =
+pub turn-leads : (A : History) → IsRegister A → (c : ℕ) (safe : SafeNumber) (state : Bool) (by : List ℕ) (at : ℕ) → LeadsOn A (TurnSafe c safe state by at)
+turn-leads A h c safe state by at key view answer v k f =
     let act = TurnSafe c safe state by at in
     rw (
       facility-shown A c view.ceremonies.items v.ceremonies,
@@ -133,9 +128,8 @@ items-added A h key answer c item at free =
     own : record { code = item; rest = Loose (facility_of A c) } ≡ item_row B item
     own = rw (no_bag_yet A item free, text_refl item) refl
 
-pub add_item-leads : (A : History) → IsRegister A → (key : List ℕ) (c : ℕ) (item : List ℕ) (at : ℕ) (view : View) (answer : Answer) → IsViewOf (asks_by key (AddItem c item at)) (tables A) view
-    → entry_of A key ≡ None → fault A (AddItem c item at) ≡ None → Leads A view (command_of key (AddItem c item at)) answer
-add_item-leads A h key c item at view answer v k f =
+pub add_item-leads : (A : History) → IsRegister A → (c : ℕ) (item : List ℕ) (at : ℕ) → LeadsOn A (AddItem c item at)
+add_item-leads A h c item at key view answer v k f =
     let act = AddItem c item at in
     rw (
       facility-shown A c view.ceremonies.items v.ceremonies,
@@ -335,9 +329,8 @@ items-cut A key c t at answer n rows p =
 
 -- THE CHANGES
 
-pub take-leads : (A : History) → IsRegister A → (key : List ℕ) (c : ℕ) (t : List ℕ) (at : ℕ) (view : View) (answer : Answer) → IsViewOf (asks_by key (Take c t at)) (tables A) view
-    → entry_of A key ≡ None → fault A (Take c t at) ≡ None → Leads A view (command_of key (Take c t at)) answer
-take-leads A h key c t at view answer v k f =
+pub take-leads : (A : History) → IsRegister A → (c : ℕ) (t : List ℕ) (at : ℕ) → LeadsOn A (Take c t at)
+take-leads A h c t at key view answer v k f =
     let act = Take c t at in
     let here = facility_of A c in
     let n = none_holds (conditions A act) f in
@@ -350,9 +343,8 @@ take-leads A h key c t at view answer v k f =
     )
     refl
 
-pub put-leads : (A : History) → IsRegister A → (key : List ℕ) (c : ℕ) (t : List ℕ) (to : Store) (at : ℕ) (view : View) (answer : Answer) → IsViewOf (asks_by key (Put c t to at)) (tables A) view
-    → entry_of A key ≡ None → fault A (Put c t to at) ≡ None → Leads A view (command_of key (Put c t to at)) answer
-put-leads A h key c t to at view answer v k f =
+pub put-leads : (A : History) → IsRegister A → (c : ℕ) (t : List ℕ) (to : Store) (at : ℕ) → LeadsOn A (Put c t to at)
+put-leads A h c t to at key view answer v k f =
     let act = Put c t to at in
     let here = facility_of A c in
     let n = none_holds (conditions A act) f in
@@ -373,9 +365,8 @@ items-changed rows rest t = changed_by-rows PutItem same_item (λ rows t. record
 abbrev with_bag : Bag → ℕ → ℕ → Tables → Tables
 with_bag bag c at t = changed (PutMark (record { ceremony = c; at = at })) (changed (PutBag bag) t)
 
-pub seal-leads : (A : History) → IsRegister A → (key : List ℕ) (c : ℕ) (t : List ℕ) (codes : List (List ℕ)) (at : ℕ) (view : View) (answer : Answer) → IsViewOf (asks_by key (Seal c t codes at)) (tables A) view
-    → entry_of A key ≡ None → fault A (Seal c t codes at) ≡ None → Leads A view (command_of key (Seal c t codes at)) answer
-seal-leads A h key c t codes at view answer v k f =
+pub seal-leads : (A : History) → IsRegister A → (c : ℕ) (t : List ℕ) (codes : List (List ℕ)) (at : ℕ) → LeadsOn A (Seal c t codes at)
+seal-leads A h c t codes at key view answer v k f =
     let act = Seal c t codes at in
     let here = facility_of A c in
     let n = none_holds (conditions A act) f in
@@ -390,9 +381,8 @@ seal-leads A h key c t codes at view answer v k f =
     )
     (rw (text_refl t) refl)
 
-pub cut-leads : (A : History) → IsRegister A → (key : List ℕ) (c : ℕ) (t : List ℕ) (at : ℕ) (view : View) (answer : Answer) → IsViewOf (asks_by key (Cut c t at)) (tables A) view
-    → entry_of A key ≡ None → fault A (Cut c t at) ≡ None → Leads A view (command_of key (Cut c t at)) answer
-cut-leads A h key c t at view answer v k f =
+pub cut-leads : (A : History) → IsRegister A → (c : ℕ) (t : List ℕ) (at : ℕ) → LeadsOn A (Cut c t at)
+cut-leads A h c t at key view answer v k f =
     let act = Cut c t at in
     let here = facility_of A c in
     let tell = PutKey (new_key_row (command_of key act) answer) ∷ [] in

@@ -13,22 +13,25 @@ use Rattle.kcr_history.specs.declared.views.View.{View}
 use Rattle.kcr_history.specs.History.{History, entry_of}
 use Rattle.kcr_history.specs.Texts.{command_text}
 use Rattle.kcr_history.specs.Seating.{IsFirst, IsLeast}
-use Rattle.kcr_history.specs.Tables.{keys, key_row, tables}
+use Rattle.kcr_history.specs.Tables.{keys, key_row, tables, SameTables, people}
 use Rattle.kcr_history.specs.Views.{greatest_number, row_of_key, IsViewOf}
 use Rattle.kcr_history.specs.Asked.{asks_by, asks_of}
-use Rattle.kcr_history.specs.Conditions.{fault, is_full}
+use Rattle.kcr_history.specs.Conditions.{fault, is_full, conditions}
 use Rattle.kcr_history.specs.Machine.{Accepts, Refuses, Sitting, sitting, answer_to, with_command, accepts, seats, acts, repeats, IsRegister, IsAcceptance, IsRepeat, IsDecision}
 use Rattle.kcr_history.proofs.Steps.{took, number_of_answer}
 use Rattle.kcr_history.proofs.Words.{row_of_key-keys}
-use Rattle.kcr_acts.specs.ByRows.{refusal_by, is_overdone, sitting_by, IsSeatedFor, IsUnseatedFor, IsRefused}
+use Rattle.kcr_acts.specs.ByRows.{refusal_by, is_overdone, sitting_by, IsSeatedFor, IsUnseatedFor, IsRefused, all_changes_by}
 use Rattle.kcr_machine.specs.RowDecision.{is_full_by, answer_by, AcceptsNew, RepeatsRow, IsRowVerdict, IsRowDecision}
 use Rattle.kcr_scene.specs.Signing.{IsSeatedBy, IsUnseatedBy}
-use Rattle.kcr_machine.proofs.Ceremonies.{close-fault, open-fault, plan-fault}
-use Rattle.kcr_machine.proofs.Changes.{leads}
+use Rattle.kcr_base.proofs.RefuseLemmas.{none_holds}
+use Rattle.kcr_machine.proofs.Ceremonies.{close-fault, close-leads, open-fault, open-leads, plan-fault, plan-leads}
 use Rattle.kcr_machine.proofs.CustodyFaults.{add_box-fault, add_item-fault, cut-fault, put-fault, seal-fault, take-fault, turn-fault}
-use Rattle.kcr_machine.proofs.Refusals.{appoint-fault, enter-fault, release-fault, replace-fault, train-fault, withdraw-fault}
-use Rattle.kcr_machine.proofs.SheetFaults.{sheet-fault, sheet-made}
-use Rattle.kcr_machine.proofs.Signed.{except-fault, seated-first, seats-shown, sign-fault, sitting-is, unseated-least}
+use Rattle.kcr_machine.proofs.CustodyLeads.{add_box-leads, add_item-leads, cut-leads, put-leads, seal-leads, take-leads, turn-leads}
+use Rattle.kcr_machine.proofs.Leads.{changed_with, command_of, same-tables}
+use Rattle.kcr_machine.proofs.People.{appoint-fault, appoint-leads, enter-fault, enter-leads, release-fault, release-leads, replace-fault, replace-leads, train-fault, train-leads, withdraw-fault, withdraw-leads}
+use Rattle.kcr_machine.proofs.SheetFaults.{named_once, sheet-fault, sheet-made}
+use Rattle.kcr_machine.proofs.SheetLeads.{sheet-leads}
+use Rattle.kcr_machine.proofs.Signed.{except-fault, pass-leads, seated-first, seats-shown, sign-fault, sign-leads, sitting-is, state-leads, unseated-least}
 use Rattle.kcr_machine.proofs.StepRows.{done-shown, not_overdone, sign-there, stated-shown}
 
 -- the greatest number is the number of entries
@@ -104,6 +107,37 @@ answer-shown A h key (Except c text true at) view v people g =
 answer-shown A h key (Except c text false at) view v people g =
     rw (number-shown A (Except c text false at) key view h v, stated-shown A h c view.exceptions.items v.exceptions, g) refl
 answer-shown A h key act view v people g = rw (number-shown A act key view h v, g) refl
+
+-- CHANGES
+
+-- the changes of an act that has no fault, with those of its seats, lead from the tables before it to those after it
+leads : (A : History) → IsRegister A → (key : List ℕ) (act : Act) (view : View) (seats : Option (List (List ℕ))) (answer : Answer) → IsViewOf (asks_by key act) (tables A) view → entry_of A key ≡ None → fault A act ≡ None
+    → IsSeatedFor view (sitting_by view act) seats → answer ≡ answer_to A act seats
+    → SameTables (changed_with (all_changes_by view act seats) (command_of key act) answer (tables A)) (tables (with_command A (command_of key act) answer))
+leads A h key (Enter who name) view seats answer v k f g e = same-tables _ _ (enter-leads A who name key view answer v k f)
+leads A h key (Train who role since until) view seats answer v k f g e = same-tables _ _ (train-leads A who role since until key view answer v k f)
+leads A h key (Withdraw who role day) view seats answer v k f g e = withdraw-leads A h key who role day view answer v k
+leads A h key (Appoint place who day) view seats answer v k f g e = same-tables _ _ (appoint-leads A h place who day key view answer v k f)
+leads A h key (Replace place who day) view seats answer v k f g e = same-tables _ _ (replace-leads A h place who day key view answer v k f)
+leads A h key (Release place day) view seats answer v k f g e = same-tables _ _ (release-leads A h place day key view answer v k f)
+leads A h key (AddBox facility number place) view seats answer v k f g e = same-tables _ _ (add_box-leads A facility number place key view answer v k f)
+leads A h key (Plan number facility day script) view seats answer v k f g e = same-tables _ _ (plan-leads A h key answer number facility day script f view k)
+leads A h key (Open ceremony at) view seats answer v k f g e = same-tables _ _ (open-leads A h key answer ceremony at f view v.ceremonies k)
+leads A h key (Close ceremony at) view seats answer v k f g e = same-tables _ _ (close-leads A key answer ceremony at f view v.ceremonies k)
+leads A h key (Seal c serial codes at) view seats answer v k f g e = same-tables _ _ (seal-leads A h c serial codes at key view answer v k f)
+leads A h key (Take c serial at) view seats answer v k f g e = same-tables _ _ (take-leads A h c serial at key view answer v k f)
+leads A h key (Put c serial to at) view seats answer v k f g e = same-tables _ _ (put-leads A h c serial to at key view answer v k f)
+leads A h key (Cut c serial at) view seats answer v k f g e = same-tables _ _ (cut-leads A h c serial at key view answer v k f)
+leads A h key (AddItem c item at) view seats answer v k f g e = same-tables _ _ (add_item-leads A h c item at key view answer v k f)
+leads A h key (Sheet c way all at) view seats answer v k f g e =
+    let n = none_holds (conditions A (Sheet c way all at)) f in
+    sheet-leads A (sheet-made A h) key c way all at (named_once all n.1.1.1.1.0) view answer v k n.1.1.1.1.1.0
+leads A h key (TurnSafe c safe state by at) view seats answer v k f g e = same-tables _ _ (turn-leads A h c safe state by at key view answer v k f)
+leads A h key (Sign c k at) view None answer v q f g e = absurd g
+leads A h key (Sign c k at) view (Some seats) answer v q f g e = same-tables _ _ (sign-leads A h c k at seats key view answer v q f e)
+leads A h key (Except c text true at) view None answer v q f g e = absurd g
+leads A h key (Except c text true at) view (Some seats) answer v q f g e = same-tables _ _ (pass-leads A h c text at seats key view answer v q f e)
+leads A h key (Except c text false at) view seats answer v q f g e = same-tables _ _ (state-leads A h c text at key view answer v q f e)
 
 -- ACCEPTED
 

@@ -37,7 +37,7 @@ use Rattle.kcr_history.proofs.Trained.{trained-rows}
 use Rattle.kcr_scene.specs.Scene.{is_in_by, is_attended_by, has_holder_in_by}
 use Rattle.kcr_laws.proofs.Finds.{only-holder}
 use Rattle.kcr_machine.proofs.Keyed.{find-shown}
-use Rattle.kcr_machine.proofs.Withdrawn.{ShowsTrainings, ShowsWithdrawals, trained-shown}
+use Rattle.kcr_machine.proofs.People.{ShowsTrainings, ShowsWithdrawals, trained-shown}
 
 -- THE ROOM
 

@@ -1,5 +1,5 @@
 -- Where the changes of an act lead: what they make of the tables of a history, and when these are the tables of the history with its command.
-use Rattle.std.proofs.Common.{◌≡◌, ℕ, List, [], ◌∷◌, ◌++◌, map, None, option_map, refl, ap, ◌∙◌, subst}
+use Rattle.std.proofs.Common.{◌≡◌, ℕ, List, [], ◌∷◌, ◌++◌, map, None, Option, option_map, refl, ap, ◌∙◌, subst}
 use Rattle.std.specs.List.Sorted.{IsPermutation}
 use Rattle.std.proofs.lemmas.List.Sorted.{IsPermutation-refl}
 use Rattle.std.specs.Prelude.{Bool}
@@ -17,11 +17,13 @@ use Rattle.kcr_history.specs.declared.views.View.{View}
 use Rattle.kcr_history.specs.History.{History, entry_of}
 use Rattle.kcr_history.specs.Tables.{Tables, SameTables, keys, key_row, tables}
 use Rattle.kcr_history.specs.Changes.{changed, changed_by, same_key_row}
-use Rattle.kcr_history.specs.Machine.{with_command}
-use Rattle.kcr_history.specs.Views.{is_of_key}
+use Rattle.kcr_history.specs.Machine.{with_command, answer_to}
+use Rattle.kcr_history.specs.Views.{is_of_key, IsViewOf}
+use Rattle.kcr_history.specs.Asked.{asks_by}
+use Rattle.kcr_history.specs.Conditions.{fault, is_full}
 use Rattle.kcr_history.proofs.Words.{row_of_key-keys}
 use Rattle.kcr_laws.proofs.Finds.{none-find}
-use Rattle.kcr_acts.specs.ByRows.{changes_by}
+use Rattle.kcr_acts.specs.ByRows.{changes_by, refusal_by, all_changes_by}
 use Rattle.kcr_machine.specs.RowDecision.{new_key_row}
 use Rattle.kcr_machine.proofs.Keyed.{put-new}
 
@@ -40,6 +42,20 @@ changed_with changes x answer t = changed_by (changes ++ PutKey (new_key_row x a
 -- the changes of the act and its row of a key, made in the tables, give those of the history with the command
 abbrev pub Leads : History → View → Command → Answer → Type 0
 Leads A view x answer = changed_with (changes_by view x.act) x answer (tables A) ≡ tables (with_command A x answer)
+
+-- by the rows of any view of what the act asks for its first refusal is its fault
+abbrev pub FaultShown : History → Act → Type 0
+FaultShown A act = (key : List ℕ) (view : View) → IsViewOf (asks_by key act) (tables A) view → refusal_by view (is_full A) act ≡ fault A act
+
+-- and where it has none, its changes lead on
+abbrev pub LeadsOn : History → Act → Type 0
+LeadsOn A act = (key : List ℕ) (view : View) (answer : Answer) → IsViewOf (asks_by key act) (tables A) view → entry_of A key ≡ None → fault A act ≡ None → Leads A view (command_of key act) answer
+
+-- the same of an act with those who fill its seats
+abbrev pub SeatsLeadOn : History → Act → Option (List (List ℕ)) → Type 0
+SeatsLeadOn A act people =
+    (key : List ℕ) (view : View) (answer : Answer) → IsViewOf (asks_by key act) (tables A) view → entry_of A key ≡ None → fault A act ≡ None → answer ≡ answer_to A act people
+    → changed_with (all_changes_by view act people) (command_of key act) answer (tables A) ≡ tables (with_command A (command_of key act) answer)
 
 -- the row of a command whose key is new is put in front
 pub new_key : (A : History) (x : Command) (answer : Answer) → entry_of A x.key ≡ None → put same_key_row (new_key_row x answer) (keys A) ≡ new_key_row x answer ∷ keys A

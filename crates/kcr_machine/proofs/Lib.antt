@@ -3,12 +3,11 @@ pub mod FirstRefusals
 pub mod Keyed
 pub mod Leads
 pub mod Scenes
-pub mod Withdrawn
+pub mod People
 pub mod InRoom
 pub mod StepRows
 pub mod Seatings
 pub mod Signed
-pub mod Refusals
 pub mod UsedRooms
 pub mod Ceremonies
 pub mod BagsWords
@@ -17,5 +16,4 @@ pub mod CustodyLeads
 pub mod SheetStays
 pub mod SheetFaults
 pub mod SheetLeads
-pub mod Changes
 pub mod Decided

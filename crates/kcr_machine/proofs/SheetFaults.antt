@@ -30,23 +30,22 @@ use Rattle.kcr_room.proofs.Orders.{refusal-order}
 use Rattle.kcr_room.proofs.Refusals.{same_refusal}
 use Rattle.kcr_history.specs.declared.commands.Act.{Act}
 use Rattle.kcr_history.specs.declared.commands.Act.TheVariants.{Sheet}
-use Rattle.kcr_history.specs.declared.views.View.{View}
 use Rattle.kcr_history.specs.History.{History}
 use Rattle.kcr_history.specs.Training.{is_person}
 use Rattle.kcr_history.specs.Ceremonies.{closed as closed_at, is_open, mark}
 use Rattle.kcr_history.specs.Room.{sheet, sheet_after}
-use Rattle.kcr_history.specs.Tables.{people, tables}
-use Rattle.kcr_history.specs.Views.{last_stay, is_of_people, ShowsLast, IsViewOf}
-use Rattle.kcr_history.specs.Asked.{asks_by}
+use Rattle.kcr_history.specs.Tables.{people}
+use Rattle.kcr_history.specs.Views.{last_stay, is_of_people, ShowsLast}
 use Rattle.kcr_history.specs.Conditions.{conditions, fault, is_full, first_with, no_person, no_ceremony, not_open, not_later, is_not_later, out_of_turn, crowded, lone, is_overfull, full}
 use Rattle.kcr_history.specs.Machine.{IsRegister}
 use Rattle.kcr_history.proofs.Steps.{took}
 use Rattle.kcr_history.proofs.Words.{is_person-people}
-use Rattle.kcr_acts.specs.SheetRows.{elsewhere, last_elsewhere, stays_of_request, first_twice, named_twice, room_refusal, sheet_refusal_by}
+use Rattle.kcr_acts.specs.SheetRows.{elsewhere, last_elsewhere, stays_of_request, first_twice, named_twice, room_refusal}
 use Rattle.std.proofs.lemmas.Option.{none-some, same_Some}
 use Rattle.kcr_laws.proofs.Signing.{no_first}
 use Rattle.kcr_machine.proofs.FirstRefusals.{behind, first-found, met, nested}
 use Rattle.kcr_machine.proofs.Keyed.{any-shown}
+use Rattle.kcr_machine.proofs.Leads.{FaultShown}
 use Rattle.kcr_machine.proofs.Members.{IsIn, filter-in, filter-none, filter_map-in, find-same-in, in-any, in-append, in-behind, in-filter, in-filter_map, in-front}
 use Rattle.kcr_machine.proofs.Scenes.{is_open-shown, known-shown, mark-shown, marked-opened}
 use Rattle.kcr_machine.proofs.SheetStays.{IsClear, clear-order, clear-sheet, last-in, turn-last}
@@ -241,8 +240,7 @@ twice-first None (Some x) r xs h = refl
 twice-first None None r xs h = nested (r ∷ []) [] ∙ h refl
 
 -- by the rows of a view a request is refused for its fault
-pub sheet-fault : (A : History) → IsRegister A → IsSheet (sheet A) → (c : ℕ) (way : Way) (all : List (List ℕ)) (at : ℕ)
-    → (key : List ℕ) (view : View) → IsViewOf (asks_by key (Sheet c way all at)) (tables A) view → sheet_refusal_by view (is_full A) c way all at ≡ fault A (Sheet c way all at)
+pub sheet-fault : (A : History) → IsRegister A → IsSheet (sheet A) → (c : ℕ) (way : Way) (all : List (List ℕ)) (at : ℕ) → FaultShown A (Sheet c way all at)
 sheet-fault A h s c way all at key view v =
     rw (
       known-shown A c view.ceremonies.items v.ceremonies,

@@ -18,14 +18,13 @@ use Rattle.kcr_script.specs.declared.seat.Seat.TheVariants.{Staff, AnyCo, AnyRks
 use Rattle.kcr_seats.specs.Seating as Search
 use Rattle.kcr_history.specs.declared.commands.Act.{Act}
 use Rattle.kcr_history.specs.declared.commands.Act.TheVariants.{Sign, Except}
-use Rattle.kcr_history.specs.declared.commands.Answer.{Answer}
 use Rattle.kcr_history.specs.declared.commands.Command.{Command}
 use Rattle.kcr_history.specs.declared.rows.StepState.{StepState}
 use Rattle.kcr_history.specs.declared.rows.StepState.TheVariants.{Signed, Passed}
 use Rattle.kcr_history.specs.declared.views.Change.{Change}
 use Rattle.kcr_history.specs.declared.views.Change.TheVariants.{PutStep, PutSeating, PutKey}
 use Rattle.kcr_history.specs.declared.views.View.{View}
-use Rattle.kcr_history.specs.History.{History, entry_of, stacked_on}
+use Rattle.kcr_history.specs.History.{History, stacked_on}
 use Rattle.kcr_history.specs.Training.{is_holder}
 use Rattle.kcr_history.specs.Ceremonies.{facility_of, steps_of, step_at, steps_done, next_step, exceptions_of}
 use Rattle.kcr_history.specs.Room.{present}
@@ -34,10 +33,9 @@ use Rattle.kcr_history.specs.Tables.{Tables, tables, marks, steps, step_row, sea
 use Rattle.kcr_history.specs.Changes.{changed_by, same_step, same_mark, same_exception}
 use Rattle.kcr_history.specs.Views.{IsViewOf}
 use Rattle.kcr_history.specs.Asked.{asks_by}
-use Rattle.kcr_history.specs.Conditions.{fault, is_full}
-use Rattle.kcr_history.specs.Machine.{Sitting, answer_to, with_command, IsRegister, sitting}
+use Rattle.kcr_history.specs.Machine.{Sitting, answer_to, IsRegister, sitting}
 use Rattle.kcr_scene.specs.Scene.{ceremony_by, facility_by}
-use Rattle.kcr_scene.specs.Signing.{step_by, seats_by, next_by, sign_refusal, except_refusal, is_holder_by, fits_by, on_seat, fits_of, room_by, IsSeatedBy, IsUnseatedBy, staff, mark_change, seat_changes, exception_change}
+use Rattle.kcr_scene.specs.Signing.{step_by, seats_by, next_by, is_holder_by, fits_by, on_seat, fits_of, room_by, IsSeatedBy, IsUnseatedBy, staff, mark_change, seat_changes, exception_change}
 use Rattle.kcr_machine.specs.RowDecision.{new_key_row}
 use Rattle.kcr_laws.proofs.Alone.{rooms}
 use Rattle.kcr_laws.proofs.Done.{next_signed}
@@ -46,7 +44,7 @@ use Rattle.kcr_people.proofs.Orders.{any-same}
 use Rattle.std.proofs.lemmas.Option.{same_Some, none-some}
 use Rattle.kcr_machine.proofs.InRoom.{holder-shown, present-shown, trained-all}
 use Rattle.kcr_machine.proofs.Keyed.{put-new}
-use Rattle.kcr_machine.proofs.Leads.{changed-append, changed_with, command_of, entry_as, new_key}
+use Rattle.kcr_machine.proofs.Leads.{FaultShown, SeatsLeadOn, changed-append, command_of, entry_as, new_key}
 use Rattle.kcr_machine.proofs.Scenes.{facility-shown, is_open-shown, known-shown, mark-shown, marks-put}
 use Rattle.kcr_machine.proofs.Seatings.{first-of, least-of}
 use Rattle.kcr_machine.proofs.StepRows.{ShowsSteps, done-shown, fresh-exception, fresh-seats, pass-there, put-seats, put-step, sign-there, stated-shown, step-shown}
@@ -61,8 +59,7 @@ no_step-shown A h c view p k = ap is_none (step-shown A h c view.steps.items p k
     by_step None = refl
     by_step (Some x) = refl
 
-pub sign-fault : (A : History) → IsRegister A → (c k at : ℕ) (key : List ℕ) (view : View) → IsViewOf (asks_by key (Sign c k at)) (tables A) view
-    → sign_refusal view (is_full A) c k at ≡ fault A (Sign c k at)
+pub sign-fault : (A : History) → IsRegister A → (c k at : ℕ) → FaultShown A (Sign c k at)
 sign-fault A h c k at key view v =
     rw (
       known-shown A c view.ceremonies.items v.ceremonies,
@@ -72,8 +69,7 @@ sign-fault A h c k at key view v =
       done-shown A h c view.steps.items v.steps,
     )
 
-pub except-fault : (A : History) → IsRegister A → (c : ℕ) (text : List ℕ) (pass : Bool) (at : ℕ) (key : List ℕ) (view : View) → IsViewOf (asks_by key (Except c text pass at)) (tables A) view
-    → except_refusal view (is_full A) c pass at ≡ fault A (Except c text pass at)
+pub except-fault : (A : History) → IsRegister A → (c : ℕ) (text : List ℕ) (pass : Bool) (at : ℕ) → FaultShown A (Except c text pass at)
 except-fault A h c text pass at key view v =
     rw (
       known-shown A c view.ceremonies.items v.ceremonies,
@@ -189,10 +185,8 @@ seats-changed A h view c k at state people p inside l rest =
     ∙ ap (changed_by rest) (seat-tables A c k at state people h l))
 
 -- a signature
-pub sign-leads : (A : History) → IsRegister A → (key : List ℕ) (c k at : ℕ) (view : View) (people : List (List ℕ)) (answer : Answer) → IsViewOf (asks_by key (Sign c k at)) (tables A) view → entry_of A key ≡ None
-    → fault A (Sign c k at) ≡ None → answer ≡ answer_to A (Sign c k at) (Some people)
-    → changed_with (seat_changes view Signed c k at people) (command_of key (Sign c k at)) answer (tables A) ≡ tables (with_command A (command_of key (Sign c k at)) answer)
-sign-leads A h key c k at view people answer v absent f e =
+pub sign-leads : (A : History) → IsRegister A → (c k at : ℕ) (people : List (List ℕ)) → SeatsLeadOn A (Sign c k at) (Some people)
+sign-leads A h c k at people key view answer v absent f e =
     let x : Command = command_of key (Sign c k at) in
     let inside = sign-there A c k at f in
     let s = put-step A h (entry_as key x.act answer) c k at Signed (λ d j. refl) (λ d. refl) refl inside in
@@ -206,11 +200,8 @@ put-exception A h c text at passed =
     put-new same_exception (record { ceremony = c; exception = suc (exceptions_of A c); text = text; at = at; passed = passed }) (exceptions A) (fresh-exception A h c (suc (exceptions_of A c)) (omega arith))
 
 -- an exception that passes a step
-pub pass-leads : (A : History) → IsRegister A → (key : List ℕ) (c : ℕ) (text : List ℕ) (at : ℕ) (view : View) (people : List (List ℕ)) (answer : Answer) → IsViewOf (asks_by key (Except c text true at)) (tables A) view → entry_of A key ≡ None
-    → fault A (Except c text true at) ≡ None → answer ≡ answer_to A (Except c text true at) (Some people)
-    → changed_with (seat_changes view Passed c (next_by view.steps.items c) at people ++ exception_change view c text at (Some (next_by view.steps.items c)) ∷ []) (command_of key (Except c text true at)) answer (tables A)
-    ≡ tables (with_command A (command_of key (Except c text true at)) answer)
-pass-leads A h key c text at view people answer v absent f e =
+pub pass-leads : (A : History) → IsRegister A → (c : ℕ) (text : List ℕ) (at : ℕ) (people : List (List ℕ)) → SeatsLeadOn A (Except c text true at) (Some people)
+pass-leads A h c text at people key view answer v absent f e =
     let x : Command = command_of key (Except c text true at) in
     let k = next_step A c in
     let inside = pass-there A c text at f in
@@ -221,9 +212,7 @@ pass-leads A h key c text at view people answer v absent f e =
     ∙ rw (stated-shown A h c view.exceptions.items v.exceptions, put-exception A h c text at (Some k), new_key A x answer absent, marks-put A (entry_as key x.act answer) c at f refl refl, e) (rw s refl))
 
 -- an exception that passes no step
-pub state-leads : (A : History) → IsRegister A → (key : List ℕ) (c : ℕ) (text : List ℕ) (at : ℕ) (view : View) (answer : Answer) → IsViewOf (asks_by key (Except c text false at)) (tables A) view → entry_of A key ≡ None
-    → fault A (Except c text false at) ≡ None → answer ≡ answer_to A (Except c text false at) None
-    → changed_with (mark_change c at ∷ exception_change view c text at None ∷ []) (command_of key (Except c text false at)) answer (tables A) ≡ tables (with_command A (command_of key (Except c text false at)) answer)
-state-leads A h key c text at view answer v absent f e =
+pub state-leads : (A : History) → IsRegister A → (c : ℕ) (text : List ℕ) (at : ℕ) → SeatsLeadOn A (Except c text false at) None
+state-leads A h c text at key view answer v absent f e =
     let x : Command = command_of key (Except c text false at) in
     rw (stated-shown A h c view.exceptions.items v.exceptions, put-exception A h c text at None, new_key A x answer absent, marks-put A (entry_as key x.act answer) c at f refl refl, e) refl

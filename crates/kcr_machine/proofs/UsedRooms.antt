@@ -1,36 +1,21 @@
 -- Whether anybody is in the room of a ceremony at a moment or comes or goes later: by the stays that a view shows as by the sheet.
-use Rattle.std.proofs.Common.{◌≡◌, ℕ, ◌+◌, Bool, true, false, cond, not, ◌||◌, ◌&&◌, ◌==◌, nat_le, nat_lt, List, [], ◌∷◌, ◌++◌, map, filter, reverse, length, Option, Some, None, refl, sym, ap, ◌∙◌, subst, arith, inl, inr}
+use Rattle.std.proofs.Common.{◌≡◌, ℕ, ◌+◌, Bool, true, false, cond, not, ◌||◌, ◌&&◌, ◌==◌, nat_le, nat_lt, List, [], ◌∷◌, filter, reverse, length, refl, sym, ap, ◌∙◌, arith, inl, inr}
 use Rattle.std.specs.List.{list_any}
 use Rattle.std.specs.List.Sorted.{IsPermutation}
-use Rattle.std.proofs.lemmas.Bool.{true≢false, false≢true, or_parts, and_parts, and_from, not-false, eqb-true, leb-true, le-leb, le-ltb, lt-ltb, ltb-false, or_left, or_right, cases_Bool, or_cases}
-use Rattle.std.proofs.lemmas.List.Elements.{filter-append}
-use Rattle.std.proofs.lemmas.List.Folds.{list_any-append}
+use Rattle.std.proofs.lemmas.Bool.{and_parts, and_from, le-leb, lt-ltb, ltb-false, or_left, or_right, cases_Bool, or_cases}
 use Rattle.std.proofs.lemmas.List.Sorted.{list_any-IsPermutation, IsPermutation-reverse}
-use Rattle.kcr_base.proofs.RefuseLemmas.{none_holds}
-use Rattle.kcr_base.specs.Same.{same_text}
 use Rattle.kcr_room.specs.declared.SheetRow.{SheetRow}
 use Rattle.kcr_room.specs.declared.Stay.{Stay}
-use Rattle.kcr_room.specs.declared.Way.{Way}
-use Rattle.kcr_room.specs.declared.Way.TheVariants as Ways
-use Rattle.kcr_room.specs.Room.{is_enter, enters, last_onto, last_row, later, is_of, last_enters, in_by, last_row_of, present_by}
-use Rattle.kcr_room.specs.Stays.{lasts_at, holds, cut, next_onto, stay_from, stays_next, stays_onto, stays_by, crowd_in_by}
-use Rattle.kcr_room.specs.Adding.{is_out_of_turn, is_out_of_turn_by, new_row}
-use Rattle.kcr_room.proofs.Agreement.{same-itself, same-turned, listed, last-above, same-crowd}
-use Rattle.kcr_room.proofs.Keeping.{present_are_in}
-use Rattle.kcr_room.proofs.Lists as RoomLists
+use Rattle.kcr_room.specs.Room.{present_by}
+use Rattle.kcr_room.specs.Stays.{lasts_at, holds, stays_by, crowd_in_by}
+use Rattle.kcr_room.proofs.Agreement.{same-crowd}
 use Rattle.kcr_room.proofs.Moments.{crowd-cons}
-use Rattle.kcr_people.proofs.Orders.{any-same}
-use Rattle.kcr_history.specs.declared.commands.Act.{Act}
-use Rattle.kcr_history.specs.declared.commands.Act.TheVariants.{Sheet}
 use Rattle.kcr_history.specs.History.{History}
-use Rattle.kcr_history.specs.Room.{sheet, sheet_after, present}
-use Rattle.kcr_history.specs.Conditions.{conditions, fault, is_empty, is_room_used}
+use Rattle.kcr_history.specs.Room.{sheet, present}
+use Rattle.kcr_history.specs.Conditions.{is_empty, is_room_used}
 use Rattle.kcr_history.specs.Machine.{IsRegister}
 use Rattle.kcr_history.specs.Views.{is_stay_of}
-use Rattle.kcr_history.proofs.Steps.{took}
 use Rattle.kcr_acts.specs.CeremonyRows.{is_unended}
-use Rattle.kcr_laws.proofs.Rooms.{HaveTurns, onto_append, none_yet, none_of, not_behind}
-use Rattle.kcr_laws.proofs.Alone.{turns}
 use Rattle.kcr_machine.proofs.Keyed.{any-shown}
 use Rattle.kcr_machine.proofs.Members.{any-imp, any-in, in-any, same-answers}
 use Rattle.kcr_machine.proofs.SheetFaults.{sheet-made}

@@ -1,0 +1,271 @@
+-- People, trainings and places: what the rows of a view say of them, the first refusal of an act on them, and where its changes lead.
+use Rattle.std.proofs.Common.{◌≡◌, ℕ, Bool, true, false, not, ◌||◌, ◌&&◌, nat_le, max, List, filter, refl, sym, ap, ◌∙◌, subst, arith, eqb, [], ◌∷◌, is_none, map, None}
+use Rattle.std.specs.List.{list_any}
+use Rattle.std.specs.List.Sorted.{IsPermutation}
+use Rattle.std.proofs.lemmas.Bool.{and_parts, leb-true, le-leb, or_left}
+use Rattle.std.proofs.lemmas.List.Sorted.{IsPermutation-map, list_any-IsPermutation, IsPermutation-refl, IsPermutation-sym}
+use Rattle.kcr_base.specs.Same.{same_text, same_role, same_place}
+use Rattle.kcr_base.specs.declared.place.Role.{Role}
+use Rattle.kcr_people.specs.declared.Training.{Training}
+use Rattle.kcr_people.specs.declared.Withdrawal.{Withdrawal}
+use Rattle.kcr_people.specs.People.{is_of, is_withdrawn_by, covers, trains, trained_by, trained_from_by, ends_from, least_day, withdrawal_of, withdrawn_rows, is_person_by, ever_trained_by, ever_put_by, same_training, lasts_beyond, open_row_by, stands, end_of, nobody, place_held_from_by, person_holds_from_by}
+use Rattle.kcr_people.proofs.Orders.{any-same}
+use Rattle.kcr_people.proofs.Withdrawn.{is_of-true, least-day}
+use Rattle.kcr_history.specs.Views.{is_training_of, is_withdrawal_of, is_of_people, is_appointment_of, IsViewOf}
+use Rattle.std.specs.Cmp.Lexicographic.{bytes_decides}
+use Rattle.kcr_base.specs.declared.place.Place.{Place}
+use Rattle.kcr_people.specs.declared.Appointment.{Appointment}
+use Rattle.kcr_people.specs.declared.Person.{Person}
+use Rattle.kcr_history.specs.declared.commands.Act.TheVariants.{Enter, Train, Withdraw, Appoint, Replace, Release}
+use Rattle.kcr_history.specs.declared.views.AppointmentsOf.TheVariants as Appointments
+use Rattle.kcr_history.specs.declared.views.View.{View}
+use Rattle.kcr_history.specs.History.{History, some_command, entry_of}
+use Rattle.kcr_history.specs.Training.{is_person, ever_trained, is_training}
+use Rattle.kcr_history.specs.Tables.{people, trainings, withdrawals, appointments, tables, SameTables, ended}
+use Rattle.kcr_history.specs.Asked.{asks_by}
+use Rattle.kcr_history.specs.Conditions.{conditions}
+use Rattle.kcr_history.specs.Machine.{IsRegister, with_command}
+use Rattle.kcr_history.proofs.Words.{is_person-people, ever_trained-trainings, is_training-trainings, ever_put-appointments}
+use Rattle.kcr_history.proofs.Stacked.{open-order, only-one, or_parts, closing, lasts-ended, no_begin, put-ended}
+use Rattle.kcr_history.proofs.Orderly.{orderly, standing}
+use Rattle.kcr_history.proofs.Settled.{settled-rows}
+use Rattle.kcr_acts.specs.ByRows.{changes_by, new_appointment}
+use Rattle.kcr_base.specs.Rows.{put, put_all}
+use Rattle.kcr_base.specs.declared.refusal.Refusal.TheVariants.{Taken, Held, Range, Vacant}
+use Rattle.kcr_base.proofs.RefuseLemmas.{none_holds, unmet}
+use Rattle.kcr_base.proofs.RowsLemmas.{put_all-order}
+use Rattle.kcr_people.specs.Laws.{same_withdrawn}
+use Rattle.kcr_people.proofs.Keys.{same_withdrawn-keys, withdrawn_rows-apart}
+use Rattle.kcr_history.specs.declared.commands.Answer.{Answer}
+use Rattle.kcr_history.specs.declared.commands.Command.{Command}
+use Rattle.kcr_history.specs.declared.views.Change.TheVariants.{PutWithdrawal, PutKey}
+use Rattle.kcr_history.specs.Changes.{same_person, same_appointment}
+use Rattle.kcr_history.proofs.Distinct.{trainings-apart}
+use Rattle.kcr_machine.specs.RowDecision.{new_key_row}
+use Rattle.kcr_machine.proofs.Keyed.{any-shown, filter-shown, find-shown, put-new}
+use Rattle.kcr_machine.proofs.Leads.{FaultShown, LeadsOn, changed_by-rows, changed_with, command_of, new_key, other-order}
+use Rattle.kcr_machine.proofs.Members.{in-filter, map-same-in}
+
+-- WITHDRAWALS
+
+-- the rows of the person that the table has are those that are shown, in some order
+abbrev pub ShowsTrainings : List ℕ → List Training → List Training → Type 0
+ShowsTrainings who table rows = IsPermutation (filter (is_training_of who) table) (filter (is_training_of who) rows)
+
+abbrev pub ShowsWithdrawals : List ℕ → List Withdrawal → List Withdrawal → Type 0
+ShowsWithdrawals who table rows = IsPermutation (filter (is_withdrawal_of who) table) (filter (is_withdrawal_of who) rows)
+
+-- a withdrawal of a person's training is the person's
+withdrawal-who : (who : List ℕ) (row : Training) (w : Withdrawal) → same_text row.who who ≡ true → is_of row w ≡ true → same_text w.who who ≡ true
+withdrawal-who who row w own h = subst (λ t. same_text t.who who ≡ true) (sym (is_of-true row w h)) own
+
+-- whether a training of the person is withdrawn
+withdrawn-shown : (who : List ℕ) (table rows : List Withdrawal) → ShowsWithdrawals who table rows → (row : Training) → same_text row.who who ≡ true → (day : ℕ) → is_withdrawn_by rows row day ≡ is_withdrawn_by table row day
+withdrawn-shown who table rows p row own day =
+    any-shown (λ w. is_of row w && nat_le w.day day) (is_withdrawal_of who) (λ w h. withdrawal-who who row w own (and_parts (is_of row w) (nat_le w.day day) h).0) table rows p
+
+-- WHO IS TRAINED
+
+covers-who : (who : List ℕ) (role : Role) (day : ℕ) (row : Training) → covers who role day row ≡ true → same_text row.who who ≡ true
+covers-who who role day row h =
+    let a = and_parts (same_text row.who who && same_role row.role role && nat_le row.since day) (nat_le day row.until) h in
+    let b = and_parts (same_text row.who who && same_role row.role role) (nat_le row.since day) a.0 in
+    (and_parts (same_text row.who who) (same_role row.role role) b.0).0
+
+trains-shown : (who : List ℕ) (table rows : List Withdrawal) → ShowsWithdrawals who table rows → (role : Role) (day : ℕ) (row : Training) → trains rows who role day row ≡ trains table who role day row
+trains-shown who table rows p role day row = by_cover (covers who role day row) refl
+  where
+    by_cover : (b : Bool) → covers who role day row ≡ b → (b && not (is_withdrawn_by rows row day)) ≡ (b && not (is_withdrawn_by table row day))
+    by_cover true e = ap not (withdrawn-shown who table rows p row (covers-who who role day row e) day)
+    by_cover false e = refl
+
+-- whether some training of the person holds on a day of its own
+trains-any : (who : List ℕ) (ts us : List Training) (ws vs : List Withdrawal) → ShowsTrainings who ts us → ShowsWithdrawals who ws vs → (role : Role) (on : Training → ℕ)
+    → list_any (λ row. trains vs who role (on row) row) us ≡ list_any (λ row. trains ws who role (on row) row) ts
+trains-any who ts us ws vs p q role on =
+    any-same (λ row. trains vs who role (on row) row) (λ row. trains ws who role (on row) row) (λ row. trains-shown who ws vs q role (on row) row) us
+    ∙ any-shown (λ row. trains ws who role (on row) row) (is_training_of who)
+    (λ row h. covers-who who role (on row) row (and_parts (covers who role (on row) row) (not (is_withdrawn_by ws row (on row))) h).0) ts us p
+
+-- whether the person is trained on the day or a later one
+pub trained_from-shown : (who : List ℕ) (ts us : List Training) (ws vs : List Withdrawal) → ShowsTrainings who ts us → ShowsWithdrawals who ws vs → (role : Role) (day : ℕ)
+    → trained_from_by us vs who role day ≡ trained_from_by ts ws who role day
+trained_from-shown who ts us ws vs p q role day = trains-any who ts us ws vs p q role (λ row. max row.since day)
+
+-- whether the person is trained on the day
+pub trained-shown : (who : List ℕ) (ts us : List Training) (ws vs : List Withdrawal) → ShowsTrainings who ts us → ShowsWithdrawals who ws vs → (role : Role) (day : ℕ)
+    → trained_by us vs who role day ≡ trained_by ts ws who role day
+trained-shown who ts us ws vs p q role day = trains-any who ts us ws vs p q role (λ row. day)
+
+-- THE ROWS OF A WITHDRAWAL
+
+-- numbers that are at most the same numbers are one
+one_number : (a b : ℕ) → ((d : ℕ) → nat_le a d ≡ nat_le b d) → a ≡ b
+one_number a b h =
+    let p = leb-true a b (h b ∙ le-leb b b (omega arith)) in
+    let q = leb-true b a (sym (h a) ∙ le-leb a a (omega arith)) in
+    omega arith
+
+least-shown : (who : List ℕ) (table rows : List Withdrawal) → ShowsWithdrawals who table rows → (row : Training) → same_text row.who who ≡ true → (day : ℕ) → least_day rows row day ≡ least_day table row day
+least-shown who table rows p row own day =
+    one_number (least_day rows row day) (least_day table row day)
+    (λ d. least-day rows row day d ∙ ap (λ b. nat_le day d || b) (withdrawn-shown who table rows p row own d) ∙ sym (least-day table row day d))
+
+ends_from-who : (who : List ℕ) (role : Role) (day : ℕ) (row : Training) → ends_from who role day row ≡ true → same_text row.who who ≡ true
+ends_from-who who role day row h =
+    let a = and_parts (same_text row.who who && same_role row.role role) (nat_le day row.until) h in
+    (and_parts (same_text row.who who) (same_role row.role role) a.0).0
+
+-- the same rows are to be put, in some order
+pub withdrawn_rows-shown : (who : List ℕ) (ts us : List Training) (ws vs : List Withdrawal) → ShowsTrainings who ts us → ShowsWithdrawals who ws vs → (role : Role) (day : ℕ)
+    → IsPermutation (withdrawn_rows ts ws who role day) (withdrawn_rows us vs who role day)
+withdrawn_rows-shown who ts us ws vs p q role day =
+    rw (map-same-in (withdrawal_of vs day) (withdrawal_of ws day) (filter (ends_from who role day) us)
+    (λ row i. ap (λ d. record { who = row.who; role = row.role; since = row.since; until = row.until; day = d })
+    (least-shown who ws vs q row (ends_from-who who role day row (in-filter (ends_from who role day) row us i).1) day)))
+    (IsPermutation-map (withdrawal_of ws day) (filter (ends_from who role day) ts) (filter (ends_from who role day) us)
+    (filter-shown (ends_from who role day) (is_training_of who) (λ row h. ends_from-who who role day row h) ts us p))
+
+text-turn : (a b : List ℕ) → same_text a b ≡ true → same_text b a ≡ true
+text-turn a b h = (bytes_decides b a).1 (sym ((bytes_decides a b).0 h))
+
+-- WORDS ON THE ROWS THAT A VIEW SHOWS
+
+pub person-shown : (A : History) (who : List ℕ) (rows : List Person) → IsPermutation (filter (is_of_people (who ∷ [])) (people A)) (filter (is_of_people (who ∷ [])) rows) → is_person_by rows who ≡ is_person A who
+person-shown A who rows p =
+    any-shown (λ row. same_text row.who who) (is_of_people (who ∷ [])) (λ row h. or_left (same_text row.who who) false h) (people A) rows p ∙ is_person-people A who
+
+ever_trained-shown : (A : History) (who : List ℕ) (rows : List Training) → IsPermutation (filter (is_training_of who) (trainings A)) (filter (is_training_of who) rows) → ever_trained_by rows who ≡ ever_trained A who
+ever_trained-shown A who rows p = any-shown (is_training_of who) (is_training_of who) (λ row h. h) (trainings A) rows p ∙ ever_trained-trainings A who
+
+-- a training of the same four values is the person's
+same-who : (new old : Training) → same_training new old ≡ true → same_text old.who new.who ≡ true
+same-who new old h =
+    let a = and_parts (same_text new.who old.who && same_role new.role old.role && eqb new.since old.since) (eqb new.until old.until) h in
+    let b = and_parts (same_text new.who old.who && same_role new.role old.role) (eqb new.since old.since) a.0 in
+    let c = and_parts (same_text new.who old.who) (same_role new.role old.role) b.0 in
+    text-turn new.who old.who c.0
+
+training-shown : (A : History) (new : Training) (rows : List Training) → IsPermutation (filter (is_training_of new.who) (trainings A)) (filter (is_training_of new.who) rows)
+    → list_any (same_training new) rows ≡ list_any (same_training new) (trainings A)
+training-shown A new rows p = any-shown (same_training new) (is_training_of new.who) (same-who new) (trainings A) rows p
+
+put-shown : (A : History) (who : List ℕ) (rows : List Appointment) → IsPermutation (filter (is_appointment_of (Appointments.Person who)) (appointments A)) (filter (is_appointment_of (Appointments.Person who)) rows)
+    → ever_put_by rows who ≡ ever_put_by (appointments A) who
+put-shown A who rows p = any-shown (λ row. same_text row.who who) (is_appointment_of (Appointments.Person who)) (λ row h. h) (appointments A) rows p
+
+-- the open appointment of a place, among those of the place
+pub open_row-shown : (A : History) → IsRegister A → (place : Place) (rows : List Appointment) → IsPermutation (filter (is_appointment_of (Appointments.Place place)) (appointments A)) (filter (is_appointment_of (Appointments.Place place)) rows)
+    → open_row_by rows place ≡ open_row_by (appointments A) place
+open_row-shown A h place rows p =
+    find-shown (stands place) (is_appointment_of (Appointments.Place place)) (λ row e. (and_parts (same_place row.place place) (is_none row.until) e).0) (appointments A) rows p
+    (λ r e. only-one place r (appointments A) (orderly A h).0 e)
+
+-- THE FIRST REFUSAL OF AN ACT
+
+pub enter-fault : (A : History) (who name : List ℕ) → FaultShown A (Enter who name)
+enter-fault A who name key view v = rw (person-shown A who view.people.items v.people)
+
+pub train-fault : (A : History) (who : List ℕ) (role : Role) (since until : ℕ) → FaultShown A (Train who role since until)
+train-fault A who role since until key view v =
+    let new : Training = record { who = who; role = role; since = since; until = until } in
+    rw (
+      person-shown A who view.people.items v.people,
+      training-shown A new view.trainings.items v.trainings ∙ is_training-trainings A new,
+      put-shown A who view.appointments.items v.appointments ∙ ever_put-appointments A who,
+    )
+
+pub withdraw-fault : (A : History) (who : List ℕ) (role : Role) (day : ℕ) → FaultShown A (Withdraw who role day)
+withdraw-fault A who role day key view v =
+    rw (
+      person-shown A who view.people.items v.people,
+      trained_from-shown who (trainings A) view.trainings.items (withdrawals A) view.withdrawals.items v.trainings v.withdrawals role day,
+      settled-rows A view.marks.items v.marks,
+    )
+
+pub appoint-fault : (A : History) (place : Place) (who : List ℕ) (day : ℕ) → FaultShown A (Appoint place who day)
+appoint-fault A place who day key view v =
+    rw (
+      person-shown A who view.people.items v.people,
+      ever_trained-shown A who view.trainings.items v.trainings,
+      ← list_any-IsPermutation (λ row. same_place row.place place && lasts_beyond day row) (appointments A) view.appointments.items v.appointments,
+      ← list_any-IsPermutation (λ row. same_text row.who who && lasts_beyond day row) (appointments A) view.appointments.items v.appointments,
+      settled-rows A view.marks.items v.marks,
+    )
+
+pub replace-fault : (A : History) → IsRegister A → (place : Place) (who : List ℕ) (day : ℕ) → FaultShown A (Replace place who day)
+replace-fault A h place who day key view v =
+    rw (
+      person-shown A who view.people.items v.people,
+      ever_trained-shown A who view.trainings.items v.trainings,
+      open-order place (appointments A) view.appointments.items (orderly A h).0 v.appointments,
+      ← list_any-IsPermutation (λ row. same_text row.who who && lasts_beyond day row) (appointments A) view.appointments.items v.appointments,
+      settled-rows A view.marks.items v.marks,
+    )
+
+pub release-fault : (A : History) → IsRegister A → (place : Place) (day : ℕ) → FaultShown A (Release place day)
+release-fault A h place day key view v = rw (open_row-shown A h place view.appointments.items v.appointments, settled-rows A view.marks.items v.marks)
+
+-- WHERE ITS CHANGES LEAD
+
+pub enter-leads : (A : History) (who name : List ℕ) → LeadsOn A (Enter who name)
+enter-leads A who name key view answer v k f =
+    let absent = is_person-people A who ∙ unmet (is_person A who) Taken (none_holds (conditions A (Enter who name)) f).0 in
+    rw (put-new same_person (record { who = who; name = name }) (people A) absent, new_key A (command_of key (Enter who name)) answer k)
+
+pub train-leads : (A : History) (who : List ℕ) (role : Role) (since until : ℕ) → LeadsOn A (Train who role since until)
+train-leads A who role since until key view answer v k f =
+    let new : Training = record { who = who; role = role; since = since; until = until } in
+    let absent = is_training-trainings A new ∙ unmet (some_command (is_training who role since until) A) Taken (none_holds (conditions A (Train who role since until)) f).1.0 in
+    rw (put-new same_training new (trainings A) absent, new_key A (command_of key (Train who role since until)) answer k)
+
+-- by the rows shown the same rows are put, in some order; no two of them have one key
+withdrawals-put : (A : History) → IsRegister A → (who : List ℕ) (role : Role) (day : ℕ) (us : List Training) (vs : List Withdrawal) → ShowsTrainings who (trainings A) us → ShowsWithdrawals who (withdrawals A) vs
+    → IsPermutation (put_all same_withdrawn (withdrawn_rows us vs who role day) (withdrawals A)) (put_all same_withdrawn (withdrawn_rows (trainings A) (withdrawals A) who role day) (withdrawals A))
+withdrawals-put A h who role day us vs p q =
+    IsPermutation-sym _ _
+    (put_all-order same_withdrawn same_withdrawn-keys (withdrawn_rows (trainings A) (withdrawals A) who role day) (withdrawn_rows us vs who role day) (withdrawals A)
+    (withdrawn_rows-shown who (trainings A) us (withdrawals A) vs p q role day)
+    (withdrawn_rows-apart (trainings A) (withdrawals A) who role day (trainings-apart A h)))
+
+pub withdraw-leads : (A : History) → IsRegister A → (key who : List ℕ) (role : Role) (day : ℕ) (view : View) (answer : Answer) → IsViewOf (asks_by key (Withdraw who role day)) (tables A) view → entry_of A key ≡ None
+    → SameTables (changed_with (changes_by view (Withdraw who role day)) (command_of key (Withdraw who role day)) answer (tables A)) (tables (with_command A (command_of key (Withdraw who role day)) answer))
+withdraw-leads A h key who role day view answer v k =
+    let x : Command = command_of key (Withdraw who role day) in
+    let after = tables (with_command A x answer) in
+    let rows = withdrawn_rows view.trainings.items view.withdrawals.items who role day in
+    rw (
+      changed_by-rows PutWithdrawal same_withdrawn (λ rows t. record t { withdrawals = rows }) (λ row rows t. refl) rows (withdrawals A) (PutKey (new_key_row x answer) ∷ []) (tables A),
+      new_key A x answer k,
+    )
+    (other-order after (put_all same_withdrawn rows (withdrawals A)) after.sheet after.stays (withdrawals-put A h who role day view.trainings.items view.withdrawals.items v.trainings v.withdrawals)
+    (IsPermutation-refl after.sheet) (IsPermutation-refl after.stays))
+
+pub appoint-leads : (A : History) → IsRegister A → (place : Place) (who : List ℕ) (day : ℕ) → LeadsOn A (Appoint place who day)
+appoint-leads A h place who day key view answer v k f =
+    let n = none_holds (conditions A (Appoint place who day)) f in
+    let free = (or_parts (place_held_from_by (appointments A) place day) (person_holds_from_by (appointments A) who day) (unmet _ Held n.1.1.0)).0 in
+    let absent = no_begin place day (appointments A) (orderly A h).1 free in
+    rw (put-new same_appointment (new_appointment place who day) (appointments A) absent, new_key A (command_of key (Appoint place who day)) answer k)
+
+pub replace-leads : (A : History) → IsRegister A → (place : Place) (who : List ℕ) (day : ℕ) → LeadsOn A (Replace place who day)
+replace-leads A h place who day key view answer v k f =
+    let shown = open-order place (appointments A) view.appointments.items (orderly A h).0 v.appointments in
+    let n = none_holds (conditions A (Replace place who day)) f in
+    let st = standing (open_row_by (appointments A) place) day (unmet _ Range n.1.0) (unmet _ Vacant n.1.1.1.1.0) in
+    let o = orderly A h in
+    let p : put same_appointment (end_of (open_row_by view.appointments.items place) day (new_appointment place who day)) (appointments A) ≡ map (ended place day) (appointments A)
+    = rw (shown ∙ st.1) (put-ended place day st.0 (appointments A) o.0 o.1 st.1) in
+    let free = closing place day st.0 (appointments A) o.0 st.1 st.2 in
+    let fresh = no_begin place day (map (ended place day) (appointments A)) (lasts-ended place day st.0 (appointments A) o.0 o.1 st.1 st.2) free in
+    rw (p, put-new same_appointment (new_appointment place who day) (map (ended place day) (appointments A)) fresh, new_key A (command_of key (Replace place who day)) answer k)
+
+pub release-leads : (A : History) → IsRegister A → (place : Place) (day : ℕ) → LeadsOn A (Release place day)
+release-leads A h place day key view answer v k f =
+    let shown = open_row-shown A h place view.appointments.items v.appointments in
+    let n = none_holds (conditions A (Release place day)) f in
+    let st = standing (open_row_by (appointments A) place) day (unmet _ Range n.0) (unmet _ Vacant n.1.0) in
+    let o = orderly A h in
+    let p : put same_appointment (end_of (open_row_by view.appointments.items place) day (nobody place day)) (appointments A) ≡ map (ended place day) (appointments A)
+    = rw (shown ∙ st.1) (put-ended place day st.0 (appointments A) o.0 o.1 st.1) in
+    rw (p, new_key A (command_of key (Release place day)) answer k)
