@@ -1,8 +1,8 @@
 -- The search's answers by numbers, over those present, are the machine's: a first seating of people, and a least shortage of seats.
 use Rattle.std.proofs.Common.{◌≡◌, ◌≢◌, ℕ, zero, suc, ◌+◌, ◌<◌, ◌≤◌, Bool, true, false, cond, ◌||◌, nat_lt, List, [], ◌∷◌, map, filter, length, get_or, refl, sym, ap, ◌∙◌, arith, subst, not, ◌&&◌, ◌==◌, nat_le, Option, Some, None, inl, inr}
 use Rattle.std.specs.Prelude.{slice_get, slice_index, if◌then◌else◌, EachIndex}
-use Rattle.std.specs.List.{list_any, list_all, SomeIndex}
-use Rattle.std.proofs.lemmas.Bool.{false≢true, both_ways, ltb-true, and_parts, and_from, or_parts, not-true, eqb-true, eq-eqb, ne_eqb, leb-true, le-leb, lt-ltb, cases_order, or_from, false_from_ne_true, true_from_ne_false, true≢false}
+use Rattle.std.specs.List.{list_any, list_all}
+use Rattle.std.proofs.lemmas.Bool.{false≢true, both_ways, ltb-true, and_parts, and_from, not-true, eqb-true, eq-eqb, leb-true, le-leb, lt-ltb, cases_order, or_from, false_from_ne_true, true_from_ne_false, true≢false}
 use Rattle.std.proofs.lemmas.List.{length-map, get_or-map}
 use Rattle.std.proofs.lemmas.List.Folds.{list_any_at, list_all_at}
 use Rattle.kcr_base.specs.Same.{same_text, is_before}
@@ -23,9 +23,9 @@ use Rattle.kcr_history.specs.Room.{sheet, is_in, present}
 use Rattle.kcr_history.specs.Seating.{fits, eligible, is_seating, comes_first, IsFirst, is_eligible_at, who_fit, rise, is_short, IsLeast}
 use Rattle.std.proofs.lemmas.List.Elements.{filter_agree}
 use Rattle.kcr_people.proofs.Orders.{any-same}
-use Rattle.kcr_custody.proofs.Puts.{or_true}
 use Rattle.kcr_laws.proofs.Hall.{is_one}
-use Rattle.kcr_machine.proofs.Keyed.{any-filter}
+use Rattle.kcr_seats.proofs.Counting.{length_under, count_all}
+use Rattle.kcr_seats.proofs.Least.{rising_apart}
 
 -- SEATINGS OF PEOPLE, POSITION BY POSITION
 
@@ -49,18 +49,19 @@ can_take_one E seats S who = list_any (λ s. on_seat E (slice_get seats s) who) 
 before_itself : (a : List ℕ) → is_before a a ≡ false
 before_itself a = false_from_ne_true (is_before a a) (λ e. true≢false (sym e ∙ before-turned a a e))
 
--- where a person of the list stands
-abbrev position_of : List (List ℕ) → List ℕ → ℕ
-position_of [] who = 0
-position_of (p ∷ P) who = if same_text who p then 0 else suc (position_of P who)
+-- where a value of the list stands
+abbrev position_in : {X : Type 0} → (X → X → Bool) → List X → X → ℕ
+position_in same [] x = 0
+position_in same (y ∷ ys) x = if same x y then 0 else suc (position_in same ys x)
 
-position : (P : List (List ℕ)) (who : List ℕ) → list_any (same_text who) P ≡ true → (position_of P who < length P) × (get_or P (position_of P who) [] ≡ who)
-position [] who h = absurd (false≢true h)
-position (p ∷ P) who h = by_test (same_text who p) refl h (position P who)
+position : {X : Type 0} (same : X → X → Bool) → ((a b : X) → same a b ≡ true → a ≡ b) → (d : X) (xs : List X) (x : X) → list_any (same x) xs ≡ true
+    → (position_in same xs x < length xs) × (get_or xs (position_in same xs x) d ≡ x)
+position same is d [] x h = absurd (false≢true h)
+position {X} same is d (y ∷ ys) x h = by_test (same x y) refl h (position same is d ys x)
   where
-    by_test : (b : Bool) → same_text who p ≡ b → (b || list_any (same_text who) P) ≡ true → (list_any (same_text who) P ≡ true → (position_of P who < length P) × (get_or P (position_of P who) [] ≡ who))
-        → (cond b 0 (suc (position_of P who)) < suc (length P)) × (get_or (p ∷ P) (cond b 0 (suc (position_of P who))) [] ≡ who)
-    by_test true e g ih = (omega arith, sym (same-is who p e))
+    by_test : (b : Bool) → same x y ≡ b → (b || list_any (same x) ys) ≡ true → (list_any (same x) ys ≡ true → (position_in same ys x < length ys) × (get_or ys (position_in same ys x) d ≡ x))
+        → (cond b 0 (suc (position_in same ys x)) < suc (length ys)) × (get_or (y ∷ ys) (cond b 0 (suc (position_in same ys x))) d ≡ x)
+    by_test true e g ih = (omega arith, sym (is x y e))
     by_test false e g ih = let q = ih g in (omega (arith, q.0), q.1)
 
 -- COUNTING
@@ -121,17 +122,17 @@ module _ (E F : Seat → List ℕ → Bool) (L : List Seat) (P : List (List ℕ)
   }
 
   abbrev numbered_as : List (List ℕ) → List ℕ
-  numbered_as W = map (position_of P) W
+  numbered_as W = map (position_in same_text P) W
 
   -- the people of a seating are present, so they have numbers
   placed : (W : List (List ℕ)) → IsSeatingOf E L W → (k : ℕ) → k < length L → (slice_index (numbered_as W) k < length P) × (get_or P (slice_index (numbered_as W) k) [] ≡ get_or W k [])
   placed W s k l =
-      let q = position P (get_or W k []) (inside k (get_or W k []) (s.fitting k l)) in
-      rw (get_or-map (position_of P) W k [] 0 (omega (arith, l, s.each_seat))) q
+      let q = position same_text same-is [] P (get_or W k []) (inside k (get_or W k []) (s.fitting k l)) in
+      rw (get_or-map (position_in same_text P) W k [] 0 (omega (arith, l, s.each_seat))) q
 
   seating-back : (W : List (List ℕ)) → IsSeatingOf E L W → Search.IsSeating (fits_of F L P) (length L) (length P) (numbered_as W)
   seating-back W s = record {
-    each_seat = length-map W (position_of P) ∙ s.each_seat;
+    each_seat = length-map W (position_in same_text P) ∙ s.each_seat;
     in_range = λ k l. (placed W s k l).0;
     fitting = λ k l.
         let q = placed W s k l in
@@ -189,56 +190,31 @@ seating-is A c t (seat ∷ L) (who ∷ people) s =
     (and_from (eligible A c t seat who) (not (list_any (same_text who) people)) (s.fitting 0 (omega arith)) (ap not alone))
     (seating-is A c t L people rest)
 
-seat_count : (A : History) (c t : ℕ) (L : List Seat) (people : List (List ℕ)) → is_seating A c t L people ≡ true → length people ≡ length L
-seat_count A c t [] [] h = refl
-seat_count A c t [] (who ∷ people) h = absurd (false≢true h)
-seat_count A c t (seat ∷ L) [] h = absurd (false≢true h)
-seat_count A c t (seat ∷ L) (who ∷ people) h =
-    ap suc (seat_count A c t L people (and_parts (eligible A c t seat who && not (list_any (same_text who) people)) (is_seating A c t L people) h).1)
+one_more_seat : (E : Seat → List ℕ → Bool) (seat : Seat) (who : List ℕ) (L : List Seat) (people : List (List ℕ)) → E seat who ≡ true → list_any (same_text who) people ≡ false → IsSeatingOf E L people
+    → IsSeatingOf E (seat ∷ L) (who ∷ people)
+one_more_seat E seat who L people e free s = record { each_seat = ap suc s.each_seat; fitting = fit; distinct = apart }
+  where
+    fit : (k : ℕ) → k < suc (length L) → on_seat E (slice_get (seat ∷ L) k) (get_or (who ∷ people) k []) ≡ true
+    fit zero l = e
+    fit (suc k) l = s.fitting k (omega (arith, l))
 
-fit_at : (A : History) (c t : ℕ) (L : List Seat) (people : List (List ℕ)) → is_seating A c t L people ≡ true → (k : ℕ) → k < length L → on_seat (eligible A c t) (slice_get L k) (get_or people k []) ≡ true
-fit_at A c t [] people h k l = absurd (omega (arith, l))
-fit_at A c t (seat ∷ L) [] h k l = absurd (false≢true h)
-fit_at A c t (seat ∷ L) (who ∷ people) h zero l =
-    let q = and_parts (eligible A c t seat who && not (list_any (same_text who) people)) (is_seating A c t L people) h in
-    (and_parts (eligible A c t seat who) (not (list_any (same_text who) people)) q.0).0
-fit_at A c t (seat ∷ L) (who ∷ people) h (suc k) l =
-    fit_at A c t L people (and_parts (eligible A c t seat who && not (list_any (same_text who) people)) (is_seating A c t L people) h).1 k (omega (arith, l))
+    alone : (k : ℕ) → k < length L → get_or people k [] ≡ who → ⊥
+    alone k l q = both_ways _ free (list_any_at (same_text who) people k [] (omega (arith, l, s.each_seat)) (ap (same_text who) q ∙ same-itself who))
 
-not_in : (x : List ℕ) (people : List (List ℕ)) (q : ℕ) → q < length people → list_any (same_text x) people ≡ false → same_text x (get_or people q []) ≡ false
-not_in x [] q l h = absurd (omega (arith, l))
-not_in x (who ∷ people) zero l h = (or_parts (same_text x who) (list_any (same_text x) people) h).0
-not_in x (who ∷ people) (suc q) l h = not_in x people q (omega (arith, l)) (or_parts (same_text x who) (list_any (same_text x) people) h).1
-
-apart_at : (A : History) (c t : ℕ) (L : List Seat) (people : List (List ℕ)) → is_seating A c t L people ≡ true → (p q : ℕ) → p < q → q < length people → same_text (get_or people p []) (get_or people q []) ≡ false
-apart_at A c t [] [] h p q l m = absurd (omega (arith, m))
-apart_at A c t [] (who ∷ people) h p q l m = absurd (false≢true h)
-apart_at A c t (seat ∷ L) [] h p q l m = absurd (false≢true h)
-apart_at A c t (seat ∷ L) (who ∷ people) h p zero l m = absurd (omega (arith, l))
-apart_at A c t (seat ∷ L) (who ∷ people) h zero (suc q) l m =
-    let k = and_parts (eligible A c t seat who && not (list_any (same_text who) people)) (is_seating A c t L people) h in
-    not_in who people q (omega (arith, m)) (not-true (list_any (same_text who) people) (and_parts (eligible A c t seat who) (not (list_any (same_text who) people)) k.0).1)
-apart_at A c t (seat ∷ L) (who ∷ people) h (suc p) (suc q) l m =
-    apart_at A c t L people (and_parts (eligible A c t seat who && not (list_any (same_text who) people)) (is_seating A c t L people) h).1 p q (omega (arith, l)) (omega (arith, m))
+    apart : (j k : ℕ) → j < suc (length L) → k < suc (length L) → get_or (who ∷ people) j [] ≡ get_or (who ∷ people) k [] → j ≡ k
+    apart zero zero a b q = refl
+    apart zero (suc k) a b q = absurd (alone k (omega (arith, b)) (sym q))
+    apart (suc j) zero a b q = absurd (alone j (omega (arith, a)) q)
+    apart (suc j) (suc k) a b q = ap suc (s.distinct j k (omega (arith, a)) (omega (arith, b)) q)
 
 seating-of : (A : History) (c t : ℕ) (L : List Seat) (people : List (List ℕ)) → is_seating A c t L people ≡ true → IsSeatingOf (eligible A c t) L people
-seating-of A c t L people h =
-    record {
-      each_seat = count;
-      fitting = fit_at A c t L people h;
-      distinct = λ j k a b e. elim (cases_order j k) [
-        | inl same ↦ same
-        | inr other ↦ elim other [ inl l ↦ absurd (differ j k l b e) | inr l ↦ absurd (differ k j l a (sym e)) ]
-      ];
-    }
-  where
-    count : length people ≡ length L
-    count = seat_count A c t L people h
-
-    differ : (j k : ℕ) → j < k → k < length L → get_or people j [] ≡ get_or people k [] → ⊥
-    differ j k l b e =
-        both_ways _ (apart_at A c t L people h j k l (omega (arith, b, count)))
-        (ap (same_text (get_or people j [])) (sym e) ∙ same-itself (get_or people j []))
+seating-of A c t [] [] h = record { each_seat = refl; fitting = λ k l. absurd (omega (arith, l)); distinct = λ j k l. absurd (omega (arith, l)) }
+seating-of A c t [] (who ∷ people) h = absurd (false≢true h)
+seating-of A c t (seat ∷ L) [] h = absurd (false≢true h)
+seating-of A c t (seat ∷ L) (who ∷ people) h =
+    let q = and_parts (eligible A c t seat who && not (list_any (same_text who) people)) (is_seating A c t L people) h in
+    let p = and_parts (eligible A c t seat who) (not (list_any (same_text who) people)) q.0 in
+    one_more_seat (eligible A c t) seat who L people p.0 (not-true (list_any (same_text who) people) p.1) (seating-of A c t L people q.1)
 
 -- where the first position that differs has a later person, the first list comes first
 comes-first : (people others : List (List ℕ)) → length people ≡ length others → others ≢ people
@@ -315,70 +291,24 @@ rises-of low high (p ∷ q ∷ S) r (suc k) l =
 
 -- PARTS
 
-below : (low high : ℕ) (ps : List ℕ) → rise low high ps ≡ true → (p : ℕ) → is_one p ps ≡ true → low ≤ p
-below low high [] r p h = absurd (false≢true h)
-below low high (q ∷ ps) r p h = by_first (q == p) refl h (below (suc q) high ps k.1 p)
-  where
-    k : (nat_le low q && nat_lt q high ≡ true) × (rise (suc q) high ps ≡ true)
-    k = and_parts (nat_le low q && nat_lt q high) (rise (suc q) high ps) r
-
-    at_least : low ≤ q
-    at_least = leb-true low q (and_parts (nat_le low q) (nat_lt q high) k.0).0
-
-    by_first : (b : Bool) → (q == p) ≡ b → (b || is_one p ps) ≡ true → (is_one p ps ≡ true → suc q ≤ p) → low ≤ p
-    by_first true e g ih = let is : q ≡ p = eqb-true q p e in omega (arith, is, at_least)
-    by_first false e g ih = let n = ih g in omega (arith, n, at_least)
-
-abbrev without : ℕ → List ℕ → List ℕ
-without p T = filter (λ q. not (q == p)) T
-
-no_more : (p : ℕ) (T : List ℕ) → length (without p T) ≤ length T
-no_more p [] = omega arith
-no_more p (q ∷ T) = by_test (q == p) (no_more p T)
-  where
-    by_test : (b : Bool) → length (without p T) ≤ length T → length (cond (not b) (q ∷ without p T) (without p T)) ≤ suc (length T)
-    by_test true h = omega (arith, h)
-    by_test false h = omega (arith, h)
-
-fewer : (p : ℕ) (T : List ℕ) → is_one p T ≡ true → length (without p T) < length T
-fewer p [] h = absurd (false≢true h)
-fewer p (q ∷ T) h = by_test (q == p) h (fewer p T)
-  where
-    by_test : (b : Bool) → (b || is_one p T) ≡ true → (is_one p T ≡ true → length (without p T) < length T) → length (cond (not b) (q ∷ without p T) (without p T)) < suc (length T)
-    by_test true g ih = omega (arith, no_more p T)
-    by_test false g ih = omega (arith, ih g)
-
-still : (p q : ℕ) (T : List ℕ) → (q ≡ p → ⊥) → is_one q T ≡ true → is_one q (without p T) ≡ true
-still p q T ne h = any-filter (λ x. x == q) (λ x. not (x == p)) (λ x e. ap not (ne_eqb x p (λ s. ne (sym (eqb-true x q e) ∙ s)))) T ∙ h
-
--- rising numbers that are all in a list are not more than it has
-pigeon : (low high : ℕ) (S T : List ℕ) → rise low high S ≡ true → ((p : ℕ) → is_one p S ≡ true → is_one p T ≡ true) → length S ≤ length T
-pigeon low high [] T r m = omega arith
-pigeon low high (p ∷ S) T r m =
-    let k = and_parts (nat_le low p && nat_lt p high) (rise (suc p) high S) r in
-    let here : is_one p T ≡ true = m p (ap (λ b. b || is_one p S) (eq-eqb p p refl)) in
-    let rest = pigeon (suc p) high S (without p T) k.1
-    (λ q o. still p q T (λ e. (let b : suc p ≤ q = below (suc p) high S k.1 q o in omega (arith, b, e))) (m q (or_true (p == q) o))) in
-    omega (arith, fewer p T here, rest)
-
-find-index : (p : ℕ) (S : List ℕ) → is_one p S ≡ true → SomeIndex S (λ j. slice_index S j ≡ p)
-find-index p [] h = absurd (false≢true h)
-find-index p (q ∷ S) h = by_test (q == p) refl h (find-index p S)
-  where
-    by_test : (b : Bool) → (q == p) ≡ b → (b || is_one p S) ≡ true → (is_one p S ≡ true → SomeIndex S (λ j. slice_index S j ≡ p)) → SomeIndex (q ∷ S) (λ j. slice_index (q ∷ S) j ≡ p)
-    by_test true e g ih = (0, omega arith, eqb-true q p e)
-    by_test false e g ih = let r = ih g in (suc r.0, omega (arith, r.1), r.2)
-
 part-of : (part whole : List ℕ) → list_all (λ p. is_one p whole) part ≡ true → Search.IsPart part whole
 part-of [] whole h i l = absurd (omega (arith, l))
-part-of (p ∷ part) whole h zero l = find-index p whole (and_parts (is_one p whole) (list_all (λ p. is_one p whole) part) h).0
+part-of (p ∷ part) whole h zero l =
+    let q = position (λ p q. q == p) (λ p q e. sym (eqb-true q p e)) 0 whole p (and_parts (is_one p whole) (list_all (λ p. is_one p whole) part) h).0 in
+    (position_in (λ p q. q == p) whole p, q.0, q.1)
 part-of (p ∷ part) whole h (suc i) l = part-of part whole (and_parts (is_one p whole) (list_all (λ p. is_one p whole) part) h).1 i (omega (arith, l))
 
-one-of : (whole part : List ℕ) → Search.IsPart whole part → (p : ℕ) → is_one p whole ≡ true → is_one p part ≡ true
-one-of whole part h p o =
-    let i = find-index p whole o in
-    let j = h i.0 i.1 in
-    list_any_at (λ q. q == p) part j.0 0 j.1 (eq-eqb (slice_index part j.0) p (j.2 ∙ i.2))
+-- rising numbers that are all in a list are not more than it has
+pigeon : (S T : List ℕ) → IsStrictlyIncreasing S → Search.IsPart S T → length S ≤ length T
+pigeon S T rises part =
+    let fit = length_under S (position_in (λ p q. q == p) T) (λ p. true) (length T) (λ i l. (at i l).0) (λ i l. refl)
+    (λ i j l m e. rising_apart S rises i j l m (sym (at i l).1 ∙ ap (λ p. get_or T p 0) e ∙ (at j m).1)) in
+    omega (arith, fit, count_all (length T))
+  where
+    at : (i : ℕ) → i < length S → (position_in (λ p q. q == p) T (slice_index S i) < length T) × (get_or T (position_in (λ p q. q == p) T (slice_index S i)) 0 ≡ slice_index S i)
+    at i l =
+        let j = part i l in
+        position (λ p q. q == p) (λ p q e. sym (eqb-true q p e)) 0 T (slice_index S i) (list_any_at (λ q. q == slice_index S i) T j.0 0 j.1 (eq-eqb (slice_index T j.0) (slice_index S i) j.2))
 
 -- OVER THOSE PRESENT
 
@@ -439,6 +369,5 @@ module _ (A : History) (c t : ℕ) (F : Seat → List ℕ → Bool) (L : List Se
         least = λ part proper. false_from_ne_true (is_short A c t L part) (λ e.
             let p = and_parts (list_all (λ p. is_one p S) part) (nat_lt (length part) (length S)) proper in
             let back = f.least part (short-of part e) (part-of part S p.0) in
-            let rises = (and_parts (rise 0 (length L) S) (nat_lt (length (who_fit A c t L S)) (length S)) (short-is S f.short)).0 in
-            omega (arith, ltb-true (length part) (length S) p.1, pigeon 0 (length L) S part rises (one-of S part back)));
+            omega (arith, ltb-true (length part) (length S) p.1, pigeon S part f.short.rising back));
       }
