@@ -93,7 +93,7 @@ def puts(t):
     return f"""
 -- ---- a row put under its key
 
-abbrev pub put_sql : List ℕ
+abbrev put_sql : List ℕ
 put_sql = {codes(t.put_text())}
 
 pub puts : PutsRow put_sql {t.place} {t.row_of}
@@ -113,18 +113,23 @@ def finds(t, r):
         own = f"({own})" if " " in own else own
         proof = f"value_is ({cols[place].value('x')}) ({value}) refl refl ∙ sym ({ties} {own} {r.arg})"
     test = f"op2 (Compare Eq Binary) (col 1 {place + 1}) (col 0 0) ∷ []"
+    value_of = "(λ n. Int (pos n))" if r.ty == "u32" else "Text"
+    way = record(is_under=is_under_of(t, r), column=place, find_sql=codes(t.text_of(r)))
     return f"""
 -- ---- {r.doc[0].lower() + r.doc[1:]}
 
-abbrev pub {p}_sql : List ℕ
-{p}_sql = {codes(t.text_of(r))}
+abbrev pub {p} : Finding ({arg_ty}) {t.type}
+{p} = {way}
 
-pub shows_{p} : ({r.arg} : {arg_ty}) → ShowsRows {p}_sql {t.place} ({value} ∷ []) (has_value {place} ({value}))
+shows_{p} : ({r.arg} : {arg_ty}) → ShowsRows {p}.find_sql {t.place} ({value} ∷ []) (has_value {place} ({value}))
 unfolding understood everything
 shows_{p} {r.arg} = {shows(t, p, t.place, test=test)}
 
-pub under_{p} : ({r.arg} : {arg_ty}) (x : {t.type}) → has_value {place} ({value}) ({t.row_of} x) ≡ {applied_to(t, r)}
+under_{p} : ({r.arg} : {arg_ty}) (x : {t.type}) → has_value {place} ({value}) ({t.row_of} x) ≡ {applied_to(t, r)}
 under_{p} {r.arg} x = {proof}
+
+pub {p}_laws : IsFinding {p} {t.place} {value_of} {t.row_of}
+{p}_laws = record {{ finds = shows_{p}; under = under_{p} }}
 """
 
 
@@ -140,16 +145,48 @@ def is_under_of(t, r):
     return f"λ {r.arg} x. {applied_to(t, r)}"
 
 
+def table(t):
+    """The table itself, as a value."""
+    fields = {
+        "rows_in": f"λ t. t.{t.name}",
+        "machine_rows": "λ _. first_tables.versions" if t.name == "versions" else f"λ m. m.{t.name}",
+        "place": t.place,
+        "is_stored": t.is_stored or "λ _. ⊤",
+        "with_rows": f"λ rows t. record t {{ {t.name} = rows }}",
+        "all_sql": codes(t.all_text()),
+    }
+    return f"""
+abbrev pub table : Table {t.type}
+table = {lines(fields)}"""
+
+
+def table_laws(t):
+    """What holds of it."""
+    same = "subst (λ l. IsPermutation first_tables.versions l) (sym s.versions) (IsPermutation-refl first_tables.versions)"
+    fields = {
+        "lists": "lists",
+        "one": "one",
+        "keeps": f"λ db t k. k.{t.name}",
+        "stores": f"λ db t k. k.{t.stored_fact}" if t.is_stored else f"λ db t k. each_is t.{t.name}",
+        "still": "still",
+        "stands": f"λ m t s. {same if t.name == 'versions' else f's.{t.name}'}",
+    }
+    return f"""
+pub table_laws : IsTable table {t.row_of} {f'{t.is_read}' if t.is_read else '(λ _. ⊤)'}
+table_laws = {lines(fields)}"""
+
+
 def laws(t):
     cols = t.columns
     stored = t.is_stored or "⊤"
     stored_of = (lambda x: f"{t.is_stored} {x}") if t.is_stored else (lambda x: "⊤")
     read_of = (lambda x: f"{t.is_read} {x}") if t.is_read else (lambda x: "⊤")
     out = f"-- What the table {t.name} proves of its texts, and of its place among the others.\n"
-    common = ["◌≡◌", "◌≢◌", "ℕ", "pos", "List", "[]", "◌∷◌", "map", "codes", "true", "refl", "sym", "ap", "subst", "◌∙◌", "◌==◌"]
+    common = ["◌≡◌", "◌≢◌", "IsPermutation", "ℕ", "pos", "List", "[]", "◌∷◌", "map", "codes", "true", "refl", "sym", "ap", "subst", "◌∙◌", "◌==◌"]
     out += f"use Rattle.std.proofs.Common.{{{', '.join(common)}}}\n"
     out += """use Rattle.std.specs.Bool.{⊤}
 use Rattle.std.specs.List.{AllByRecursion}
+use Rattle.std.proofs.lemmas.List.Sorted.{IsPermutation-refl}
 use Rattle.sqlite.specs.declared.types.Value.TheVariants.{Null, Int, Text}
 use Rattle.sqlite.specs.Order.{Row, column}
 use Rattle.sqlite.specs.Term.{Term, lit, col, op2}
@@ -174,7 +211,7 @@ use Rattle.kcr_base.specs.Place.{place_text}
     if t.name == "items":
         out += "use Rattle.kcr_history.specs.declared.views.ItemsOf.TheVariants as Wanted\n"
     out += "use Rattle.kcr_rows.specs.Columns.{words, number, words_or_null, number_or_null}\nuse Rattle.kcr_rows.specs.Keyed.{Keeps}\n"
-    out += "use Rattle.kcr_rows.proofs.FilterLemmas.{has_value, value_is}\nuse Rattle.kcr_rows.proofs.WriteLemmas.{cast_int}\nuse Rattle.kcr_rows.proofs.TableLemmas.{keeps_still}\n"
+    out += "use Rattle.kcr_rows.proofs.FilterLemmas.{has_value, value_is}\nuse Rattle.kcr_rows.proofs.WriteLemmas.{cast_int}\nuse Rattle.kcr_rows.proofs.TableLemmas.{keeps_still, each_is}\n"
     ones = sorted({c.kind.one for c in cols if c.kind.one} & ONES)
     out += f"use Rattle.kcr_rows.proofs.SameLemmas.{{{', '.join(ones + ['text_ties', 'number_ties'])}}}\n"
     own = sorted(({c.kind.one for c in cols if c.kind.one} - ONES) | {x for c in cols for x in c.kind.casts if x != "cast_int"})
@@ -187,19 +224,19 @@ use Rattle.kcr_base.specs.Place.{place_text}
     if facts:
         out += f"use Rattle.kcr_cells.specs.States.{{{', '.join(facts)}}}\n"
     out += f"use Rattle.kcr_tables.specs.Schema.{{register_schema}}\nuse Rattle.kcr_tables.specs.Held.{{Tables, Kept, {', '.join(u.place for u in TABLES)}}}\n"
-    out += "use Rattle.kcr_tables.specs.Parts.{text_in, number_in}\nuse Rattle.kcr_tables.specs.Statements.{ShowsRows, PutsRow}\n"
+    out += "use Rattle.kcr_tables.specs.First.{first_tables}\nuse Rattle.kcr_tables.specs.Parts.{text_in, number_in}\nuse Rattle.kcr_tables.specs.Statements.{ShowsRows, PutsRow}\nuse Rattle.kcr_tables.specs.Table.{Table, IsTable, Finding, IsFinding}\n"
     out += f"\nabbrev pub project : List Term\nproject = {listed(f'col 1 {i + 1}' for i in range(len(cols)))}\n"
     out += f"\nabbrev order : List (Term × Key)\norder = {listed(f'(col 1 {i + 1}, ascending Binary)' for i in range(t.keys))}\n"
     out += f"\nabbrev pub names : List (List ℕ)\nnames = {listed(codes(c.name) for c in cols)}\n"
     fields = same_fields(t)
+    out += table(t)
     out += f"\n-- no two values stand for one row\npub one : (x y : {t.type}) → {read_of('x')} → {stored_of('y')} → {t.row_of} x ≡ {t.row_of} y → x ≡ y\n"
     out += f"one x y read held h = λ i. {record(**fields)}\n"
-    out += f"\n-- ---- all rows\n\nabbrev pub all_sql : List ℕ\nall_sql = {codes(t.all_text())}\n"
-    out += f"\npub lists : ShowsRows all_sql {t.place} [] (λ _. true)\nunfolding understood everything\nlists = {shows(t, 'all', t.place)}\n"
+    out += f"\nlists : ShowsRows table.all_sql {t.place} [] (λ _. true)\nunfolding understood everything\nlists = {shows(t, 'all', t.place)}\n"
     for r in t.readings:
         if not r.greatest:
             out += finds(t, r)
     if not t.insert:
         out += puts(t)
-    out += still(t)
-    write(f"specs/{t.lemmas.replace('Lemmas', 'Laws')}.antt", out)
+    out += still(t) + table_laws(t)
+    write(f"specs/{t.laws}.antt", out)

@@ -109,10 +109,10 @@ class Table:
         self.others, self.readings, self.asked, self.insert = others, readings, asked, insert
         self.is_read, self.is_stored, self.stored_fact, self.listed = is_read, is_stored, stored_fact, listed
         self.row_of = f"{row}_row"
-        self.put = f"put_{row}_row" if row in ("key", "sheet") else f"put_{row}"
         self.place = f"{name}_place"
-        self.lemmas = "".join(p.capitalize() for p in name.split("_")) + "Lemmas"
+        self.laws = "".join(p.capitalize() for p in name.split("_")) + "Laws"
         self.needs_alloc = any("alloc" in (c.kind.prelude or "") for c in columns)
+        self.put = "put_words" if self.needs_alloc else "put"
 
     def names(self):
         return ", ".join(c.sql for c in self.columns)

@@ -21,7 +21,7 @@ use Rattle.kcr_history.specs.declared.rows.KeyRow.{KeyRow}
 use Rattle.kcr_tables.specs.Schema.{register_schema}
 use Rattle.kcr_tables.specs.Held.{Tables, Holds, keys_place}
 use Rattle.kcr_tables.specs.KeysLaws.{still}
-use Rattle.kcr_tables.proofs.StatementLemmas.{with_put}
+use Rattle.kcr_tables.proofs.StatementLemmas.{rows_put}
 use Rattle.std.specs.Bool.{⊤}
 
 abbrev pub put_sql : List ℕ
@@ -48,5 +48,5 @@ pub puts : (x : KeyRow) (old new : State) (count : ℕ) (t : Tables) → Holds o
 puts x old new count t held h =
     let it = executes_insert keys_place register_schema 14 (codes "keys") columns ((2 ∷ []) ∷ []) refl (λ olds news. refl) (λ a b. refl) (λ a. refl) put_sql terms bare (key_row x) refl (casts x) (λ id. refl) refl
     (λ rows row. not (clashes plain (2 ∷ []) rows row) && true) (λ rows row. refl) put_is old new count held.schema h in
-    let put = with_put keys_place key_row (λ _. ⊤) x tt old.now.trees new.now.trees it.1 t.keys held.kept.keys (each_is t.keys) in
+    let put = rows_put keys_place key_row (λ _. ⊤) x tt old.now.trees new.now.trees it.1 t.keys held.kept.keys (each_is t.keys) in
     record { schema = it.0; kept = still old.now.trees new.now.trees (put_in 1 key_row x t.keys) t it.1.sound put.0 put.1 it.1.others held.kept }

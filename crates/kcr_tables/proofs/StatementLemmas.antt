@@ -31,7 +31,7 @@ row_put sql place row_of p x old new count has h =
     p.test p.sets (p.tests x) (p.gives x) p.low p.shared p.is old new count has h
 
 -- the rows that the tree has then
-pub with_put : {X : Type 0} (place : Place) (row_of : X → Row) (IsStored : X → Type 0) (x : X) → IsStored x → (old new : Trees) → Changes place register_schema (row_of x) old new → (xs : List X) → Keeps place old (map row_of xs)
+pub rows_put : {X : Type 0} (place : Place) (row_of : X → Row) (IsStored : X → Type 0) (x : X) → IsStored x → (old new : Trees) → Changes place register_schema (row_of x) old new → (xs : List X) → Keeps place old (map row_of xs)
     → AllByRecursion IsStored xs → Keeps place new (map row_of (put_in place.keys row_of x xs)) × AllByRecursion IsStored (put_in place.keys row_of x xs)
-with_put place row_of IsStored x fact old new c xs keeps stored =
+rows_put place row_of IsStored x fact old new c xs keeps stored =
     (subst (Keeps place new) (sym (put_in_rows place.keys row_of x xs)) (c.rows _ keeps), put_in_all IsStored place.keys row_of x xs fact stored)

@@ -23,7 +23,7 @@ use Rattle.kcr_rows.specs.Columns.{words, number, number_or_null}
 use Rattle.kcr_rows.specs.Keyed.{Keeps}
 use Rattle.kcr_rows.proofs.FilterLemmas.{has_value, value_is}
 use Rattle.kcr_rows.proofs.WriteLemmas.{cast_int}
-use Rattle.kcr_rows.proofs.TableLemmas.{keeps_still}
+use Rattle.kcr_rows.proofs.TableLemmas.{keeps_still, each_is}
 use Rattle.kcr_rows.proofs.SameLemmas.{one_number, one_place, text_ties}
 use Rattle.kcr_cells.proofs.StateLemmas.{cast_or_null}
 use Rattle.kcr_cells.specs.Rows.{appointment_row}
@@ -32,6 +32,7 @@ use Rattle.kcr_tables.specs.Schema.{register_schema}
 use Rattle.kcr_tables.specs.Held.{Tables, Kept, people_place, trainings_place, appointments_place, boxes_place, safes_place, bags_place, items_place, ceremonies_place, marks_place, steps_place, seatings_place, sheet_place, exceptions_place, versions_place, keys_place, stays_place, withdrawals_place}
 use Rattle.kcr_tables.specs.Parts.{text_in, number_in}
 use Rattle.kcr_tables.specs.Statements.{ShowsRows, PutsRow}
+use Rattle.kcr_tables.specs.Table.{Table, IsTable, Finding, IsFinding}
 
 abbrev pub project : List Term
 project = col 1 1 ∷ col 1 2 ∷ col 1 3 ∷ col 1 4 ∷ []
@@ -42,46 +43,57 @@ order = (col 1 1, ascending Binary) ∷ (col 1 2, ascending Binary) ∷ []
 abbrev pub names : List (List ℕ)
 names = codes "place" ∷ codes "since" ∷ codes "who" ∷ codes "until" ∷ []
 
+abbrev pub table : Table Appointment
+table = record {
+  rows_in = λ t. t.appointments;
+  machine_rows = λ m. m.appointments;
+  place = appointments_place;
+  is_stored = λ _. ⊤;
+  with_rows = λ rows t. record t { appointments = rows };
+  all_sql = codes "SELECT place, since, who, until FROM appointments ORDER BY place, since";
+}
+
 -- no two values stand for one row
 pub one : (x y : Appointment) → ⊤ → ⊤ → appointment_row x ≡ appointment_row y → x ≡ y
 one x y read held h = λ i. record { place = one_place x.place y.place (ap (text_in 0) h) i; since = number_in 1 (h i); who = text_in 2 (h i); until = one_number x.until y.until (ap (λ (r : Row). column r 3) h) i }
 
--- ---- all rows
-
-abbrev pub all_sql : List ℕ
-all_sql = codes "SELECT place, since, who, until FROM appointments ORDER BY place, since"
-
-pub lists : ShowsRows all_sql appointments_place [] (λ _. true)
+lists : ShowsRows table.all_sql appointments_place [] (λ _. true)
 unfolding understood everything
 lists = record { test = []; project = project; order = order; names = names; is = (refl, refl); bare = (refl, refl); shows = λ r. refl; tests = λ r. refl; sorts = λ a b. refl; low = refl }
 
 -- ---- the rows of one place
 
-abbrev pub appointments_to_sql : List ℕ
-appointments_to_sql = codes "SELECT place, since, who, until FROM appointments WHERE place = ?1 ORDER BY place, since"
+abbrev pub appointments_to : Finding (List ℕ) Appointment
+appointments_to = record { is_under = λ place x. same_text (place_text x.place) place; column = 0; find_sql = codes "SELECT place, since, who, until FROM appointments WHERE place = ?1 ORDER BY place, since" }
 
-pub shows_appointments_to : (place : List ℕ) → ShowsRows appointments_to_sql appointments_place (Text place ∷ []) (has_value 0 (Text place))
+shows_appointments_to : (place : List ℕ) → ShowsRows appointments_to.find_sql appointments_place (Text place ∷ []) (has_value 0 (Text place))
 unfolding understood everything
 shows_appointments_to place = record { test = op2 (Compare Eq Binary) (col 1 1) (col 0 0) ∷ []; project = project; order = order; names = names; is = (refl, refl); bare = (refl, refl); shows = λ r. refl; tests = λ r. refl; sorts = λ a b. refl; low = refl }
 
-pub under_appointments_to : (place : List ℕ) (x : Appointment) → has_value 0 (Text place) (appointment_row x) ≡ same_text (place_text x.place) place
+under_appointments_to : (place : List ℕ) (x : Appointment) → has_value 0 (Text place) (appointment_row x) ≡ same_text (place_text x.place) place
 under_appointments_to place x = value_is (Text (place_text x.place)) (Text place) refl refl ∙ sym (text_ties (place_text x.place) place)
+
+pub appointments_to_laws : IsFinding appointments_to appointments_place Text appointment_row
+appointments_to_laws = record { finds = shows_appointments_to; under = under_appointments_to }
 
 -- ---- the rows of one person
 
-abbrev pub appointments_of_sql : List ℕ
-appointments_of_sql = codes "SELECT place, since, who, until FROM appointments WHERE who = ?1 ORDER BY place, since"
+abbrev pub appointments_of : Finding (List ℕ) Appointment
+appointments_of = record { is_under = λ who x. is_appointment_of (Wanted.Person who) x; column = 2; find_sql = codes "SELECT place, since, who, until FROM appointments WHERE who = ?1 ORDER BY place, since" }
 
-pub shows_appointments_of : (who : List ℕ) → ShowsRows appointments_of_sql appointments_place (Text who ∷ []) (has_value 2 (Text who))
+shows_appointments_of : (who : List ℕ) → ShowsRows appointments_of.find_sql appointments_place (Text who ∷ []) (has_value 2 (Text who))
 unfolding understood everything
 shows_appointments_of who = record { test = op2 (Compare Eq Binary) (col 1 3) (col 0 0) ∷ []; project = project; order = order; names = names; is = (refl, refl); bare = (refl, refl); shows = λ r. refl; tests = λ r. refl; sorts = λ a b. refl; low = refl }
 
-pub under_appointments_of : (who : List ℕ) (x : Appointment) → has_value 2 (Text who) (appointment_row x) ≡ is_appointment_of (Wanted.Person who) x
+under_appointments_of : (who : List ℕ) (x : Appointment) → has_value 2 (Text who) (appointment_row x) ≡ is_appointment_of (Wanted.Person who) x
 under_appointments_of who x = value_is (Text x.who) (Text who) refl refl ∙ sym (text_ties x.who who)
+
+pub appointments_of_laws : IsFinding appointments_of appointments_place Text appointment_row
+appointments_of_laws = record { finds = shows_appointments_of; under = under_appointments_of }
 
 -- ---- a row put under its key
 
-abbrev pub put_sql : List ℕ
+abbrev put_sql : List ℕ
 put_sql = codes "INSERT INTO appointments (place, since, who, until) VALUES (?1, ?2, ?3, ?4) ON CONFLICT (place, since) DO UPDATE SET place = ?1, since = ?2, who = ?3, until = ?4"
 
 pub puts : PutsRow put_sql appointments_place appointment_row
@@ -134,4 +146,14 @@ still old new rows t sound keeps stored others k = record {
   withdrawals = keeps_still register_schema 4 withdrawals_place old new _ others refl refl k.withdrawals;
   spot = k.spot;
   seats = k.seats;
+}
+
+pub table_laws : IsTable table appointment_row (λ _. ⊤)
+table_laws = record {
+  lists = lists;
+  one = one;
+  keeps = λ db t k. k.appointments;
+  stores = λ db t k. each_is t.appointments;
+  still = still;
+  stands = λ m t s. s.appointments;
 }

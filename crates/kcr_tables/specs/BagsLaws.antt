@@ -2,6 +2,7 @@
 use Rattle.std.proofs.Common.{◌≡◌, ◌≢◌, ℕ, List, [], ◌∷◌, map, codes, true, refl, sym, ap, ◌∙◌}
 use Rattle.std.specs.List.{AllByRecursion}
 use Rattle.sqlite.specs.declared.types.Value.TheVariants.{Null, Text}
+use Rattle.sqlite.specs.Order.{column}
 use Rattle.sqlite.specs.Term.{Term, lit, col, op2}
 use Rattle.sqlite.specs.Collation.TheVariants.{Binary}
 use Rattle.sqlite.specs.Tree.{Trees}
@@ -28,6 +29,7 @@ use Rattle.kcr_tables.specs.Schema.{register_schema}
 use Rattle.kcr_tables.specs.Held.{Tables, Kept, people_place, trainings_place, appointments_place, boxes_place, safes_place, bags_place, items_place, ceremonies_place, marks_place, steps_place, seatings_place, sheet_place, exceptions_place, versions_place, keys_place, stays_place, withdrawals_place}
 use Rattle.kcr_tables.specs.Parts.{text_in}
 use Rattle.kcr_tables.specs.Statements.{ShowsRows, PutsRow}
+use Rattle.kcr_tables.specs.Table.{Table, IsTable, Finding, IsFinding}
 
 abbrev pub project : List Term
 project = col 1 1 ∷ col 1 2 ∷ []
@@ -38,34 +40,42 @@ order = (col 1 1, ascending Binary) ∷ []
 abbrev pub names : List (List ℕ)
 names = codes "serial" ∷ codes "spot" ∷ []
 
+abbrev pub table : Table Bag
+table = record {
+  rows_in = λ t. t.bags;
+  machine_rows = λ m. m.bags;
+  place = bags_place;
+  is_stored = HasBoxNumber;
+  with_rows = λ rows t. record t { bags = rows };
+  all_sql = codes "SELECT serial, spot FROM bags ORDER BY serial";
+}
+
 -- no two values stand for one row
 pub one : (x y : Bag) → HasBoxNumber x → HasBoxNumber y → bag_row x ≡ bag_row y → x ≡ y
 one x y read held h = λ i. record { serial = text_in 0 (h i); spot = one_spot x.spot y.spot read held (ap (text_in 1) h) i }
 
--- ---- all rows
-
-abbrev pub all_sql : List ℕ
-all_sql = codes "SELECT serial, spot FROM bags ORDER BY serial"
-
-pub lists : ShowsRows all_sql bags_place [] (λ _. true)
+lists : ShowsRows table.all_sql bags_place [] (λ _. true)
 unfolding understood everything
 lists = record { test = []; project = project; order = order; names = names; is = (refl, refl); bare = (refl, refl); shows = λ r. refl; tests = λ r. refl; sorts = λ a b. refl; low = refl }
 
 -- ---- the row of the bag with this serial, alone, or none
 
-abbrev pub bag_of_sql : List ℕ
-bag_of_sql = codes "SELECT serial, spot FROM bags WHERE serial = ?1 ORDER BY serial"
+abbrev pub bag_of : Finding (List ℕ) Bag
+bag_of = record { is_under = λ serial x. is_of_serial serial x; column = 0; find_sql = codes "SELECT serial, spot FROM bags WHERE serial = ?1 ORDER BY serial" }
 
-pub shows_bag_of : (serial : List ℕ) → ShowsRows bag_of_sql bags_place (Text serial ∷ []) (has_value 0 (Text serial))
+shows_bag_of : (serial : List ℕ) → ShowsRows bag_of.find_sql bags_place (Text serial ∷ []) (has_value 0 (Text serial))
 unfolding understood everything
 shows_bag_of serial = record { test = op2 (Compare Eq Binary) (col 1 1) (col 0 0) ∷ []; project = project; order = order; names = names; is = (refl, refl); bare = (refl, refl); shows = λ r. refl; tests = λ r. refl; sorts = λ a b. refl; low = refl }
 
-pub under_bag_of : (serial : List ℕ) (x : Bag) → has_value 0 (Text serial) (bag_row x) ≡ is_of_serial serial x
+under_bag_of : (serial : List ℕ) (x : Bag) → has_value 0 (Text serial) (bag_row x) ≡ is_of_serial serial x
 under_bag_of serial x = value_is (Text x.serial) (Text serial) refl refl ∙ sym (text_ties x.serial serial)
+
+pub bag_of_laws : IsFinding bag_of bags_place Text bag_row
+bag_of_laws = record { finds = shows_bag_of; under = under_bag_of }
 
 -- ---- a row put under its key
 
-abbrev pub put_sql : List ℕ
+abbrev put_sql : List ℕ
 put_sql = codes "INSERT INTO bags (serial, spot) VALUES (?1, ?2) ON CONFLICT (serial) DO UPDATE SET serial = ?1, spot = ?2"
 
 pub puts : PutsRow put_sql bags_place bag_row
@@ -118,4 +128,14 @@ still old new rows t sound keeps stored others k = record {
   withdrawals = keeps_still register_schema 10 withdrawals_place old new _ others refl refl k.withdrawals;
   spot = stored;
   seats = k.seats;
+}
+
+pub table_laws : IsTable table bag_row HasBoxNumber
+table_laws = record {
+  lists = lists;
+  one = one;
+  keeps = λ db t k. k.bags;
+  stores = λ db t k. k.spot;
+  still = still;
+  stands = λ m t s. s.bags;
 }

@@ -18,7 +18,7 @@ use Rattle.kcr_base.specs.Place.{place_text}
 use Rattle.kcr_rows.specs.Columns.{words, number}
 use Rattle.kcr_rows.specs.Keyed.{Keeps}
 use Rattle.kcr_rows.proofs.WriteLemmas.{cast_int}
-use Rattle.kcr_rows.proofs.TableLemmas.{keeps_still}
+use Rattle.kcr_rows.proofs.TableLemmas.{keeps_still, each_is}
 use Rattle.kcr_rows.proofs.SameLemmas.{one_facility, one_place}
 use Rattle.kcr_base.specs.Facility.{facility_text}
 use Rattle.kcr_cells.specs.Rows.{box_row}
@@ -27,6 +27,7 @@ use Rattle.kcr_tables.specs.Schema.{register_schema}
 use Rattle.kcr_tables.specs.Held.{Tables, Kept, people_place, trainings_place, appointments_place, boxes_place, safes_place, bags_place, items_place, ceremonies_place, marks_place, steps_place, seatings_place, sheet_place, exceptions_place, versions_place, keys_place, stays_place, withdrawals_place}
 use Rattle.kcr_tables.specs.Parts.{text_in, number_in}
 use Rattle.kcr_tables.specs.Statements.{ShowsRows, PutsRow}
+use Rattle.kcr_tables.specs.Table.{Table, IsTable}
 
 abbrev pub project : List Term
 project = col 1 1 ∷ col 1 2 ∷ col 1 3 ∷ []
@@ -37,22 +38,27 @@ order = (col 1 1, ascending Binary) ∷ (col 1 2, ascending Binary) ∷ []
 abbrev pub names : List (List ℕ)
 names = codes "facility" ∷ codes "box" ∷ codes "place" ∷ []
 
+abbrev pub table : Table BoxRow
+table = record {
+  rows_in = λ t. t.boxes;
+  machine_rows = λ m. m.boxes;
+  place = boxes_place;
+  is_stored = λ _. ⊤;
+  with_rows = λ rows t. record t { boxes = rows };
+  all_sql = codes "SELECT facility, box, place FROM boxes ORDER BY facility, box";
+}
+
 -- no two values stand for one row
 pub one : (x y : BoxRow) → ⊤ → ⊤ → box_row x ≡ box_row y → x ≡ y
 one x y read held h = λ i. record { facility = one_facility x.facility y.facility (ap (text_in 0) h) i; number = number_in 1 (h i); place = one_place x.place y.place (ap (text_in 2) h) i }
 
--- ---- all rows
-
-abbrev pub all_sql : List ℕ
-all_sql = codes "SELECT facility, box, place FROM boxes ORDER BY facility, box"
-
-pub lists : ShowsRows all_sql boxes_place [] (λ _. true)
+lists : ShowsRows table.all_sql boxes_place [] (λ _. true)
 unfolding understood everything
 lists = record { test = []; project = project; order = order; names = names; is = (refl, refl); bare = (refl, refl); shows = λ r. refl; tests = λ r. refl; sorts = λ a b. refl; low = refl }
 
 -- ---- a row put under its key
 
-abbrev pub put_sql : List ℕ
+abbrev put_sql : List ℕ
 put_sql = codes "INSERT INTO boxes (facility, box, place) VALUES (?1, ?2, ?3) ON CONFLICT (facility, box) DO UPDATE SET facility = ?1, box = ?2, place = ?3"
 
 pub puts : PutsRow put_sql boxes_place box_row
@@ -105,4 +111,14 @@ still old new rows t sound keeps stored others k = record {
   withdrawals = keeps_still register_schema 6 withdrawals_place old new _ others refl refl k.withdrawals;
   spot = k.spot;
   seats = k.seats;
+}
+
+pub table_laws : IsTable table box_row (λ _. ⊤)
+table_laws = record {
+  lists = lists;
+  one = one;
+  keeps = λ db t k. k.boxes;
+  stores = λ db t k. each_is t.boxes;
+  still = still;
+  stands = λ m t s. s.boxes;
 }

@@ -20,7 +20,7 @@ use Rattle.kcr_rows.specs.Columns.{words, number, number_or_null}
 use Rattle.kcr_rows.specs.Keyed.{Keeps}
 use Rattle.kcr_rows.proofs.FilterLemmas.{has_value, value_is}
 use Rattle.kcr_rows.proofs.WriteLemmas.{cast_int}
-use Rattle.kcr_rows.proofs.TableLemmas.{keeps_still}
+use Rattle.kcr_rows.proofs.TableLemmas.{keeps_still, each_is}
 use Rattle.kcr_rows.proofs.SameLemmas.{one_facility, one_number, number_ties}
 use Rattle.kcr_cells.proofs.StateLemmas.{cast_or_null, one_ceremony_state}
 use Rattle.kcr_base.specs.Facility.{facility_text}
@@ -31,6 +31,7 @@ use Rattle.kcr_tables.specs.Schema.{register_schema}
 use Rattle.kcr_tables.specs.Held.{Tables, Kept, people_place, trainings_place, appointments_place, boxes_place, safes_place, bags_place, items_place, ceremonies_place, marks_place, steps_place, seatings_place, sheet_place, exceptions_place, versions_place, keys_place, stays_place, withdrawals_place}
 use Rattle.kcr_tables.specs.Parts.{text_in, number_in}
 use Rattle.kcr_tables.specs.Statements.{ShowsRows, PutsRow}
+use Rattle.kcr_tables.specs.Table.{Table, IsTable, Finding, IsFinding}
 
 abbrev pub project : List Term
 project = col 1 1 ∷ col 1 2 ∷ col 1 3 ∷ col 1 4 ∷ col 1 5 ∷ col 1 6 ∷ []
@@ -41,34 +42,42 @@ order = (col 1 1, ascending Binary) ∷ []
 abbrev pub names : List (List ℕ)
 names = codes "number" ∷ codes "facility" ∷ codes "day" ∷ codes "state" ∷ codes "opened" ∷ codes "closed" ∷ []
 
+abbrev pub table : Table CeremonyRow
+table = record {
+  rows_in = λ t. t.ceremonies;
+  machine_rows = λ m. m.ceremonies;
+  place = ceremonies_place;
+  is_stored = λ _. ⊤;
+  with_rows = λ rows t. record t { ceremonies = rows };
+  all_sql = codes "SELECT number, facility, day, state, opened, closed FROM ceremonies ORDER BY number";
+}
+
 -- no two values stand for one row
 pub one : (x y : CeremonyRow) → ⊤ → ⊤ → ceremony_row x ≡ ceremony_row y → x ≡ y
 one x y read held h = λ i. record { number = number_in 0 (h i); facility = one_facility x.facility y.facility (ap (text_in 1) h) i; day = number_in 2 (h i); state = one_ceremony_state x.state y.state (ap (number_in 3) h) i; opened = one_number x.opened y.opened (ap (λ (r : Row). column r 4) h) i; closed = one_number x.closed y.closed (ap (λ (r : Row). column r 5) h) i }
 
--- ---- all rows
-
-abbrev pub all_sql : List ℕ
-all_sql = codes "SELECT number, facility, day, state, opened, closed FROM ceremonies ORDER BY number"
-
-pub lists : ShowsRows all_sql ceremonies_place [] (λ _. true)
+lists : ShowsRows table.all_sql ceremonies_place [] (λ _. true)
 unfolding understood everything
 lists = record { test = []; project = project; order = order; names = names; is = (refl, refl); bare = (refl, refl); shows = λ r. refl; tests = λ r. refl; sorts = λ a b. refl; low = refl }
 
 -- ---- the row of the ceremony with this number, alone, or none
 
-abbrev pub ceremony_of_sql : List ℕ
-ceremony_of_sql = codes "SELECT number, facility, day, state, opened, closed FROM ceremonies WHERE number = ?1 ORDER BY number"
+abbrev pub ceremony_of : Finding (ℕ) CeremonyRow
+ceremony_of = record { is_under = λ number x. is_of_number number x; column = 0; find_sql = codes "SELECT number, facility, day, state, opened, closed FROM ceremonies WHERE number = ?1 ORDER BY number" }
 
-pub shows_ceremony_of : (number : ℕ) → ShowsRows ceremony_of_sql ceremonies_place (Int (pos number) ∷ []) (has_value 0 (Int (pos number)))
+shows_ceremony_of : (number : ℕ) → ShowsRows ceremony_of.find_sql ceremonies_place (Int (pos number) ∷ []) (has_value 0 (Int (pos number)))
 unfolding understood everything
 shows_ceremony_of number = record { test = op2 (Compare Eq Binary) (col 1 1) (col 0 0) ∷ []; project = project; order = order; names = names; is = (refl, refl); bare = (refl, refl); shows = λ r. refl; tests = λ r. refl; sorts = λ a b. refl; low = refl }
 
-pub under_ceremony_of : (number : ℕ) (x : CeremonyRow) → has_value 0 (Int (pos number)) (ceremony_row x) ≡ is_of_number number x
+under_ceremony_of : (number : ℕ) (x : CeremonyRow) → has_value 0 (Int (pos number)) (ceremony_row x) ≡ is_of_number number x
 under_ceremony_of number x = value_is (Int (pos x.number)) (Int (pos number)) refl refl ∙ sym (number_ties x.number number)
+
+pub ceremony_of_laws : IsFinding ceremony_of ceremonies_place (λ n. Int (pos n)) ceremony_row
+ceremony_of_laws = record { finds = shows_ceremony_of; under = under_ceremony_of }
 
 -- ---- a row put under its key
 
-abbrev pub put_sql : List ℕ
+abbrev put_sql : List ℕ
 put_sql = codes "INSERT INTO ceremonies (number, facility, day, state, opened, closed) VALUES (?1, ?2, ?3, ?4, ?5, ?6) ON CONFLICT (number) DO UPDATE SET number = ?1, facility = ?2, day = ?3, state = ?4, opened = ?5, closed = ?6"
 
 pub puts : PutsRow put_sql ceremonies_place ceremony_row
@@ -121,4 +130,14 @@ still old new rows t sound keeps stored others k = record {
   withdrawals = keeps_still register_schema 15 withdrawals_place old new _ others refl refl k.withdrawals;
   spot = k.spot;
   seats = k.seats;
+}
+
+pub table_laws : IsTable table ceremony_row (λ _. ⊤)
+table_laws = record {
+  lists = lists;
+  one = one;
+  keeps = λ db t k. k.ceremonies;
+  stores = λ db t k. each_is t.ceremonies;
+  still = still;
+  stands = λ m t s. s.ceremonies;
 }

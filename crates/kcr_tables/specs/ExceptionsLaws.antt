@@ -20,7 +20,7 @@ use Rattle.kcr_rows.specs.Columns.{words, number, number_or_null}
 use Rattle.kcr_rows.specs.Keyed.{Keeps}
 use Rattle.kcr_rows.proofs.FilterLemmas.{has_value, value_is}
 use Rattle.kcr_rows.proofs.WriteLemmas.{cast_int}
-use Rattle.kcr_rows.proofs.TableLemmas.{keeps_still}
+use Rattle.kcr_rows.proofs.TableLemmas.{keeps_still, each_is}
 use Rattle.kcr_rows.proofs.SameLemmas.{one_number, number_ties}
 use Rattle.kcr_cells.proofs.StateLemmas.{cast_or_null}
 use Rattle.kcr_cells.specs.Rows.{exception_row}
@@ -29,6 +29,7 @@ use Rattle.kcr_tables.specs.Schema.{register_schema}
 use Rattle.kcr_tables.specs.Held.{Tables, Kept, people_place, trainings_place, appointments_place, boxes_place, safes_place, bags_place, items_place, ceremonies_place, marks_place, steps_place, seatings_place, sheet_place, exceptions_place, versions_place, keys_place, stays_place, withdrawals_place}
 use Rattle.kcr_tables.specs.Parts.{text_in, number_in}
 use Rattle.kcr_tables.specs.Statements.{ShowsRows, PutsRow}
+use Rattle.kcr_tables.specs.Table.{Table, IsTable, Finding, IsFinding}
 
 abbrev pub project : List Term
 project = col 1 1 ∷ col 1 2 ∷ col 1 3 ∷ col 1 4 ∷ col 1 5 ∷ []
@@ -39,34 +40,42 @@ order = (col 1 1, ascending Binary) ∷ (col 1 2, ascending Binary) ∷ []
 abbrev pub names : List (List ℕ)
 names = codes "ceremony" ∷ codes "exception" ∷ codes "text" ∷ codes "at" ∷ codes "passed" ∷ []
 
+abbrev pub table : Table ExceptionRow
+table = record {
+  rows_in = λ t. t.exceptions;
+  machine_rows = λ m. m.exceptions;
+  place = exceptions_place;
+  is_stored = λ _. ⊤;
+  with_rows = λ rows t. record t { exceptions = rows };
+  all_sql = codes "SELECT ceremony, exception, text, at, passed FROM exceptions ORDER BY ceremony, exception";
+}
+
 -- no two values stand for one row
 pub one : (x y : ExceptionRow) → ⊤ → ⊤ → exception_row x ≡ exception_row y → x ≡ y
 one x y read held h = λ i. record { ceremony = number_in 0 (h i); exception = number_in 1 (h i); text = text_in 2 (h i); at = number_in 3 (h i); passed = one_number x.passed y.passed (ap (λ (r : Row). column r 4) h) i }
 
--- ---- all rows
-
-abbrev pub all_sql : List ℕ
-all_sql = codes "SELECT ceremony, exception, text, at, passed FROM exceptions ORDER BY ceremony, exception"
-
-pub lists : ShowsRows all_sql exceptions_place [] (λ _. true)
+lists : ShowsRows table.all_sql exceptions_place [] (λ _. true)
 unfolding understood everything
 lists = record { test = []; project = project; order = order; names = names; is = (refl, refl); bare = (refl, refl); shows = λ r. refl; tests = λ r. refl; sorts = λ a b. refl; low = refl }
 
 -- ---- the rows of one ceremony
 
-abbrev pub exceptions_of_sql : List ℕ
-exceptions_of_sql = codes "SELECT ceremony, exception, text, at, passed FROM exceptions WHERE ceremony = ?1 ORDER BY ceremony, exception"
+abbrev pub exceptions_of : Finding (ℕ) ExceptionRow
+exceptions_of = record { is_under = λ ceremony x. is_exception_of ceremony x; column = 0; find_sql = codes "SELECT ceremony, exception, text, at, passed FROM exceptions WHERE ceremony = ?1 ORDER BY ceremony, exception" }
 
-pub shows_exceptions_of : (ceremony : ℕ) → ShowsRows exceptions_of_sql exceptions_place (Int (pos ceremony) ∷ []) (has_value 0 (Int (pos ceremony)))
+shows_exceptions_of : (ceremony : ℕ) → ShowsRows exceptions_of.find_sql exceptions_place (Int (pos ceremony) ∷ []) (has_value 0 (Int (pos ceremony)))
 unfolding understood everything
 shows_exceptions_of ceremony = record { test = op2 (Compare Eq Binary) (col 1 1) (col 0 0) ∷ []; project = project; order = order; names = names; is = (refl, refl); bare = (refl, refl); shows = λ r. refl; tests = λ r. refl; sorts = λ a b. refl; low = refl }
 
-pub under_exceptions_of : (ceremony : ℕ) (x : ExceptionRow) → has_value 0 (Int (pos ceremony)) (exception_row x) ≡ is_exception_of ceremony x
+under_exceptions_of : (ceremony : ℕ) (x : ExceptionRow) → has_value 0 (Int (pos ceremony)) (exception_row x) ≡ is_exception_of ceremony x
 under_exceptions_of ceremony x = value_is (Int (pos x.ceremony)) (Int (pos ceremony)) refl refl ∙ sym (number_ties x.ceremony ceremony)
+
+pub exceptions_of_laws : IsFinding exceptions_of exceptions_place (λ n. Int (pos n)) exception_row
+exceptions_of_laws = record { finds = shows_exceptions_of; under = under_exceptions_of }
 
 -- ---- a row put under its key
 
-abbrev pub put_sql : List ℕ
+abbrev put_sql : List ℕ
 put_sql = codes "INSERT INTO exceptions (ceremony, exception, text, at, passed) VALUES (?1, ?2, ?3, ?4, ?5) ON CONFLICT (ceremony, exception) DO UPDATE SET ceremony = ?1, exception = ?2, text = ?3, at = ?4, passed = ?5"
 
 pub puts : PutsRow put_sql exceptions_place exception_row
@@ -119,4 +128,14 @@ still old new rows t sound keeps stored others k = record {
   withdrawals = keeps_still register_schema 25 withdrawals_place old new _ others refl refl k.withdrawals;
   spot = k.spot;
   seats = k.seats;
+}
+
+pub table_laws : IsTable table exception_row (λ _. ⊤)
+table_laws = record {
+  lists = lists;
+  one = one;
+  keeps = λ db t k. k.exceptions;
+  stores = λ db t k. each_is t.exceptions;
+  still = still;
+  stands = λ m t s. s.exceptions;
 }

@@ -21,7 +21,7 @@ use Rattle.kcr_history.specs.declared.views.ItemsOf.TheVariants as Wanted
 use Rattle.kcr_rows.specs.Columns.{words, words_or_null}
 use Rattle.kcr_rows.specs.Keyed.{Keeps}
 use Rattle.kcr_rows.proofs.FilterLemmas.{has_value, value_is}
-use Rattle.kcr_rows.proofs.TableLemmas.{keeps_still}
+use Rattle.kcr_rows.proofs.TableLemmas.{keeps_still, each_is}
 use Rattle.kcr_rows.proofs.SameLemmas.{text_ties}
 use Rattle.kcr_cells.proofs.StateLemmas.{cast_loose, cast_within, one_rest, within_is}
 use Rattle.kcr_cells.specs.Rows.{item_row}
@@ -30,6 +30,7 @@ use Rattle.kcr_tables.specs.Schema.{register_schema}
 use Rattle.kcr_tables.specs.Held.{Tables, Kept, people_place, trainings_place, appointments_place, boxes_place, safes_place, bags_place, items_place, ceremonies_place, marks_place, steps_place, seatings_place, sheet_place, exceptions_place, versions_place, keys_place, stays_place, withdrawals_place}
 use Rattle.kcr_tables.specs.Parts.{text_in}
 use Rattle.kcr_tables.specs.Statements.{ShowsRows, PutsRow}
+use Rattle.kcr_tables.specs.Table.{Table, IsTable, Finding, IsFinding}
 
 abbrev pub project : List Term
 project = col 1 1 ∷ col 1 2 ∷ col 1 3 ∷ []
@@ -40,46 +41,57 @@ order = (col 1 1, ascending Binary) ∷ []
 abbrev pub names : List (List ℕ)
 names = codes "code" ∷ codes "facility" ∷ codes "serial" ∷ []
 
+abbrev pub table : Table Item
+table = record {
+  rows_in = λ t. t.items;
+  machine_rows = λ m. m.items;
+  place = items_place;
+  is_stored = λ _. ⊤;
+  with_rows = λ rows t. record t { items = rows };
+  all_sql = codes "SELECT code, facility, serial FROM items ORDER BY code";
+}
+
 -- no two values stand for one row
 pub one : (x y : Item) → ⊤ → ⊤ → item_row x ≡ item_row y → x ≡ y
 one x y read held h = λ i. record { code = text_in 0 (h i); rest = one_rest x.rest y.rest (ap (λ (r : Row). column r 1) h) (ap (λ (r : Row). column r 2) h) i }
 
--- ---- all rows
-
-abbrev pub all_sql : List ℕ
-all_sql = codes "SELECT code, facility, serial FROM items ORDER BY code"
-
-pub lists : ShowsRows all_sql items_place [] (λ _. true)
+lists : ShowsRows table.all_sql items_place [] (λ _. true)
 unfolding understood everything
 lists = record { test = []; project = project; order = order; names = names; is = (refl, refl); bare = (refl, refl); shows = λ r. refl; tests = λ r. refl; sorts = λ a b. refl; low = refl }
 
 -- ---- the row of the item with this code, alone, or none
 
-abbrev pub item_of_sql : List ℕ
-item_of_sql = codes "SELECT code, facility, serial FROM items WHERE code = ?1 ORDER BY code"
+abbrev pub item_of : Finding (List ℕ) Item
+item_of = record { is_under = λ code x. same_text x.code code; column = 0; find_sql = codes "SELECT code, facility, serial FROM items WHERE code = ?1 ORDER BY code" }
 
-pub shows_item_of : (code : List ℕ) → ShowsRows item_of_sql items_place (Text code ∷ []) (has_value 0 (Text code))
+shows_item_of : (code : List ℕ) → ShowsRows item_of.find_sql items_place (Text code ∷ []) (has_value 0 (Text code))
 unfolding understood everything
 shows_item_of code = record { test = op2 (Compare Eq Binary) (col 1 1) (col 0 0) ∷ []; project = project; order = order; names = names; is = (refl, refl); bare = (refl, refl); shows = λ r. refl; tests = λ r. refl; sorts = λ a b. refl; low = refl }
 
-pub under_item_of : (code : List ℕ) (x : Item) → has_value 0 (Text code) (item_row x) ≡ same_text x.code code
+under_item_of : (code : List ℕ) (x : Item) → has_value 0 (Text code) (item_row x) ≡ same_text x.code code
 under_item_of code x = value_is (Text x.code) (Text code) refl refl ∙ sym (text_ties x.code code)
+
+pub item_of_laws : IsFinding item_of items_place Text item_row
+item_of_laws = record { finds = shows_item_of; under = under_item_of }
 
 -- ---- the rows of the items in the bag with this serial
 
-abbrev pub items_within_sql : List ℕ
-items_within_sql = codes "SELECT code, facility, serial FROM items WHERE serial = ?1 ORDER BY code"
+abbrev pub items_within : Finding (List ℕ) Item
+items_within = record { is_under = λ serial x. is_item_of (Wanted.Bag serial) x; column = 2; find_sql = codes "SELECT code, facility, serial FROM items WHERE serial = ?1 ORDER BY code" }
 
-pub shows_items_within : (serial : List ℕ) → ShowsRows items_within_sql items_place (Text serial ∷ []) (has_value 2 (Text serial))
+shows_items_within : (serial : List ℕ) → ShowsRows items_within.find_sql items_place (Text serial ∷ []) (has_value 2 (Text serial))
 unfolding understood everything
 shows_items_within serial = record { test = op2 (Compare Eq Binary) (col 1 3) (col 0 0) ∷ []; project = project; order = order; names = names; is = (refl, refl); bare = (refl, refl); shows = λ r. refl; tests = λ r. refl; sorts = λ a b. refl; low = refl }
 
-pub under_items_within : (serial : List ℕ) (x : Item) → has_value 2 (Text serial) (item_row x) ≡ is_item_of (Wanted.Bag serial) x
+under_items_within : (serial : List ℕ) (x : Item) → has_value 2 (Text serial) (item_row x) ≡ is_item_of (Wanted.Bag serial) x
 under_items_within serial x = within_is x.rest serial
+
+pub items_within_laws : IsFinding items_within items_place Text item_row
+items_within_laws = record { finds = shows_items_within; under = under_items_within }
 
 -- ---- a row put under its key
 
-abbrev pub put_sql : List ℕ
+abbrev put_sql : List ℕ
 put_sql = codes "INSERT INTO items (code, facility, serial) VALUES (?1, ?2, ?3) ON CONFLICT (code) DO UPDATE SET code = ?1, facility = ?2, serial = ?3"
 
 pub puts : PutsRow put_sql items_place item_row
@@ -132,4 +144,14 @@ still old new rows t sound keeps stored others k = record {
   withdrawals = keeps_still register_schema 12 withdrawals_place old new _ others refl refl k.withdrawals;
   spot = k.spot;
   seats = k.seats;
+}
+
+pub table_laws : IsTable table item_row (λ _. ⊤)
+table_laws = record {
+  lists = lists;
+  one = one;
+  keeps = λ db t k. k.items;
+  stores = λ db t k. each_is t.items;
+  still = still;
+  stands = λ m t s. s.items;
 }

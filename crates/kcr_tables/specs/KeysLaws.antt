@@ -3,6 +3,7 @@ use Rattle.std.proofs.Common.{◌≡◌, ◌≢◌, ℕ, List, [], ◌∷◌, ma
 use Rattle.std.specs.Bool.{⊤}
 use Rattle.std.specs.List.{AllByRecursion}
 use Rattle.sqlite.specs.declared.types.Value.TheVariants.{Text}
+use Rattle.sqlite.specs.Order.{column}
 use Rattle.sqlite.specs.Term.{Term, col, op2}
 use Rattle.sqlite.specs.Collation.TheVariants.{Binary}
 use Rattle.sqlite.specs.Tree.{Trees}
@@ -17,7 +18,7 @@ use Rattle.sqlite_tied.specs.Compute.{everything}
 use Rattle.kcr_history.specs.Views.{is_of_key}
 use Rattle.kcr_rows.specs.Keyed.{Keeps}
 use Rattle.kcr_rows.proofs.FilterLemmas.{has_value, value_is}
-use Rattle.kcr_rows.proofs.TableLemmas.{keeps_still}
+use Rattle.kcr_rows.proofs.TableLemmas.{keeps_still, each_is}
 use Rattle.kcr_rows.proofs.SameLemmas.{text_ties}
 use Rattle.kcr_cells.specs.Rows.{key_row}
 use Rattle.kcr_history.specs.declared.rows.KeyRow.{KeyRow}
@@ -25,6 +26,7 @@ use Rattle.kcr_tables.specs.Schema.{register_schema}
 use Rattle.kcr_tables.specs.Held.{Tables, Kept, people_place, trainings_place, appointments_place, boxes_place, safes_place, bags_place, items_place, ceremonies_place, marks_place, steps_place, seatings_place, sheet_place, exceptions_place, versions_place, keys_place, stays_place, withdrawals_place}
 use Rattle.kcr_tables.specs.Parts.{text_in, number_in}
 use Rattle.kcr_tables.specs.Statements.{ShowsRows}
+use Rattle.kcr_tables.specs.Table.{Table, IsTable, Finding, IsFinding}
 
 abbrev pub project : List Term
 project = col 1 1 ∷ col 1 2 ∷ col 1 3 ∷ col 1 4 ∷ []
@@ -35,30 +37,38 @@ order = (col 1 1, ascending Binary) ∷ []
 abbrev pub names : List (List ℕ)
 names = codes "key" ∷ codes "accepted" ∷ codes "command" ∷ codes "reply" ∷ []
 
+abbrev pub table : Table KeyRow
+table = record {
+  rows_in = λ t. t.keys;
+  machine_rows = λ m. m.keys;
+  place = keys_place;
+  is_stored = λ _. ⊤;
+  with_rows = λ rows t. record t { keys = rows };
+  all_sql = codes "SELECT \"key\", accepted, command, reply FROM keys ORDER BY \"key\"";
+}
+
 -- no two values stand for one row
 pub one : (x y : KeyRow) → ⊤ → ⊤ → key_row x ≡ key_row y → x ≡ y
 one x y read held h = λ i. record { key = text_in 0 (h i); accepted = number_in 1 (h i); command = text_in 2 (h i); reply = text_in 3 (h i) }
 
--- ---- all rows
-
-abbrev pub all_sql : List ℕ
-all_sql = codes "SELECT \"key\", accepted, command, reply FROM keys ORDER BY \"key\""
-
-pub lists : ShowsRows all_sql keys_place [] (λ _. true)
+lists : ShowsRows table.all_sql keys_place [] (λ _. true)
 unfolding understood everything
 lists = record { test = []; project = project; order = order; names = names; is = (refl, refl); bare = (refl, refl); shows = λ r. refl; tests = λ r. refl; sorts = λ a b. refl; low = refl }
 
 -- ---- the row of this key, alone, or none
 
-abbrev pub key_row_of_sql : List ℕ
-key_row_of_sql = codes "SELECT \"key\", accepted, command, reply FROM keys WHERE \"key\" = ?1 ORDER BY \"key\""
+abbrev pub key_row_of : Finding (List ℕ) KeyRow
+key_row_of = record { is_under = λ key x. is_of_key key x; column = 0; find_sql = codes "SELECT \"key\", accepted, command, reply FROM keys WHERE \"key\" = ?1 ORDER BY \"key\"" }
 
-pub shows_key_row_of : (key : List ℕ) → ShowsRows key_row_of_sql keys_place (Text key ∷ []) (has_value 0 (Text key))
+shows_key_row_of : (key : List ℕ) → ShowsRows key_row_of.find_sql keys_place (Text key ∷ []) (has_value 0 (Text key))
 unfolding understood everything
 shows_key_row_of key = record { test = op2 (Compare Eq Binary) (col 1 1) (col 0 0) ∷ []; project = project; order = order; names = names; is = (refl, refl); bare = (refl, refl); shows = λ r. refl; tests = λ r. refl; sorts = λ a b. refl; low = refl }
 
-pub under_key_row_of : (key : List ℕ) (x : KeyRow) → has_value 0 (Text key) (key_row x) ≡ is_of_key key x
+under_key_row_of : (key : List ℕ) (x : KeyRow) → has_value 0 (Text key) (key_row x) ≡ is_of_key key x
 under_key_row_of key x = value_is (Text x.key) (Text key) refl refl ∙ sym (text_ties x.key key)
+
+pub key_row_of_laws : IsFinding key_row_of keys_place Text key_row
+key_row_of_laws = record { finds = shows_key_row_of; under = under_key_row_of }
 
 -- the other tables stay where the rows of this one are changed
 pub still : (old new : Trees) (rows : List KeyRow) (t : Tables) → IsSound register_schema new → Keeps keys_place new (map key_row rows) → AllByRecursion (λ _. ⊤) rows
@@ -84,4 +94,14 @@ still old new rows t sound keeps stored others k = record {
   withdrawals = keeps_still register_schema 29 withdrawals_place old new _ others refl refl k.withdrawals;
   spot = k.spot;
   seats = k.seats;
+}
+
+pub table_laws : IsTable table key_row (λ _. ⊤)
+table_laws = record {
+  lists = lists;
+  one = one;
+  keeps = λ db t k. k.keys;
+  stores = λ db t k. each_is t.keys;
+  still = still;
+  stands = λ m t s. s.keys;
 }

@@ -10,6 +10,7 @@ pub mod Asked
 pub mod Frame
 pub mod Exact
 pub mod Statements
+pub mod Table
 pub mod Parts
 pub mod AppointmentsLaws
 pub mod BagsLaws

@@ -3,6 +3,7 @@ use Rattle.std.proofs.Common.{◌≡◌, ◌≢◌, ℕ, pos, List, [], ◌∷�
 use Rattle.std.specs.Bool.{⊤}
 use Rattle.std.specs.List.{AllByRecursion}
 use Rattle.sqlite.specs.declared.types.Value.TheVariants.{Null, Int}
+use Rattle.sqlite.specs.Order.{column}
 use Rattle.sqlite.specs.Term.{Term, lit, col, op2}
 use Rattle.sqlite.specs.Collation.TheVariants.{Binary}
 use Rattle.sqlite.specs.Tree.{Trees}
@@ -19,7 +20,7 @@ use Rattle.kcr_rows.specs.Columns.{number}
 use Rattle.kcr_rows.specs.Keyed.{Keeps}
 use Rattle.kcr_rows.proofs.FilterLemmas.{has_value, value_is}
 use Rattle.kcr_rows.proofs.WriteLemmas.{cast_int}
-use Rattle.kcr_rows.proofs.TableLemmas.{keeps_still}
+use Rattle.kcr_rows.proofs.TableLemmas.{keeps_still, each_is}
 use Rattle.kcr_rows.proofs.SameLemmas.{number_ties}
 use Rattle.kcr_cells.specs.Rows.{mark_row}
 use Rattle.kcr_history.specs.declared.rows.MarkRow.{MarkRow}
@@ -27,6 +28,7 @@ use Rattle.kcr_tables.specs.Schema.{register_schema}
 use Rattle.kcr_tables.specs.Held.{Tables, Kept, people_place, trainings_place, appointments_place, boxes_place, safes_place, bags_place, items_place, ceremonies_place, marks_place, steps_place, seatings_place, sheet_place, exceptions_place, versions_place, keys_place, stays_place, withdrawals_place}
 use Rattle.kcr_tables.specs.Parts.{number_in}
 use Rattle.kcr_tables.specs.Statements.{ShowsRows, PutsRow}
+use Rattle.kcr_tables.specs.Table.{Table, IsTable, Finding, IsFinding}
 
 abbrev pub project : List Term
 project = col 1 1 ∷ col 1 2 ∷ []
@@ -37,34 +39,42 @@ order = (col 1 1, ascending Binary) ∷ []
 abbrev pub names : List (List ℕ)
 names = codes "ceremony" ∷ codes "at" ∷ []
 
+abbrev pub table : Table MarkRow
+table = record {
+  rows_in = λ t. t.marks;
+  machine_rows = λ m. m.marks;
+  place = marks_place;
+  is_stored = λ _. ⊤;
+  with_rows = λ rows t. record t { marks = rows };
+  all_sql = codes "SELECT ceremony, at FROM marks ORDER BY ceremony";
+}
+
 -- no two values stand for one row
 pub one : (x y : MarkRow) → ⊤ → ⊤ → mark_row x ≡ mark_row y → x ≡ y
 one x y read held h = λ i. record { ceremony = number_in 0 (h i); at = number_in 1 (h i) }
 
--- ---- all rows
-
-abbrev pub all_sql : List ℕ
-all_sql = codes "SELECT ceremony, at FROM marks ORDER BY ceremony"
-
-pub lists : ShowsRows all_sql marks_place [] (λ _. true)
+lists : ShowsRows table.all_sql marks_place [] (λ _. true)
 unfolding understood everything
 lists = record { test = []; project = project; order = order; names = names; is = (refl, refl); bare = (refl, refl); shows = λ r. refl; tests = λ r. refl; sorts = λ a b. refl; low = refl }
 
 -- ---- the row of the ceremony, alone, or none
 
-abbrev pub mark_of_sql : List ℕ
-mark_of_sql = codes "SELECT ceremony, at FROM marks WHERE ceremony = ?1 ORDER BY ceremony"
+abbrev pub mark_of : Finding (ℕ) MarkRow
+mark_of = record { is_under = λ ceremony x. is_mark_of ceremony x; column = 0; find_sql = codes "SELECT ceremony, at FROM marks WHERE ceremony = ?1 ORDER BY ceremony" }
 
-pub shows_mark_of : (ceremony : ℕ) → ShowsRows mark_of_sql marks_place (Int (pos ceremony) ∷ []) (has_value 0 (Int (pos ceremony)))
+shows_mark_of : (ceremony : ℕ) → ShowsRows mark_of.find_sql marks_place (Int (pos ceremony) ∷ []) (has_value 0 (Int (pos ceremony)))
 unfolding understood everything
 shows_mark_of ceremony = record { test = op2 (Compare Eq Binary) (col 1 1) (col 0 0) ∷ []; project = project; order = order; names = names; is = (refl, refl); bare = (refl, refl); shows = λ r. refl; tests = λ r. refl; sorts = λ a b. refl; low = refl }
 
-pub under_mark_of : (ceremony : ℕ) (x : MarkRow) → has_value 0 (Int (pos ceremony)) (mark_row x) ≡ is_mark_of ceremony x
+under_mark_of : (ceremony : ℕ) (x : MarkRow) → has_value 0 (Int (pos ceremony)) (mark_row x) ≡ is_mark_of ceremony x
 under_mark_of ceremony x = value_is (Int (pos x.ceremony)) (Int (pos ceremony)) refl refl ∙ sym (number_ties x.ceremony ceremony)
+
+pub mark_of_laws : IsFinding mark_of marks_place (λ n. Int (pos n)) mark_row
+mark_of_laws = record { finds = shows_mark_of; under = under_mark_of }
 
 -- ---- a row put under its key
 
-abbrev pub put_sql : List ℕ
+abbrev put_sql : List ℕ
 put_sql = codes "INSERT INTO marks (ceremony, at) VALUES (?1, ?2) ON CONFLICT (ceremony) DO UPDATE SET ceremony = ?1, at = ?2"
 
 pub puts : PutsRow put_sql marks_place mark_row
@@ -117,4 +127,14 @@ still old new rows t sound keeps stored others k = record {
   withdrawals = keeps_still register_schema 17 withdrawals_place old new _ others refl refl k.withdrawals;
   spot = k.spot;
   seats = k.seats;
+}
+
+pub table_laws : IsTable table mark_row (λ _. ⊤)
+table_laws = record {
+  lists = lists;
+  one = one;
+  keeps = λ db t k. k.marks;
+  stores = λ db t k. each_is t.marks;
+  still = still;
+  stands = λ m t s. s.marks;
 }

@@ -3,6 +3,7 @@ use Rattle.std.proofs.Common.{◌≡◌, ◌≢◌, ℕ, List, [], ◌∷◌, ma
 use Rattle.std.specs.Bool.{⊤}
 use Rattle.std.specs.List.{AllByRecursion}
 use Rattle.sqlite.specs.declared.types.Value.TheVariants.{Null, Text}
+use Rattle.sqlite.specs.Order.{column}
 use Rattle.sqlite.specs.Term.{Term, lit, col, op2}
 use Rattle.sqlite.specs.Collation.TheVariants.{Binary}
 use Rattle.sqlite.specs.Tree.{Trees}
@@ -18,7 +19,7 @@ use Rattle.kcr_base.specs.Same.{same_text}
 use Rattle.kcr_rows.specs.Columns.{words}
 use Rattle.kcr_rows.specs.Keyed.{Keeps}
 use Rattle.kcr_rows.proofs.FilterLemmas.{has_value, value_is}
-use Rattle.kcr_rows.proofs.TableLemmas.{keeps_still}
+use Rattle.kcr_rows.proofs.TableLemmas.{keeps_still, each_is}
 use Rattle.kcr_rows.proofs.SameLemmas.{text_ties}
 use Rattle.kcr_cells.specs.Rows.{person_row}
 use Rattle.kcr_people.specs.declared.Person.{Person}
@@ -26,6 +27,7 @@ use Rattle.kcr_tables.specs.Schema.{register_schema}
 use Rattle.kcr_tables.specs.Held.{Tables, Kept, people_place, trainings_place, appointments_place, boxes_place, safes_place, bags_place, items_place, ceremonies_place, marks_place, steps_place, seatings_place, sheet_place, exceptions_place, versions_place, keys_place, stays_place, withdrawals_place}
 use Rattle.kcr_tables.specs.Parts.{text_in}
 use Rattle.kcr_tables.specs.Statements.{ShowsRows, PutsRow}
+use Rattle.kcr_tables.specs.Table.{Table, IsTable, Finding, IsFinding}
 
 abbrev pub project : List Term
 project = col 1 1 ∷ col 1 2 ∷ []
@@ -36,34 +38,42 @@ order = (col 1 1, ascending Binary) ∷ []
 abbrev pub names : List (List ℕ)
 names = codes "who" ∷ codes "name" ∷ []
 
+abbrev pub table : Table Person
+table = record {
+  rows_in = λ t. t.people;
+  machine_rows = λ m. m.people;
+  place = people_place;
+  is_stored = λ _. ⊤;
+  with_rows = λ rows t. record t { people = rows };
+  all_sql = codes "SELECT who, name FROM people ORDER BY who";
+}
+
 -- no two values stand for one row
 pub one : (x y : Person) → ⊤ → ⊤ → person_row x ≡ person_row y → x ≡ y
 one x y read held h = λ i. record { who = text_in 0 (h i); name = text_in 1 (h i) }
 
--- ---- all rows
-
-abbrev pub all_sql : List ℕ
-all_sql = codes "SELECT who, name FROM people ORDER BY who"
-
-pub lists : ShowsRows all_sql people_place [] (λ _. true)
+lists : ShowsRows table.all_sql people_place [] (λ _. true)
 unfolding understood everything
 lists = record { test = []; project = project; order = order; names = names; is = (refl, refl); bare = (refl, refl); shows = λ r. refl; tests = λ r. refl; sorts = λ a b. refl; low = refl }
 
 -- ---- the row of the person with these initials, alone, or none
 
-abbrev pub person_of_sql : List ℕ
-person_of_sql = codes "SELECT who, name FROM people WHERE who = ?1 ORDER BY who"
+abbrev pub person_of : Finding (List ℕ) Person
+person_of = record { is_under = λ who x. same_text x.who who; column = 0; find_sql = codes "SELECT who, name FROM people WHERE who = ?1 ORDER BY who" }
 
-pub shows_person_of : (who : List ℕ) → ShowsRows person_of_sql people_place (Text who ∷ []) (has_value 0 (Text who))
+shows_person_of : (who : List ℕ) → ShowsRows person_of.find_sql people_place (Text who ∷ []) (has_value 0 (Text who))
 unfolding understood everything
 shows_person_of who = record { test = op2 (Compare Eq Binary) (col 1 1) (col 0 0) ∷ []; project = project; order = order; names = names; is = (refl, refl); bare = (refl, refl); shows = λ r. refl; tests = λ r. refl; sorts = λ a b. refl; low = refl }
 
-pub under_person_of : (who : List ℕ) (x : Person) → has_value 0 (Text who) (person_row x) ≡ same_text x.who who
+under_person_of : (who : List ℕ) (x : Person) → has_value 0 (Text who) (person_row x) ≡ same_text x.who who
 under_person_of who x = value_is (Text x.who) (Text who) refl refl ∙ sym (text_ties x.who who)
+
+pub person_of_laws : IsFinding person_of people_place Text person_row
+person_of_laws = record { finds = shows_person_of; under = under_person_of }
 
 -- ---- a row put under its key
 
-abbrev pub put_sql : List ℕ
+abbrev put_sql : List ℕ
 put_sql = codes "INSERT INTO people (who, name) VALUES (?1, ?2) ON CONFLICT (who) DO UPDATE SET who = ?1, name = ?2"
 
 pub puts : PutsRow put_sql people_place person_row
@@ -116,4 +126,14 @@ still old new rows t sound keeps stored others k = record {
   withdrawals = keeps_still register_schema 0 withdrawals_place old new _ others refl refl k.withdrawals;
   spot = k.spot;
   seats = k.seats;
+}
+
+pub table_laws : IsTable table person_row (λ _. ⊤)
+table_laws = record {
+  lists = lists;
+  one = one;
+  keeps = λ db t k. k.people;
+  stores = λ db t k. each_is t.people;
+  still = still;
+  stands = λ m t s. s.people;
 }

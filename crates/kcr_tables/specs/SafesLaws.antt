@@ -17,7 +17,7 @@ use Rattle.sqlite_tied.specs.Compute.{everything}
 use Rattle.kcr_rows.specs.Columns.{words, number}
 use Rattle.kcr_rows.specs.Keyed.{Keeps}
 use Rattle.kcr_rows.proofs.WriteLemmas.{cast_int}
-use Rattle.kcr_rows.proofs.TableLemmas.{keeps_still}
+use Rattle.kcr_rows.proofs.TableLemmas.{keeps_still, each_is}
 use Rattle.kcr_rows.proofs.SameLemmas.{one_facility}
 use Rattle.kcr_cells.proofs.StateLemmas.{one_safe, one_truth}
 use Rattle.kcr_base.specs.Facility.{facility_text}
@@ -29,6 +29,7 @@ use Rattle.kcr_tables.specs.Schema.{register_schema}
 use Rattle.kcr_tables.specs.Held.{Tables, Kept, people_place, trainings_place, appointments_place, boxes_place, safes_place, bags_place, items_place, ceremonies_place, marks_place, steps_place, seatings_place, sheet_place, exceptions_place, versions_place, keys_place, stays_place, withdrawals_place}
 use Rattle.kcr_tables.specs.Parts.{text_in, number_in}
 use Rattle.kcr_tables.specs.Statements.{ShowsRows, PutsRow}
+use Rattle.kcr_tables.specs.Table.{Table, IsTable}
 
 abbrev pub project : List Term
 project = col 1 1 ∷ col 1 2 ∷ col 1 3 ∷ []
@@ -39,22 +40,27 @@ order = (col 1 1, ascending Binary) ∷ (col 1 2, ascending Binary) ∷ []
 abbrev pub names : List (List ℕ)
 names = codes "facility" ∷ codes "safe" ∷ codes "state" ∷ []
 
+abbrev pub table : Table SafeRow
+table = record {
+  rows_in = λ t. t.safes;
+  machine_rows = λ m. m.safes;
+  place = safes_place;
+  is_stored = λ _. ⊤;
+  with_rows = λ rows t. record t { safes = rows };
+  all_sql = codes "SELECT facility, safe, state FROM safes ORDER BY facility, safe";
+}
+
 -- no two values stand for one row
 pub one : (x y : SafeRow) → ⊤ → ⊤ → safe_row x ≡ safe_row y → x ≡ y
 one x y read held h = λ i. record { facility = one_facility x.facility y.facility (ap (text_in 0) h) i; safe = one_safe x.safe y.safe (ap (number_in 1) h) i; is_open = one_truth x.is_open y.is_open (ap (number_in 2) h) i }
 
--- ---- all rows
-
-abbrev pub all_sql : List ℕ
-all_sql = codes "SELECT facility, safe, state FROM safes ORDER BY facility, safe"
-
-pub lists : ShowsRows all_sql safes_place [] (λ _. true)
+lists : ShowsRows table.all_sql safes_place [] (λ _. true)
 unfolding understood everything
 lists = record { test = []; project = project; order = order; names = names; is = (refl, refl); bare = (refl, refl); shows = λ r. refl; tests = λ r. refl; sorts = λ a b. refl; low = refl }
 
 -- ---- a row put under its key
 
-abbrev pub put_sql : List ℕ
+abbrev put_sql : List ℕ
 put_sql = codes "INSERT INTO safes (facility, safe, state) VALUES (?1, ?2, ?3) ON CONFLICT (facility, safe) DO UPDATE SET facility = ?1, safe = ?2, state = ?3"
 
 pub puts : PutsRow put_sql safes_place safe_row
@@ -107,4 +113,14 @@ still old new rows t sound keeps stored others k = record {
   withdrawals = keeps_still register_schema 8 withdrawals_place old new _ others refl refl k.withdrawals;
   spot = k.spot;
   seats = k.seats;
+}
+
+pub table_laws : IsTable table safe_row (λ _. ⊤)
+table_laws = record {
+  lists = lists;
+  one = one;
+  keeps = λ db t k. k.safes;
+  stores = λ db t k. each_is t.safes;
+  still = still;
+  stands = λ m t s. s.safes;
 }

@@ -3,6 +3,7 @@ use Rattle.std.proofs.Common.{◌≡◌, ◌≢◌, ℕ, pos, List, [], ◌∷�
 use Rattle.std.specs.Bool.{⊤}
 use Rattle.std.specs.List.{AllByRecursion}
 use Rattle.sqlite.specs.declared.types.Value.TheVariants.{Null, Int, Text}
+use Rattle.sqlite.specs.Order.{column}
 use Rattle.sqlite.specs.Term.{Term, lit, col, op2}
 use Rattle.sqlite.specs.Collation.TheVariants.{Binary}
 use Rattle.sqlite.specs.Tree.{Trees}
@@ -18,7 +19,7 @@ use Rattle.kcr_rows.specs.Columns.{words, number}
 use Rattle.kcr_rows.specs.Keyed.{Keeps}
 use Rattle.kcr_rows.proofs.FilterLemmas.{has_value, value_is}
 use Rattle.kcr_rows.proofs.WriteLemmas.{cast_int}
-use Rattle.kcr_rows.proofs.TableLemmas.{keeps_still}
+use Rattle.kcr_rows.proofs.TableLemmas.{keeps_still, each_is}
 use Rattle.kcr_rows.proofs.SameLemmas.{number_ties}
 use Rattle.kcr_cells.specs.Rows.{seating_row}
 use Rattle.kcr_history.specs.declared.rows.SeatingRow.{SeatingRow}
@@ -26,6 +27,7 @@ use Rattle.kcr_tables.specs.Schema.{register_schema}
 use Rattle.kcr_tables.specs.Held.{Tables, Kept, people_place, trainings_place, appointments_place, boxes_place, safes_place, bags_place, items_place, ceremonies_place, marks_place, steps_place, seatings_place, sheet_place, exceptions_place, versions_place, keys_place, stays_place, withdrawals_place}
 use Rattle.kcr_tables.specs.Parts.{text_in, number_in}
 use Rattle.kcr_tables.specs.Statements.{ShowsRows, PutsRow}
+use Rattle.kcr_tables.specs.Table.{Table, IsTable, Finding, IsFinding}
 
 abbrev pub project : List Term
 project = col 1 1 ∷ col 1 2 ∷ col 1 3 ∷ col 1 4 ∷ []
@@ -36,34 +38,42 @@ order = (col 1 1, ascending Binary) ∷ (col 1 2, ascending Binary) ∷ (col 1 3
 abbrev pub names : List (List ℕ)
 names = codes "ceremony" ∷ codes "step" ∷ codes "seat" ∷ codes "who" ∷ []
 
+abbrev pub table : Table SeatingRow
+table = record {
+  rows_in = λ t. t.seatings;
+  machine_rows = λ m. m.seatings;
+  place = seatings_place;
+  is_stored = λ _. ⊤;
+  with_rows = λ rows t. record t { seatings = rows };
+  all_sql = codes "SELECT ceremony, step, seat, who FROM seatings ORDER BY ceremony, step, seat";
+}
+
 -- no two values stand for one row
 pub one : (x y : SeatingRow) → ⊤ → ⊤ → seating_row x ≡ seating_row y → x ≡ y
 one x y read held h = λ i. record { ceremony = number_in 0 (h i); step = number_in 1 (h i); seat = number_in 2 (h i); who = text_in 3 (h i) }
 
--- ---- all rows
-
-abbrev pub all_sql : List ℕ
-all_sql = codes "SELECT ceremony, step, seat, who FROM seatings ORDER BY ceremony, step, seat"
-
-pub lists : ShowsRows all_sql seatings_place [] (λ _. true)
+lists : ShowsRows table.all_sql seatings_place [] (λ _. true)
 unfolding understood everything
 lists = record { test = []; project = project; order = order; names = names; is = (refl, refl); bare = (refl, refl); shows = λ r. refl; tests = λ r. refl; sorts = λ a b. refl; low = refl }
 
 -- ---- the rows of one ceremony
 
-abbrev pub seatings_of_sql : List ℕ
-seatings_of_sql = codes "SELECT ceremony, step, seat, who FROM seatings WHERE ceremony = ?1 ORDER BY ceremony, step, seat"
+abbrev pub seatings_of : Finding (ℕ) SeatingRow
+seatings_of = record { is_under = λ ceremony x. x.ceremony == ceremony; column = 0; find_sql = codes "SELECT ceremony, step, seat, who FROM seatings WHERE ceremony = ?1 ORDER BY ceremony, step, seat" }
 
-pub shows_seatings_of : (ceremony : ℕ) → ShowsRows seatings_of_sql seatings_place (Int (pos ceremony) ∷ []) (has_value 0 (Int (pos ceremony)))
+shows_seatings_of : (ceremony : ℕ) → ShowsRows seatings_of.find_sql seatings_place (Int (pos ceremony) ∷ []) (has_value 0 (Int (pos ceremony)))
 unfolding understood everything
 shows_seatings_of ceremony = record { test = op2 (Compare Eq Binary) (col 1 1) (col 0 0) ∷ []; project = project; order = order; names = names; is = (refl, refl); bare = (refl, refl); shows = λ r. refl; tests = λ r. refl; sorts = λ a b. refl; low = refl }
 
-pub under_seatings_of : (ceremony : ℕ) (x : SeatingRow) → has_value 0 (Int (pos ceremony)) (seating_row x) ≡ x.ceremony == ceremony
+under_seatings_of : (ceremony : ℕ) (x : SeatingRow) → has_value 0 (Int (pos ceremony)) (seating_row x) ≡ x.ceremony == ceremony
 under_seatings_of ceremony x = value_is (Int (pos x.ceremony)) (Int (pos ceremony)) refl refl ∙ sym (number_ties x.ceremony ceremony)
+
+pub seatings_of_laws : IsFinding seatings_of seatings_place (λ n. Int (pos n)) seating_row
+seatings_of_laws = record { finds = shows_seatings_of; under = under_seatings_of }
 
 -- ---- a row put under its key
 
-abbrev pub put_sql : List ℕ
+abbrev put_sql : List ℕ
 put_sql = codes "INSERT INTO seatings (ceremony, step, seat, who) VALUES (?1, ?2, ?3, ?4) ON CONFLICT (ceremony, step, seat) DO UPDATE SET ceremony = ?1, step = ?2, seat = ?3, who = ?4"
 
 pub puts : PutsRow put_sql seatings_place seating_row
@@ -116,4 +126,14 @@ still old new rows t sound keeps stored others k = record {
   withdrawals = keeps_still register_schema 21 withdrawals_place old new _ others refl refl k.withdrawals;
   spot = k.spot;
   seats = k.seats;
+}
+
+pub table_laws : IsTable table seating_row (λ _. ⊤)
+table_laws = record {
+  lists = lists;
+  one = one;
+  keeps = λ db t k. k.seatings;
+  stores = λ db t k. each_is t.seatings;
+  still = still;
+  stands = λ m t s. s.seatings;
 }

@@ -3,6 +3,7 @@ use Rattle.std.proofs.Common.{◌≡◌, ◌≢◌, ℕ, pos, List, [], ◌∷�
 use Rattle.std.specs.Bool.{⊤}
 use Rattle.std.specs.List.{AllByRecursion}
 use Rattle.sqlite.specs.declared.types.Value.TheVariants.{Null, Int, Text}
+use Rattle.sqlite.specs.Order.{column}
 use Rattle.sqlite.specs.Term.{Term, lit, col, op2}
 use Rattle.sqlite.specs.Collation.TheVariants.{Binary}
 use Rattle.sqlite.specs.Tree.{Trees}
@@ -18,7 +19,7 @@ use Rattle.kcr_rows.specs.Columns.{words, number}
 use Rattle.kcr_rows.specs.Keyed.{Keeps}
 use Rattle.kcr_rows.proofs.FilterLemmas.{has_value, value_is}
 use Rattle.kcr_rows.proofs.WriteLemmas.{cast_int}
-use Rattle.kcr_rows.proofs.TableLemmas.{keeps_still}
+use Rattle.kcr_rows.proofs.TableLemmas.{keeps_still, each_is}
 use Rattle.kcr_rows.proofs.SameLemmas.{number_ties}
 use Rattle.kcr_cells.proofs.StateLemmas.{one_way}
 use Rattle.kcr_cells.specs.States.{way_number}
@@ -28,6 +29,7 @@ use Rattle.kcr_tables.specs.Schema.{register_schema}
 use Rattle.kcr_tables.specs.Held.{Tables, Kept, people_place, trainings_place, appointments_place, boxes_place, safes_place, bags_place, items_place, ceremonies_place, marks_place, steps_place, seatings_place, sheet_place, exceptions_place, versions_place, keys_place, stays_place, withdrawals_place}
 use Rattle.kcr_tables.specs.Parts.{text_in, number_in}
 use Rattle.kcr_tables.specs.Statements.{ShowsRows, PutsRow}
+use Rattle.kcr_tables.specs.Table.{Table, IsTable, Finding, IsFinding}
 
 abbrev pub project : List Term
 project = col 1 1 ∷ col 1 2 ∷ col 1 3 ∷ col 1 4 ∷ []
@@ -38,34 +40,42 @@ order = (col 1 1, ascending Binary) ∷ (col 1 2, ascending Binary) ∷ []
 abbrev pub names : List (List ℕ)
 names = codes "who" ∷ codes "at" ∷ codes "ceremony" ∷ codes "way" ∷ []
 
+abbrev pub table : Table SheetRow
+table = record {
+  rows_in = λ t. t.sheet;
+  machine_rows = λ m. m.sheet;
+  place = sheet_place;
+  is_stored = λ _. ⊤;
+  with_rows = λ rows t. record t { sheet = rows };
+  all_sql = codes "SELECT who, at, ceremony, way FROM sheet ORDER BY who, at";
+}
+
 -- no two values stand for one row
 pub one : (x y : SheetRow) → ⊤ → ⊤ → sheet_row x ≡ sheet_row y → x ≡ y
 one x y read held h = λ i. record { who = text_in 0 (h i); at = number_in 1 (h i); ceremony = number_in 2 (h i); way = one_way x.way y.way (ap (number_in 3) h) i }
 
--- ---- all rows
-
-abbrev pub all_sql : List ℕ
-all_sql = codes "SELECT who, at, ceremony, way FROM sheet ORDER BY who, at"
-
-pub lists : ShowsRows all_sql sheet_place [] (λ _. true)
+lists : ShowsRows table.all_sql sheet_place [] (λ _. true)
 unfolding understood everything
 lists = record { test = []; project = project; order = order; names = names; is = (refl, refl); bare = (refl, refl); shows = λ r. refl; tests = λ r. refl; sorts = λ a b. refl; low = refl }
 
 -- ---- the rows of one ceremony
 
-abbrev pub sheet_of_sql : List ℕ
-sheet_of_sql = codes "SELECT who, at, ceremony, way FROM sheet WHERE ceremony = ?1 ORDER BY who, at"
+abbrev pub sheet_of : Finding (ℕ) SheetRow
+sheet_of = record { is_under = λ ceremony x. x.ceremony == ceremony; column = 2; find_sql = codes "SELECT who, at, ceremony, way FROM sheet WHERE ceremony = ?1 ORDER BY who, at" }
 
-pub shows_sheet_of : (ceremony : ℕ) → ShowsRows sheet_of_sql sheet_place (Int (pos ceremony) ∷ []) (has_value 2 (Int (pos ceremony)))
+shows_sheet_of : (ceremony : ℕ) → ShowsRows sheet_of.find_sql sheet_place (Int (pos ceremony) ∷ []) (has_value 2 (Int (pos ceremony)))
 unfolding understood everything
 shows_sheet_of ceremony = record { test = op2 (Compare Eq Binary) (col 1 3) (col 0 0) ∷ []; project = project; order = order; names = names; is = (refl, refl); bare = (refl, refl); shows = λ r. refl; tests = λ r. refl; sorts = λ a b. refl; low = refl }
 
-pub under_sheet_of : (ceremony : ℕ) (x : SheetRow) → has_value 2 (Int (pos ceremony)) (sheet_row x) ≡ x.ceremony == ceremony
+under_sheet_of : (ceremony : ℕ) (x : SheetRow) → has_value 2 (Int (pos ceremony)) (sheet_row x) ≡ x.ceremony == ceremony
 under_sheet_of ceremony x = value_is (Int (pos x.ceremony)) (Int (pos ceremony)) refl refl ∙ sym (number_ties x.ceremony ceremony)
+
+pub sheet_of_laws : IsFinding sheet_of sheet_place (λ n. Int (pos n)) sheet_row
+sheet_of_laws = record { finds = shows_sheet_of; under = under_sheet_of }
 
 -- ---- a row put under its key
 
-abbrev pub put_sql : List ℕ
+abbrev put_sql : List ℕ
 put_sql = codes "INSERT INTO sheet (who, at, ceremony, way) VALUES (?1, ?2, ?3, ?4) ON CONFLICT (who, at) DO UPDATE SET who = ?1, at = ?2, ceremony = ?3, way = ?4"
 
 pub puts : PutsRow put_sql sheet_place sheet_row
@@ -118,4 +128,14 @@ still old new rows t sound keeps stored others k = record {
   withdrawals = keeps_still register_schema 23 withdrawals_place old new _ others refl refl k.withdrawals;
   spot = k.spot;
   seats = k.seats;
+}
+
+pub table_laws : IsTable table sheet_row (λ _. ⊤)
+table_laws = record {
+  lists = lists;
+  one = one;
+  keeps = λ db t k. k.sheet;
+  stores = λ db t k. each_is t.sheet;
+  still = still;
+  stands = λ m t s. s.sheet;
 }

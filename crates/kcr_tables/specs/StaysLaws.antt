@@ -20,7 +20,7 @@ use Rattle.kcr_rows.specs.Columns.{words, number, number_or_null}
 use Rattle.kcr_rows.specs.Keyed.{Keeps}
 use Rattle.kcr_rows.proofs.FilterLemmas.{has_value, value_is}
 use Rattle.kcr_rows.proofs.WriteLemmas.{cast_int}
-use Rattle.kcr_rows.proofs.TableLemmas.{keeps_still}
+use Rattle.kcr_rows.proofs.TableLemmas.{keeps_still, each_is}
 use Rattle.kcr_rows.proofs.SameLemmas.{one_number, number_ties}
 use Rattle.kcr_cells.proofs.StateLemmas.{cast_or_null}
 use Rattle.kcr_cells.specs.Rows.{stay_row}
@@ -29,6 +29,7 @@ use Rattle.kcr_tables.specs.Schema.{register_schema}
 use Rattle.kcr_tables.specs.Held.{Tables, Kept, people_place, trainings_place, appointments_place, boxes_place, safes_place, bags_place, items_place, ceremonies_place, marks_place, steps_place, seatings_place, sheet_place, exceptions_place, versions_place, keys_place, stays_place, withdrawals_place}
 use Rattle.kcr_tables.specs.Parts.{text_in, number_in}
 use Rattle.kcr_tables.specs.Statements.{ShowsRows, PutsRow}
+use Rattle.kcr_tables.specs.Table.{Table, IsTable, Finding, IsFinding}
 
 abbrev pub project : List Term
 project = col 1 1 ∷ col 1 2 ∷ col 1 3 ∷ col 1 4 ∷ []
@@ -39,34 +40,42 @@ order = (col 1 1, ascending Binary) ∷ (col 1 2, ascending Binary) ∷ []
 abbrev pub names : List (List ℕ)
 names = codes "who" ∷ codes "since" ∷ codes "ceremony" ∷ codes "until" ∷ []
 
+abbrev pub table : Table Stay
+table = record {
+  rows_in = λ t. t.stays;
+  machine_rows = λ m. m.stays;
+  place = stays_place;
+  is_stored = λ _. ⊤;
+  with_rows = λ rows t. record t { stays = rows };
+  all_sql = codes "SELECT who, since, ceremony, until FROM stays ORDER BY who, since";
+}
+
 -- no two values stand for one row
 pub one : (x y : Stay) → ⊤ → ⊤ → stay_row x ≡ stay_row y → x ≡ y
 one x y read held h = λ i. record { who = text_in 0 (h i); since = number_in 1 (h i); ceremony = number_in 2 (h i); until = one_number x.until y.until (ap (λ (r : Row). column r 3) h) i }
 
--- ---- all rows
-
-abbrev pub all_sql : List ℕ
-all_sql = codes "SELECT who, since, ceremony, until FROM stays ORDER BY who, since"
-
-pub lists : ShowsRows all_sql stays_place [] (λ _. true)
+lists : ShowsRows table.all_sql stays_place [] (λ _. true)
 unfolding understood everything
 lists = record { test = []; project = project; order = order; names = names; is = (refl, refl); bare = (refl, refl); shows = λ r. refl; tests = λ r. refl; sorts = λ a b. refl; low = refl }
 
 -- ---- the rows of one ceremony
 
-abbrev pub stays_of_sql : List ℕ
-stays_of_sql = codes "SELECT who, since, ceremony, until FROM stays WHERE ceremony = ?1 ORDER BY who, since"
+abbrev pub stays_of : Finding (ℕ) Stay
+stays_of = record { is_under = λ ceremony x. is_stay_of ceremony x; column = 2; find_sql = codes "SELECT who, since, ceremony, until FROM stays WHERE ceremony = ?1 ORDER BY who, since" }
 
-pub shows_stays_of : (ceremony : ℕ) → ShowsRows stays_of_sql stays_place (Int (pos ceremony) ∷ []) (has_value 2 (Int (pos ceremony)))
+shows_stays_of : (ceremony : ℕ) → ShowsRows stays_of.find_sql stays_place (Int (pos ceremony) ∷ []) (has_value 2 (Int (pos ceremony)))
 unfolding understood everything
 shows_stays_of ceremony = record { test = op2 (Compare Eq Binary) (col 1 3) (col 0 0) ∷ []; project = project; order = order; names = names; is = (refl, refl); bare = (refl, refl); shows = λ r. refl; tests = λ r. refl; sorts = λ a b. refl; low = refl }
 
-pub under_stays_of : (ceremony : ℕ) (x : Stay) → has_value 2 (Int (pos ceremony)) (stay_row x) ≡ is_stay_of ceremony x
+under_stays_of : (ceremony : ℕ) (x : Stay) → has_value 2 (Int (pos ceremony)) (stay_row x) ≡ is_stay_of ceremony x
 under_stays_of ceremony x = value_is (Int (pos x.ceremony)) (Int (pos ceremony)) refl refl ∙ sym (number_ties x.ceremony ceremony)
+
+pub stays_of_laws : IsFinding stays_of stays_place (λ n. Int (pos n)) stay_row
+stays_of_laws = record { finds = shows_stays_of; under = under_stays_of }
 
 -- ---- a row put under its key
 
-abbrev pub put_sql : List ℕ
+abbrev put_sql : List ℕ
 put_sql = codes "INSERT INTO stays (who, since, ceremony, until) VALUES (?1, ?2, ?3, ?4) ON CONFLICT (who, since) DO UPDATE SET who = ?1, since = ?2, ceremony = ?3, until = ?4"
 
 pub puts : PutsRow put_sql stays_place stay_row
@@ -119,4 +128,14 @@ still old new rows t sound keeps stored others k = record {
   withdrawals = keeps_still register_schema 32 withdrawals_place old new _ others refl refl k.withdrawals;
   spot = k.spot;
   seats = k.seats;
+}
+
+pub table_laws : IsTable table stay_row (λ _. ⊤)
+table_laws = record {
+  lists = lists;
+  one = one;
+  keeps = λ db t k. k.stays;
+  stores = λ db t k. each_is t.stays;
+  still = still;
+  stands = λ m t s. s.stays;
 }

@@ -31,6 +31,7 @@ use Rattle.kcr_tables.specs.Schema.{register_schema}
 use Rattle.kcr_tables.specs.Held.{Tables, Kept, people_place, trainings_place, appointments_place, boxes_place, safes_place, bags_place, items_place, ceremonies_place, marks_place, steps_place, seatings_place, sheet_place, exceptions_place, versions_place, keys_place, stays_place, withdrawals_place}
 use Rattle.kcr_tables.specs.Parts.{text_in, number_in}
 use Rattle.kcr_tables.specs.Statements.{ShowsRows, PutsRow}
+use Rattle.kcr_tables.specs.Table.{Table, IsTable, Finding, IsFinding}
 
 abbrev pub project : List Term
 project = col 1 1 ∷ col 1 2 ∷ col 1 3 ∷ col 1 4 ∷ col 1 5 ∷ col 1 6 ∷ []
@@ -41,34 +42,42 @@ order = (col 1 1, ascending Binary) ∷ (col 1 2, ascending Binary) ∷ []
 abbrev pub names : List (List ℕ)
 names = codes "ceremony" ∷ codes "step" ∷ codes "activity" ∷ codes "seats" ∷ codes "state" ∷ codes "at" ∷ []
 
+abbrev pub table : Table StepRow
+table = record {
+  rows_in = λ t. t.steps;
+  machine_rows = λ m. m.steps;
+  place = steps_place;
+  is_stored = HasSeatsText;
+  with_rows = λ rows t. record t { steps = rows };
+  all_sql = codes "SELECT ceremony, step, activity, seats, state, at FROM steps ORDER BY ceremony, step";
+}
+
 -- no two values stand for one row
 pub one : (x y : StepRow) → HasOnlyTheseSeats x → HasSeatsText y → step_row x ≡ step_row y → x ≡ y
 one x y read held h = λ i. record { ceremony = number_in 0 (h i); step = number_in 1 (h i); activity = text_in 2 (h i); seats = one_seats x.seats y.seats read held (ap (text_in 3) h) i; state = one_step_state x.state y.state (ap (number_in 4) h) i; at = one_number x.at y.at (ap (λ (r : Row). column r 5) h) i }
 
--- ---- all rows
-
-abbrev pub all_sql : List ℕ
-all_sql = codes "SELECT ceremony, step, activity, seats, state, at FROM steps ORDER BY ceremony, step"
-
-pub lists : ShowsRows all_sql steps_place [] (λ _. true)
+lists : ShowsRows table.all_sql steps_place [] (λ _. true)
 unfolding understood everything
 lists = record { test = []; project = project; order = order; names = names; is = (refl, refl); bare = (refl, refl); shows = λ r. refl; tests = λ r. refl; sorts = λ a b. refl; low = refl }
 
 -- ---- the rows of one ceremony
 
-abbrev pub steps_of_sql : List ℕ
-steps_of_sql = codes "SELECT ceremony, step, activity, seats, state, at FROM steps WHERE ceremony = ?1 ORDER BY ceremony, step"
+abbrev pub steps_of : Finding (ℕ) StepRow
+steps_of = record { is_under = λ ceremony x. is_step_of ceremony x; column = 0; find_sql = codes "SELECT ceremony, step, activity, seats, state, at FROM steps WHERE ceremony = ?1 ORDER BY ceremony, step" }
 
-pub shows_steps_of : (ceremony : ℕ) → ShowsRows steps_of_sql steps_place (Int (pos ceremony) ∷ []) (has_value 0 (Int (pos ceremony)))
+shows_steps_of : (ceremony : ℕ) → ShowsRows steps_of.find_sql steps_place (Int (pos ceremony) ∷ []) (has_value 0 (Int (pos ceremony)))
 unfolding understood everything
 shows_steps_of ceremony = record { test = op2 (Compare Eq Binary) (col 1 1) (col 0 0) ∷ []; project = project; order = order; names = names; is = (refl, refl); bare = (refl, refl); shows = λ r. refl; tests = λ r. refl; sorts = λ a b. refl; low = refl }
 
-pub under_steps_of : (ceremony : ℕ) (x : StepRow) → has_value 0 (Int (pos ceremony)) (step_row x) ≡ is_step_of ceremony x
+under_steps_of : (ceremony : ℕ) (x : StepRow) → has_value 0 (Int (pos ceremony)) (step_row x) ≡ is_step_of ceremony x
 under_steps_of ceremony x = value_is (Int (pos x.ceremony)) (Int (pos ceremony)) refl refl ∙ sym (number_ties x.ceremony ceremony)
+
+pub steps_of_laws : IsFinding steps_of steps_place (λ n. Int (pos n)) step_row
+steps_of_laws = record { finds = shows_steps_of; under = under_steps_of }
 
 -- ---- a row put under its key
 
-abbrev pub put_sql : List ℕ
+abbrev put_sql : List ℕ
 put_sql = codes "INSERT INTO steps (ceremony, step, activity, seats, state, at) VALUES (?1, ?2, ?3, ?4, ?5, ?6) ON CONFLICT (ceremony, step) DO UPDATE SET ceremony = ?1, step = ?2, activity = ?3, seats = ?4, state = ?5, at = ?6"
 
 pub puts : PutsRow put_sql steps_place step_row
@@ -121,4 +130,14 @@ still old new rows t sound keeps stored others k = record {
   withdrawals = keeps_still register_schema 19 withdrawals_place old new _ others refl refl k.withdrawals;
   spot = k.spot;
   seats = stored;
+}
+
+pub table_laws : IsTable table step_row HasOnlyTheseSeats
+table_laws = record {
+  lists = lists;
+  one = one;
+  keeps = λ db t k. k.steps;
+  stores = λ db t k. k.seats;
+  still = still;
+  stands = λ m t s. s.steps;
 }

@@ -3,6 +3,7 @@ use Rattle.std.proofs.Common.{◌≡◌, ◌≢◌, ℕ, pos, List, [], ◌∷�
 use Rattle.std.specs.Bool.{⊤}
 use Rattle.std.specs.List.{AllByRecursion}
 use Rattle.sqlite.specs.declared.types.Value.TheVariants.{Null, Text}
+use Rattle.sqlite.specs.Order.{column}
 use Rattle.sqlite.specs.Term.{Term, lit, col, op2}
 use Rattle.sqlite.specs.Collation.TheVariants.{Binary}
 use Rattle.sqlite.specs.Tree.{Trees}
@@ -19,7 +20,7 @@ use Rattle.kcr_rows.specs.Columns.{words, number}
 use Rattle.kcr_rows.specs.Keyed.{Keeps}
 use Rattle.kcr_rows.proofs.FilterLemmas.{has_value, value_is}
 use Rattle.kcr_rows.proofs.WriteLemmas.{cast_int}
-use Rattle.kcr_rows.proofs.TableLemmas.{keeps_still}
+use Rattle.kcr_rows.proofs.TableLemmas.{keeps_still, each_is}
 use Rattle.kcr_rows.proofs.SameLemmas.{one_role, text_ties}
 use Rattle.kcr_base.specs.Role.{role_text}
 use Rattle.kcr_cells.specs.Rows.{training_row}
@@ -28,6 +29,7 @@ use Rattle.kcr_tables.specs.Schema.{register_schema}
 use Rattle.kcr_tables.specs.Held.{Tables, Kept, people_place, trainings_place, appointments_place, boxes_place, safes_place, bags_place, items_place, ceremonies_place, marks_place, steps_place, seatings_place, sheet_place, exceptions_place, versions_place, keys_place, stays_place, withdrawals_place}
 use Rattle.kcr_tables.specs.Parts.{text_in, number_in}
 use Rattle.kcr_tables.specs.Statements.{ShowsRows, PutsRow}
+use Rattle.kcr_tables.specs.Table.{Table, IsTable, Finding, IsFinding}
 
 abbrev pub project : List Term
 project = col 1 1 ∷ col 1 2 ∷ col 1 3 ∷ col 1 4 ∷ []
@@ -38,34 +40,42 @@ order = (col 1 1, ascending Binary) ∷ (col 1 2, ascending Binary) ∷ (col 1 3
 abbrev pub names : List (List ℕ)
 names = codes "who" ∷ codes "role" ∷ codes "since" ∷ codes "until" ∷ []
 
+abbrev pub table : Table Training
+table = record {
+  rows_in = λ t. t.trainings;
+  machine_rows = λ m. m.trainings;
+  place = trainings_place;
+  is_stored = λ _. ⊤;
+  with_rows = λ rows t. record t { trainings = rows };
+  all_sql = codes "SELECT who, role, since, until FROM trainings ORDER BY who, role, since, until";
+}
+
 -- no two values stand for one row
 pub one : (x y : Training) → ⊤ → ⊤ → training_row x ≡ training_row y → x ≡ y
 one x y read held h = λ i. record { who = text_in 0 (h i); role = one_role x.role y.role (ap (text_in 1) h) i; since = number_in 2 (h i); until = number_in 3 (h i) }
 
--- ---- all rows
-
-abbrev pub all_sql : List ℕ
-all_sql = codes "SELECT who, role, since, until FROM trainings ORDER BY who, role, since, until"
-
-pub lists : ShowsRows all_sql trainings_place [] (λ _. true)
+lists : ShowsRows table.all_sql trainings_place [] (λ _. true)
 unfolding understood everything
 lists = record { test = []; project = project; order = order; names = names; is = (refl, refl); bare = (refl, refl); shows = λ r. refl; tests = λ r. refl; sorts = λ a b. refl; low = refl }
 
 -- ---- the rows of one person
 
-abbrev pub trainings_of_sql : List ℕ
-trainings_of_sql = codes "SELECT who, role, since, until FROM trainings WHERE who = ?1 ORDER BY who, role, since, until"
+abbrev pub trainings_of : Finding (List ℕ) Training
+trainings_of = record { is_under = λ who x. is_training_of who x; column = 0; find_sql = codes "SELECT who, role, since, until FROM trainings WHERE who = ?1 ORDER BY who, role, since, until" }
 
-pub shows_trainings_of : (who : List ℕ) → ShowsRows trainings_of_sql trainings_place (Text who ∷ []) (has_value 0 (Text who))
+shows_trainings_of : (who : List ℕ) → ShowsRows trainings_of.find_sql trainings_place (Text who ∷ []) (has_value 0 (Text who))
 unfolding understood everything
 shows_trainings_of who = record { test = op2 (Compare Eq Binary) (col 1 1) (col 0 0) ∷ []; project = project; order = order; names = names; is = (refl, refl); bare = (refl, refl); shows = λ r. refl; tests = λ r. refl; sorts = λ a b. refl; low = refl }
 
-pub under_trainings_of : (who : List ℕ) (x : Training) → has_value 0 (Text who) (training_row x) ≡ is_training_of who x
+under_trainings_of : (who : List ℕ) (x : Training) → has_value 0 (Text who) (training_row x) ≡ is_training_of who x
 under_trainings_of who x = value_is (Text x.who) (Text who) refl refl ∙ sym (text_ties x.who who)
+
+pub trainings_of_laws : IsFinding trainings_of trainings_place Text training_row
+trainings_of_laws = record { finds = shows_trainings_of; under = under_trainings_of }
 
 -- ---- a row put under its key
 
-abbrev pub put_sql : List ℕ
+abbrev put_sql : List ℕ
 put_sql = codes "INSERT INTO trainings (who, role, since, until) VALUES (?1, ?2, ?3, ?4) ON CONFLICT (who, role, since, until) DO UPDATE SET who = ?1, role = ?2, since = ?3, until = ?4"
 
 pub puts : PutsRow put_sql trainings_place training_row
@@ -118,4 +128,14 @@ still old new rows t sound keeps stored others k = record {
   withdrawals = keeps_still register_schema 2 withdrawals_place old new _ others refl refl k.withdrawals;
   spot = k.spot;
   seats = k.seats;
+}
+
+pub table_laws : IsTable table training_row (λ _. ⊤)
+table_laws = record {
+  lists = lists;
+  one = one;
+  keeps = λ db t k. k.trainings;
+  stores = λ db t k. each_is t.trainings;
+  still = still;
+  stands = λ m t s. s.trainings;
 }

@@ -1,7 +1,8 @@
 -- What the table versions proves of its texts, and of its place among the others.
-use Rattle.std.proofs.Common.{◌≡◌, ◌≢◌, ℕ, pos, List, [], ◌∷◌, map, codes, true, refl}
+use Rattle.std.proofs.Common.{◌≡◌, ◌≢◌, IsPermutation, ℕ, pos, List, [], ◌∷◌, map, codes, true, refl, sym, subst}
 use Rattle.std.specs.Bool.{⊤}
 use Rattle.std.specs.List.{AllByRecursion}
+use Rattle.std.proofs.lemmas.List.Sorted.{IsPermutation-refl}
 use Rattle.sqlite.specs.declared.types.Value.TheVariants.{Null}
 use Rattle.sqlite.specs.Term.{Term, lit, col, op2}
 use Rattle.sqlite.specs.Collation.TheVariants.{Binary}
@@ -17,13 +18,15 @@ use Rattle.sqlite_tied.specs.Compute.{everything}
 use Rattle.kcr_rows.specs.Columns.{number}
 use Rattle.kcr_rows.specs.Keyed.{Keeps}
 use Rattle.kcr_rows.proofs.WriteLemmas.{cast_int}
-use Rattle.kcr_rows.proofs.TableLemmas.{keeps_still}
+use Rattle.kcr_rows.proofs.TableLemmas.{keeps_still, each_is}
 use Rattle.kcr_cells.specs.Rows.{version_row}
 use Rattle.kcr_cells.specs.declared.rows.Version.{Version}
 use Rattle.kcr_tables.specs.Schema.{register_schema}
 use Rattle.kcr_tables.specs.Held.{Tables, Kept, people_place, trainings_place, appointments_place, boxes_place, safes_place, bags_place, items_place, ceremonies_place, marks_place, steps_place, seatings_place, sheet_place, exceptions_place, versions_place, keys_place, stays_place, withdrawals_place}
+use Rattle.kcr_tables.specs.First.{first_tables}
 use Rattle.kcr_tables.specs.Parts.{number_in}
 use Rattle.kcr_tables.specs.Statements.{ShowsRows, PutsRow}
+use Rattle.kcr_tables.specs.Table.{Table, IsTable}
 
 abbrev pub project : List Term
 project = col 1 1 ∷ []
@@ -34,22 +37,27 @@ order = (col 1 1, ascending Binary) ∷ []
 abbrev pub names : List (List ℕ)
 names = codes "number" ∷ []
 
+abbrev pub table : Table Version
+table = record {
+  rows_in = λ t. t.versions;
+  machine_rows = λ _. first_tables.versions;
+  place = versions_place;
+  is_stored = λ _. ⊤;
+  with_rows = λ rows t. record t { versions = rows };
+  all_sql = codes "SELECT number FROM versions ORDER BY number";
+}
+
 -- no two values stand for one row
 pub one : (x y : Version) → ⊤ → ⊤ → version_row x ≡ version_row y → x ≡ y
 one x y read held h = λ i. record { number = number_in 0 (h i) }
 
--- ---- all rows
-
-abbrev pub all_sql : List ℕ
-all_sql = codes "SELECT number FROM versions ORDER BY number"
-
-pub lists : ShowsRows all_sql versions_place [] (λ _. true)
+lists : ShowsRows table.all_sql versions_place [] (λ _. true)
 unfolding understood everything
 lists = record { test = []; project = project; order = order; names = names; is = (refl, refl); bare = (refl, refl); shows = λ r. refl; tests = λ r. refl; sorts = λ a b. refl; low = refl }
 
 -- ---- a row put under its key
 
-abbrev pub put_sql : List ℕ
+abbrev put_sql : List ℕ
 put_sql = codes "INSERT INTO versions (number) VALUES (?1) ON CONFLICT (number) DO UPDATE SET number = ?1"
 
 pub puts : PutsRow put_sql versions_place version_row
@@ -102,4 +110,14 @@ still old new rows t sound keeps stored others k = record {
   withdrawals = keeps_still register_schema 27 withdrawals_place old new _ others refl refl k.withdrawals;
   spot = k.spot;
   seats = k.seats;
+}
+
+pub table_laws : IsTable table version_row (λ _. ⊤)
+table_laws = record {
+  lists = lists;
+  one = one;
+  keeps = λ db t k. k.versions;
+  stores = λ db t k. each_is t.versions;
+  still = still;
+  stands = λ m t s. subst (λ l. IsPermutation first_tables.versions l) (sym s.versions) (IsPermutation-refl first_tables.versions);
 }

@@ -11,22 +11,7 @@ ghost use Rattle.kcr_tables.specs.Held.{Tables, Holds};
 ghost use Rattle.kcr_tables.specs.Changed.{changed, changed_all};
 ghost use Rattle.kcr_tables.specs.Joint.{HoldsTables};
 
-use crate::appointments::put_appointment;
-use crate::bags::put_bag;
-use crate::boxes::put_box;
-use crate::ceremonies::put_ceremony;
-use crate::exceptions::put_exception;
-use crate::items::put_item;
-use crate::keys::put_key_row;
-use crate::marks::put_mark;
-use crate::people::put_person;
-use crate::safes::put_safe;
-use crate::seatings::put_seating;
-use crate::sheet::put_sheet_row;
-use crate::stays::put_stay;
-use crate::steps::put_step;
-use crate::trainings::put_training;
-use crate::withdrawals::put_withdrawal;
+use crate::table::{Put, PutWords};
 use kcr_base::Refusal;
 use kcr_history::Change;
 use sqlite::{Alter, Transaction};
@@ -43,22 +28,22 @@ fn make_change<S: Alter>(
     ensures frame { Writes (state S.Store tx.old.conn.now) (state S.Store tx.new.conn.now) result }
 {
     match change {
-        Change::PutPerson(row) => put_person(tx, row),
-        Change::PutTraining(row) => put_training(tx, row),
-        Change::PutWithdrawal(row) => put_withdrawal(tx, row),
-        Change::PutAppointment(row) => put_appointment(tx, row),
-        Change::PutBox(row) => put_box(tx, row),
-        Change::PutSafe(row) => put_safe(tx, row),
-        Change::PutBag(row) => put_bag(alloc, tx, row),
-        Change::PutItem(row) => put_item(tx, row),
-        Change::PutCeremony(row) => put_ceremony(tx, row),
-        Change::PutMark(row) => put_mark(tx, row),
-        Change::PutStep(row) => put_step(alloc, tx, row),
-        Change::PutSeating(row) => put_seating(tx, row),
-        Change::PutSheet(row) => put_sheet_row(tx, row),
-        Change::PutStay(row) => put_stay(tx, row),
-        Change::PutException(row) => put_exception(tx, row),
-        Change::PutKey(row) => put_key_row(tx, row),
+        Change::PutPerson(row) => row.put(tx),
+        Change::PutTraining(row) => row.put(tx),
+        Change::PutWithdrawal(row) => row.put(tx),
+        Change::PutAppointment(row) => row.put(tx),
+        Change::PutBox(row) => row.put(tx),
+        Change::PutSafe(row) => row.put(tx),
+        Change::PutBag(row) => row.put_words(alloc, tx),
+        Change::PutItem(row) => row.put(tx),
+        Change::PutCeremony(row) => row.put(tx),
+        Change::PutMark(row) => row.put(tx),
+        Change::PutStep(row) => row.put_words(alloc, tx),
+        Change::PutSeating(row) => row.put(tx),
+        Change::PutSheet(row) => row.put(tx),
+        Change::PutStay(row) => row.put(tx),
+        Change::PutException(row) => row.put(tx),
+        Change::PutKey(row) => row.put(tx),
     }
 }
 

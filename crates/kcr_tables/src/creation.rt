@@ -17,9 +17,8 @@ ghost use Rattle.kcr_tables.specs.Made.{first};
 ghost use Rattle.kcr_tables.specs.Schema.{all_tables};
 ghost use Rattle.kcr_custody.specs.declared.SafeNumber.TheVariants.{One, Two};
 
-use crate::safes::put_safe;
+use crate::table::Put;
 use crate::texts::{COUNT, create_text};
-use crate::versions::put_version;
 use kcr_base::{Facility, Refusal};
 use kcr_cells::Version;
 use kcr_cells::statements::write;
@@ -66,13 +65,13 @@ fn put_pair<S: Alter>(tx: &mut Transaction<'_, S>, facility: Facility) -> Result
         safe: SafeNumber::One,
         is_open: false,
     };
-    put_safe(tx, &equipment)?;
+    equipment.put(tx)?;
     let credentials = SafeRow {
         facility,
         safe: SafeNumber::Two,
         is_open: false,
     };
-    put_safe(tx, &credentials)
+    credentials.put(tx)
 }
 
 /// The tables and rows of `make`.
@@ -85,7 +84,7 @@ fn make_rows<S: Alter>(tx: &mut Transaction<'_, S>) -> Result<(), Refusal>
     put_pair(tx, Facility::East)?;
     put_pair(tx, Facility::West)?;
     let version = Version { number: VERSION };
-    put_version(tx, &version)
+    version.put(tx)
 }
 
 /// Makes the tables of a new register in an empty database: the four safes, which are shut, one row with the

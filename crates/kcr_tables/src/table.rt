@@ -1,28 +1,25 @@
 //! What a table of the register is, and the calls that read and change any of them inside a transaction.
 
-ghost use Rattle.std.specs.Prelude.{◌≡◌, ◌≢◌, List, ℕ, Bool, true, [], ◌∷◌, map, filter, IsPermutation, IfOk, IfErr, OnOk, IsTrue, ⊤};
-ghost use Rattle.std.specs.List.{AllByRecursion};
+ghost use Rattle.std.specs.Prelude.{◌≡◌, map, filter, IsPermutation, IfOk, IfErr, OnOk, IsTrue};
 ghost use Rattle.sqlite.specs.Held.{state};
 ghost use Rattle.sqlite.specs.State.{HasCleanDisk, KeepsCommit, Survives};
-ghost use Rattle.sqlite.specs.Tree.{Trees};
-ghost use Rattle.sqlite.specs.Edit.{IsNoIndex};
 ghost use Rattle.sqlite.specs.declared.types.Value.{Value as Cell};
 ghost use Rattle.sqlite.specs.declared.types.Value.TheVariants.{Int, Text};
 ghost use Rattle.std.specs.Prelude.{pos};
 ghost use Rattle.sqlite.specs.Values.{bound, bound_value};
 ghost use Rattle.sqlite.specs.Value.{owned};
-ghost use Rattle.sqlite_catalog.specs.Listing.{IsSound};
 ghost use Rattle.kcr_history.specs.Tables as machine;
-ghost use Rattle.kcr_rows.specs.Keyed.{Place, Keeps, cells, put_in};
+ghost use Rattle.kcr_rows.specs.Keyed.{cells};
 ghost use Rattle.kcr_rows.specs.Refusals.{IsFault};
 ghost use Rattle.kcr_rows.proofs.FilterLemmas.{has_value};
 ghost use Rattle.kcr_tables.specs.Schema.{register_schema};
-ghost use Rattle.kcr_tables.specs.Held.{Tables, Kept, Holds};
+ghost use Rattle.kcr_tables.specs.Held.{Tables, Holds};
 ghost use Rattle.kcr_tables.specs.Frame.{Writes, Reads};
 ghost use Rattle.kcr_tables.specs.Asked.{asked_of, asked_all};
 ghost use Rattle.kcr_tables.specs.Exact.{rows_at, AskedAreShown, WholeIsShown};
-ghost use Rattle.kcr_tables.specs.Joint.{HoldsTables, Stands};
-ghost use Rattle.kcr_tables.specs.Statements.{ShowsRows, PutsRow};
+ghost use Rattle.kcr_tables.specs.Joint.{HoldsTables};
+ghost use Rattle.kcr_tables.specs.Statements.{PutsRow};
+ghost use Rattle.kcr_tables.specs.Table.{Table, IsTable, Finding, IsFinding, with_put};
 
 use kcr_base::code::Code;
 use kcr_base::{Initials, ItemCode, Key, Refusal, Serial};
@@ -36,46 +33,15 @@ use std::alloc::Global;
 
 /// A table of the register, by the values that its rows stand for.
 pub trait Listed: Stored {
-    /// Its rows among those of all tables.
-    ghost rows_in: { Tables → List Self };
-
-    /// Its rows among those of the machine.
-    ghost machine_rows: { machine.Tables → List Self };
-
-    /// Where it lies.
-    ghost place: { Place };
-
-    /// What is known of a value that was put, beside its row.
-    ghost is_stored: { Self → Type 0 };
-
-    /// The tables with these rows in the place of its own.
-    ghost with_rows: { List Self → Tables → Tables };
-
-    /// The text of `all_text`.
-    ghost all_sql: { List ℕ };
+    /// What it is: where its rows stand, and the text of `all_text`.
+    ghost table: { Table Self };
 
     /// The text that shows all rows, in the order of their keys.
     fn all_text() -> &'static str
-        ensures { result.now ≡ all_sql };
+        ensures { result.now ≡ table.all_sql };
 
-    // The text shows every row.
-    ghost lists: { ShowsRows all_sql place [] (λ _. true) };
-
-    // A value that was read is the one that was put.
-    ghost one: { (x y : Self) → Self.Stored.is_read x → is_stored y → Self.Stored.row_of x ≡ Self.Stored.row_of y → x ≡ y };
-
-    // Where the tables are kept, the rows are kept in their place.
-    ghost keeps: { (db : Trees) (t : Tables) → Kept db t → Keeps place db (map Self.Stored.row_of (rows_in t)) };
-
-    // What is known of each value that was put.
-    ghost stores: { (db : Trees) (t : Tables) → Kept db t → AllByRecursion is_stored (rows_in t) };
-
-    // Where the rows change, the other tables stay.
-    ghost still: { (old new : Trees) (rows : List Self) (t : Tables) → IsSound register_schema new → Keeps place new (map Self.Stored.row_of rows) → AllByRecursion is_stored rows
-        → ((tree : ℕ) → tree ≢ place.tree → IsNoIndex register_schema tree → new tree ≡ old tree) → Kept old t → Kept new (with_rows rows t) };
-
-    // The rows are the machine's, in another order.
-    ghost stands: { (m : machine.Tables) (t : Tables) → Stands m t → IsPermutation (machine_rows m) (rows_in t) };
+    // What holds of it.
+    ghost table_laws: { IsTable table Self.Stored.row_of Self.Stored.is_read };
 }
 
 /// A value by which rows are found.
@@ -138,37 +104,37 @@ impl AsCell for u32 {
 
 /// A table whose rows are found by the value in one of its columns.
 pub trait Finds<K: AsCell>: Listed {
-    /// Whether a row has the value.
-    ghost is_under: { K → Self → Bool };
-
-    /// The column, counted from 0.
-    ghost column: { ℕ };
-
-    /// The text of `find_text`.
-    ghost find_sql: { List ℕ };
+    /// How they are found: which rows are meant, the column, and the text of `find_text`.
+    ghost finding: { Finding K Self };
 
     /// The text that shows the rows with a value, in the order of their keys.
     fn find_text() -> &'static str
-        ensures { result.now ≡ find_sql };
+        ensures { result.now ≡ finding.find_sql };
 
-    // The text shows the rows with the value in the column.
-    ghost finds: { (key : K) → ShowsRows find_sql Self.Listed.place (K.AsCell.value_of key ∷ []) (has_value column (K.AsCell.value_of key)) };
-
-    // These are the rows under the key.
-    ghost under: { (key : K) (x : Self) → has_value column (K.AsCell.value_of key) (Self.Stored.row_of x) ≡ is_under key x };
+    // What holds of it.
+    ghost finding_laws: { IsFinding finding Self.Listed.table.place K.AsCell.value_of Self.Stored.row_of };
 }
 
-/// A table in which a row is put under its key, new or in the place of the row there.
-pub trait Puts: Listed {
-    /// The text of `put_text`.
-    ghost put_sql: { List ℕ };
+/// A table in which the row of a value is put under its key.
+pub trait Put: Listed {
+    /// Puts the row under its key, new or in the place of the row there; every other row stays. The error is `Memory`,
+    /// or else `Disk`, as where another row has a value that no two rows share, or where a command's key is taken. What
+    /// was committed before stays.
+    fn put<S: Alter>(&self, tx: &mut Transaction<'_, S>) -> Result<(), Refusal>
+        ensures same_reference { tx.new.conn.ghost_name ≡ tx.old.conn.ghost_name }
+        ensures holds { HasCleanDisk (state S.Store tx.new.conn.now) → (t : Tables) → Holds (state S.Store tx.old.conn.now).now t
+            → OnOk result (Holds (state S.Store tx.new.conn.now).now (with_put Self.Listed.table Self.Stored.row_of self.now t)) }
+        ensures frame { Writes (state S.Store tx.old.conn.now) (state S.Store tx.new.conn.now) result };
+}
 
-    /// The text that puts a row, whose cells are its parameters.
-    fn put_text() -> &'static str
-        ensures { result.now ≡ put_sql };
-
-    // The text puts the row.
-    ghost puts: { PutsRow put_sql Self.Listed.place Self.Stored.row_of };
+/// A table in which a row is put the same way, where words of the row are made in memory first.
+pub trait PutWords: Listed {
+    /// Puts the row, as `Put::put` does.
+    fn put_words<S: Alter>(&self, alloc: Global, tx: &mut Transaction<'_, S>) -> Result<(), Refusal>
+        ensures same_reference { tx.new.conn.ghost_name ≡ tx.old.conn.ghost_name }
+        ensures holds { HasCleanDisk (state S.Store tx.new.conn.now) → (t : Tables) → Holds (state S.Store tx.old.conn.now).now t
+            → OnOk result (Holds (state S.Store tx.new.conn.now).now (with_put Self.Listed.table Self.Stored.row_of self.now t)) }
+        ensures frame { Writes (state S.Store tx.old.conn.now) (state S.Store tx.new.conn.now) result };
 }
 
 /// All rows of a table, in the order of their keys. Nothing is changed. The error is `Memory` for want of memory, and
@@ -178,11 +144,11 @@ pub fn all_rows<S: Alter, T: Listed>(
     tx: &mut Transaction<'_, S>,
 ) -> Result<Vec<T>, Refusal>
     ensures same_reference { tx.new.conn.ghost_name ≡ tx.old.conn.ghost_name }
-    ensures rows { HasCleanDisk (state S.Store tx.new.conn.now) → (t : Tables) → Holds (state S.Store tx.old.conn.now).now t → IfOk result (λ all. all.items ≡ T.rows_in t) }
-    ensures machine { HasCleanDisk (state S.Store tx.new.conn.now) → (m : machine.Tables) → HoldsTables m (state S.Store tx.old.conn.now).now → IfOk result (λ all. IsPermutation (T.machine_rows m) all.items) }
+    ensures rows { HasCleanDisk (state S.Store tx.new.conn.now) → (t : Tables) → Holds (state S.Store tx.old.conn.now).now t → IfOk result (λ all. all.items ≡ T.table.rows_in t) }
+    ensures machine { HasCleanDisk (state S.Store tx.new.conn.now) → (m : machine.Tables) → HoldsTables m (state S.Store tx.old.conn.now).now → IfOk result (λ all. IsPermutation (T.table.machine_rows m) all.items) }
     ensures tables { HasCleanDisk (state S.Store tx.new.conn.now) → (m : machine.Tables) → HoldsTables m (state S.Store tx.old.conn.now).now → OnOk result (HoldsTables m (state S.Store tx.new.conn.now).now) }
     ensures exact { HasCleanDisk (state S.Store tx.new.conn.now) → (state S.Store tx.old.conn.now).now.schema ≡ register_schema
-        → IfOk result (λ all. IsPermutation (map (cells 1 T.place.width) ((state S.Store tx.old.conn.now).now.trees T.place.tree)) (map T.row_of all.items)) }
+        → IfOk result (λ all. IsPermutation (map (cells 1 T.table.place.width) ((state S.Store tx.old.conn.now).now.trees T.table.place.tree)) (map T.row_of all.items)) }
     ensures same { HasCleanDisk (state S.Store tx.new.conn.now)
         → (state S.Store tx.old.conn.now).now.schema ≡ register_schema
         → OnOk result ((state S.Store tx.new.conn.now).now ≡ (state S.Store tx.old.conn.now).now) }
@@ -204,12 +170,12 @@ pub fn rows_under<S: Alter, K: AsCell, T: Finds<K>>(
     key: &K,
 ) -> Result<Vec<T>, Refusal>
     ensures same_reference { tx.new.conn.ghost_name ≡ tx.old.conn.ghost_name }
-    ensures rows { HasCleanDisk (state S.Store tx.new.conn.now) → (t : Tables) → Holds (state S.Store tx.old.conn.now).now t → IfOk result (λ all. all.items ≡ filter (T.is_under key.now) (T.rows_in t)) }
+    ensures rows { HasCleanDisk (state S.Store tx.new.conn.now) → (t : Tables) → Holds (state S.Store tx.old.conn.now).now t → IfOk result (λ all. all.items ≡ filter (T.finding.is_under key.now) (T.table.rows_in t)) }
     ensures exact { HasCleanDisk (state S.Store tx.new.conn.now)
         → (state S.Store tx.old.conn.now).now.schema ≡ register_schema
         → IfOk result (λ all. IsPermutation
-        (filter (has_value T.column (K.value_of key.now))
-        (rows_at T.place (state S.Store tx.old.conn.now).now.trees))
+        (filter (has_value T.finding.column (K.value_of key.now))
+        (rows_at T.table.place (state S.Store tx.old.conn.now).now.trees))
         (map T.row_of all.items)) }
     ensures same { HasCleanDisk (state S.Store tx.new.conn.now)
         → (state S.Store tx.old.conn.now).now.schema ≡ register_schema
@@ -232,10 +198,10 @@ pub fn asked_rows<S: Alter, K: AsCell, T: Finds<K>>(
     asked: &Rows<K>,
 ) -> Result<Vec<T>, Refusal>
     ensures same_reference { tx.new.conn.ghost_name ≡ tx.old.conn.ghost_name }
-    ensures rows { HasCleanDisk (state S.Store tx.new.conn.now) → (t : Tables) → Holds (state S.Store tx.old.conn.now).now t → IfOk result (λ all. all.items ≡ asked_of T.is_under asked.now (T.rows_in t)) }
+    ensures rows { HasCleanDisk (state S.Store tx.new.conn.now) → (t : Tables) → Holds (state S.Store tx.old.conn.now).now t → IfOk result (λ all. all.items ≡ asked_of T.finding.is_under asked.now (T.table.rows_in t)) }
     ensures exact { HasCleanDisk (state S.Store tx.new.conn.now)
         → (state S.Store tx.old.conn.now).now.schema ≡ register_schema
-        → IfOk result (λ all. AskedAreShown T.row_of T.place (λ key. has_value T.column (K.value_of key)) asked.now
+        → IfOk result (λ all. AskedAreShown T.row_of T.table.place (λ key. has_value T.finding.column (K.value_of key)) asked.now
         all.items (state S.Store tx.old.conn.now).now.trees) }
     ensures frame { Reads (state S.Store tx.old.conn.now) (state S.Store tx.new.conn.now) result }
 {
@@ -253,10 +219,10 @@ pub fn asked_whole<S: Alter, T: Listed>(
     asked: bool,
 ) -> Result<Vec<T>, Refusal>
     ensures same_reference { tx.new.conn.ghost_name ≡ tx.old.conn.ghost_name }
-    ensures rows { HasCleanDisk (state S.Store tx.new.conn.now) → (t : Tables) → Holds (state S.Store tx.old.conn.now).now t → IfOk result (λ all. all.items ≡ asked_all asked (T.rows_in t)) }
+    ensures rows { HasCleanDisk (state S.Store tx.new.conn.now) → (t : Tables) → Holds (state S.Store tx.old.conn.now).now t → IfOk result (λ all. all.items ≡ asked_all asked (T.table.rows_in t)) }
     ensures exact { HasCleanDisk (state S.Store tx.new.conn.now)
         → (state S.Store tx.old.conn.now).now.schema ≡ register_schema
-        → IfOk result (λ all. WholeIsShown T.row_of T.place asked all.items
+        → IfOk result (λ all. WholeIsShown T.row_of T.table.place asked all.items
         (state S.Store tx.old.conn.now).now.trees) }
     ensures frame { Reads (state S.Store tx.old.conn.now) (state S.Store tx.new.conn.now) result }
 {
@@ -267,19 +233,21 @@ pub fn asked_whole<S: Alter, T: Listed>(
     }
 }
 
-/// Puts the row of a value under its key, new or in the place of the row there; every other row stays. The error is
-/// `Memory` or `Disk`, and what was committed before stays. `cells` are those of the row.
-pub fn put_cells<S: Alter, T: Puts>(
+/// Puts the row of a value under its key by the text `sql`, whose parameters are `cells`, those of the row; the errors
+/// are those of `Put::put`.
+pub fn put_cells<S: Alter, T: Listed>(
     tx: &mut Transaction<'_, S>,
     row: &T,
+    sql: &str,
     cells: &[ValueRef<'_>],
 ) -> Result<(), Refusal>
+    requires puts { PutsRow sql.now T.table.place T.row_of }
     requires cells { bound cells.now ≡ T.row_of row.now }
-    requires stored { T.is_stored row.now }
+    requires stored { T.table.is_stored row.now }
     ensures same_reference { tx.new.conn.ghost_name ≡ tx.old.conn.ghost_name }
-    ensures holds { HasCleanDisk (state S.Store tx.new.conn.now) → (t : Tables) → Holds (state S.Store tx.old.conn.now).now t → OnOk result (Holds (state S.Store tx.new.conn.now).now (T.with_rows (put_in T.place.keys T.row_of row.now (T.rows_in t)) t)) }
+    ensures holds { HasCleanDisk (state S.Store tx.new.conn.now) → (t : Tables) → Holds (state S.Store tx.old.conn.now).now t → OnOk result (Holds (state S.Store tx.new.conn.now).now (with_put T.table T.row_of row.now t)) }
     ensures frame { Writes (state S.Store tx.old.conn.now) (state S.Store tx.new.conn.now) result }
 {
     let _value = row;
-    write(tx, T::put_text(), cells)
+    write(tx, sql, cells)
 }

@@ -1,89 +1,47 @@
 //! The table trainings: a training of a person for a role, all of it its key.
 
-ghost use Rattle.std.specs.Prelude.{⊤, ◌≡◌, OnOk};
-ghost use Rattle.sqlite.specs.Held.{state};
-ghost use Rattle.sqlite.specs.State.{HasCleanDisk};
-ghost use Rattle.kcr_history.specs.Views.{is_training_of};
-ghost use Rattle.kcr_rows.specs.Keyed.{put_in};
-ghost use Rattle.kcr_rows.proofs.TableLemmas.{each_is};
-ghost use Rattle.kcr_cells.specs.Rows.{training_row};
-ghost use Rattle.kcr_tables.specs.Held.{trainings_place, Tables, Holds};
-ghost use Rattle.kcr_tables.specs.Frame.{Writes};
 ghost use Rattle.kcr_tables.specs.TrainingsLaws as laws;
 
-use crate::table::{Finds, Listed, Puts, put_cells};
+use crate::table::{Finds, Listed, Put, put_cells};
 use kcr_base::{Initials, Refusal};
 use kcr_people::Training;
 use kcr_rows::cells::{day_cell, initials_cell, role_cell};
 use sqlite::{Alter, Transaction};
 
 impl Listed for Training {
-    ghost rows_in = { λ t. t.trainings };
-
-    ghost machine_rows = { λ m. m.trainings };
-
-    ghost place = { trainings_place };
-
-    ghost is_stored = { λ _. ⊤ };
-
-    ghost with_rows = { λ rows t. record t { trainings = rows } };
-
-    ghost all_sql = { laws.all_sql };
+    ghost table = { laws.table };
 
     fn all_text() -> &'static str {
         "SELECT who, role, since, until FROM trainings ORDER BY who, role, since, until"
     }
 
-    ghost lists = { laws.lists };
-
-    ghost one = { laws.one };
-
-    ghost keeps = { λ db t k. k.trainings };
-
-    ghost stores = { λ db t k. each_is t.trainings };
-
-    ghost still = { laws.still };
-
-    ghost stands = { λ m t s. s.trainings };
+    ghost table_laws = { laws.table_laws };
 }
 
 /// The rows of one person.
 impl Finds<Initials> for Training {
-    ghost is_under = { λ who x. is_training_of who x };
-
-    ghost column = { 0 };
-
-    ghost find_sql = { laws.trainings_of_sql };
+    ghost finding = { laws.trainings_of };
 
     fn find_text() -> &'static str {
         "SELECT who, role, since, until FROM trainings WHERE who = ?1 ORDER BY who, role, since, until"
     }
 
-    ghost finds = { laws.shows_trainings_of };
-
-    ghost under = { laws.under_trainings_of };
+    ghost finding_laws = { laws.trainings_of_laws };
 }
 
-impl Puts for Training {
-    ghost put_sql = { laws.put_sql };
-
-    fn put_text() -> &'static str {
-        "INSERT INTO trainings (who, role, since, until) VALUES (?1, ?2, ?3, ?4) ON CONFLICT (who, role, since, until) DO UPDATE SET who = ?1, role = ?2, since = ?3, until = ?4"
+/// The row is put under its key, new or in the place of the row there.
+impl Put for Training {
+    #[tactic(auto, using(crate::specs::TrainingsLaws::puts))]
+    fn put<S: Alter>(&self, tx: &mut Transaction<'_, S>) -> Result<(), Refusal> {
+        let c0 = initials_cell(&self.who);
+        let c1 = role_cell(self.role);
+        let c2 = day_cell(self.since);
+        let c3 = day_cell(self.until);
+        put_cells(
+            tx,
+            self,
+            "INSERT INTO trainings (who, role, since, until) VALUES (?1, ?2, ?3, ?4) ON CONFLICT (who, role, since, until) DO UPDATE SET who = ?1, role = ?2, since = ?3, until = ?4",
+            &[c0, c1, c2, c3],
+        )
     }
-
-    ghost puts = { laws.puts };
-}
-
-/// Puts the row under its key, new or in place of the row there; every other row stays. The error is `Memory` or
-/// `Disk`, and what was committed before stays.
-pub fn put_training<S: Alter>(tx: &mut Transaction<'_, S>, row: &Training) -> Result<(), Refusal>
-    ensures same_reference { tx.new.conn.ghost_name ≡ tx.old.conn.ghost_name }
-    ensures holds { HasCleanDisk (state S.Store tx.new.conn.now) → (t : Tables) → Holds (state S.Store tx.old.conn.now).now t → OnOk result (Holds (state S.Store tx.new.conn.now).now (record t { trainings = put_in 4 training_row row.now t.trainings })) }
-    ensures frame { Writes (state S.Store tx.old.conn.now) (state S.Store tx.new.conn.now) result }
-{
-    let c0 = initials_cell(&row.who);
-    let c1 = role_cell(row.role);
-    let c2 = day_cell(row.since);
-    let c3 = day_cell(row.until);
-    put_cells(tx, row, &[c0, c1, c2, c3])
 }

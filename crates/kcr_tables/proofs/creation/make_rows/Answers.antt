@@ -12,14 +12,14 @@ returns-clause-holds g c clean has =
     let one = state g.S.Store c.create_all.new.tx.conn.now in
     let two = state g.S.Store c.put_pair.new.tx.conn.now in
     let three = state g.S.Store c.put_pair-2.new.tx.conn.now in
-    let new = state g.S.Store c.put_version.new.tx.conn.now in
-    let clean3 : HasCleanDisk three = was_clean three new _ c.put_version.ensures.frame.survives clean in
+    let new = state g.S.Store c.put.new.tx.conn.now in
+    let clean3 : HasCleanDisk three = was_clean three new _ c.put.ensures.frame.survives clean in
     let clean2 : HasCleanDisk two = was_clean two three _ c.put_pair-2.ensures.frame.survives clean3 in
     let clean1 : HasCleanDisk one = was_clean one two _ c.put_pair.ensures.frame.survives clean2 in
     let held1 = c.in_ok-create_all.ensures.holds clean1 has in
     let held2 = c.in_ok-put_pair.ensures.holds clean2 _ held1 in
     let held3 = c.in_ok-put_pair-2.ensures.holds clean3 _ held2 in
-    subst (λ (t : Tables). OnOk c.put_version.result (Holds new.now t)) first_is (c.put_version.ensures.holds clean _ held3)
+    subst (λ (t : Tables). OnOk c.put.result (Holds new.now t)) first_is (c.put.ensures.holds clean _ held3)
 
 pub returns-in_err-put_pair-clause-frame : goal.returns-in_err-put_pair-clause-frame
 returns-in_err-put_pair-clause-frame g c =
@@ -38,5 +38,5 @@ returns-clause-frame g c =
     let one = state g.S.Store c.create_all.new.tx.conn.now in
     let two = state g.S.Store c.put_pair.new.tx.conn.now in
     let three = state g.S.Store c.put_pair-2.new.tx.conn.now in
-    writes_then old three (state g.S.Store c.put_version.new.tx.conn.now) _ _
-    (writes_then old two three _ _ (writes_then old one two _ _ c.in_ok-create_all.ensures.frame c.in_ok-put_pair.ensures.frame) c.in_ok-put_pair-2.ensures.frame) c.put_version.ensures.frame
+    writes_then old three (state g.S.Store c.put.new.tx.conn.now) _ _
+    (writes_then old two three _ _ (writes_then old one two _ _ c.in_ok-create_all.ensures.frame c.in_ok-put_pair.ensures.frame) c.in_ok-put_pair-2.ensures.frame) c.put.ensures.frame

@@ -6,10 +6,10 @@ use Rattle.kcr_tables.proofs.creation.put_pair.Goals as goal
 
 pub returns-clause-holds : goal.returns-clause-holds
 returns-clause-holds g c clean t held =
-    let mid = state g.S.Store c.put_safe.new.tx.conn.now in
-    let new = state g.S.Store c.put_safe-2.new.tx.conn.now in
-    let before : HasCleanDisk mid = was_clean mid new _ c.put_safe-2.ensures.frame.survives clean in
-    c.put_safe-2.ensures.holds clean _ (c.in_ok-put_safe.ensures.holds before t held)
+    let mid = state g.S.Store c.put.new.tx.conn.now in
+    let new = state g.S.Store c.put-2.new.tx.conn.now in
+    let before : HasCleanDisk mid = was_clean mid new _ c.put-2.ensures.frame.survives clean in
+    c.put-2.ensures.holds clean _ (c.in_ok-put.ensures.holds before t held)
 
 pub returns-clause-frame : goal.returns-clause-frame
-returns-clause-frame g c = writes_then (state g.S.Store c.args.tx.now.conn.now) (state g.S.Store c.put_safe.new.tx.conn.now) (state g.S.Store c.put_safe-2.new.tx.conn.now) _ _ c.in_ok-put_safe.ensures.frame c.put_safe-2.ensures.frame
+returns-clause-frame g c = writes_then (state g.S.Store c.args.tx.now.conn.now) (state g.S.Store c.put.new.tx.conn.now) (state g.S.Store c.put-2.new.tx.conn.now) _ _ c.in_ok-put.ensures.frame c.put-2.ensures.frame

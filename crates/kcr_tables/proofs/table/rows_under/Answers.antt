@@ -12,33 +12,33 @@ use Rattle.kcr_tables.proofs.table.rows_under.Goals as goal
 
 pub returns-clause-rows : goal.returns-clause-rows
 returns-clause-rows g c clean t held =
-    let T = g.T.Listed in
-    let laws = g.met.T.Listed in
+    let T = g.T.Listed.table in
+    let laws = g.met.T.Listed.table_laws in
     let key = c.args.key.now in
     let value = g.K.AsCell.value_of key in
     let old = state g.S.Store c.args.tx.now.conn.now in
     let new = state g.S.Store c.rows_of.new.tx.conn.now in
     let shown = subst₂ (λ (sql : List ℕ) (v : Row). IfOk c.rows_of.result (λ all. Shown sql v old new (map g.T.Stored.row_of all.items))) c.find_text.ensures (λ i. c.cell.ensures i ∷ []) (c.rows_of.ensures.shown clean) in
     if_both _ _ _ (λ all h read.
-    rows_shown g.T.Finds.find_sql T.place (value ∷ []) (has_value g.T.Finds.column value) (g.met.T.Finds.finds key) g.T.Stored.row_of g.T.Stored.is_read T.is_stored laws.one
-    (g.T.Finds.is_under key) (g.met.T.Finds.under key) old new all.items held.schema
+    rows_shown g.T.Finds.finding.find_sql T.place (value ∷ []) (has_value g.T.Finds.finding.column value) (g.met.T.Finds.finding_laws.finds key) g.T.Stored.row_of g.T.Stored.is_read T.is_stored laws.one
+    (g.T.Finds.finding.is_under key) (g.met.T.Finds.finding_laws.under key) old new all.items held.schema
     h read (T.rows_in t) (laws.stores old.now.trees t held.kept) (laws.keeps old.now.trees t held.kept)) c.rows_of.result shown c.rows_of.ensures.read
 
 pub returns-clause-exact : goal.returns-clause-exact
 returns-clause-exact g c clean has =
-    let T = g.T.Listed in
+    let T = g.T.Listed.table in
     let key = c.args.key.now in
     let value = g.K.AsCell.value_of key in
     let old = state g.S.Store c.args.tx.now.conn.now in
     let new = state g.S.Store c.rows_of.new.tx.conn.now in
     let shown = subst₂ (λ (sql : List ℕ) (v : Row). IfOk c.rows_of.result (λ all. Shown sql v old new (map g.T.Stored.row_of all.items))) c.find_text.ensures (λ i. c.cell.ensures i ∷ []) (c.rows_of.ensures.shown clean) in
-    if_ok _ _ (λ all h. every_row g.T.Finds.find_sql T.place (value ∷ []) (has_value g.T.Finds.column value) (g.met.T.Finds.finds key) g.T.Stored.row_of old new all.items has h) c.rows_of.result shown
+    if_ok _ _ (λ all h. every_row g.T.Finds.finding.find_sql T.place (value ∷ []) (has_value g.T.Finds.finding.column value) (g.met.T.Finds.finding_laws.finds key) g.T.Stored.row_of old new all.items has h) c.rows_of.result shown
 
 pub returns-clause-same : goal.returns-clause-same
 returns-clause-same g c =
     let old = state g.S.Store c.args.tx.now.conn.now in
     let new = state g.S.Store c.rows_of.new.tx.conn.now in
-    same_by g.T.Finds.find_sql old new c.rows_of.result (g.met.T.Finds.finds c.args.key.now).bare (subst (λ (sql : List ℕ). HasCleanDisk new → IsPlain (understood old.now.schema sql) → OnOk c.rows_of.result (IsUnchanged old new)) c.find_text.ensures c.rows_of.ensures.same)
+    same_by g.T.Finds.finding.find_sql old new c.rows_of.result (g.met.T.Finds.finding_laws.finds c.args.key.now).bare (subst (λ (sql : List ℕ). HasCleanDisk new → IsPlain (understood old.now.schema sql) → OnOk c.rows_of.result (IsUnchanged old new)) c.find_text.ensures c.rows_of.ensures.same)
 
 pub returns-clause-holds : goal.returns-clause-holds
 returns-clause-holds g c = same_holds (state g.S.Store c.args.tx.now.conn.now) (state g.S.Store c.rows_of.new.tx.conn.now) c.rows_of.result (returns-clause-same g c)

@@ -1,87 +1,71 @@
+use Rattle.std.proofs.Common.{rules}
 use Rattle.sqlite.specs.Held.{state}
+use Rattle.sqlite.specs.State.{HasCleanDisk}
 use Rattle.kcr_rows.proofs.InsideLemmas.{was_clean}
-use Rattle.kcr_tables.proofs.FrameLemmas.{reads_then, reads_to, reads_fails}
+use Rattle.kcr_cells.specs.Rows.{safe_row, bag_row, item_row}
+use Rattle.kcr_tables.specs.Exact.{has_text, is_item_row, AskedAreShown, WholeIsShown}
+use Rattle.kcr_tables.specs.Held.{safes_place, bags_place, items_place}
+use Rattle.kcr_tables.proofs.FrameLemmas.{reads_then, reads_to, reads_fails, read_later}
 use Rattle.kcr_tables.proofs.view.custody_rows.Goals as goal
 
 pub returns-in_err-boxes-clause-frame : goal.returns-in_err-boxes-clause-frame
-returns-in_err-boxes-clause-frame g c = reads_fails (state g.S.Store c.args.tx.now.conn.now) (state g.S.Store c.asked_whole.new.tx.conn.now) _ _ c.from_residual.ensures.1 c.in_err-boxes.ensures.frame
+returns-in_err-boxes-clause-frame g c =
+    reads_fails (state g.S.Store c.args.tx.now.conn.now) (state g.S.Store c.asked_whole.new.tx.conn.now) _ _ c.from_residual.ensures.1 c.in_err-boxes.ensures.frame
 
 pub returns-in_err-safes-clause-frame : goal.returns-in_err-safes-clause-frame
-returns-in_err-safes-clause-frame g c = reads_then (state g.S.Store c.args.tx.now.conn.now) (state g.S.Store c.asked_whole.new.tx.conn.now) (state g.S.Store c.asked_whole-2.new.tx.conn.now) _ _ c.in_ok-boxes.ensures.frame (reads_fails (state g.S.Store c.asked_whole.new.tx.conn.now) (state g.S.Store c.asked_whole-2.new.tx.conn.now) _ _ c.from_residual-in_err-safes.ensures.1 c.in_err-safes.ensures.frame)
+returns-in_err-safes-clause-frame g c =
+    let old = state g.S.Store c.args.tx.now.conn.now in
+    let s0 = state g.S.Store c.asked_whole.new.tx.conn.now in
+    let s1 = state g.S.Store c.asked_whole-2.new.tx.conn.now in
+    let to0 = c.in_ok-boxes.ensures.frame in
+    reads_then old s0 s1 _ _ to0 (reads_fails s0 s1 _ _ c.from_residual-in_err-safes.ensures.1 c.in_err-safes.ensures.frame)
 
 pub returns-in_err-bags-clause-frame : goal.returns-in_err-bags-clause-frame
-returns-in_err-bags-clause-frame g c = reads_then (state g.S.Store c.args.tx.now.conn.now) (state g.S.Store c.asked_whole-2.new.tx.conn.now) (state g.S.Store c.asked_rows.new.tx.conn.now) _ _ (reads_then (state g.S.Store c.args.tx.now.conn.now) (state g.S.Store c.asked_whole.new.tx.conn.now) (state g.S.Store c.asked_whole-2.new.tx.conn.now) _ _ c.in_ok-boxes.ensures.frame c.in_ok-safes.ensures.frame) (reads_fails (state g.S.Store c.asked_whole-2.new.tx.conn.now) (state g.S.Store c.asked_rows.new.tx.conn.now) _ _ c.from_residual-in_err-bags.ensures.1 c.in_err-bags.ensures.frame)
+returns-in_err-bags-clause-frame g c =
+    let old = state g.S.Store c.args.tx.now.conn.now in
+    let s0 = state g.S.Store c.asked_whole.new.tx.conn.now in
+    let s1 = state g.S.Store c.asked_whole-2.new.tx.conn.now in
+    let s2 = state g.S.Store c.asked_rows.new.tx.conn.now in
+    let to0 = c.in_ok-boxes.ensures.frame in
+    let to1 = reads_then old s0 s1 _ _ to0 c.in_ok-safes.ensures.frame in
+    reads_then old s1 s2 _ _ to1 (reads_fails s1 s2 _ _ c.from_residual-in_err-bags.ensures.1 c.in_err-bags.ensures.frame)
 
 pub returns-in_err-items-clause-frame : goal.returns-in_err-items-clause-frame
-returns-in_err-items-clause-frame g c = reads_then (state g.S.Store c.args.tx.now.conn.now) (state g.S.Store c.asked_rows.new.tx.conn.now) (state g.S.Store c.asked_items.new.tx.conn.now) _ _ (reads_then (state g.S.Store c.args.tx.now.conn.now) (state g.S.Store c.asked_whole-2.new.tx.conn.now) (state g.S.Store c.asked_rows.new.tx.conn.now) _ _ (reads_then (state g.S.Store c.args.tx.now.conn.now) (state g.S.Store c.asked_whole.new.tx.conn.now) (state g.S.Store c.asked_whole-2.new.tx.conn.now) _ _ c.in_ok-boxes.ensures.frame c.in_ok-safes.ensures.frame) c.in_ok-bags.ensures.frame) (reads_fails (state g.S.Store c.asked_rows.new.tx.conn.now) (state g.S.Store c.asked_items.new.tx.conn.now) _ _ c.from_residual-in_err-items.ensures.1 c.in_err-items.ensures.frame)
-
-pub returns-clause-frame : goal.returns-clause-frame
-returns-clause-frame g c = reads_to (state g.S.Store c.args.tx.now.conn.now) (state g.S.Store c.asked_items.new.tx.conn.now) _ _ tt (reads_then (state g.S.Store c.args.tx.now.conn.now) (state g.S.Store c.asked_rows.new.tx.conn.now) (state g.S.Store c.asked_items.new.tx.conn.now) _ _ (reads_then (state g.S.Store c.args.tx.now.conn.now) (state g.S.Store c.asked_whole-2.new.tx.conn.now) (state g.S.Store c.asked_rows.new.tx.conn.now) _ _ (reads_then (state g.S.Store c.args.tx.now.conn.now) (state g.S.Store c.asked_whole.new.tx.conn.now) (state g.S.Store c.asked_whole-2.new.tx.conn.now) _ _ c.in_ok-boxes.ensures.frame c.in_ok-safes.ensures.frame) c.in_ok-bags.ensures.frame) c.in_ok-items.ensures.frame)
-
-pub returns-clause-boxes : goal.returns-clause-boxes
-returns-clause-boxes g c clean t held =
+returns-in_err-items-clause-frame g c =
     let old = state g.S.Store c.args.tx.now.conn.now in
     let s0 = state g.S.Store c.asked_whole.new.tx.conn.now in
     let s1 = state g.S.Store c.asked_whole-2.new.tx.conn.now in
     let s2 = state g.S.Store c.asked_rows.new.tx.conn.now in
     let s3 = state g.S.Store c.asked_items.new.tx.conn.now in
-    let clean3 = clean in
-    let clean2 = was_clean s2 s3 _ c.in_ok-items.ensures.frame.survives clean3 in
-    let clean1 = was_clean s1 s2 _ c.in_ok-bags.ensures.frame.survives clean2 in
-    let clean0 = was_clean s0 s1 _ c.in_ok-safes.ensures.frame.survives clean1 in
-    let held0 = held in
-    let held1 = c.in_ok-boxes.ensures.frame.holds clean0 t held0 in
-    let held2 = c.in_ok-safes.ensures.frame.holds clean1 t held1 in
-    let held3 = c.in_ok-bags.ensures.frame.holds clean2 t held2 in
-    c.in_ok-boxes.ensures.rows clean0 t held0
+    let to0 = c.in_ok-boxes.ensures.frame in
+    let to1 = reads_then old s0 s1 _ _ to0 c.in_ok-safes.ensures.frame in
+    let to2 = reads_then old s1 s2 _ _ to1 c.in_ok-bags.ensures.frame in
+    reads_then old s2 s3 _ _ to2 (reads_fails s2 s3 _ _ c.from_residual-in_err-items.ensures.1 c.in_err-items.ensures.frame)
 
-pub returns-clause-safes : goal.returns-clause-safes
-returns-clause-safes g c clean t held =
+pub returns : goal.returns
+returns g c =
     let old = state g.S.Store c.args.tx.now.conn.now in
     let s0 = state g.S.Store c.asked_whole.new.tx.conn.now in
     let s1 = state g.S.Store c.asked_whole-2.new.tx.conn.now in
     let s2 = state g.S.Store c.asked_rows.new.tx.conn.now in
     let s3 = state g.S.Store c.asked_items.new.tx.conn.now in
-    let clean3 = clean in
-    let clean2 = was_clean s2 s3 _ c.in_ok-items.ensures.frame.survives clean3 in
-    let clean1 = was_clean s1 s2 _ c.in_ok-bags.ensures.frame.survives clean2 in
-    let clean0 = was_clean s0 s1 _ c.in_ok-safes.ensures.frame.survives clean1 in
-    let held0 = held in
-    let held1 = c.in_ok-boxes.ensures.frame.holds clean0 t held0 in
-    let held2 = c.in_ok-safes.ensures.frame.holds clean1 t held1 in
-    let held3 = c.in_ok-bags.ensures.frame.holds clean2 t held2 in
-    c.in_ok-safes.ensures.rows clean1 t held1
-
-pub returns-clause-bags : goal.returns-clause-bags
-returns-clause-bags g c clean t held =
-    let old = state g.S.Store c.args.tx.now.conn.now in
-    let s0 = state g.S.Store c.asked_whole.new.tx.conn.now in
-    let s1 = state g.S.Store c.asked_whole-2.new.tx.conn.now in
-    let s2 = state g.S.Store c.asked_rows.new.tx.conn.now in
-    let s3 = state g.S.Store c.asked_items.new.tx.conn.now in
-    let clean3 = clean in
-    let clean2 = was_clean s2 s3 _ c.in_ok-items.ensures.frame.survives clean3 in
-    let clean1 = was_clean s1 s2 _ c.in_ok-bags.ensures.frame.survives clean2 in
-    let clean0 = was_clean s0 s1 _ c.in_ok-safes.ensures.frame.survives clean1 in
-    let held0 = held in
-    let held1 = c.in_ok-boxes.ensures.frame.holds clean0 t held0 in
-    let held2 = c.in_ok-safes.ensures.frame.holds clean1 t held1 in
-    let held3 = c.in_ok-bags.ensures.frame.holds clean2 t held2 in
-    c.in_ok-bags.ensures.rows clean2 t held2
-
-pub returns-clause-items : goal.returns-clause-items
-returns-clause-items g c clean t held =
-    let old = state g.S.Store c.args.tx.now.conn.now in
-    let s0 = state g.S.Store c.asked_whole.new.tx.conn.now in
-    let s1 = state g.S.Store c.asked_whole-2.new.tx.conn.now in
-    let s2 = state g.S.Store c.asked_rows.new.tx.conn.now in
-    let s3 = state g.S.Store c.asked_items.new.tx.conn.now in
-    let clean3 = clean in
-    let clean2 = was_clean s2 s3 _ c.in_ok-items.ensures.frame.survives clean3 in
-    let clean1 = was_clean s1 s2 _ c.in_ok-bags.ensures.frame.survives clean2 in
-    let clean0 = was_clean s0 s1 _ c.in_ok-safes.ensures.frame.survives clean1 in
-    let held0 = held in
-    let held1 = c.in_ok-boxes.ensures.frame.holds clean0 t held0 in
-    let held2 = c.in_ok-safes.ensures.frame.holds clean1 t held1 in
-    let held3 = c.in_ok-bags.ensures.frame.holds clean2 t held2 in
-    c.in_ok-items.ensures.rows clean3 t held3
+    let to0 = c.in_ok-boxes.ensures.frame in
+    let to1 = reads_then old s0 s1 _ _ to0 c.in_ok-safes.ensures.frame in
+    let to2 = reads_then old s1 s2 _ _ to1 c.in_ok-bags.ensures.frame in
+    let clean2 : HasCleanDisk s3 → HasCleanDisk s2 = λ clean. was_clean s2 s3 _ c.in_ok-items.ensures.frame.survives clean in
+    let clean1 : HasCleanDisk s3 → HasCleanDisk s1 = λ clean. was_clean s1 s2 _ c.in_ok-bags.ensures.frame.survives (clean2 clean) in
+    let clean0 : HasCleanDisk s3 → HasCleanDisk s0 = λ clean. was_clean s0 s1 _ c.in_ok-safes.ensures.frame.survives (clean1 clean) in record {
+      same_reference = search rules;
+      boxes = λ clean t held. c.in_ok-boxes.ensures.rows (clean0 clean) t held;
+      safes = λ clean t held. c.in_ok-safes.ensures.rows (clean1 clean) t (to0.holds (clean0 clean) t held);
+      bags = λ clean t held. c.in_ok-bags.ensures.rows (clean2 clean) t (to1.holds (clean1 clean) t held);
+      items = λ clean t held. c.in_ok-items.ensures.rows clean t (to2.holds (clean2 clean) t held);
+      exact = λ clean has.
+          let asks = c.args.asks.now in record {
+            boxes_are = c.in_ok-boxes.ensures.exact (clean0 clean) has;
+            safes_are = read_later (WholeIsShown safe_row safes_place asks.safes c.in_ok-safes.safes.items) old s0 _ to0 (clean0 clean) has (c.in_ok-safes.ensures.exact (clean1 clean));
+            bags_are = read_later (AskedAreShown bag_row bags_place (has_text 0) asks.bags c.in_ok-bags.bags.items) old s1 _ to1 (clean1 clean) has (c.in_ok-bags.ensures.exact (clean2 clean));
+            items_are = read_later (AskedAreShown item_row items_place is_item_row asks.items c.in_ok-items.items.items) old s2 _ to2 (clean2 clean) has (c.in_ok-items.ensures.exact clean);
+          };
+      frame = reads_to old s3 _ _ tt (reads_then old s2 s3 _ _ to2 c.in_ok-items.ensures.frame);
+    }

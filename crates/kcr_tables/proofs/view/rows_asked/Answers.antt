@@ -1,4 +1,4 @@
-use Rattle.std.proofs.Common.{ap, ◌∙◌}
+use Rattle.std.proofs.Common.{rules, ap, ◌∙◌}
 use Rattle.sqlite.specs.Held.{state}
 use Rattle.sqlite.specs.State.{HasCleanDisk}
 use Rattle.kcr_history.specs.Views.{is_of_people, is_training_of, is_withdrawal_of, is_appointment_of, is_of_serial, is_item_of, is_of_number, is_mark_of, is_step_of, is_exception_of, row_of_key, greatest_number}
@@ -11,76 +11,90 @@ use Rattle.kcr_tables.proofs.StayLemmas.{stays_shown, apart_of}
 use Rattle.kcr_tables.proofs.ViewLemmas.{shows_on, asked_shows, all_shows, key_row_is, greatest_same}
 use Rattle.kcr_tables.proofs.view.rows_asked.Goals as goal
 
-pub returns-clause-view : goal.returns-clause-view
-returns-clause-view g c clean m h =
-    let old = state g.S.Store c.args.tx.now.conn.now in
-    let one = state g.S.Store c.asked_keys.new.tx.conn.now in
-    let two = state g.S.Store c.staff_rows.new.tx.conn.now in
-    let three = state g.S.Store c.custody_rows.new.tx.conn.now in
-    let new = state g.S.Store c.ceremony_rows.new.tx.conn.now in
-    let clean3 : HasCleanDisk three = was_clean three new _ c.ceremony_rows.ensures.frame.survives clean in
-    let clean2 : HasCleanDisk two = was_clean two three _ c.custody_rows.ensures.frame.survives clean3 in
-    let clean1 : HasCleanDisk one = was_clean one two _ c.staff_rows.ensures.frame.survives clean2 in
-    let t = h.tables.t in
-    let asks = c.args.asks.now in
-    let s = h.tables.stands in
-    let held = held_of m old.now h in
-    let held1 = c.in_ok-keys.ensures.frame.holds clean1 t held in
-    let held2 = c.in_ok-staff.ensures.frame.holds clean2 t held1 in
-    let held3 = c.in_ok-custody.ensures.frame.holds clean3 t held2 in
-    let keys = c.in_ok-keys.ensures.rows clean1 t held in
-    let staff = c.in_ok-staff.ensures in
-    let custody = c.in_ok-custody.ensures in
-    let ceremony = c.in_ok-ceremony.ensures in
-    let rises = kept_rises old.now.trees t h.tables.kept in record {
-      people = shows_on is_of_people asks.people m.people t.people _ s.people (staff.people clean2 t held1);
-      trainings = asked_shows is_training_of asks.trainings m.trainings t.trainings _ s.trainings (staff.trainings clean2 t held1);
-      withdrawals = asked_shows is_withdrawal_of asks.withdrawals m.withdrawals t.withdrawals _ s.withdrawals (staff.withdrawals clean2 t held1);
-      appointments = asked_shows is_appointment_of asks.appointments m.appointments t.appointments _ s.appointments (staff.appointments clean2 t held1);
-      boxes = all_shows asks.boxes m.boxes t.boxes _ s.boxes (custody.boxes clean3 t held2);
-      safes = all_shows asks.safes m.safes t.safes _ s.safes (custody.safes clean3 t held2);
-      bags = asked_shows is_of_serial asks.bags m.bags t.bags _ s.bags (custody.bags clean3 t held2);
-      items = shows_on is_item_of asks.items m.items t.items _ s.items (custody.items clean3 t held2);
-      ceremonies = asked_shows is_of_number asks.ceremonies m.ceremonies t.ceremonies _ s.ceremonies (ceremony.ceremonies clean t held3);
-      marks = asked_shows is_mark_of asks.marks m.marks t.marks _ s.marks (ceremony.marks clean t held3);
-      steps = asked_shows is_step_of asks.steps m.steps t.steps _ s.steps (ceremony.steps clean t held3);
-      exceptions = asked_shows is_exception_of asks.exceptions m.exceptions t.exceptions _ s.exceptions (ceremony.exceptions clean t held3);
-      stays = stays_shown asks.stays m.stays t.stays _ (apart_of t.stays h.tables.kept.stays.rising) s.stays (ceremony.stays clean t held3);
-      key_row = ap (row_of_key asks.key) keys.2 ∙ key_row_is m t s rises asks.key keys.0 keys.1;
-      greatest = ap greatest_number keys.2 ∙ greatest_same m t s rises asks.key keys.0 keys.1;
-    }
-
 pub returns-in_err-keys-clause-frame : goal.returns-in_err-keys-clause-frame
-returns-in_err-keys-clause-frame g c = reads_fails (state g.S.Store c.args.tx.now.conn.now) (state g.S.Store c.asked_keys.new.tx.conn.now) _ _ c.from_residual.ensures.1 c.in_err-keys.ensures.frame
+returns-in_err-keys-clause-frame g c =
+    reads_fails (state g.S.Store c.args.tx.now.conn.now) (state g.S.Store c.asked_keys.new.tx.conn.now) _ _ c.from_residual.ensures.1 c.in_err-keys.ensures.frame
 
 pub returns-in_err-staff-clause-frame : goal.returns-in_err-staff-clause-frame
-returns-in_err-staff-clause-frame g c = reads_then (state g.S.Store c.args.tx.now.conn.now) (state g.S.Store c.asked_keys.new.tx.conn.now) (state g.S.Store c.staff_rows.new.tx.conn.now) _ _ c.in_ok-keys.ensures.frame (reads_fails (state g.S.Store c.asked_keys.new.tx.conn.now) (state g.S.Store c.staff_rows.new.tx.conn.now) _ _ c.from_residual-in_err-staff.ensures.1 c.in_err-staff.ensures.frame)
+returns-in_err-staff-clause-frame g c =
+    let old = state g.S.Store c.args.tx.now.conn.now in
+    let s0 = state g.S.Store c.asked_keys.new.tx.conn.now in
+    let s1 = state g.S.Store c.staff_rows.new.tx.conn.now in
+    let to0 = c.in_ok-keys.ensures.frame in
+    reads_then old s0 s1 _ _ to0 (reads_fails s0 s1 _ _ c.from_residual-in_err-staff.ensures.1 c.in_err-staff.ensures.frame)
 
 pub returns-in_err-custody-clause-frame : goal.returns-in_err-custody-clause-frame
-returns-in_err-custody-clause-frame g c = reads_then (state g.S.Store c.args.tx.now.conn.now) (state g.S.Store c.staff_rows.new.tx.conn.now) (state g.S.Store c.custody_rows.new.tx.conn.now) _ _ (reads_then (state g.S.Store c.args.tx.now.conn.now) (state g.S.Store c.asked_keys.new.tx.conn.now) (state g.S.Store c.staff_rows.new.tx.conn.now) _ _ c.in_ok-keys.ensures.frame c.in_ok-staff.ensures.frame) (reads_fails (state g.S.Store c.staff_rows.new.tx.conn.now) (state g.S.Store c.custody_rows.new.tx.conn.now) _ _ c.from_residual-in_err-custody.ensures.1 c.in_err-custody.ensures.frame)
+returns-in_err-custody-clause-frame g c =
+    let old = state g.S.Store c.args.tx.now.conn.now in
+    let s0 = state g.S.Store c.asked_keys.new.tx.conn.now in
+    let s1 = state g.S.Store c.staff_rows.new.tx.conn.now in
+    let s2 = state g.S.Store c.custody_rows.new.tx.conn.now in
+    let to0 = c.in_ok-keys.ensures.frame in
+    let to1 = reads_then old s0 s1 _ _ to0 c.in_ok-staff.ensures.frame in
+    reads_then old s1 s2 _ _ to1 (reads_fails s1 s2 _ _ c.from_residual-in_err-custody.ensures.1 c.in_err-custody.ensures.frame)
 
 pub returns-in_err-ceremony-clause-frame : goal.returns-in_err-ceremony-clause-frame
-returns-in_err-ceremony-clause-frame g c = reads_then (state g.S.Store c.args.tx.now.conn.now) (state g.S.Store c.custody_rows.new.tx.conn.now) (state g.S.Store c.ceremony_rows.new.tx.conn.now) _ _ (reads_then (state g.S.Store c.args.tx.now.conn.now) (state g.S.Store c.staff_rows.new.tx.conn.now) (state g.S.Store c.custody_rows.new.tx.conn.now) _ _ (reads_then (state g.S.Store c.args.tx.now.conn.now) (state g.S.Store c.asked_keys.new.tx.conn.now) (state g.S.Store c.staff_rows.new.tx.conn.now) _ _ c.in_ok-keys.ensures.frame c.in_ok-staff.ensures.frame) c.in_ok-custody.ensures.frame) (reads_fails (state g.S.Store c.custody_rows.new.tx.conn.now) (state g.S.Store c.ceremony_rows.new.tx.conn.now) _ _ c.from_residual-in_err-ceremony.ensures.1 c.in_err-ceremony.ensures.frame)
-
-pub returns-clause-frame : goal.returns-clause-frame
-returns-clause-frame g c = reads_to (state g.S.Store c.args.tx.now.conn.now) (state g.S.Store c.ceremony_rows.new.tx.conn.now) _ _ tt (reads_then (state g.S.Store c.args.tx.now.conn.now) (state g.S.Store c.custody_rows.new.tx.conn.now) (state g.S.Store c.ceremony_rows.new.tx.conn.now) _ _ (reads_then (state g.S.Store c.args.tx.now.conn.now) (state g.S.Store c.staff_rows.new.tx.conn.now) (state g.S.Store c.custody_rows.new.tx.conn.now) _ _ (reads_then (state g.S.Store c.args.tx.now.conn.now) (state g.S.Store c.asked_keys.new.tx.conn.now) (state g.S.Store c.staff_rows.new.tx.conn.now) _ _ c.in_ok-keys.ensures.frame c.in_ok-staff.ensures.frame) c.in_ok-custody.ensures.frame) c.in_ok-ceremony.ensures.frame)
-
-pub returns-clause-exact : goal.returns-clause-exact
-returns-clause-exact g c clean has =
+returns-in_err-ceremony-clause-frame g c =
     let old = state g.S.Store c.args.tx.now.conn.now in
-    let asks = c.args.asks.now in
     let s0 = state g.S.Store c.asked_keys.new.tx.conn.now in
     let s1 = state g.S.Store c.staff_rows.new.tx.conn.now in
     let s2 = state g.S.Store c.custody_rows.new.tx.conn.now in
     let s3 = state g.S.Store c.ceremony_rows.new.tx.conn.now in
-    let clean2 = was_clean s2 s3 _ c.in_ok-ceremony.ensures.frame.survives clean in
-    let clean1 = was_clean s1 s2 _ c.in_ok-custody.ensures.frame.survives clean2 in
-    let clean0 = was_clean s0 s1 _ c.in_ok-staff.ensures.frame.survives clean1 in
     let to0 = c.in_ok-keys.ensures.frame in
     let to1 = reads_then old s0 s1 _ _ to0 c.in_ok-staff.ensures.frame in
-    let to2 = reads_then old s1 s2 _ _ to1 c.in_ok-custody.ensures.frame in record {
-      keys = c.in_ok-keys.ensures.exact clean0 has;
-      staff = read_later (StaffIsShown asks c.in_ok-staff.staff.people.items c.in_ok-staff.staff.trainings.items c.in_ok-staff.staff.withdrawals.items c.in_ok-staff.staff.appointments.items) old s0 _ to0 clean0 has (c.in_ok-staff.ensures.exact clean1);
-      custody = read_later (CustodyIsShown asks c.in_ok-custody.custody.boxes.items c.in_ok-custody.custody.safes.items c.in_ok-custody.custody.bags.items c.in_ok-custody.custody.items.items) old s1 _ to1 clean1 has (c.in_ok-custody.ensures.exact clean2);
-      ceremonies = read_later (CeremoniesAreShown asks c.in_ok-ceremony.ceremony.ceremonies.items c.in_ok-ceremony.ceremony.marks.items c.in_ok-ceremony.ceremony.steps.items c.in_ok-ceremony.ceremony.exceptions.items c.in_ok-ceremony.ceremony.stays.items) old s2 _ to2 clean2 has (c.in_ok-ceremony.ensures.exact clean);
+    let to2 = reads_then old s1 s2 _ _ to1 c.in_ok-custody.ensures.frame in
+    reads_then old s2 s3 _ _ to2 (reads_fails s2 s3 _ _ c.from_residual-in_err-ceremony.ensures.1 c.in_err-ceremony.ensures.frame)
+
+pub returns : goal.returns
+returns g c =
+    let old = state g.S.Store c.args.tx.now.conn.now in
+    let s0 = state g.S.Store c.asked_keys.new.tx.conn.now in
+    let s1 = state g.S.Store c.staff_rows.new.tx.conn.now in
+    let s2 = state g.S.Store c.custody_rows.new.tx.conn.now in
+    let s3 = state g.S.Store c.ceremony_rows.new.tx.conn.now in
+    let to0 = c.in_ok-keys.ensures.frame in
+    let to1 = reads_then old s0 s1 _ _ to0 c.in_ok-staff.ensures.frame in
+    let to2 = reads_then old s1 s2 _ _ to1 c.in_ok-custody.ensures.frame in
+    let clean2 : HasCleanDisk s3 → HasCleanDisk s2 = λ clean. was_clean s2 s3 _ c.in_ok-ceremony.ensures.frame.survives clean in
+    let clean1 : HasCleanDisk s3 → HasCleanDisk s1 = λ clean. was_clean s1 s2 _ c.in_ok-custody.ensures.frame.survives (clean2 clean) in
+    let clean0 : HasCleanDisk s3 → HasCleanDisk s0 = λ clean. was_clean s0 s1 _ c.in_ok-staff.ensures.frame.survives (clean1 clean) in record {
+      same_reference = search rules;
+      view = λ clean m h.
+          let t = h.tables.t in
+          let asks = c.args.asks.now in
+          let s = h.tables.stands in
+          let held = held_of m old.now h in
+          let held1 = to0.holds (clean0 clean) t held in
+          let held2 = to1.holds (clean1 clean) t held in
+          let held3 = to2.holds (clean2 clean) t held in
+          let keys = c.in_ok-keys.ensures.rows (clean0 clean) t held in
+          let staff = c.in_ok-staff.ensures in
+          let custody = c.in_ok-custody.ensures in
+          let ceremony = c.in_ok-ceremony.ensures in
+          let rises = kept_rises old.now.trees t h.tables.kept in record {
+            people = shows_on is_of_people asks.people m.people t.people _ s.people (staff.people (clean1 clean) t held1);
+            trainings = asked_shows is_training_of asks.trainings m.trainings t.trainings _ s.trainings (staff.trainings (clean1 clean) t held1);
+            withdrawals = asked_shows is_withdrawal_of asks.withdrawals m.withdrawals t.withdrawals _ s.withdrawals (staff.withdrawals (clean1 clean) t held1);
+            appointments = asked_shows is_appointment_of asks.appointments m.appointments t.appointments _ s.appointments (staff.appointments (clean1 clean) t held1);
+            boxes = all_shows asks.boxes m.boxes t.boxes _ s.boxes (custody.boxes (clean2 clean) t held2);
+            safes = all_shows asks.safes m.safes t.safes _ s.safes (custody.safes (clean2 clean) t held2);
+            bags = asked_shows is_of_serial asks.bags m.bags t.bags _ s.bags (custody.bags (clean2 clean) t held2);
+            items = shows_on is_item_of asks.items m.items t.items _ s.items (custody.items (clean2 clean) t held2);
+            ceremonies = asked_shows is_of_number asks.ceremonies m.ceremonies t.ceremonies _ s.ceremonies (ceremony.ceremonies clean t held3);
+            marks = asked_shows is_mark_of asks.marks m.marks t.marks _ s.marks (ceremony.marks clean t held3);
+            steps = asked_shows is_step_of asks.steps m.steps t.steps _ s.steps (ceremony.steps clean t held3);
+            exceptions = asked_shows is_exception_of asks.exceptions m.exceptions t.exceptions _ s.exceptions (ceremony.exceptions clean t held3);
+            stays = stays_shown asks.stays m.stays t.stays _ (apart_of t.stays h.tables.kept.stays.rising) s.stays (ceremony.stays clean t held3);
+            key_row = ap (row_of_key asks.key) keys.2 ∙ key_row_is m t s rises asks.key keys.0 keys.1;
+            greatest = ap greatest_number keys.2 ∙ greatest_same m t s rises asks.key keys.0 keys.1;
+          };
+      exact = λ clean has.
+          let asks = c.args.asks.now in record {
+            keys = c.in_ok-keys.ensures.exact (clean0 clean) has;
+            staff = read_later (StaffIsShown asks c.in_ok-staff.staff.people.items c.in_ok-staff.staff.trainings.items c.in_ok-staff.staff.withdrawals.items c.in_ok-staff.staff.appointments.items) old s0 _ to0 (clean0 clean) has (c.in_ok-staff.ensures.exact (clean1 clean));
+            custody = read_later (CustodyIsShown asks c.in_ok-custody.custody.boxes.items c.in_ok-custody.custody.safes.items c.in_ok-custody.custody.bags.items c.in_ok-custody.custody.items.items) old s1 _ to1 (clean1 clean) has (c.in_ok-custody.ensures.exact (clean2 clean));
+            ceremonies = read_later (CeremoniesAreShown asks c.in_ok-ceremony.ceremony.ceremonies.items c.in_ok-ceremony.ceremony.marks.items c.in_ok-ceremony.ceremony.steps.items c.in_ok-ceremony.ceremony.exceptions.items c.in_ok-ceremony.ceremony.stays.items) old s2 _ to2 (clean2 clean) has (c.in_ok-ceremony.ensures.exact clean);
+          };
+      opened = search rules;
+      frame = reads_to old s3 _ _ tt (reads_then old s2 s3 _ _ to2 c.in_ok-ceremony.ensures.frame);
     }

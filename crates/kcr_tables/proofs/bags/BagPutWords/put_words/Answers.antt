@@ -1,6 +1,6 @@
 use Rattle.std.proofs.Common.{[], ◌∷◌, ◌∙◌, ap}
 use Rattle.sqlite.specs.declared.types.Value.TheVariants.{Text}
-use Rattle.kcr_tables.proofs.bags.put_bag.Goals as goal
+use Rattle.kcr_tables.proofs.bags.BagPutWords.put_words.Goals as goal
 
 pub put_cells-requires-clause-cells : goal.put_cells-requires-clause-cells
 put_cells-requires-clause-cells g c = λ i. c.serial_cell-c0.ensures i ∷ (c.text_cell-c1.ensures ∙ ap Text c.in_ok-spot.ensures.text) i ∷ []

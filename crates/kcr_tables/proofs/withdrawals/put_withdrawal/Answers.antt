@@ -1,8 +1,0 @@
-use Rattle.std.proofs.Common.{[], ◌∷◌}
-use Rattle.kcr_tables.proofs.withdrawals.put_withdrawal.Goals as goal
-
-pub put_cells-requires-clause-cells : goal.put_cells-requires-clause-cells
-put_cells-requires-clause-cells g c = λ i. c.initials_cell-c0.ensures i ∷ c.role_cell-c1.ensures i ∷ c.day_cell-c2.ensures i ∷ c.day_cell-c3.ensures i ∷ c.day_cell-c4.ensures i ∷ []
-
-pub put_cells-requires-clause-stored : goal.put_cells-requires-clause-stored
-put_cells-requires-clause-stored g c = tt
