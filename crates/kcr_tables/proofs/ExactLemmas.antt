@@ -1,22 +1,20 @@
 -- That rows are those of values that are shown, whatever a table has.
-use Rattle.std.proofs.Common.{◌≡◌, inl, inr, ℕ, ◌+◌, ◌<◌, ◌||◌, Bool, true, false, cond, List, [], ◌∷◌, ◌++◌, map, filter, length, take, get_or, Result, IfOk, refl, sym, subst, arith, true≢false, if◌then◌else◌, IsPermutation, Vec, Global}
+use Rattle.std.proofs.Common.{◌≡◌, inl, inr, ℕ, ◌+◌, ◌<◌, ◌||◌, Bool, true, false, cond, List, [], ◌∷◌, ◌++◌, map, filter, length, take, Result, IfOk, refl, sym, subst, arith, true≢false, if◌then◌else◌, IsPermutation, Vec, Global}
 use Rattle.std.specs.List.{AllByRecursion, list_any}
-use Rattle.std.proofs.lemmas.List.{take_more}
 use Rattle.std.proofs.lemmas.List.Sorted.{IsPermutation-sym, length_permutation}
-use Rattle.std.proofs.lemmas.Slice.Eq.{bytes_eq-Decides}
 use Rattle.sqlite.specs.Order.{Row}
 use Rattle.sqlite.specs.Tree.{Trees}
 use Rattle.sqlite_rules.specs.Lists.{Has}
 use Rattle.sqlite_rules.proofs.ListLemmas.{all_has, all_from}
 use Rattle.sqlite_trees.proofs.ListLemmas.{all-append}
-use Rattle.kcr_base.specs.Same.{same_text}
 use Rattle.kcr_base.specs.declared.refusal.Refusal.{Refusal}
 use Rattle.kcr_history.specs.declared.views.Rows.{Rows}
 use Rattle.kcr_history.specs.declared.views.Rows.TheVariants.{Under, All}
 use Rattle.kcr_rows.specs.Keyed.{Place}
 use Rattle.kcr_rows.proofs.FailLemmas.{if_ok}
 use Rattle.kcr_rows.proofs.PutLemmas.{has_same, mapped_from}
-use Rattle.kcr_tables.specs.Exact.{rows_at, AreShown, AskedAreShown, WholeIsShown, OnceAreShown, IsOneOf, has_text, has_any}
+use Rattle.kcr_tables.specs.Asked.{asked_once, is_under_any}
+use Rattle.kcr_tables.specs.Exact.{rows_at, AreShown, AskedAreShown, WholeIsShown, IsOneOf}
 use Rattle.kcr_tables.proofs.HasLemmas.{has_left, has_right, filter_from, filter_to, filter_is}
 
 module _ {X : Type 0} (row_of : X → Row) where
@@ -49,65 +47,53 @@ module _ {X : Type 0} (row_of : X → Row) where
       → (r : Result (Vec X Global) Refusal) → IfOk r (λ all. IsPermutation (rows_at place db) (map row_of all.items)) → IfOk r (λ all. WholeIsShown row_of place asked all.items db)
   whole_asked place asked db is r h = subst (λ q. IfOk r (λ all. WholeIsShown row_of place q all.items db)) (sym is) (shown_in _ r h)
 
-  -- ---- rows found by a list of texts, of which one may be named twice
+  -- ---- rows found by a list of keys, of which some may be the same
 
-  module _ (place : Place) (db : Trees) where
-    abbrev rows : List Row
-    rows = rows_at place db
+  module _ {K : Type 0} (under : K → Row → Bool) (rows : List Row) where
+    -- the rows of each of the keys
+    abbrev pub EachAreShown : List X → List K → Type 0
+    EachAreShown shown = AllByRecursion (λ key. AreShown row_of shown (filter (under key) rows))
 
-    -- the rows of each of the texts
-    abbrev pub EachAreShown : List X → List (List ℕ) → Type 0
-    EachAreShown shown = AllByRecursion (λ text. AreShown row_of shown (filter (has_text 0 text) rows))
-
-    each_left : (shown more : List X) (texts : List (List ℕ)) → EachAreShown shown texts → EachAreShown (shown ++ more) texts
+    each_left : (shown more : List X) (keys : List K) → EachAreShown shown keys → EachAreShown (shown ++ more) keys
     each_left shown more [] each = tt
-    each_left shown more (text ∷ texts) each = (shown_left shown more _ each.0, each_left shown more texts each.1)
+    each_left shown more (key ∷ keys) each = (shown_left shown more _ each.0, each_left shown more keys each.1)
 
-    -- what is named is among the texts
-    named_are : (shown : List X) (text : List ℕ) (texts : List (List ℕ)) → list_any (same_text text) texts ≡ true → EachAreShown shown texts → AreShown row_of shown (filter (has_text 0 text) rows)
-    named_are shown text [] named each = absurd (true≢false (sym named))
-    named_are shown text (t ∷ texts) named each = by_test (same_text text t) refl named (λ more. named_are shown text texts more each.1)
-      where
-        by_test : (b : Bool) → same_text text t ≡ b → (b || list_any (same_text text) texts) ≡ true → (list_any (same_text text) texts ≡ true → AreShown row_of shown (filter (has_text 0 text) rows))
-            → AreShown row_of shown (filter (has_text 0 text) rows)
-        by_test true e named later = subst (λ k. AreShown row_of shown (filter (has_text 0 k) rows)) (sym ((bytes_eq-Decides text t).0 e)) each.0
-        by_test false e named later = later named
-
-    -- one text more
-    pub each_next : (texts : List (List ℕ)) (at : ℕ) → at < length texts → (shown found : List X) → EachAreShown shown (take at texts) → OnceAreShown row_of place texts at found db
-        → EachAreShown (shown ++ found) (take (at + 1) texts)
-    each_next texts at low shown found each once =
-        subst (EachAreShown (shown ++ found)) (sym (take_more texts at [] low))
-        (all-append (λ t. AreShown row_of (shown ++ found) (filter (has_text 0 t) rows)) before (text ∷ []) (each_left shown found before each) (by_test (list_any (same_text text) before) refl once, tt))
-      where
-        before : List (List ℕ)
-        before = take at texts
-
-        text : List ℕ
-        text = get_or texts at []
-
-        by_test : (b : Bool) → list_any (same_text text) before ≡ b → AreShown row_of found (cond b [] (filter (has_text 0 text) rows)) → AreShown row_of (shown ++ found) (filter (has_text 0 text) rows)
-        by_test true e once = shown_left shown found _ (named_are shown text before e each)
-        by_test false e once = shown_too found (shown ++ found) (has_right shown found) _ once
-
-    one_has : (shown : List X) (row : Row) → Has rows row → (texts : List (List ℕ)) → has_any 0 texts row ≡ true → EachAreShown shown texts → (x : X) × Has shown x × (row ≡ row_of x)
+    one_has : (shown : List X) (row : Row) → Has rows row → (keys : List K) → is_under_any under keys row ≡ true → EachAreShown shown keys → (x : X) × Has shown x × (row ≡ row_of x)
     one_has shown row there [] is each = absurd (true≢false (sym is))
-    one_has shown row there (t ∷ texts) is each = by_test (has_text 0 t row) refl is (λ more. one_has shown row there texts more each.1)
+    one_has shown row there (k ∷ keys) is each = by_test (under k row) refl is (λ more. one_has shown row there keys more each.1)
       where
-        by_test : (b : Bool) → has_text 0 t row ≡ b → (b || has_any 0 texts row) ≡ true → (has_any 0 texts row ≡ true → (x : X) × Has shown x × (row ≡ row_of x)) → (x : X) × Has shown x × (row ≡ row_of x)
-        by_test true e is later = all_has (λ r. (x : X) × Has shown x × (r ≡ row_of x)) (filter (has_text 0 t) rows) row each.0 (filter_to (has_text 0 t) rows row there e)
+        by_test : (b : Bool) → under k row ≡ b → (b || is_under_any under keys row) ≡ true → (is_under_any under keys row ≡ true → (x : X) × Has shown x × (row ≡ row_of x)) → (x : X) × Has shown x × (row ≡ row_of x)
+        by_test true e is later = all_has (λ r. (x : X) × Has shown x × (r ≡ row_of x)) (filter (under k) rows) row each.0 (filter_to (under k) rows row there e)
         by_test false e is later = later is
 
-    pub each_any : (shown : List X) (texts : List (List ℕ)) → EachAreShown shown texts → AreShown row_of shown (filter (has_any 0 texts) rows)
-    each_any shown texts each =
-        all_from (λ row. (x : X) × Has shown x × (row ≡ row_of x)) (filter (has_any 0 texts) rows) (λ row h. one_has shown row (filter_from (has_any 0 texts) rows row h) texts (filter_is (has_any 0 texts) rows row h) each)
+    pub each_any : (shown : List X) (keys : List K) → EachAreShown shown keys → AreShown row_of shown (filter (is_under_any under keys) rows)
+    each_any shown keys each =
+        all_from (λ row. (x : X) × Has shown x × (row ≡ row_of x)) (filter (is_under_any under keys) rows)
+        (λ row h. one_has shown row (filter_from (is_under_any under keys) rows row h) keys (filter_is (is_under_any under keys) rows row h) each)
 
-    -- a text that stands nowhere before, and was read
-    pub once_read : (texts : List (List ℕ)) (at : ℕ) (text : List ℕ) → get_or texts at [] ≡ text → list_any (same_text text) (take at texts) ≡ false
-        → (r : Result (Vec X Global) Refusal) → IfOk r (λ all. IsPermutation (filter (has_text 0 text) rows) (map row_of all.items)) → IfOk r (λ all. OnceAreShown row_of place texts at all.items db)
-    once_read texts at text is none r h =
-        subst (λ k. IfOk r (λ all. AreShown row_of all.items (if list_any (same_text k) (take at texts) then [] else filter (has_text 0 k) rows))) (sym is)
-        (subst (λ (b : Bool). IfOk r (λ all. AreShown row_of all.items (if b then [] else filter (has_text 0 text) rows))) (sym none) (shown_in _ r h))
+    module _ (same : K → K → Bool) (one : (a b : K) → same a b ≡ true → a ≡ b) where
+      -- a key that is the same as one of them
+      named_are : (shown : List X) (key : K) (keys : List K) → list_any (same key) keys ≡ true → EachAreShown shown keys → AreShown row_of shown (filter (under key) rows)
+      named_are shown key [] named each = absurd (true≢false (sym named))
+      named_are shown key (k ∷ keys) named each = by_test (same key k) refl named (λ more. named_are shown key keys more each.1)
+        where
+          by_test : (b : Bool) → same key k ≡ b → (b || list_any (same key) keys) ≡ true → (list_any (same key) keys ≡ true → AreShown row_of shown (filter (under key) rows)) → AreShown row_of shown (filter (under key) rows)
+          by_test true e named later = subst (λ q. AreShown row_of shown (filter (under q) rows)) (sym (one key k e)) each.0
+          by_test false e named later = later named
+
+      -- one key more
+      pub each_next : (keys : List K) (key : K) (shown found : List X) → EachAreShown shown keys → AreShown row_of found (asked_once same under key keys rows) → EachAreShown (shown ++ found) (keys ++ key ∷ [])
+      each_next keys key shown found each once =
+          all-append (λ k. AreShown row_of (shown ++ found) (filter (under k) rows)) keys (key ∷ []) (each_left shown found keys each) (by_test (list_any (same key) keys) refl once, tt)
+        where
+          by_test : (b : Bool) → list_any (same key) keys ≡ b → AreShown row_of found (cond b [] (filter (under key) rows)) → AreShown row_of (shown ++ found) (filter (under key) rows)
+          by_test true e once = shown_left shown found _ (named_are shown key keys e each)
+          by_test false e once = shown_too found (shown ++ found) (has_right shown found) _ once
+
+    -- a key that is the same as none before, and was read
+    pub once_read : (same : K → K → Bool) (key : K) (before : List K) → list_any (same key) before ≡ false
+        → (r : Result (Vec X Global) Refusal) → IfOk r (λ all. IsPermutation (filter (under key) rows) (map row_of all.items)) → IfOk r (λ all. AreShown row_of all.items (asked_once same under key before rows))
+    once_read same key before none r h = subst (λ (b : Bool). IfOk r (λ all. AreShown row_of all.items (if b then [] else filter (under key) rows))) (sym none) (shown_in _ r h)
 
 -- ---- the first of the rows, in some order
 

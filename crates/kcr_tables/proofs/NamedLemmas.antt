@@ -1,11 +1,10 @@
 -- The rows of a list of keys, of which one may be named twice: each row once.
-use Rattle.std.proofs.Common.{◌≡◌, ℕ, Bool, true, false, cond, ◌||◌, List, [], ◌∷◌, ◌++◌, filter, refl, sym, ap, subst, ◌∙◌, true≢false, append-nil, if◌then◌else◌, IsPermutation}
+use Rattle.std.proofs.Common.{◌≡◌, ℕ, Bool, true, false, cond, ◌||◌, List, [], ◌∷◌, ◌++◌, filter, refl, sym, ap, subst, ◌∙◌, true≢false, append-nil, IsPermutation}
 use Rattle.std.specs.List.{list_any}
 use Rattle.std.proofs.lemmas.List.Sorted.{IsPermutation-refl, IsPermutation-sym, IsPermutation-trans, IsPermutation-cons, IsPermutation-middle, IsPermutation-append_left}
-use Rattle.kcr_base.specs.Same.{same_text}
-use Rattle.std.proofs.lemmas.Slice.Eq.{bytes_eq-Decides}
 use Rattle.sqlite_trees.proofs.ListLemmas.{IsPermutation-filter}
 use Rattle.kcr_rows.proofs.FilterLemmas.{filter_as}
+use Rattle.kcr_tables.specs.Asked.{asked_once, is_under_any}
 
 -- the rows that pass one test or the other, where none passes both
 apart : {X : Type 0} (p q : X → Bool) → ((x : X) → p x ≡ true → q x ≡ true → ⊥) → (xs : List X) → IsPermutation (filter (λ x. p x || q x) xs) (filter p xs ++ filter q xs)
@@ -19,13 +18,13 @@ apart {X = X} p q none (x ∷ xs) = by_tests (p x) (q x) refl refl (apart p q no
     by_tests false true e f ih = IsPermutation-trans _ _ _ (IsPermutation-cons x _ _ ih) (IsPermutation-sym _ _ (IsPermutation-middle (filter p xs) x (filter q xs)))
     by_tests false false e f ih = ih
 
-any_of : (key : List ℕ) (xs : List (List ℕ)) (x : List ℕ) → list_any (same_text key) (xs ++ x ∷ []) ≡ (list_any (same_text key) xs || same_text key x)
-any_of key [] x = or_last (same_text key x)
+any_of : {K : Type 0} (p : K → Bool) (xs : List K) (x : K) → list_any p (xs ++ x ∷ []) ≡ (list_any p xs || p x)
+any_of p [] x = or_last (p x)
   where
     or_last : (b : Bool) → (b || false) ≡ b
     or_last true = refl
     or_last false = refl
-any_of key (y ∷ ys) x = ap (λ b. same_text key y || b) (any_of key ys x) ∙ groups (same_text key y) _ _
+any_of p (y ∷ ys) x = ap (λ b. p y || b) (any_of p ys x) ∙ groups (p y) _ _
   where
     groups : (a b c : Bool) → (a || (b || c)) ≡ ((a || b) || c)
     groups true b c = refl
@@ -36,34 +35,32 @@ or_in true b h = refl
 or_in false true h = sym (h refl)
 or_in false false h = refl
 
-module _ {X : Type 0} (key_of : X → List ℕ) where
-  abbrev pub is_among : List (List ℕ) → X → Bool
-  is_among keys x = list_any (same_text (key_of x)) keys
+-- no keys have no rows
+pub none_named : {X K : Type 0} (is_under : K → X → Bool) (xs : List X) → IsPermutation (filter (is_under_any is_under []) xs) []
+none_named is_under [] = IsPermutation-refl []
+none_named is_under (x ∷ xs) = none_named is_under xs
 
-  more_is : (keys : List (List ℕ)) (key : List ℕ) (x : X) → is_among (keys ++ key ∷ []) x ≡ (is_among keys x || same_text (key_of x) key)
-  more_is keys key x = any_of (key_of x) keys key
+module _ {X K : Type 0} (same : K → K → Bool) (is_under : K → X → Bool) (one_key : (a b : K) (x : X) → is_under a x ≡ true → is_under b x ≡ same a b) where
+  more_is : (keys : List K) (key : K) (x : X) → is_under_any is_under (keys ++ key ∷ []) x ≡ (is_under_any is_under keys x || is_under key x)
+  more_is keys key x = any_of (λ k. is_under k x) keys key
 
-  same_key : (keys : List (List ℕ)) (key : List ℕ) (x : X) → same_text (key_of x) key ≡ true → is_among keys x ≡ list_any (same_text key) keys
-  same_key keys key x is = ap (λ k. list_any (same_text k) keys) ((bytes_eq-Decides (key_of x) key).0 is)
-
-  -- no keys have no rows
-  pub none_named : (xs : List X) → IsPermutation (filter (is_among []) xs) []
-  none_named [] = IsPermutation-refl []
-  none_named (x ∷ xs) = none_named xs
+  same_key : (keys : List K) (key : K) (x : X) → is_under key x ≡ true → is_under_any is_under keys x ≡ list_any (same key) keys
+  same_key [] key x is = refl
+  same_key (k ∷ keys) key x is = ap (λ b. b || is_under_any is_under keys x) (one_key key k x is) ∙ ap (λ b. same key k || b) (same_key keys key x is)
 
   -- one key more adds its rows, and nothing where it was named before
-  pub named_more : (keys : List (List ℕ)) (key : List ℕ) (xs rows found : List X) → IsPermutation (filter (is_among keys) xs) rows
-      → found ≡ (if list_any (same_text key) keys then [] else filter (λ x. same_text (key_of x) key) xs) → IsPermutation (filter (is_among (keys ++ key ∷ [])) xs) (rows ++ found)
-  named_more keys key xs rows found so is = subst (λ l. IsPermutation (filter (is_among (keys ++ key ∷ [])) xs) (rows ++ l)) (sym is) (by_test (list_any (same_text key) keys) refl)
+  pub named_more : (keys : List K) (key : K) (xs rows found : List X) → IsPermutation (filter (is_under_any is_under keys) xs) rows
+      → found ≡ asked_once same is_under key keys xs → IsPermutation (filter (is_under_any is_under (keys ++ key ∷ [])) xs) (rows ++ found)
+  named_more keys key xs rows found so is = subst (λ l. IsPermutation (filter (is_under_any is_under (keys ++ key ∷ [])) xs) (rows ++ l)) (sym is) (by_test (list_any (same key) keys) refl)
     where
-      by_test : (b : Bool) → list_any (same_text key) keys ≡ b → IsPermutation (filter (is_among (keys ++ key ∷ [])) xs) (rows ++ cond b [] (filter (λ x. same_text (key_of x) key) xs))
+      by_test : (b : Bool) → list_any (same key) keys ≡ b → IsPermutation (filter (is_under_any is_under (keys ++ key ∷ [])) xs) (rows ++ cond b [] (filter (is_under key) xs))
       by_test true there =
-          subst (IsPermutation (filter (is_among (keys ++ key ∷ [])) xs)) (sym (append-nil rows))
+          subst (IsPermutation (filter (is_under_any is_under (keys ++ key ∷ [])) xs)) (sym (append-nil rows))
           (subst (λ l. IsPermutation l rows) (sym (filter_as _ _ (λ x. more_is keys key x ∙ or_in _ _ (λ is. same_key keys key x is ∙ there)) xs)) so)
       by_test false none =
-          subst (λ l. IsPermutation l (rows ++ filter (λ x. same_text (key_of x) key) xs)) (sym (filter_as _ _ (more_is keys key) xs))
-          (IsPermutation-trans _ _ _ (apart (is_among keys) (λ x. same_text (key_of x) key) (λ x a b. true≢false (sym a ∙ same_key keys key x b ∙ none)) xs)
-          (IsPermutation-append_left (filter (λ x. same_text (key_of x) key) xs) _ _ so))
+          subst (λ l. IsPermutation l (rows ++ filter (is_under key) xs)) (sym (filter_as _ _ (more_is keys key) xs))
+          (IsPermutation-trans _ _ _ (apart (is_under_any is_under keys) (is_under key) (λ x a b. true≢false (sym a ∙ same_key keys key x b ∙ none)) xs)
+          (IsPermutation-append_left (filter (is_under key) xs) _ _ so))
 
 -- ---- rows that were asked for, in any order
 

@@ -1,12 +1,12 @@
 -- Of the rows that a decision asks for none is strange: each is the row of a value that is shown, whatever else the tables have.
-use Rattle.std.specs.Prelude.{◌≡◌, ◌⊎◌, ℕ, pos, Bool, List, [], ◌∷◌, map, filter, take, get_or, if◌then◌else◌}
+use Rattle.std.specs.Prelude.{◌≡◌, ◌⊎◌, ℕ, pos, Bool, List, [], ◌∷◌, map, filter}
 use Rattle.std.specs.List.{AllByRecursion, list_any}
 use Rattle.sqlite.specs.Order.{Row}
 use Rattle.sqlite.specs.Tree.{Trees}
+use Rattle.sqlite.specs.declared.types.Value.{Value}
 use Rattle.sqlite.specs.declared.types.Value.TheVariants.{Int, Text}
 use Rattle.sqlite_rules.specs.Lists.{Has}
 use Rattle.kcr_base.specs.Place.{place_text}
-use Rattle.kcr_base.specs.Same.{same_text}
 use Rattle.kcr_people.specs.declared.Person.{Person}
 use Rattle.kcr_people.specs.declared.Training.{Training}
 use Rattle.kcr_people.specs.declared.Withdrawal.{Withdrawal}
@@ -49,6 +49,9 @@ IsOneOf all shown = ((all ≡ []) × (shown ≡ [])) ⊎ ((row : Row) × (shown 
 
 -- ---- whether a row is one of those asked for, by what stands in its columns
 
+abbrev pub has_key : {K : Type 0} → ℕ → (K → Value) → K → Row → Bool
+has_key at value_of key row = has_value at (value_of key) row
+
 abbrev pub has_text : ℕ → List ℕ → Row → Bool
 has_text at text row = has_value at (Text text) row
 
@@ -79,11 +82,6 @@ AskedAreShown row_of place is_under asked shown db = AreShown row_of shown (aske
 -- of a table all
 abbrev pub WholeIsShown : {X : Type 0} → (X → Row) → Place → Bool → List X → Trees → Type 0
 WholeIsShown row_of place asked shown db = AreShown row_of shown (asked_all asked (rows_at place db))
-
--- those with the text at a place in a list, unless the text stands before it too
-abbrev pub OnceAreShown : {X : Type 0} → (X → Row) → Place → List (List ℕ) → ℕ → List X → Trees → Type 0
-OnceAreShown row_of place texts at shown db =
-    AreShown row_of shown (if list_any (same_text (get_or texts at [])) (take at texts) then [] else filter (has_text 0 (get_or texts at [])) (rows_at place db))
 
 -- of people and their offices
 pub record StaffIsShown (asks : Asks) (people : List Person) (trainings : List Training) (withdrawals : List Withdrawal) (appointments : List Appointment) (db : Trees) : Type 0 where

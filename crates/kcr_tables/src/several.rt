@@ -1,70 +1,111 @@
 //! Rows that are asked for by a list of keys, or in one of two ways.
 
-ghost use Rattle.std.specs.Prelude.{◌≡◌, ◌<◌, IsPermutation, IfOk, filter, [], length, take, get_or, if◌then◌else◌};
+ghost use Rattle.std.specs.Prelude.{◌≡◌, Bool, true, IsPermutation, IfOk, filter};
 ghost use Rattle.std.specs.List.{list_any};
+ghost use Rattle.std.proofs.Common.{ap};
+ghost use Rattle.std.proofs.lemmas.Slice.Eq.{bytes_eq-Decides};
 ghost use Rattle.sqlite.specs.Held.{state};
 ghost use Rattle.sqlite.specs.State.{HasCleanDisk};
 ghost use Rattle.kcr_base.specs.Same.{same_text};
 ghost use Rattle.kcr_history.specs.Views.{Shows, is_of_people, is_item_of, is_appointment_of};
-ghost use Rattle.kcr_history.specs.declared.views.ItemsOf.TheVariants as Wanted;
 ghost use Rattle.kcr_cells.specs.Rows.{person_row, item_row, appointment_row};
-ghost use Rattle.kcr_tables.specs.Asked.{asked_of};
-ghost use Rattle.kcr_tables.specs.Exact.{rows_at, has_any, is_item_row, is_appointment_row, AreShown, AskedAreShown, OnceAreShown};
+ghost use Rattle.kcr_tables.specs.Asked.{asked_of, asked_once, is_under_any};
+ghost use Rattle.kcr_tables.specs.Exact.{rows_at, has_key, has_any, is_item_row, is_appointment_row, AreShown, AskedAreShown};
 ghost use Rattle.kcr_tables.specs.Held.{people_place, items_place, appointments_place, Tables, Holds};
 ghost use Rattle.kcr_tables.specs.Frame.{Reads};
 ghost use Rattle.kcr_tables.specs.Schema.{register_schema};
 
-use crate::table::{all_rows, rows_under};
+use crate::table::{AsCell, Finds, all_rows, rows_under};
 use kcr_base::{Initials, ItemCode, Refusal};
 use kcr_cells::lists::{is_item_named, is_person_named};
 use kcr_custody::Item;
-use kcr_history::{AppointmentsOf, InitialsList, ItemList, ItemsOf, Rows};
+use kcr_history::{AppointmentsOf, InitialsList, ItemsOf, Rows};
 use kcr_people::{Appointment, Person};
 use sqlite::{Alter, Transaction};
 use std::alloc::Global;
 
-/// The row under the key at this position, alone, or none; none also where the key stands before it too.
-fn person_once<S: Alter>(
+/// A table whose rows are asked for by a list of keys, of which some may be the same.
+trait FindsNamed<K: AsCell>: Finds<K> {
+    /// Whether two keys are the same.
+    ghost same: { K → K → Bool };
+
+    /// Whether the key is the same as one of these.
+    fn is_named(key: &K, among: &[K]) -> bool
+        ensures { result ≡ list_any (same key.now) among.now };
+
+    // Keys that are the same are one.
+    ghost one: { (key other : K) → same key other ≡ true → key ≡ other };
+
+    // A row that is under a key is under those that are the same, and no others.
+    ghost apart: { (key other : K) (row : Self) → Self.Finds.finding.is_under key row ≡ true → Self.Finds.finding.is_under other row ≡ same key other };
+}
+
+impl FindsNamed<Initials> for Person {
+    ghost same = { same_text };
+
+    fn is_named(key: &Initials, among: &[Initials]) -> bool {
+        is_person_named(key, among)
+    }
+
+    ghost one = { λ key other h. (bytes_eq-Decides key other).0 h };
+
+    ghost apart = { λ key other row h. ap (λ text. same_text text other) ((bytes_eq-Decides row.who key).0 h) };
+}
+
+impl FindsNamed<ItemCode> for Item {
+    ghost same = { same_text };
+
+    fn is_named(key: &ItemCode, among: &[ItemCode]) -> bool {
+        is_item_named(key, among)
+    }
+
+    ghost one = { λ key other h. (bytes_eq-Decides key other).0 h };
+
+    ghost apart = { λ key other row h. ap (λ text. same_text text other) ((bytes_eq-Decides row.code key).0 h) };
+}
+
+/// The rows under the key; none where it is the same as one of those before it.
+fn rows_once<S: Alter, K: AsCell, T: FindsNamed<K>>(
     alloc: Global,
     tx: &mut Transaction<'_, S>,
-    named: &[Initials],
-    at: usize,
-) -> Result<Vec<Person>, Refusal>
-    requires { at < length named.now }
+    key: &K,
+    before: &[K],
+) -> Result<Vec<T>, Refusal>
     ensures same_reference { tx.new.conn.ghost_name ≡ tx.old.conn.ghost_name }
-    ensures rows { HasCleanDisk (state S.Store tx.new.conn.now) → (t : Tables) → Holds (state S.Store tx.old.conn.now).now t → IfOk result (λ all. all.items ≡ (if list_any (same_text (get_or named.now at [])) (take at named.now) then [] else filter (λ x. same_text x.who (get_or named.now at [])) t.people)) }
+    ensures rows { HasCleanDisk (state S.Store tx.new.conn.now) → (t : Tables) → Holds (state S.Store tx.old.conn.now).now t
+        → IfOk result (λ all. all.items ≡ asked_once T.same T.finding.is_under key.now before.now (T.table.rows_in t)) }
     ensures exact { HasCleanDisk (state S.Store tx.new.conn.now)
         → (state S.Store tx.old.conn.now).now.schema ≡ register_schema
-        → IfOk result (λ all. OnceAreShown person_row people_place named.now at all.items
-        (state S.Store tx.old.conn.now).now.trees) }
+        → IfOk result (λ all. AreShown T.row_of all.items (asked_once T.same (has_key T.finding.column K.value_of)
+        key.now before.now (rows_at T.table.place (state S.Store tx.old.conn.now).now.trees))) }
     ensures frame { Reads (state S.Store tx.old.conn.now) (state S.Store tx.new.conn.now) result }
 {
-    let who = &named[at];
-    if is_person_named(who, &named[..at]) {
+    if T::is_named(key, before) {
         Ok(Vec::new(alloc))
     } else {
-        rows_under(alloc, tx, who)
+        rows_under(alloc, tx, key)
     }
 }
 
-/// The rows of these people, of which one may be named twice: each row once.
-fn people_named<S: Alter>(
+/// The rows of these keys, of which some may be the same: each row once.
+fn rows_named<S: Alter, K: AsCell, T: FindsNamed<K>>(
     alloc: Global,
     tx: &mut Transaction<'_, S>,
-    people: &InitialsList,
-) -> Result<Vec<Person>, Refusal>
+    keys: &[K],
+) -> Result<Vec<T>, Refusal>
     ensures same_reference { tx.new.conn.ghost_name ≡ tx.old.conn.ghost_name }
-    ensures rows { HasCleanDisk (state S.Store tx.new.conn.now) → (t : Tables) → Holds (state S.Store tx.old.conn.now).now t → IfOk result (λ all. IsPermutation (filter (is_of_people people.now) t.people) all.items) }
+    ensures rows { HasCleanDisk (state S.Store tx.new.conn.now) → (t : Tables) → Holds (state S.Store tx.old.conn.now).now t
+        → IfOk result (λ all. IsPermutation (filter (is_under_any T.finding.is_under keys.now) (T.table.rows_in t)) all.items) }
     ensures exact { HasCleanDisk (state S.Store tx.new.conn.now)
         → (state S.Store tx.old.conn.now).now.schema ≡ register_schema
-        → IfOk result (λ all. AreShown person_row all.items
-        (filter (has_any 0 people.now) (rows_at people_place (state S.Store tx.old.conn.now).now.trees))) }
+        → IfOk result (λ all. AreShown T.row_of all.items
+        (filter (is_under_any (has_key T.finding.column K.value_of) keys.now)
+        (rows_at T.table.place (state S.Store tx.old.conn.now).now.trees))) }
     ensures frame { Reads (state S.Store tx.old.conn.now) (state S.Store tx.new.conn.now) result }
 {
-    let named = people.as_slice();
     let mut rows = Vec::new(alloc);
-    for at in 0..named.len() {
-        let mut found = person_once(alloc, tx, named, at)?;
+    for at in 0..keys.len() {
+        let mut found = rows_once(alloc, tx, &keys[at], &keys[..at])?;
         rows.append(&mut found)?;
     }
     Ok(rows)
@@ -86,56 +127,9 @@ pub fn asked_people<S: Alter>(
 {
     match asked {
         Rows::Nothing => Ok(Vec::new(alloc)),
-        Rows::Under(people) => people_named(alloc, tx, people),
+        Rows::Under(people) => rows_named(alloc, tx, people.as_slice()),
         Rows::All => all_rows(alloc, tx),
     }
-}
-
-/// The row under the key at this position, alone, or none; none also where the key stands before it too.
-fn item_once<S: Alter>(
-    alloc: Global,
-    tx: &mut Transaction<'_, S>,
-    named: &[ItemCode],
-    at: usize,
-) -> Result<Vec<Item>, Refusal>
-    requires { at < length named.now }
-    ensures same_reference { tx.new.conn.ghost_name ≡ tx.old.conn.ghost_name }
-    ensures rows { HasCleanDisk (state S.Store tx.new.conn.now) → (t : Tables) → Holds (state S.Store tx.old.conn.now).now t → IfOk result (λ all. all.items ≡ (if list_any (same_text (get_or named.now at [])) (take at named.now) then [] else filter (λ x. same_text x.code (get_or named.now at [])) t.items)) }
-    ensures exact { HasCleanDisk (state S.Store tx.new.conn.now)
-        → (state S.Store tx.old.conn.now).now.schema ≡ register_schema
-        → IfOk result (λ all. OnceAreShown item_row items_place named.now at all.items
-        (state S.Store tx.old.conn.now).now.trees) }
-    ensures frame { Reads (state S.Store tx.old.conn.now) (state S.Store tx.new.conn.now) result }
-{
-    let code = &named[at];
-    if is_item_named(code, &named[..at]) {
-        Ok(Vec::new(alloc))
-    } else {
-        rows_under(alloc, tx, code)
-    }
-}
-
-/// The rows of these items, of which one may be named twice: each row once.
-fn items_named<S: Alter>(
-    alloc: Global,
-    tx: &mut Transaction<'_, S>,
-    codes: &ItemList,
-) -> Result<Vec<Item>, Refusal>
-    ensures same_reference { tx.new.conn.ghost_name ≡ tx.old.conn.ghost_name }
-    ensures rows { HasCleanDisk (state S.Store tx.new.conn.now) → (t : Tables) → Holds (state S.Store tx.old.conn.now).now t → IfOk result (λ all. IsPermutation (filter (is_item_of (Wanted.Codes codes.now)) t.items) all.items) }
-    ensures exact { HasCleanDisk (state S.Store tx.new.conn.now)
-        → (state S.Store tx.old.conn.now).now.schema ≡ register_schema
-        → IfOk result (λ all. AreShown item_row all.items
-        (filter (has_any 0 codes.now) (rows_at items_place (state S.Store tx.old.conn.now).now.trees))) }
-    ensures frame { Reads (state S.Store tx.old.conn.now) (state S.Store tx.new.conn.now) result }
-{
-    let named = codes.as_slice();
-    let mut rows = Vec::new(alloc);
-    for at in 0..named.len() {
-        let mut found = item_once(alloc, tx, named, at)?;
-        rows.append(&mut found)?;
-    }
-    Ok(rows)
 }
 
 /// The items that are asked for, by their codes or by the bag that they lie in.
@@ -154,7 +148,7 @@ pub fn asked_items<S: Alter>(
 {
     match asked {
         Rows::Nothing => Ok(Vec::new(alloc)),
-        Rows::Under(ItemsOf::Codes(codes)) => items_named(alloc, tx, codes),
+        Rows::Under(ItemsOf::Codes(codes)) => rows_named(alloc, tx, codes.as_slice()),
         Rows::Under(ItemsOf::Bag(serial)) => rows_under(alloc, tx, serial),
         Rows::All => all_rows(alloc, tx),
     }

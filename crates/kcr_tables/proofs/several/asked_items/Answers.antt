@@ -1,4 +1,4 @@
-use Rattle.std.proofs.Common.{rules, ◌≡◌, List, IfOk, sym, ap, subst, filter, ◌∙◌, IsPermutation}
+use Rattle.std.proofs.Common.{rules, ◌≡◌, ℕ, List, IfOk, sym, ap, subst, filter, ◌∙◌, IsPermutation}
 use Rattle.std.proofs.lemmas.List.Sorted.{IsPermutation-refl}
 use Rattle.kcr_history.specs.Views.{is_item_of, Shows}
 use Rattle.kcr_history.specs.declared.views.Rows.{Rows}
@@ -8,7 +8,7 @@ use Rattle.kcr_history.specs.declared.views.ItemsOf.TheVariants.{Codes, Bag}
 use Rattle.kcr_custody.specs.declared.Item.{Item}
 use Rattle.sqlite.specs.Held.{state}
 use Rattle.kcr_cells.specs.Rows.{item_row}
-use Rattle.kcr_tables.specs.Exact.{is_item_row, AskedAreShown}
+use Rattle.kcr_tables.specs.Exact.{rows_at, has_any, is_item_row, AreShown, AskedAreShown}
 use Rattle.kcr_tables.specs.Held.{items_place}
 use Rattle.kcr_tables.proofs.ExactLemmas.{under_asked, all_asked}
 use Rattle.kcr_rows.proofs.FailLemmas.{if_ok}
@@ -18,8 +18,9 @@ use Rattle.kcr_tables.proofs.several.asked_items.Goals as goal
 pub returns-in-Under-Codes-clause-rows : goal.returns-in-Under-Codes-clause-rows
 returns-in-Under-Codes-clause-rows g c clean t held =
     let inner : c.in-Under-Codes.field-0 ≡ Codes c.in-Under-Codes.codes = search rules in
-    subst (λ (q : Rows (ItemsOf)). IfOk c.items_named.result (λ all. Shows is_item_of q t.items all.items)) (ap Under (sym inner) ∙ sym c.in-Under-Codes.is)
-    (if_ok _ _ (λ all so. passing (is_item_of (Codes (c.in-Under-Codes.codes))) t.items all.items so) c.items_named.result (c.items_named.ensures.rows clean t held))
+    subst (λ (q : Rows (ItemsOf)). IfOk c.rows_named.result (λ all. Shows is_item_of q t.items all.items)) (ap Under (sym inner) ∙ sym c.in-Under-Codes.is)
+    (if_ok _ _ (λ all so. passing (is_item_of (Codes (c.in-Under-Codes.codes))) t.items all.items so) c.rows_named.result
+    (subst (λ (ks : List (List ℕ)). IfOk c.rows_named.result (λ all. IsPermutation (filter (is_item_of (Codes ks)) t.items) all.items)) c.as_slice.ensures (c.rows_named.ensures.rows clean t held)))
 
 pub returns-in-Under-Bag-clause-rows : goal.returns-in-Under-Bag-clause-rows
 returns-in-Under-Bag-clause-rows g c clean t held =
@@ -31,7 +32,8 @@ returns-in-Under-Bag-clause-rows g c clean t held =
 pub returns-in-Under-Codes-clause-exact : goal.returns-in-Under-Codes-clause-exact
 returns-in-Under-Codes-clause-exact g c clean has =
     let inner : c.in-Under-Codes.field-0 ≡ Codes c.in-Under-Codes.codes = search rules in
-    subst (λ (q : Rows ItemsOf). IfOk c.items_named.result (λ all. AskedAreShown item_row items_place is_item_row q all.items (state g.S.Store c.args.tx.now.conn.now).now.trees)) (ap Under (sym inner) ∙ sym c.in-Under-Codes.is) (c.items_named.ensures.exact clean has)
+    subst (λ (q : Rows ItemsOf). IfOk c.rows_named.result (λ all. AskedAreShown item_row items_place is_item_row q all.items (state g.S.Store c.args.tx.now.conn.now).now.trees)) (ap Under (sym inner) ∙ sym c.in-Under-Codes.is)
+    (subst (λ (ks : List (List ℕ)). IfOk c.rows_named.result (λ all. AreShown item_row all.items (filter (has_any 0 ks) (rows_at items_place (state g.S.Store c.args.tx.now.conn.now).now.trees)))) c.as_slice.ensures (c.rows_named.ensures.exact clean has))
 
 pub returns-in-Under-Bag-clause-exact : goal.returns-in-Under-Bag-clause-exact
 returns-in-Under-Bag-clause-exact g c clean has =
