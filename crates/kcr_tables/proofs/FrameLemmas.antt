@@ -59,6 +59,13 @@ pub reads_fails : {A B : Type 0} (old new : State) (e : Refusal) (r : Result B R
 reads_fails old new e (Ok x) is one = absurd is
 reads_fails old new e (Err y) is one = reads_of old new (Err y) (λ clean has. tt) (λ clean inside. tt) one.kept one.survives (subst IsFault (sym is) one.cause)
 
+-- the same two, where the calls tell the states
+pub reads_on : {A B : Type 0} {old mid new : State} {a : A} {r : Result B Refusal} → Reads old mid (Ok a) → Reads mid new r → Reads old new r
+reads_on one two = reads_then _ _ _ _ _ one two
+
+pub fails_as : {A B : Type 0} {old new : State} {e : Refusal} {r : Result B Refusal} → IsErrAnd r (λ y. y ≡ e) → Reads {A = A} old new (Err e) → Reads old new r
+fails_as is one = reads_fails _ _ _ _ is one
+
 -- what a later call finds in the trees was in them before
 pub read_later : {A : Type 0} (P : Trees → Type 0) (old mid : State) (a : A) → Reads old mid (Ok a) → HasCleanDisk mid → old.now.schema ≡ register_schema
     → (mid.now.schema ≡ register_schema → P mid.now.trees) → P old.now.trees

@@ -5,56 +5,23 @@ use Rattle.kcr_rows.proofs.InsideLemmas.{was_clean}
 use Rattle.kcr_cells.specs.Rows.{mark_row, step_row, exception_row, stay_row}
 use Rattle.kcr_tables.specs.Exact.{has_number, is_stay_row, AskedAreShown}
 use Rattle.kcr_tables.specs.Held.{marks_place, steps_place, exceptions_place, stays_place}
-use Rattle.kcr_tables.proofs.FrameLemmas.{reads_then, reads_to, reads_fails, read_later}
+use Rattle.kcr_tables.proofs.FrameLemmas.{reads_on, fails_as, reads_then, reads_to, read_later}
 use Rattle.kcr_tables.proofs.view.ceremony_rows.Goals as goal
 
 pub returns-in_err-ceremonies-clause-frame : goal.returns-in_err-ceremonies-clause-frame
-returns-in_err-ceremonies-clause-frame g c =
-    reads_fails (state g.S.Store c.args.tx.now.conn.now) (state g.S.Store c.asked_rows.new.tx.conn.now) _ _ c.from_residual.ensures.1 c.in_err-ceremonies.ensures.frame
+returns-in_err-ceremonies-clause-frame g c = fails_as c.from_residual.ensures.1 c.in_err-ceremonies.ensures.frame
 
 pub returns-in_err-marks-clause-frame : goal.returns-in_err-marks-clause-frame
-returns-in_err-marks-clause-frame g c =
-    let old = state g.S.Store c.args.tx.now.conn.now in
-    let s0 = state g.S.Store c.asked_rows.new.tx.conn.now in
-    let s1 = state g.S.Store c.asked_rows-2.new.tx.conn.now in
-    let to0 = c.in_ok-ceremonies.ensures.frame in
-    reads_then old s0 s1 _ _ to0 (reads_fails s0 s1 _ _ c.from_residual-in_err-marks.ensures.1 c.in_err-marks.ensures.frame)
+returns-in_err-marks-clause-frame g c = reads_on c.in_ok-ceremonies.ensures.frame (fails_as c.from_residual-in_err-marks.ensures.1 c.in_err-marks.ensures.frame)
 
 pub returns-in_err-steps-clause-frame : goal.returns-in_err-steps-clause-frame
-returns-in_err-steps-clause-frame g c =
-    let old = state g.S.Store c.args.tx.now.conn.now in
-    let s0 = state g.S.Store c.asked_rows.new.tx.conn.now in
-    let s1 = state g.S.Store c.asked_rows-2.new.tx.conn.now in
-    let s2 = state g.S.Store c.asked_rows-3.new.tx.conn.now in
-    let to0 = c.in_ok-ceremonies.ensures.frame in
-    let to1 = reads_then old s0 s1 _ _ to0 c.in_ok-marks.ensures.frame in
-    reads_then old s1 s2 _ _ to1 (reads_fails s1 s2 _ _ c.from_residual-in_err-steps.ensures.1 c.in_err-steps.ensures.frame)
+returns-in_err-steps-clause-frame g c = reads_on (reads_on c.in_ok-ceremonies.ensures.frame c.in_ok-marks.ensures.frame) (fails_as c.from_residual-in_err-steps.ensures.1 c.in_err-steps.ensures.frame)
 
 pub returns-in_err-exceptions-clause-frame : goal.returns-in_err-exceptions-clause-frame
-returns-in_err-exceptions-clause-frame g c =
-    let old = state g.S.Store c.args.tx.now.conn.now in
-    let s0 = state g.S.Store c.asked_rows.new.tx.conn.now in
-    let s1 = state g.S.Store c.asked_rows-2.new.tx.conn.now in
-    let s2 = state g.S.Store c.asked_rows-3.new.tx.conn.now in
-    let s3 = state g.S.Store c.asked_rows-4.new.tx.conn.now in
-    let to0 = c.in_ok-ceremonies.ensures.frame in
-    let to1 = reads_then old s0 s1 _ _ to0 c.in_ok-marks.ensures.frame in
-    let to2 = reads_then old s1 s2 _ _ to1 c.in_ok-steps.ensures.frame in
-    reads_then old s2 s3 _ _ to2 (reads_fails s2 s3 _ _ c.from_residual-in_err-exceptions.ensures.1 c.in_err-exceptions.ensures.frame)
+returns-in_err-exceptions-clause-frame g c = reads_on (reads_on (reads_on c.in_ok-ceremonies.ensures.frame c.in_ok-marks.ensures.frame) c.in_ok-steps.ensures.frame) (fails_as c.from_residual-in_err-exceptions.ensures.1 c.in_err-exceptions.ensures.frame)
 
 pub returns-in_err-stays-clause-frame : goal.returns-in_err-stays-clause-frame
-returns-in_err-stays-clause-frame g c =
-    let old = state g.S.Store c.args.tx.now.conn.now in
-    let s0 = state g.S.Store c.asked_rows.new.tx.conn.now in
-    let s1 = state g.S.Store c.asked_rows-2.new.tx.conn.now in
-    let s2 = state g.S.Store c.asked_rows-3.new.tx.conn.now in
-    let s3 = state g.S.Store c.asked_rows-4.new.tx.conn.now in
-    let s4 = state g.S.Store c.asked_stays.new.tx.conn.now in
-    let to0 = c.in_ok-ceremonies.ensures.frame in
-    let to1 = reads_then old s0 s1 _ _ to0 c.in_ok-marks.ensures.frame in
-    let to2 = reads_then old s1 s2 _ _ to1 c.in_ok-steps.ensures.frame in
-    let to3 = reads_then old s2 s3 _ _ to2 c.in_ok-exceptions.ensures.frame in
-    reads_then old s3 s4 _ _ to3 (reads_fails s3 s4 _ _ c.from_residual-in_err-stays.ensures.1 c.in_err-stays.ensures.frame)
+returns-in_err-stays-clause-frame g c = reads_on (reads_on (reads_on (reads_on c.in_ok-ceremonies.ensures.frame c.in_ok-marks.ensures.frame) c.in_ok-steps.ensures.frame) c.in_ok-exceptions.ensures.frame) (fails_as c.from_residual-in_err-stays.ensures.1 c.in_err-stays.ensures.frame)
 
 pub returns : goal.returns
 returns g c =

@@ -5,42 +5,20 @@ use Rattle.kcr_rows.proofs.InsideLemmas.{was_clean}
 use Rattle.kcr_cells.specs.Rows.{safe_row, bag_row, item_row}
 use Rattle.kcr_tables.specs.Exact.{has_text, is_item_row, AskedAreShown, WholeIsShown}
 use Rattle.kcr_tables.specs.Held.{safes_place, bags_place, items_place}
-use Rattle.kcr_tables.proofs.FrameLemmas.{reads_then, reads_to, reads_fails, read_later}
+use Rattle.kcr_tables.proofs.FrameLemmas.{reads_on, fails_as, reads_then, reads_to, read_later}
 use Rattle.kcr_tables.proofs.view.custody_rows.Goals as goal
 
 pub returns-in_err-boxes-clause-frame : goal.returns-in_err-boxes-clause-frame
-returns-in_err-boxes-clause-frame g c =
-    reads_fails (state g.S.Store c.args.tx.now.conn.now) (state g.S.Store c.asked_whole.new.tx.conn.now) _ _ c.from_residual.ensures.1 c.in_err-boxes.ensures.frame
+returns-in_err-boxes-clause-frame g c = fails_as c.from_residual.ensures.1 c.in_err-boxes.ensures.frame
 
 pub returns-in_err-safes-clause-frame : goal.returns-in_err-safes-clause-frame
-returns-in_err-safes-clause-frame g c =
-    let old = state g.S.Store c.args.tx.now.conn.now in
-    let s0 = state g.S.Store c.asked_whole.new.tx.conn.now in
-    let s1 = state g.S.Store c.asked_whole-2.new.tx.conn.now in
-    let to0 = c.in_ok-boxes.ensures.frame in
-    reads_then old s0 s1 _ _ to0 (reads_fails s0 s1 _ _ c.from_residual-in_err-safes.ensures.1 c.in_err-safes.ensures.frame)
+returns-in_err-safes-clause-frame g c = reads_on c.in_ok-boxes.ensures.frame (fails_as c.from_residual-in_err-safes.ensures.1 c.in_err-safes.ensures.frame)
 
 pub returns-in_err-bags-clause-frame : goal.returns-in_err-bags-clause-frame
-returns-in_err-bags-clause-frame g c =
-    let old = state g.S.Store c.args.tx.now.conn.now in
-    let s0 = state g.S.Store c.asked_whole.new.tx.conn.now in
-    let s1 = state g.S.Store c.asked_whole-2.new.tx.conn.now in
-    let s2 = state g.S.Store c.asked_rows.new.tx.conn.now in
-    let to0 = c.in_ok-boxes.ensures.frame in
-    let to1 = reads_then old s0 s1 _ _ to0 c.in_ok-safes.ensures.frame in
-    reads_then old s1 s2 _ _ to1 (reads_fails s1 s2 _ _ c.from_residual-in_err-bags.ensures.1 c.in_err-bags.ensures.frame)
+returns-in_err-bags-clause-frame g c = reads_on (reads_on c.in_ok-boxes.ensures.frame c.in_ok-safes.ensures.frame) (fails_as c.from_residual-in_err-bags.ensures.1 c.in_err-bags.ensures.frame)
 
 pub returns-in_err-items-clause-frame : goal.returns-in_err-items-clause-frame
-returns-in_err-items-clause-frame g c =
-    let old = state g.S.Store c.args.tx.now.conn.now in
-    let s0 = state g.S.Store c.asked_whole.new.tx.conn.now in
-    let s1 = state g.S.Store c.asked_whole-2.new.tx.conn.now in
-    let s2 = state g.S.Store c.asked_rows.new.tx.conn.now in
-    let s3 = state g.S.Store c.asked_items.new.tx.conn.now in
-    let to0 = c.in_ok-boxes.ensures.frame in
-    let to1 = reads_then old s0 s1 _ _ to0 c.in_ok-safes.ensures.frame in
-    let to2 = reads_then old s1 s2 _ _ to1 c.in_ok-bags.ensures.frame in
-    reads_then old s2 s3 _ _ to2 (reads_fails s2 s3 _ _ c.from_residual-in_err-items.ensures.1 c.in_err-items.ensures.frame)
+returns-in_err-items-clause-frame g c = reads_on (reads_on (reads_on c.in_ok-boxes.ensures.frame c.in_ok-safes.ensures.frame) c.in_ok-bags.ensures.frame) (fails_as c.from_residual-in_err-items.ensures.1 c.in_err-items.ensures.frame)
 
 pub returns : goal.returns
 returns g c =

@@ -4,7 +4,7 @@ use Rattle.sqlite.specs.State.{HasCleanDisk}
 use Rattle.kcr_history.specs.Views.{is_of_people, is_training_of, is_withdrawal_of, is_appointment_of, is_of_serial, is_item_of, is_of_number, is_mark_of, is_step_of, is_exception_of, row_of_key, greatest_number}
 use Rattle.kcr_rows.proofs.InsideLemmas.{was_clean}
 use Rattle.kcr_tables.specs.Exact.{StaffIsShown, CustodyIsShown, CeremoniesAreShown}
-use Rattle.kcr_tables.proofs.FrameLemmas.{reads_then, reads_to, reads_fails, read_later}
+use Rattle.kcr_tables.proofs.FrameLemmas.{reads_on, fails_as, reads_then, reads_to, read_later}
 use Rattle.kcr_tables.proofs.HoldLemmas.{held_of}
 use Rattle.kcr_tables.proofs.JointLemmas.{kept_rises}
 use Rattle.kcr_tables.proofs.StayLemmas.{stays_shown, apart_of}
@@ -12,38 +12,16 @@ use Rattle.kcr_tables.proofs.ViewLemmas.{shows_on, asked_shows, all_shows, key_r
 use Rattle.kcr_tables.proofs.view.rows_asked.Goals as goal
 
 pub returns-in_err-keys-clause-frame : goal.returns-in_err-keys-clause-frame
-returns-in_err-keys-clause-frame g c =
-    reads_fails (state g.S.Store c.args.tx.now.conn.now) (state g.S.Store c.asked_keys.new.tx.conn.now) _ _ c.from_residual.ensures.1 c.in_err-keys.ensures.frame
+returns-in_err-keys-clause-frame g c = fails_as c.from_residual.ensures.1 c.in_err-keys.ensures.frame
 
 pub returns-in_err-staff-clause-frame : goal.returns-in_err-staff-clause-frame
-returns-in_err-staff-clause-frame g c =
-    let old = state g.S.Store c.args.tx.now.conn.now in
-    let s0 = state g.S.Store c.asked_keys.new.tx.conn.now in
-    let s1 = state g.S.Store c.staff_rows.new.tx.conn.now in
-    let to0 = c.in_ok-keys.ensures.frame in
-    reads_then old s0 s1 _ _ to0 (reads_fails s0 s1 _ _ c.from_residual-in_err-staff.ensures.1 c.in_err-staff.ensures.frame)
+returns-in_err-staff-clause-frame g c = reads_on c.in_ok-keys.ensures.frame (fails_as c.from_residual-in_err-staff.ensures.1 c.in_err-staff.ensures.frame)
 
 pub returns-in_err-custody-clause-frame : goal.returns-in_err-custody-clause-frame
-returns-in_err-custody-clause-frame g c =
-    let old = state g.S.Store c.args.tx.now.conn.now in
-    let s0 = state g.S.Store c.asked_keys.new.tx.conn.now in
-    let s1 = state g.S.Store c.staff_rows.new.tx.conn.now in
-    let s2 = state g.S.Store c.custody_rows.new.tx.conn.now in
-    let to0 = c.in_ok-keys.ensures.frame in
-    let to1 = reads_then old s0 s1 _ _ to0 c.in_ok-staff.ensures.frame in
-    reads_then old s1 s2 _ _ to1 (reads_fails s1 s2 _ _ c.from_residual-in_err-custody.ensures.1 c.in_err-custody.ensures.frame)
+returns-in_err-custody-clause-frame g c = reads_on (reads_on c.in_ok-keys.ensures.frame c.in_ok-staff.ensures.frame) (fails_as c.from_residual-in_err-custody.ensures.1 c.in_err-custody.ensures.frame)
 
 pub returns-in_err-ceremony-clause-frame : goal.returns-in_err-ceremony-clause-frame
-returns-in_err-ceremony-clause-frame g c =
-    let old = state g.S.Store c.args.tx.now.conn.now in
-    let s0 = state g.S.Store c.asked_keys.new.tx.conn.now in
-    let s1 = state g.S.Store c.staff_rows.new.tx.conn.now in
-    let s2 = state g.S.Store c.custody_rows.new.tx.conn.now in
-    let s3 = state g.S.Store c.ceremony_rows.new.tx.conn.now in
-    let to0 = c.in_ok-keys.ensures.frame in
-    let to1 = reads_then old s0 s1 _ _ to0 c.in_ok-staff.ensures.frame in
-    let to2 = reads_then old s1 s2 _ _ to1 c.in_ok-custody.ensures.frame in
-    reads_then old s2 s3 _ _ to2 (reads_fails s2 s3 _ _ c.from_residual-in_err-ceremony.ensures.1 c.in_err-ceremony.ensures.frame)
+returns-in_err-ceremony-clause-frame g c = reads_on (reads_on (reads_on c.in_ok-keys.ensures.frame c.in_ok-staff.ensures.frame) c.in_ok-custody.ensures.frame) (fails_as c.from_residual-in_err-ceremony.ensures.1 c.in_err-ceremony.ensures.frame)
 
 pub returns : goal.returns
 returns g c =

@@ -5,42 +5,20 @@ use Rattle.kcr_rows.proofs.InsideLemmas.{was_clean}
 use Rattle.kcr_cells.specs.Rows.{training_row, withdrawal_row, appointment_row}
 use Rattle.kcr_tables.specs.Exact.{has_text, is_appointment_row, AskedAreShown}
 use Rattle.kcr_tables.specs.Held.{trainings_place, withdrawals_place, appointments_place}
-use Rattle.kcr_tables.proofs.FrameLemmas.{reads_then, reads_to, reads_fails, read_later}
+use Rattle.kcr_tables.proofs.FrameLemmas.{reads_on, fails_as, reads_then, reads_to, read_later}
 use Rattle.kcr_tables.proofs.view.staff_rows.Goals as goal
 
 pub returns-in_err-people-clause-frame : goal.returns-in_err-people-clause-frame
-returns-in_err-people-clause-frame g c =
-    reads_fails (state g.S.Store c.args.tx.now.conn.now) (state g.S.Store c.asked_people.new.tx.conn.now) _ _ c.from_residual.ensures.1 c.in_err-people.ensures.frame
+returns-in_err-people-clause-frame g c = fails_as c.from_residual.ensures.1 c.in_err-people.ensures.frame
 
 pub returns-in_err-trainings-clause-frame : goal.returns-in_err-trainings-clause-frame
-returns-in_err-trainings-clause-frame g c =
-    let old = state g.S.Store c.args.tx.now.conn.now in
-    let s0 = state g.S.Store c.asked_people.new.tx.conn.now in
-    let s1 = state g.S.Store c.asked_rows.new.tx.conn.now in
-    let to0 = c.in_ok-people.ensures.frame in
-    reads_then old s0 s1 _ _ to0 (reads_fails s0 s1 _ _ c.from_residual-in_err-trainings.ensures.1 c.in_err-trainings.ensures.frame)
+returns-in_err-trainings-clause-frame g c = reads_on c.in_ok-people.ensures.frame (fails_as c.from_residual-in_err-trainings.ensures.1 c.in_err-trainings.ensures.frame)
 
 pub returns-in_err-withdrawals-clause-frame : goal.returns-in_err-withdrawals-clause-frame
-returns-in_err-withdrawals-clause-frame g c =
-    let old = state g.S.Store c.args.tx.now.conn.now in
-    let s0 = state g.S.Store c.asked_people.new.tx.conn.now in
-    let s1 = state g.S.Store c.asked_rows.new.tx.conn.now in
-    let s2 = state g.S.Store c.asked_rows-2.new.tx.conn.now in
-    let to0 = c.in_ok-people.ensures.frame in
-    let to1 = reads_then old s0 s1 _ _ to0 c.in_ok-trainings.ensures.frame in
-    reads_then old s1 s2 _ _ to1 (reads_fails s1 s2 _ _ c.from_residual-in_err-withdrawals.ensures.1 c.in_err-withdrawals.ensures.frame)
+returns-in_err-withdrawals-clause-frame g c = reads_on (reads_on c.in_ok-people.ensures.frame c.in_ok-trainings.ensures.frame) (fails_as c.from_residual-in_err-withdrawals.ensures.1 c.in_err-withdrawals.ensures.frame)
 
 pub returns-in_err-appointments-clause-frame : goal.returns-in_err-appointments-clause-frame
-returns-in_err-appointments-clause-frame g c =
-    let old = state g.S.Store c.args.tx.now.conn.now in
-    let s0 = state g.S.Store c.asked_people.new.tx.conn.now in
-    let s1 = state g.S.Store c.asked_rows.new.tx.conn.now in
-    let s2 = state g.S.Store c.asked_rows-2.new.tx.conn.now in
-    let s3 = state g.S.Store c.asked_appointments.new.tx.conn.now in
-    let to0 = c.in_ok-people.ensures.frame in
-    let to1 = reads_then old s0 s1 _ _ to0 c.in_ok-trainings.ensures.frame in
-    let to2 = reads_then old s1 s2 _ _ to1 c.in_ok-withdrawals.ensures.frame in
-    reads_then old s2 s3 _ _ to2 (reads_fails s2 s3 _ _ c.from_residual-in_err-appointments.ensures.1 c.in_err-appointments.ensures.frame)
+returns-in_err-appointments-clause-frame g c = reads_on (reads_on (reads_on c.in_ok-people.ensures.frame c.in_ok-trainings.ensures.frame) c.in_ok-withdrawals.ensures.frame) (fails_as c.from_residual-in_err-appointments.ensures.1 c.in_err-appointments.ensures.frame)
 
 pub returns : goal.returns
 returns g c =
