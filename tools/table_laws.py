@@ -178,6 +178,7 @@ table_laws = {lines(fields)}"""
 
 def laws(t):
     cols = t.columns
+    fields = same_fields(t)
     stored = t.is_stored or "⊤"
     stored_of = (lambda x: f"{t.is_stored} {x}") if t.is_stored else (lambda x: "⊤")
     read_of = (lambda x: f"{t.is_read} {x}") if t.is_read else (lambda x: "⊤")
@@ -188,8 +189,10 @@ def laws(t):
 use Rattle.std.specs.List.{AllByRecursion}
 use Rattle.std.proofs.lemmas.List.Sorted.{IsPermutation-refl}
 use Rattle.sqlite.specs.declared.types.Value.TheVariants.{Null, Int, Text}
-use Rattle.sqlite.specs.Order.{Row, column}
-use Rattle.sqlite.specs.Term.{Term, lit, col, op2}
+"""
+    if any("column r" in is_same for is_same in fields.values()):
+        out += "use Rattle.sqlite.specs.Order.{Row, column}\n"
+    out += """use Rattle.sqlite.specs.Term.{Term, lit, col, op2}
 use Rattle.sqlite.specs.Collation.TheVariants.{Binary}
 use Rattle.sqlite.specs.Tree.{Trees}
 use Rattle.sqlite.specs.Edit.{IsNoIndex}
@@ -228,7 +231,6 @@ use Rattle.kcr_base.specs.Place.{place_text}
     out += f"\nabbrev pub project : List Term\nproject = {listed(f'col 1 {i + 1}' for i in range(len(cols)))}\n"
     out += f"\nabbrev order : List (Term × Key)\norder = {listed(f'(col 1 {i + 1}, ascending Binary)' for i in range(t.keys))}\n"
     out += f"\nabbrev pub names : List (List ℕ)\nnames = {listed(codes(c.name) for c in cols)}\n"
-    fields = same_fields(t)
     out += table(t)
     out += f"\n-- no two values stand for one row\npub one : (x y : {t.type}) → {read_of('x')} → {stored_of('y')} → {t.row_of} x ≡ {t.row_of} y → x ≡ y\n"
     out += f"one x y read held h = λ i. {record(**fields)}\n"

@@ -1,5 +1,5 @@
 -- That rows are those of values that are shown, whatever a table has.
-use Rattle.std.proofs.Common.{◌≡◌, inl, inr, ℕ, ◌+◌, ◌<◌, ◌||◌, Bool, true, false, cond, List, [], ◌∷◌, ◌++◌, map, filter, length, take, Result, IfOk, refl, sym, subst, arith, true≢false, if◌then◌else◌, IsPermutation, Vec, Global}
+use Rattle.std.proofs.Common.{◌≡◌, inl, inr, ◌||◌, Bool, true, false, cond, List, [], ◌∷◌, ◌++◌, map, filter, length, take, Result, IfOk, refl, sym, subst, arith, true≢false, if◌then◌else◌, IsPermutation, Vec, Global}
 use Rattle.std.specs.List.{AllByRecursion, list_any}
 use Rattle.std.proofs.lemmas.List.Sorted.{IsPermutation-sym, length_permutation}
 use Rattle.sqlite.specs.Order.{Row}
