@@ -25,7 +25,7 @@ fn rows_of_two<S: Alter, A: Listed, B: Listed>(
 ) -> Result<(Vec<A>, Vec<B>), Refusal>
     ensures same_reference { tx.new.conn.ghost_name ≡ tx.old.conn.ghost_name }
     ensures rows { HasCleanDisk (state S.Store tx.new.conn.now) → (t : Held) → Holds (state S.Store tx.old.conn.now).now t
-        → IfOk result (λ rows. (rows.0.items ≡ A.rows_in t) × (rows.1.items ≡ B.rows_in t)) }
+        → IfOk result (λ rows. (rows.0.items ≡ A.table.rows_in t) × (rows.1.items ≡ B.table.rows_in t)) }
     ensures holds { HasCleanDisk (state S.Store tx.new.conn.now) → (t : Held) → Holds (state S.Store tx.old.conn.now).now t
         → OnOk result (Holds (state S.Store tx.new.conn.now).now t) }
     ensures opened { HasCleanDisk (state S.Store tx.new.conn.now) → OnOk result (IsTrue (state S.Store tx.old.conn.now).is_open) }
@@ -48,8 +48,8 @@ fn rows_of_four<S: Alter, A: Listed, B: Listed, C: Listed, D: Listed>(
 ) -> Result<((Vec<A>, Vec<B>), (Vec<C>, Vec<D>)), Refusal>
     ensures same_reference { tx.new.conn.ghost_name ≡ tx.old.conn.ghost_name }
     ensures rows { HasCleanDisk (state S.Store tx.new.conn.now) → (t : Held) → Holds (state S.Store tx.old.conn.now).now t
-        → IfOk result (λ rows. ((rows.0.0.items ≡ A.rows_in t) × (rows.0.1.items ≡ B.rows_in t))
-        × ((rows.1.0.items ≡ C.rows_in t) × (rows.1.1.items ≡ D.rows_in t))) }
+        → IfOk result (λ rows. ((rows.0.0.items ≡ A.table.rows_in t) × (rows.0.1.items ≡ B.table.rows_in t))
+        × ((rows.1.0.items ≡ C.table.rows_in t) × (rows.1.1.items ≡ D.table.rows_in t))) }
     ensures holds { HasCleanDisk (state S.Store tx.new.conn.now) → (t : Held) → Holds (state S.Store tx.old.conn.now).now t
         → OnOk result (Holds (state S.Store tx.new.conn.now).now t) }
     ensures opened { HasCleanDisk (state S.Store tx.new.conn.now) → OnOk result (IsTrue (state S.Store tx.old.conn.now).is_open) }

@@ -7,8 +7,8 @@ use Rattle.kcr_reading.proofs.seek.first_row.Goals as goal
 
 pub returns-clause-row : goal.returns-clause-row
 returns-clause-row g c choice shows clean t held those same up =
-    let T = g.T.Listed in
-    let laws = g.met.T.Listed in
+    let T = g.T.Listed.table in
+    let laws = g.met.T.Listed.table_laws in
     let old = state g.S.Store c.args.tx.now.conn.now in
     let new = state g.S.Store c.rows_of.new.tx.conn.now in
     let rows = c.in_ok-rows.rows.items in
