@@ -4,9 +4,11 @@ from table_writer import write
 
 def cells(t):
     """That the cells of the columns are the row."""
-    found = []
-    for i, c in enumerate(t.columns):
-        cell = f"c.{c.kind.cell()}-c{i}.ensures"
+    found, counts = [], {}
+    for c in t.columns:
+        call = c.kind.cell()
+        counts[call] = counts.get(call, 0) + 1
+        cell = f"c.{call}{'' if counts[call] == 1 else f'-{counts[call]}'}.ensures"
         if c.kind.prelude and "alloc" in c.kind.prelude:
             cell = f"({cell} ∙ ap Text c.in_ok-{c.field}.ensures.text)"
         found.append(f"{cell} i")

@@ -99,15 +99,15 @@ class Reading:
 
 
 class Table:
-    def __init__(self, name, row, type_, crate, module, columns, keys, doc, all_doc, put_doc, change=None, same=None, turned=False, others=(), readings=(), asked=None, insert=False,
-                 is_read=None, is_stored=None, stored_fact=None, listed=None):
+    def __init__(self, name, row, type_, crate, module, columns, keys, doc, change=None, same=None, turned=False, others=(), readings=(), insert=False,
+                 is_read=None, is_stored=None, stored_fact=None):
         self.name, self.row, self.type = name, row, type_
         self.crate = crate
         self.declared = f"Rattle.{crate}.specs.declared.{module}{type_}.{{{type_}}}"
-        self.columns, self.keys, self.doc, self.all_doc, self.put_doc = columns, keys, doc, all_doc, put_doc
+        self.columns, self.keys, self.doc = columns, keys, doc
         self.change, self.same, self.turned = change, same, turned
-        self.others, self.readings, self.asked, self.insert = others, readings, asked, insert
-        self.is_read, self.is_stored, self.stored_fact, self.listed = is_read, is_stored, stored_fact, listed
+        self.others, self.readings, self.insert = others, readings, insert
+        self.is_read, self.is_stored, self.stored_fact = is_read, is_stored, stored_fact
         self.row_of = f"{row}_row"
         self.place = f"{name}_place"
         self.laws = "".join(p.capitalize() for p in name.split("_")) + "Laws"
@@ -165,66 +165,60 @@ def of_ceremony(table, word=None, column="ceremony"):
 
 TABLES = [
     Table("people", "person", "Person", "kcr_people", "", [Column("who", INITIALS), Column("name", LINE)], 1,
-          "a person under their initials", "All people, in the order of their initials: each person is there once.", "their initials",
+          "a person under their initials",
           "PutPerson", "same_person",
-          readings=[Reading("person_of", "The row of the person with these initials, alone, or none", "who", "who", "&Initials", INITIALS, "same_text {x}.who {v}")],
-          asked=("InitialsList", None), listed=("people_named", "person_of", "InitialsList", "people", "who", "is_of_people", "is_person_named", "Initials")),
+          readings=[Reading("person_of", "The row of the person with these initials, alone, or none", "who", "who", "&Initials", INITIALS, "same_text {x}.who {v}")]),
     Table("trainings", "training", "Training", "kcr_people", "", [Column("who", INITIALS), Column("role", ROLE), Column("since", DAY), Column("until", DAY)], 4,
-          "a training of a person for a role, all of it its key", "All trainings, by people, then role, first and last day.", "its key",
-          "PutTraining", "same_training", turned=True, readings=[of_person("trainings", "is_training_of")], asked=("Initials", "is_training_of")),
+          "a training of a person for a role, all of it its key",
+          "PutTraining", "same_training", turned=True, readings=[of_person("trainings", "is_training_of")]),
     Table("appointments", "appointment", "Appointment", "kcr_people", "", [Column("place", PLACE), Column("since", DAY), Column("who", INITIALS), Column("until", DAY_OR_NULL)], 2,
-          "who holds a custodian's place, under the place and the first day", "All appointments, by places, then first day.", "its place and first day",
+          "who holds a custodian's place, under the place and the first day",
           "PutAppointment", "same_appointment",
           readings=[Reading("appointments_to", "The rows of one place", "place", "place", "Place", PLACE, "same_place {x}.place {v}", ask="is_appointment_of (Wanted.Place {v})"),
-                    Reading("appointments_of", "The rows of one person", "who", "who", "&Initials", INITIALS, "same_text {x}.who {v}", ask="is_appointment_of (Wanted.Person {v})")],
-          asked=("AppointmentsOf", "is_appointment_of")),
+                    Reading("appointments_of", "The rows of one person", "who", "who", "&Initials", INITIALS, "same_text {x}.who {v}", ask="is_appointment_of (Wanted.Person {v})")]),
     Table("boxes", "box", "BoxRow", "kcr_custody", "", [Column("facility", FACILITY), Column("box", NUMBER, "number"), Column("place", PLACE)], 2,
-          "a box under its facility and number", "All boxes, by facilities, then number.", "its facility and number", "PutBox", "same_box", asked=(None, None)),
+          "a box under its facility and number", "PutBox", "same_box"),
     Table("safes", "safe", "SafeRow", "kcr_custody", "", [Column("facility", FACILITY), Column("safe", SAFE), Column("state", TRUTH, "is_open")], 2,
-          "a safe under its facility and number", "All safes, by facilities, then number: a register has four.", "its facility and number", "PutSafe", "same_safe_row", asked=(None, None)),
+          "a safe under its facility and number", "PutSafe", "same_safe_row"),
     Table("bags", "bag", "Bag", "kcr_custody", "", [Column("serial", SERIAL), Column("spot", SPOT)], 1,
-          "a bag under its serial", "All bags, in the order of their serials.", "its serial", "PutBag", "same_bag",
-          readings=[Reading("bag_of", "The row of the bag with this serial, alone, or none", "serial", "serial", "&Serial", SERIAL, "same_text {x}.serial {v}", ask="is_of_serial {v}")],
-          asked=("Serial", "is_of_serial"), is_read="HasBoxNumber", is_stored="HasBoxNumber", stored_fact="spot"),
+          "a bag under its serial", "PutBag", "same_bag",
+          readings=[Reading("bag_of", "The row of the bag with this serial, alone, or none", "serial", "serial", "&Serial", SERIAL, "same_text {x}.serial {v}", ask="is_of_serial {v}")], is_read="HasBoxNumber", is_stored="HasBoxNumber", stored_fact="spot"),
     Table("items", "item", "Item", "kcr_custody", "", [Column("code", ITEM), Column("facility", LOOSE, "rest"), Column("serial", WITHIN, "rest")], 1,
-          "an item under its code", "All items, in the order of their codes.", "its code", "PutItem", "same_item", others=[[2, 0]],
+          "an item under its code", "PutItem", "same_item", others=[[2, 0]],
           readings=[Reading("item_of", "The row of the item with this code, alone, or none", "code", "code", "&ItemCode", ITEM, "same_text {x}.code {v}"),
-                    Reading("items_within", "The rows of the items in the bag with this serial", "serial", "serial", "&Serial", SERIAL, "lies_in {v} {x}", ask="is_item_of (Wanted.Bag {v})")],
-          asked=("ItemsOf", None), listed=("items_named", "item_of", "ItemList", "codes", "code", "is_item_of ∘ Codes", "is_item_named", "ItemCode")),
+                    Reading("items_within", "The rows of the items in the bag with this serial", "serial", "serial", "&Serial", SERIAL, "lies_in {v} {x}", ask="is_item_of (Wanted.Bag {v})")]),
     Table("ceremonies", "ceremony", "CeremonyRow", "kcr_history", "rows.", [Column("number", NUMBER), Column("facility", FACILITY), Column("day", DAY), Column("state", CEREMONY_STATE), Column("opened", MOMENT_OR_NULL), Column("closed", MOMENT_OR_NULL)], 1,
-          "a ceremony under its number", "All ceremonies, in the order of their numbers.", "its number", "PutCeremony", "same_ceremony",
-          readings=[Reading("ceremony_of", "The row of the ceremony with this number, alone, or none", "number", "number", "u32", NUMBER, "{x}.number == {v}", ask="is_of_number {v}")],
-          asked=("u32", "is_of_number")),
+          "a ceremony under its number", "PutCeremony", "same_ceremony",
+          readings=[Reading("ceremony_of", "The row of the ceremony with this number, alone, or none", "number", "number", "u32", NUMBER, "{x}.number == {v}", ask="is_of_number {v}")]),
     Table("marks", "mark", "MarkRow", "kcr_history", "rows.", [Column("ceremony", NUMBER), Column("at", MOMENT)], 1,
-          "the mark of a ceremony that was opened, under its number", "All marks, in the order of their ceremonies.", "its ceremony", "PutMark", "same_mark",
-          readings=[Reading("mark_of", "The row of the ceremony, alone, or none", "ceremony", "ceremony", "u32", NUMBER, "{x}.ceremony == {v}", ask="is_mark_of {v}")],
-          asked=("u32", "is_mark_of")),
+          "the mark of a ceremony that was opened, under its number", "PutMark", "same_mark",
+          readings=[Reading("mark_of", "The row of the ceremony, alone, or none", "ceremony", "ceremony", "u32", NUMBER, "{x}.ceremony == {v}", ask="is_mark_of {v}")]),
     Table("steps", "step", "StepRow", "kcr_history", "rows.", [Column("ceremony", NUMBER), Column("step", NUMBER), Column("activity", LINE), Column("seats", SEATS), Column("state", STEP_STATE), Column("at", MOMENT_OR_NULL)], 2,
-          "a step of a ceremony under both numbers", "All steps, by ceremonies, then number.", "its ceremony and number", "PutStep", "same_step",
-          readings=[of_ceremony("steps", "is_step_of")], asked=("u32", "is_step_of"), is_read="HasOnlyTheseSeats", is_stored="HasSeatsText", stored_fact="seats"),
+          "a step of a ceremony under both numbers", "PutStep", "same_step",
+          readings=[of_ceremony("steps", "is_step_of")], is_read="HasOnlyTheseSeats", is_stored="HasSeatsText", stored_fact="seats"),
     Table("seatings", "seating", "SeatingRow", "kcr_history", "rows.", [Column("ceremony", NUMBER), Column("step", NUMBER), Column("seat", NUMBER), Column("who", INITIALS)], 3,
-          "who filled a seat of a step, under the ceremony, the step and the seat", "All seatings, by ceremonies, then step and seat.", "its ceremony, step and seat", "PutSeating", "same_seating",
+          "who filled a seat of a step, under the ceremony, the step and the seat", "PutSeating", "same_seating",
           readings=[of_ceremony("seatings")]),
     Table("sheet", "sheet", "SheetRow", "kcr_room", "", [Column("who", INITIALS), Column("at", MOMENT), Column("ceremony", NUMBER), Column("way", WAY)], 2,
-          "a row of a ceremony's entry and exit sheet, under the person and the moment", "All rows, by people, then moment.", "its person and moment", "PutSheet", "same_sheet_row",
+          "a row of a ceremony's entry and exit sheet, under the person and the moment", "PutSheet", "same_sheet_row",
           readings=[of_ceremony("sheet")]),
     Table("exceptions", "exception", "ExceptionRow", "kcr_history", "rows.", [Column("ceremony", NUMBER), Column("exception", NUMBER), Column("text", LINE), Column("at", MOMENT), Column("passed", NUMBER_OR_NULL)], 2,
-          "a script exception of a ceremony under both numbers", "All exceptions, by ceremonies, then number.", "its ceremony and number", "PutException", "same_exception",
-          readings=[of_ceremony("exceptions", "is_exception_of")], asked=("u32", "is_exception_of")),
+          "a script exception of a ceremony under both numbers", "PutException", "same_exception",
+          readings=[of_ceremony("exceptions", "is_exception_of")]),
     Table("versions", "version", "Version", "kcr_cells", "rows.", [Column("number", NUMBER)], 1,
-          "one row with the number of the schema", "All rows, in the order of their numbers: a register has one, with the number of its schema.", "its number"),
+          "one row with the number of the schema"),
     Table("keys", "key", "KeyRow", "kcr_history", "rows.", [Column("key", KEY), Column("accepted", NUMBER), Column("command", TEXT), Column("reply", TEXT)], 1,
-          "a row for each accepted command, under its key; no two rows have one number", "All accepted commands, in the order of their keys: each key is there once.", "its key",
+          "a row for each accepted command, under its key; no two rows have one number",
           "PutKey", "same_key_row", others=[[1]], insert=True,
           readings=[Reading("key_row_of", "The row of this key, alone, or none", '"key"', "key", "&Key", KEY, "same_text {x}.key {v}", ask="is_of_key {v}"),
                     Reading("last_key_row", "The row with the greatest number, alone, or none where there is no row", None, greatest="accepted")]),
     Table("stays", "stay", "Stay", "kcr_room", "", [Column("who", INITIALS), Column("since", MOMENT), Column("ceremony", NUMBER), Column("until", MOMENT_OR_NULL)], 2,
-          "a stay of a person in the room of a ceremony, under the person and its beginning", "All stays, by people, then beginning.", "its person and beginning", "PutStay", "same_stay", others=[[2, 1, 0]],
+          "a stay of a person in the room of a ceremony, under the person and its beginning", "PutStay", "same_stay", others=[[2, 1, 0]],
           readings=[of_ceremony("stays", "is_stay_of"),
                     Reading("last_stay_of", "The row of the person's stay that began last, alone, or none", "who", "who", "&Initials", INITIALS, "same_text {x}.who {v}", ask="is_of {v}", greatest="since")]),
     Table("withdrawals", "withdrawal", "Withdrawal", "kcr_people", "", [Column("who", INITIALS), Column("role", ROLE), Column("since", DAY), Column("until", DAY), Column("day", DAY)], 4,
-          "from which day a training is withdrawn, under the training's key", "All withdrawals, by people, then role, first and last day of the training.", "its training", "PutWithdrawal", "same_withdrawn",
-          readings=[of_person("withdrawals", "is_withdrawal_of")], asked=("Initials", "is_withdrawal_of")),
+          "from which day a training is withdrawn, under the training's key", "PutWithdrawal", "same_withdrawn",
+          readings=[of_person("withdrawals", "is_withdrawal_of")]),
 ]
 
 tree = 0

@@ -4,7 +4,7 @@ from table_writer import CELLS_CRATE, write, rust_text
 
 
 # the kinds of values by which rows are found, as the trait `AsCell` has them
-KEY_TYPES = {"&Initials": "Initials", "&Serial": "Serial", "&ItemCode": "ItemCode", "&Key": "Key", "u32": "u32", "Place": "Code<9>"}
+KEY_TYPES = {"&Initials": "Initials", "&Serial": "Serial", "&ItemCode": "ItemCode", "&Key": "Key", "u32": "u32", "Place": "kcr_base::code::Code<9>"}
 
 
 def text_method(name, text):
@@ -23,11 +23,10 @@ def put_source(t):
     """How a row is put: the cells of its columns, as the parameters of the text."""
     lead = "alloc: Global, " if t.needs_alloc else ""
     out = f"    fn {t.put}<S: Alter>(&self, {lead}tx: &mut Transaction<'_, S>) -> Result<(), Refusal> {{\n"
-    for i, c in enumerate(t.columns):
+    for c in t.columns:
         if c.kind.prelude:
             out += "        " + c.kind.prelude.format(f=c.field, x=f"self.{c.field}") + "\n"
-        out += f"        let c{i} = {c.kind.write.format(f=c.field, x=f'self.{c.field}')};\n"
-    cells = ", ".join(f"c{i}" for i in range(len(t.columns)))
+    cells = ", ".join(c.kind.write.format(f=c.field, x=f"self.{c.field}") for c in t.columns)
     call = "write(tx, " if t.insert else "put_cells(tx, self, "
     return out + f"        {call}{rust_text(t.put_text())}, &[{cells}])\n    }}\n"
 
@@ -42,12 +41,10 @@ def source(t):
         out += f"/// {r.doc}.\n" + impl(f"Finds<{KEY_TYPES[r.ty]}>", t, body)
     lemmas = "" if t.insert else f"    #[tactic(auto, using(crate::specs::{t.laws}::puts))]\n"
     if t.insert:
-        out += f"/// The row is entered under {t.put_doc}; it is an error where a row has its key or its number already.\n"
-    else:
-        out += f"/// The row is put under {t.put_doc}, new or in the place of the row there.\n"
+        out += "/// A row whose key or number is taken is not put: that is the error `Disk`.\n"
     out += impl("PutWords" if t.needs_alloc else "Put", t, lemmas + put_source(t))
     keys = {KEY_TYPES[r.ty] for r in found}
-    base = sorted(keys & {"Initials", "Serial", "ItemCode", "Key"} | {"Refusal"}) + ["code::Code"] * ("Code<9>" in keys)
+    base = sorted(keys & {"Initials", "Serial", "ItemCode", "Key"} | {"Refusal"})
     cells = {c.kind.cell() for c in t.columns} | {c.kind.prelude.split("= ")[1].split("(")[0] for c in t.columns if "(alloc" in (c.kind.prelude or "")}
     table = ["Listed", "PutWords" if t.needs_alloc else "Put"] + ["Finds"] * bool(found) + ["put_cells"] * (not t.insert)
     imports = [

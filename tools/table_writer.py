@@ -23,7 +23,7 @@ def without_unused(text):
         group = re.match(r"((?:ghost )?use .*)\{(.*)\}(;?)$", line)
         single = re.match(r"(?:ghost )?use \S+ as (\w+);?$", line)
         if group:
-            names = [name for name in group[2].split(", ") if is_named(name.split(" as ")[-1].split("::")[-1], body)]
+            names = [name for name in group[2].split(", ") if is_named(name.split(" as ")[-1], body)]
             if not names:
                 continue
             line = f"{group[1]}{{{', '.join(names)}}}{group[3]}"

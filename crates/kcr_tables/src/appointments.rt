@@ -3,7 +3,6 @@
 ghost use Rattle.kcr_tables.specs.AppointmentsLaws as laws;
 
 use crate::table::{Finds, Listed, Put, put_cells};
-use kcr_base::code::Code;
 use kcr_base::{Initials, Refusal};
 use kcr_people::Appointment;
 use kcr_rows::cells::{code_cell, day_cell, day_or_null_cell, initials_cell};
@@ -20,7 +19,7 @@ impl Listed for Appointment {
 }
 
 /// The rows of one place.
-impl Finds<Code<9>> for Appointment {
+impl Finds<kcr_base::code::Code<9>> for Appointment {
     ghost finding = { laws.appointments_to };
 
     fn find_text() -> &'static str {
@@ -41,20 +40,20 @@ impl Finds<Initials> for Appointment {
     ghost finding_laws = { laws.appointments_of_laws };
 }
 
-/// The row is put under its place and first day, new or in the place of the row there.
 impl Put for Appointment {
     #[tactic(auto, using(crate::specs::AppointmentsLaws::puts))]
     fn put<S: Alter>(&self, tx: &mut Transaction<'_, S>) -> Result<(), Refusal> {
         let place = self.place.text();
-        let c0 = code_cell(&place);
-        let c1 = day_cell(self.since);
-        let c2 = initials_cell(&self.who);
-        let c3 = day_or_null_cell(self.until);
         put_cells(
             tx,
             self,
             "INSERT INTO appointments (place, since, who, until) VALUES (?1, ?2, ?3, ?4) ON CONFLICT (place, since) DO UPDATE SET place = ?1, since = ?2, who = ?3, until = ?4",
-            &[c0, c1, c2, c3],
+            &[
+                code_cell(&place),
+                day_cell(self.since),
+                initials_cell(&self.who),
+                day_or_null_cell(self.until),
+            ],
         )
     }
 }

@@ -31,7 +31,6 @@ impl Finds<Serial> for Bag {
     ghost finding_laws = { laws.bag_of_laws };
 }
 
-/// The row is put under its serial, new or in the place of the row there.
 impl PutWords for Bag {
     #[tactic(auto, using(crate::specs::BagsLaws::puts))]
     fn put_words<S: Alter>(
@@ -39,14 +38,12 @@ impl PutWords for Bag {
         alloc: Global,
         tx: &mut Transaction<'_, S>,
     ) -> Result<(), Refusal> {
-        let c0 = serial_cell(&self.serial);
         let spot = spot_words(alloc, self.spot)?;
-        let c1 = text_cell(&spot);
         put_cells(
             tx,
             self,
             "INSERT INTO bags (serial, spot) VALUES (?1, ?2) ON CONFLICT (serial) DO UPDATE SET serial = ?1, spot = ?2",
-            &[c0, c1],
+            &[serial_cell(&self.serial), text_cell(&spot)],
         )
     }
 }

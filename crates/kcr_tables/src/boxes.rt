@@ -18,19 +18,19 @@ impl Listed for BoxRow {
     ghost table_laws = { laws.table_laws };
 }
 
-/// The row is put under its facility and number, new or in the place of the row there.
 impl Put for BoxRow {
     #[tactic(auto, using(crate::specs::BoxesLaws::puts))]
     fn put<S: Alter>(&self, tx: &mut Transaction<'_, S>) -> Result<(), Refusal> {
-        let c0 = facility_cell(self.facility);
-        let c1 = number_cell(self.number);
         let place = self.place.text();
-        let c2 = code_cell(&place);
         put_cells(
             tx,
             self,
             "INSERT INTO boxes (facility, box, place) VALUES (?1, ?2, ?3) ON CONFLICT (facility, box) DO UPDATE SET facility = ?1, box = ?2, place = ?3",
-            &[c0, c1, c2],
+            &[
+                facility_cell(self.facility),
+                number_cell(self.number),
+                code_cell(&place),
+            ],
         )
     }
 }

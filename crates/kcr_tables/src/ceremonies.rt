@@ -30,21 +30,21 @@ impl Finds<u32> for CeremonyRow {
     ghost finding_laws = { laws.ceremony_of_laws };
 }
 
-/// The row is put under its number, new or in the place of the row there.
 impl Put for CeremonyRow {
     #[tactic(auto, using(crate::specs::CeremoniesLaws::puts))]
     fn put<S: Alter>(&self, tx: &mut Transaction<'_, S>) -> Result<(), Refusal> {
-        let c0 = number_cell(self.number);
-        let c1 = facility_cell(self.facility);
-        let c2 = day_cell(self.day);
-        let c3 = ceremony_state_cell(self.state);
-        let c4 = moment_or_null_cell(self.opened);
-        let c5 = moment_or_null_cell(self.closed);
         put_cells(
             tx,
             self,
             "INSERT INTO ceremonies (number, facility, day, state, opened, closed) VALUES (?1, ?2, ?3, ?4, ?5, ?6) ON CONFLICT (number) DO UPDATE SET number = ?1, facility = ?2, day = ?3, state = ?4, opened = ?5, closed = ?6",
-            &[c0, c1, c2, c3, c4, c5],
+            &[
+                number_cell(self.number),
+                facility_cell(self.facility),
+                day_cell(self.day),
+                ceremony_state_cell(self.state),
+                moment_or_null_cell(self.opened),
+                moment_or_null_cell(self.closed),
+            ],
         )
     }
 }

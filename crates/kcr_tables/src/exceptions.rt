@@ -29,20 +29,20 @@ impl Finds<u32> for ExceptionRow {
     ghost finding_laws = { laws.exceptions_of_laws };
 }
 
-/// The row is put under its ceremony and number, new or in the place of the row there.
 impl Put for ExceptionRow {
     #[tactic(auto, using(crate::specs::ExceptionsLaws::puts))]
     fn put<S: Alter>(&self, tx: &mut Transaction<'_, S>) -> Result<(), Refusal> {
-        let c0 = number_cell(self.ceremony);
-        let c1 = number_cell(self.exception);
-        let c2 = line_cell(&self.text);
-        let c3 = moment_cell(self.at);
-        let c4 = number_or_null_cell(self.passed);
         put_cells(
             tx,
             self,
             "INSERT INTO exceptions (ceremony, exception, text, at, passed) VALUES (?1, ?2, ?3, ?4, ?5) ON CONFLICT (ceremony, exception) DO UPDATE SET ceremony = ?1, exception = ?2, text = ?3, at = ?4, passed = ?5",
-            &[c0, c1, c2, c3, c4],
+            &[
+                number_cell(self.ceremony),
+                number_cell(self.exception),
+                line_cell(&self.text),
+                moment_cell(self.at),
+                number_or_null_cell(self.passed),
+            ],
         )
     }
 }

@@ -41,18 +41,18 @@ impl Finds<Serial> for Item {
     ghost finding_laws = { laws.items_within_laws };
 }
 
-/// The row is put under its code, new or in the place of the row there.
 impl Put for Item {
     #[tactic(auto, using(crate::specs::ItemsLaws::puts))]
     fn put<S: Alter>(&self, tx: &mut Transaction<'_, S>) -> Result<(), Refusal> {
-        let c0 = item_cell(&self.code);
-        let c1 = loose_cell(self.rest);
-        let c2 = within_cell(&self.rest);
         put_cells(
             tx,
             self,
             "INSERT INTO items (code, facility, serial) VALUES (?1, ?2, ?3) ON CONFLICT (code) DO UPDATE SET code = ?1, facility = ?2, serial = ?3",
-            &[c0, c1, c2],
+            &[
+                item_cell(&self.code),
+                loose_cell(self.rest),
+                within_cell(&self.rest),
+            ],
         )
     }
 }

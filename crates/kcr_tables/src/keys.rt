@@ -30,17 +30,18 @@ impl Finds<Key> for KeyRow {
     ghost finding_laws = { laws.key_row_of_laws };
 }
 
-/// The row is entered under its key; it is an error where a row has its key or its number already.
+/// A row whose key or number is taken is not put: that is the error `Disk`.
 impl Put for KeyRow {
     fn put<S: Alter>(&self, tx: &mut Transaction<'_, S>) -> Result<(), Refusal> {
-        let c0 = key_cell(&self.key);
-        let c1 = number_cell(self.accepted);
-        let c2 = text_cell(&self.command);
-        let c3 = text_cell(&self.reply);
         write(
             tx,
             "INSERT INTO keys (\"key\", accepted, command, reply) VALUES (?1, ?2, ?3, ?4)",
-            &[c0, c1, c2, c3],
+            &[
+                key_cell(&self.key),
+                number_cell(self.accepted),
+                text_cell(&self.command),
+                text_cell(&self.reply),
+            ],
         )
     }
 }

@@ -29,17 +29,14 @@ impl Finds<u32> for MarkRow {
     ghost finding_laws = { laws.mark_of_laws };
 }
 
-/// The row is put under its ceremony, new or in the place of the row there.
 impl Put for MarkRow {
     #[tactic(auto, using(crate::specs::MarksLaws::puts))]
     fn put<S: Alter>(&self, tx: &mut Transaction<'_, S>) -> Result<(), Refusal> {
-        let c0 = number_cell(self.ceremony);
-        let c1 = moment_cell(self.at);
         put_cells(
             tx,
             self,
             "INSERT INTO marks (ceremony, at) VALUES (?1, ?2) ON CONFLICT (ceremony) DO UPDATE SET ceremony = ?1, at = ?2",
-            &[c0, c1],
+            &[number_cell(self.ceremony), moment_cell(self.at)],
         )
     }
 }

@@ -29,17 +29,14 @@ impl Finds<Initials> for Person {
     ghost finding_laws = { laws.person_of_laws };
 }
 
-/// The row is put under their initials, new or in the place of the row there.
 impl Put for Person {
     #[tactic(auto, using(crate::specs::PeopleLaws::puts))]
     fn put<S: Alter>(&self, tx: &mut Transaction<'_, S>) -> Result<(), Refusal> {
-        let c0 = initials_cell(&self.who);
-        let c1 = line_cell(&self.name);
         put_cells(
             tx,
             self,
             "INSERT INTO people (who, name) VALUES (?1, ?2) ON CONFLICT (who) DO UPDATE SET who = ?1, name = ?2",
-            &[c0, c1],
+            &[initials_cell(&self.who), line_cell(&self.name)],
         )
     }
 }

@@ -19,18 +19,18 @@ impl Listed for SafeRow {
     ghost table_laws = { laws.table_laws };
 }
 
-/// The row is put under its facility and number, new or in the place of the row there.
 impl Put for SafeRow {
     #[tactic(auto, using(crate::specs::SafesLaws::puts))]
     fn put<S: Alter>(&self, tx: &mut Transaction<'_, S>) -> Result<(), Refusal> {
-        let c0 = facility_cell(self.facility);
-        let c1 = safe_cell(self.safe);
-        let c2 = truth_cell(self.is_open);
         put_cells(
             tx,
             self,
             "INSERT INTO safes (facility, safe, state) VALUES (?1, ?2, ?3) ON CONFLICT (facility, safe) DO UPDATE SET facility = ?1, safe = ?2, state = ?3",
-            &[c0, c1, c2],
+            &[
+                facility_cell(self.facility),
+                safe_cell(self.safe),
+                truth_cell(self.is_open),
+            ],
         )
     }
 }

@@ -29,19 +29,19 @@ impl Finds<u32> for SeatingRow {
     ghost finding_laws = { laws.seatings_of_laws };
 }
 
-/// The row is put under its ceremony, step and seat, new or in the place of the row there.
 impl Put for SeatingRow {
     #[tactic(auto, using(crate::specs::SeatingsLaws::puts))]
     fn put<S: Alter>(&self, tx: &mut Transaction<'_, S>) -> Result<(), Refusal> {
-        let c0 = number_cell(self.ceremony);
-        let c1 = number_cell(self.step);
-        let c2 = number_cell(self.seat);
-        let c3 = initials_cell(&self.who);
         put_cells(
             tx,
             self,
             "INSERT INTO seatings (ceremony, step, seat, who) VALUES (?1, ?2, ?3, ?4) ON CONFLICT (ceremony, step, seat) DO UPDATE SET ceremony = ?1, step = ?2, seat = ?3, who = ?4",
-            &[c0, c1, c2, c3],
+            &[
+                number_cell(self.ceremony),
+                number_cell(self.step),
+                number_cell(self.seat),
+                initials_cell(&self.who),
+            ],
         )
     }
 }

@@ -30,19 +30,19 @@ impl Finds<u32> for SheetRow {
     ghost finding_laws = { laws.sheet_of_laws };
 }
 
-/// The row is put under its person and moment, new or in the place of the row there.
 impl Put for SheetRow {
     #[tactic(auto, using(crate::specs::SheetLaws::puts))]
     fn put<S: Alter>(&self, tx: &mut Transaction<'_, S>) -> Result<(), Refusal> {
-        let c0 = initials_cell(&self.who);
-        let c1 = moment_cell(self.at);
-        let c2 = number_cell(self.ceremony);
-        let c3 = way_cell(self.way);
         put_cells(
             tx,
             self,
             "INSERT INTO sheet (who, at, ceremony, way) VALUES (?1, ?2, ?3, ?4) ON CONFLICT (who, at) DO UPDATE SET who = ?1, at = ?2, ceremony = ?3, way = ?4",
-            &[c0, c1, c2, c3],
+            &[
+                initials_cell(&self.who),
+                moment_cell(self.at),
+                number_cell(self.ceremony),
+                way_cell(self.way),
+            ],
         )
     }
 }

@@ -29,19 +29,19 @@ impl Finds<u32> for Stay {
     ghost finding_laws = { laws.stays_of_laws };
 }
 
-/// The row is put under its person and beginning, new or in the place of the row there.
 impl Put for Stay {
     #[tactic(auto, using(crate::specs::StaysLaws::puts))]
     fn put<S: Alter>(&self, tx: &mut Transaction<'_, S>) -> Result<(), Refusal> {
-        let c0 = initials_cell(&self.who);
-        let c1 = moment_cell(self.since);
-        let c2 = number_cell(self.ceremony);
-        let c3 = moment_or_null_cell(self.until);
         put_cells(
             tx,
             self,
             "INSERT INTO stays (who, since, ceremony, until) VALUES (?1, ?2, ?3, ?4) ON CONFLICT (who, since) DO UPDATE SET who = ?1, since = ?2, ceremony = ?3, until = ?4",
-            &[c0, c1, c2, c3],
+            &[
+                initials_cell(&self.who),
+                moment_cell(self.since),
+                number_cell(self.ceremony),
+                moment_or_null_cell(self.until),
+            ],
         )
     }
 }

@@ -31,7 +31,6 @@ impl Finds<u32> for StepRow {
     ghost finding_laws = { laws.steps_of_laws };
 }
 
-/// The row is put under its ceremony and number, new or in the place of the row there.
 impl PutWords for StepRow {
     #[tactic(auto, using(crate::specs::StepsLaws::puts))]
     fn put_words<S: Alter>(
@@ -39,18 +38,19 @@ impl PutWords for StepRow {
         alloc: Global,
         tx: &mut Transaction<'_, S>,
     ) -> Result<(), Refusal> {
-        let c0 = number_cell(self.ceremony);
-        let c1 = number_cell(self.step);
-        let c2 = line_cell(&self.activity);
         let seats = seats_words(alloc, &self.seats)?;
-        let c3 = text_cell(&seats);
-        let c4 = step_state_cell(self.state);
-        let c5 = moment_or_null_cell(self.at);
         put_cells(
             tx,
             self,
             "INSERT INTO steps (ceremony, step, activity, seats, state, at) VALUES (?1, ?2, ?3, ?4, ?5, ?6) ON CONFLICT (ceremony, step) DO UPDATE SET ceremony = ?1, step = ?2, activity = ?3, seats = ?4, state = ?5, at = ?6",
-            &[c0, c1, c2, c3, c4, c5],
+            &[
+                number_cell(self.ceremony),
+                number_cell(self.step),
+                line_cell(&self.activity),
+                text_cell(&seats),
+                step_state_cell(self.state),
+                moment_or_null_cell(self.at),
+            ],
         )
     }
 }

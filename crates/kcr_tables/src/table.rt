@@ -118,8 +118,7 @@ pub trait Finds<K: AsCell>: Listed {
 /// A table in which the row of a value is put under its key.
 pub trait Put: Listed {
     /// Puts the row under its key, new or in the place of the row there; every other row stays. The error is `Memory`,
-    /// or else `Disk`, as where another row has a value that no two rows share, or where a command's key is taken. What
-    /// was committed before stays.
+    /// or else `Disk`, as where the key or the number of an accepted command is taken. What was committed before stays.
     fn put<S: Alter>(&self, tx: &mut Transaction<'_, S>) -> Result<(), Refusal>
         ensures same_reference { tx.new.conn.ghost_name ≡ tx.old.conn.ghost_name }
         ensures holds { HasCleanDisk (state S.Store tx.new.conn.now) → (t : Tables) → Holds (state S.Store tx.old.conn.now).now t

@@ -29,19 +29,19 @@ impl Finds<Initials> for Training {
     ghost finding_laws = { laws.trainings_of_laws };
 }
 
-/// The row is put under its key, new or in the place of the row there.
 impl Put for Training {
     #[tactic(auto, using(crate::specs::TrainingsLaws::puts))]
     fn put<S: Alter>(&self, tx: &mut Transaction<'_, S>) -> Result<(), Refusal> {
-        let c0 = initials_cell(&self.who);
-        let c1 = role_cell(self.role);
-        let c2 = day_cell(self.since);
-        let c3 = day_cell(self.until);
         put_cells(
             tx,
             self,
             "INSERT INTO trainings (who, role, since, until) VALUES (?1, ?2, ?3, ?4) ON CONFLICT (who, role, since, until) DO UPDATE SET who = ?1, role = ?2, since = ?3, until = ?4",
-            &[c0, c1, c2, c3],
+            &[
+                initials_cell(&self.who),
+                role_cell(self.role),
+                day_cell(self.since),
+                day_cell(self.until),
+            ],
         )
     }
 }

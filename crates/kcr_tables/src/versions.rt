@@ -18,16 +18,14 @@ impl Listed for Version {
     ghost table_laws = { laws.table_laws };
 }
 
-/// The row is put under its number, new or in the place of the row there.
 impl Put for Version {
     #[tactic(auto, using(crate::specs::VersionsLaws::puts))]
     fn put<S: Alter>(&self, tx: &mut Transaction<'_, S>) -> Result<(), Refusal> {
-        let c0 = number_cell(self.number);
         put_cells(
             tx,
             self,
             "INSERT INTO versions (number) VALUES (?1) ON CONFLICT (number) DO UPDATE SET number = ?1",
-            &[c0],
+            &[number_cell(self.number)],
         )
     }
 }

@@ -29,20 +29,20 @@ impl Finds<Initials> for Withdrawal {
     ghost finding_laws = { laws.withdrawals_of_laws };
 }
 
-/// The row is put under its training, new or in the place of the row there.
 impl Put for Withdrawal {
     #[tactic(auto, using(crate::specs::WithdrawalsLaws::puts))]
     fn put<S: Alter>(&self, tx: &mut Transaction<'_, S>) -> Result<(), Refusal> {
-        let c0 = initials_cell(&self.who);
-        let c1 = role_cell(self.role);
-        let c2 = day_cell(self.since);
-        let c3 = day_cell(self.until);
-        let c4 = day_cell(self.day);
         put_cells(
             tx,
             self,
             "INSERT INTO withdrawals (who, role, since, until, day) VALUES (?1, ?2, ?3, ?4, ?5) ON CONFLICT (who, role, since, until) DO UPDATE SET who = ?1, role = ?2, since = ?3, until = ?4, day = ?5",
-            &[c0, c1, c2, c3, c4],
+            &[
+                initials_cell(&self.who),
+                role_cell(self.role),
+                day_cell(self.since),
+                day_cell(self.until),
+                day_cell(self.day),
+            ],
         )
     }
 }
