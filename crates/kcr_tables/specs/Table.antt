@@ -44,8 +44,9 @@ pub record IsTable {X : Type 0} (table : Table X) (row_of : X → Row) (is_read 
   -- what is known of each value that was put
   pub stores : (db : Trees) (t : Tables) → Kept db t → AllByRecursion table.is_stored (table.rows_in t)
   -- where the rows change, the other tables stay
-  pub still : (old new : Trees) (rows : List X) (t : Tables) → IsSound register_schema new → Keeps table.place new (map row_of rows)
-      → AllByRecursion table.is_stored rows → ((tree : ℕ) → tree ≢ table.place.tree → IsNoIndex register_schema tree → new tree ≡ old tree)
+  pub still : (old new : Trees) (rows : List X) (t : Tables) → IsSound register_schema new
+      → Keeps table.place new (map row_of rows) → AllByRecursion table.is_stored rows
+      → ((tree : ℕ) → tree ≢ table.place.tree → IsNoIndex register_schema tree → new tree ≡ old tree)
       → Kept old t → Kept new (table.with_rows rows t)
   -- the rows are the machine's, in another order
   pub stands : (m : machine.Tables) (t : Tables) → Stands m t → IsPermutation (table.machine_rows m) (table.rows_in t)
@@ -60,8 +61,10 @@ pub record Finding (K X : Type 0) : Type 0 where
   pub find_sql : List ℕ
 
 -- what holds of it
-pub record IsFinding {K X : Type 0} (finding : Finding K X) (place : Place) (value_of : K → Value) (row_of : X → Row) : Type 0 where
+pub record IsFinding {K X : Type 0} (finding : Finding K X) (place : Place) (value_of : K → Value) (row_of : X → Row)
+    : Type 0 where
   -- the text shows the rows with the value in the column
-  pub finds : (key : K) → ShowsRows finding.find_sql place (value_of key ∷ []) (has_value finding.column (value_of key))
+  pub finds : (key : K)
+      → ShowsRows finding.find_sql place (value_of key ∷ []) (has_value finding.column (value_of key))
   -- these are the rows under the key
   pub under : (key : K) (x : X) → has_value finding.column (value_of key) (row_of x) ≡ finding.is_under key x

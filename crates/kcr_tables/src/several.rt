@@ -10,7 +10,8 @@ ghost use Rattle.kcr_base.specs.Same.{same_text};
 ghost use Rattle.kcr_history.specs.Views.{Shows, is_of_people, is_item_of, is_appointment_of};
 ghost use Rattle.kcr_cells.specs.Rows.{person_row, item_row, appointment_row};
 ghost use Rattle.kcr_tables.specs.Asked.{asked_of, asked_once, is_under_any};
-ghost use Rattle.kcr_tables.specs.Exact.{rows_at, has_key, has_any, is_item_row, is_appointment_row, AreShown, AskedAreShown};
+ghost use Rattle.kcr_tables.specs.Exact.{rows_at, has_key, has_any, is_item_row, is_appointment_row};
+ghost use Rattle.kcr_tables.specs.Exact.{AreShown, AskedAreShown};
 ghost use Rattle.kcr_tables.specs.Held.{people_place, items_place, appointments_place, Tables, Holds};
 ghost use Rattle.kcr_tables.specs.Frame.{Reads};
 ghost use Rattle.kcr_tables.specs.Schema.{register_schema};
@@ -37,7 +38,8 @@ trait FindsNamed<K: AsCell>: Finds<K> {
     ghost one: { (key other : K) → same key other ≡ true → key ≡ other };
 
     // A row that is under a key is under those that are the same, and no others.
-    ghost apart: { (key other : K) (row : Self) → Self.Finds.finding.is_under key row ≡ true → Self.Finds.finding.is_under other row ≡ same key other };
+    ghost apart: { (key other : K) (row : Self) → Self.Finds.finding.is_under key row ≡ true
+        → Self.Finds.finding.is_under other row ≡ same key other };
 }
 
 impl FindsNamed<Initials> for Person {
@@ -72,8 +74,9 @@ fn rows_once<S: Alter, K: AsCell, T: FindsNamed<K>>(
     before: &[K],
 ) -> Result<Vec<T>, Refusal>
     ensures same_reference { tx.new.conn.ghost_name ≡ tx.old.conn.ghost_name }
-    ensures rows { HasCleanDisk (state S.Store tx.new.conn.now) → (t : Tables) → Holds (state S.Store tx.old.conn.now).now t
-        → IfOk result (λ all. all.items ≡ asked_once T.same T.finding.is_under key.now before.now (T.table.rows_in t)) }
+    ensures rows { HasCleanDisk (state S.Store tx.new.conn.now)
+        → (t : Tables) → Holds (state S.Store tx.old.conn.now).now t → IfOk result (λ all. all.items
+        ≡ asked_once T.same T.finding.is_under key.now before.now (T.table.rows_in t)) }
     ensures exact { HasCleanDisk (state S.Store tx.new.conn.now)
         → (state S.Store tx.old.conn.now).now.schema ≡ register_schema
         → IfOk result (λ all. AreShown T.row_of all.items (asked_once T.same (has_key T.finding.column K.value_of)
@@ -94,8 +97,9 @@ fn rows_named<S: Alter, K: AsCell, T: FindsNamed<K>>(
     keys: &[K],
 ) -> Result<Vec<T>, Refusal>
     ensures same_reference { tx.new.conn.ghost_name ≡ tx.old.conn.ghost_name }
-    ensures rows { HasCleanDisk (state S.Store tx.new.conn.now) → (t : Tables) → Holds (state S.Store tx.old.conn.now).now t
-        → IfOk result (λ all. IsPermutation (filter (is_under_any T.finding.is_under keys.now) (T.table.rows_in t)) all.items) }
+    ensures rows { HasCleanDisk (state S.Store tx.new.conn.now)
+        → (t : Tables) → Holds (state S.Store tx.old.conn.now).now t → IfOk result (λ all. IsPermutation
+        (filter (is_under_any T.finding.is_under keys.now) (T.table.rows_in t)) all.items) }
     ensures exact { HasCleanDisk (state S.Store tx.new.conn.now)
         → (state S.Store tx.old.conn.now).now.schema ≡ register_schema
         → IfOk result (λ all. AreShown T.row_of all.items

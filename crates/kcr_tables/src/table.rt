@@ -117,12 +117,15 @@ pub trait Finds<K: AsCell>: Listed {
 
 /// A table in which the row of a value is put under its key.
 pub trait Put: Listed {
-    /// Puts the row under its key, new or in the place of the row there; every other row stays. The error is `Memory`,
-    /// or else `Disk`, as where the key or the number of an accepted command is taken. What was committed before stays.
+    /// Puts the row under its key, new or in the place of the row there; every other row stays. The error is
+    /// `Memory`, or else `Disk`, as where the key or the number of an accepted command is taken. What was committed
+    /// before stays.
     fn put<S: Alter>(&self, tx: &mut Transaction<'_, S>) -> Result<(), Refusal>
         ensures same_reference { tx.new.conn.ghost_name ≡ tx.old.conn.ghost_name }
-        ensures holds { HasCleanDisk (state S.Store tx.new.conn.now) → (t : Tables) → Holds (state S.Store tx.old.conn.now).now t
-            → OnOk result (Holds (state S.Store tx.new.conn.now).now (with_put Self.Listed.table Self.Stored.row_of self.now t)) }
+        ensures holds { HasCleanDisk (state S.Store tx.new.conn.now)
+            → (t : Tables) → Holds (state S.Store tx.old.conn.now).now t
+            → OnOk result (Holds (state S.Store tx.new.conn.now).now
+            (with_put Self.Listed.table Self.Stored.row_of self.now t)) }
         ensures frame { Writes (state S.Store tx.old.conn.now) (state S.Store tx.new.conn.now) result };
 }
 
@@ -131,8 +134,10 @@ pub trait PutWords: Listed {
     /// Puts the row, as `Put::put` does.
     fn put_words<S: Alter>(&self, alloc: Global, tx: &mut Transaction<'_, S>) -> Result<(), Refusal>
         ensures same_reference { tx.new.conn.ghost_name ≡ tx.old.conn.ghost_name }
-        ensures holds { HasCleanDisk (state S.Store tx.new.conn.now) → (t : Tables) → Holds (state S.Store tx.old.conn.now).now t
-            → OnOk result (Holds (state S.Store tx.new.conn.now).now (with_put Self.Listed.table Self.Stored.row_of self.now t)) }
+        ensures holds { HasCleanDisk (state S.Store tx.new.conn.now)
+            → (t : Tables) → Holds (state S.Store tx.old.conn.now).now t
+            → OnOk result (Holds (state S.Store tx.new.conn.now).now
+            (with_put Self.Listed.table Self.Stored.row_of self.now t)) }
         ensures frame { Writes (state S.Store tx.old.conn.now) (state S.Store tx.new.conn.now) result };
 }
 
@@ -143,11 +148,17 @@ pub fn all_rows<S: Alter, T: Listed>(
     tx: &mut Transaction<'_, S>,
 ) -> Result<Vec<T>, Refusal>
     ensures same_reference { tx.new.conn.ghost_name ≡ tx.old.conn.ghost_name }
-    ensures rows { HasCleanDisk (state S.Store tx.new.conn.now) → (t : Tables) → Holds (state S.Store tx.old.conn.now).now t → IfOk result (λ all. all.items ≡ T.table.rows_in t) }
-    ensures machine { HasCleanDisk (state S.Store tx.new.conn.now) → (m : machine.Tables) → HoldsTables m (state S.Store tx.old.conn.now).now → IfOk result (λ all. IsPermutation (T.table.machine_rows m) all.items) }
+    ensures rows { HasCleanDisk (state S.Store tx.new.conn.now)
+        → (t : Tables) → Holds (state S.Store tx.old.conn.now).now t
+        → IfOk result (λ all. all.items ≡ T.table.rows_in t) }
+    ensures machine { HasCleanDisk (state S.Store tx.new.conn.now)
+        → (m : machine.Tables) → HoldsTables m (state S.Store tx.old.conn.now).now
+        → IfOk result (λ all. IsPermutation (T.table.machine_rows m) all.items) }
     ensures tables { HasCleanDisk (state S.Store tx.new.conn.now) → (m : machine.Tables) → HoldsTables m (state S.Store tx.old.conn.now).now → OnOk result (HoldsTables m (state S.Store tx.new.conn.now).now) }
     ensures exact { HasCleanDisk (state S.Store tx.new.conn.now) → (state S.Store tx.old.conn.now).now.schema ≡ register_schema
-        → IfOk result (λ all. IsPermutation (map (cells 1 T.table.place.width) ((state S.Store tx.old.conn.now).now.trees T.table.place.tree)) (map T.row_of all.items)) }
+        → IfOk result (λ all. IsPermutation
+        (map (cells 1 T.table.place.width) ((state S.Store tx.old.conn.now).now.trees T.table.place.tree))
+        (map T.row_of all.items)) }
     ensures same { HasCleanDisk (state S.Store tx.new.conn.now)
         → (state S.Store tx.old.conn.now).now.schema ≡ register_schema
         → OnOk result ((state S.Store tx.new.conn.now).now ≡ (state S.Store tx.old.conn.now).now) }
@@ -169,7 +180,9 @@ pub fn rows_under<S: Alter, K: AsCell, T: Finds<K>>(
     key: &K,
 ) -> Result<Vec<T>, Refusal>
     ensures same_reference { tx.new.conn.ghost_name ≡ tx.old.conn.ghost_name }
-    ensures rows { HasCleanDisk (state S.Store tx.new.conn.now) → (t : Tables) → Holds (state S.Store tx.old.conn.now).now t → IfOk result (λ all. all.items ≡ filter (T.finding.is_under key.now) (T.table.rows_in t)) }
+    ensures rows { HasCleanDisk (state S.Store tx.new.conn.now)
+        → (t : Tables) → Holds (state S.Store tx.old.conn.now).now t
+        → IfOk result (λ all. all.items ≡ filter (T.finding.is_under key.now) (T.table.rows_in t)) }
     ensures exact { HasCleanDisk (state S.Store tx.new.conn.now)
         → (state S.Store tx.old.conn.now).now.schema ≡ register_schema
         → IfOk result (λ all. IsPermutation
@@ -197,11 +210,14 @@ pub fn asked_rows<S: Alter, K: AsCell, T: Finds<K>>(
     asked: &Rows<K>,
 ) -> Result<Vec<T>, Refusal>
     ensures same_reference { tx.new.conn.ghost_name ≡ tx.old.conn.ghost_name }
-    ensures rows { HasCleanDisk (state S.Store tx.new.conn.now) → (t : Tables) → Holds (state S.Store tx.old.conn.now).now t → IfOk result (λ all. all.items ≡ asked_of T.finding.is_under asked.now (T.table.rows_in t)) }
+    ensures rows { HasCleanDisk (state S.Store tx.new.conn.now)
+        → (t : Tables) → Holds (state S.Store tx.old.conn.now).now t
+        → IfOk result (λ all. all.items ≡ asked_of T.finding.is_under asked.now (T.table.rows_in t)) }
     ensures exact { HasCleanDisk (state S.Store tx.new.conn.now)
         → (state S.Store tx.old.conn.now).now.schema ≡ register_schema
-        → IfOk result (λ all. AskedAreShown T.row_of T.table.place (λ key. has_value T.finding.column (K.value_of key)) asked.now
-        all.items (state S.Store tx.old.conn.now).now.trees) }
+        → IfOk result (λ all. AskedAreShown T.row_of T.table.place
+        (λ key. has_value T.finding.column (K.value_of key)) asked.now all.items
+        (state S.Store tx.old.conn.now).now.trees) }
     ensures frame { Reads (state S.Store tx.old.conn.now) (state S.Store tx.new.conn.now) result }
 {
     match asked {
@@ -218,7 +234,9 @@ pub fn asked_whole<S: Alter, T: Listed>(
     asked: bool,
 ) -> Result<Vec<T>, Refusal>
     ensures same_reference { tx.new.conn.ghost_name ≡ tx.old.conn.ghost_name }
-    ensures rows { HasCleanDisk (state S.Store tx.new.conn.now) → (t : Tables) → Holds (state S.Store tx.old.conn.now).now t → IfOk result (λ all. all.items ≡ asked_all asked (T.table.rows_in t)) }
+    ensures rows { HasCleanDisk (state S.Store tx.new.conn.now)
+        → (t : Tables) → Holds (state S.Store tx.old.conn.now).now t
+        → IfOk result (λ all. all.items ≡ asked_all asked (T.table.rows_in t)) }
     ensures exact { HasCleanDisk (state S.Store tx.new.conn.now)
         → (state S.Store tx.old.conn.now).now.schema ≡ register_schema
         → IfOk result (λ all. WholeIsShown T.row_of T.table.place asked all.items
@@ -244,7 +262,9 @@ pub fn put_cells<S: Alter, T: Listed>(
     requires cells { bound cells.now ≡ T.row_of row.now }
     requires stored { T.table.is_stored row.now }
     ensures same_reference { tx.new.conn.ghost_name ≡ tx.old.conn.ghost_name }
-    ensures holds { HasCleanDisk (state S.Store tx.new.conn.now) → (t : Tables) → Holds (state S.Store tx.old.conn.now).now t → OnOk result (Holds (state S.Store tx.new.conn.now).now (with_put T.table T.row_of row.now t)) }
+    ensures holds { HasCleanDisk (state S.Store tx.new.conn.now)
+        → (t : Tables) → Holds (state S.Store tx.old.conn.now).now t
+        → OnOk result (Holds (state S.Store tx.new.conn.now).now (with_put T.table T.row_of row.now t)) }
     ensures frame { Writes (state S.Store tx.old.conn.now) (state S.Store tx.new.conn.now) result }
 {
     let _value = row;
