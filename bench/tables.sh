@@ -1,7 +1,8 @@
 #!/usr/bin/env bash
 # Times the tables: prints nanoseconds for a reading by key, a row of a reading of all, and a row put in place of one that
-# is there, in tables of 100, of 10,000 and of 100,000 rows. The program (bench/tables/main.txt) stands apart from
-# crates.txt, since what it prints is another number each time. It is proved like any crate.
+# is there, in tables of 100, of 10,000 and of 100,000 rows, in memory and over a file in the folder that TMPDIR names. The
+# program (bench/tables/main.txt) stands apart from crates.txt, since what it prints is another number each time. It is
+# proved like any crate.
 set -eu
 cd "$(dirname "$0")/.."
 work=$(mktemp -d)

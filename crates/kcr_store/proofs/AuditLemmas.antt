@@ -9,9 +9,10 @@ use Rattle.kcr_history.specs.Audit.{IsAudit}
 use Rattle.kcr_history.specs.Tables.{Tables}
 use Rattle.kcr_history.specs.declared.views.Finding.{Finding}
 use Rattle.kcr_history.specs.declared.views.View.{View}
-use Rattle.kcr_store.specs.Whole.{IsListed, IsTable, Lists}
+use Rattle.kcr_store.specs.Whole.{AreRows, IsListed, Lists}
 use Rattle.kcr_tables.specs.Held as held
 use Rattle.kcr_tables.specs.Joint.{HoldsTables, Stands}
+use Rattle.kcr_tables.specs.Table.{Table}
 
 -- where nothing is to be found, nothing is found
 pub none_found : (view : View) (found : Option Finding) → IsAudit view None → IsAudit view found → found ≡ None
@@ -30,9 +31,9 @@ pub held_of : (m : Tables) {db : Database} (h : HoldsTables m db) → held.Holds
 held_of m h = record { schema = h.schema; kept = h.tables.kept }
 
 -- rows of one table as a database has them are the machine's, in the order of their keys
-pub in_table : {X : Type 0} (rows_in : held.Tables → List X) (machine_rows : Tables → List X) (m : Tables) {db : Trees} (t : held.Tables) → held.Kept db t → (rows : List X)
-    → rows ≡ rows_in t → IsPermutation (machine_rows m) rows → IsTable rows_in machine_rows m rows
-in_table rows_in machine_rows m {db} t kept rows is same = record { same = same; db = db; t = t; kept = kept; lists = is }
+pub in_table : {X : Type 0} (table : Table X) (m : Tables) {db : Trees} (t : held.Tables) → held.Kept db t → (rows : List X)
+    → rows ≡ table.rows_in t → IsPermutation (table.machine_rows m) rows → AreRows table m rows
+in_table table m {db} t kept rows is same = record { same = same; db = db; t = t; kept = kept; lists = is }
 
 -- rows as a database has them are the machine's, in the order of their keys
 pub listed : (m : Tables) (db : Trees) (t : held.Tables) (view : View) → held.Kept db t → Stands m t → Lists t view → IsListed m view

@@ -7,6 +7,7 @@ use Rattle.kcr_history.specs.Tables.{Tables, SameTables}
 use Rattle.kcr_history.specs.declared.views.Finding.{Finding}
 use Rattle.kcr_history.specs.declared.views.View.{View}
 use Rattle.kcr_tables.specs.Held as held
+use Rattle.kcr_tables.specs.Table.{Table}
 
 -- the view has the rows of each table, in the order of their keys
 pub record Lists (t : held.Tables) (view : View) : Type 0 where
@@ -36,12 +37,12 @@ pub record IsListed (m : Tables) (view : View) : Type 0 where
   pub lists : Lists t view
 
 -- these are the machine's rows of one table, in the order in which a database keeps them
-pub record IsTable {X : Type 0} (rows_in : held.Tables → List X) (machine_rows : Tables → List X) (m : Tables) (rows : List X) : Type 0 where
-  pub same : IsPermutation (machine_rows m) rows
+pub record AreRows {X : Type 0} (table : Table X) (m : Tables) (rows : List X) : Type 0 where
+  pub same : IsPermutation (table.machine_rows m) rows
   pub db : Trees
   pub t : held.Tables
   pub kept : held.Kept db t
-  pub lists : rows ≡ rows_in t
+  pub lists : rows ≡ table.rows_in t
 
 -- what an audit of these tables finds, whatever the order of their rows
 abbrev pub FindsIn : Tables → Option Finding → Type 0

@@ -196,7 +196,7 @@ impl Register<FileStore<FileFrom<Unknown>>> {
 impl<S: Alter> Register<S> {
     ghost use Rattle.kcr_history.specs.Machine.{IsRegister};
     ghost use Rattle.kcr_history.specs.Tables.{Tables, tables};
-    ghost use Rattle.kcr_store.specs.Whole.{FindsIn, IsTable};
+    ghost use Rattle.kcr_store.specs.Whole.{FindsIn, AreRows};
     ghost use Rattle.kcr_tables.specs.Joint.{HoldsTables};
     ghost use Rattle.kcr_tables.specs.Refusals.{IsFault};
     ghost use Rattle.kcr_store.specs.Register.{IsKept, LeavesEither, Leaves};
@@ -286,10 +286,10 @@ impl<S: Alter> Register<S> {
         // Whatever rows the table holds, these are they; of a history they are those of its table.
         ensures rows { self.old.torn ≡ None → HasCleanDisk (state S.Store self.new.conn) → (m : Tables)
             → HoldsTables m (state S.Store self.old.conn).now
-            → IfOk result (λ rows. IsTable R.rows_in R.machine_rows m rows.items) }
+            → IfOk result (λ rows. AreRows R.table m rows.items) }
         ensures shown { IsTrue self.old.is_founded → self.old.torn ≡ None → HasCleanDisk (state S.Store self.new.conn)
             → IfOk result (λ rows. IsRegister self.old.accepted
-            × IsTable R.rows_in R.machine_rows (tables self.old.accepted) rows.items) }
+            × AreRows R.table (tables self.old.accepted) rows.items) }
         ensures cause { self.old.torn ≡ None → IfErr result IsFault }
         ensures breaks { self.old.torn ≡ None → IsSome self.new.torn ↔ (result ≡ Err Refusal.Disk) }
         ensures same { self.new.accepted ≡ self.old.accepted }

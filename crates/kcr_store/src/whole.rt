@@ -9,7 +9,7 @@ ghost use Rattle.kcr_tables.specs.Held.{Tables as Held, Holds};
 ghost use Rattle.kcr_tables.specs.Joint.{HoldsTables};
 ghost use Rattle.kcr_tables.specs.Refusals.{IsFault};
 ghost use Rattle.kcr_store.specs.Register.{IsWhole};
-ghost use Rattle.kcr_store.specs.Whole.{FindsIn, IsListed, IsTable, Lists};
+ghost use Rattle.kcr_store.specs.Whole.{FindsIn, IsListed, AreRows, Lists};
 
 use kcr_audit::{audit, registers_pass};
 use kcr_base::Refusal;
@@ -131,9 +131,9 @@ pub(crate) fn rows_in_table<S: Alter, R: Listed>(
     ensures autocommit { conn.new.in_transaction ≡ false }
     ensures clean { HasCleanDisk (state S.Store conn.new) → HasCleanDisk (state S.Store conn.old) }
     ensures rows { HasCleanDisk (state S.Store conn.new) → (m : Tables)
-        → HoldsTables m (state S.Store conn.old).now → IfOk result (λ rows. IsTable R.rows_in R.machine_rows m rows.items) }
+        → HoldsTables m (state S.Store conn.old).now → IfOk result (λ rows. AreRows R.table m rows.items) }
     ensures register { (A : History) → IsWhole A (state S.Store conn.old) → HasCleanDisk (state S.Store conn.new)
-        → IfOk result (λ rows. IsRegister A × IsTable R.rows_in R.machine_rows (tables A) rows.items) }
+        → IfOk result (λ rows. IsRegister A × AreRows R.table (tables A) rows.items) }
     ensures whole { (A : History) → IsWhole A (state S.Store conn.old) → IsWhole A (state S.Store conn.new) }
     ensures cause { IfErr result IsFault }
 {

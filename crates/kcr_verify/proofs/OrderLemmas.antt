@@ -3,16 +3,16 @@ use Rattle.std.proofs.Common.{◌≡◌, ℕ, false, List, map, sym, ap, IsPermu
 use Rattle.std.specs.Cmp.{IsTotalOrder}
 use Rattle.std.proofs.lemmas.List.Sorted.{IsPermutation-sym, IsPermutation-trans}
 use Rattle.sqlite.specs.Order.{Row}
-use Rattle.sqlite.specs.Tree.{Trees, IsAscending}
+use Rattle.sqlite.specs.Tree.{IsAscending}
 use Rattle.sqlite_keyed.proofs.ListLemmas.{ascending_weaker}
 use Rattle.sqlite_keyed.proofs.SortLemmas.{sorted_unique}
 use Rattle.sqlite_exec.proofs.PartitionLemmas.{sorted_from_ascending}
 use Rattle.kcr_history.specs.Tables.{Tables}
-use Rattle.kcr_rows.specs.Keyed.{Place, Keeps, by_key}
+use Rattle.kcr_rows.specs.Keyed.{by_key}
 use Rattle.kcr_rows.proofs.OrderLemmas.{from_map}
 use Rattle.kcr_rows.proofs.SameLemmas.{key_total}
-use Rattle.kcr_store.specs.Whole.{IsTable}
-use Rattle.kcr_tables.specs.Held as held
+use Rattle.kcr_store.specs.Whole.{AreRows}
+use Rattle.kcr_tables.specs.Table.{Table, IsTable}
 
 module _ {X : Type 0} (keys : ℕ) (row_of : X → Row) where
   abbrev cmp : X → X → Ordering
@@ -36,10 +36,9 @@ module _ {X : Type 0} (keys : ℕ) (row_of : X → Row) where
       (ascending_weaker (λ a b. cmp a b ≡ Less) (λ a b. is_gt (cmp a b) ≡ false) (λ a b less. ap is_gt less) ys (from_map (λ a b. by_key keys a b ≡ Less) row_of ys down)))
 
 -- the machine's rows of one table are kept in one order
-pub one_table : {X : Type 0} (place : Place) (row_of : X → Row) (rows_in : held.Tables → List X) (machine_rows : Tables → List X)
-    → ((db : Trees) (t : held.Tables) → held.Kept db t → Keeps place db (map row_of (rows_in t)))
-    → (m : Tables) (xs ys : List X) → IsTable rows_in machine_rows m xs → IsTable rows_in machine_rows m ys → ys ≡ xs
-one_table {X} place row_of rows_in machine_rows keeps m xs ys a b =
-    one_order place.keys row_of (machine_rows m) xs ys
-    (subst (λ (l : List X). IsAscending (λ x y. by_key place.keys x y ≡ Less) (map row_of l)) (sym a.lists) (keeps a.db a.t a.kept).rising)
-    (subst (λ (l : List X). IsAscending (λ x y. by_key place.keys x y ≡ Less) (map row_of l)) (sym b.lists) (keeps b.db b.t b.kept).rising) a.same b.same
+pub one_table : {X : Type 0} (table : Table X) (row_of : X → Row) (is_read : X → Type 0) → IsTable table row_of is_read
+    → (m : Tables) (xs ys : List X) → AreRows table m xs → AreRows table m ys → ys ≡ xs
+one_table {X} table row_of is_read laws m xs ys a b =
+    one_order table.place.keys row_of (table.machine_rows m) xs ys
+    (subst (λ (l : List X). IsAscending (λ x y. by_key table.place.keys x y ≡ Less) (map row_of l)) (sym a.lists) (laws.keeps a.db a.t a.kept).rising)
+    (subst (λ (l : List X). IsAscending (λ x y. by_key table.place.keys x y ≡ Less) (map row_of l)) (sym b.lists) (laws.keeps b.db b.t b.kept).rising) a.same b.same

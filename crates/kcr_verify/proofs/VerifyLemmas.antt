@@ -9,8 +9,23 @@ use Rattle.kcr_history.specs.History.{History}
 use Rattle.kcr_history.specs.Machine.{IsRegister}
 use Rattle.kcr_history.specs.Tables.{Tables, SameTables, tables, key_row}
 use Rattle.kcr_history.specs.declared.views.View.{View}
-use Rattle.kcr_store.specs.Whole.{IsListed, IsTable}
-use Rattle.kcr_tables.specs.Held as held
+use Rattle.kcr_store.specs.Whole.{AreRows, IsListed}
+use Rattle.kcr_tables.specs.PeopleLaws as people
+use Rattle.kcr_tables.specs.TrainingsLaws as trainings
+use Rattle.kcr_tables.specs.WithdrawalsLaws as withdrawals
+use Rattle.kcr_tables.specs.AppointmentsLaws as appointments
+use Rattle.kcr_tables.specs.BoxesLaws as boxes
+use Rattle.kcr_tables.specs.SafesLaws as safes
+use Rattle.kcr_tables.specs.BagsLaws as bags
+use Rattle.kcr_tables.specs.ItemsLaws as items
+use Rattle.kcr_tables.specs.CeremoniesLaws as ceremonies
+use Rattle.kcr_tables.specs.MarksLaws as marks
+use Rattle.kcr_tables.specs.StepsLaws as steps
+use Rattle.kcr_tables.specs.SeatingsLaws as seatings
+use Rattle.kcr_tables.specs.SheetLaws as sheet
+use Rattle.kcr_tables.specs.StaysLaws as stays
+use Rattle.kcr_tables.specs.ExceptionsLaws as exceptions
+use Rattle.kcr_tables.specs.Table as held
 use Rattle.kcr_verify.specs.Verified.{AreOf, HasRows}
 use Rattle.kcr_verify.specs.declared.compare.Table.{Table}
 use Rattle.kcr_verify.specs.declared.compare.Table.TheVariants.{People, Trainings, Withdrawals, Appointments, Boxes, Safes, Bags, Items, Ceremonies, Marks, Steps, Seatings, Sheet, Stays, Exceptions, Keys}
@@ -55,27 +70,27 @@ own_of A h m view rows o same has = record {
   counted = sym (length_permutation (map key_row A) rows.keys.items (has Keys) ∙ length-map A key_row);
 }
 
-in_view : {X : Type 0} (rows_in : held.Tables → List X) (machine_rows : Tables → List X) (m : Tables) (view : View) (v : IsListed m view) (rows : List X)
-    → IsPermutation (machine_rows m) rows → rows ≡ rows_in v.t → IsTable rows_in machine_rows m rows
-in_view rows_in machine_rows m view v rows same is = record { same = same; db = v.db; t = v.t; kept = v.kept; lists = is }
+in_view : {X : Type 0} (table : held.Table X) (m : Tables) (view : View) (v : IsListed m view) (rows : List X)
+    → IsPermutation (table.machine_rows m) rows → rows ≡ table.rows_in v.t → AreRows table m rows
+in_view table m view v rows same is = record { same = same; db = v.db; t = v.t; kept = v.kept; lists = is }
 
 listed_table : (A : History) (view : View) → IsListed (tables A) view → (rows : View) → IsPermutation view.keys.items rows.keys.items
     → (table : Table) → HasRows table (tables A) (record view { keys = rows.keys })
-listed_table A view v keys order People = in_view (λ t. t.people) (λ m. m.people) (tables A) view v view.people.items v.same.people v.lists.people
-listed_table A view v keys order Trainings = in_view (λ t. t.trainings) (λ m. m.trainings) (tables A) view v view.trainings.items v.same.trainings v.lists.trainings
-listed_table A view v keys order Withdrawals = in_view (λ t. t.withdrawals) (λ m. m.withdrawals) (tables A) view v view.withdrawals.items v.same.withdrawals v.lists.withdrawals
-listed_table A view v keys order Appointments = in_view (λ t. t.appointments) (λ m. m.appointments) (tables A) view v view.appointments.items v.same.appointments v.lists.appointments
-listed_table A view v keys order Boxes = in_view (λ t. t.boxes) (λ m. m.boxes) (tables A) view v view.boxes.items v.same.boxes v.lists.boxes
-listed_table A view v keys order Safes = in_view (λ t. t.safes) (λ m. m.safes) (tables A) view v view.safes.items v.same.safes v.lists.safes
-listed_table A view v keys order Bags = in_view (λ t. t.bags) (λ m. m.bags) (tables A) view v view.bags.items v.same.bags v.lists.bags
-listed_table A view v keys order Items = in_view (λ t. t.items) (λ m. m.items) (tables A) view v view.items.items v.same.items v.lists.items
-listed_table A view v keys order Ceremonies = in_view (λ t. t.ceremonies) (λ m. m.ceremonies) (tables A) view v view.ceremonies.items v.same.ceremonies v.lists.ceremonies
-listed_table A view v keys order Marks = in_view (λ t. t.marks) (λ m. m.marks) (tables A) view v view.marks.items v.same.marks v.lists.marks
-listed_table A view v keys order Steps = in_view (λ t. t.steps) (λ m. m.steps) (tables A) view v view.steps.items v.same.steps v.lists.steps
-listed_table A view v keys order Seatings = in_view (λ t. t.seatings) (λ m. m.seatings) (tables A) view v view.seatings.items v.same.seatings v.lists.seatings
-listed_table A view v keys order Sheet = in_view (λ t. t.sheet) (λ m. m.sheet) (tables A) view v view.sheet.items v.same.sheet v.lists.sheet
-listed_table A view v keys order Stays = in_view (λ t. t.stays) (λ m. m.stays) (tables A) view v view.stays.items v.same.stays v.lists.stays
-listed_table A view v keys order Exceptions = in_view (λ t. t.exceptions) (λ m. m.exceptions) (tables A) view v view.exceptions.items v.same.exceptions v.lists.exceptions
+listed_table A view v keys order People = in_view people.table (tables A) view v view.people.items v.same.people v.lists.people
+listed_table A view v keys order Trainings = in_view trainings.table (tables A) view v view.trainings.items v.same.trainings v.lists.trainings
+listed_table A view v keys order Withdrawals = in_view withdrawals.table (tables A) view v view.withdrawals.items v.same.withdrawals v.lists.withdrawals
+listed_table A view v keys order Appointments = in_view appointments.table (tables A) view v view.appointments.items v.same.appointments v.lists.appointments
+listed_table A view v keys order Boxes = in_view boxes.table (tables A) view v view.boxes.items v.same.boxes v.lists.boxes
+listed_table A view v keys order Safes = in_view safes.table (tables A) view v view.safes.items v.same.safes v.lists.safes
+listed_table A view v keys order Bags = in_view bags.table (tables A) view v view.bags.items v.same.bags v.lists.bags
+listed_table A view v keys order Items = in_view items.table (tables A) view v view.items.items v.same.items v.lists.items
+listed_table A view v keys order Ceremonies = in_view ceremonies.table (tables A) view v view.ceremonies.items v.same.ceremonies v.lists.ceremonies
+listed_table A view v keys order Marks = in_view marks.table (tables A) view v view.marks.items v.same.marks v.lists.marks
+listed_table A view v keys order Steps = in_view steps.table (tables A) view v view.steps.items v.same.steps v.lists.steps
+listed_table A view v keys order Seatings = in_view seatings.table (tables A) view v view.seatings.items v.same.seatings v.lists.seatings
+listed_table A view v keys order Sheet = in_view sheet.table (tables A) view v view.sheet.items v.same.sheet v.lists.sheet
+listed_table A view v keys order Stays = in_view stays.table (tables A) view v view.stays.items v.same.stays v.lists.stays
+listed_table A view v keys order Exceptions = in_view exceptions.table (tables A) view v view.exceptions.items v.same.exceptions v.lists.exceptions
 listed_table A view v keys order Keys = IsPermutation-trans (map key_row A) view.keys.items keys.keys.items v.same.keys order
 
 no_difference : (P : Table → Type 0) → ((table : Table) → P table) → (found : Option Table) → IfSome found (λ table. ¬ P table) → found ≡ None

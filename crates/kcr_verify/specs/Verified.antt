@@ -14,8 +14,23 @@ use Rattle.kcr_history.specs.Tables.{Tables, SameTables, tables, key_row}
 use Rattle.kcr_history.specs.declared.rows.KeyRow.{KeyRow}
 use Rattle.kcr_history.specs.declared.views.View.{View}
 use Rattle.kcr_store.specs.Register.{Seen, IsKept}
-use Rattle.kcr_store.specs.Whole.{IsTable}
+use Rattle.kcr_store.specs.Whole.{AreRows}
 use Rattle.kcr_tables.specs.Refusals.{IsFault}
+use Rattle.kcr_tables.specs.PeopleLaws as people
+use Rattle.kcr_tables.specs.TrainingsLaws as trainings
+use Rattle.kcr_tables.specs.WithdrawalsLaws as withdrawals
+use Rattle.kcr_tables.specs.AppointmentsLaws as appointments
+use Rattle.kcr_tables.specs.BoxesLaws as boxes
+use Rattle.kcr_tables.specs.SafesLaws as safes
+use Rattle.kcr_tables.specs.BagsLaws as bags
+use Rattle.kcr_tables.specs.ItemsLaws as items
+use Rattle.kcr_tables.specs.CeremoniesLaws as ceremonies
+use Rattle.kcr_tables.specs.MarksLaws as marks
+use Rattle.kcr_tables.specs.StepsLaws as steps
+use Rattle.kcr_tables.specs.SeatingsLaws as seatings
+use Rattle.kcr_tables.specs.SheetLaws as sheet
+use Rattle.kcr_tables.specs.StaysLaws as stays
+use Rattle.kcr_tables.specs.ExceptionsLaws as exceptions
 use Rattle.kcr_verify.specs.declared.compare.Table.{Table}
 use Rattle.kcr_verify.specs.declared.compare.Table.TheVariants.{People, Trainings, Withdrawals, Appointments, Boxes, Safes, Bags, Items, Ceremonies, Marks, Steps, Seatings, Sheet, Stays, Exceptions, Keys}
 use Rattle.kcr_verify.specs.declared.verification.Verified.{Verified}
@@ -42,21 +57,21 @@ name_of Keys = codes "keys"
 
 -- the view has the machine's rows of this table, in the order in which a database keeps them; the accepted commands in any order
 abbrev pub HasRows : Table → Tables → View → Type 0
-HasRows People m view = IsTable (λ t. t.people) (λ m. m.people) m view.people.items
-HasRows Trainings m view = IsTable (λ t. t.trainings) (λ m. m.trainings) m view.trainings.items
-HasRows Withdrawals m view = IsTable (λ t. t.withdrawals) (λ m. m.withdrawals) m view.withdrawals.items
-HasRows Appointments m view = IsTable (λ t. t.appointments) (λ m. m.appointments) m view.appointments.items
-HasRows Boxes m view = IsTable (λ t. t.boxes) (λ m. m.boxes) m view.boxes.items
-HasRows Safes m view = IsTable (λ t. t.safes) (λ m. m.safes) m view.safes.items
-HasRows Bags m view = IsTable (λ t. t.bags) (λ m. m.bags) m view.bags.items
-HasRows Items m view = IsTable (λ t. t.items) (λ m. m.items) m view.items.items
-HasRows Ceremonies m view = IsTable (λ t. t.ceremonies) (λ m. m.ceremonies) m view.ceremonies.items
-HasRows Marks m view = IsTable (λ t. t.marks) (λ m. m.marks) m view.marks.items
-HasRows Steps m view = IsTable (λ t. t.steps) (λ m. m.steps) m view.steps.items
-HasRows Seatings m view = IsTable (λ t. t.seatings) (λ m. m.seatings) m view.seatings.items
-HasRows Sheet m view = IsTable (λ t. t.sheet) (λ m. m.sheet) m view.sheet.items
-HasRows Stays m view = IsTable (λ t. t.stays) (λ m. m.stays) m view.stays.items
-HasRows Exceptions m view = IsTable (λ t. t.exceptions) (λ m. m.exceptions) m view.exceptions.items
+HasRows People m view = AreRows people.table m view.people.items
+HasRows Trainings m view = AreRows trainings.table m view.trainings.items
+HasRows Withdrawals m view = AreRows withdrawals.table m view.withdrawals.items
+HasRows Appointments m view = AreRows appointments.table m view.appointments.items
+HasRows Boxes m view = AreRows boxes.table m view.boxes.items
+HasRows Safes m view = AreRows safes.table m view.safes.items
+HasRows Bags m view = AreRows bags.table m view.bags.items
+HasRows Items m view = AreRows items.table m view.items.items
+HasRows Ceremonies m view = AreRows ceremonies.table m view.ceremonies.items
+HasRows Marks m view = AreRows marks.table m view.marks.items
+HasRows Steps m view = AreRows steps.table m view.steps.items
+HasRows Seatings m view = AreRows seatings.table m view.seatings.items
+HasRows Sheet m view = AreRows sheet.table m view.sheet.items
+HasRows Stays m view = AreRows stays.table m view.stays.items
+HasRows Exceptions m view = AreRows exceptions.table m view.exceptions.items
 HasRows Keys m view = IsPermutation m.keys view.keys.items
 
 -- what a call that only reads leaves of a register, whatever it answers

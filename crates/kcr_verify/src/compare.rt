@@ -8,7 +8,7 @@ ghost use Rattle.kcr_history.specs.Machine.{IsRegister};
 ghost use Rattle.kcr_history.specs.Tables as machine;
 ghost use Rattle.kcr_history.specs.Tables.{key_row};
 ghost use Rattle.kcr_store.specs.Register.{IsKept};
-ghost use Rattle.kcr_store.specs.Whole.{IsTable};
+ghost use Rattle.kcr_store.specs.Whole.{AreRows};
 ghost use Rattle.kcr_verify.specs.declared.compare.Table.{Table as Named};
 ghost use Rattle.kcr_verify.specs.Verified.{HasRows, Reads, by_number, name_of};
 
@@ -237,7 +237,7 @@ fn has_rows<S: Alter, R: Listed + Compared>(
     requires torn { register.old.torn ≡ None }
     requires kept { IsKept S.Store register.old }
     ensures are { HasCleanDisk (state S.Store register.new.conn)
-        → IfOk result (λ are. IsTrue are ↔ IsTable R.rows_in R.machine_rows (machine.tables register.new.accepted) rows.now) }
+        → IfOk result (λ are. IsTrue are ↔ AreRows R.table (machine.tables register.new.accepted) rows.now) }
     ensures register { HasCleanDisk (state S.Store register.new.conn)
         → IfOk result (λ _. IsRegister register.new.accepted) }
     ensures frame { Reads S.Store register.old register.new result }

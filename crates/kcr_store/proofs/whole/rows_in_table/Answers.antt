@@ -15,7 +15,7 @@ returns-clause-rows g c clean m held =
     let late : HasCleanDisk (state S c.rollback.new.self.0) = search rules in
     let before : HasCleanDisk mid = was_clean mid (state S c.rollback.new.self.0) _ c.rollback.ensures.survives late in
     let begun = begun_tables S m c.args.conn.now c.transaction-tx.result.conn.now c.transaction-tx.ensures.begun held in
-    if_both _ _ _ (λ rows. in_table g.R.Listed.rows_in g.R.Listed.machine_rows m begun.tables.t begun.tables.kept rows.items) c.all_rows-rows.result
+    if_both _ _ _ (λ rows. in_table g.R.Listed.table m begun.tables.t begun.tables.kept rows.items) c.all_rows-rows.result
     (c.all_rows-rows.ensures.rows before begun.tables.t (held_of m begun)) (c.all_rows-rows.ensures.machine before m begun)
 
 pub returns-clause-register : goal.returns-clause-register
@@ -30,7 +30,7 @@ returns-clause-register g c accepted was clean =
     (λ live.
     let s = (b.shows (was_clean begun mid _ c.all_rows-rows.ensures.survives before) live).now in
     let held = held_in accepted begun.now s in
-    if_both _ _ _ (λ rows is same. (s.tables.register, in_table g.R.Listed.rows_in g.R.Listed.machine_rows (tables accepted) held.tables.t held.tables.kept rows.items is same)) c.all_rows-rows.result
+    if_both _ _ _ (λ rows is same. (s.tables.register, in_table g.R.Listed.table (tables accepted) held.tables.t held.tables.kept rows.items is same)) c.all_rows-rows.result
     (c.all_rows-rows.ensures.rows before held.tables.t (held_of (tables accepted) held)) (c.all_rows-rows.ensures.machine before (tables accepted) held))
 
 pub returns-clause-whole : goal.returns-clause-whole

@@ -2,7 +2,7 @@ use Rattle.std.proofs.Common.{rules, refl, ◌≡◌, false, inl, subst, IsTrue}
 use Rattle.kcr_history.specs.History.{History}
 use Rattle.kcr_history.specs.Machine.{IsRegister}
 use Rattle.kcr_history.specs.Tables.{tables}
-use Rattle.kcr_store.specs.Whole.{IsTable}
+use Rattle.kcr_store.specs.Whole.{AreRows}
 use Rattle.sqlite.specs.Held.{state}
 use Rattle.kcr_tables.specs.Joint.{HoldsTables}
 use Rattle.kcr_store.proofs.register.Register.table_rows.Goals as goal
@@ -51,5 +51,5 @@ pub returns-in-Ok-clause-shown : goal.returns-in-Ok-clause-shown
 returns-in-Ok-clause-shown g c founded whole clean =
     let mine : IsTrue c.self.inside.past.is_founded = search rules in
     let entries : c.self.inside.past.entries ≡ c.args.self.now.accepted = search rules in
-    subst (λ (A : History). IsRegister A × IsTable g.R.Listed.rows_in g.R.Listed.machine_rows (tables A) c.in-Ok.rows.items) entries
+    subst (λ (A : History). IsRegister A × AreRows g.R.Listed.table (tables A) c.in-Ok.rows.items) entries
     (c.in-Ok.ensures.register c.self.inside.past.entries (c.self.invariant.whole mine (rw c.if-self.false refl)) clean)
