@@ -23,7 +23,8 @@ use Rattle.kcr_history.specs.declared.commands.Act.{Act}
 use Rattle.kcr_history.specs.declared.commands.Act.TheVariants.{Plan}
 use Rattle.kcr_history.specs.declared.rows.CeremonyRow.{CeremonyRow}
 use Rattle.kcr_history.specs.declared.views.View.{View}
-use Rattle.kcr_history.specs.Audit.{is_holder_by, fits_by, eligible_by, is_seating_by, ceremony_in}
+use Rattle.kcr_history.specs.Audit.{eligible_by, is_seating_by, ceremony_in}
+use Rattle.kcr_history.specs.Fitting.{is_holder_by, fits_by}
 use Rattle.kcr_history.specs.History.{History, all_said}
 use Rattle.kcr_history.specs.Ceremonies.{Planned, planned_as, plan_of, is_ceremony, facility_of}
 use Rattle.kcr_history.specs.Room.{sheet, is_in}
@@ -91,22 +92,22 @@ holder-same A h rows p place day =
 -- SEATS
 
 module _ (A : History) (h : IsRegister A) (view : View) (same : SameTables (tables A) (tables_of view)) where
-  held : (place : Place) (day : ℕ) (who : List ℕ) → is_holder_by view place day who ≡ is_holder A place day who
+  held : (place : Place) (day : ℕ) (who : List ℕ) → is_holder_by view.appointments.items place day who ≡ is_holder A place day who
   held place day who = ap (is_this who) (holder-same A h view.appointments.items same.appointments place day)
 
-  fits-same : (facility : Facility) (day : ℕ) (seat : Seat) (who : List ℕ) → fits_by view facility day seat who ≡ fits A facility day seat who
+  fits-same : (facility : Facility) (day : ℕ) (seat : Seat) (who : List ℕ) → fits_by view.trainings.items view.withdrawals.items view.appointments.items facility day seat who ≡ fits A facility day seat who
   fits-same facility day (Staff role) who =
       trained-order (trainings A) view.trainings.items (withdrawals A) view.withdrawals.items same.trainings same.withdrawals who role day ∙ trained-rows A h who role day
   fits-same facility day AnyCo who =
-      any-same (λ n. is_holder_by view (Places.Co facility n) day who) (λ n. is_holder A (Places.Co facility n) day who) (λ n. held (Places.Co facility n) day who) one_to_seven
+      any-same (λ n. is_holder_by view.appointments.items (Places.Co facility n) day who) (λ n. is_holder A (Places.Co facility n) day who) (λ n. held (Places.Co facility n) day who) one_to_seven
   fits-same facility day (Co n) who = held (Places.Co facility n) day who
   fits-same facility day AnyRksh who =
-      any-same (λ n. is_holder_by view (Places.Rksh n) day who) (λ n. is_holder A (Places.Rksh n) day who) (λ n. held (Places.Rksh n) day who) one_to_seven
+      any-same (λ n. is_holder_by view.appointments.items (Places.Rksh n) day who) (λ n. is_holder A (Places.Rksh n) day who) (λ n. held (Places.Rksh n) day who) one_to_seven
   fits-same facility day (Rksh n) who = held (Places.Rksh n) day who
 
   eligible-same : (c t : ℕ) (seat : Seat) (who : List ℕ) → eligible_by view (ceremony_row A c) t seat who ≡ eligible A c t seat who
   eligible-same c t seat who =
-      ap (λ b. b && fits_by view (facility_of A c) (day_of t) seat who)
+      ap (λ b. b && fits_by view.trainings.items view.withdrawals.items view.appointments.items (facility_of A c) (day_of t) seat who)
       (sym (same-in (sheet A) view.sheet.items (IsPermutation-trans (sheet A) (reverse (sheet A)) view.sheet.items (IsPermutation-reverse (sheet A)) same.sheet) (alike A h) who c t))
       ∙ ap (λ b. is_in A who c t && b) (fits-same (facility_of A c) (day_of t) seat who)
 

@@ -2,136 +2,22 @@
 ghost use Rattle.std.specs.Prelude.{◌≡◌, ◌++◌, ◌≤◌, ◌∷◌, ℕ, nat_le, take, drop, length, map, find, filter, option_map, ◌&&◌, ◌==◌, IfOk};
 ghost use Rattle.std.specs.List.{list_any};
 ghost use Rattle.kcr_base.specs.Days.{day_of};
-ghost use Rattle.kcr_base.specs.Same;
-ghost use Rattle.kcr_base.specs.Same.{same_place, same_text};
-ghost use Rattle.kcr_base.specs.declared.place.Place.TheVariants as Places;
-ghost use Rattle.kcr_people.specs.People.{lasts_beyond, holder_by};
+ghost use Rattle.kcr_base.specs.Same.{same_text};
 ghost use Rattle.kcr_room.specs.Room;
 ghost use Rattle.kcr_history.specs.Audit;
 ghost use Rattle.kcr_history.specs.Prints;
-ghost use Rattle.kcr_history.specs.Seating.{one_to_seven};
 ghost use Rattle.kcr_history.specs.declared.views.Finding.TheVariants as Findings;
 ghost use Rattle.kcr_audit.specs.Sought.{IsSought};
 ghost use Rattle.kcr_audit.specs.Wrongs;
 
-use kcr_base::{Day, Facility, Initials, Moment, Place, Role, not_later, same_person};
-use kcr_history::{CeremonyRow, Finding, SeatingRow, StepRow, StepState, View};
-use kcr_people::Appointment;
+use kcr_base::{Initials, Moment, Role, not_later, same_person};
+use kcr_history::{CeremonyRow, Finding, SeatingRow, StepRow, StepState, View, fits};
 use kcr_room::{SheetRow, Way};
 use kcr_script::Seat;
 use std::alloc::{AllocError, Global};
 
-/// The numbers of the places of one kind.
-const NUMBERS: [u8; 7] = [1, 2, 3, 4, 5, 6, 7];
-
 /// The seats of an exception that passes a step.
 const STAFF: [Seat; 2] = [Seat::Staff(Role::Ca), Seat::Staff(Role::Iw)];
-
-/// Whether the place is the facility's Crypto Officer's with this number.
-fn is_co(place: Place, facility: Facility, number: u8) -> bool
-    ensures { result ≡ same_place place (Places.Co facility number) }
-{
-    match place {
-        Place::Co(other, n) => other == facility && n.get() == number,
-        Place::Rksh(_) => false,
-    }
-}
-
-/// Whether the place is the Recovery Key Share Holder's with this number.
-fn is_rksh(place: Place, number: u8) -> bool
-    ensures { result ≡ same_place place (Places.Rksh number) }
-{
-    match place {
-        Place::Co(_, _) => false,
-        Place::Rksh(n) => n.get() == number,
-    }
-}
-
-/// Whether the appointment covers the day.
-fn covers(row: &Appointment, day: Day) -> bool
-    ensures { result ≡ (nat_le row.now.since day && lasts_beyond day row.now) }
-{
-    row.since <= day
-        && match row.until {
-            None => true,
-            Some(end) => day < end,
-        }
-}
-
-/// Who holds the facility's Crypto Officer's place with this number on the day.
-fn co_holder(rows: &[Appointment], facility: Facility, number: u8, day: Day) -> Option<Initials>
-    ensures { result ≡ holder_by rows.now (Places.Co facility number) day }
-{
-    rows.iter()
-        .find(|row| is_co(row.place, facility, number) && covers(*row, day))
-        .map(|row| row.who)
-}
-
-/// Who holds the Recovery Key Share Holder's place with this number on the day.
-fn rksh_holder(rows: &[Appointment], number: u8, day: Day) -> Option<Initials>
-    ensures { result ≡ holder_by rows.now (Places.Rksh number) day }
-{
-    rows.iter()
-        .find(|row| is_rksh(row.place, number) && covers(*row, day))
-        .map(|row| row.who)
-}
-
-/// Whether there is a holder, and it is this person.
-fn is_this(held: Option<Initials>, who: Initials) -> bool
-    ensures { result ≡ Same.is_this who held }
-{
-    match held {
-        Some(other) => same_person(other, who),
-        None => false,
-    }
-}
-
-/// Whether the person holds the facility's Crypto Officer's place with this number on the day.
-fn holds_co(view: &View, facility: Facility, number: u8, day: Day, who: Initials) -> bool
-    ensures { result ≡ Audit.is_holder_by view.now (Places.Co facility number) day who }
-{
-    is_this(co_holder(&view.appointments, facility, number, day), who)
-}
-
-/// Whether the person holds the Recovery Key Share Holder's place with this number on the day.
-fn holds_rksh(view: &View, number: u8, day: Day, who: Initials) -> bool
-    ensures { result ≡ Audit.is_holder_by view.now (Places.Rksh number) day who }
-{
-    is_this(rksh_holder(&view.appointments, number, day), who)
-}
-
-/// Whether the person holds some Crypto Officer's place of the facility on the day.
-fn holds_some_co(view: &View, facility: Facility, day: Day, who: Initials) -> bool
-    ensures { result ≡ list_any (λ n. Audit.is_holder_by view.now (Places.Co facility n) day who) one_to_seven }
-{
-    NUMBERS
-        .iter()
-        .any(|number| holds_co(view, facility, *number, day, who))
-}
-
-/// Whether the person holds some Recovery Key Share Holder's place on the day.
-fn holds_some_rksh(view: &View, day: Day, who: Initials) -> bool
-    ensures { result ≡ list_any (λ n. Audit.is_holder_by view.now (Places.Rksh n) day who) one_to_seven }
-{
-    NUMBERS
-        .iter()
-        .any(|number| holds_rksh(view, *number, day, who))
-}
-
-/// Whether the person fits the seat on the day, in a ceremony of the facility.
-fn fits(view: &View, facility: Facility, day: Day, seat: Seat, who: Initials) -> bool
-    ensures { result ≡ Audit.fits_by view.now facility day seat who }
-{
-    match seat {
-        Seat::Staff(role) => {
-            kcr_people::trained(&view.trainings, &view.withdrawals, who, role, day)
-        }
-        Seat::AnyCo => holds_some_co(view, facility, day, who),
-        Seat::Co(number) => holds_co(view, facility, number, day, who),
-        Seat::AnyRksh => holds_some_rksh(view, day, who),
-        Seat::Rksh(number) => holds_rksh(view, number, day, who),
-    }
-}
 
 /// Whether the row is not earlier than the last one so far.
 fn is_overtaken(last: &Option<SheetRow>, row: &SheetRow) -> bool
@@ -181,7 +67,15 @@ fn is_eligible(view: &View, ceremony: &CeremonyRow, at: Moment, seat: Seat, who:
     ensures { result ≡ Audit.eligible_by view.now ceremony.now at seat who }
 {
     is_in(&view.sheet, who, ceremony.number, at)
-        && fits(view, ceremony.facility, at.day(), seat, who)
+        && fits(
+            &view.trainings,
+            &view.withdrawals,
+            &view.appointments,
+            ceremony.facility,
+            at.day(),
+            seat,
+            who,
+        )
 }
 
 /// Whether the person is one of these.

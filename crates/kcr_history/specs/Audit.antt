@@ -2,11 +2,8 @@
 use Rattle.std.specs.Prelude.{◌≡◌, ℕ, suc, ◌<◌, ◌==◌, Bool, true, false, not, ◌&&◌, ◌||◌, nat_lt, List, [], ◌∷◌, find, Option, Some, None, IsTrue}
 use Rattle.std.specs.List.{list_any, count_by}
 use Rattle.kcr_base.specs.Days.{day_of}
-use Rattle.kcr_base.specs.Same.{same_text, is_this}
+use Rattle.kcr_base.specs.Same.{same_text}
 use Rattle.kcr_base.specs.declared.place.Facility.{Facility}
-use Rattle.kcr_base.specs.declared.place.Place.{Place}
-use Rattle.kcr_base.specs.declared.place.Place.TheVariants as Places
-use Rattle.kcr_people.specs.People.{trained_by, holder_by}
 use Rattle.kcr_room.specs.Room.{in_by, crowd_by}
 use Rattle.kcr_custody.specs.Balance.{holds_items}
 use Rattle.kcr_custody.specs.Custody.{is_box}
@@ -15,7 +12,6 @@ use Rattle.kcr_custody.specs.declared.Rest.TheVariants.{Loose, Within}
 use Rattle.kcr_custody.specs.declared.Spot.{Spot}
 use Rattle.kcr_custody.specs.declared.Spot.TheVariants.{InBox}
 use Rattle.kcr_script.specs.declared.seat.Seat.{Seat}
-use Rattle.kcr_script.specs.declared.seat.Seat.TheVariants.{Staff, AnyCo, AnyRksh, Co, Rksh}
 use Rattle.kcr_history.specs.declared.rows.CeremonyRow.{CeremonyRow}
 use Rattle.kcr_history.specs.declared.rows.SeatingRow.{SeatingRow}
 use Rattle.kcr_history.specs.declared.rows.StepRow.{StepRow}
@@ -25,25 +21,15 @@ use Rattle.kcr_history.specs.declared.views.Finding.{Finding}
 use Rattle.kcr_history.specs.declared.views.Finding.TheVariants as Findings
 use Rattle.kcr_history.specs.declared.views.View.{View}
 use Rattle.kcr_history.specs.Prints.{seatings_at, seated_at, seats_filled}
-use Rattle.kcr_history.specs.Seating.{one_to_seven}
+use Rattle.kcr_history.specs.Fitting.{fits_by}
 
 -- SEATINGS, BY THE ROWS
 
--- the person holds the place on the day
-abbrev pub is_holder_by : View → Place → ℕ → List ℕ → Bool
-is_holder_by view place day who = is_this who (holder_by view.appointments.items place day)
-
--- the person fits the seat on the day, in a ceremony of the facility
-abbrev pub fits_by : View → Facility → ℕ → Seat → List ℕ → Bool
-fits_by view facility day (Staff role) who = trained_by view.trainings.items view.withdrawals.items who role day
-fits_by view facility day AnyCo who = list_any (λ n. is_holder_by view (Places.Co facility n) day who) one_to_seven
-fits_by view facility day (Co n) who = is_holder_by view (Places.Co facility n) day who
-fits_by view facility day AnyRksh who = list_any (λ n. is_holder_by view (Places.Rksh n) day who) one_to_seven
-fits_by view facility day (Rksh n) who = is_holder_by view (Places.Rksh n) day who
-
 -- the person is in the room of the ceremony at t and fits the seat on its day
 abbrev pub eligible_by : View → CeremonyRow → ℕ → Seat → List ℕ → Bool
-eligible_by view ceremony t seat who = in_by view.sheet.items who ceremony.number t && fits_by view ceremony.facility (day_of t) seat who
+eligible_by view ceremony t seat who =
+    in_by view.sheet.items who ceremony.number t
+    && fits_by view.trainings.items view.withdrawals.items view.appointments.items ceremony.facility (day_of t) seat who
 
 -- the people, all distinct, are each eligible for the seat in their position
 abbrev pub is_seating_by : View → CeremonyRow → ℕ → List Seat → List (List ℕ) → Bool

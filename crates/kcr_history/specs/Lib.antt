@@ -7,6 +7,7 @@ pub mod Ceremonies
 pub mod Room
 pub mod Custody
 pub mod Seating
+pub mod Fitting
 pub mod Tables
 pub mod Changes
 pub mod Views

@@ -9,6 +9,7 @@
 
 mod asked;
 mod commands;
+mod fitting;
 mod joined;
 mod lists;
 mod paths;
@@ -22,6 +23,7 @@ mod views;
 
 pub use asked::asks;
 pub use commands::{Act, Answer, Command, Entry, Reply};
+pub use fitting::fits;
 pub use kcr_base::Text;
 pub use lists::{InitialsList, ItemList};
 pub use questions::{

@@ -28,6 +28,7 @@ use Rattle.kcr_history.specs.History.{History, stacked_on}
 use Rattle.kcr_history.specs.Training.{is_holder}
 use Rattle.kcr_history.specs.Ceremonies.{facility_of, steps_of, step_at, steps_done, next_step, exceptions_of}
 use Rattle.kcr_history.specs.Room.{present}
+use Rattle.kcr_history.specs.Fitting.{is_holder_by, fits_by}
 use Rattle.kcr_history.specs.Seating.{fits, one_to_seven, IsFirst, IsLeast}
 use Rattle.kcr_history.specs.Tables.{Tables, tables, marks, steps, step_row, seatings, seat_rows, seats_at, exceptions, trainings, withdrawals, appointments}
 use Rattle.kcr_history.specs.Changes.{changed_by, same_step, same_mark, same_exception}
@@ -35,7 +36,7 @@ use Rattle.kcr_history.specs.Views.{IsViewOf}
 use Rattle.kcr_history.specs.Asked.{asks_by}
 use Rattle.kcr_history.specs.Machine.{Sitting, answer_to, IsRegister, sitting}
 use Rattle.kcr_scene.specs.Scene.{ceremony_by, facility_by}
-use Rattle.kcr_scene.specs.Signing.{step_by, seats_by, next_by, is_holder_by, fits_by, on_seat, fits_of, room_by, IsSeatedBy, IsUnseatedBy, staff, mark_change, seat_changes, exception_change}
+use Rattle.kcr_scene.specs.Signing.{step_by, seats_by, next_by, on_seat, fits_of, room_by, IsSeatedBy, IsUnseatedBy, staff, mark_change, seat_changes, exception_change}
 use Rattle.kcr_machine.specs.RowDecision.{new_key_row}
 use Rattle.kcr_laws.proofs.Alone.{rooms}
 use Rattle.kcr_laws.proofs.Done.{next_signed}

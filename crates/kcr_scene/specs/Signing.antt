@@ -1,24 +1,15 @@
 -- Signatures and exceptions, by the rows of a view: the steps of a ceremony, who fits a seat, and who is seated.
 use Rattle.std.specs.Prelude.{◌≡◌, ℕ, suc, ◌==◌, Bool, true, false, not, ◌&&◌, nat_lt, nat_le, List, [], ◌∷◌, ◌++◌, map, filter, length, find, get_or, slice_get, Option, Some, None, is_some, is_none, ◌⊎◌}
-use Rattle.std.specs.List.{list_any}
 use Rattle.kcr_base.specs.Days.{day_of}
 use Rattle.kcr_base.specs.Refuse.{when, first_of}
-use Rattle.kcr_base.specs.Same.{is_this}
-use Rattle.kcr_base.specs.declared.place.Facility.{Facility}
-use Rattle.kcr_base.specs.declared.place.Place.{Place}
-use Rattle.kcr_base.specs.declared.place.Place.TheVariants as Places
 use Rattle.kcr_base.specs.declared.place.Role.TheVariants.{Ca, Iw}
 use Rattle.kcr_base.specs.declared.refusal.Refusal.{Refusal}
 use Rattle.kcr_base.specs.declared.refusal.Refusal.TheVariants as Refusals
 use Rattle.kcr_base.specs.declared.refusal.Refusal.TheVariants.{Unknown, Order, Full, Short, Disk}
 use Rattle.kcr_base.specs.declared.refusal.Thing.TheVariants as Things
-use Rattle.kcr_people.specs.declared.Training.{Training}
-use Rattle.kcr_people.specs.declared.Withdrawal.{Withdrawal}
-use Rattle.kcr_people.specs.declared.Appointment.{Appointment}
-use Rattle.kcr_people.specs.People.{trained_by, holder_by}
 use Rattle.kcr_room.specs.Stays.{present_in_by}
 use Rattle.kcr_script.specs.declared.seat.Seat.{Seat}
-use Rattle.kcr_script.specs.declared.seat.Seat.TheVariants.{Staff, AnyCo, AnyRksh, Co, Rksh}
+use Rattle.kcr_script.specs.declared.seat.Seat.TheVariants.{Staff}
 use Rattle.kcr_seats.specs.Seating.{IsFirst, IsLeast}
 use Rattle.kcr_history.specs.declared.rows.StepRow.{StepRow}
 use Rattle.kcr_history.specs.declared.rows.StepState.{StepState}
@@ -28,8 +19,8 @@ use Rattle.kcr_history.specs.declared.views.Change.{Change}
 use Rattle.kcr_history.specs.declared.views.Change.TheVariants.{PutMark, PutStep, PutSeating, PutException}
 use Rattle.kcr_history.specs.declared.views.View.{View}
 use Rattle.kcr_history.specs.Conditions.{is_late}
+use Rattle.kcr_history.specs.Fitting.{fits_by}
 use Rattle.kcr_history.specs.Machine.{Sitting}
-use Rattle.kcr_history.specs.Seating.{one_to_seven}
 use Rattle.kcr_history.specs.Tables.{seat_rows}
 use Rattle.kcr_history.specs.Views.{is_step_of, is_exception_of}
 use Rattle.kcr_scene.specs.Scene.{ceremony_by, facility_by, is_open_row, mark_by}
@@ -87,18 +78,6 @@ except_refusal view full ceremony pass at =
     ∷ [])
 
 -- WHO FITS A SEAT
-
--- the person holds the place on the day
-abbrev pub is_holder_by : List Appointment → Place → ℕ → List ℕ → Bool
-is_holder_by rows place day who = is_this who (holder_by rows place day)
-
--- the person fits the seat on the day, in a ceremony of the facility
-abbrev pub fits_by : List Training → List Withdrawal → List Appointment → Facility → ℕ → Seat → List ℕ → Bool
-fits_by trainings withdrawals rows facility day (Staff role) who = trained_by trainings withdrawals who role day
-fits_by trainings withdrawals rows facility day AnyCo who = list_any (λ n. is_holder_by rows (Places.Co facility n) day who) one_to_seven
-fits_by trainings withdrawals rows facility day (Co n) who = is_holder_by rows (Places.Co facility n) day who
-fits_by trainings withdrawals rows facility day AnyRksh who = list_any (λ n. is_holder_by rows (Places.Rksh n) day who) one_to_seven
-fits_by trainings withdrawals rows facility day (Rksh n) who = is_holder_by rows (Places.Rksh n) day who
 
 -- there is a seat, and the person is one for it
 abbrev pub on_seat : (Seat → List ℕ → Bool) → Option Seat → List ℕ → Bool

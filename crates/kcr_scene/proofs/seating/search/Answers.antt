@@ -1,6 +1,7 @@
 use Rattle.std.proofs.Common.{length, IfOk}
 use Rattle.kcr_seats.specs.Answer.{IsAnswer}
-use Rattle.kcr_scene.specs.Signing.{fits_of, fits_by}
+use Rattle.kcr_history.specs.Fitting.{fits_by}
+use Rattle.kcr_scene.specs.Signing.{fits_of}
 use Rattle.kcr_scene.proofs.seating.search.Goals as goal
 
 pub returns : goal.returns

@@ -1,7 +1,8 @@
 use Rattle.std.proofs.Common.{suc, length, map, refl, ap, ◌∙◌, inl}
 use Rattle.kcr_base.specs.declared.refusal.Refusal.TheVariants.{Short}
 use Rattle.kcr_seats.specs.Answer.{IsAnswer}
-use Rattle.kcr_scene.specs.Signing.{fits_of, fits_by}
+use Rattle.kcr_history.specs.Fitting.{fits_by}
+use Rattle.kcr_scene.specs.Signing.{fits_of}
 use Rattle.kcr_scene.proofs.seating.seat.Goals as goal
 
 pub returns : goal.returns
