@@ -2,7 +2,7 @@
 use Rattle.std.specs.Prelude.{ℕ, List}
 use Rattle.kcr_desk.specs.declared.reply.Body.{Body}
 use Rattle.kcr_desk.specs.declared.reply.Body.TheVariants.{Made, Printed, Fixed}
-use Rattle.kcr_desk.specs.declared.reply.Reply.{Reply}
+use Rattle.kcr_desk.specs.declared.reply.Response.{Response}
 use Rattle.kcr_desk.specs.Texts.{Told}
 
 abbrev pub body_bytes : Body → List ℕ
@@ -10,5 +10,5 @@ body_bytes (Made text) = text
 body_bytes (Printed bytes) = bytes.items
 body_bytes (Fixed text) = text.now
 
-abbrev pub told : Reply → Told
+abbrev pub told : Response → Told
 told r = record { heading = r.heading; body = body_bytes r.body }

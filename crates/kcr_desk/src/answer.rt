@@ -12,7 +12,7 @@ ghost use Rattle.kcr_base.specs.declared.refusal.Refusal.TheVariants as Refusals
 ghost use Rattle.kcr_desk.specs.Answers.{Answers, AnswersAs, Answered, AnswersCommand, AnswersReading, AnswersInquiry, IsReported, method_of, told_text, told_refusal, told_shown, told_report, allowed, IsRefused, TakesInquiry, RepliesInquiry, TellsOrMemory, refusal_of, outcome_of};
 ghost use Rattle.kcr_desk.specs.Told.{told};
 
-use crate::reply::{Body, Heading, Kind, Reply, refusal_heading};
+use crate::reply::{Body, Heading, Kind, Response, refusal_heading};
 use crate::responder::Responder;
 use http::StatusCode;
 use kcr_base::{CeremonyNumber, Counted, Refusal, Text};
@@ -40,10 +40,10 @@ fn method_of(token: &[u8]) -> Method
 }
 
 /// 200 with this JSON text.
-fn text_reply(text: Text) -> Reply
+fn text_reply(text: Text) -> Response
     ensures { told result ≡ told_text text }
 {
-    Reply {
+    Response {
         heading: Heading {
             status: StatusCode::OK,
             kind: Kind::Json,
@@ -64,32 +64,32 @@ fn allowed(paths: &Paths, target: &[u8], refusal: &Refusal) -> Option<Allow>
 }
 
 /// Want of memory, which takes none.
-fn memory_reply() -> Reply
+fn memory_reply() -> Response
     ensures { (target : List ℕ) → told result ≡ told_refusal target Refusals.Memory }
 {
     let Some(text) = fixed_text(&Refusal::Memory) else {
         unreachable!()
     };
-    Reply {
+    Response {
         heading: refusal_heading(&Refusal::Memory, None),
         body: Body::Fixed(text),
     }
 }
 
 /// A refusal of a message. Where it carries something, want of memory may be told in its place.
-fn refused_reply(alloc: Global, paths: &Paths, target: &[u8], refusal: &Refusal) -> Reply
+fn refused_reply(alloc: Global, paths: &Paths, target: &[u8], refusal: &Refusal) -> Response
     ensures { (told result ≡ told_refusal target.now refusal.now) ⊎ (IsTrue (carries refusal.now) × (told result ≡ told_refusal target.now Refusals.Memory)) }
 {
     let heading = refusal_heading(refusal, allowed(paths, target, refusal));
     if let Some(text) = fixed_text(refusal) {
-        return Reply {
+        return Response {
             heading,
             body: Body::Fixed(text),
         };
     }
     match write_refusal(alloc, refusal) {
         Ok(text) => {
-            Reply {
+            Response {
                 heading,
                 body: Body::Made(text),
             }
@@ -105,7 +105,7 @@ fn take_command<S: Alter>(
     paths: &Paths,
     target: &[u8],
     command: &Command,
-) -> Reply
+) -> Response
     ensures { AnswersCommand S.Store register.old target.now (told result) register.new command.now }
 {
     match register.apply(command) {
@@ -121,7 +121,7 @@ fn take_question<S: Alter>(
     paths: &Paths,
     target: &[u8],
     question: &Question,
-) -> Reply
+) -> Response
     ensures { AnswersReading S.Store register.old target.now (told result) register.new (told_shown target.now) (λ A shown. IsAsked A question.now shown) }
 {
     match register.look(question) {
@@ -153,12 +153,12 @@ fn report_reply(
     kind: Kind,
     text: Vec<u8>,
     outcome: Result<(), PrintFault>,
-) -> Reply
+) -> Response
     ensures { TellsOrMemory (told_report kind target.now) target.now (outcome_of outcome text.items) (told result) }
 {
     match outcome {
         Ok(()) => {
-            Reply {
+            Response {
                 heading: Heading {
                     status: StatusCode::OK,
                     kind,
@@ -178,7 +178,7 @@ fn take_script<S: Alter>(
     paths: &Paths,
     target: &[u8],
     ceremony: CeremonyNumber,
-) -> Reply
+) -> Response
     ensures { AnswersReading S.Store register.old target.now (told result) register.new (told_report Kind.Text target.now) (IsReported report.annotated ceremony) }
 {
     let mut page = Counted::new(Vec::new(alloc));
@@ -193,7 +193,7 @@ fn take_attendance<S: Alter>(
     paths: &Paths,
     target: &[u8],
     ceremony: CeremonyNumber,
-) -> Reply
+) -> Response
     ensures { AnswersReading S.Store register.old target.now (told result) register.new (told_report Kind.Csv target.now) (IsReported report.attendance ceremony) }
 {
     let mut page = Counted::new(Vec::new(alloc));
@@ -208,7 +208,7 @@ fn take_inquiry<S: Alter>(
     paths: &Paths,
     target: &[u8],
     inquiry: Inquiry,
-) -> Reply
+) -> Response
     ensures { AnswersInquiry S.Store register.old target.now (told result) register.new inquiry }
 {
     match inquiry {
@@ -225,7 +225,7 @@ fn answer_post<S: Alter>(
     paths: &Paths,
     target: &[u8],
     body: &[u8],
-) -> Reply
+) -> Response
     ensures { AnswersAs Post S.Store register.old (record { method = []; target = target.now; body = body.now }) (told result) register.new }
 {
     match paths.read_command(alloc, Method::Post, target, body) {
@@ -241,7 +241,7 @@ fn answer_inquiry<S: Alter>(
     paths: &Paths,
     method: Method,
     target: &[u8],
-) -> Reply
+) -> Response
     ensures { Answered S.Store register.old target.now (told result) register.new
         (λ before after. MatchResult (inquiry_of method target.now) (TakesInquiry before target.now (told result) after) (IsRefused before target.now (told result) after))
         (λ before after. MatchResult (inquiry_of method target.now) (RepliesInquiry before target.now (told result) after) (IsRefused before target.now (told result) after)) }
@@ -260,7 +260,7 @@ fn answer_by<S: Alter>(
     method: &[u8],
     target: &[u8],
     body: &[u8],
-) -> Reply
+) -> Response
     ensures { Answers S.Store register.old (record { method = method.now; target = target.now; body = body.now }) (told result) register.new }
 {
     match method_of(method) {
@@ -279,7 +279,7 @@ impl<S: Alter> Responder for Register<S> {
         method: &[u8],
         target: &[u8],
         body: &[u8],
-    ) -> Reply {
+    ) -> Response {
         if paths.is_none() {
             *paths = Paths::new(alloc).ok();
         }

@@ -50,7 +50,7 @@ pub enum Body {
 
 /// What a message is told.
 #[derive(Drop)]
-pub struct Reply {
+pub struct Response {
     pub heading: Heading,
     pub body: Body,
 }
@@ -207,7 +207,7 @@ fn put_parts<W: Write>(
 /// Writes an answer, without its body where it is bare.
 pub(crate) fn put_answer<W: Write>(
     writer: &mut Counted<W>,
-    reply: &Reply,
+    reply: &Response,
     bare: bool,
     closes: bool,
 ) -> Result<(), DeskFault>

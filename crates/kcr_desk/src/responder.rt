@@ -1,5 +1,5 @@
 //! What answers messages.
-use crate::reply::Reply;
+use crate::reply::Response;
 use kcr_wire::Paths;
 use std::alloc::Global;
 
@@ -21,6 +21,6 @@ pub(crate) trait Responder {
         method: &[u8],
         target: &[u8],
         body: &[u8],
-    ) -> Reply
+    ) -> Response
         ensures { step self.old (record { method = method.now; target = target.now; body = body.now }) (told result) self.new };
 }

@@ -8,8 +8,8 @@ use Rattle.kcr_history.specs.declared.views.AppointmentsOf.TheVariants as Appoin
 use Rattle.kcr_history.specs.declared.views.Asks.{Asks}
 use Rattle.kcr_history.specs.declared.views.ItemsOf.TheVariants as Items
 use Rattle.kcr_history.specs.declared.views.ItemsOf.{ItemsOf}
-use Rattle.kcr_history.specs.declared.views.Rows.{Rows}
-use Rattle.kcr_history.specs.declared.views.Rows.TheVariants.{Nothing, Under, All}
+use Rattle.kcr_history.specs.declared.views.Selection.{Selection}
+use Rattle.kcr_history.specs.declared.views.Selection.TheVariants.{Nothing, Under, All}
 
 -- no rows but those of the key
 abbrev pub asks_nothing : List ℕ → Asks
@@ -77,7 +77,7 @@ abbrev pub asks_boxes : List ℕ → Asks
 asks_boxes key = record (asks_nothing key) { boxes = true }
 
 -- ceremonies alone
-abbrev pub asks_ceremonies : List ℕ → Rows ℕ → Asks
+abbrev pub asks_ceremonies : List ℕ → Selection ℕ → Asks
 asks_ceremonies key ceremonies = record (asks_nothing key) { ceremonies = ceremonies }
 
 -- the item

@@ -21,8 +21,8 @@ use Rattle.kcr_history.specs.declared.views.AppointmentsOf.TheVariants as Appoin
 use Rattle.kcr_history.specs.declared.views.Asks.{Asks}
 use Rattle.kcr_history.specs.declared.views.ItemsOf.{ItemsOf}
 use Rattle.kcr_history.specs.declared.views.ItemsOf.TheVariants as Items
-use Rattle.kcr_history.specs.declared.views.Rows.{Rows}
-use Rattle.kcr_history.specs.declared.views.Rows.TheVariants.{Nothing, Under, All}
+use Rattle.kcr_history.specs.declared.views.Selection.{Selection}
+use Rattle.kcr_history.specs.declared.views.Selection.TheVariants.{Nothing, Under, All}
 use Rattle.kcr_history.specs.declared.views.StaysOf.{StaysOf}
 use Rattle.kcr_history.specs.declared.views.View.{View}
 use Rattle.kcr_history.specs.Tables.{Tables}
@@ -70,7 +70,7 @@ is_of_key key row = same_text row.key key
 -- WHEN A VIEW HOLDS THEM
 
 -- the rows asked for are the table's, in any order; beside them the view may hold others
-abbrev pub Shows : {X K : Type 0} → (K → X → Bool) → Rows K → List X → List X → Type 0
+abbrev pub Shows : {X K : Type 0} → (K → X → Bool) → Selection K → List X → List X → Type 0
 Shows is_under Nothing table rows = Unit {0}
 Shows is_under (Under key) table rows = IsPermutation (filter (is_under key) table) (filter (is_under key) rows)
 Shows is_under All table rows = IsPermutation table rows
@@ -104,7 +104,7 @@ pub record ShowsStaysOf (asked : StaysOf) (table rows : List Stay) : Type 0 wher
   pub room : IsPermutation (filter (is_stay_of asked.ceremony) table) (filter (is_stay_of asked.ceremony) rows)
   pub last : ShowsLast asked.people table rows
 
-abbrev pub ShowsStays : Rows StaysOf → List Stay → List Stay → Type 0
+abbrev pub ShowsStays : Selection StaysOf → List Stay → List Stay → Type 0
 ShowsStays Nothing table rows = Unit {0}
 ShowsStays (Under asked) table rows = ShowsStaysOf asked table rows
 ShowsStays All table rows = IsPermutation table rows

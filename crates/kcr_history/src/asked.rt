@@ -4,7 +4,7 @@ ghost use Rattle.kcr_history.specs.Asked;
 
 use crate::commands::{Act, Command};
 use crate::lists::{InitialsList, ItemList};
-use crate::views::{AppointmentsOf, Asks, ItemsOf, Rows, StaysOf};
+use crate::views::{AppointmentsOf, Asks, ItemsOf, Selection, StaysOf};
 use kcr_base::{CeremonyNumber, Initials, ItemCode, Items, Key, People, Place, Serial};
 use std::alloc::{AllocError, Global};
 
@@ -13,19 +13,19 @@ fn asks_nothing(key: &Key) -> Asks
     ensures { result ≡ Asked.asks_nothing key.now }
 {
     Asks {
-        people: Rows::Nothing,
-        trainings: Rows::Nothing,
-        withdrawals: Rows::Nothing,
-        appointments: Rows::Nothing,
+        people: Selection::Nothing,
+        trainings: Selection::Nothing,
+        withdrawals: Selection::Nothing,
+        appointments: Selection::Nothing,
         boxes: false,
         safes: false,
-        bags: Rows::Nothing,
-        items: Rows::Nothing,
-        ceremonies: Rows::Nothing,
-        marks: Rows::Nothing,
-        steps: Rows::Nothing,
-        exceptions: Rows::Nothing,
-        stays: Rows::Nothing,
+        bags: Selection::Nothing,
+        items: Selection::Nothing,
+        ceremonies: Selection::Nothing,
+        marks: Selection::Nothing,
+        steps: Selection::Nothing,
+        exceptions: Selection::Nothing,
+        stays: Selection::Nothing,
         key: *key,
     }
 }
@@ -53,9 +53,9 @@ fn asks_room(key: &Key, ceremony: CeremonyNumber, people: InitialsList) -> Asks
     ensures { result ≡ Asked.asks_room key.now ceremony people }
 {
     let mut asks = asks_nothing(key);
-    asks.ceremonies = Rows::Under(ceremony.get());
-    asks.marks = Rows::Under(ceremony.get());
-    asks.stays = Rows::Under(StaysOf {
+    asks.ceremonies = Selection::Under(ceremony.get());
+    asks.marks = Selection::Under(ceremony.get());
+    asks.stays = Selection::Under(StaysOf {
         ceremony: ceremony.get(),
         people,
     });
@@ -67,8 +67,8 @@ fn asks_trained(alloc: Global, key: &Key, ceremony: CeremonyNumber) -> Asks
     ensures { result ≡ Asked.asks_trained key.now ceremony }
 {
     let mut asks = asks_room(key, ceremony, InitialsList::new(Vec::new(alloc)));
-    asks.trainings = Rows::All;
-    asks.withdrawals = Rows::All;
+    asks.trainings = Selection::All;
+    asks.withdrawals = Selection::All;
     asks
 }
 
@@ -77,10 +77,10 @@ fn asks_bag(alloc: Global, key: &Key, ceremony: CeremonyNumber, serial: Serial) 
     ensures { result ≡ Asked.asks_bag key.now ceremony serial }
 {
     let mut asks = asks_trained(alloc, key, ceremony);
-    asks.bags = Rows::Under(serial);
+    asks.bags = Selection::Under(serial);
     asks.safes = true;
     asks.boxes = true;
-    asks.appointments = Rows::All;
+    asks.appointments = Selection::All;
     asks
 }
 
@@ -89,7 +89,7 @@ fn asks_person(alloc: Global, key: &Key, who: Initials) -> Result<Asks, AllocErr
     ensures { IfOk result (λ asks. asks ≡ Asked.asks_person key.now who) }
 {
     let mut asks = asks_nothing(key);
-    asks.people = Rows::Under(only(alloc, who)?);
+    asks.people = Selection::Under(only(alloc, who)?);
     Ok(asks)
 }
 
@@ -98,8 +98,8 @@ fn asks_to_train(alloc: Global, key: &Key, who: Initials) -> Result<Asks, AllocE
     ensures { IfOk result (λ asks. asks ≡ Asked.asks_to_train key.now who) }
 {
     let mut asks = asks_person(alloc, key, who)?;
-    asks.trainings = Rows::Under(who);
-    asks.appointments = Rows::Under(AppointmentsOf::Person(who));
+    asks.trainings = Selection::Under(who);
+    asks.appointments = Selection::Under(AppointmentsOf::Person(who));
     Ok(asks)
 }
 
@@ -108,9 +108,9 @@ fn asks_to_withdraw(alloc: Global, key: &Key, who: Initials) -> Result<Asks, All
     ensures { IfOk result (λ asks. asks ≡ Asked.asks_to_withdraw key.now who) }
 {
     let mut asks = asks_person(alloc, key, who)?;
-    asks.trainings = Rows::Under(who);
-    asks.withdrawals = Rows::Under(who);
-    asks.marks = Rows::All;
+    asks.trainings = Selection::Under(who);
+    asks.withdrawals = Selection::Under(who);
+    asks.marks = Selection::All;
     Ok(asks)
 }
 
@@ -119,9 +119,9 @@ fn asks_to_appoint(alloc: Global, key: &Key, who: Initials) -> Result<Asks, Allo
     ensures { IfOk result (λ asks. asks ≡ Asked.asks_to_appoint key.now who) }
 {
     let mut asks = asks_person(alloc, key, who)?;
-    asks.trainings = Rows::Under(who);
-    asks.appointments = Rows::All;
-    asks.marks = Rows::All;
+    asks.trainings = Selection::Under(who);
+    asks.appointments = Selection::All;
+    asks.marks = Selection::All;
     Ok(asks)
 }
 
@@ -130,8 +130,8 @@ fn asks_to_release(key: &Key, place: Place) -> Asks
     ensures { result ≡ Asked.asks_to_release key.now place }
 {
     let mut asks = asks_nothing(key);
-    asks.appointments = Rows::Under(AppointmentsOf::Place(place));
-    asks.marks = Rows::All;
+    asks.appointments = Selection::Under(AppointmentsOf::Place(place));
+    asks.marks = Selection::All;
     asks
 }
 
@@ -154,12 +154,12 @@ fn asks_to_add(
     ensures { IfOk result (λ asks. asks ≡ Asked.asks_to_add key.now ceremony item) }
 {
     let mut asks = asks_trained(alloc, key, ceremony);
-    asks.items = Rows::Under(ItemsOf::Codes(only_item(alloc, item)?));
+    asks.items = Selection::Under(ItemsOf::Codes(only_item(alloc, item)?));
     Ok(asks)
 }
 
 /// The ceremonies that are asked for, alone.
-fn asks_ceremonies(key: &Key, ceremonies: Rows<u32>) -> Asks
+fn asks_ceremonies(key: &Key, ceremonies: Selection<u32>) -> Asks
     ensures { result ≡ Asked.asks_ceremonies key.now ceremonies }
 {
     let mut asks = asks_nothing(key);
@@ -172,9 +172,9 @@ fn asks_to_close(alloc: Global, key: &Key, ceremony: CeremonyNumber) -> Asks
     ensures { result ≡ Asked.asks_to_close key.now ceremony }
 {
     let mut asks = asks_room(key, ceremony, InitialsList::new(Vec::new(alloc)));
-    asks.steps = Rows::Under(ceremony.get());
+    asks.steps = Selection::Under(ceremony.get());
     asks.safes = true;
-    asks.bags = Rows::All;
+    asks.bags = Selection::All;
     asks
 }
 
@@ -189,7 +189,7 @@ fn asks_sheet(
 {
     let people = people.as_slice();
     let mut asks = asks_room(key, ceremony, InitialsList::copy_of(alloc, people)?);
-    asks.people = Rows::Under(InitialsList::copy_of(alloc, people)?);
+    asks.people = Selection::Under(InitialsList::copy_of(alloc, people)?);
     Ok(asks)
 }
 
@@ -198,8 +198,8 @@ fn asks_to_sign(alloc: Global, key: &Key, ceremony: CeremonyNumber) -> Asks
     ensures { result ≡ Asked.asks_to_sign key.now ceremony }
 {
     let mut asks = asks_trained(alloc, key, ceremony);
-    asks.steps = Rows::Under(ceremony.get());
-    asks.appointments = Rows::All;
+    asks.steps = Selection::Under(ceremony.get());
+    asks.appointments = Selection::All;
     asks
 }
 
@@ -208,8 +208,8 @@ fn asks_to_except(alloc: Global, key: &Key, ceremony: CeremonyNumber) -> Asks
     ensures { result ≡ Asked.asks_to_except key.now ceremony }
 {
     let mut asks = asks_trained(alloc, key, ceremony);
-    asks.steps = Rows::Under(ceremony.get());
-    asks.exceptions = Rows::Under(ceremony.get());
+    asks.steps = Selection::Under(ceremony.get());
+    asks.exceptions = Selection::Under(ceremony.get());
     asks
 }
 
@@ -223,9 +223,9 @@ fn asks_to_turn(
     ensures { IfOk result (λ asks. asks ≡ Asked.asks_to_turn key.now ceremony by) }
 {
     let mut asks = asks_room(key, ceremony, InitialsList::new(Vec::new(alloc)));
-    asks.people = Rows::Under(only(alloc, by)?);
-    asks.trainings = Rows::Under(by);
-    asks.withdrawals = Rows::Under(by);
+    asks.people = Selection::Under(only(alloc, by)?);
+    asks.trainings = Selection::Under(by);
+    asks.withdrawals = Selection::Under(by);
     asks.safes = true;
     Ok(asks)
 }
@@ -241,8 +241,8 @@ fn asks_items(
     ensures { result ≡ Asked.asks_items key.now ceremony serial items }
 {
     let mut asks = asks_trained(alloc, key, ceremony);
-    asks.bags = Rows::Under(serial);
-    asks.items = Rows::Under(items);
+    asks.bags = Selection::Under(serial);
+    asks.items = Selection::Under(items);
     asks
 }
 
@@ -273,8 +273,8 @@ fn asks_by(alloc: Global, key: &Key, act: &Act) -> Result<Asks, AllocError>
         Act::Release { place, .. } => Ok(asks_to_release(key, *place)),
         Act::AddBox { .. } => Ok(asks_boxes(key)),
         Act::AddItem { ceremony, item, .. } => asks_to_add(alloc, key, *ceremony, *item),
-        Act::Plan { number, .. } => Ok(asks_ceremonies(key, Rows::Under(number.get()))),
-        Act::Open { .. } => Ok(asks_ceremonies(key, Rows::All)),
+        Act::Plan { number, .. } => Ok(asks_ceremonies(key, Selection::Under(number.get()))),
+        Act::Open { .. } => Ok(asks_ceremonies(key, Selection::All)),
         Act::Close { ceremony, .. } => Ok(asks_to_close(alloc, key, *ceremony)),
         Act::Sheet { ceremony, who, .. } => asks_sheet(alloc, key, *ceremony, who),
         Act::Sign { ceremony, .. } => Ok(asks_to_sign(alloc, key, *ceremony)),

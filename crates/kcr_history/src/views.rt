@@ -30,7 +30,7 @@ pub struct View {
 
 /// Which rows of a table are asked for: none, those under `K`, or all.
 #[derive(Drop)]
-pub enum Rows<K> {
+pub enum Selection<K> {
     Nothing,
     Under(K),
     All,
@@ -67,28 +67,28 @@ pub struct StaysOf {
 #[derive(Drop)]
 pub struct Asks {
     /// People, under their initials.
-    pub people: Rows<InitialsList>,
+    pub people: Selection<InitialsList>,
     /// Trainings of a person.
-    pub trainings: Rows<Initials>,
+    pub trainings: Selection<Initials>,
     /// Withdrawals of a person's trainings.
-    pub withdrawals: Rows<Initials>,
-    pub appointments: Rows<AppointmentsOf>,
+    pub withdrawals: Selection<Initials>,
+    pub appointments: Selection<AppointmentsOf>,
     /// Whether all boxes are read, of which a facility has at most seven.
     pub boxes: bool,
     /// Whether the four safes are read.
     pub safes: bool,
     /// A bag, under its serial.
-    pub bags: Rows<Serial>,
-    pub items: Rows<ItemsOf>,
+    pub bags: Selection<Serial>,
+    pub items: Selection<ItemsOf>,
     /// A ceremony, under its number.
-    pub ceremonies: Rows<u32>,
+    pub ceremonies: Selection<u32>,
     /// The mark of a ceremony.
-    pub marks: Rows<u32>,
+    pub marks: Selection<u32>,
     /// The steps of a ceremony.
-    pub steps: Rows<u32>,
+    pub steps: Selection<u32>,
     /// The exceptions of a ceremony.
-    pub exceptions: Rows<u32>,
-    pub stays: Rows<StaysOf>,
+    pub exceptions: Selection<u32>,
+    pub stays: Selection<StaysOf>,
     /// The key of the command.
     pub key: Key,
 }

@@ -1,7 +1,7 @@
 //! Who is seated: the people in the room, the seats that each of them fits, and the search over both.
 ghost use Rattle.std.specs.Prelude.{◌≡◌, ◌≢◌, ◌&&◌, [], ◌<◌, ◌≤◌, nat_le, MatchResult, IfOk, EachIndex, slice_index, get_or, length, map};
 ghost use Rattle.kcr_base.specs.declared.refusal.Refusal.TheVariants.{Memory};
-ghost use Rattle.kcr_seats.specs.Answer.{IsAnswer};
+ghost use Rattle.kcr_seats.specs.Outcome.{IsOutcome};
 ghost use Rattle.kcr_history.specs.Fitting.{fits_by};
 ghost use Rattle.kcr_history.specs.Machine.{Sitting};
 ghost use Rattle.kcr_scene.specs.Signing;
@@ -11,7 +11,7 @@ use kcr_base::{Day, Facility, Initials, Moment, Positions, Refusal};
 use kcr_history::{InitialsList, View, fits};
 use kcr_people::{Appointment, Training, Withdrawal};
 use kcr_script::Seat;
-use kcr_seats::{Answer, Fits};
+use kcr_seats::{Outcome, Fits};
 use std::alloc::{AllocError, Global};
 
 /// At most this many people are in a room.
@@ -65,10 +65,10 @@ fn search(
     day: Day,
     seats: &[Seat],
     people: &[Initials],
-) -> Result<Answer, AllocError>
+) -> Result<Outcome, AllocError>
     requires seats { length seats.now ≤ 16 }
     requires people { length people.now ≤ 128 }
-    ensures { IfOk result (λ answer. IsAnswer (Signing.fits_of (fits_by view.now.trainings.items view.now.withdrawals.items view.now.appointments.items facility day) seats.now people.now)
+    ensures { IfOk result (λ answer. IsOutcome (Signing.fits_of (fits_by view.now.trainings.items view.now.withdrawals.items view.now.appointments.items facility day) seats.now people.now)
         (length seats.now) (length people.now) answer) }
 {
     let room = Room {
@@ -115,8 +115,8 @@ pub fn seat(
         return Err(Refusal::Disk);
     }
     match search(alloc, view, facility, at.day(), seats, &people)? {
-        Answer::Seated(numbers) => Ok(named(alloc, &people, &numbers)?),
-        Answer::Short(numbers) => Err(Refusal::Short {
+        Outcome::Seated(numbers) => Ok(named(alloc, &people, &numbers)?),
+        Outcome::Short(numbers) => Err(Refusal::Short {
             seats: Positions::from_indices(&numbers),
         }),
     }

@@ -1,10 +1,10 @@
 -- Relations that agree on the seats and people there are have the same answers.
 use Rattle.std.proofs.Common.{◌≡◌, ℕ, ◌<◌, ◌≤◌, Bool, List, length, get_or, arith, sym, ◌∙◌, subst}
 use Rattle.std.specs.Prelude.{IfOk, Result, Ok, Err}
-use Rattle.kcr_seats.specs.declared.Answer.{Answer}
-use Rattle.kcr_seats.specs.declared.Answer.TheVariants.{Seated, Short}
+use Rattle.kcr_seats.specs.declared.Outcome.{Outcome}
+use Rattle.kcr_seats.specs.declared.Outcome.TheVariants.{Seated, Short}
 use Rattle.kcr_seats.specs.declared.table.Table.{Table}
-use Rattle.kcr_seats.specs.Answer.{IsAnswer}
+use Rattle.kcr_seats.specs.Outcome.{IsOutcome}
 use Rattle.kcr_seats.specs.Seating.{IsFirst, IsLeast, IsSeating, IsShort, can_take, count_below}
 use Rattle.kcr_seats.specs.Table.{IsTakenFrom, fits_of, people_of, seats_of}
 use Rattle.kcr_seats.proofs.Counting.{count_mono}
@@ -50,15 +50,15 @@ least_same fits other seats people same s y = record {
   least = λ t z. y.least t (short_same other fits seats people (back fits other seats people same) t z);
 }
 
-answer_same : (fits other : ℕ → ℕ → Bool) (seats people : ℕ) → Agree fits other seats people → (a : Answer) → IsAnswer fits seats people a → IsAnswer other seats people a
+answer_same : (fits other : ℕ → ℕ → Bool) (seats people : ℕ) → Agree fits other seats people → (a : Outcome) → IsOutcome fits seats people a → IsOutcome other seats people a
 answer_same fits other seats people same (Seated w) y = first_same fits other seats people same w.items y
 answer_same fits other seats people same (Short s) y = least_same fits other seats people same s.items y
 
 -- an answer by the table is one by the relation that the table was taken from
-pub answer_taken : (table : Table) (fits : ℕ → ℕ → Bool) (seats people : ℕ) → IsTakenFrom fits seats people table → (a : Answer) → IsAnswer (fits_of table) (seats_of table) (people_of table) a → IsAnswer fits seats people a
+pub answer_taken : (table : Table) (fits : ℕ → ℕ → Bool) (seats people : ℕ) → IsTakenFrom fits seats people table → (a : Outcome) → IsOutcome (fits_of table) (seats_of table) (people_of table) a → IsOutcome fits seats people a
 answer_taken table fits seats people t a y =
     answer_same (fits_of table) fits seats people t.same a
-    (subst (λ n. IsAnswer (fits_of table) n people a) t.seats_are (subst (λ n. IsAnswer (fits_of table) (seats_of table) n a) t.people_are y))
+    (subst (λ n. IsOutcome (fits_of table) n people a) t.seats_are (subst (λ n. IsOutcome (fits_of table) (seats_of table) n a) t.people_are y))
 
 pub if_ok : {T E : Type 0} (r : Result T E) (P Q : T → Type 0) → ((x : T) → P x → Q x) → IfOk r P → IfOk r Q
 if_ok (Ok x) P Q f h = f x h

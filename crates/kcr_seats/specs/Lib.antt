@@ -1,4 +1,4 @@
-pub mod Answer
+pub mod Outcome
 pub mod Count
 pub mod Hall
 pub mod People

@@ -4,7 +4,7 @@
 #![tactic(auto)]
 
 ghost use Rattle.std.specs.Prelude.{◌≡◌, ℕ, ◌+◌, ◌*◌, ◌<◌, ◌≤◌, Bool, IfOk};
-ghost use Rattle.kcr_seats.specs.Answer.{IsAnswer};
+ghost use Rattle.kcr_seats.specs.Outcome.{IsOutcome};
 ghost use Rattle.kcr_seats.specs.Hall.{NotBoth, SeatingOrShort};
 
 mod check;
@@ -46,7 +46,7 @@ pub trait Fits {
 
 /// What a search for a seating ends with.
 #[derive(Drop)]
-pub enum Answer {
+pub enum Outcome {
     /// The first seating: at the position of each seat the number of its person.
     Seated(Vec<usize>),
     /// The positions, from 0 and rising, of seats that too few people fit; no proper part of them is such.
@@ -60,10 +60,10 @@ pub fn seat<F: Fits, L: Ledger>(
     alloc: Global,
     fits: &F,
     steps: &mut Steps<L>,
-) -> Result<Answer, AllocError>
+) -> Result<Outcome, AllocError>
     requires seats { F.seat_count fits.now ≤ 16 }
     requires people { F.person_count fits.now ≤ 128 }
-    ensures answer { IfOk result (λ a. IsAnswer (F.relation fits.now) (F.seat_count fits.now)
+    ensures answer { IfOk result (λ a. IsOutcome (F.relation fits.now) (F.seat_count fits.now)
         (F.person_count fits.now) a) }
     ensures all { let seats = F.seat_count fits.now in let people = F.person_count fits.now in
         steps.new.all ≤ steps.old.all + (people + 2) * 4 * (seats + 1) * (seats + 1) * (people + 1) }
@@ -77,23 +77,23 @@ fn seat_from<F: Fits, L: Ledger>(
     alloc: Global,
     fits: &F,
     blank: Blank,
-) -> Result<Answer, AllocError>
+) -> Result<Outcome, AllocError>
     requires seats { F.seat_count fits.now ≤ 16 }
     requires people { F.person_count fits.now ≤ 128 }
     requires name { blank.name ≡ L.name }
     requires parts { blank.parts ≡ L.parts }
     requires two { 2 ≤ blank.parts }
-    ensures { IfOk result (λ a. IsAnswer (F.relation fits.now) (F.seat_count fits.now)
+    ensures { IfOk result (λ a. IsOutcome (F.relation fits.now) (F.seat_count fits.now)
         (F.person_count fits.now) a) }
 {
     seat(alloc, fits, &mut Steps::<L>::new(blank))
 }
 
 /// `seat`, where nobody counts the steps.
-pub fn seat_uncounted<F: Fits>(alloc: Global, fits: &F) -> Result<Answer, AllocError>
+pub fn seat_uncounted<F: Fits>(alloc: Global, fits: &F) -> Result<Outcome, AllocError>
     requires seats { F.seat_count fits.now ≤ 16 }
     requires people { F.person_count fits.now ≤ 128 }
-    ensures { IfOk result (λ a. IsAnswer (F.relation fits.now) (F.seat_count fits.now)
+    ensures { IfOk result (λ a. IsOutcome (F.relation fits.now) (F.seat_count fits.now)
         (F.person_count fits.now) a) }
 {
     seat_from::<F, Brand>(alloc, fits, Blank::new(2))

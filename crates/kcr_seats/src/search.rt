@@ -4,10 +4,10 @@ ghost use Rattle.kcr_seats.specs.Seating.{IsSeating, IsFirst};
 ghost use Rattle.kcr_seats.specs.People.{contains};
 ghost use Rattle.kcr_seats.specs.Table.{fits_of, seats_of, people_of};
 ghost use Rattle.kcr_seats.specs.Tried.{IsTried};
-ghost use Rattle.kcr_seats.specs.Answer.{IsAnswer};
+ghost use Rattle.kcr_seats.specs.Outcome.{IsOutcome};
 ghost use Rattle.kcr_seats.specs.Search.{IsSeatedBut, IsRootAlone, IsPut, IsReached, IsMarked, IsClosed, IsBusy, IsListed, IsGiven, IsRefused, IsLowered, all_steps, lower_steps, search_steps};
 
-use crate::Answer;
+use crate::Outcome;
 use crate::people::People;
 use crate::steps::Turns;
 use crate::table::Table;
@@ -311,9 +311,9 @@ pub(crate) fn search<L: Ledger>(
     alloc: Global,
     table: &Table,
     turns: &mut Turns<L>,
-) -> Result<Answer, AllocError>
+) -> Result<Outcome, AllocError>
     requires people { people_of table.now ≤ 128 }
-    ensures answer { IfOk result (λ a. IsAnswer (fits_of table.now) (seats_of table.now)
+    ensures answer { IfOk result (λ a. IsOutcome (fits_of table.now) (seats_of table.now)
         (people_of table.now) a) }
     ensures cost { turns.new ≤ turns.old + all_steps (seats_of table.now) (people_of table.now) }
 {
@@ -322,9 +322,9 @@ pub(crate) fn search<L: Ledger>(
         turns.tick();
         seating.push(0)?;
         if let Tried::Stuck(marked) = reseat(alloc, table, &mut seating, root, 0, turns)? {
-            return Ok(Answer::Short(listed(alloc, &marked, turns)?));
+            return Ok(Outcome::Short(listed(alloc, &marked, turns)?));
         }
     }
     improve(alloc, table, &mut seating, turns)?;
-    Ok(Answer::Seated(seating))
+    Ok(Outcome::Seated(seating))
 }

@@ -20,7 +20,7 @@ use Rattle.kcr_custody.specs.Custody.{spot_by, lies_in}
 use Rattle.kcr_room.specs.declared.Stay.{Stay}
 use Rattle.kcr_room.specs.Stays.{present_in_by, stays_by}
 use Rattle.kcr_history.specs.declared.rows.CeremonyRow.{CeremonyRow}
-use Rattle.kcr_history.specs.declared.views.Rows.TheVariants.{Under}
+use Rattle.kcr_history.specs.declared.views.Selection.TheVariants.{Under}
 use Rattle.kcr_history.specs.History.{History, all_said}
 use Rattle.kcr_history.specs.Ceremonies.{is_ceremony}
 use Rattle.kcr_history.specs.Custody.{spot}

@@ -8,8 +8,8 @@ use Rattle.sqlite_rules.specs.Lists.{Has}
 use Rattle.sqlite_rules.proofs.ListLemmas.{all_has, all_from}
 use Rattle.sqlite_trees.proofs.ListLemmas.{all-append}
 use Rattle.kcr_base.specs.declared.refusal.Refusal.{Refusal}
-use Rattle.kcr_history.specs.declared.views.Rows.{Rows}
-use Rattle.kcr_history.specs.declared.views.Rows.TheVariants.{Under, All}
+use Rattle.kcr_history.specs.declared.views.Selection.{Selection}
+use Rattle.kcr_history.specs.declared.views.Selection.TheVariants.{Under, All}
 use Rattle.kcr_rows.specs.Keyed.{Place}
 use Rattle.kcr_rows.proofs.FailLemmas.{if_ok}
 use Rattle.kcr_rows.proofs.PutLemmas.{has_same, mapped_from}
@@ -35,11 +35,11 @@ module _ {X : Type 0} (row_of : X → Row) where
   shown_in : (rows : List Row) (r : Result (Vec X Global) Refusal) → IfOk r (λ all. IsPermutation rows (map row_of all.items)) → IfOk r (λ all. AreShown row_of all.items rows)
   shown_in rows r h = if_ok _ _ (λ all same. are_shown rows all.items same) r h
 
-  pub under_asked : {K : Type 0} (place : Place) (is_under : K → Row → Bool) (asked : Rows K) (db : Trees) (key : K) → asked ≡ Under key
+  pub under_asked : {K : Type 0} (place : Place) (is_under : K → Row → Bool) (asked : Selection K) (db : Trees) (key : K) → asked ≡ Under key
       → (r : Result (Vec X Global) Refusal) → IfOk r (λ all. IsPermutation (filter (is_under key) (rows_at place db)) (map row_of all.items)) → IfOk r (λ all. AskedAreShown row_of place is_under asked all.items db)
   under_asked place is_under asked db key is r h = subst (λ q. IfOk r (λ all. AskedAreShown row_of place is_under q all.items db)) (sym is) (shown_in _ r h)
 
-  pub all_asked : {K : Type 0} (place : Place) (is_under : K → Row → Bool) (asked : Rows K) (db : Trees) → asked ≡ All
+  pub all_asked : {K : Type 0} (place : Place) (is_under : K → Row → Bool) (asked : Selection K) (db : Trees) → asked ≡ All
       → (r : Result (Vec X Global) Refusal) → IfOk r (λ all. IsPermutation (rows_at place db) (map row_of all.items)) → IfOk r (λ all. AskedAreShown row_of place is_under asked all.items db)
   all_asked place is_under asked db is r h = subst (λ q. IfOk r (λ all. AskedAreShown row_of place is_under q all.items db)) (sym is) (shown_in _ r h)
 

@@ -12,8 +12,8 @@ use Rattle.sqlite_trees.proofs.ListLemmas.{IsPermutation-filter, all-append}
 use Rattle.kcr_base.specs.Same.{same_text}
 use Rattle.kcr_room.specs.declared.Stay.{Stay}
 use Rattle.kcr_history.specs.declared.views.StaysOf.{StaysOf}
-use Rattle.kcr_history.specs.declared.views.Rows.{Rows}
-use Rattle.kcr_history.specs.declared.views.Rows.TheVariants.{Nothing, Under, All}
+use Rattle.kcr_history.specs.declared.views.Selection.{Selection}
+use Rattle.kcr_history.specs.declared.views.Selection.TheVariants.{Nothing, Under, All}
 use Rattle.kcr_history.specs.Views.{is_stay_of, later_stay, last_of, last_stay, ShowsLast, ShowsStaysOf, ShowsStays}
 use Rattle.kcr_rows.specs.Keyed.{by_key}
 use Rattle.kcr_rows.specs.Greatest.{IsGreatest}
@@ -225,7 +225,7 @@ order_lasts : (xs ys rows : List Stay) → Apart ys → IsPermutation xs ys → 
 order_lasts xs ys rows apart same [] h = tt
 order_lasts xs ys rows apart same (who ∷ people) h = (h.0 ∙ sym (order_last xs ys apart same who), order_lasts xs ys rows apart same people h.1)
 
-pub stays_shown : (asked : Rows StaysOf) (xs ys rows : List Stay) → Apart ys → IsPermutation xs ys → ShowsStays asked ys rows → ShowsStays asked xs rows
+pub stays_shown : (asked : Selection StaysOf) (xs ys rows : List Stay) → Apart ys → IsPermutation xs ys → ShowsStays asked ys rows → ShowsStays asked xs rows
 stays_shown Nothing xs ys rows apart same h = tt
 stays_shown (Under asked) xs ys rows apart same h = record {
   room = IsPermutation-trans _ _ _ (IsPermutation-filter (is_stay_of asked.ceremony) xs ys same) h.room;

@@ -7,8 +7,8 @@ use Rattle.sqlite_rules.proofs.ListLemmas.{all_has}
 use Rattle.sqlite_trees.proofs.ListLemmas.{IsPermutation-filter}
 use Rattle.kcr_base.specs.Same.{same_text}
 use Rattle.kcr_history.specs.declared.rows.KeyRow.{KeyRow}
-use Rattle.kcr_history.specs.declared.views.Rows.{Rows}
-use Rattle.kcr_history.specs.declared.views.Rows.TheVariants.{Nothing, Under, All}
+use Rattle.kcr_history.specs.declared.views.Selection.{Selection}
+use Rattle.kcr_history.specs.declared.views.Selection.TheVariants.{Nothing, Under, All}
 use Rattle.kcr_history.specs.Views.{Shows, ShowsAll, is_of_key, row_of_key, greatest_number}
 use Rattle.kcr_rows.specs.Greatest.{IsGreatest}
 use Rattle.kcr_rows.proofs.PutLemmas.{has_same}
@@ -24,15 +24,15 @@ use Rattle.kcr_tables.proofs.NamedLemmas.{twice}
 -- ---- rows under a key, or all
 
 -- the rows of a table in one order are those of it in another
-pub shows_on : {X K : Type 0} (is_under : K → X → Bool) (asked : Rows K) (xs ys rows : List X) → IsPermutation xs ys → Shows is_under asked ys rows → Shows is_under asked xs rows
+pub shows_on : {X K : Type 0} (is_under : K → X → Bool) (asked : Selection K) (xs ys rows : List X) → IsPermutation xs ys → Shows is_under asked ys rows → Shows is_under asked xs rows
 shows_on is_under Nothing xs ys rows p h = tt
 shows_on is_under (Under key) xs ys rows p h = IsPermutation-trans _ _ _ (IsPermutation-filter (is_under key) xs ys p) h
 shows_on is_under All xs ys rows p h = IsPermutation-trans _ _ _ p h
 
-pub asked_shows : {X K : Type 0} (is_under : K → X → Bool) (asked : Rows K) (xs ys rows : List X) → IsPermutation xs ys → rows ≡ asked_of is_under asked ys → Shows is_under asked xs rows
+pub asked_shows : {X K : Type 0} (is_under : K → X → Bool) (asked : Selection K) (xs ys rows : List X) → IsPermutation xs ys → rows ≡ asked_of is_under asked ys → Shows is_under asked xs rows
 asked_shows {K = K} is_under asked xs ys rows p is = subst (Shows is_under asked xs) (sym is) (shown asked)
   where
-    shown : (asked : Rows K) → Shows is_under asked xs (asked_of is_under asked ys)
+    shown : (asked : Selection K) → Shows is_under asked xs (asked_of is_under asked ys)
     shown Nothing = tt
     shown (Under key) = subst (IsPermutation (filter (is_under key) xs)) (sym (twice (is_under key) ys)) (IsPermutation-filter (is_under key) xs ys p)
     shown All = p

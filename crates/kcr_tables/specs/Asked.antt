@@ -1,10 +1,10 @@
 -- The rows of a table that are asked for.
 use Rattle.std.specs.Prelude.{Bool, true, false, List, [], filter, if◌then◌else◌}
 use Rattle.std.specs.List.{list_any}
-use Rattle.kcr_history.specs.declared.views.Rows.{Rows}
-use Rattle.kcr_history.specs.declared.views.Rows.TheVariants.{Nothing, Under, All}
+use Rattle.kcr_history.specs.declared.views.Selection.{Selection}
+use Rattle.kcr_history.specs.declared.views.Selection.TheVariants.{Nothing, Under, All}
 
-abbrev pub asked_of : {X K : Type 0} → (K → X → Bool) → Rows K → List X → List X
+abbrev pub asked_of : {X K : Type 0} → (K → X → Bool) → Selection K → List X → List X
 asked_of is_under Nothing rows = []
 asked_of is_under (Under key) rows = filter (is_under key) rows
 asked_of is_under All rows = rows

@@ -26,7 +26,7 @@ use Rattle.kcr_history.specs.declared.views.AppointmentsOf.TheVariants as Appoin
 use Rattle.kcr_history.specs.declared.views.Asks.{Asks}
 use Rattle.kcr_history.specs.declared.views.ItemsOf.{ItemsOf}
 use Rattle.kcr_history.specs.declared.views.ItemsOf.TheVariants as Items
-use Rattle.kcr_history.specs.declared.views.Rows.{Rows}
+use Rattle.kcr_history.specs.declared.views.Selection.{Selection}
 use Rattle.kcr_history.specs.declared.views.StaysOf.{StaysOf}
 use Rattle.kcr_history.specs.declared.views.View.{View}
 use Rattle.kcr_rows.specs.Keyed.{Place, cells}
@@ -76,7 +76,7 @@ is_stay_row asked row = has_number 2 asked.ceremony row
 -- ---- the rows asked for
 
 -- of a table those under a key, or all
-abbrev pub AskedAreShown : {X K : Type 0} → (X → Row) → Place → (K → Row → Bool) → Rows K → List X → Trees → Type 0
+abbrev pub AskedAreShown : {X K : Type 0} → (X → Row) → Place → (K → Row → Bool) → Selection K → List X → Trees → Type 0
 AskedAreShown row_of place is_under asked shown db = AreShown row_of shown (asked_of is_under asked (rows_at place db))
 
 -- of a table all

@@ -16,7 +16,7 @@ ghost use Rattle.kcr_tables.specs.Schema.{register_schema};
 use crate::last::last_stay_of;
 use crate::table::{all_rows, rows_under};
 use kcr_base::{Initials, Refusal};
-use kcr_history::{Rows, StaysOf};
+use kcr_history::{Selection, StaysOf};
 use kcr_room::Stay;
 use sqlite::{Alter, Transaction};
 use std::alloc::Global;
@@ -65,7 +65,7 @@ fn stays_and_last<S: Alter>(
 pub fn asked_stays<S: Alter>(
     alloc: Global,
     tx: &mut Transaction<'_, S>,
-    asked: &Rows<StaysOf>,
+    asked: &Selection<StaysOf>,
 ) -> Result<Vec<Stay>, Refusal>
     ensures same_reference { tx.new.conn.ghost_name ≡ tx.old.conn.ghost_name }
     ensures rows { HasCleanDisk (state S.Store tx.new.conn.now) → (t : Tables) → Holds (state S.Store tx.old.conn.now).now t → IfOk result (λ all. ShowsStays asked.now t.stays all.items) }
@@ -76,8 +76,8 @@ pub fn asked_stays<S: Alter>(
     ensures frame { Reads (state S.Store tx.old.conn.now) (state S.Store tx.new.conn.now) result }
 {
     match asked {
-        Rows::Nothing => Ok(Vec::new(alloc)),
-        Rows::Under(asked) => stays_and_last(alloc, tx, asked),
-        Rows::All => all_rows(alloc, tx),
+        Selection::Nothing => Ok(Vec::new(alloc)),
+        Selection::Under(asked) => stays_and_last(alloc, tx, asked),
+        Selection::All => all_rows(alloc, tx),
     }
 }

@@ -20,7 +20,7 @@ use crate::table::{AsCell, Finds, all_rows, rows_under};
 use kcr_base::{Initials, ItemCode, Refusal};
 use kcr_cells::lists::{is_item_named, is_person_named};
 use kcr_custody::Item;
-use kcr_history::{AppointmentsOf, InitialsList, ItemsOf, Rows};
+use kcr_history::{AppointmentsOf, InitialsList, ItemsOf, Selection};
 use kcr_people::{Appointment, Person};
 use sqlite::{Alter, Transaction};
 use std::alloc::Global;
@@ -119,7 +119,7 @@ fn rows_named<S: Alter, K: AsCell, T: FindsNamed<K>>(
 pub fn asked_people<S: Alter>(
     alloc: Global,
     tx: &mut Transaction<'_, S>,
-    asked: &Rows<InitialsList>,
+    asked: &Selection<InitialsList>,
 ) -> Result<Vec<Person>, Refusal>
     ensures same_reference { tx.new.conn.ghost_name ≡ tx.old.conn.ghost_name }
     ensures rows { HasCleanDisk (state S.Store tx.new.conn.now) → (t : Tables) → Holds (state S.Store tx.old.conn.now).now t → IfOk result (λ all. Shows is_of_people asked.now t.people all.items) }
@@ -130,9 +130,9 @@ pub fn asked_people<S: Alter>(
     ensures frame { Reads (state S.Store tx.old.conn.now) (state S.Store tx.new.conn.now) result }
 {
     match asked {
-        Rows::Nothing => Ok(Vec::new(alloc)),
-        Rows::Under(people) => rows_named(alloc, tx, people.as_slice()),
-        Rows::All => all_rows(alloc, tx),
+        Selection::Nothing => Ok(Vec::new(alloc)),
+        Selection::Under(people) => rows_named(alloc, tx, people.as_slice()),
+        Selection::All => all_rows(alloc, tx),
     }
 }
 
@@ -140,7 +140,7 @@ pub fn asked_people<S: Alter>(
 pub fn asked_items<S: Alter>(
     alloc: Global,
     tx: &mut Transaction<'_, S>,
-    asked: &Rows<ItemsOf>,
+    asked: &Selection<ItemsOf>,
 ) -> Result<Vec<Item>, Refusal>
     ensures same_reference { tx.new.conn.ghost_name ≡ tx.old.conn.ghost_name }
     ensures rows { HasCleanDisk (state S.Store tx.new.conn.now) → (t : Tables) → Holds (state S.Store tx.old.conn.now).now t → IfOk result (λ all. Shows is_item_of asked.now t.items all.items) }
@@ -151,10 +151,10 @@ pub fn asked_items<S: Alter>(
     ensures frame { Reads (state S.Store tx.old.conn.now) (state S.Store tx.new.conn.now) result }
 {
     match asked {
-        Rows::Nothing => Ok(Vec::new(alloc)),
-        Rows::Under(ItemsOf::Codes(codes)) => rows_named(alloc, tx, codes.as_slice()),
-        Rows::Under(ItemsOf::Bag(serial)) => rows_under(alloc, tx, serial),
-        Rows::All => all_rows(alloc, tx),
+        Selection::Nothing => Ok(Vec::new(alloc)),
+        Selection::Under(ItemsOf::Codes(codes)) => rows_named(alloc, tx, codes.as_slice()),
+        Selection::Under(ItemsOf::Bag(serial)) => rows_under(alloc, tx, serial),
+        Selection::All => all_rows(alloc, tx),
     }
 }
 
@@ -162,7 +162,7 @@ pub fn asked_items<S: Alter>(
 pub fn asked_appointments<S: Alter>(
     alloc: Global,
     tx: &mut Transaction<'_, S>,
-    asked: &Rows<AppointmentsOf>,
+    asked: &Selection<AppointmentsOf>,
 ) -> Result<Vec<Appointment>, Refusal>
     ensures same_reference { tx.new.conn.ghost_name ≡ tx.old.conn.ghost_name }
     ensures rows { HasCleanDisk (state S.Store tx.new.conn.now) → (t : Tables) → Holds (state S.Store tx.old.conn.now).now t → IfOk result (λ all. all.items ≡ asked_of is_appointment_of asked.now t.appointments) }
@@ -173,12 +173,12 @@ pub fn asked_appointments<S: Alter>(
     ensures frame { Reads (state S.Store tx.old.conn.now) (state S.Store tx.new.conn.now) result }
 {
     match asked {
-        Rows::Nothing => Ok(Vec::new(alloc)),
-        Rows::Under(AppointmentsOf::Place(place)) => {
+        Selection::Nothing => Ok(Vec::new(alloc)),
+        Selection::Under(AppointmentsOf::Place(place)) => {
             let words = place.text();
             rows_under(alloc, tx, &words)
         }
-        Rows::Under(AppointmentsOf::Person(who)) => rows_under(alloc, tx, who),
-        Rows::All => all_rows(alloc, tx),
+        Selection::Under(AppointmentsOf::Person(who)) => rows_under(alloc, tx, who),
+        Selection::All => all_rows(alloc, tx),
     }
 }

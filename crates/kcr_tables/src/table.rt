@@ -25,7 +25,7 @@ use kcr_base::code::Code;
 use kcr_base::{Initials, ItemCode, Key, Refusal, Serial};
 use kcr_cells::statements::{rows_of, write};
 use kcr_cells::stored::Stored;
-use kcr_history::Rows;
+use kcr_history::Selection;
 use kcr_rows::cells::{code_cell, initials_cell, item_cell, key_cell, number_cell, serial_cell};
 use sqlite::types::ValueRef;
 use sqlite::{Alter, Transaction};
@@ -207,7 +207,7 @@ pub fn rows_under<S: Alter, K: AsCell, T: Finds<K>>(
 pub fn asked_rows<S: Alter, K: AsCell, T: Finds<K>>(
     alloc: Global,
     tx: &mut Transaction<'_, S>,
-    asked: &Rows<K>,
+    asked: &Selection<K>,
 ) -> Result<Vec<T>, Refusal>
     ensures same_reference { tx.new.conn.ghost_name ≡ tx.old.conn.ghost_name }
     ensures rows { HasCleanDisk (state S.Store tx.new.conn.now)
@@ -221,9 +221,9 @@ pub fn asked_rows<S: Alter, K: AsCell, T: Finds<K>>(
     ensures frame { Reads (state S.Store tx.old.conn.now) (state S.Store tx.new.conn.now) result }
 {
     match asked {
-        Rows::Nothing => Ok(Vec::new(alloc)),
-        Rows::Under(key) => rows_under(alloc, tx, key),
-        Rows::All => all_rows(alloc, tx),
+        Selection::Nothing => Ok(Vec::new(alloc)),
+        Selection::Under(key) => rows_under(alloc, tx, key),
+        Selection::All => all_rows(alloc, tx),
     }
 }
 

@@ -3,7 +3,7 @@ ghost use Rattle.std.specs.Prelude.{◌≡◌};
 
 use crate::asserts::holds;
 use kcr_base::{Key, Refusal};
-use kcr_history::{Asks, KeyRow, Rows, SeatingRow};
+use kcr_history::{Asks, KeyRow, Selection, SeatingRow};
 use kcr_room::SheetRow;
 use kcr_tables::{Version, all_rows, make, view_of};
 use sqlite::{Alter, Connection, MemStore, Transaction};
@@ -52,19 +52,19 @@ const NOT_STORED: [&str; 34] = [
 /// All rows of the tables of which a command may ask for all.
 fn every_row() -> Option<Asks> {
     Some(Asks {
-        people: Rows::All,
-        trainings: Rows::All,
-        withdrawals: Rows::All,
-        appointments: Rows::All,
+        people: Selection::All,
+        trainings: Selection::All,
+        withdrawals: Selection::All,
+        appointments: Selection::All,
         boxes: true,
         safes: true,
-        bags: Rows::All,
-        items: Rows::All,
-        ceremonies: Rows::All,
-        marks: Rows::All,
-        steps: Rows::All,
-        exceptions: Rows::All,
-        stays: Rows::All,
+        bags: Selection::All,
+        items: Selection::All,
+        ceremonies: Selection::All,
+        marks: Selection::All,
+        steps: Selection::All,
+        exceptions: Selection::All,
+        stays: Selection::All,
         key: Key::read(b"k")?,
     })
 }

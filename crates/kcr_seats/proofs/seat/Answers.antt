@@ -1,5 +1,5 @@
 use Rattle.std.proofs.Common.{◌≡◌, ◌+◌, ◌≤◌, ap, arith}
-use Rattle.kcr_seats.specs.Answer.{IsAnswer}
+use Rattle.kcr_seats.specs.Outcome.{IsOutcome}
 use Rattle.kcr_seats.specs.Search.{all_steps}
 use Rattle.kcr_seats.specs.Table.{fits_of, people_of, seats_of}
 use Rattle.kcr_seats.proofs.Agree.{answer_taken, if_ok}
@@ -9,8 +9,8 @@ use Rattle.kcr_seats.proofs.seat.Goals as goal
 pub returns-clause-answer : goal.returns-clause-answer
 returns-clause-answer g c =
     if_ok c.search.result
-    (λ a. IsAnswer (fits_of c.in_ok-table.table) (seats_of c.in_ok-table.table) (people_of c.in_ok-table.table) a)
-    (λ a. IsAnswer (g.F.Fits.relation c.args.fits.now) (g.F.Fits.seat_count c.args.fits.now) (g.F.Fits.person_count c.args.fits.now) a)
+    (λ a. IsOutcome (fits_of c.in_ok-table.table) (seats_of c.in_ok-table.table) (people_of c.in_ok-table.table) a)
+    (λ a. IsOutcome (g.F.Fits.relation c.args.fits.now) (g.F.Fits.seat_count c.args.fits.now) (g.F.Fits.person_count c.args.fits.now) a)
     (answer_taken c.in_ok-table.table (g.F.Fits.relation c.args.fits.now) (g.F.Fits.seat_count c.args.fits.now) (g.F.Fits.person_count c.args.fits.now) c.in_ok-table.ensures.table)
     c.search.ensures.answer
 

@@ -1,6 +1,6 @@
 use Rattle.std.proofs.Common.{suc, length, map, refl, ap, ◌∙◌, inl}
 use Rattle.kcr_base.specs.declared.refusal.Refusal.TheVariants.{Short}
-use Rattle.kcr_seats.specs.Answer.{IsAnswer}
+use Rattle.kcr_seats.specs.Outcome.{IsOutcome}
 use Rattle.kcr_history.specs.Fitting.{fits_by}
 use Rattle.kcr_scene.specs.Signing.{fits_of}
 use Rattle.kcr_scene.proofs.seating.seat.Goals as goal
@@ -8,7 +8,7 @@ use Rattle.kcr_scene.proofs.seating.seat.Goals as goal
 pub returns : goal.returns
 returns c =
     let v = c.args.view.now in
-    let h : IsAnswer (fits_of (fits_by v.trainings.items v.withdrawals.items v.appointments.items c.facility-facility.result c.day.result) c.args.seats.now c.deref.result.now) (length c.args.seats.now) (length c.deref.result.now) c.in_ok-numbers.field-0 = c.in_ok-numbers.ensures in
+    let h : IsOutcome (fits_of (fits_by v.trainings.items v.withdrawals.items v.appointments.items c.facility-facility.result c.day.result) c.args.seats.now c.deref.result.now) (length c.args.seats.now) (length c.deref.result.now) c.in_ok-numbers.field-0 = c.in_ok-numbers.ensures in
     λ _. inl (
       map suc c.in-Short.numbers.items,
       record {

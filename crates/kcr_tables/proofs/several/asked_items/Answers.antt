@@ -1,8 +1,8 @@
 use Rattle.std.proofs.Common.{rules, ◌≡◌, ℕ, List, IfOk, sym, ap, subst, filter, ◌∙◌, IsPermutation}
 use Rattle.std.proofs.lemmas.List.Sorted.{IsPermutation-refl}
 use Rattle.kcr_history.specs.Views.{is_item_of, Shows}
-use Rattle.kcr_history.specs.declared.views.Rows.{Rows}
-use Rattle.kcr_history.specs.declared.views.Rows.TheVariants.{Under}
+use Rattle.kcr_history.specs.declared.views.Selection.{Selection}
+use Rattle.kcr_history.specs.declared.views.Selection.TheVariants.{Under}
 use Rattle.kcr_history.specs.declared.views.ItemsOf.{ItemsOf}
 use Rattle.kcr_history.specs.declared.views.ItemsOf.TheVariants.{Codes, Bag}
 use Rattle.kcr_custody.specs.declared.Item.{Item}
@@ -18,7 +18,7 @@ use Rattle.kcr_tables.proofs.several.asked_items.Goals as goal
 pub returns-in-Under-Codes-clause-rows : goal.returns-in-Under-Codes-clause-rows
 returns-in-Under-Codes-clause-rows g c clean t held =
     let inner : c.in-Under-Codes.field-0 ≡ Codes c.in-Under-Codes.codes = search rules in
-    subst (λ (q : Rows (ItemsOf)). IfOk c.rows_named.result (λ all. Shows is_item_of q t.items all.items)) (ap Under (sym inner) ∙ sym c.in-Under-Codes.is)
+    subst (λ (q : Selection (ItemsOf)). IfOk c.rows_named.result (λ all. Shows is_item_of q t.items all.items)) (ap Under (sym inner) ∙ sym c.in-Under-Codes.is)
     (if_ok _ _ (λ all so. passing (is_item_of (Codes (c.in-Under-Codes.codes))) t.items all.items so) c.rows_named.result
     (subst (λ (ks : List (List ℕ)). IfOk c.rows_named.result (λ all. IsPermutation (filter (is_item_of (Codes ks)) t.items) all.items)) c.as_slice.ensures (c.rows_named.ensures.rows clean t held)))
 
@@ -26,13 +26,13 @@ pub returns-in-Under-Bag-clause-rows : goal.returns-in-Under-Bag-clause-rows
 returns-in-Under-Bag-clause-rows g c clean t held =
     let wanted = is_item_of (Bag c.in-Under-Bag.serial) in
     let inner : c.in-Under-Bag.field-0 ≡ Bag c.in-Under-Bag.serial = search rules in
-    subst (λ (q : Rows ItemsOf). IfOk c.rows_under.result (λ all. Shows is_item_of q t.items all.items)) (ap Under (sym inner) ∙ sym c.in-Under-Bag.is)
+    subst (λ (q : Selection ItemsOf). IfOk c.rows_under.result (λ all. Shows is_item_of q t.items all.items)) (ap Under (sym inner) ∙ sym c.in-Under-Bag.is)
     (if_ok _ _ (λ all is. passing wanted t.items all.items (subst (λ (l : List Item). IsPermutation (filter wanted t.items) l) (sym is) (IsPermutation-refl (filter wanted t.items)))) c.rows_under.result (c.rows_under.ensures.rows clean t held))
 
 pub returns-in-Under-Codes-clause-exact : goal.returns-in-Under-Codes-clause-exact
 returns-in-Under-Codes-clause-exact g c clean has =
     let inner : c.in-Under-Codes.field-0 ≡ Codes c.in-Under-Codes.codes = search rules in
-    subst (λ (q : Rows ItemsOf). IfOk c.rows_named.result (λ all. AskedAreShown item_row items_place is_item_row q all.items (state g.S.Store c.args.tx.now.conn.now).now.trees)) (ap Under (sym inner) ∙ sym c.in-Under-Codes.is)
+    subst (λ (q : Selection ItemsOf). IfOk c.rows_named.result (λ all. AskedAreShown item_row items_place is_item_row q all.items (state g.S.Store c.args.tx.now.conn.now).now.trees)) (ap Under (sym inner) ∙ sym c.in-Under-Codes.is)
     (subst (λ (ks : List (List ℕ)). IfOk c.rows_named.result (λ all. AreShown item_row all.items (filter (has_any 0 ks) (rows_at items_place (state g.S.Store c.args.tx.now.conn.now).now.trees)))) c.as_slice.ensures (c.rows_named.ensures.exact clean has))
 
 pub returns-in-Under-Bag-clause-exact : goal.returns-in-Under-Bag-clause-exact

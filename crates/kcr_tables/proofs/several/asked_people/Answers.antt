@@ -1,6 +1,6 @@
 use Rattle.std.proofs.Common.{List, ℕ, IfOk, sym, subst, filter, IsPermutation}
 use Rattle.kcr_history.specs.Views.{is_of_people, Shows}
-use Rattle.kcr_history.specs.declared.views.Rows.{Rows}
+use Rattle.kcr_history.specs.declared.views.Selection.{Selection}
 use Rattle.sqlite.specs.Held.{state}
 use Rattle.kcr_cells.specs.Rows.{person_row}
 use Rattle.kcr_tables.specs.Exact.{rows_at, has_any, AreShown, AskedAreShown}
@@ -12,14 +12,14 @@ use Rattle.kcr_tables.proofs.several.asked_people.Goals as goal
 
 pub returns-in-Under-clause-rows : goal.returns-in-Under-clause-rows
 returns-in-Under-clause-rows g c clean t held =
-    subst (λ (q : Rows (List (List ℕ))). IfOk c.rows_named.result (λ all. Shows is_of_people q t.people all.items)) (sym c.in-Under.is)
+    subst (λ (q : Selection (List (List ℕ))). IfOk c.rows_named.result (λ all. Shows is_of_people q t.people all.items)) (sym c.in-Under.is)
     (if_ok _ _ (λ all so. passing (is_of_people c.in-Under.people) t.people all.items so) c.rows_named.result
     (subst (λ (ks : List (List ℕ)). IfOk c.rows_named.result (λ all. IsPermutation (filter (is_of_people ks) t.people) all.items)) c.as_slice.ensures (c.rows_named.ensures.rows clean t held)))
 
 pub returns-in-Under-clause-exact : goal.returns-in-Under-clause-exact
 returns-in-Under-clause-exact g c clean has =
     let db = (state g.S.Store c.args.tx.now.conn.now).now.trees in
-    subst (λ (q : Rows (List (List ℕ))). IfOk c.rows_named.result (λ all. AskedAreShown person_row people_place (has_any 0) q all.items db)) (sym c.in-Under.is)
+    subst (λ (q : Selection (List (List ℕ))). IfOk c.rows_named.result (λ all. AskedAreShown person_row people_place (has_any 0) q all.items db)) (sym c.in-Under.is)
     (subst (λ (ks : List (List ℕ)). IfOk c.rows_named.result (λ all. AreShown person_row all.items (filter (has_any 0 ks) (rows_at people_place db)))) c.as_slice.ensures (c.rows_named.ensures.exact clean has))
 
 pub returns-in-All-clause-exact : goal.returns-in-All-clause-exact
