@@ -3,7 +3,7 @@
 
     tests/healthy.py PROGRAM
 
-No contract can say that want of memory (33), a fault of the device (34) or a register that is broken (35) had a cause.
+No contract can say that out of memory (33), a fault of the device (34) or a register that is broken (35) had a cause.
 So each case is played to a register in a new file that does not fail, with ample memory, and has to get the bytes that
 it gets over memory; none of these three is among them, and the audit of each file finds nothing.
 

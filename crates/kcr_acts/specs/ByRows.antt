@@ -144,6 +144,6 @@ pub record IsRefused (view : View) (full : Bool) (act : Act) (refusal : Refusal)
 abbrev pub HasChanges : View → Bool → Act → List Change → Type 0
 HasChanges view full act changes = (refusal_by view full act ≡ None) × (changes ≡ changes_by view act)
 
--- the act has this refusal, want of memory aside
+-- the act has this refusal, out of memory aside
 abbrev pub HasRefusal : View → Bool → Act → Refusal → Type 0
 HasRefusal view full act refusal = refusal ≢ Memory → refusal_by view full act ≡ Some refusal

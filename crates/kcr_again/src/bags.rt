@@ -75,7 +75,7 @@ fn cutting(ceremony: CeremonyNumber, serial: Serial, values: &[u8]) -> Option<Ac
     })
 }
 
-/// The act on a bag in a ceremony with this path and these values. The error is want of memory.
+/// The act on a bag in a ceremony with this path and these values. The error is out of memory.
 #[tactic(auto, unfolding(crate::specs::Told::of_bag))]
 pub(crate) fn on_bag(
     alloc: Global,

@@ -169,7 +169,7 @@ fn on_thing(
     }
 }
 
-/// The act on a ceremony, or on a thing in it, with this path and these values. The error is want of memory.
+/// The act on a ceremony, or on a thing in it, with this path and these values. The error is out of memory.
 #[tactic(auto, unfolding(crate::specs::Told::on_ceremony))]
 pub(crate) fn on_ceremony(
     alloc: Global,

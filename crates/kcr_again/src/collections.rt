@@ -97,7 +97,7 @@ fn plan(alloc: Global, values: &[u8]) -> Result<Option<Act>, AllocError>
     }))
 }
 
-/// The act that a list of this name begins with these values. The error is want of memory.
+/// The act that a list of this name begins with these values. The error is out of memory.
 #[tactic(auto, unfolding(crate::specs::Told::of_collection))]
 pub(crate) fn on_collection(
     alloc: Global,

@@ -44,7 +44,7 @@ fn each_item(alloc: Global, codes: &[&[u8]]) -> Result<Option<Vec<ItemCode>>, Al
     Ok(Some(list))
 }
 
-/// The people with commas between them. The error is want of memory.
+/// The people with commas between them. The error is out of memory.
 #[tactic(auto, unfolding(crate::specs::Told::people_of))]
 pub(crate) fn read_people(alloc: Global, text: &[u8]) -> Result<Option<People>, AllocError>
     ensures { IfOk result (λ people. people ≡ Told.people_of text.now) }
@@ -56,7 +56,7 @@ pub(crate) fn read_people(alloc: Global, text: &[u8]) -> Result<Option<People>, 
     Ok(people_of(list))
 }
 
-/// The items with commas between them. The error is want of memory.
+/// The items with commas between them. The error is out of memory.
 #[tactic(auto, unfolding(crate::specs::Told::items_of))]
 pub(crate) fn read_items(alloc: Global, text: &[u8]) -> Result<Option<Items>, AllocError>
     ensures { IfOk result (λ items. items ≡ Told.items_of text.now) }

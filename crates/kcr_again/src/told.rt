@@ -56,7 +56,7 @@ fn act_told(alloc: Global, text: &[u8]) -> Result<Option<Act>, AllocError>
     }
 }
 
-/// The act whose text this is, or None where it is the text of none. The error is want of memory.
+/// The act whose text this is, or None where it is the text of none. The error is out of memory.
 pub fn read_act(alloc: Global, text: &[u8]) -> Result<Option<Act>, AllocError>
     ensures found { IfOk result (λ found. IfSome found (λ act. command_text act ≡ text.now)) }
     ensures only { IfOk result (λ found. (act : Act) → IsAct act → command_text act ≡ text.now → found ≡ Some act) }

@@ -7,7 +7,7 @@ use kcr_base::Text;
 use std::alloc::{AllocError, Global};
 use std::str;
 
-/// The script with this text, where it is UTF-8. The error is want of memory.
+/// The script with this text, where it is UTF-8. The error is out of memory.
 pub(crate) fn read_script(alloc: Global, text: &[u8]) -> Result<Option<Text>, AllocError>
     ensures { IfOk result (λ script. script ≡ Told.script_of text.now) }
 {

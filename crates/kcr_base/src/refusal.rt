@@ -343,7 +343,7 @@ impl Part {
 }
 
 impl Thing {
-    /// Its text, as `person AA`, `ceremony 61`, `step 3`, `bag BB51184287`, `box 3` or `item HSM4`. The error is want
+    /// Its text, as `person AA`, `ceremony 61`, `step 3`, `bag BB51184287`, `box 3` or `item HSM4`. The error is out
     /// of memory.
     pub fn text(self, alloc: Global) -> Result<String, AllocError>
         ensures { IfOk result (λ text. string_bytes text ≡ thing_text self) }

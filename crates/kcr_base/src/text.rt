@@ -28,7 +28,7 @@ impl Text {
         Text { text }
     }
 
-    /// A copy of this text. The error is want of memory.
+    /// A copy of this text. The error is out of memory.
     pub fn copy_of(alloc: Global, text: &str) -> Result<Text, AllocError>
         ensures { IfOk result (λ copy. copy ≡ text.now) }
     {

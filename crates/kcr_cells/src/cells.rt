@@ -1,6 +1,6 @@
 //! Values of the register's own kinds in a row: read from a column, counted from 0, and made into a parameter of a
 //! statement. Each reader's error is `Disk` where the column has no such value; those that take an allocator answer
-//! `Memory` for want of memory.
+//! `Memory` when out of memory.
 
 ghost use Rattle.std.specs.Prelude.{◌≡◌, ◌≢◌, ◌+◌, ◌<◌, List, pos, IfOk, IfErr, OnOk, OnErr};
 ghost use Rattle.sqlite.specs.declared.types.Value.TheVariants.{Null, Int, Text as Chars};

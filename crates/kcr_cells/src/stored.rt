@@ -17,7 +17,7 @@ pub trait Stored: Drop {
     /// What is known of a value that was read, beside its row.
     ghost is_read: { Self → Type 0 };
 
-    /// The value of a row; the error is `Disk` where the row is no value's, and `Memory` for want of memory.
+    /// The value of a row; the error is `Disk` where the row is no value's, and `Memory` when out of memory.
     fn decode(alloc: Global, row: &Row) -> Result<Self, Refusal>
         ensures row { IfOk result (λ x. row.now ≡ row_of x) }
         ensures read { IfOk result is_read }

@@ -293,7 +293,7 @@ fn cut_refusal(scene: &Scene, bags: &[Bag], serial: Serial) -> Option<Refusal>
 
 /// A bag on the table cut: it is spent, and its items are loose at the facility. Refused: 12 without the ceremony or the
 /// bag, 20, 22, 27 as an item added, 29 where the bag is not on the facility's table, 30 without a CA in the room, and 33
-/// for want of memory.
+/// when out of memory.
 pub fn cut(
     alloc: Global,
     scene: &Scene,
@@ -356,7 +356,7 @@ fn seal_refusal(
 
 /// Loose items of the facility sealed into a bag with a new serial, on its table. Refused: 12 without the ceremony or an
 /// item (the first that was never added), 13 where the serial was sealed before, 20, 22, 27 as an item added, 29 where an
-/// item is not loose at the facility, 30 without a CA in the room, and 33 for want of memory.
+/// item is not loose at the facility, 30 without a CA in the room, and 33 when out of memory.
 pub fn seal(
     alloc: Global,
     scene: &Scene,

@@ -15,7 +15,7 @@ use Rattle.kcr_desk.specs.declared.reply.Kind.TheVariants.{Json}
 use Rattle.kcr_desk.specs.Answers.{Standing, allowed, told_text, told_refusal, told_reply, TellsOrMemory, Performs, Inquires, IsRefused}
 use Rattle.kcr_desk.specs.Texts.{Told}
 
--- a refusal is told, or want of memory in the place of one that carries something
+-- a refusal is told, or out of memory in the place of one that carries something
 abbrev pub TellsRefusal : List ℕ → Refusal → Told → Type 0
 TellsRefusal target refusal told =
     (told ≡ told_refusal target refusal) ⊎ (IsTrue (carries refusal) × (told ≡ told_refusal target Refusals.Memory))
@@ -87,7 +87,7 @@ is_memory : (r : Refusal) → (r ≡ Refusals.Memory) ⊎ (r ≢ Refusals.Memory
 is_memory Refusals.Memory = inl refl
 is_memory r = inr (λ e. cc)
 
--- what was read is the request, or want of memory
+-- what was read is the request, or out of memory
 module _ {Request : Type 0} (before after : Standing) (target : List ℕ) (told : Told) (Takes : Request → Type 0) where
   pub refused : (expected : Result Request Refusal) (r : Refusal) → (r ≢ Refusals.Memory → expected ≡ Err r) → TellsRefusal target r told
       → after ≡ before
@@ -116,7 +116,7 @@ reply_or_memory target told (Err r) (inl e) = inl e
 reply_or_memory target told (Err r) (inr c) =
     inr (c.1, (λ e. carries_no_disk r c.0 (same_error r Refusals.Disk e)), (λ e. carries_no_broken r c.0 (same_error r Refusals.Broken e)))
 
--- a refusal is told, or want of memory in its place
+-- a refusal is told, or out of memory in its place
 pub refused_or_memory : {Value : Type 0} (told_by : Result Value Refusal → Told) (target : List ℕ) (told : Told) (r : Refusal) → told_by (Err r) ≡ told_refusal target r → TellsRefusal target r told
     → TellsOrMemory told_by target (Err r) told
 refused_or_memory told_by target told r as_refusal (inl e) = inl (e ∙ sym as_refusal)

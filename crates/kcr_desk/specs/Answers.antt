@@ -214,7 +214,7 @@ abbrev pub outcome_of : Result ⊤ PrintFault → List ℕ → Result (List ℕ)
 outcome_of (Ok done) text = Ok text
 outcome_of (Err fault) text = Err (refusal_of fault)
 
--- a result is told, or want of memory in the place of one that is no fault of the device and not of a broken register
+-- a result is told, or out of memory in the place of one that is no fault of the device and not of a broken register
 abbrev pub TellsOrMemory : {Value : Type 0} → (Result Value Refusal → Told) → List ℕ → Result Value Refusal → Told → Type 0
 TellsOrMemory {Value} told_by target result told =
     (told ≡ told_by result) ⊎ ((told ≡ told_refusal target Refusals.Memory) × (result ≢ Err Refusals.Disk) × (result ≢ Err Refusals.Broken))

@@ -63,7 +63,7 @@ fn allowed(paths: &Paths, target: &[u8], refusal: &Refusal) -> Option<Allow>
     }
 }
 
-/// Want of memory, which takes none.
+/// Out of memory, which takes none.
 fn memory_reply() -> Response
     ensures { (target : List ℕ) → told result ≡ told_refusal target Refusals.Memory }
 {
@@ -76,7 +76,7 @@ fn memory_reply() -> Response
     }
 }
 
-/// A refusal of a message. Where it carries something, want of memory may be told in its place.
+/// A refusal of a message. Where it carries something, out of memory may be told in its place.
 fn refused_reply(alloc: Global, paths: &Paths, target: &[u8], refusal: &Refusal) -> Response
     ensures { (told result ≡ told_refusal target.now refusal.now) ⊎ (IsTrue (carries refusal.now) × (told result ≡ told_refusal target.now Refusals.Memory)) }
 {

@@ -42,14 +42,14 @@ pub fn read_item(text: &[u8]) -> Option<ItemCode>
     ItemCode::read(text)
 }
 
-/// The name that a text is, of 1 to 120 bytes. The error is want of memory.
+/// The name that a text is, of 1 to 120 bytes. The error is out of memory.
 pub fn read_name(alloc: Global, text: &[u8]) -> Result<Option<Name>, AllocError>
     ensures { IfOk result (λ name. name ≡ name_of text.now) }
 {
     Name::read(alloc, text)
 }
 
-/// The remark that a text is, of 1 to 1,000 bytes. The error is want of memory.
+/// The remark that a text is, of 1 to 1,000 bytes. The error is out of memory.
 pub fn read_remark(alloc: Global, text: &[u8]) -> Result<Option<Remark>, AllocError>
     ensures { IfOk result (λ remark. remark ≡ remark_of text.now) }
 {

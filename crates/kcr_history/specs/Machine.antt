@@ -105,7 +105,7 @@ pub record IsRepeat (A : History) (x : Command) (verdict : Verdict) (kept : Entr
   pub changes : verdict.changes.items ≡ []
   pub reply : verdict.reply.text ≡ answer_text kept.answer
 
--- the result of a decision is a step of the machine; want of memory may be answered in its place
+-- the result of a decision is a step of the machine; out of memory may be answered in its place
 abbrev pub IsDecision : History → Command → Result Verdict Refusal → Type 0
 IsDecision A x result =
     MatchResult result

@@ -307,7 +307,7 @@ fn asks_by(alloc: Global, key: &Key, act: &Act) -> Result<Asks, AllocError>
 /// The rows that the decision of this command reads: those under the keys, of the people, of the place or of the
 /// ceremony that it names. All rows are asked for only of tables that do not grow with each command: trainings and
 /// withdrawals where anybody in a room may be the one who is needed, appointments and marks, boxes and safes; of the
-/// ceremonies to open one, and of the bags to close one. The error is want of memory.
+/// ceremonies to open one, and of the bags to close one. The error is out of memory.
 pub fn asks(alloc: Global, command: &Command) -> Result<Asks, AllocError>
     ensures { IfOk result (λ asks. asks ≡ Asked.asks_of command.now) }
 {

@@ -27,7 +27,7 @@ impl InitialsList {
         InitialsList { list }
     }
 
-    /// A copy of these people, in their order. The error is want of memory.
+    /// A copy of these people, in their order. The error is out of memory.
     pub fn copy_of(alloc: Global, people: &[Initials]) -> Result<InitialsList, AllocError>
         ensures { IfOk result (λ list. list ≡ people.now) }
     {
@@ -83,7 +83,7 @@ impl ItemList {
         ItemList { list }
     }
 
-    /// A copy of these items, in their order. The error is want of memory.
+    /// A copy of these items, in their order. The error is out of memory.
     pub fn copy_of(alloc: Global, items: &[ItemCode]) -> Result<ItemList, AllocError>
         ensures { IfOk result (λ list. list ≡ items.now) }
     {

@@ -10,7 +10,7 @@ use kcr_base::{Positions, Refusal, Text};
 use std::alloc::{AllocError, Global};
 
 /// The JSON text of a refusal that carries nothing, as `{"number":11,"refusal":"key"}`, or None where the refusal
-/// carries something. It takes no memory, so want of memory itself (33), a fault of the device (34) and a broken
+/// carries something. It takes no memory, so out of memory itself (33), a fault of the device (34) and a broken
 /// register (35) can always be answered.
 pub fn fixed_text(refusal: &Refusal) -> Option<&'static str>
     ensures { MatchOption result (IsTrue (Refusals.carries refusal.now)) (λ text. text.now ≡ Refusals.refusal_text refusal.now) }
@@ -55,7 +55,7 @@ pub fn fixed_text(refusal: &Refusal) -> Option<&'static str>
 }
 
 /// The JSON text of a refusal: its number, its word and what it carries, members in byte order, as
-/// `{"mark":"2025-02-13T20:10:00Z","number":22,"refusal":"late"}`. The error is want of memory.
+/// `{"mark":"2025-02-13T20:10:00Z","number":22,"refusal":"late"}`. The error is out of memory.
 pub fn refusal_text(alloc: Global, refusal: &Refusal) -> Result<Text, AllocError>
     ensures { IfOk result (λ text. text ≡ Refusals.refusal_text refusal.now) }
 {

@@ -14,7 +14,7 @@ use std::alloc::{AllocError, Global};
 
 /// The JSON text of the reply to an accepted command: its number, then, where there are such, an exception's number,
 /// who sits in each seat, and the step, members in byte order, as
-/// `{"accepted":31,"exception":1,"seating":["BB","AA"],"step":4}`. The error is want of memory.
+/// `{"accepted":31,"exception":1,"seating":["BB","AA"],"step":4}`. The error is out of memory.
 pub fn answer_text(alloc: Global, answer: &Answer) -> Result<Text, AllocError>
     ensures { IfOk result (λ text. text ≡ Texts.answer_text answer.now) }
 {

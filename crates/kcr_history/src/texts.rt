@@ -335,7 +335,7 @@ fn text_of(alloc: Global, act: &Act) -> Result<String, AllocError>
 
 /// The text by which two commands under one key are compared: the path of the command's request, then the value of
 /// each member of its body but the key, in their order, each on a line of its own. Two commands are the same where
-/// their texts are equal. The error is want of memory.
+/// their texts are equal. The error is out of memory.
 pub fn command_text(alloc: Global, act: &Act) -> Result<Text, AllocError>
     ensures { IfOk result (λ text. text ≡ Texts.command_text act.now) }
 {

@@ -106,7 +106,7 @@ fn bring_second<S: Alter>(alloc: Global, tx: &mut Transaction<'_, S>) -> Result<
 
 /// Brings the tables of a register of an older version to this one: the same history, with the stays of its sheet and
 /// no withdrawals. All other rows stay. It is false where the number of its version is another, and then the caller has
-/// to roll back, as after an error, which is `Memory` for want of memory and else `Disk`: the device failed, or a
+/// to roll back, as after an error, which is `Memory` when out of memory and else `Disk`: the device failed, or a
 /// statement was refused, as over tables that are not those of that version. What was committed before stays.
 pub fn bring<S: Alter>(
     alloc: Global,

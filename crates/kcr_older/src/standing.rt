@@ -129,7 +129,7 @@ fn model(alloc: Global) -> Result<Connection<MemStore>, Refusal>
 
 /// What a database with this schema is: the first standing that says it. It is told by names alone, so a database that
 /// has the names of a register's tables and columns, and in their order, passes for one. Of a register it is true.
-/// The error is want of memory, or what a store in memory tells as a fault.
+/// The error is out of memory, or what a store in memory tells as a fault.
 pub fn standing_of(alloc: Global, schema: &Schema) -> Result<Standing, Refusal>
     ensures stands { IfOk result (StandsAs schema.now) }
     ensures cause { IfErr result IsFault }

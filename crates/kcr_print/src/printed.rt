@@ -13,7 +13,7 @@ pub(crate) trait Printed: Drop {
     /// Its lines, each with the line feed that ends it.
     ghost lines: { Self → List ℕ };
 
-    /// Adds its lines. The refusal is `Memory` for want of memory, and `Disk` where the row is one that no register
+    /// Adds its lines. The refusal is `Memory` when out of memory, and `Disk` where the row is one that no register
     /// stores; what it adds then is of no use.
     fn print(&self, alloc: Global, out: &mut Vec<u8>) -> Result<(), Refusal>
         ensures lines { OnOk result (out.new.items ≡ out.old.items ++ lines self.now) }

@@ -23,7 +23,7 @@ pub trait Reading: Drop {
     ghost to_come: { Self → machine.Tables → List Self.Row };
 
     /// The next row, or none past the last, where the store that serves holds these tables. Nothing is changed in the
-    /// database. The error is `Memory` for want of memory, and else `Disk`: the device failed, or a row is one that no
+    /// database. The error is `Memory` when out of memory, and else `Disk`: the device failed, or a row is one that no
     /// register stores.
     fn step<S: Alter>(
         &mut self,

@@ -28,7 +28,7 @@ pub(crate) fn past_cell(last: Option<u32>) -> ValueRef<'static>
 }
 
 /// The first of the rows that the text chooses, or none; the text shows one row at most. Nothing is changed. The error
-/// is `Memory` for want of memory, and else `Disk`: the device failed, or the row is one that no register stores.
+/// is `Memory` when out of memory, and else `Disk`: the device failed, or the row is one that no register stores.
 pub(crate) fn first_row<S: Alter, T: Listed>(
     alloc: Global,
     tx: &mut Transaction<'_, S>,

@@ -225,7 +225,7 @@ pub fn seats_of(row: Option<&StepRow>) -> &[Seat]
     }
 }
 
-/// Adds an exception's row, with the step that it passes. The error is want of memory; the changes are then of no use.
+/// Adds an exception's row, with the step that it passes. The error is out of memory; the changes are then of no use.
 pub fn add_exception(
     changes: &mut Vec<Change>,
     view: &View,

@@ -3,7 +3,7 @@ use Rattle.std.specs.Prelude.{⊤, ℕ}
 use Rattle.kcr_base.specs.declared.refusal.Refusal.{Refusal}
 use Rattle.kcr_base.specs.declared.refusal.Refusal.TheVariants.{Memory, Script}
 
--- it is want of memory, or names a row of which this holds
+-- it is out of memory, or names a row of which this holds
 abbrev pub IfRow : (ℕ → Type 0) → Refusal → Type 0
 IfRow P Memory = ⊤
 IfRow P (Script row) = P row

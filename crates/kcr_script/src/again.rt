@@ -5,7 +5,7 @@ use crate::seats::{Seats, read_seats, write_seats};
 use std::alloc::{AllocError, Global};
 
 /// Writes the seats and reads what was written: the same seats, for every list of 1 to 16 seats whose numbers are 1 to
-/// 7. The error is want of memory.
+/// 7. The error is out of memory.
 pub fn read_again(alloc: Global, seats: &Seats) -> Result<Option<Seats>, AllocError>
     ensures { IfOk result (λ read. read ≡ Some seats.now) }
 {

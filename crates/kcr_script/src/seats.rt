@@ -113,7 +113,7 @@ fn push_seats(seats: &mut Vec<Seat>, seat: Seat, count: u8) -> Result<(), AllocE
 
 /// The list of seats that the text stands for, or None where it stands for none: an empty text, an item that is no
 /// seat, a star with a number other than 2 to 7 (`CO*1` is not in the form), a star behind a seat with a number, or
-/// more than 16 seats. The error is want of memory.
+/// more than 16 seats. The error is out of memory.
 pub fn read_seats(alloc: Global, text: &[u8]) -> Result<Option<Seats>, AllocError>
     ensures found { IfOk result (λ o. IfSome o (StandsFor text.now)) }
     ensures only { IfOk result (λ o. (seats : List Seat) → StandsFor text.now seats → o ≡ Some seats) }
@@ -211,7 +211,7 @@ fn push_run(text: &mut String, seat: Seat, count: usize) -> Result<(), AllocErro
 }
 
 /// The one written text of the seats: each longest run of equal seats without a number in groups of seven, then one
-/// group of the rest, a group of one without star. Nine `CO` are `CO*7;CO*2`, eight are `CO*7;CO`. The error is want of
+/// group of the rest, a group of one without star. Nine `CO` are `CO*7;CO*2`, eight are `CO*7;CO`. The error is out of
 /// memory.
 pub fn write_seats(alloc: Global, seats: &Seats) -> Result<String, AllocError>
     ensures text { IfOk result (λ t. string_bytes t ≡ written seats.now) }

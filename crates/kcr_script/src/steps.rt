@@ -80,7 +80,7 @@ fn read_rows(alloc: Global, rows: &[ByteRecord]) -> Result<Script, Refusal>
 /// The script that the text is. Row 1 has the three fields `step`, `activity`, `seats`; row k + 1 has three fields: the
 /// number k in decimal without sign or leading zeros, an activity, a seat text; there are 1 to 400 steps. Else refusal 19
 /// with the number of the first row that breaks a rule: 1 where row 1 is missing, 2 where there is no step, 402 where
-/// there are more than 400; or 33 for want of memory.
+/// there are more than 400; or 33 when out of memory.
 pub fn read_script(alloc: Global, text: &[u8]) -> Result<Script, Refusal>
     ensures found { IfOk result (IsScript text.now) }
     ensures fault { IfErr result (IfRow (BreaksScript text.now)) }

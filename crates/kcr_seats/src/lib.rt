@@ -55,7 +55,7 @@ pub enum Outcome {
 
 /// Seats people, or says which seats too few people fit. It calls `fits` at most seats times people times.
 ///
-/// The only error is want of memory. A step is a call of `fits` or a turn of a loop; `steps` counts both, also where memory runs out.
+/// The only error is out of memory. A step is a call of `fits` or a turn of a loop; `steps` counts both, also where memory runs out.
 pub fn seat<F: Fits, L: Ledger>(
     alloc: Global,
     fits: &F,

@@ -65,7 +65,7 @@ module _ (A : History) (x : Command) (v : Verdict) where
       let held = next_holds answer new d h in
       record { schema = held.schema; tables = record { register = next_register answer d s.tables.register; kept = held.tables } }
 
--- want of memory and a fault of the device leave the history
+-- out of memory and a fault of the device leave the history
 pub fault_steps : (A : History) (x : Command) (e : Refusal) → IsFault e → Steps A x (Err e) A
 fault_steps A x e (inl memory) = (refl, λ no_memory no_disk. absurd (no_memory memory))
 fault_steps A x e (inr disk) = (refl, λ no_memory no_disk. absurd (no_disk disk))

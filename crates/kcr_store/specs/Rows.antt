@@ -70,7 +70,7 @@ pub record IsRowOf (A : History) (ceremony : ℕ) (row : CeremonyRow) : Type 0 w
   pub planned : IsTrue (is_ceremony A ceremony)
   pub row_is : row ≡ ceremony_row A ceremony
 
--- why there is no row: want of memory or a fault of the device, or the ceremony was never planned
+-- why there is no row: out of memory or a fault of the device, or the ceremony was never planned
 abbrev pub HasNoRow : History → ℕ → Refusal → Type 0
 HasNoRow A ceremony refusal = IsFault refusal ⊎ IsNotPlanned A ceremony refusal
 

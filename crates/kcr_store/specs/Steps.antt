@@ -14,7 +14,7 @@ use Rattle.kcr_history.specs.declared.questions.Question.{Question}
 use Rattle.kcr_history.specs.declared.questions.Shown.{Shown}
 
 -- The register went from A to A' by the command, and gave this result: the machine's answer as its text, or the
--- machine's refusal. Want of memory and a fault of the device say nothing of the command, and leave the list.
+-- machine's refusal. Out of memory and a fault of the device say nothing of the command, and leave the list.
 abbrev pub Steps : History → Command → Result Reply Refusal → History → Type 0
 Steps A command (Ok reply) A' = (a : Answer) × machine A command (Accepts a) A' × (reply.text ≡ answer_text a)
 Steps A command (Err refusal) A' = (A' ≡ A) × (refusal ≢ Memory → refusal ≢ Disk → machine A command (Refuses refusal) A')
@@ -28,12 +28,12 @@ with_answer A command (Some answer) = with_command A command answer
 abbrev pub IsNext : History → Command → History → Type 0
 IsNext A command A' = (A' ≡ A) ⊎ ((a : Answer) × machine A command (Accepts a) A')
 
--- what a question may be refused with, whatever the history: want of memory, a fault of the device, or that what it asks
+-- what a question may be refused with, whatever the history: out of memory, a fault of the device, or that what it asks
 -- for is unknown
 abbrev pub MayRefuse : Question → Refusal → Type 0
 MayRefuse question refusal = IsFault refusal ⊎ NamesAsked question refusal
 
--- why a question is refused: want of memory or a fault of the device, or what it asks for is not there
+-- why a question is refused: out of memory or a fault of the device, or what it asks for is not there
 abbrev pub IsRefused : History → Question → Refusal → Type 0
 IsRefused A question refusal = IsFault refusal ⊎ IsMissing A question refusal
 

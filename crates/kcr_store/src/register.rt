@@ -202,7 +202,7 @@ impl<S: Alter> Register<S> {
     ghost use Rattle.kcr_store.specs.Register.{IsKept, LeavesEither, Leaves};
 
     /// Decides a command as one transaction. Where the machine accepts it, its reply comes only once it is durable.
-    /// A repeat gets the reply that was kept, and changes nothing. A refusal changes nothing; want of memory (33)
+    /// A repeat gets the reply that was kept, and changes nothing. A refusal changes nothing; out of memory (33)
     /// changes nothing either, wherever it comes. A fault of the device (34) breaks the register: a crash may then
     /// leave the tables before the command or those after it, and every later call answers 35.
     pub fn apply(&mut self, command: &Command) -> Result<Reply, Refusal>
@@ -250,7 +250,7 @@ impl<S: Alter> Register<S> {
     }
 
     /// Answers a question, and changes nothing. A bag that was never sealed and the room of a ceremony that was never
-    /// planned are refused as unknown (12). Beside that and want of memory (33) it meets only a fault of the device
+    /// planned are refused as unknown (12). Beside that and out of memory (33) it meets only a fault of the device
     /// (34), which breaks the register; every later call then answers 35.
     pub fn look(&mut self, question: &Question) -> Result<Shown, Refusal>
         ensures broken { IsSome self.old.torn → (result ≡ Err Refusal.Broken) × (self.new ≡ self.old) }
@@ -278,7 +278,7 @@ impl<S: Alter> Register<S> {
     }
 
     /// All rows of one table, in the order of their keys; its memory grows with their number. It changes nothing. Beside
-    /// want of memory (33) it meets only a fault of the device or a row that no register stores (34), which breaks the
+    /// out of memory (33) it meets only a fault of the device or a row that no register stores (34), which breaks the
     /// register; a broken one answers 35.
     pub fn table_rows<R: Listed>(&mut self) -> Result<Vec<R>, Refusal>
         ensures broken { IsSome self.old.torn → (result ≡ Err Refusal.Broken) × (self.new ≡ self.old) }
@@ -313,7 +313,7 @@ impl<S: Alter> Register<S> {
     }
 
     /// What an audit finds in all its rows, whose number its memory grows with: a finding of the first kind that has one,
-    /// or None. In the tables of a history nothing is found. It changes nothing. Beside want of memory (33) it meets only
+    /// or None. In the tables of a history nothing is found. It changes nothing. Beside out of memory (33) it meets only
     /// a fault of the device or a row that no register stores (34), which breaks the register; a broken one answers 35.
     pub fn audit(&mut self) -> Result<Option<Finding>, Refusal>
         ensures broken { IsSome self.old.torn → (result ≡ Err Refusal.Broken) × (self.new ≡ self.old) }

@@ -43,7 +43,7 @@ impl<'a, S: Alter, R: Reading> Rows<'a, S, R> {
     }
 
     /// The next row, or None past the last: the rows so far begin the answer, and at None they are all of it. Beside
-    /// want of memory (33) it meets only a fault of the device (34); a broken register answers 35. No refusal changes
+    /// out of memory (33) it meets only a fault of the device (34); a broken register answers 35. No refusal changes
     /// the register, and after one it is not known which row comes next. A 34 does not break the register by itself:
     /// the caller drops the rows, and calls `mark_broken`.
     pub fn next(&mut self) -> Result<Option<R::Row>, Refusal>
@@ -168,7 +168,7 @@ impl<S: Alter> Register<S> {
         Ok(Rows::new(self, LooseReading::start()))
     }
 
-    /// The row of a ceremony. One that was never planned is refused as unknown (12). Beside that and want of memory
+    /// The row of a ceremony. One that was never planned is refused as unknown (12). Beside that and out of memory
     /// (33) it meets only a fault of the device (34), after which the caller calls `mark_broken`; a broken register
     /// answers 35. No refusal changes the register.
     pub fn ceremony_row(&mut self, ceremony: CeremonyNumber) -> Result<CeremonyRow, Refusal>

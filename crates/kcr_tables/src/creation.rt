@@ -88,7 +88,7 @@ fn make_rows<S: Alter>(tx: &mut Transaction<'_, S>) -> Result<(), Refusal>
 }
 
 /// Makes the tables of a new register in an empty database: the four safes, which are shut, one row with the
-/// number of the schema, and no others. The error is `Memory` for want of memory, and else `Disk`. It leaves a part of the tables in the
+/// number of the schema, and no others. The error is `Memory` when out of memory, and else `Disk`. It leaves a part of the tables in the
 /// transaction, which the caller rolls back; what was committed before stays.
 pub fn make<S: Alter>(tx: &mut Transaction<'_, S>) -> Result<(), Refusal>
     ensures same_reference { tx.new.conn.ghost_name ≡ tx.old.conn.ghost_name }

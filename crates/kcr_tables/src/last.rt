@@ -20,7 +20,7 @@ use sqlite::{Alter, Transaction};
 use std::alloc::Global;
 
 /// The row of the accepted command with the greatest number, alone, or none where there is no row.
-/// Nothing is changed. The error is `Memory` for want of memory, and else `Disk`: the device failed, or the row that
+/// Nothing is changed. The error is `Memory` when out of memory, and else `Disk`: the device failed, or the row that
 /// stands last is one that no register stores.
 pub fn last_key_row<S: Alter>(
     alloc: Global,

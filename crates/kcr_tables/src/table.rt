@@ -141,7 +141,7 @@ pub trait PutWords: Listed {
         ensures frame { Writes (state S.Store tx.old.conn.now) (state S.Store tx.new.conn.now) result };
 }
 
-/// All rows of a table, in the order of their keys. Nothing is changed. The error is `Memory` for want of memory, and
+/// All rows of a table, in the order of their keys. Nothing is changed. The error is `Memory` when out of memory, and
 /// else `Disk`: the device failed, or a row is one that no register stores.
 pub fn all_rows<S: Alter, T: Listed>(
     alloc: Global,
@@ -172,7 +172,7 @@ pub fn all_rows<S: Alter, T: Listed>(
     rows_of(alloc, tx, T::all_text(), &[])
 }
 
-/// The rows with this value, in the order of their keys. Nothing is changed. The error is `Memory` for want of memory,
+/// The rows with this value, in the order of their keys. Nothing is changed. The error is `Memory` when out of memory,
 /// and else `Disk`: the device failed, or a row with this value is one that no register stores.
 pub fn rows_under<S: Alter, K: AsCell, T: Finds<K>>(
     alloc: Global,

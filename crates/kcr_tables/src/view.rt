@@ -205,7 +205,7 @@ fn rows_asked<S: Alter>(
 
 /// The rows asked for, of each table: of the accepted commands always the row of the key, if there is one, and the row
 /// with the greatest number. Of a table that is not asked for nothing is read. Nothing is changed. The error is `Memory`
-/// for want of memory, and else `Disk`: the device failed, or a row asked for is one that no register stores.
+/// when out of memory, and else `Disk`: the device failed, or a row asked for is one that no register stores.
 pub fn view_of<S: Alter>(
     alloc: Global,
     tx: &mut Transaction<'_, S>,

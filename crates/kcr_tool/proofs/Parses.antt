@@ -42,7 +42,7 @@ not_among : (k : ErrorKind) (ks : Kinds) → IsAmong k ks → ks ≡ [] → ⊥
 not_among k [] h e = h
 not_among k (x ∷ xs) h e = cc
 
--- the parse failed, and not for want of memory
+-- the parse failed, and not when out of memory
 pub refused_in : (app : App) (words : List Text) (k : ErrorKind) → app ≡ tool_app → (is_simple_and_free app ≡ true → (k ≡ OutOfMemory) ⊎ IsAmong k (fault_of app words))
     → (k ≡ OutOfMemory → ⊥) → faults_of words ≡ [] → ⊥
 refused_in app words k e h not_memory none =

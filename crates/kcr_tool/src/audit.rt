@@ -23,7 +23,7 @@ use sqlite::Alter;
 use std::alloc::{AllocError, Global};
 use std::io::Write;
 
-/// The line of a finding. The error is want of memory.
+/// The line of a finding. The error is out of memory.
 fn line_of(alloc: Global, finding: &Finding) -> Result<String, AllocError>
     ensures { IfOk result (λ line. string_bytes line ≡ finding_line finding.now) }
 {
@@ -75,7 +75,7 @@ fn tell_found<W: Write>(
 }
 
 /// Audits all rows of a register: a line with the first finding of the first kind that has one, or that there is
-/// none, and the exit status, 1 after a finding. Want of memory is refused (33), as is a fault of the device (34) and a
+/// none, and the exit status, 1 after a finding. Out of memory is refused (33), as is a fault of the device (34) and a
 /// broken register (35), and nothing is written then.
 #[tactic(auto, using(crate::proofs::Audits::status_told, crate::proofs::Audits::nothing_told))]
 pub fn audit<S: Alter, W: Write>(

@@ -79,7 +79,7 @@ impl From<Refusal> for Fault {
 }
 
 /// The line of a refusal: its number, its word, and the thing that it names, if it names one, as
-/// `refused: 12 unknown ceremony 61`. The error is want of memory.
+/// `refused: 12 unknown ceremony 61`. The error is out of memory.
 fn refused(alloc: Global, refusal: &Refusal) -> Result<String, AllocError>
     ensures { IfOk result (λ line. string_bytes line ≡ refusal_line refusal.now) }
 {

@@ -5,7 +5,7 @@ ghost use Rattle.kcr_tool.specs.Lines.{numbered as numbered_text};
 use itoa::Buffer;
 use std::alloc::{AllocError, Global};
 
-/// A text with one before it and one behind it. The error is want of memory.
+/// A text with one before it and one behind it. The error is out of memory.
 pub fn around(alloc: Global, before: &str, text: &str, after: &str) -> Result<String, AllocError>
     ensures { IfOk result (λ whole. string_bytes whole ≡ before.now ++ (text.now ++ after.now)) }
 {
@@ -15,7 +15,7 @@ pub fn around(alloc: Global, before: &str, text: &str, after: &str) -> Result<St
     Ok(whole)
 }
 
-/// A number in decimal, and a text behind a space. The error is want of memory.
+/// A number in decimal, and a text behind a space. The error is out of memory.
 pub fn numbered(alloc: Global, number: u32, text: &str) -> Result<String, AllocError>
     ensures { IfOk result (λ whole. string_bytes whole ≡ numbered_text number text.now) }
 {

@@ -23,7 +23,7 @@ use sqlite::{Connection, Unknown};
 use std::alloc::{AllocError, Global};
 use std::io::Write;
 
-/// The line of a difference. The error is want of memory.
+/// The line of a difference. The error is out of memory.
 fn line_of(alloc: Global, difference: &Difference) -> Result<String, AllocError>
     ensures { IfOk result (λ line. string_bytes line ≡ difference_line difference.now) }
 {
@@ -45,7 +45,7 @@ fn line_of(alloc: Global, difference: &Difference) -> Result<String, AllocError>
     }
 }
 
-/// The line of what a verification came to; `head` begins that of a good end. The error is want of memory.
+/// The line of what a verification came to; `head` begins that of a good end. The error is out of memory.
 fn line_of_verified(alloc: Global, head: &str, verified: &Verified) -> Result<String, AllocError>
     ensures { IfOk result (λ line. IsLineFor head.now verified.now (string_bytes line)) }
 {
@@ -116,7 +116,7 @@ fn rows_of_none(alloc: Global) -> Result<View, Fault>
 }
 
 /// Verifies the rows of a register: a line that says of how many commands it is the register, or the first thing that
-/// differs from what its commands lead to, and the exit status, 1 where something differs. Want of memory is refused (33),
+/// differs from what its commands lead to, and the exit status, 1 where something differs. Out of memory is refused (33),
 /// which the store in memory may tell as a fault of a device (34), and nothing is written then.
 #[tactic(auto, using(crate::proofs::Verifications::status_told, crate::proofs::Verifications::nothing_told))]
 pub fn verify<W: Write>(alloc: Global, rows: View, output: &mut Counted<W>) -> Result<u8, Fault>
@@ -144,7 +144,7 @@ pub fn verify<W: Write>(alloc: Global, rows: View, output: &mut Counted<W>) -> R
 /// Makes a new register in the file at the path, where there is none or it holds nothing, and gives it the commands among
 /// these rows of a register: a line that says of how many commands both are the register, or the first thing that differs
 /// from what the commands lead to, and the exit status, 1 where something differs. The new register has then the commands
-/// before the one that differs, that one too where its reply does, and all of them where a table does. Want of memory is
+/// before the one that differs, that one too where its reply does, and all of them where a table does. Out of memory is
 /// refused (33), as is a fault of the new register's device (34); it then keeps what it was given. In all these cases, and
 /// where no new register can be made, nothing is written.
 #[tactic(auto, using(crate::proofs::Verifications::status_told))]

@@ -44,7 +44,7 @@ module _ (A : History) (entry : Entry) (h : IsRegister (entry ∷ A)) (command :
       let both = fixed A entry.command step.0 entry.answer A' (entry ∷ A) (subst (λ (x : Command). machine A x (Accepts step.0) A') same step.1) h.0 in
       (step.2 ∙ ap answer_text both.0, both.1)
 
-  -- and it is not refused, but for want of memory or by a fault of the device
+  -- and it is not refused, but when out of memory or by a fault of the device
   pub not_refused : IsEither → (refusal : Refusal) → Steps A command (Err refusal) A' → refusal ≢ Memory → refusal ≢ Disk → ⊥
   not_refused either refusal step memory disk =
       either A entry.command entry.answer refusal (entry ∷ A) A' h.0 (subst (λ (x : Command). machine A x (Refuses refusal) A') same (step.1 memory disk))

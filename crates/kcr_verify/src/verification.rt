@@ -62,7 +62,7 @@ fn empty(alloc: Global) -> Result<Register<MemStore>, Refusal>
 /// Whatever is said of where the rows come from, the fresh register is founded by its making, so all that is promised of a
 /// register holds of it with no premise about them. After `Whole` its tables are the rows. After a difference it has the
 /// commands before the one that is named, that one too where its reply differs, and all of them where a table does.
-/// Beside want of memory (33) it meets only a fault of the fresh register's device (34), which breaks that register; what
+/// Beside out of memory (33) it meets only a fault of the fresh register's device (34), which breaks that register; what
 /// was accepted before stays in it.
 pub fn rebuild<S: Alter>(
     alloc: Global,
@@ -105,7 +105,7 @@ pub fn rebuild<S: Alter>(
 ///
 /// Where it answers `Whole`, the rows are the tables of a history that the machine leads to, whoever wrote them, and the
 /// accepted commands are that history's. Its time grows with the number of rows, and its memory too: beside `rows` it holds
-/// the register in memory, and of that one table's rows. It meets only want of memory (33), which the store in memory may
+/// the register in memory, and of that one table's rows. It meets only out of memory (33), which the store in memory may
 /// tell as a fault of a device (34).
 pub fn verify(alloc: Global, rows: View) -> Result<Verified, Refusal>
     ensures told { (m : Tables) → IsListed m rows → IfOk result (λ told. (A : History) × IsTold m A told) }

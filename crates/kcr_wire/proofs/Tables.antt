@@ -38,7 +38,7 @@ pub add_all-end : (held : Held) (routes : List Route) (i : ℕ) → length route
 unfolding add_all
 add_all-end held routes i le = rw (drop_all i routes le) refl
 
--- an insert of a route that fits fails for want of memory alone
+-- an insert of a route that fits fails only when out of memory
 fitting-fails : (p : Result Scan InsertError) (route : Route) (old new : Held) (error : InsertError) → fits p old ≡ true → InsertsRead p route old new (Err error) → error ≡ OutOfMemory
 fitting-fails (Err e) route old new error fit h = absurd (true≢false (sym fit))
 fitting-fails (Ok s) route old new OutOfMemory fit h = refl

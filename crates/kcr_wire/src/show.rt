@@ -20,7 +20,7 @@ trait Json {
     /// The data that it is shown as.
     ghost json: { Self → Data };
 
-    /// It as JSON. The error is want of memory.
+    /// It as JSON. The error is out of memory.
     fn value(&self, alloc: Global) -> Result<Value, AllocError>
         ensures { IfOk result (λ v. view v ≡ json self.now) };
 }
@@ -150,7 +150,7 @@ impl Json for Shown {
     }
 }
 
-/// The answer to a question, as JSON. The error is want of memory.
+/// The answer to a question, as JSON. The error is out of memory.
 pub fn write_shown(alloc: Global, shown: &Shown) -> Result<Text, AllocError>
     ensures { IfOk result (λ text. text ≡ shown_text shown.now) }
 {
@@ -158,7 +158,7 @@ pub fn write_shown(alloc: Global, shown: &Shown) -> Result<Text, AllocError>
     Ok(Text::from_string(text))
 }
 
-/// A refusal as JSON: its number, its word and what it carries. The error is want of memory.
+/// A refusal as JSON: its number, its word and what it carries. The error is out of memory.
 pub fn write_refusal(alloc: Global, refusal: &Refusal) -> Result<Text, AllocError>
     ensures { IfOk result (λ text. text ≡ refusal_text refusal.now) }
 {

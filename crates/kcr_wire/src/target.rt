@@ -170,7 +170,7 @@ impl Model for Paths {
 }
 
 impl Paths {
-    /// The paths, or the refusal for want of memory.
+    /// The paths, or the refusal when out of memory.
     pub fn new(alloc: Global) -> Result<Paths, Refusal>
         ensures { IfErr result (λ e. e ≡ Refusal.Memory) }
     {
