@@ -1,5 +1,6 @@
 -- What the acts on whole ceremonies say, by the rows of a view: planning, opening and closing.
-use Rattle.std.specs.Prelude.{ℕ, ◌+◌, ◌==◌, Bool, true, false, not, ◌&&◌, ◌||◌, nat_lt, List, [], ◌∷◌, map, Option, Some, None, is_some}
+use Rattle.std.specs.Prelude.{ℕ, ◌+◌, ◌==◌, Bool, true, false, not, ◌&&◌, ◌||◌, nat_lt, List, [], ◌∷◌, map, Option}
+use Rattle.std.specs.Prelude.{Some, None, is_some}
 use Rattle.std.specs.List.{list_any}
 use Rattle.std.specs.Result.{result_unwrap_or}
 use Rattle.kcr_base.specs.Days.{day_of}
@@ -33,7 +34,8 @@ use Rattle.kcr_scene.specs.Scene.{ceremony_by, is_open_state, mark_by}
 
 -- another ceremony of the same facility, which is open
 abbrev pub is_open_beside : CeremonyRow → CeremonyRow → Bool
-is_open_beside row other = not (other.number == row.number) && same_facility other.facility row.facility && is_open_state other.state
+is_open_beside row other =
+    not (other.number == row.number) && same_facility other.facility row.facility && is_open_state other.state
 
 -- why the ceremony of the row is not opened
 abbrev pub open_refusal : List CeremonyRow → Bool → ℕ → CeremonyRow → Option Refusal
@@ -54,7 +56,8 @@ opening_refusal rows full ceremony at (Some row) = open_refusal rows full at row
 abbrev pub opening_changes : ℕ → ℕ → Option CeremonyRow → List Change
 opening_changes ceremony at None = []
 opening_changes ceremony at (Some row) =
-    PutCeremony (record row { state = States.Open; opened = Some at }) ∷ PutMark (record { ceremony = ceremony; at = at }) ∷ []
+    PutCeremony (record row { state = States.Open; opened = Some at })
+    ∷ PutMark (record { ceremony = ceremony; at = at }) ∷ []
 
 -- CLOSING
 
@@ -80,7 +83,8 @@ unfinished_by view ceremony at row =
     first_of
     (when (list_any (is_undone_of ceremony) view.steps.items) (Unfinished Parts.Steps)
     ∷ when (list_any (is_unended ceremony at) view.stays.items) (Unfinished Parts.Room)
-    ∷ when (is_open_by view.safes.items row.facility One || is_open_by view.safes.items row.facility Two) (Unfinished Parts.Safes)
+    ∷ when (is_open_by view.safes.items row.facility One || is_open_by view.safes.items row.facility Two)
+    (Unfinished Parts.Safes)
     ∷ when (list_any (lies_on_table row.facility) view.bags.items) (Unfinished Parts.Table)
     ∷ [])
 
@@ -117,11 +121,20 @@ plan_refusal rows full number script =
 
 -- a ceremony that is planned
 abbrev pub planned_row : ℕ → Facility → ℕ → CeremonyRow
-planned_row number facility day = record { number = number; facility = facility; day = day; state = States.Planned; opened = None; closed = None }
+planned_row number facility day =
+    record { number = number; facility = facility; day = day; state = States.Planned; opened = None; closed = None }
 
 -- a step of a ceremony, neither signed nor passed, under its number
 abbrev pub undone_row : ℕ → ℕ → Step → StepRow
-undone_row ceremony number step = record { ceremony = ceremony; step = number; activity = step.activity; seats = step.seats; state = Undone; at = None }
+undone_row ceremony number step =
+    record {
+      ceremony = ceremony;
+      step = number;
+      activity = step.activity;
+      seats = step.seats;
+      state = Undone;
+      at = None;
+    }
 
 -- the rows of some steps, counting on from a number
 abbrev pub undone_rows : ℕ → ℕ → List Step → List StepRow
@@ -130,7 +143,8 @@ undone_rows ceremony number (step ∷ steps) = undone_row ceremony number step �
 
 -- the ceremony, and its steps from 1 on
 abbrev pub planned_changes : ℕ → Facility → ℕ → List Step → List Change
-planned_changes number facility day steps = PutCeremony (planned_row number facility day) ∷ map PutStep (undone_rows number 1 steps)
+planned_changes number facility day steps =
+    PutCeremony (planned_row number facility day) ∷ map PutStep (undone_rows number 1 steps)
 
 abbrev pub plan_changes : ℕ → Facility → ℕ → List ℕ → List Change
 plan_changes number facility day script = planned_changes number facility day (result_unwrap_or (script_of script) [])

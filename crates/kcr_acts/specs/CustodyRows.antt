@@ -7,7 +7,8 @@ use Rattle.kcr_base.specs.declared.refusal.Refusal.{Refusal}
 use Rattle.kcr_custody.specs.declared.Scene.{Scene}
 use Rattle.kcr_custody.specs.declared.Spot.TheVariants.{Table, Spent}
 use Rattle.kcr_custody.specs.declared.Store.{Store}
-use Rattle.kcr_custody.specs.Custody.{spot_by, box_of, box_of_store, spot_of_store, place_of, loosened, packed, seal_refusal, take_refusal, put_refusal, cut_refusal}
+use Rattle.kcr_custody.specs.Custody.{spot_by, box_of, box_of_store, spot_of_store, place_of, loosened, packed}
+use Rattle.kcr_custody.specs.Custody.{seal_refusal, take_refusal, put_refusal, cut_refusal}
 use Rattle.kcr_history.specs.declared.views.Change.{Change}
 use Rattle.kcr_history.specs.declared.views.Change.TheVariants.{PutBag, PutItem, PutMark}
 use Rattle.kcr_history.specs.declared.views.View.{View}
@@ -28,7 +29,8 @@ has_keeper_by view ceremony at (Some place) = has_holder_in_by view place ceremo
 
 -- the place of the box in which the bag is
 abbrev pub place_to_take : View → ℕ → List ℕ → Option Place
-place_to_take view ceremony serial = place_of view.boxes.items (facility_in view ceremony) (box_of (spot_by view.bags.items serial))
+place_to_take view ceremony serial =
+    place_of view.boxes.items (facility_in view ceremony) (box_of (spot_by view.bags.items serial))
 
 -- the place of the box into which a bag is put
 abbrev pub place_to_put : View → ℕ → Store → Option Place
@@ -37,7 +39,8 @@ place_to_put view ceremony to = place_of view.boxes.items (facility_in view cere
 -- THE FIRST REFUSAL
 
 abbrev pub seal_refusal_in : View → Bool → ℕ → List ℕ → List (List ℕ) → ℕ → Option Refusal
-seal_refusal_in view full ceremony serial codes at = seal_refusal (scene_in view full ceremony at) view.bags.items view.items.items serial codes
+seal_refusal_in view full ceremony serial codes at =
+    seal_refusal (scene_in view full ceremony at) view.bags.items view.items.items serial codes
 
 abbrev pub take_refusal_in : View → Bool → ℕ → List ℕ → ℕ → Option Refusal
 take_refusal_in view full ceremony serial at =
@@ -56,15 +59,18 @@ cut_refusal_in view full ceremony serial at = cut_refusal (scene_in view full ce
 
 abbrev pub seal_changes_in : View → ℕ → List ℕ → List (List ℕ) → ℕ → List Change
 seal_changes_in view ceremony serial codes at =
-    PutBag (record { serial = serial; spot = Table (facility_in view ceremony) }) ∷ PutMark (record { ceremony = ceremony; at = at }) ∷ map PutItem (packed serial codes)
+    PutBag (record { serial = serial; spot = Table (facility_in view ceremony) })
+    ∷ PutMark (record { ceremony = ceremony; at = at }) ∷ map PutItem (packed serial codes)
 
 abbrev pub take_changes_in : View → ℕ → List ℕ → ℕ → List Change
 take_changes_in view ceremony serial at =
-    PutBag (record { serial = serial; spot = Table (facility_in view ceremony) }) ∷ PutMark (record { ceremony = ceremony; at = at }) ∷ []
+    PutBag (record { serial = serial; spot = Table (facility_in view ceremony) })
+    ∷ PutMark (record { ceremony = ceremony; at = at }) ∷ []
 
 abbrev pub put_changes_in : View → ℕ → List ℕ → Store → ℕ → List Change
 put_changes_in view ceremony serial to at =
-    PutBag (record { serial = serial; spot = spot_of_store (facility_in view ceremony) to }) ∷ PutMark (record { ceremony = ceremony; at = at }) ∷ []
+    PutBag (record { serial = serial; spot = spot_of_store (facility_in view ceremony) to })
+    ∷ PutMark (record { ceremony = ceremony; at = at }) ∷ []
 
 abbrev pub cut_changes_in : View → ℕ → List ℕ → ℕ → List Change
 cut_changes_in view ceremony serial at =

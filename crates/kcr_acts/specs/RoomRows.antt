@@ -39,7 +39,8 @@ turn_refusal_by view full ceremony safe state by at =
 -- the rows that it puts: the safe's and the mark's
 abbrev pub turn_changes_by : View → ℕ → SafeNumber → Bool → ℕ → List Change
 turn_changes_by view ceremony safe state at =
-    PutSafe (record { facility = facility_at view ceremony; safe = safe; is_open = state }) ∷ PutMark (record { ceremony = ceremony; at = at }) ∷ []
+    PutSafe (record { facility = facility_at view ceremony; safe = safe; is_open = state })
+    ∷ PutMark (record { ceremony = ceremony; at = at }) ∷ []
 
 -- ITEMS
 
@@ -51,4 +52,5 @@ add_item_refusal_by view full ceremony item at =
 -- the rows that it puts: the item's and the mark's
 abbrev pub add_item_changes_by : View → ℕ → List ℕ → ℕ → List Change
 add_item_changes_by view ceremony item at =
-    PutItem (record { code = item; rest = Loose (facility_at view ceremony) }) ∷ PutMark (record { ceremony = ceremony; at = at }) ∷ []
+    PutItem (record { code = item; rest = Loose (facility_at view ceremony) })
+    ∷ PutMark (record { ceremony = ceremony; at = at }) ∷ []

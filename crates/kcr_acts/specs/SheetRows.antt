@@ -1,5 +1,6 @@
 -- What is decided of the sheet, by the rows of a view.
-use Rattle.std.specs.Prelude.{ℕ, ◌==◌, Bool, not, nat_le, List, [], ◌∷◌, ◌++◌, map, filter, find, Option, Some, None, option_map, is_some, if◌then◌else◌}
+use Rattle.std.specs.Prelude.{ℕ, ◌==◌, Bool, not, nat_le, List, [], ◌∷◌, ◌++◌, map, filter, find, Option, Some, None}
+use Rattle.std.specs.Prelude.{option_map, is_some, if◌then◌else◌}
 use Rattle.std.specs.List.{filter_map}
 use Rattle.kcr_base.specs.Refuse.{when, first_of}
 use Rattle.kcr_base.specs.Same.{same_text}
@@ -66,7 +67,8 @@ early_refusal view ceremony people =
 -- and then
 abbrev pub late_refusal : View → Bool → ℕ → Way → List (List ℕ) → ℕ → Option Refusal
 late_refusal view full ceremony way people at =
-    room_refusal (stays_of_request view.stays.items ceremony people) ceremony (mark_by view.marks.items ceremony) full way people at
+    room_refusal (stays_of_request view.stays.items ceremony people) ceremony
+    (mark_by view.marks.items ceremony) full way people at
 
 -- the first refusal of a request of the sheet
 abbrev pub sheet_refusal_by : View → Bool → ℕ → Way → List (List ℕ) → ℕ → Option Refusal

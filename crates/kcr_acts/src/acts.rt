@@ -144,9 +144,10 @@ fn changes_of(alloc: Global, view: &View, full: bool, act: &Act) -> Result<Vec<C
 
 /// What an act comes to by the rows of a view, or its first refusal.
 ///
-/// The refusals come in the order of their numbers; `full` tells that 4,000,000,000 commands have been accepted (27), and
-/// then no act is accepted. A signature, and an exception that passes a step, come with the first seating of the people
-/// in the room, or are refused (32) with a least shortage. Want of memory (33) may be answered in place of all of these.
+/// The refusals come in the order of their numbers; `full` tells that 4,000,000,000 commands have been accepted (27),
+/// and then no act is accepted. A signature, and an exception that passes a step, come with the first seating of the
+/// people in the room, or are refused (32) with a least shortage. Want of memory (33) may be answered in place of all
+/// of these.
 pub fn perform(alloc: Global, view: &View, full: bool, act: &Act) -> Result<Acted, Refusal>
     ensures by_rows { MatchResult result
         (λ acted. HasActed view.now full act.now acted)

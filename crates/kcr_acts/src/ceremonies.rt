@@ -154,7 +154,8 @@ fn push_steps(
     steps: &[Step],
 ) -> Result<Vec<Change>, AllocError>
     requires { length steps.now ≤ 400 }
-    ensures { IfOk result (λ all. all.items ≡ changes.items ++ map PutStep (CeremonyRows.undone_rows ceremony 1 steps.now)) }
+    ensures { IfOk result (λ all. all.items ≡ changes.items
+        ++ map PutStep (CeremonyRows.undone_rows ceremony 1 steps.now)) }
 {
     let mut number = 1u32;
     for step in steps {
@@ -188,7 +189,8 @@ fn planned(
 
 /// The script that the text is.
 fn script_in(alloc: Global, text: &Text) -> Result<Script, Refusal>
-    ensures { MatchResult result (λ script. script_of text.now ≡ Ok script) (IfRow (λ row. script_of text.now ≡ Err row)) }
+    ensures { MatchResult result (λ script. script_of text.now ≡ Ok script)
+        (IfRow (λ row. script_of text.now ≡ Err row)) }
 {
     read_script(alloc, text.as_bytes())
 }

@@ -54,7 +54,8 @@ fn moved_changes(
     ceremony: u32,
     at: Moment,
 ) -> Result<Vec<Change>, AllocError>
-    ensures { IfOk result (λ changes. changes.items ≡ PutBag moved.now.bag ∷ PutMark (record { ceremony = ceremony; at = at }) ∷ map PutItem moved.now.items) }
+    ensures { IfOk result (λ changes. changes.items ≡ PutBag moved.now.bag
+        ∷ PutMark (record { ceremony = ceremony; at = at }) ∷ map PutItem moved.now.items) }
 {
     let mut changes = scene::with_mark(alloc, Change::PutBag(moved.bag), ceremony, at)?;
     add_items(&mut changes, moved.items.as_slice())?;
@@ -106,7 +107,8 @@ pub(crate) fn seal(
 
 /// The place of the box in which a bag is.
 fn place_to_take(view: &View, facility: Facility, serial: Serial) -> Option<Place>
-    ensures { result ≡ Custody.place_of view.now.boxes.items facility (Custody.box_of (Custody.spot_by view.now.bags.items serial)) }
+    ensures { result ≡ Custody.place_of view.now.boxes.items facility
+        (Custody.box_of (Custody.spot_by view.now.bags.items serial)) }
 {
     kcr_custody::place_for_take(&view.boxes, &view.bags, facility, serial)
 }
@@ -119,7 +121,8 @@ fn has_keeper_to_take(
     serial: Serial,
     at: Moment,
 ) -> Result<bool, AllocError>
-    ensures { IfOk result (λ answer. answer ≡ CustodyRows.has_keeper_by view.now ceremony at (CustodyRows.place_to_take view.now ceremony serial)) }
+    ensures { IfOk result (λ answer. answer ≡ CustodyRows.has_keeper_by view.now ceremony at
+        (CustodyRows.place_to_take view.now ceremony serial)) }
 {
     let place = place_to_take(view, facility_in(view, ceremony), serial);
     has_keeper(alloc, view, ceremony, at, place)
@@ -179,7 +182,8 @@ fn has_keeper_to_put(
     to: Store,
     at: Moment,
 ) -> Result<bool, AllocError>
-    ensures { IfOk result (λ answer. answer ≡ CustodyRows.has_keeper_by view.now ceremony at (CustodyRows.place_to_put view.now ceremony to)) }
+    ensures { IfOk result (λ answer. answer ≡ CustodyRows.has_keeper_by view.now ceremony at
+        (CustodyRows.place_to_put view.now ceremony to)) }
 {
     let place = place_to_put(view, facility_in(view, ceremony), to);
     has_keeper(alloc, view, ceremony, at, place)

@@ -140,7 +140,8 @@ fn changed_stays(
     ensures { MatchResult result
         (λ changed. (SheetRows.room_refusal stays.now ceremony mark full way people.now at ≡ None)
         × (changed.items ≡ Adding.changed_stays stays.now ceremony way people.now at))
-        (λ refusal. refusal ≢ Memory → SheetRows.room_refusal stays.now ceremony mark full way people.now at ≡ Some refusal) }
+        (λ refusal. refusal ≢ Memory
+        → SheetRows.room_refusal stays.now ceremony mark full way people.now at ≡ Some refusal) }
 {
     match mark {
         None => Err(Refusal::State),
@@ -243,7 +244,8 @@ fn room_changes(
 ) -> Result<Vec<Stay>, Refusal>
     ensures { MatchResult result
         (λ changed. (SheetRows.late_refusal view.now full ceremony way people.now at ≡ None)
-        × (changed.items ≡ Adding.changed_stays (SheetRows.stays_of_request view.now.stays.items ceremony people.now) ceremony way people.now at))
+        × (changed.items ≡ Adding.changed_stays
+        (SheetRows.stays_of_request view.now.stays.items ceremony people.now) ceremony way people.now at))
         (λ refusal. refusal ≢ Memory → SheetRows.late_refusal view.now full ceremony way people.now at ≡ Some refusal) }
 {
     let some = stays_shown(alloc, view, ceremony, people)?;
@@ -264,7 +266,8 @@ pub(crate) fn add_rows(
     ensures { MatchResult result
         (λ changes. (SheetRows.sheet_refusal_by view.now full ceremony way people.now at ≡ None)
         × (changes.items ≡ SheetRows.sheet_changes_by view.now ceremony way people.now at))
-        (λ refusal. refusal ≢ Memory → SheetRows.sheet_refusal_by view.now full ceremony way people.now at ≡ Some refusal) }
+        (λ refusal. refusal ≢ Memory
+        → SheetRows.sheet_refusal_by view.now full ceremony way people.now at ≡ Some refusal) }
 {
     if let Some(refusal) = early_refusal(view, ceremony, people) {
         return Err(refusal);

@@ -66,7 +66,8 @@ fn is_item_wrong(view: &View, code: ItemCode) -> bool
 
 /// The first row whose item stands in another one too, or is lost.
 fn first_lost(view: &View) -> Option<Finding>
-    ensures { result ≡ option_map (λ row. Findings.Custody row.code) (find (λ row. Wrongs.is_item_wrong view.now row.code) view.now.items.items) }
+    ensures { result ≡ option_map (λ row. Findings.Custody row.code)
+        (find (λ row. Wrongs.is_item_wrong view.now row.code) view.now.items.items) }
 {
     view.items
         .iter()
@@ -131,7 +132,8 @@ fn is_bag_wrong(view: &View, serial: Serial) -> bool
 
 /// The first row whose serial stands in another one too, or whose box is not there.
 fn first_boxless(view: &View) -> Option<Finding>
-    ensures { result ≡ option_map (λ row. Findings.Bag row.serial) (find (λ row. Wrongs.is_bag_wrong view.now row.serial) view.now.bags.items) }
+    ensures { result ≡ option_map (λ row. Findings.Bag row.serial)
+        (find (λ row. Wrongs.is_bag_wrong view.now row.serial) view.now.bags.items) }
 {
     view.bags
         .iter()

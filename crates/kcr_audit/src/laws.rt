@@ -8,9 +8,10 @@ ghost use Rattle.kcr_history.specs.Machine.{IsRegister};
 ghost use Rattle.kcr_history.specs.Tables.{tables, SameTables};
 ghost use Rattle.kcr_audit.specs.Whole.{tables_of};
 
-/// An audit of the tables of a register finds nothing: each step that was signed or passed has the people that its seats
-/// ask for, no key is doubled, no bag doubled or in a box that is not there, no item doubled or lost, and at no moment is
-/// somebody alone in a room, or are too many in one.
+/// An audit of the tables of a register finds nothing: each step that was signed or passed has the people that its
+/// seats ask for, no key is doubled, no bag doubled or in a box that is not there, no item doubled or lost, and at no
+/// moment is somebody alone in a room, or are too many in one.
 pub fn registers_pass()
-    ensures { (A : History) → IsRegister A → (view : View) → SameTables (tables A) (tables_of view) → IsAudit view None }
+    ensures { (A : History) → IsRegister A → (view : View) → SameTables (tables A) (tables_of view)
+        → IsAudit view None }
 {}

@@ -31,7 +31,8 @@ fn each_once(mut numbers: Vec<u32>) -> Vec<u32>
 
 /// The ceremonies that have rows, each once.
 fn ceremonies_of(alloc: Global, rows: &[SheetRow]) -> Result<Vec<u32>, AllocError>
-    ensures { IfOk result (λ numbers. (c : ℕ) → Contains (map (λ row. row.ceremony) rows.now) c → Contains numbers.items c) }
+    ensures { IfOk result (λ numbers. (c : ℕ) → Contains (map (λ row. row.ceremony) rows.now) c
+        → Contains numbers.items c) }
 {
     let numbers = ceremony_of_each(alloc, rows)?;
     Ok(each_once(numbers))
@@ -91,7 +92,8 @@ fn first_crowd(stays: &[Stay], ceremony: u32) -> Option<Moment>
         .map(|stay| stay.since)
 }
 
-/// A moment with too many people in the room of the ceremony. It takes time in the order of n log n where there is none.
+/// A moment with too many people in the room of the ceremony. It takes time in the order of n log n where there is
+/// none.
 fn crowded_at(alloc: Global, rows: &[SheetRow], ceremony: u32) -> Result<Option<Moment>, AllocError>
     ensures { IfOk result (Rooms.IsSometime (Rooms.is_crowd rows.now ceremony)) }
 {

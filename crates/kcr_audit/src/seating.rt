@@ -1,5 +1,6 @@
 //! Steps that were signed or passed, and whether their recorded people are a seating of their seats.
-ghost use Rattle.std.specs.Prelude.{◌≡◌, ◌++◌, ◌≤◌, ◌∷◌, ℕ, nat_le, take, drop, length, map, find, filter, option_map, ◌&&◌, ◌==◌, IfOk};
+ghost use Rattle.std.specs.Prelude.{◌≡◌, ◌++◌, ◌≤◌, ◌∷◌, ℕ, nat_le, take, drop, length, map, find, filter, option_map};
+ghost use Rattle.std.specs.Prelude.{◌&&◌, ◌==◌, IfOk};
 ghost use Rattle.std.specs.List.{list_any};
 ghost use Rattle.kcr_base.specs.Days.{day_of};
 ghost use Rattle.kcr_base.specs.Same.{same_text};
@@ -141,7 +142,8 @@ fn rows_of(
     ceremony: u32,
     step: u32,
 ) -> Result<Vec<SeatingRow>, AllocError>
-    ensures { IfOk result (λ found. found.items ≡ filter (λ row. row.ceremony == ceremony && row.step == step) rows.now) }
+    ensures { IfOk result (λ found. found.items ≡ filter (λ row. row.ceremony == ceremony
+        && row.step == step) rows.now) }
 {
     rows.iter()
         .filter(|row| row.ceremony == ceremony && row.step == step)
@@ -211,10 +213,11 @@ fn ceremony_in(view: &View, number: u32) -> Option<CeremonyRow>
         .find(|row| row.number == number)
 }
 
-/// Whether the recorded seats are numbered from 1, and the recorded people fill the step's seats, in its ceremony and at
-/// its moment.
+/// Whether the recorded seats are numbered from 1, and the recorded people fill the step's seats, in its ceremony and
+/// at its moment.
 fn is_well_seated(alloc: Global, view: &View, row: &StepRow) -> Result<bool, AllocError>
-    ensures { IfOk result (λ well. well ≡ Audit.is_well_seated view.now row.now (Audit.ceremony_in view.now row.now.ceremony) row.now.at) }
+    ensures { IfOk result (λ well. well ≡ Audit.is_well_seated view.now row.now
+        (Audit.ceremony_in view.now row.now.ceremony) row.now.at) }
 {
     match (ceremony_in(view, row.ceremony), row.at) {
         (Some(ceremony), Some(at)) => {
@@ -239,7 +242,8 @@ fn is_ill_seated(alloc: Global, view: &View, row: &StepRow) -> Result<bool, Allo
 
 /// The first step that was signed or passed and whose recorded people are no seating.
 fn first_ill_seated(alloc: Global, view: &View) -> Result<Option<Finding>, AllocError>
-    ensures { IfOk result (λ found. found ≡ option_map (λ row. Findings.Seating row.ceremony row.step) (find (Wrongs.is_step_wrong view.now) view.now.steps.items)) }
+    ensures { IfOk result (λ found. found ≡ option_map (λ row. Findings.Seating row.ceremony row.step)
+        (find (Wrongs.is_step_wrong view.now) view.now.steps.items)) }
 {
     for row in &view.steps {
         if is_ill_seated(alloc, view, row)? {

@@ -10,7 +10,11 @@ use Rattle.kcr_base.specs.declared.refusal.Member.TheVariants as Members
 use Rattle.kcr_base.specs.declared.refusal.Part.{Part}
 use Rattle.kcr_base.specs.declared.refusal.Part.TheVariants as Parts
 use Rattle.kcr_base.specs.declared.refusal.Refusal.{Refusal}
-use Rattle.kcr_base.specs.declared.refusal.Refusal.TheVariants.{Head, Host, Length, Coding, Large, Cut, Path, Method, Json, Form, Key, Unknown, Taken, Range, Apart, Held, Vacant, Settled, Script, State, Busy, Late, Order, Turn, Crowd, Lone, Full, Safe, Elsewhere, Absent, Unfinished, Short, Memory, Disk, Broken}
+use Rattle.kcr_base.specs.declared.refusal.Refusal.TheVariants.{Head, Host, Length, Coding, Large, Cut, Path, Method}
+use Rattle.kcr_base.specs.declared.refusal.Refusal.TheVariants.{Json, Form, Key, Unknown, Taken, Range, Apart, Held}
+use Rattle.kcr_base.specs.declared.refusal.Refusal.TheVariants.{Vacant, Settled, Script, State, Busy, Late, Order, Turn}
+use Rattle.kcr_base.specs.declared.refusal.Refusal.TheVariants.{Crowd, Lone, Full, Safe, Elsewhere, Absent, Unfinished}
+use Rattle.kcr_base.specs.declared.refusal.Refusal.TheVariants.{Short, Memory, Disk, Broken}
 use Rattle.kcr_base.specs.declared.refusal.Thing.{Thing}
 use Rattle.kcr_base.specs.declared.refusal.Thing.TheVariants as Things
 

@@ -1,5 +1,6 @@
 //! Facilities, the roles of staff, and the places of custodians.
-ghost use Rattle.std.specs.Prelude.{⊤, codes, ◌<◌, ◌≡◌, ◌≢◌, ℕ, ◌+◌, ◌≤◌, List, [], ◌∷◌, ◌++◌, length, Some, SomeIff, MatchOption};
+ghost use Rattle.std.specs.Prelude.{⊤, codes, ◌<◌, ◌≡◌, ◌≢◌, ℕ, ◌+◌, ◌≤◌, List, [], ◌∷◌, ◌++◌, length, Some, SomeIff};
+ghost use Rattle.std.specs.Prelude.{MatchOption};
 ghost use Rattle.kcr_base.specs.Facility.{facility_text};
 ghost use Rattle.kcr_base.specs.Role.{role_text};
 ghost use Rattle.kcr_base.specs.Place.{IsPlaceNumber, IsPlace, place_text};
@@ -56,7 +57,8 @@ pub enum Place {
 
 /// What stands behind `front`, where the bytes begin with it, else None.
 pub fn after<'a>(bytes: &'a [u8], front: &[u8]) -> Option<&'a [u8]>
-    ensures { MatchOption result ((rest : List ℕ) → bytes.now ≢ front.now ++ rest) (λ rest. bytes.now ≡ front.now ++ rest.now) }
+    ensures { MatchOption result
+        ((rest : List ℕ) → bytes.now ≢ front.now ++ rest) (λ rest. bytes.now ≡ front.now ++ rest.now) }
 {
     bytes.strip_prefix(front)
 }

@@ -11,7 +11,8 @@ ghost use Rattle.kcr_custody.specs.Spots.{spot_text};
 ghost use Rattle.kcr_script.specs.Seats.{StandsFor, written};
 ghost use Rattle.kcr_script.specs.declared.seat.Seat.{Seat};
 ghost use Rattle.kcr_rows.specs.Refusals.{IsFault};
-ghost use Rattle.kcr_cells.specs.States.{safe_digit, way_number, ceremony_number, step_number, loose_value, within_value, IsNumbered};
+ghost use Rattle.kcr_cells.specs.States.{safe_digit, way_number, ceremony_number, step_number, loose_value};
+ghost use Rattle.kcr_cells.specs.States.{within_value, IsNumbered};
 
 use kcr_base::{Facility, Refusal, Serial, Text};
 use kcr_custody::{Rest, SafeNumber, Spot};

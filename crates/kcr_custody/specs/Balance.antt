@@ -1,5 +1,6 @@
 -- Rows put under their keys, and what keeps items from being lost or doubled.
-use Rattle.std.specs.Prelude.{ℕ, Bool, true, false, not, ◌&&◌, ◌||◌, List, [], ◌∷◌, map, Option, Some, None, is_some, if◌then◌else◌, IsTrue}
+use Rattle.std.specs.Prelude.{ℕ, Bool, true, false, not, ◌&&◌, ◌||◌, List, [], ◌∷◌, map, Option, Some, None, is_some}
+use Rattle.std.specs.Prelude.{if◌then◌else◌, IsTrue}
 use Rattle.std.specs.List.{list_any, list_all}
 use Rattle.kcr_base.specs.Same.{same_text}
 use Rattle.kcr_custody.specs.declared.BoxRow.{BoxRow}
@@ -42,7 +43,8 @@ abbrev pub has_its_box : List BoxRow → Spot → Bool
 has_its_box boxes (InBox facility number) = is_some (place_of_box_by boxes facility number)
 has_its_box boxes spot = true
 
--- each item in one row, loose or within a bag that is there and not spent; each serial in one row; each box that is named is there
+-- each item in one row, loose or within a bag that is there and not spent; each serial in one row; each box that is
+-- named is there
 pub record IsBalanced (boxes : List BoxRow) (bags : List Bag) (items : List Item) : Type 0 where
   pub items_once : IsTrue (all_differ (map (λ row. row.code) items))
   pub bags_once : IsTrue (all_differ (map (λ row. row.serial) bags))

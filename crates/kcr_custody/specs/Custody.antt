@@ -1,5 +1,6 @@
 -- Safes, boxes, bags and items, by rows.
-use Rattle.std.specs.Prelude.{ℕ, Bool, true, false, not, ◌&&◌, ◌||◌, nat_lt, nat_eq, List, [], ◌∷◌, map, filter, find, Option, Some, None, option_map, option_and_then, is_some, is_none, if◌then◌else◌}
+use Rattle.std.specs.Prelude.{ℕ, Bool, true, false, not, ◌&&◌, ◌||◌, nat_lt, nat_eq, List, [], ◌∷◌, map, filter, find}
+use Rattle.std.specs.Prelude.{Option, Some, None, option_map, option_and_then, is_some, is_none, if◌then◌else◌}
 use Rattle.std.specs.List.{list_any, list_all}
 use Rattle.kcr_base.specs.Same.{same_text, same_facility, same_place}
 use Rattle.kcr_base.specs.Refuse.{when, first_of}
@@ -8,7 +9,8 @@ use Rattle.kcr_base.specs.declared.place.Place.{Place}
 use Rattle.kcr_base.specs.declared.place.Place.TheVariants.{Co, Rksh}
 use Rattle.kcr_base.specs.declared.refusal.Refusal.{Refusal}
 use Rattle.kcr_base.specs.declared.refusal.Refusal.TheVariants as Refusals
-use Rattle.kcr_base.specs.declared.refusal.Refusal.TheVariants.{Unknown, Taken, Range, State, Late, Full, Elsewhere, Absent}
+use Rattle.kcr_base.specs.declared.refusal.Refusal.TheVariants.{Unknown, Taken, Range, State, Late, Full, Elsewhere}
+use Rattle.kcr_base.specs.declared.refusal.Refusal.TheVariants.{Absent}
 use Rattle.kcr_base.specs.declared.refusal.Thing.TheVariants as Things
 use Rattle.kcr_base.specs.declared.refusal.Absentee.TheVariants as Absentees
 use Rattle.kcr_base.specs.declared.place.Role.TheVariants.{Ca}
@@ -148,12 +150,14 @@ no_bag bags serial = when (is_none (spot_by bags serial)) (Unknown (Things.Bag s
 
 -- the first of the items that was never added
 abbrev pub no_item : List Item → List (List ℕ) → Option Refusal
-no_item items codes = option_map (λ code. Unknown (Things.Item code)) (find (λ code. is_none (rest_by items code)) codes)
+no_item items codes =
+    option_map (λ code. Unknown (Things.Item code)) (find (λ code. is_none (rest_by items code)) codes)
 
 -- the box, where the bag is to be put in one
 abbrev pub no_box : List BoxRow → Facility → Option ℕ → Option Refusal
 no_box boxes facility None = None
-no_box boxes facility (Some number) = when (is_none (place_of_box_by boxes facility number)) (Unknown (Things.Box number))
+no_box boxes facility (Some number) =
+    when (is_none (place_of_box_by boxes facility number)) (Unknown (Things.Box number))
 
 -- the safe is shut
 abbrev pub shut : List SafeRow → Facility → Option SafeNumber → Option Refusal
@@ -169,7 +173,8 @@ no_holder (Some place) has_holder = when (not has_holder) (Absent (Absentees.Pla
 
 abbrev pub add_box_conditions : List BoxRow → Bool → BoxRow → List (Option Refusal)
 add_box_conditions boxes is_full row =
-    when (list_any (is_box row.facility row.number) boxes || list_any (λ old. same_place old.place row.place) boxes) Taken
+    when (list_any (is_box row.facility row.number) boxes
+    || list_any (λ old. same_place old.place row.place) boxes) Taken
     ∷ when (not (is_co_place_of row.facility row.place)) Range
     ∷ when is_full Full
     ∷ []
@@ -234,9 +239,11 @@ take_conditions scene safes boxes bags serial has_holder =
     ∷ []
 
 abbrev pub take_refusal : Scene → List SafeRow → List BoxRow → List Bag → List ℕ → Bool → Option Refusal
-take_refusal scene safes boxes bags serial has_holder = first_of (take_conditions scene safes boxes bags serial has_holder)
+take_refusal scene safes boxes bags serial has_holder =
+    first_of (take_conditions scene safes boxes bags serial has_holder)
 
-abbrev pub put_conditions : Scene → List SafeRow → List BoxRow → List Bag → List ℕ → Store → Bool → List (Option Refusal)
+abbrev pub put_conditions : Scene → List SafeRow → List BoxRow → List Bag → List ℕ → Store → Bool
+    → List (Option Refusal)
 put_conditions scene safes boxes bags serial to has_holder =
     no_ceremony scene
     ∷ no_bag bags serial
@@ -249,7 +256,8 @@ put_conditions scene safes boxes bags serial to has_holder =
     ∷ []
 
 abbrev pub put_refusal : Scene → List SafeRow → List BoxRow → List Bag → List ℕ → Store → Bool → Option Refusal
-put_refusal scene safes boxes bags serial to has_holder = first_of (put_conditions scene safes boxes bags serial to has_holder)
+put_refusal scene safes boxes bags serial to has_holder =
+    first_of (put_conditions scene safes boxes bags serial to has_holder)
 
 abbrev pub cut_conditions : Scene → List Bag → List ℕ → List (Option Refusal)
 cut_conditions scene bags serial =

@@ -46,10 +46,12 @@ pub fn add_box(boxes: &[BoxRow], is_full: bool, row: BoxRow) -> Result<BoxRow, R
     Ok(row)
 }
 
-/// An item added, loose at the ceremony's facility. Refused: 12 without the ceremony, 13 where the item was added before,
-/// 20 where the ceremony is not open, 22 before its mark, 27 full, 30 where nobody trained as CA is in the room.
+/// An item added, loose at the ceremony's facility. Refused: 12 without the ceremony, 13 where the item was added
+/// before, 20 where the ceremony is not open, 22 before its mark, 27 full, 30 where nobody trained as CA is in the
+/// room.
 pub fn add_item(scene: &Scene, items: &[Item], code: ItemCode) -> Result<Item, Refusal>
-    ensures { result ≡ unless (Custody.add_item_refusal scene.now items.now code) (record { code = code; rest = Loose scene.now.facility }) }
+    ensures { result ≡ unless (Custody.add_item_refusal scene.now items.now code)
+        (record { code = code; rest = Loose scene.now.facility }) }
 {
     if !scene.is_known {
         return Err(Refusal::Unknown {
@@ -91,7 +93,8 @@ fn turn_safe(
     is_open: bool,
     by: &Keeper,
 ) -> Result<SafeRow, Refusal>
-    ensures { result ≡ unless (Custody.turn_refusal scene.now safes.now safe is_open by.now) (record { facility = scene.now.facility; safe = safe; is_open = is_open }) }
+    ensures { result ≡ unless (Custody.turn_refusal scene.now safes.now safe is_open by.now)
+        (record { facility = scene.now.facility; safe = safe; is_open = is_open }) }
 {
     if !scene.is_known {
         return Err(Refusal::Unknown {
@@ -121,15 +124,16 @@ fn turn_safe(
     })
 }
 
-/// A safe opened. Refused: 12 without the ceremony or the person, 20 where the ceremony is not open, 22 before its mark,
-/// 27 full, 28 where the safe is open, 30 where the person is not in the room or not trained for this safe.
+/// A safe opened. Refused: 12 without the ceremony or the person, 20 where the ceremony is not open, 22 before its
+/// mark, 27 full, 28 where the safe is open, 30 where the person is not in the room or not trained for this safe.
 pub fn open_safe(
     scene: &Scene,
     safes: &[SafeRow],
     safe: SafeNumber,
     by: &Keeper,
 ) -> Result<SafeRow, Refusal>
-    ensures { result ≡ unless (Custody.turn_refusal scene.now safes.now safe true by.now) (record { facility = scene.now.facility; safe = safe; is_open = true }) }
+    ensures { result ≡ unless (Custody.turn_refusal scene.now safes.now safe true by.now)
+        (record { facility = scene.now.facility; safe = safe; is_open = true }) }
 {
     turn_safe(scene, safes, safe, true, by)
 }
@@ -141,15 +145,16 @@ pub fn shut_safe(
     safe: SafeNumber,
     by: &Keeper,
 ) -> Result<SafeRow, Refusal>
-    ensures { result ≡ unless (Custody.turn_refusal scene.now safes.now safe false by.now) (record { facility = scene.now.facility; safe = safe; is_open = false }) }
+    ensures { result ≡ unless (Custody.turn_refusal scene.now safes.now safe false by.now)
+        (record { facility = scene.now.facility; safe = safe; is_open = false }) }
 {
     turn_safe(scene, safes, safe, false, by)
 }
 
 /// A bag taken from a safe to the table; `has_holder` tells whether the holder of the place of its box is in the room
-/// (`place_for_take` names the place). Refused: 12 without the ceremony or the bag, 20, 22, 27 as an item added, 28 where
-/// it is in a shut safe of the facility, 29 where it is in no safe of the facility, 30 without a CA in the room or
-/// without the holder of the box's place.
+/// (`place_for_take` names the place). Refused: 12 without the ceremony or the bag, 20, 22, 27 as an item added, 28
+/// where it is in a shut safe of the facility, 29 where it is in no safe of the facility, 30 without a CA in the room
+/// or without the holder of the box's place.
 pub fn take(
     scene: &Scene,
     safes: &[SafeRow],
@@ -158,7 +163,8 @@ pub fn take(
     serial: Serial,
     has_holder: bool,
 ) -> Result<Bag, Refusal>
-    ensures { result ≡ unless (Custody.take_refusal scene.now safes.now boxes.now bags.now serial has_holder) (record { serial = serial; spot = Table scene.now.facility }) }
+    ensures { result ≡ unless (Custody.take_refusal scene.now safes.now boxes.now bags.now serial has_holder)
+        (record { serial = serial; spot = Table scene.now.facility }) }
 {
     if !scene.is_known {
         return Err(Refusal::Unknown {
@@ -213,7 +219,8 @@ pub fn put(
     to: Store,
     has_holder: bool,
 ) -> Result<Bag, Refusal>
-    ensures { result ≡ unless (Custody.put_refusal scene.now safes.now boxes.now bags.now serial to has_holder) (record { serial = serial; spot = Custody.spot_of_store scene.now.facility to }) }
+    ensures { result ≡ unless (Custody.put_refusal scene.now safes.now boxes.now bags.now serial to has_holder)
+        (record { serial = serial; spot = Custody.spot_of_store scene.now.facility to }) }
 {
     if !scene.is_known {
         return Err(Refusal::Unknown {
@@ -291,9 +298,9 @@ fn cut_refusal(scene: &Scene, bags: &[Bag], serial: Serial) -> Option<Refusal>
     None
 }
 
-/// A bag on the table cut: it is spent, and its items are loose at the facility. Refused: 12 without the ceremony or the
-/// bag, 20, 22, 27 as an item added, 29 where the bag is not on the facility's table, 30 without a CA in the room, and 33
-/// when out of memory.
+/// A bag on the table cut: it is spent, and its items are loose at the facility. Refused: 12 without the ceremony or
+/// the bag, 20, 22, 27 as an item added, 29 where the bag is not on the facility's table, 30 without a CA in the room,
+/// and 33 when out of memory.
 pub fn cut(
     alloc: Global,
     scene: &Scene,
@@ -354,9 +361,9 @@ fn seal_refusal(
     None
 }
 
-/// Loose items of the facility sealed into a bag with a new serial, on its table. Refused: 12 without the ceremony or an
-/// item (the first that was never added), 13 where the serial was sealed before, 20, 22, 27 as an item added, 29 where an
-/// item is not loose at the facility, 30 without a CA in the room, and 33 when out of memory.
+/// Loose items of the facility sealed into a bag with a new serial, on its table. Refused: 12 without the ceremony or
+/// an item (the first that was never added), 13 where the serial was sealed before, 20, 22, 27 as an item added, 29
+/// where an item is not loose at the facility, 30 without a CA in the room, and 33 when out of memory.
 pub fn seal(
     alloc: Global,
     scene: &Scene,

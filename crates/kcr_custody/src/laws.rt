@@ -36,14 +36,16 @@ pub fn take_keeps_balance()
 
 /// A bag put away keeps balance.
 pub fn put_keeps_balance()
-    ensures { (scene : Scene) (safes : List SafeRow) (boxes : List BoxRow) (bags : List Bag) (items : List Item) (serial : List ℕ) (to : Store) (has_holder : Bool) →
+    ensures { (scene : Scene) (safes : List SafeRow) (boxes : List BoxRow) (bags : List Bag) (items : List Item)
+        (serial : List ℕ) (to : Store) (has_holder : Bool) →
         IsBalanced boxes bags items → Custody.put_refusal scene safes boxes bags serial to has_holder ≡ None →
         IsBalanced boxes (put same_bag (record { serial = serial; spot = Custody.spot_of_store scene.facility to }) bags) items }
 {}
 
 /// A seal keeps balance.
 pub fn seal_keeps_balance()
-    ensures { (facility : Facility) (boxes : List BoxRow) (bags : List Bag) (items : List Item) (serial : List ℕ) (codes : List (List ℕ)) →
+    ensures { (facility : Facility) (boxes : List BoxRow) (bags : List Bag) (items : List Item) (serial : List ℕ)
+        (codes : List (List ℕ)) →
         IsBalanced boxes bags items →
         IsBalanced boxes (put same_bag (record { serial = serial; spot = Table facility }) bags) (put_all same_item (Custody.packed serial codes) items) }
 {}

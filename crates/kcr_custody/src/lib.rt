@@ -1,9 +1,9 @@
 //! Custody by rows: safes, the boxes in them, tamper-evident bags and the items that they hold.
 //!
-//! Each facility has safe 1 (equipment) and safe 2 (credentials), shut at first. A box lies in safe 2 and belongs to one
-//! Crypto Officer's place of its facility. An item is loose at a facility or within a bag; a bag is on the facility's
-//! table, in safe 1, in a box, or spent. Each act answers the changed rows, or the first refusal in the order of the
-//! refusals' numbers; nothing is changed in place.
+//! Each facility has safe 1 (equipment) and safe 2 (credentials), shut at first. A box lies in safe 2 and belongs to
+//! one Crypto Officer's place of its facility. An item is loose at a facility or within a bag; a bag is on the
+//! facility's table, in safe 1, in a box, or spent. Each act answers the changed rows, or the first refusal in the
+//! order of the refusals' numbers; nothing is changed in place.
 #![tactic(auto)]
 
 use kcr_base::{BoxNumber, Facility, Initials, ItemCode, Moment, Place, Serial};

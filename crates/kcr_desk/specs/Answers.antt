@@ -1,5 +1,6 @@
 -- What a message is told, and what it leaves of the register.
-use Rattle.std.specs.Prelude.{◌≡◌, ◌⊎◌, ◌↔◌, ◌≢◌, ⊤, ℕ, List, Option, None, Result, Ok, Err, MatchOption, MatchResult, IsSome, IsTrue, unwrap_or, codes, if◌then◌else◌}
+use Rattle.std.specs.Prelude.{◌≡◌, ◌⊎◌, ◌↔◌, ◌≢◌, ⊤, ℕ, List, Option, None, Result, Ok, Err, MatchOption, MatchResult}
+use Rattle.std.specs.Prelude.{IsSome, IsTrue, unwrap_or, codes, if◌then◌else◌}
 use Rattle.std.specs.Str.{bytes_eq}
 use Rattle.sqlite.specs.Held.{state}
 use Rattle.sqlite.specs.State.{HasCleanDisk}
@@ -35,7 +36,8 @@ use Rattle.kcr_print.specs.declared.fault.PrintFault.TheVariants.{Refused, Write
 use Rattle.kcr_desk.specs.Run.{Asked}
 use Rattle.kcr_desk.specs.Texts.{Told}
 
--- what the register is to the desk: the history of what it accepted and, once it is broken, the history that a crash may have left
+-- what the register is to the desk: the history of what it accepted and, once it is broken, the history that a crash
+-- may have left
 pub record Standing : Type 0 where
   pub accepted : History
   pub torn : Option History
@@ -85,14 +87,16 @@ abbrev pub told_report : Kind → List ℕ → Result (List ℕ) Refusal → Tol
 told_report kind target (Ok text) = told_as kind text
 told_report kind target (Err refusal) = told_refusal target refusal
 
--- a register that is not broken takes the command as the machine does. A fault of the device breaks it, and then a crash may have left the history with the command
+-- a register that is not broken takes the command as the machine does. A fault of the device breaks it, and then a
+-- crash may have left the history with the command
 pub record Performs (A : History) (x : Command) (result : Result Reply Refusal) (after : Standing) : Type 0 where
   pub step : Steps A x result after.accepted
   pub breaks : IsSome after.torn ↔ (result ≡ Err Refusals.Disk)
   pub tried : IsNext A x (unwrap_or after.torn after.accepted)
 
 -- it says this of the history, and keeps the history
-pub record Inquires {Value : Type 0} (Says : History → Result Value Refusal → Type 0) (A : History) (result : Result Value Refusal) (after : Standing) : Type 0 where
+pub record Inquires {Value : Type 0} (Says : History → Result Value Refusal → Type 0) (A : History)
+    (result : Result Value Refusal) (after : Standing) : Type 0 where
   pub says : Says A result
   pub same : after.accepted ≡ A
   pub breaks : IsSome after.torn ↔ (result ≡ Err Refusals.Disk)
@@ -115,7 +119,8 @@ TakesCommand before target told after x =
     (λ _. IsRefused before target told after Refusals.Broken)
 
 -- what only reads likewise
-abbrev pub Reads : {Value : Type 0} → (Result Value Refusal → Told) → (History → Result Value Refusal → Type 0) → Standing → List ℕ → Told → Standing → Type 0
+abbrev pub Reads : {Value : Type 0} → (Result Value Refusal → Told) → (History → Result Value Refusal → Type 0)
+    → Standing → List ℕ → Told → Standing → Type 0
 Reads {Value} told_by Says before target told after =
     MatchOption before.torn
     ((result : Result Value Refusal) × (told ≡ told_by result) × Inquires Says before.accepted result after)
@@ -123,9 +128,12 @@ Reads {Value} told_by Says before target told after =
 
 -- a question, or a report
 abbrev pub TakesInquiry : Standing → List ℕ → Told → Standing → Inquiry → Type 0
-TakesInquiry before target told after (inquiry.Question question) = Reads (told_shown target) (λ A result. IsAsked A question result) before target told after
-TakesInquiry before target told after (inquiry.Script ceremony) = Reads (told_report Text target) (IsReported annotated ceremony) before target told after
-TakesInquiry before target told after (inquiry.Attendance ceremony) = Reads (told_report Csv target) (IsReported attendance ceremony) before target told after
+TakesInquiry before target told after (inquiry.Question question) =
+    Reads (told_shown target) (λ A result. IsAsked A question result) before target told after
+TakesInquiry before target told after (inquiry.Script ceremony) =
+    Reads (told_report Text target) (IsReported annotated ceremony) before target told after
+TakesInquiry before target told after (inquiry.Attendance ceremony) =
+    Reads (told_report Csv target) (IsReported attendance ceremony) before target told after
 
 -- a POST is a command, and all else asks for something, or is refused for its path, its method, its text or its form
 abbrev pub AnswersBy : Method → Standing → Asked → Told → Standing → Type 0
@@ -136,14 +144,17 @@ AnswersBy method before asked told after =
     MatchResult (inquiry_of method asked.target)
     (TakesInquiry before asked.target told after) (IsRefused before asked.target told after)
 
--- what a message is told, and what it leaves. Any message may be told that memory is wanting, and then the register stays as it was
+-- what a message is told, and what it leaves. Any message may be told that memory is wanting, and then the register
+-- stays as it was
 abbrev pub IsAnswer : Standing → Asked → Told → Standing → Type 0
 IsAnswer before asked told after =
-    IsRefused before asked.target told after Refusals.Memory ⊎ AnswersBy (method_of asked.method) before asked told after
+    IsRefused before asked.target told after Refusals.Memory
+    ⊎ AnswersBy (method_of asked.method) before asked told after
 
 -- WHATEVER THE REGISTER IS
 
--- a request that could be read is told its result, and a fault of the device alone breaks the register; of its history nothing is said. A broken one says so, and stays as it was
+-- a request that could be read is told its result, and a fault of the device alone breaks the register; of its history
+-- nothing is said. A broken one says so, and stays as it was
 abbrev pub Replies : {Value : Type 0} → (Result Value Refusal → Told) → Standing → List ℕ → Told → Standing → Type 0
 Replies {Value} told_by before target told after =
     MatchOption before.torn
@@ -152,9 +163,12 @@ Replies {Value} told_by before target told after =
 
 -- a question, or a report
 abbrev pub RepliesInquiry : Standing → List ℕ → Told → Standing → Inquiry → Type 0
-RepliesInquiry before target told after (inquiry.Question question) = Replies (told_shown target) before target told after
-RepliesInquiry before target told after (inquiry.Script ceremony) = Replies (told_report Text target) before target told after
-RepliesInquiry before target told after (inquiry.Attendance ceremony) = Replies (told_report Csv target) before target told after
+RepliesInquiry before target told after (inquiry.Question question) =
+    Replies (told_shown target) before target told after
+RepliesInquiry before target told after (inquiry.Script ceremony) =
+    Replies (told_report Text target) before target told after
+RepliesInquiry before target told after (inquiry.Attendance ceremony) =
+    Replies (told_report Csv target) before target told after
 
 -- a POST is a command, and all else asks for something, or is refused for its path, its method, its text or its form
 abbrev pub RepliesBy : Method → Standing → Asked → Told → Standing → Type 0
@@ -168,7 +182,8 @@ RepliesBy method before asked told after =
 -- what a message is told by any register, whatever its database holds and whatever its disk does
 abbrev pub IsReply : Standing → Asked → Told → Standing → Type 0
 IsReply before asked told after =
-    IsRefused before asked.target told after Refusals.Memory ⊎ RepliesBy (method_of asked.method) before asked told after
+    IsRefused before asked.target told after Refusals.Memory
+    ⊎ RepliesBy (method_of asked.method) before asked told after
 
 -- REGISTERS
 
@@ -176,15 +191,18 @@ IsReply before asked told after =
 abbrev pub AreRegisters : Standing → Type 0
 AreRegisters s = IsRegister s.accepted × IsRegister (unwrap_or s.torn s.accepted)
 
--- a message is answered by a register: in any case a reply; and over a database that was empty or a register's at first, as long as its disk is clean, the answer
+-- a message is answered by a register: in any case a reply; and over a database that was empty or a register's at
+-- first, as long as its disk is clean, the answer
 pub record Answered
     {S : Type 0} (g : Ghosts S) (before : Seen S) (target : List ℕ) (told : Told) (after : Seen S)
     (Answer Reply : Standing → Standing → Type 0) : Type 0 where
   pub founded : after.is_founded ≡ before.is_founded
   pub clean : HasCleanDisk (state g after.conn) → HasCleanDisk (state g before.conn)
-  pub reply : IsRefused (standing before) target told (standing after) Refusals.Memory ⊎ Reply (standing before) (standing after)
+  pub reply : IsRefused (standing before) target told (standing after) Refusals.Memory
+      ⊎ Reply (standing before) (standing after)
   pub answer : IsTrue before.is_founded → HasCleanDisk (state g after.conn)
-      → IsRefused (standing before) target told (standing after) Refusals.Memory ⊎ Answer (standing before) (standing after)
+      → IsRefused (standing before) target told (standing after) Refusals.Memory
+      ⊎ Answer (standing before) (standing after)
 
 -- a command
 abbrev pub AnswersCommand : {S : Type 0} → Ghosts S → Seen S → List ℕ → Told → Seen S → Command → Type 0
@@ -193,7 +211,8 @@ AnswersCommand g before target told after x =
     (λ old new. TakesCommand old target told new x) (λ old new. Replies (told_reply target) old target told new)
 
 -- what only reads: what it says of the history, and how its result is told
-abbrev pub AnswersReading : {S Value : Type 0} → Ghosts S → Seen S → List ℕ → Told → Seen S → (Result Value Refusal → Told) → (History → Result Value Refusal → Type 0) → Type 0
+abbrev pub AnswersReading : {S Value : Type 0} → Ghosts S → Seen S → List ℕ → Told → Seen S
+    → (Result Value Refusal → Told) → (History → Result Value Refusal → Type 0) → Type 0
 AnswersReading g before target told after told_by Says =
     Answered g before target told after
     (λ old new. Reads told_by Says old target told new) (λ old new. Replies told_by old target told new)
@@ -215,9 +234,11 @@ outcome_of (Ok done) text = Ok text
 outcome_of (Err fault) text = Err (refusal_of fault)
 
 -- a result is told, or out of memory in the place of one that is no fault of the device and not of a broken register
-abbrev pub TellsOrMemory : {Value : Type 0} → (Result Value Refusal → Told) → List ℕ → Result Value Refusal → Told → Type 0
+abbrev pub TellsOrMemory : {Value : Type 0} → (Result Value Refusal → Told) → List ℕ → Result Value Refusal → Told
+    → Type 0
 TellsOrMemory {Value} told_by target result told =
-    (told ≡ told_by result) ⊎ ((told ≡ told_refusal target Refusals.Memory) × (result ≢ Err Refusals.Disk) × (result ≢ Err Refusals.Broken))
+    (told ≡ told_by result)
+    ⊎ ((told ≡ told_refusal target Refusals.Memory) × (result ≢ Err Refusals.Disk) × (result ≢ Err Refusals.Broken))
 
 -- a message by its method
 abbrev pub AnswersAs : {S : Type 0} → Method → Ghosts S → Seen S → Asked → Told → Seen S → Type 0

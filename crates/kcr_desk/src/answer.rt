@@ -9,7 +9,10 @@ ghost use Rattle.kcr_store.specs.Steps.{IsAsked};
 ghost use Rattle.kcr_wire.specs.declared.method.Method.TheVariants.{Post};
 ghost use Rattle.kcr_history.specs.Refusals.{carries};
 ghost use Rattle.kcr_base.specs.declared.refusal.Refusal.TheVariants as Refusals;
-ghost use Rattle.kcr_desk.specs.Answers.{Answers, AnswersAs, Answered, AnswersCommand, AnswersReading, AnswersInquiry, IsReported, method_of, told_text, told_refusal, told_shown, told_report, allowed, IsRefused, TakesInquiry, RepliesInquiry, TellsOrMemory, refusal_of, outcome_of};
+ghost use Rattle.kcr_desk.specs.Answers.{Answers, AnswersAs, Answered, AnswersCommand, AnswersReading, AnswersInquiry};
+ghost use Rattle.kcr_desk.specs.Answers.{IsReported, method_of, told_text, told_refusal, told_shown, told_report};
+ghost use Rattle.kcr_desk.specs.Answers.{allowed, IsRefused, TakesInquiry, RepliesInquiry, TellsOrMemory, refusal_of};
+ghost use Rattle.kcr_desk.specs.Answers.{outcome_of};
 ghost use Rattle.kcr_desk.specs.Told.{told};
 
 use crate::reply::{Body, Heading, Kind, Response, refusal_heading};
@@ -78,7 +81,8 @@ fn memory_reply() -> Response
 
 /// A refusal of a message. Where it carries something, out of memory may be told in its place.
 fn refused_reply(alloc: Global, paths: &Paths, target: &[u8], refusal: &Refusal) -> Response
-    ensures { (told result ≡ told_refusal target.now refusal.now) ⊎ (IsTrue (carries refusal.now) × (told result ≡ told_refusal target.now Refusals.Memory)) }
+    ensures { (told result ≡ told_refusal target.now refusal.now)
+        ⊎ (IsTrue (carries refusal.now) × (told result ≡ told_refusal target.now Refusals.Memory)) }
 {
     let heading = refusal_heading(refusal, allowed(paths, target, refusal));
     if let Some(text) = fixed_text(refusal) {
@@ -122,7 +126,8 @@ fn take_question<S: Alter>(
     target: &[u8],
     question: &Question,
 ) -> Response
-    ensures { AnswersReading S.Store register.old target.now (told result) register.new (told_shown target.now) (λ A shown. IsAsked A question.now shown) }
+    ensures { AnswersReading S.Store register.old target.now (told result) register.new
+        (told_shown target.now) (λ A shown. IsAsked A question.now shown) }
 {
     match register.look(question) {
         Ok(shown) => {
@@ -179,7 +184,8 @@ fn take_script<S: Alter>(
     target: &[u8],
     ceremony: CeremonyNumber,
 ) -> Response
-    ensures { AnswersReading S.Store register.old target.now (told result) register.new (told_report Kind.Text target.now) (IsReported report.annotated ceremony) }
+    ensures { AnswersReading S.Store register.old target.now (told result) register.new
+        (told_report Kind.Text target.now) (IsReported report.annotated ceremony) }
 {
     let mut page = Counted::new(Vec::new(alloc));
     let outcome = annotated(alloc, register, ceremony, &mut page);
@@ -194,7 +200,8 @@ fn take_attendance<S: Alter>(
     target: &[u8],
     ceremony: CeremonyNumber,
 ) -> Response
-    ensures { AnswersReading S.Store register.old target.now (told result) register.new (told_report Kind.Csv target.now) (IsReported report.attendance ceremony) }
+    ensures { AnswersReading S.Store register.old target.now (told result) register.new
+        (told_report Kind.Csv target.now) (IsReported report.attendance ceremony) }
 {
     let mut page = Counted::new(Vec::new(alloc));
     let outcome = attendance_csv(alloc, register, ceremony, &mut page);
@@ -226,7 +233,8 @@ fn answer_post<S: Alter>(
     target: &[u8],
     body: &[u8],
 ) -> Response
-    ensures { AnswersAs Post S.Store register.old (record { method = []; target = target.now; body = body.now }) (told result) register.new }
+    ensures { AnswersAs Post S.Store register.old (record { method = []; target = target.now; body = body.now })
+        (told result) register.new }
 {
     match paths.read_command(alloc, Method::Post, target, body) {
         Ok(command) => take_command(alloc, register, paths, target, &command),
@@ -243,8 +251,10 @@ fn answer_inquiry<S: Alter>(
     target: &[u8],
 ) -> Response
     ensures { Answered S.Store register.old target.now (told result) register.new
-        (λ before after. MatchResult (inquiry_of method target.now) (TakesInquiry before target.now (told result) after) (IsRefused before target.now (told result) after))
-        (λ before after. MatchResult (inquiry_of method target.now) (RepliesInquiry before target.now (told result) after) (IsRefused before target.now (told result) after)) }
+        (λ before after. MatchResult (inquiry_of method target.now)
+        (TakesInquiry before target.now (told result) after) (IsRefused before target.now (told result) after))
+        (λ before after. MatchResult (inquiry_of method target.now)
+        (RepliesInquiry before target.now (told result) after) (IsRefused before target.now (told result) after)) }
 {
     match paths.read_inquiry(method, target) {
         Ok(inquiry) => take_inquiry(alloc, register, paths, target, inquiry),
@@ -261,7 +271,8 @@ fn answer_by<S: Alter>(
     target: &[u8],
     body: &[u8],
 ) -> Response
-    ensures { Answers S.Store register.old (record { method = method.now; target = target.now; body = body.now }) (told result) register.new }
+    ensures { Answers S.Store register.old (record { method = method.now; target = target.now; body = body.now })
+        (told result) register.new }
 {
     match method_of(method) {
         Method::Post => answer_post(alloc, register, paths, target, body),

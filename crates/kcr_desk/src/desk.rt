@@ -21,8 +21,8 @@ use std::io::{Read, Write};
 /// Answers a stream of messages by a register, until the stream ends or a message closes it.
 ///
 /// Refusals are answers. `Read` comes where a read failed or 1,000,000 reads gave a byte, `Write` where a write failed,
-/// `Memory` where the bytes of a message found no room. What was written then is a beginning of the answers, the register
-/// stands after the commands that it took, and another stream may be served.
+/// `Memory` where the bytes of a message found no room. What was written then is a beginning of the answers, the
+/// register stands after the commands that it took, and another stream may be served.
 pub fn serve<R: Read, W: Write, S: Alter>(
     alloc: Global,
     reader: &mut Counted<R>,
@@ -30,7 +30,8 @@ pub fn serve<R: Read, W: Write, S: Alter>(
     register: &mut Register<S>,
 ) -> Result<Served, DeskFault>
     // The bytes written are exactly the answers of the messages of the input, by a run of the machine.
-    ensures served { IsTrue register.old.is_founded → HasCleanDisk (state S.Store register.new.conn) → IfOk result (λ served.
+    ensures served { IsTrue register.old.is_founded → HasCleanDisk (state S.Store register.new.conn)
+        → IfOk result (λ served.
         IsServed IsAnswer (R.remaining (inner_of reader.old)) (W.contents (inner_of writer.old)) (W.contents (inner_of writer.new))
         (standing register.old) (standing register.new) served.requests) }
 
@@ -39,7 +40,8 @@ pub fn serve<R: Read, W: Write, S: Alter>(
         (IsBroken IsAnswer (R.remaining (inner_of reader.old)) (W.contents (inner_of writer.old)) (W.contents (inner_of writer.new))
         (standing register.old) (standing register.new)) }
 
-    // Whatever the database held and whatever its disk does, each message gets one answer, in their order, and it is a reply to it.
+    // Whatever the database held and whatever its disk does, each message gets one answer, in their order, and it is a
+    // reply to it.
     ensures answered { IfOk result (λ served.
         IsServed IsReply (R.remaining (inner_of reader.old)) (W.contents (inner_of writer.old)) (W.contents (inner_of writer.new))
         (standing register.old) (standing register.new) served.requests) }

@@ -1,10 +1,12 @@
 //! Heads: whether bytes begin with one, and what its fields ask for (RFC 9112 and RFC 9110, in the part that
 //! `specs/Stream` and `specs/Plans` state).
-ghost use Rattle.std.specs.Prelude.{◌≡◌, ◌≤◌, ◌↔◌, true, false, length, take, map, All, IfOk, IsTrue, codes, not, min, if◌then◌else◌};
+ghost use Rattle.std.specs.Prelude.{◌≡◌, ◌≤◌, ◌↔◌, true, false, length, take, map, All, IfOk, IsTrue, codes, not, min};
+ghost use Rattle.std.specs.Prelude.{if◌then◌else◌};
 ghost use Rattle.httparse.specs.Spans.{header_bytes, IsHeaderWithin};
 ghost use Rattle.std.specs.Str.Parse.{digits_value};
 ghost use Rattle.kcr_desk.specs.Members.{some_has_member};
-ghost use Rattle.kcr_desk.specs.Plans.{planned, is_head, is_named, is_number, values_of, IsNamed, is_hosted, length_in, bounded_length, is_empty};
+ghost use Rattle.kcr_desk.specs.Plans.{planned, is_head, is_named, is_number, values_of, IsNamed, is_hosted, length_in};
+ghost use Rattle.kcr_desk.specs.Plans.{bounded_length, is_empty};
 ghost use Rattle.kcr_desk.specs.Stream.{IsQuiet};
 ghost use Rattle.kcr_desk.specs.Heads.{IsTried};
 ghost use Rattle.kcr_desk.specs.Quiet.{blank_from};
@@ -92,7 +94,8 @@ fn has_host(version: u8, buf: &[u8], headers: &[HeaderSpan]) -> bool
 /// The body's length, up to a bound, and nothing where it is not stated in one number.
 fn body_length(buf: &[u8], headers: &[HeaderSpan]) -> Option<usize>
     requires { All (IsHeaderWithin (length buf.now)) headers.now }
-    ensures { result ≡ bounded_length (length_in (values_of (codes "content-length") (map (header_bytes buf.now) headers.now))) }
+    ensures { result ≡ bounded_length
+        (length_in (values_of (codes "content-length") (map (header_bytes buf.now) headers.now))) }
 {
     match fields_named(buf, headers, b"content-length") {
         Named::Absent => Some(0),

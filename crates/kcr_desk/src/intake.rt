@@ -1,5 +1,6 @@
 //! The bytes of a stream that were read and are no whole message yet.
-ghost use Rattle.std.specs.Prelude.{◌≡◌, ℕ, ◌+◌, ◌*◌, drop, ◌<◌, ◌≤◌, ◌⊎◌, ◌++◌, List, Some, Bool, true, false, length, vec_len, OnOk, IfOk, IsErrOf};
+ghost use Rattle.std.specs.Prelude.{◌≡◌, ℕ, ◌+◌, ◌*◌, drop, ◌<◌, ◌≤◌, ◌⊎◌, ◌++◌, List, Some, Bool, true, false, length};
+ghost use Rattle.std.specs.Prelude.{vec_len, OnOk, IfOk, IsErrOf};
 ghost use Rattle.std.specs.Io.KnownBytes.{prepend_known, IsAtEnd};
 ghost use Rattle.kcr_base.specs.Counted.{inner_of, failures_of, gifts_of};
 ghost use Rattle.kcr_desk.specs.Intake.{Stays};
@@ -43,7 +44,8 @@ impl Intake {
             × ((bytes : List ℕ) × (self.new.buffer.items ≡ self.old.buffer.items ++ bytes) × (length bytes ≤ 4096))) }
         ensures ended { IfOk result (λ more. more ≡ false → (self.new.reads ≡ self.old.reads)
             × (self.new.buffer.items ≡ self.old.buffer.items) × IsAtEnd (R.remaining (inner_of reader.new))) }
-        ensures room { OnOk result (vec_len self.new.buffer + 4096 * self.old.reads ≤ vec_len self.old.buffer + 4096 * self.new.reads) }
+        ensures room { OnOk result
+            (vec_len self.new.buffer + 4096 * self.old.reads ≤ vec_len self.old.buffer + 4096 * self.new.reads) }
         ensures calm { OnOk result (failures_of reader.new ≡ failures_of reader.old) }
         ensures counted { gifts_of reader.new + self.old.reads ≡ gifts_of reader.old + self.new.reads }
         ensures read_fault { IsErrOf result DeskFault.Read
@@ -72,7 +74,8 @@ impl Intake {
             (prepend_known self.old.buffer.items (R.remaining (inner_of reader.old)))
             (prepend_known self.new.buffer.items (R.remaining (inner_of reader.new)))) }
         ensures found { IfOk result (IsFound (R.remaining (inner_of reader.new)) self.new.buffer.items) }
-        ensures room { OnOk result (vec_len self.new.buffer + 4096 * self.old.reads ≤ vec_len self.old.buffer + 4096 * self.new.reads) }
+        ensures room { OnOk result
+            (vec_len self.new.buffer + 4096 * self.old.reads ≤ vec_len self.old.buffer + 4096 * self.new.reads) }
         ensures calm { OnOk result (failures_of reader.new ≡ failures_of reader.old) }
         ensures counted { gifts_of reader.new + self.old.reads ≡ gifts_of reader.old + self.new.reads }
         ensures read_fault { IsErrOf result DeskFault.Read
@@ -109,8 +112,10 @@ impl Intake {
             (prepend_known self.new.buffer.items (R.remaining (inner_of reader.new)))) }
         ensures grown { OnOk result ((bytes : List ℕ) × (self.new.buffer.items ≡ self.old.buffer.items ++ bytes)) }
         ensures enough { IfOk result (λ enough. enough ≡ true → end ≤ vec_len self.new.buffer) }
-        ensures ended { IfOk result (λ enough. enough ≡ false → (vec_len self.new.buffer < end) × IsAtEnd (R.remaining (inner_of reader.new))) }
-        ensures room { OnOk result (vec_len self.new.buffer + 4096 * self.old.reads ≤ vec_len self.old.buffer + 4096 * self.new.reads) }
+        ensures ended { IfOk result (λ enough. enough ≡ false → (vec_len self.new.buffer < end)
+            × IsAtEnd (R.remaining (inner_of reader.new))) }
+        ensures room { OnOk result
+            (vec_len self.new.buffer + 4096 * self.old.reads ≤ vec_len self.old.buffer + 4096 * self.new.reads) }
         ensures calm { OnOk result (failures_of reader.new ≡ failures_of reader.old) }
         ensures counted { gifts_of reader.new + self.old.reads ≡ gifts_of reader.old + self.new.reads }
         ensures read_fault { IsErrOf result DeskFault.Read

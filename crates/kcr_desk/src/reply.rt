@@ -5,7 +5,8 @@ ghost use Rattle.arrayvec.specs.ArrayVec.{array_vec_len};
 ghost use Rattle.kcr_base.specs.Counted.{inner_of, failures_of};
 ghost use Rattle.kcr_base.specs.Refusal.{status_of};
 ghost use Rattle.kcr_print.specs.Written.{Writes};
-ghost use Rattle.kcr_desk.specs.Texts.{phrase_of, kind_text, line, field, allow_line, close_text, head_text, shown_text, answer_text, plain_text, continue_text, told_of};
+ghost use Rattle.kcr_desk.specs.Texts.{phrase_of, kind_text, line, field, allow_line, close_text, head_text};
+ghost use Rattle.kcr_desk.specs.Texts.{shown_text, answer_text, plain_text, continue_text, told_of};
 ghost use Rattle.kcr_desk.specs.Told.{told};
 ghost use Rattle.kcr_desk.specs.declared.reply.Kind.TheVariants.{Json};
 
@@ -79,7 +80,8 @@ fn kind_name(kind: Kind) -> &'static str
 #[tactic(auto, using(crate::proofs::PhraseLemmas::phrase_short))]
 fn add_status(page: &mut Page, status: StatusCode)
     requires { array_vec_len page.old + 48 ≤ PAGE }
-    ensures items { page.new.items ≡ page.old.items ++ line (codes "HTTP/1.1 " ++ decimal status ++ codes " " ++ phrase_of status) }
+    ensures items { page.new.items ≡ page.old.items
+        ++ line (codes "HTTP/1.1 " ++ decimal status ++ codes " " ++ phrase_of status) }
     ensures len { array_vec_len page.new ≤ array_vec_len page.old + 48 }
 {
     add(page, b"HTTP/1.1 ");
@@ -252,7 +254,8 @@ fn continue_lines(plan: Plan) -> &'static [u8]
 
 /// Writes `100 Continue` where a head waits for it.
 pub(crate) fn put_continue<W: Write>(writer: &mut Counted<W>, plan: Plan) -> Result<(), DeskFault>
-    ensures written { Writes result (W.contents (inner_of writer.old)) (W.contents (inner_of writer.new)) (continue_text plan) }
+    ensures written { Writes result (W.contents (inner_of writer.old)) (W.contents (inner_of writer.new))
+        (continue_text plan) }
     ensures calm { OnOk result (failures_of writer.new ≡ failures_of writer.old) }
     ensures fault { OnErr result ((result ≡ Err DeskFault.Write) × (failures_of writer.old < failures_of writer.new)) }
 {

@@ -22,5 +22,6 @@ pub(crate) trait Responder {
         target: &[u8],
         body: &[u8],
     ) -> Response
-        ensures { step self.old (record { method = method.now; target = target.now; body = body.now }) (told result) self.new };
+        ensures { step self.old (record { method = method.now; target = target.now; body = body.now })
+            (told result) self.new };
 }

@@ -57,8 +57,10 @@ fn take_message<R: Read, W: Write>(
     ensures breaks { OnErr result (BreaksTurn
         (prepend_known intake.old.buffer.items (R.remaining (inner_of reader.old)))
         (W.contents (inner_of writer.old)) (W.contents (inner_of writer.new))) }
-    ensures room { OnOk result (vec_len intake.new.buffer + 4096 * intake.old.reads ≤ vec_len intake.old.buffer + 4096 * intake.new.reads) }
-    ensures calm { OnOk result ((failures_of reader.new ≡ failures_of reader.old) × (failures_of writer.new ≡ failures_of writer.old)) }
+    ensures room { OnOk result
+        (vec_len intake.new.buffer + 4096 * intake.old.reads ≤ vec_len intake.old.buffer + 4096 * intake.new.reads) }
+    ensures calm { OnOk result
+        ((failures_of reader.new ≡ failures_of reader.old) × (failures_of writer.new ≡ failures_of writer.old)) }
     ensures counted { gifts_of reader.new + intake.old.reads ≡ gifts_of reader.old + intake.new.reads }
     ensures read_fault { IsErrOf result DeskFault.Read
         → (failures_of reader.old < failures_of reader.new) ⊎ (intake.new.reads ≡ 1000000) }
@@ -88,8 +90,10 @@ fn next_turn<R: Read, W: Write>(
     ensures breaks { OnErr result (BreaksTurn
         (prepend_known intake.old.buffer.items (R.remaining (inner_of reader.old)))
         (W.contents (inner_of writer.old)) (W.contents (inner_of writer.new))) }
-    ensures room { OnOk result (vec_len intake.new.buffer + 4096 * intake.old.reads ≤ vec_len intake.old.buffer + 4096 * intake.new.reads) }
-    ensures calm { OnOk result ((failures_of reader.new ≡ failures_of reader.old) × (failures_of writer.new ≡ failures_of writer.old)) }
+    ensures room { OnOk result
+        (vec_len intake.new.buffer + 4096 * intake.old.reads ≤ vec_len intake.old.buffer + 4096 * intake.new.reads) }
+    ensures calm { OnOk result
+        ((failures_of reader.new ≡ failures_of reader.old) × (failures_of writer.new ≡ failures_of writer.old)) }
     ensures counted { gifts_of reader.new + intake.old.reads ≡ gifts_of reader.old + intake.new.reads }
     ensures read_fault { IsErrOf result DeskFault.Read
         → (failures_of reader.old < failures_of reader.new) ⊎ (intake.new.reads ≡ 1000000) }
@@ -173,7 +177,8 @@ pub(crate) fn serve_stream<R: Read, W: Write, G: Responder>(
 /// However a stream is read, it has one cut into messages.
 #[tactic(auto, using(crate::proofs::CutLemmas::cut_unique))]
 pub fn one_cut()
-    ensures { (input : List ℕ) (ms ns : List Message) (e f : Ending) → IsCut input ms e → IsCut input ns f → (ms ≡ ns) × (e ≡ f) }
+    ensures { (input : List ℕ) (ms ns : List Message) (e f : Ending) → IsCut input ms e → IsCut input ns f → (ms ≡ ns)
+        × (e ≡ f) }
 {}
 
 /// What `IsBroken` says was written begins what the whole input asks for, whatever the later messages are told.

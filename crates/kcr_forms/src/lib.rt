@@ -4,7 +4,9 @@
 #![tactic(auto)]
 
 ghost use Rattle.std.specs.Prelude.{◌≡◌, IfOk};
-ghost use Rattle.kcr_forms.specs.Forms.{initials_of, key_of, serial_of, item_of, name_of, remark_of, day_of, moment_of, ceremony_of, box_of, step_of, role_of, facility_of, way_of, safe_of, place_of, store_of, number_to, listed_to};
+ghost use Rattle.kcr_forms.specs.Forms.{initials_of, key_of, serial_of, item_of, name_of, remark_of, day_of, moment_of};
+ghost use Rattle.kcr_forms.specs.Forms.{ceremony_of, box_of, step_of, role_of, facility_of, way_of, safe_of, place_of};
+ghost use Rattle.kcr_forms.specs.Forms.{store_of, number_to, listed_to};
 
 use kcr_base::{
     BoxNumber, CeremonyNumber, Day, Facility, Initials, ItemCode, Items, Key, Moment, Name, People,

@@ -2,7 +2,9 @@
 use Rattle.std.specs.Prelude.{ℕ, Bool, true, false, List, [], ◌∷◌}
 use Rattle.kcr_base.specs.declared.place.Place.{Place}
 use Rattle.kcr_history.specs.declared.commands.Act.{Act}
-use Rattle.kcr_history.specs.declared.commands.Act.TheVariants.{Enter, Train, Withdraw, Appoint, Replace, Release, AddBox, AddItem, Plan, Open, Close, Sheet, Sign, Except, TurnSafe, Seal, Take, Put, Cut}
+use Rattle.kcr_history.specs.declared.commands.Act.TheVariants.{Enter, Train, Withdraw, Appoint, Replace, Release}
+use Rattle.kcr_history.specs.declared.commands.Act.TheVariants.{AddBox, AddItem, Plan, Open, Close, Sheet, Sign, Except}
+use Rattle.kcr_history.specs.declared.commands.Act.TheVariants.{TurnSafe, Seal, Take, Put, Cut}
 use Rattle.kcr_history.specs.declared.commands.Command.{Command}
 use Rattle.kcr_history.specs.declared.views.AppointmentsOf.TheVariants as Appointments
 use Rattle.kcr_history.specs.declared.views.Asks.{Asks}
@@ -34,7 +36,12 @@ asks_nothing key =
 -- the ceremony with its mark, the stays in its room, and of these people the last stay anywhere
 abbrev pub asks_room : List ℕ → ℕ → List (List ℕ) → Asks
 asks_room key ceremony people =
-    record (asks_nothing key) { ceremonies = Under ceremony; marks = Under ceremony; stays = Under (record { ceremony = ceremony; people = people }) }
+    record (asks_nothing key) {
+      ceremonies =
+          Under ceremony;
+      marks = Under ceremony;
+      stays = Under (record { ceremony = ceremony; people = people });
+    }
 
 -- the same, and whatever tells who in the room is trained
 abbrev pub asks_trained : List ℕ → ℕ → Asks
@@ -42,7 +49,8 @@ asks_trained key ceremony = record (asks_room key ceremony []) { trainings = All
 
 -- what a bag's way into a safe or out of it asks for: the bag, the safes, the boxes and the holders of their places
 abbrev pub asks_bag : List ℕ → ℕ → List ℕ → Asks
-asks_bag key ceremony serial = record (asks_trained key ceremony) { bags = Under serial; safes = true; boxes = true; appointments = All }
+asks_bag key ceremony serial =
+    record (asks_trained key ceremony) { bags = Under serial; safes = true; boxes = true; appointments = All }
 
 -- the person
 abbrev pub asks_person : List ℕ → List ℕ → Asks
@@ -50,7 +58,8 @@ asks_person key who = record (asks_nothing key) { people = Under (who ∷ []) }
 
 -- the person, their trainings and their appointments
 abbrev pub asks_to_train : List ℕ → List ℕ → Asks
-asks_to_train key who = record (asks_person key who) { trainings = Under who; appointments = Under (Appointments.Person who) }
+asks_to_train key who =
+    record (asks_person key who) { trainings = Under who; appointments = Under (Appointments.Person who) }
 
 -- the person, their trainings and withdrawals, and the marks, which settle days
 abbrev pub asks_to_withdraw : List ℕ → List ℕ → Asks
@@ -70,7 +79,13 @@ asks_to_close key ceremony = record (asks_room key ceremony []) { steps = Under 
 
 -- who opens or shuts a safe, with their trainings
 abbrev pub asks_to_turn : List ℕ → ℕ → List ℕ → Asks
-asks_to_turn key ceremony by = record (asks_room key ceremony []) { people = Under (by ∷ []); trainings = Under by; withdrawals = Under by; safes = true }
+asks_to_turn key ceremony by =
+    record (asks_room key ceremony []) {
+      people = Under (by ∷ []);
+      trainings = Under by;
+      withdrawals = Under by;
+      safes = true;
+    }
 
 -- all boxes
 abbrev pub asks_boxes : List ℕ → Asks
@@ -103,7 +118,8 @@ asks_items key ceremony serial items = record (asks_trained key ceremony) { bags
 abbrev pub asks_sealed : List ℕ → ℕ → List ℕ → List (List ℕ) → Asks
 asks_sealed key ceremony serial codes = asks_items key ceremony serial (Items.Codes codes)
 
--- of people and trainings those that the command names; presence is read from stays; a ceremony's own rows by its number
+-- of people and trainings those that the command names; presence is read from stays; a ceremony's own rows by its
+-- number
 abbrev pub asks_by : List ℕ → Act → Asks
 asks_by key (Enter who name) = asks_person key who
 asks_by key (Train who role since until) = asks_to_train key who

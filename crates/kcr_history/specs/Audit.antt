@@ -1,5 +1,6 @@
 -- What an audit may find in rows, whether a register has stored them or not.
-use Rattle.std.specs.Prelude.{◌≡◌, ℕ, suc, ◌<◌, ◌==◌, Bool, true, false, not, ◌&&◌, ◌||◌, nat_lt, List, [], ◌∷◌, find, Option, Some, None, IsTrue}
+use Rattle.std.specs.Prelude.{◌≡◌, ℕ, suc, ◌<◌, ◌==◌, Bool, true, false, not, ◌&&◌, ◌||◌, nat_lt, List, [], ◌∷◌, find}
+use Rattle.std.specs.Prelude.{Option, Some, None, IsTrue}
 use Rattle.std.specs.List.{list_any, count_by}
 use Rattle.kcr_base.specs.Days.{day_of}
 use Rattle.kcr_base.specs.Same.{same_text}
@@ -35,7 +36,8 @@ eligible_by view ceremony t seat who =
 abbrev pub is_seating_by : View → CeremonyRow → ℕ → List Seat → List (List ℕ) → Bool
 is_seating_by view ceremony t [] [] = true
 is_seating_by view ceremony t (seat ∷ seats) (who ∷ people) =
-    eligible_by view ceremony t seat who && not (list_any (same_text who) people) && is_seating_by view ceremony t seats people
+    eligible_by view ceremony t seat who && not (list_any (same_text who) people)
+    && is_seating_by view ceremony t seats people
 is_seating_by view ceremony t seats people = false
 
 -- the step was signed or passed
@@ -48,7 +50,8 @@ abbrev pub are_numbered : ℕ → List SeatingRow → Bool
 are_numbered seat [] = true
 are_numbered seat (row ∷ rows) = row.seat == seat && are_numbered (suc seat) rows
 
--- the recorded seats are numbered from 1, and the recorded people fill the step's seats, in its ceremony and at its moment
+-- the recorded seats are numbered from 1, and the recorded people fill the step's seats, in its ceremony and at its
+-- moment
 abbrev pub is_well_seated : View → StepRow → Option CeremonyRow → Option ℕ → Bool
 is_well_seated view row (Some ceremony) (Some t) =
     are_numbered 1 (seatings_at view.seatings.items row.ceremony row.step)
@@ -62,7 +65,8 @@ ceremony_in view number = find (λ row. row.number == number) view.ceremonies.it
 -- the row is of this step, which was signed or passed, and its recorded people are no seating
 abbrev pub is_ill_seated : View → ℕ → ℕ → StepRow → Bool
 is_ill_seated view ceremony step row =
-    row.ceremony == ceremony && row.step == step && is_done row.state && not (is_well_seated view row (ceremony_in view row.ceremony) row.at)
+    row.ceremony == ceremony && row.step == step && is_done row.state
+    && not (is_well_seated view row (ceremony_in view row.ceremony) row.at)
 
 -- CUSTODY, BY THE ROWS
 
@@ -90,9 +94,11 @@ is_doubled test rows = nat_lt 1 (count_by test rows)
 abbrev pub IsTrueOf : View → Finding → Type 0
 IsTrueOf view (Findings.Seating ceremony step) = IsTrue (list_any (is_ill_seated view ceremony step) view.steps.items)
 IsTrueOf view (Findings.Custody item) =
-    IsTrue (is_doubled (λ row. same_text row.code item) view.items.items || list_any (λ row. same_text row.code item && is_lost view row.rest) view.items.items)
+    IsTrue (is_doubled (λ row. same_text row.code item) view.items.items
+    || list_any (λ row. same_text row.code item && is_lost view row.rest) view.items.items)
 IsTrueOf view (Findings.Bag serial) =
-    IsTrue (is_doubled (λ row. same_text row.serial serial) view.bags.items || list_any (λ row. same_text row.serial serial && is_unboxed view row.spot) view.bags.items)
+    IsTrue (is_doubled (λ row. same_text row.serial serial) view.bags.items
+    || list_any (λ row. same_text row.serial serial && is_unboxed view row.spot) view.bags.items)
 IsTrueOf view (Findings.Key key) = IsTrue (is_doubled (λ row. same_text row.key key) view.keys.items)
 IsTrueOf view (Findings.Lone ceremony moment) = crowd_by view.sheet.items ceremony moment ≡ 1
 IsTrueOf view (Findings.Crowd ceremony moment) = 128 < crowd_by view.sheet.items ceremony moment
@@ -109,4 +115,5 @@ rank (Findings.Crowd ceremony moment) = 5
 -- what an audit answers: a finding that is true of the rows, while none of an earlier kind is; None where none is true
 abbrev pub IsAudit : View → Option Finding → Type 0
 IsAudit view None = (finding : Finding) → IsTrueOf view finding → ⊥
-IsAudit view (Some found) = IsTrueOf view found × ((other : Finding) → rank other < rank found → IsTrueOf view other → ⊥)
+IsAudit view (Some found) =
+    IsTrueOf view found × ((other : Finding) → rank other < rank found → IsTrueOf view other → ⊥)

@@ -1,5 +1,6 @@
 -- What the history says of ceremonies: their plans, steps, states and marks.
-use Rattle.std.specs.Prelude.{ℕ, zero, suc, ◌==◌, Bool, true, false, ◌&&◌, nat_le, List, [], ◌∷◌, map, filter, slice_get, Option, Some, None, option_map, is_some, is_none, unwrap_or, if◌then◌else◌}
+use Rattle.std.specs.Prelude.{ℕ, zero, suc, ◌==◌, Bool, true, false, ◌&&◌, nat_le, List, [], ◌∷◌, map, filter}
+use Rattle.std.specs.Prelude.{slice_get, Option, Some, None, option_map, is_some, is_none, unwrap_or, if◌then◌else◌}
 use Rattle.std.specs.List.{filter_map}
 use Rattle.std.specs.Result.{result_unwrap_or}
 use Rattle.kcr_base.specs.Days.{day_of}
@@ -8,7 +9,8 @@ use Rattle.kcr_base.specs.declared.place.Facility.TheVariants.{East}
 use Rattle.kcr_script.specs.declared.script.Step.{Step}
 use Rattle.kcr_script.specs.Reading.{script_of}
 use Rattle.kcr_history.specs.declared.commands.Act.{Act}
-use Rattle.kcr_history.specs.declared.commands.Act.TheVariants.{AddItem, Plan, Open, Close, Sign, Except, TurnSafe, Seal, Take, Put, Cut}
+use Rattle.kcr_history.specs.declared.commands.Act.TheVariants.{AddItem, Plan, Open, Close, Sign, Except, TurnSafe}
+use Rattle.kcr_history.specs.declared.commands.Act.TheVariants.{Seal, Take, Put, Cut}
 use Rattle.kcr_history.specs.History.{History, how_many, all_said, last_said, greatest}
 
 -- a planned ceremony
@@ -20,7 +22,8 @@ pub record Planned : Type 0 where
 -- what a command plans for the ceremony: its script's text is read as steps
 abbrev pub planned_as : ℕ → Act → Option Planned
 planned_as ceremony (Plan number facility day script) =
-    if number == ceremony then Some (record { facility = facility; day = day; steps = result_unwrap_or (script_of script) [] }) else None
+    if number == ceremony then Some
+    (record { facility = facility; day = day; steps = result_unwrap_or (script_of script) [] }) else None
 planned_as ceremony act = None
 
 -- the plan of the ceremony
@@ -134,4 +137,5 @@ exceptions_of A ceremony = how_many (is_exception ceremony) A
 -- step k may be signed at t: the ceremony is open, k is next and a step of its script, and t is not before the mark
 abbrev pub next : History → ℕ → ℕ → ℕ → Bool
 next A ceremony k t =
-    is_open A ceremony && k == next_step A ceremony && is_some (step_at (steps_of A ceremony) k) && is_not_before t (mark A ceremony)
+    is_open A ceremony && k == next_step A ceremony && is_some (step_at (steps_of A ceremony) k)
+    && is_not_before t (mark A ceremony)

@@ -18,7 +18,10 @@ use Rattle.kcr_history.specs.declared.rows.SeatingRow.{SeatingRow}
 use Rattle.kcr_history.specs.declared.rows.ExceptionRow.{ExceptionRow}
 use Rattle.kcr_history.specs.declared.rows.KeyRow.{KeyRow}
 use Rattle.kcr_history.specs.declared.views.Change.{Change}
-use Rattle.kcr_history.specs.declared.views.Change.TheVariants.{PutPerson, PutTraining, PutWithdrawal, PutAppointment, PutBox, PutSafe, PutBag, PutItem, PutCeremony, PutMark, PutStep, PutSeating, PutSheet, PutStay, PutException, PutKey}
+use Rattle.kcr_history.specs.declared.views.Change.TheVariants.{PutPerson, PutTraining, PutWithdrawal, PutAppointment}
+use Rattle.kcr_history.specs.declared.views.Change.TheVariants.{PutBox, PutSafe, PutBag, PutItem, PutCeremony, PutMark}
+use Rattle.kcr_history.specs.declared.views.Change.TheVariants.{PutStep, PutSeating, PutSheet, PutStay, PutException}
+use Rattle.kcr_history.specs.declared.views.Change.TheVariants.{PutKey}
 use Rattle.kcr_history.specs.Tables.{Tables}
 
 -- ROWS OF ONE KEY: a new row, and one that was there

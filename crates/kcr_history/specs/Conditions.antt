@@ -1,5 +1,7 @@
 -- When a command is refused: the conditions of each kind in the order of the refusals' numbers.
-use Rattle.std.specs.Prelude.{ℕ, ◌+◌, ◌==◌, Bool, true, false, not, ◌&&◌, ◌||◌, nat_lt, nat_le, List, [], ◌∷◌, ◌++◌, map, filter, find, length, Option, Some, None, option_map, option_and_then, is_some, is_none, unwrap_or, Result, Ok, Err, if◌then◌else◌}
+use Rattle.std.specs.Prelude.{ℕ, ◌+◌, ◌==◌, Bool, true, false, not, ◌&&◌, ◌||◌, nat_lt, nat_le, List, [], ◌∷◌, ◌++◌}
+use Rattle.std.specs.Prelude.{map, filter, find, length, Option, Some, None, option_map, option_and_then, is_some}
+use Rattle.std.specs.Prelude.{is_none, unwrap_or, Result, Ok, Err, if◌then◌else◌}
 use Rattle.std.specs.List.{list_any, list_all}
 use Rattle.kcr_base.specs.Days.{day_of}
 use Rattle.kcr_base.specs.Refuse.{when, first_of}
@@ -13,14 +15,18 @@ use Rattle.kcr_base.specs.declared.refusal.Absentee.TheVariants as Absentees
 use Rattle.kcr_base.specs.declared.refusal.Part.TheVariants as Parts
 use Rattle.kcr_base.specs.declared.refusal.Refusal.{Refusal}
 use Rattle.kcr_base.specs.declared.refusal.Refusal.TheVariants as Refusals
-use Rattle.kcr_base.specs.declared.refusal.Refusal.TheVariants.{Unknown, Taken, Range, Apart, Held, Vacant, Script, Busy, Late, Order, Turn, Crowd, Lone, Full, Elsewhere, Absent, Unfinished}
+use Rattle.kcr_base.specs.declared.refusal.Refusal.TheVariants.{Unknown, Taken, Range, Apart, Held, Vacant, Script}
+use Rattle.kcr_base.specs.declared.refusal.Refusal.TheVariants.{Busy, Late, Order, Turn, Crowd, Lone, Full, Elsewhere}
+use Rattle.kcr_base.specs.declared.refusal.Refusal.TheVariants.{Absent, Unfinished}
 use Rattle.kcr_base.specs.declared.refusal.Thing.TheVariants as Things
-use Rattle.kcr_people.specs.People.{place_held_from_by, person_holds_from_by, open_row_by, begins_too_late, settles, trained_from_by}
+use Rattle.kcr_people.specs.People.{place_held_from_by, person_holds_from_by, open_row_by, begins_too_late, settles}
+use Rattle.kcr_people.specs.People.{trained_from_by}
 use Rattle.kcr_custody.specs.declared.SafeNumber.{SafeNumber}
 use Rattle.kcr_custody.specs.declared.SafeNumber.TheVariants.{One, Two}
 use Rattle.kcr_custody.specs.declared.Store.{Store}
 use Rattle.kcr_custody.specs.declared.Store.TheVariants.{SafeOne, Boxed}
-use Rattle.kcr_custody.specs.Custody.{same_truth, is_co_place_of, is_loose_at, is_on_table, safe_of, safe_of_store, box_of, box_of_store}
+use Rattle.kcr_custody.specs.Custody.{same_truth, is_co_place_of, is_loose_at, is_on_table, safe_of, safe_of_store}
+use Rattle.kcr_custody.specs.Custody.{box_of, box_of_store}
 use Rattle.kcr_room.specs.declared.SheetRow.{SheetRow}
 use Rattle.kcr_room.specs.declared.Way.{Way}
 use Rattle.kcr_room.specs.declared.Way.TheVariants as Ways
@@ -30,10 +36,13 @@ use Rattle.kcr_room.specs.Stays.{stays_by, is_crowded_in_by, first_lone_in_by}
 use Rattle.kcr_script.specs.declared.script.Step.{Step}
 use Rattle.kcr_script.specs.Reading.{script_of}
 use Rattle.kcr_history.specs.declared.commands.Act.{Act}
-use Rattle.kcr_history.specs.declared.commands.Act.TheVariants.{Enter, Train, Withdraw, Appoint, Replace, Release, AddBox, AddItem, Plan, Open, Close, Sheet, Sign, Except, TurnSafe, Seal, Take, Put, Cut}
+use Rattle.kcr_history.specs.declared.commands.Act.TheVariants.{Enter, Train, Withdraw, Appoint, Replace, Release}
+use Rattle.kcr_history.specs.declared.commands.Act.TheVariants.{AddBox, AddItem, Plan, Open, Close, Sheet, Sign, Except}
+use Rattle.kcr_history.specs.declared.commands.Act.TheVariants.{TurnSafe, Seal, Take, Put, Cut}
 use Rattle.kcr_history.specs.History.{History, some_command, all_said}
 use Rattle.kcr_history.specs.Training.{is_person, trained, ever_trained, is_training, ever_put, holder}
-use Rattle.kcr_history.specs.Ceremonies.{is_ceremony, facility_of, day_planned, steps_of, step_at, opened, is_open, mark, settled, steps_done, next_step, exceptions_of}
+use Rattle.kcr_history.specs.Ceremonies.{is_ceremony, facility_of, day_planned, steps_of, step_at, opened, is_open}
+use Rattle.kcr_history.specs.Ceremonies.{mark, settled, steps_done, next_step, exceptions_of}
 use Rattle.kcr_history.specs.Room.{sheet, sheet_after, is_in, present, is_attended_by}
 use Rattle.kcr_history.specs.Custody.{spot, rest, is_safe_open, place_of_box, boxes_place}
 use Rattle.kcr_history.specs.Tables.{trainings, withdrawals, appointments, planned_number, sealed_serial}
@@ -108,7 +117,8 @@ vacant A place = when (is_none (open_row_by (appointments A) place)) Vacant
 
 -- on the day or a later one somebody holds the place, or the person holds a place
 abbrev pub place_or_person_holds : History → Place → List ℕ → ℕ → Bool
-place_or_person_holds A place who day = place_held_from_by (appointments A) place day || person_holds_from_by (appointments A) who day
+place_or_person_holds A place who day =
+    place_held_from_by (appointments A) place day || person_holds_from_by (appointments A) who day
 
 -- CEREMONIES
 
@@ -124,7 +134,8 @@ before_its_day A ceremony at = when (nat_lt (day_of at) (day_planned A ceremony)
 -- another ceremony is open in the facility
 abbrev pub busy : History → ℕ → Option Refusal
 busy A ceremony =
-    when (list_any (λ other. not (other == ceremony) && same_facility (facility_of A other) (facility_of A ceremony) && is_open A other) (all_said planned_number A)) Busy
+    when (list_any (λ other. not (other == ceremony) && same_facility (facility_of A other) (facility_of A ceremony)
+    && is_open A other) (all_said planned_number A)) Busy
 
 abbrev pub is_empty : {X : Type 0} → List X → Bool
 is_empty [] = true
@@ -132,21 +143,26 @@ is_empty (x ∷ xs) = false
 
 -- somebody is in the room at the moment, or a sheet row of the ceremony is later
 abbrev pub is_room_used : History → ℕ → ℕ → Bool
-is_room_used A ceremony at = not (is_empty (present A ceremony at)) || list_any (λ row. row.ceremony == ceremony && nat_lt at row.at) (sheet A)
+is_room_used A ceremony at =
+    not (is_empty (present A ceremony at)) || list_any (λ row. row.ceremony == ceremony && nat_lt at row.at) (sheet A)
 
--- what keeps the ceremony from closing, the first of: a step that is neither signed nor passed, its room, an open safe, a bag on the table
+-- what keeps the ceremony from closing, the first of: a step that is neither signed nor passed, its room, an open safe,
+-- a bag on the table
 abbrev pub unfinished : History → ℕ → ℕ → Option Refusal
 unfinished A ceremony at =
     first_of
     (when (nat_lt (steps_done A ceremony) (length (steps_of A ceremony))) (Unfinished Parts.Steps)
     ∷ when (is_room_used A ceremony at) (Unfinished Parts.Room)
-    ∷ when (is_safe_open A (facility_of A ceremony) One || is_safe_open A (facility_of A ceremony) Two) (Unfinished Parts.Safes)
-    ∷ when (list_any (λ serial. is_on_table (facility_of A ceremony) (spot A serial)) (all_said sealed_serial A)) (Unfinished Parts.Table)
+    ∷ when (is_safe_open A (facility_of A ceremony) One || is_safe_open A (facility_of A ceremony) Two)
+    (Unfinished Parts.Safes)
+    ∷ when (list_any (λ serial. is_on_table (facility_of A ceremony) (spot A serial)) (all_said sealed_serial A))
+    (Unfinished Parts.Table)
     ∷ [])
 
 -- THE ROOM
 
--- it is not the person's turn: the last row is not earlier than the moment, or it is no `in` after which an `out` may come, or no `out` after which an `in` may come
+-- it is not the person's turn: the last row is not earlier than the moment, or it is no `in` after which an `out` may
+-- come, or no `out` after which an `in` may come
 abbrev pub out_of_turn : History → ℕ → Way → ℕ → List ℕ → Option Refusal
 out_of_turn A ceremony way at who = when (is_out_of_turn_by (sheet A) ceremony way at who) (Turn who)
 
@@ -155,7 +171,8 @@ abbrev pub first_twice : List (List ℕ) → Option (List ℕ)
 first_twice [] = None
 first_twice (who ∷ people) = if list_any (same_text who) people then Some who else first_twice people
 
--- somebody is named twice, and the second row would be out of turn (such a request is refused 10 where it is read, before any register sees it)
+-- somebody is named twice, and the second row would be out of turn (such a request is refused 10 where it is read,
+-- before any register sees it)
 abbrev pub named_twice : List (List ℕ) → Option Refusal
 named_twice people = turn_refusal (first_twice people)
 
@@ -190,7 +207,8 @@ shut A facility (Some safe) = when (not (is_safe_open A facility safe)) Refusals
 
 -- the holder of the place is in the room
 abbrev pub has_holder_in : History → Place → ℕ → ℕ → Bool
-has_holder_in A place ceremony at = unwrap_or (option_map (λ who. is_in A who ceremony at) (holder A place (day_of at))) false
+has_holder_in A place ceremony at =
+    unwrap_or (option_map (λ who. is_in A who ceremony at) (holder A place (day_of at))) false
 
 -- the box's place has no holder on the day, or one who is not in the room
 abbrev pub no_holder : History → Facility → ℕ → ℕ → Option ℕ → Option Refusal

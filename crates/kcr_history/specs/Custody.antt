@@ -1,5 +1,6 @@
 -- What the history says of safes, boxes, bags and items: of each what the last command that bears on it says.
-use Rattle.std.specs.Prelude.{ℕ, ◌==◌, Bool, true, false, ◌&&◌, List, Option, Some, None, option_map, unwrap_or, if◌then◌else◌}
+use Rattle.std.specs.Prelude.{ℕ, ◌==◌, Bool, true, false, ◌&&◌, List, Option, Some, None, option_map, unwrap_or}
+use Rattle.std.specs.Prelude.{if◌then◌else◌}
 use Rattle.std.specs.List.{list_any}
 use Rattle.kcr_base.specs.Rows.{or_else}
 use Rattle.kcr_base.specs.Same.{same_text, same_place, same_facility}
@@ -70,7 +71,8 @@ rest A item =
 
 -- what a command says of the safe
 abbrev pub turned : (ℕ → Facility) → Facility → SafeNumber → Act → Option Bool
-turned here facility safe (TurnSafe c s state by at) = if same_facility (here c) facility && same_safe s safe then Some state else None
+turned here facility safe (TurnSafe c s state by at) =
+    if same_facility (here c) facility && same_safe s safe then Some state else None
 turned here facility safe act = None
 
 -- the safe is open: its last command says so; at first it is shut

@@ -1,5 +1,7 @@
--- The register as its history: the accepted commands, the last one first. `entry ∷ A` is A with the entry accepted after it.
-use Rattle.std.specs.Prelude.{ℕ, Bool, nat_le, List, [], ◌∷◌, length, filter, Option, Some, None, find, max, if◌then◌else◌}
+-- The register as its history: the accepted commands, the last one first. `entry ∷ A` is A with the entry accepted
+-- after it.
+use Rattle.std.specs.Prelude.{ℕ, Bool, nat_le, List, [], ◌∷◌, length, filter, Option, Some, None, find, max}
+use Rattle.std.specs.Prelude.{if◌then◌else◌}
 use Rattle.std.specs.List.{list_any, filter_map}
 use Rattle.kcr_base.specs.Rows.{or_else}
 use Rattle.kcr_base.specs.Same.{same_text}

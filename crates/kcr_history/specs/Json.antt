@@ -2,7 +2,8 @@
 use Rattle.std.specs.Prelude.{ℕ, List, ◌++◌, codes}
 use Rattle.std.specs.List.{join_with_byte}
 
--- a text that needs no escape, in quotes: no register's code, day or moment has a quote, a backslash or a control character
+-- a text that needs no escape, in quotes: no register's code, day or moment has a quote, a backslash or a control
+-- character
 abbrev pub quoted : List ℕ → List ℕ
 quoted text = codes "\"" ++ (text ++ codes "\"")
 

@@ -62,7 +62,8 @@ has_its_box A other = true
 
 -- a seal takes items that are loose at its ceremony's facility, a cut a bag that lies on its table
 abbrev pub is_in_place : History → Act → Bool
-is_in_place A (Seal ceremony serial items at) = list_all (λ item. is_loose_at (facility_of A ceremony) (rest A item)) items
+is_in_place A (Seal ceremony serial items at) =
+    list_all (λ item. is_loose_at (facility_of A ceremony) (rest A item)) items
 is_in_place A (Cut ceremony serial at) = is_on_table (facility_of A ceremony) (spot A serial)
 is_in_place A act = true
 
@@ -71,8 +72,9 @@ abbrev pub were_in_place : History → Bool
 were_in_place [] = true
 were_in_place (entry ∷ A) = is_in_place A entry.command.act && were_in_place A
 
--- items are neither lost nor doubled: those that were added are those that are loose or within a bag that is not spent, each
--- once; each serial was sealed once; what was sealed was loose, and what was cut lay on the table; each box that is named is there
+-- items are neither lost nor doubled: those that were added are those that are loose or within a bag that is not spent,
+-- each once; each serial was sealed once; what was sealed was loose, and what was cut lay on the table; each box that
+-- is named is there
 pub record IsBalanced (A : History) : Type 0 where
   pub added_once : IsTrue (all_differ (all_said added_item A))
   pub added_kept : (item : List ℕ) → IsTrue (is_added A item) ↔ IsTrue (is_kept A (rest A item))

@@ -1,5 +1,6 @@
 -- What the register answers to a command, and what its history is afterwards.
-use Rattle.std.specs.Prelude.{◌≡◌, ◌≢◌, ℕ, suc, ◌+◌, Bool, true, false, List, [], ◌∷◌, map, length, Option, Some, None, MatchOption, MatchResult, MatchBool, Result, ◌⊎◌, if◌then◌else◌}
+use Rattle.std.specs.Prelude.{◌≡◌, ◌≢◌, ℕ, suc, ◌+◌, Bool, true, false, List, [], ◌∷◌, map, length, Option, Some, None}
+use Rattle.std.specs.Prelude.{MatchOption, MatchResult, MatchBool, Result, ◌⊎◌, if◌then◌else◌}
 use Rattle.kcr_base.specs.declared.place.Role.TheVariants.{Ca, Iw}
 use Rattle.kcr_base.specs.declared.refusal.Refusal.{Refusal}
 use Rattle.kcr_base.specs.declared.refusal.Refusal.TheVariants.{Key, Short, Memory, Disk, Broken}
@@ -34,8 +35,10 @@ pub record Sitting : Type 0 where
 
 -- the seats of a signature are its step's, those of a passing exception CA and IW; other commands need none
 abbrev pub sitting : History → Act → Option Sitting
-sitting A (Sign ceremony step at) = Some (record { ceremony = ceremony; at = at; seats = seats_at (steps_of A ceremony) step })
-sitting A (Except ceremony text true at) = Some (record { ceremony = ceremony; at = at; seats = Staff Ca ∷ Staff Iw ∷ [] })
+sitting A (Sign ceremony step at) =
+    Some (record { ceremony = ceremony; at = at; seats = seats_at (steps_of A ceremony) step })
+sitting A (Except ceremony text true at) =
+    Some (record { ceremony = ceremony; at = at; seats = Staff Ca ∷ Staff Iw ∷ [] })
 sitting A act = None
 
 -- ANSWERS
@@ -48,8 +51,14 @@ plain_answer A = record { accepted = length A + 1; exception = None; seating = N
 -- ceremony and, where it passes a step, that step; the seating where there is one
 abbrev pub answer_to : History → Act → Option (List (List ℕ)) → Answer
 answer_to A (Sign ceremony step at) people = record (plain_answer A) { seating = people; step = Some step }
-answer_to A (Except ceremony text true at) people = record (plain_answer A) { exception = Some (suc (exceptions_of A ceremony)); seating = people; step = Some (next_step A ceremony) }
-answer_to A (Except ceremony text false at) people = record (plain_answer A) { exception = Some (suc (exceptions_of A ceremony)) }
+answer_to A (Except ceremony text true at) people =
+    record (plain_answer A) {
+      exception = Some (suc (exceptions_of A ceremony));
+      seating = people;
+      step = Some (next_step A ceremony);
+    }
+answer_to A (Except ceremony text false at) people =
+    record (plain_answer A) { exception = Some (suc (exceptions_of A ceremony)) }
 answer_to A act people = plain_answer A
 
 -- the history with the command accepted after it
@@ -69,21 +78,26 @@ refuses A refusal outcome A' = (outcome ≡ Refuses refusal) × (A' ≡ A)
 -- seats are needed: the first seating is recorded, or a least shortage is told, its positions counted from 1
 abbrev pub seats : History → Command → Sitting → Outcome → History → Type 0
 seats A x s outcome A' =
-    ((people : List (List ℕ)) × IsFirst A s.ceremony s.at s.seats people × accepts A x (answer_to A x.act (Some people)) outcome A')
-    ⊎ ((positions : List ℕ) × IsLeast A s.ceremony s.at s.seats positions × refuses A (Short (map suc positions)) outcome A')
+    ((people : List (List ℕ)) × IsFirst A s.ceremony s.at s.seats people
+    × accepts A x (answer_to A x.act (Some people)) outcome A')
+    ⊎ ((positions : List ℕ) × IsLeast A s.ceremony s.at s.seats positions
+    × refuses A (Short (map suc positions)) outcome A')
 
 -- a new key: the first refusal; or seats are needed; or the command is accepted
 abbrev pub acts : History → Command → Option Refusal → Outcome → History → Type 0
 acts A x (Some refusal) outcome A' = refuses A refusal outcome A'
-acts A x None outcome A' = MatchOption (sitting A x.act) (accepts A x (answer_to A x.act None) outcome A') (λ s. seats A x s outcome A')
+acts A x None outcome A' =
+    MatchOption (sitting A x.act) (accepts A x (answer_to A x.act None) outcome A') (λ s. seats A x s outcome A')
 
 -- a key that was accepted before: with the same command its kept answer, with another a refusal; nothing changes
 abbrev pub repeats : History → Command → Entry → Outcome → History → Type 0
-repeats A x kept outcome A' = (outcome ≡ (if same_command kept.command.act x.act then Accepts kept.answer else Refuses Key)) × (A' ≡ A)
+repeats A x kept outcome A' =
+    (outcome ≡ (if same_command kept.command.act x.act then Accepts kept.answer else Refuses Key)) × (A' ≡ A)
 
 -- one step of the machine: from history A the command has this outcome and leads to A'
 abbrev pub machine : History → Command → Outcome → History → Type 0
-machine A x outcome A' = MatchOption (entry_of A x.key) (acts A x (fault A x.act) outcome A') (λ kept. repeats A x kept outcome A')
+machine A x outcome A' =
+    MatchOption (entry_of A x.key) (acts A x (fault A x.act) outcome A') (λ kept. repeats A x kept outcome A')
 
 -- a history that the machine leads to from the empty one
 abbrev pub IsRegister : History → Type 0
@@ -92,7 +106,8 @@ IsRegister (entry ∷ A) = machine A entry.command (Accepts entry.answer) (entry
 
 -- DECISIONS
 
--- the verdict accepts the command with this answer: its changes lead from the tables before to those after, up to the order of rows; its reply is the answer's text
+-- the verdict accepts the command with this answer: its changes lead from the tables before to those after, up to the
+-- order of rows; its reply is the answer's text
 pub record IsAcceptance (A : History) (x : Command) (verdict : Verdict) (answer : Answer) : Type 0 where
   pub step : machine A x (Accepts answer) (with_command A x answer)
   pub tables : SameTables (changed_by verdict.changes.items (tables A)) (tables (with_command A x answer))

@@ -1,5 +1,6 @@
 -- The three reports, byte by byte: the annotated script of a ceremony, its attendance, and custody.
-use Rattle.std.specs.Prelude.{ℕ, ◌==◌, Bool, true, false, ◌&&◌, ◌||◌, nat_lt, List, [], ◌∷◌, ◌++◌, map, filter, find, codes, Option, Some, None, option_map, unwrap_or, if◌then◌else◌}
+use Rattle.std.specs.Prelude.{ℕ, ◌==◌, Bool, true, false, ◌&&◌, ◌||◌, nat_lt, List, [], ◌∷◌, ◌++◌, map, filter, find}
+use Rattle.std.specs.Prelude.{codes, Option, Some, None, option_map, unwrap_or, if◌then◌else◌}
 use Rattle.std.specs.Fmt.{decimal}
 use Rattle.std.specs.List.{list_any, flat_map, join_with_byte}
 use Rattle.kcr_base.specs.Same.{same_text, is_before}
@@ -73,7 +74,8 @@ moment_line word (Some at) = line_of (word ∷ moment_text at ∷ [])
 
 -- the rows of the step's seating, seat by seat
 abbrev pub seatings_at : List SeatingRow → ℕ → ℕ → List SeatingRow
-seatings_at rows ceremony step = in_order (λ a b. nat_lt a.seat b.seat) (filter (λ row. row.ceremony == ceremony && row.step == step) rows)
+seatings_at rows ceremony step =
+    in_order (λ a b. nat_lt a.seat b.seat) (filter (λ row. row.ceremony == ceremony && row.step == step) rows)
 
 -- the people of the step, seat by seat
 abbrev pub seated_at : List SeatingRow → ℕ → ℕ → List (List ℕ)
@@ -128,7 +130,8 @@ steps_in_order A ceremony = in_order (λ a b. nat_lt a.step b.step) (filter (λ 
 
 -- the exceptions of the ceremony in order
 abbrev pub exceptions_in_order : History → ℕ → List ExceptionRow
-exceptions_in_order A ceremony = in_order (λ a b. nat_lt a.exception b.exception) (filter (λ row. row.ceremony == ceremony) (exceptions A))
+exceptions_in_order A ceremony =
+    in_order (λ a b. nat_lt a.exception b.exception) (filter (λ row. row.ceremony == ceremony) (exceptions A))
 
 -- the annotated script of a planned ceremony
 abbrev pub annotated : History → ℕ → List ℕ
@@ -163,7 +166,9 @@ csv_line fields = ends_line (join_with_byte 44 (map csv_field fields))
 
 -- who, with their name, and when they came and went
 abbrev pub stay_line : List Person → Stay → List ℕ
-stay_line rows stay = csv_line (stay.who ∷ name_of rows stay.who ∷ moment_text stay.since ∷ unwrap_or (option_map moment_text stay.until) [] ∷ [])
+stay_line rows stay =
+    csv_line (stay.who ∷ name_of rows stay.who ∷ moment_text stay.since
+    ∷ unwrap_or (option_map moment_text stay.until) [] ∷ [])
 
 -- the attendance of a ceremony: a row for each stay, by its beginning, then initials
 abbrev pub attendance : History → ℕ → List ℕ
@@ -199,7 +204,8 @@ packed_line item = ends_line (codes "  " ++ item.code)
 
 -- a bag, where it is, and its items
 abbrev pub bag_lines : List Item → Bag → List ℕ
-bag_lines rows bag = line_of (bag.serial ∷ spot_text bag.spot ∷ []) ++ flat_map packed_line (filter (lies_in bag.serial) rows)
+bag_lines rows bag =
+    line_of (bag.serial ∷ spot_text bag.spot ∷ []) ++ flat_map packed_line (filter (lies_in bag.serial) rows)
 
 -- an item that is loose: where, and its code
 abbrev pub loose_line : Item → List ℕ

@@ -1,5 +1,6 @@
 -- What a question is shown by a register with a history.
-use Rattle.std.specs.Prelude.{◌≡◌, ℕ, ◌==◌, Bool, false, ◌&&◌, ◌||◌, nat_lt, List, ◌++◌, map, filter, find, All, AllPairs, IsPermutation, IsTrue, Option, Some, None, option_map}
+use Rattle.std.specs.Prelude.{◌≡◌, ℕ, ◌==◌, Bool, false, ◌&&◌, ◌||◌, nat_lt, List, ◌++◌, map, filter, find, All}
+use Rattle.std.specs.Prelude.{AllPairs, IsPermutation, IsTrue, Option, Some, None, option_map}
 use Rattle.std.specs.List.{filter_map}
 use Rattle.kcr_base.specs.Same.{is_before, role_number}
 use Rattle.kcr_base.specs.declared.place.Facility.TheVariants.{East, West}
@@ -40,13 +41,16 @@ withdrawn_day rows row = option_map (λ withdrawal. withdrawal.day) (find (is_of
 
 -- a training as it is shown, by the rows of the withdrawals
 abbrev pub role_shown : List Withdrawal → Training → RoleShown
-role_shown rows row = record { since = row.since; role = row.role; until = row.until; withdrawn = withdrawn_day rows row }
+role_shown rows row =
+    record { since = row.since; role = row.role; until = row.until; withdrawn = withdrawn_day rows row }
 
 -- the first stands before the second: by first day, then role, then last day
 abbrev pub is_role_before : RoleShown → RoleShown → Bool
 is_role_before a b =
     nat_lt a.since b.since
-    || (a.since == b.since && (nat_lt (role_number a.role) (role_number b.role) || (role_number a.role == role_number b.role && nat_lt a.until b.until)))
+    || (a.since == b.since
+    && (nat_lt (role_number a.role) (role_number b.role)
+    || (role_number a.role == role_number b.role && nat_lt a.until b.until)))
 
 -- the trainings of the person as they are shown, by the rows of the trainings and of the withdrawals
 abbrev pub roles_of : List Training → List Withdrawal → List ℕ → List RoleShown
@@ -135,5 +139,6 @@ NamesAsked question refusal = ⊥
 -- and it is not there: no such bag was sealed, no such ceremony planned
 abbrev pub IsMissing : History → Question → Refusal → Type 0
 IsMissing A (asked.Bag serial) refusal = (spot A serial ≡ None) × NamesAsked (asked.Bag serial) refusal
-IsMissing A (asked.Room ceremony at) refusal = (is_ceremony A ceremony ≡ false) × NamesAsked (asked.Room ceremony at) refusal
+IsMissing A (asked.Room ceremony at) refusal =
+    (is_ceremony A ceremony ≡ false) × NamesAsked (asked.Room ceremony at) refusal
 IsMissing A question refusal = ⊥

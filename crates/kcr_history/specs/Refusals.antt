@@ -5,7 +5,8 @@ use Rattle.kcr_base.specs.Day.{day_text}
 use Rattle.kcr_base.specs.Moment.{moment_text}
 use Rattle.kcr_base.specs.Refusal.{number_of, word_of, member_text, thing_text, absentee_text, part_text}
 use Rattle.kcr_base.specs.declared.refusal.Refusal.{Refusal}
-use Rattle.kcr_base.specs.declared.refusal.Refusal.TheVariants.{Form, Unknown, Settled, Script, Late, Order, Turn, Lone, Absent, Unfinished, Short}
+use Rattle.kcr_base.specs.declared.refusal.Refusal.TheVariants.{Form, Unknown, Settled, Script, Late, Order, Turn, Lone}
+use Rattle.kcr_base.specs.declared.refusal.Refusal.TheVariants.{Absent, Unfinished, Short}
 use Rattle.kcr_history.specs.Json.{quoted, member, object, array}
 
 -- the refusal carries something beside its number and its word
@@ -23,7 +24,8 @@ carries (Unfinished x) = true
 carries (Short x) = true
 carries refusal = false
 
--- a refusal's members in byte order: what it carries stands before `number`, between `number` and `refusal`, or behind both
+-- a refusal's members in byte order: what it carries stands before `number`, between `number` and `refusal`, or behind
+-- both
 abbrev pub refused_with : List (List ℕ) → Refusal → List (List ℕ) → List (List ℕ) → List ℕ
 refused_with before refusal between after =
     object

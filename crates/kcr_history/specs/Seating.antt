@@ -1,5 +1,7 @@
 -- Who is eligible for a seat, what a seating is, and what a shortage is.
-use Rattle.std.specs.Prelude.{◌≡◌, ◌≢◌, ℕ, suc, ◌<◌, ◌==◌, Bool, true, false, not, ◌&&◌, nat_lt, nat_le, List, [], ◌∷◌, map, filter, length, Option, Some, None, slice_get, slice_index, EachIndex, if◌then◌else◌, IsTrue}
+use Rattle.std.specs.Prelude.{◌≡◌, ◌≢◌, ℕ, suc, ◌<◌, ◌==◌, Bool, true, false, not, ◌&&◌, nat_lt, nat_le, List, [], ◌∷◌}
+use Rattle.std.specs.Prelude.{map, filter, length, Option, Some, None, slice_get, slice_index, EachIndex, if◌then◌else◌}
+use Rattle.std.specs.Prelude.{IsTrue}
 use Rattle.std.specs.List.{list_any, list_all}
 use Rattle.std.specs.List.Sorted.{IsStrictlyIncreasing}
 use Rattle.kcr_base.specs.Same.{same_text, is_before}
@@ -40,7 +42,8 @@ is_seating A ceremony t (seat ∷ seats) (who ∷ people) =
     eligible A ceremony t seat who && not (list_any (same_text who) people) && is_seating A ceremony t seats people
 is_seating A ceremony t seats people = false
 
--- of two lists of people of one length: at the first position that differs, the first list's person comes earlier in byte order
+-- of two lists of people of one length: at the first position that differs, the first list's person comes earlier in
+-- byte order
 abbrev pub comes_first : List (List ℕ) → List (List ℕ) → Bool
 comes_first (a ∷ people) (b ∷ others) = if same_text a b then comes_first people others else is_before a b
 comes_first people others = false
@@ -48,7 +51,8 @@ comes_first people others = false
 -- the first seating: in every other one the first position that differs has initials later in byte order
 pub record IsFirst (A : History) (ceremony t : ℕ) (seats : List Seat) (people : List (List ℕ)) : Type 0 where
   pub seating : IsTrue (is_seating A ceremony t seats people)
-  pub first : (others : List (List ℕ)) → IsTrue (is_seating A ceremony t seats others) → others ≢ people → IsTrue (comes_first people others)
+  pub first : (others : List (List ℕ)) → IsTrue (is_seating A ceremony t seats others) → others ≢ people
+      → IsTrue (comes_first people others)
 
 -- SHORTAGES
 
@@ -62,7 +66,8 @@ is_eligible_at A ceremony t seats who position = eligible_if (slice_get seats po
 
 -- everybody in the room who is eligible for at least one of the positions
 abbrev pub who_fit : History → ℕ → ℕ → List Seat → List ℕ → List (List ℕ)
-who_fit A ceremony t seats positions = filter (λ who. list_any (is_eligible_at A ceremony t seats who) positions) (present A ceremony t)
+who_fit A ceremony t seats positions =
+    filter (λ who. list_any (is_eligible_at A ceremony t seats who) positions) (present A ceremony t)
 
 -- the positions rise, each from `low` on and below `high`
 abbrev pub rise : ℕ → ℕ → List ℕ → Bool
@@ -71,7 +76,8 @@ rise low high (position ∷ positions) = nat_le low position && nat_lt position 
 
 -- positions of seats, rising from 0: fewer people than there are of them are eligible for at least one
 abbrev pub is_short : History → ℕ → ℕ → List Seat → List ℕ → Bool
-is_short A ceremony t seats positions = rise 0 (length seats) positions && nat_lt (length (who_fit A ceremony t seats positions)) (length positions)
+is_short A ceremony t seats positions =
+    rise 0 (length seats) positions && nat_lt (length (who_fit A ceremony t seats positions)) (length positions)
 
 -- each of the first positions is one of the second, and they are fewer
 abbrev pub is_proper_part : List ℕ → List ℕ → Bool

@@ -1,5 +1,6 @@
 -- The tables of a history: for each table its rows, the one that was put first last.
-use Rattle.std.specs.Prelude.{ℕ, suc, ◌==◌, Bool, true, ◌&&◌, List, [], ◌∷◌, map, reverse, length, Option, Some, None, option_map, is_some, unwrap_or, if◌then◌else◌}
+use Rattle.std.specs.Prelude.{ℕ, suc, ◌==◌, Bool, true, ◌&&◌, List, [], ◌∷◌, map, reverse, length, Option, Some, None}
+use Rattle.std.specs.Prelude.{option_map, is_some, unwrap_or, if◌then◌else◌}
 use Rattle.std.specs.List.{filter_map}
 use Rattle.std.specs.List.Sorted.{IsPermutation}
 use Rattle.std.specs.Result.{result_unwrap_or}
@@ -29,7 +30,8 @@ use Rattle.kcr_script.specs.declared.seat.Seat.{Seat}
 use Rattle.kcr_script.specs.declared.script.Step.{Step}
 use Rattle.kcr_script.specs.Reading.{script_of}
 use Rattle.kcr_history.specs.declared.commands.Act.{Act}
-use Rattle.kcr_history.specs.declared.commands.Act.TheVariants.{Enter, Train, Withdraw, Appoint, Replace, Release, AddBox, AddItem, Plan, Sign, Except, Seal}
+use Rattle.kcr_history.specs.declared.commands.Act.TheVariants.{Enter, Train, Withdraw, Appoint, Replace, Release}
+use Rattle.kcr_history.specs.declared.commands.Act.TheVariants.{AddBox, AddItem, Plan, Sign, Except, Seal}
 use Rattle.kcr_history.specs.declared.commands.Entry.{Entry}
 use Rattle.kcr_history.specs.declared.rows.CeremonyState.{CeremonyState}
 use Rattle.kcr_history.specs.declared.rows.CeremonyState.TheVariants as States
@@ -42,7 +44,8 @@ use Rattle.kcr_history.specs.declared.rows.SeatingRow.{SeatingRow}
 use Rattle.kcr_history.specs.declared.rows.ExceptionRow.{ExceptionRow}
 use Rattle.kcr_history.specs.declared.rows.KeyRow.{KeyRow}
 use Rattle.kcr_history.specs.History.{History, all_said, last_by, stacked_on}
-use Rattle.kcr_history.specs.Ceremonies.{opened_number, facility_of, day_planned, steps_of, step_at, opened, closed, mark}
+use Rattle.kcr_history.specs.Ceremonies.{opened_number, facility_of, day_planned, steps_of, step_at, opened, closed}
+use Rattle.kcr_history.specs.Ceremonies.{mark}
 use Rattle.kcr_history.specs.Room.{sheet}
 use Rattle.kcr_history.specs.Custody.{spot, rest, is_safe_open}
 use Rattle.kcr_history.specs.Texts.{command_text, answer_text}
@@ -75,7 +78,8 @@ boxes A = all_said box_row A
 -- a withdrawal bears on the trainings of the person for the role that stand then and end on its day or later: each gets
 -- a row with that day, or keeps an earlier one
 abbrev pub withdrawals_after : Act → List Training → List Withdrawal → List Withdrawal
-withdrawals_after (Withdraw who role day) rows withdrawn = put_all same_withdrawn (withdrawn_rows rows withdrawn who role day) withdrawn
+withdrawals_after (Withdraw who role day) rows withdrawn =
+    put_all same_withdrawn (withdrawn_rows rows withdrawn who role day) withdrawn
 withdrawals_after act rows withdrawn = withdrawn
 
 abbrev pub withdrawals : History → List Withdrawal
@@ -95,7 +99,8 @@ ended place day row = record row { until = end_at (same_place row.place place) r
 
 abbrev pub appointments_after : Act → List Appointment → List Appointment
 appointments_after (Appoint place who day) rows = record { place = place; who = who; since = day; until = None } ∷ rows
-appointments_after (Replace place who day) rows = record { place = place; who = who; since = day; until = None } ∷ map (ended place day) rows
+appointments_after (Replace place who day) rows =
+    record { place = place; who = who; since = day; until = None } ∷ map (ended place day) rows
 appointments_after (Release place day) rows = map (ended place day) rows
 appointments_after act rows = rows
 
@@ -137,7 +142,8 @@ items A = map (item_row A) (all_said added_item A)
 
 abbrev pub state_of : History → ℕ → CeremonyState
 state_of A ceremony =
-    if is_some (closed A ceremony) then States.Closed else (if is_some (opened A ceremony) then States.Open else States.Planned)
+    if is_some (closed A ceremony) then States.Closed else
+    (if is_some (opened A ceremony) then States.Open else States.Planned)
 
 abbrev pub planned_number : Act → Option ℕ
 planned_number (Plan number facility day script) = Some number
@@ -168,7 +174,8 @@ marks A = map (mark_row A) (all_said opened_number A)
 -- what an accepted command does to step k of the ceremony, and when: it signs it, or passes over it
 abbrev pub step_done : ℕ → ℕ → Act → Option ℕ → Option (StepState × ℕ)
 step_done ceremony k (Sign c step at) said = if c == ceremony && step == k then Some (Signed, at) else None
-step_done ceremony k (Except c text pass at) (Some step) = if c == ceremony && step == k then Some (Passed, at) else None
+step_done ceremony k (Except c text pass at) (Some step) =
+    if c == ceremony && step == k then Some (Passed, at) else None
 step_done ceremony k act said = None
 
 -- what became of the step, None while it is neither signed nor passed
@@ -182,7 +189,8 @@ numbered ceremony k (x ∷ xs) = (ceremony, suc k) ∷ numbered ceremony (suc k)
 
 -- the steps that a command plans, after those planned before
 abbrev pub step_keys_after : Act → List (ℕ × ℕ) → List (ℕ × ℕ)
-step_keys_after (Plan number facility day script) keys = stacked_on (numbered number 0 (result_unwrap_or (script_of script) [])) keys
+step_keys_after (Plan number facility day script) keys =
+    stacked_on (numbered number 0 (result_unwrap_or (script_of script) [])) keys
 step_keys_after act keys = keys
 
 -- ceremony and number of each step that was planned
@@ -230,12 +238,14 @@ seating_rows ceremony step people = []
 
 abbrev pub seatings : History → List SeatingRow
 seatings [] = []
-seatings (entry ∷ A) = stacked_on (seating_rows (ceremony_of_step entry.command.act) entry.answer.step entry.answer.seating) (seatings A)
+seatings (entry ∷ A) =
+    stacked_on (seating_rows (ceremony_of_step entry.command.act) entry.answer.step entry.answer.seating) (seatings A)
 
 -- EXCEPTIONS: ONE FOR EACH COMMAND THAT STATES ONE, NUMBERED AND WITH THE STEP THAT IT PASSED, AS ITS ANSWER SAYS
 
 abbrev pub exception_row : Act → Option ℕ → Option ℕ → Option ExceptionRow
-exception_row (Except c text pass at) (Some number) passed = Some (record { ceremony = c; exception = number; text = text; at = at; passed = passed })
+exception_row (Except c text pass at) (Some number) passed =
+    Some (record { ceremony = c; exception = number; text = text; at = at; passed = passed })
 exception_row act number passed = None
 
 abbrev pub exceptions : History → List ExceptionRow
@@ -244,7 +254,13 @@ exceptions A = filter_map (λ entry. exception_row entry.command.act entry.answe
 -- KEYS: ONE FOR EACH ACCEPTED COMMAND
 
 abbrev pub key_row : Entry → KeyRow
-key_row entry = record { key = entry.command.key; accepted = entry.answer.accepted; command = command_text entry.command.act; reply = answer_text entry.answer }
+key_row entry =
+    record {
+      key = entry.command.key;
+      accepted = entry.answer.accepted;
+      command = command_text entry.command.act;
+      reply = answer_text entry.answer;
+    }
 
 abbrev pub keys : History → List KeyRow
 keys A = map key_row A

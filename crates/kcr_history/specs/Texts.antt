@@ -14,7 +14,9 @@ use Rattle.kcr_custody.specs.declared.Store.{Store}
 use Rattle.kcr_custody.specs.declared.Store.TheVariants.{SafeOne, Boxed}
 use Rattle.kcr_room.specs.Room.{way_text}
 use Rattle.kcr_history.specs.declared.commands.Act.{Act}
-use Rattle.kcr_history.specs.declared.commands.Act.TheVariants.{Enter, Train, Withdraw, Appoint, Replace, Release, AddBox, AddItem, Plan, Open, Close, Sheet, Sign, Except, TurnSafe, Seal, Take, Put, Cut}
+use Rattle.kcr_history.specs.declared.commands.Act.TheVariants.{Enter, Train, Withdraw, Appoint, Replace, Release}
+use Rattle.kcr_history.specs.declared.commands.Act.TheVariants.{AddBox, AddItem, Plan, Open, Close, Sheet, Sign, Except}
+use Rattle.kcr_history.specs.declared.commands.Act.TheVariants.{TurnSafe, Seal, Take, Put, Cut}
 use Rattle.kcr_history.specs.declared.commands.Answer.{Answer}
 use Rattle.kcr_history.specs.Json.{quoted, member, object, array}
 
@@ -79,7 +81,8 @@ command_text (Close ceremony at) = at_ceremony ceremony (codes "closing") ++ lin
 command_text (Sheet ceremony way who at) = at_ceremony ceremony (codes "sheet") ++ line (way_text way) ++ line (listed who) ++ line (moment_text at)
 command_text (Sign ceremony step at) = at_step ceremony step ++ line (moment_text at)
 command_text (Except ceremony text pass at) = at_ceremony ceremony (codes "exceptions") ++ line text ++ line (truth_text pass) ++ line (moment_text at)
-command_text (TurnSafe ceremony safe state by at) = at_safe ceremony safe ++ line (truth_text state) ++ line by ++ line (moment_text at)
+command_text (TurnSafe ceremony safe state by at) =
+    at_safe ceremony safe ++ line (truth_text state) ++ line by ++ line (moment_text at)
 command_text (Seal ceremony serial items at) = at_bag ceremony serial (codes "seal") ++ line (listed items) ++ line (moment_text at)
 command_text (Take ceremony serial at) = at_bag ceremony serial (codes "take") ++ line (moment_text at)
 command_text (Put ceremony serial to at) = at_bag ceremony serial (codes "put") ++ line (store_text to) ++ line (moment_text at)
@@ -100,7 +103,8 @@ member_if name (Some value) = member name value ∷ []
 abbrev pub people_array : List (List ℕ) → List ℕ
 people_array people = array (map quoted people)
 
--- the JSON text of the reply to an accepted command: its number; an exception's number, the seating and the step where there are such
+-- the JSON text of the reply to an accepted command: its number; an exception's number, the seating and the step where
+-- there are such
 abbrev pub answer_text : Answer → List ℕ
 answer_text answer =
     object

@@ -1,5 +1,6 @@
 -- Which rows a command asks for, and when a view holds them.
-use Rattle.std.specs.Prelude.{◌≡◌, ℕ, ◌==◌, Bool, true, false, nat_le, List, [], ◌∷◌, filter, find, Option, Some, None, max, if◌then◌else◌}
+use Rattle.std.specs.Prelude.{◌≡◌, ℕ, ◌==◌, Bool, true, false, nat_le, List, [], ◌∷◌, filter, find, Option, Some, None}
+use Rattle.std.specs.Prelude.{max, if◌then◌else◌}
 use Rattle.std.specs.List.{list_any}
 use Rattle.std.specs.List.Sorted.{IsPermutation}
 use Rattle.kcr_base.specs.Same.{same_text, same_place}
@@ -118,7 +119,8 @@ abbrev pub greatest_number : List KeyRow → ℕ
 greatest_number [] = 0
 greatest_number (row ∷ rows) = max row.accepted (greatest_number rows)
 
--- the view holds the rows asked for; of the accepted commands it has the row of the key, if there is one, and the greatest number
+-- the view holds the rows asked for; of the accepted commands it has the row of the key, if there is one, and the
+-- greatest number
 pub record IsViewOf (asks : Asks) (t : Tables) (view : View) : Type 0 where
   pub people : Shows is_of_people asks.people t.people view.people.items
   pub trainings : Shows is_training_of asks.trainings t.trainings view.trainings.items

@@ -106,8 +106,8 @@ fn holds_some_rksh(rows: &[Appointment], day: Day, who: Initials) -> bool
         .any(|number| holds_rksh(rows, *number, day, who))
 }
 
-/// Whether the person fits the seat on the day, in a ceremony of the facility, by the rows of trainings, of withdrawals and
-/// of appointments.
+/// Whether the person fits the seat on the day, in a ceremony of the facility, by the rows of trainings, of withdrawals
+/// and of appointments.
 pub fn fits(
     trainings: &[Training],
     withdrawals: &[Withdrawal],

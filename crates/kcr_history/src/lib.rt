@@ -38,4 +38,6 @@ pub use rows::{
     CeremonyRow, CeremonyState, ExceptionRow, KeyRow, MarkRow, SeatingRow, StepRow, StepState,
 };
 pub use texts::command_text;
-pub use views::{AppointmentsOf, Asks, Change, Finding, ItemsOf, Selection, StaysOf, Verdict, View};
+pub use views::{
+    AppointmentsOf, Asks, Change, Finding, ItemsOf, Selection, StaysOf, Verdict, View,
+};

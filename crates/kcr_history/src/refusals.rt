@@ -13,7 +13,8 @@ use std::alloc::{AllocError, Global};
 /// carries something. It takes no memory, so out of memory itself (33), a fault of the device (34) and a broken
 /// register (35) can always be answered.
 pub fn fixed_text(refusal: &Refusal) -> Option<&'static str>
-    ensures { MatchOption result (IsTrue (Refusals.carries refusal.now)) (λ text. text.now ≡ Refusals.refusal_text refusal.now) }
+    ensures { MatchOption result
+        (IsTrue (Refusals.carries refusal.now)) (λ text. text.now ≡ Refusals.refusal_text refusal.now) }
 {
     match refusal {
         Refusal::Head => Some("{\"number\":1,\"refusal\":\"head\"}"),

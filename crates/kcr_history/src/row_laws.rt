@@ -27,8 +27,8 @@ pub fn people_of_rows()
     ensures put { (A : History) (who : List ℕ) → ever_put_by (appointments A) who ≡ ever_put A who }
 {}
 
-/// By the trainings and withdrawals of a register somebody is trained for a role on a day exactly where its history says
-/// so: the last command that says something of it is a training that covers the day.
+/// By the trainings and withdrawals of a register somebody is trained for a role on a day exactly where its history
+/// says so: the last command that says something of it is a training that covers the day.
 pub fn training_of_rows()
     ensures { (A : History) → IsRegister A → (who : List ℕ) (role : Role) (day : ℕ) →
         trained_by (trainings A) (withdrawals A) who role day ≡ trained A who role day }

@@ -188,7 +188,8 @@ fn turn_text(
     by: Initials,
     at: Moment,
 ) -> Result<String, AllocError>
-    ensures { IfOk result (λ text. string_bytes text ≡ Texts.command_text (Kinds.TurnSafe ceremony safe is_open by at)) }
+    ensures { IfOk result (λ text. string_bytes text ≡ Texts.command_text
+        (Kinds.TurnSafe ceremony safe is_open by at)) }
 {
     let text = at_safe(alloc, ceremony, safe)?;
     let text = with_line(text, truth_text(is_open))?;

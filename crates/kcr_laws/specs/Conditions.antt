@@ -1,5 +1,6 @@
 -- When commands are accepted and refused, in the words of the subject.
-use Rattle.std.specs.Prelude.{◌≡◌, ◌≢◌, ℕ, suc, ◌<◌, ◌≤◌, List, map, Option, Some, None, is_some, unwrap_or, if◌then◌else◌, IsTrue}
+use Rattle.std.specs.Prelude.{◌≡◌, ◌≢◌, ℕ, suc, ◌<◌, ◌≤◌, List, map, Option, Some, None, is_some, unwrap_or}
+use Rattle.std.specs.Prelude.{if◌then◌else◌, IsTrue}
 use Rattle.kcr_base.specs.Same.{same_place}
 use Rattle.kcr_base.specs.declared.place.Place.{Place}
 use Rattle.kcr_base.specs.declared.place.Role.{Role}
@@ -29,12 +30,14 @@ IsAccepted A x = (answer : Answer) × machine A x (Accepts answer) (with_command
 
 -- some people, all distinct and in the room at the moment, are each eligible for the seat of the step in their position
 abbrev pub CanFill : History → ℕ → ℕ → ℕ → Type 0
-CanFill A ceremony step at = (people : List (List ℕ)) × IsTrue (is_seating A ceremony at (seats_at (steps_of A ceremony) step) people)
+CanFill A ceremony step at =
+    (people : List (List ℕ)) × IsTrue (is_seating A ceremony at (seats_at (steps_of A ceremony) step) people)
 
 -- the machine refuses the signature, and names a least set of the step's seats that fewer people fit, counted from 1
 abbrev pub IsShortOf : History → List ℕ → ℕ → ℕ → ℕ → Type 0
 IsShortOf A key ceremony step at =
-    (positions : List ℕ) × IsLeast A ceremony at (seats_at (steps_of A ceremony) step) positions × machine A (signature key ceremony step at) (Refuses (Short (map suc positions))) A
+    (positions : List ℕ) × IsLeast A ceremony at (seats_at (steps_of A ceremony) step) positions
+    × machine A (signature key ceremony step at) (Refuses (Short (map suc positions))) A
 
 -- ROOMS
 
@@ -71,7 +74,8 @@ says_since place (Replace at who day) = if same_place at place then Some (Some d
 says_since place (Release at day) = if same_place at place then Some None else None
 says_since place act = None
 
--- the day from which on the last command of the place puts somebody there: none where that is a release, or where there is none
+-- the day from which on the last command of the place puts somebody there: none where that is a release, or where there
+-- is none
 abbrev pub held_since : History → Place → Option ℕ
 held_since A place = unwrap_or (last_said (says_since place) A) None
 

@@ -8,7 +8,9 @@ use Rattle.kcr_custody.specs.declared.SafeNumber.TheVariants.{Two}
 use Rattle.kcr_custody.specs.declared.Store.TheVariants.{Boxed}
 use Rattle.kcr_room.specs.declared.Way.TheVariants as Ways
 use Rattle.kcr_history.specs.declared.commands.Act.{Act}
-use Rattle.kcr_history.specs.declared.commands.Act.TheVariants.{Enter, Train, Withdraw, Appoint, AddBox, AddItem, Plan, Open, Sheet, Sign, Except, TurnSafe, Seal, Put, Cut, Release, Close}
+use Rattle.kcr_history.specs.declared.commands.Act.TheVariants.{Enter, Train, Withdraw, Appoint, AddBox, AddItem, Plan}
+use Rattle.kcr_history.specs.declared.commands.Act.TheVariants.{Open, Sheet, Sign, Except, TurnSafe, Seal, Put, Cut}
+use Rattle.kcr_history.specs.declared.commands.Act.TheVariants.{Release, Close}
 use Rattle.kcr_history.specs.declared.commands.Command.{Command}
 use Rattle.kcr_history.specs.History.{History}
 use Rattle.kcr_history.specs.Refusals.{refusal_text}
@@ -86,11 +88,13 @@ abbrev pub outcome_text : Outcome → List ℕ
 outcome_text (Accepts answer) = answer_text answer
 outcome_text (Refuses refusal) = refusal_text refusal
 
--- the acts come one after the other, each under a new key, and the machine answers each with its text; A' is the history then
+-- the acts come one after the other, each under a new key, and the machine answers each with its text; A' is the
+-- history then
 abbrev pub AreSteps : History → List (Act × List ℕ) → History → Type 0
 AreSteps A [] A' = A' ≡ A
 AreSteps A (said ∷ rest) A' =
-    (outcome : Outcome) × (between : History) × machine A (new_command A said.0) outcome between × (outcome_text outcome ≡ said.1) × AreSteps between rest A'
+    (outcome : Outcome) × (between : History) × machine A (new_command A said.0) outcome between
+    × (outcome_text outcome ≡ said.1) × AreSteps between rest A'
 
 -- the same, as a statement that keeps its name: from history A these acts get these answers, and lead to A'
 pub record AreAnswered (A : History) (said : List (Act × List ℕ)) (A' : History) : Type 0 where
@@ -121,7 +125,8 @@ script_of_two seats = script_of_one seats ++ (codes "2,Check bags," ++ (seats ++
 abbrev pub script_of_three : List ℕ → List ℕ
 script_of_three seats = script_of_two seats ++ (codes "3,Check bags," ++ (seats ++ codes "\n"))
 
--- seven people; two of them trained; four custodians; ceremony 61 planned at EAST with the script, and opened at 20:00:00
+-- seven people; two of them trained; four custodians; ceremony 61 planned at EAST with the script, and opened at
+-- 20:00:00
 abbrev pub opening_acts : List ℕ → List Act
 opening_acts script =
     Enter AA (codes "Ann Abel")
@@ -191,7 +196,8 @@ bag_8 = codes "BB51184288"
 abbrev pub HSM4 : List ℕ
 HSM4 = codes "HSM4"
 
--- after an item was sealed, its bag cut, and the item sealed again in another; the only step signed; and nobody left in the room
+-- after an item was sealed, its bag cut, and the item sealed again in another; the only step signed; and nobody left in
+-- the room
 abbrev pub bag_on_table : History
 bag_on_table =
     with_act

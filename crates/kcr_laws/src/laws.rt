@@ -1,5 +1,6 @@
 //! What holds of every history that the machine leads to: functions that do nothing, whose contracts say it.
-ghost use Rattle.std.specs.Prelude.{◌≡◌, ◌∷◌, ◌++◌, ◌==◌, map, option_map, ℕ, suc, ◌<◌, ◌≤◌, nat_lt, Bool, true, List, length, Option, Some, None, IsTrue, ◌⊎◌, ◌↔◌};
+ghost use Rattle.std.specs.Prelude.{◌≡◌, ◌∷◌, ◌++◌, ◌==◌, map, option_map, ℕ, suc, ◌<◌, ◌≤◌, nat_lt, Bool, true, List};
+ghost use Rattle.std.specs.Prelude.{length, Option, Some, None, IsTrue, ◌⊎◌, ◌↔◌};
 ghost use Rattle.kcr_base.specs.declared.place.Place.{Place};
 ghost use Rattle.kcr_base.specs.declared.place.Role.{Role};
 ghost use Rattle.kcr_base.specs.declared.refusal.Refusal.{Refusal};
@@ -21,11 +22,13 @@ ghost use Rattle.kcr_history.specs.Seating as Seatings;
 ghost use Rattle.kcr_history.specs.Seating.{IsLeast};
 ghost use Rattle.kcr_history.specs.Room.{sheet, sheet_after};
 ghost use Rattle.kcr_history.specs.Tables.{trainings, withdrawals, appointments, seats_at};
-ghost use Rattle.kcr_history.specs.Conditions.{fault, crowded, lone, place_or_person_holds, not_after_first_day, vacant};
+ghost use Rattle.kcr_history.specs.Conditions.{fault, crowded, lone, place_or_person_holds, not_after_first_day};
+ghost use Rattle.kcr_history.specs.Conditions.{vacant};
 ghost use Rattle.kcr_history.specs.Texts.{same_command};
 ghost use Rattle.kcr_history.specs.Machine.{Outcome, Accepts, Refuses, machine, IsRegister};
 ghost use Rattle.kcr_history.specs.Laws.{IsOnce, IsSound, IsBalanced};
-ghost use Rattle.kcr_laws.specs.Conditions.{signature, IsAccepted, CanFill, IsShortOf, IsEverCrowded, IsFirstAlone, IsNeverAlone, IsHeldFrom, HoldsFrom, IsTrainedFrom, BeginsFrom, held_since};
+ghost use Rattle.kcr_laws.specs.Conditions.{signature, IsAccepted, CanFill, IsShortOf, IsEverCrowded, IsFirstAlone};
+ghost use Rattle.kcr_laws.specs.Conditions.{IsNeverAlone, IsHeldFrom, HoldsFrom, IsTrainedFrom, BeginsFrom, held_since};
 ghost use Rattle.kcr_laws.specs.Examples.{AreAnswered};
 
 use kcr_people::laws::{person_holds_from_a_day, place_held_from_a_day, trained_from_a_day};
@@ -45,13 +48,15 @@ pub fn repeats_change_nothing()
 
 /// Whatever is answered, a register stays one.
 pub fn steps_keep_registers()
-    ensures one { (A : History) (x : Command) (outcome : Outcome) (A' : History) → IsRegister A → machine A x outcome A' → IsRegister A' }
-    ensures many { (A A' : History) (said : List (Act × List ℕ)) → IsRegister A → AreAnswered A said A' → IsRegister A' }
+    ensures one { (A : History) (x : Command) (outcome : Outcome) (A' : History) → IsRegister A
+        → machine A x outcome A' → IsRegister A' }
+    ensures many { (A A' : History) (said : List (Act × List ℕ)) → IsRegister A → AreAnswered A said A'
+        → IsRegister A' }
 {}
 
 /// What the machine answers is fixed, apart from which of several least shortages it names: a command is accepted with
-/// one answer, the first seating in it, and leads to one history; it is not refused as well, for where there is a seating
-/// nothing is short; and it is refused with one refusal.
+/// one answer, the first seating in it, and leads to one history; it is not refused as well, for where there is a
+/// seating nothing is short; and it is refused with one refusal.
 pub fn answers_are_fixed()
     ensures accepted { (A : History) (x : Command) (a b : Answer) (B C : History) →
         machine A x (Accepts a) B → machine A x (Accepts b) C → (a ≡ b) × (B ≡ C) }
@@ -85,8 +90,8 @@ pub fn rooms_are_judged_at_every_moment()
         IsEver (λ t. nat_lt 128 (crowd_by (sheet_after act (sheet A)) ceremony t)) (is_crowded_in_by (stays_by (sheet_after act (sheet A))) ceremony) }
 {}
 
-/// In every register each recorded seating is one by the whole history, whatever came later; and at no moment is exactly
-/// one person in a room, or more than 128.
+/// In every register each recorded seating is one by the whole history, whatever came later; and at no moment is
+/// exactly one person in a room, or more than 128.
 pub fn registers_are_sound()
     ensures { (A : History) → IsRegister A → IsSound A }
 {}
@@ -96,27 +101,33 @@ pub fn registers_are_balanced()
     ensures { (A : History) → IsRegister A → IsBalanced A }
 {}
 
-/// A step is signed exactly when it is next and distinct people then in the room can fill its seats: under a new key, and
-/// before the register is full, a signature is accepted exactly where the ceremony is open, the step is the next one of its
-/// script, the moment is not before the ceremony's mark, and some people, all distinct and in the room at the moment, are
-/// each eligible for one of the step's seats. Such a ceremony is planned, and the answer names the first such people.
+/// A step is signed exactly when it is next and distinct people then in the room can fill its seats: under a new key,
+/// and before the register is full, a signature is accepted exactly where the ceremony is open, the step is the next
+/// one of its script, the moment is not before the ceremony's mark, and some people, all distinct and in the room at
+/// the moment, are each eligible for one of the step's seats. Such a ceremony is planned, and the answer names the
+/// first such people.
 pub fn steps_are_signed_by_who_fill_their_seats()
-    ensures signed { (A : History) (key : List ℕ) (ceremony step at : ℕ) → entry_of A key ≡ None → length A < 4000000000 →
+    ensures signed { (A : History) (key : List ℕ) (ceremony step at : ℕ) → entry_of A key ≡ None
+        → length A < 4000000000 →
         IsAccepted A (signature key ceremony step at) ↔ (IsTrue (next A ceremony step at) × CanFill A ceremony step at) }
-    ensures known { (A : History) (ceremony step at : ℕ) → IsTrue (next A ceremony step at) → IsTrue (is_ceremony A ceremony) }
-    ensures first { (A : History) (key : List ℕ) (ceremony step at : ℕ) (answer : Answer) (after : History) → entry_of A key ≡ None →
+    ensures known { (A : History) (ceremony step at : ℕ) → IsTrue (next A ceremony step at)
+        → IsTrue (is_ceremony A ceremony) }
+    ensures first { (A : History) (key : List ℕ) (ceremony step at : ℕ) (answer : Answer) (after : History)
+        → entry_of A key ≡ None →
         machine A (signature key ceremony step at) (Accepts answer) after →
         (people : List (List ℕ)) × Seatings.IsFirst A ceremony at (seats_at (steps_of A ceremony) step) people × (answer.seating ≡ Some people) }
 {}
 
-/// A step is short of people exactly when it is next and nobody can fill its seats: under a new key, and before the register is
-/// full, a signature is refused with a least set of the step's seats, which fewer people in the room fit than it has seats,
-/// exactly where the step is next and no people, all distinct, are each eligible for one of its seats. The refusal `short` of
-/// a signature always names such a set, its positions counted from 1.
+/// A step is short of people exactly when it is next and nobody can fill its seats: under a new key, and before the
+/// register is full, a signature is refused with a least set of the step's seats, which fewer people in the room fit
+/// than it has seats, exactly where the step is next and no people, all distinct, are each eligible for one of its
+/// seats. The refusal `short` of a signature always names such a set, its positions counted from 1.
 pub fn steps_are_short_where_nobody_fills_their_seats()
-    ensures short { (A : History) (key : List ℕ) (ceremony step at : ℕ) → entry_of A key ≡ None → length A < 4000000000 →
+    ensures short { (A : History) (key : List ℕ) (ceremony step at : ℕ) → entry_of A key ≡ None
+        → length A < 4000000000 →
         IsShortOf A key ceremony step at ↔ (IsTrue (next A ceremony step at) × (CanFill A ceremony step at → ⊥)) }
-    ensures named { (A : History) (key : List ℕ) (ceremony step at : ℕ) (named : List ℕ) (after : History) → entry_of A key ≡ None →
+    ensures named { (A : History) (key : List ℕ) (ceremony step at : ℕ) (named : List ℕ) (after : History)
+        → entry_of A key ≡ None →
         machine A (signature key ceremony step at) (Refuses (Short named)) after →
         (positions : List ℕ) × IsLeast A ceremony at (seats_at (steps_of A ceremony) step) positions × (named ≡ map suc positions) }
 {}
@@ -126,8 +137,8 @@ pub fn every_command_is_answered()
     ensures { (A : History) (x : Command) → (outcome : Outcome) × (after : History) × machine A x outcome after }
 {}
 
-/// The refusal `crowd` holds of a sheet request exactly where at some moment more than 128 people would be in the room, by
-/// the sheet with its rows; and a request that is answered so would have such a moment.
+/// The refusal `crowd` holds of a sheet request exactly where at some moment more than 128 people would be in the room,
+/// by the sheet with its rows; and a request that is answered so would have such a moment.
 pub fn sheets_are_refused_at_a_crowded_moment()
     ensures holds { (A : History) (act : Act) (ceremony : ℕ) →
         crowded (sheet_after act (sheet A)) ceremony ≡ Some Crowd ↔ IsEverCrowded (sheet_after act (sheet A)) ceremony }
@@ -135,9 +146,9 @@ pub fn sheets_are_refused_at_a_crowded_moment()
         fault A (Sheet ceremony way people at) ≡ Some Crowd → IsEverCrowded (sheet_after (Sheet ceremony way people at) (sheet A)) ceremony }
 {}
 
-/// The refusal `lone` holds of a sheet request with a moment exactly where that is the first one at which exactly one person
-/// would be in the room, by the sheet with its rows, and it does not hold exactly where there is no such moment; and a
-/// request that is answered so would have that first moment.
+/// The refusal `lone` holds of a sheet request with a moment exactly where that is the first one at which exactly one
+/// person would be in the room, by the sheet with its rows, and it does not hold exactly where there is no such moment;
+/// and a request that is answered so would have that first moment.
 pub fn sheets_are_refused_at_a_lone_moment()
     ensures holds { (A : History) (act : Act) (ceremony t : ℕ) →
         lone (sheet_after act (sheet A)) ceremony ≡ Some (Lone t) ↔ IsFirstAlone (sheet_after act (sheet A)) ceremony t }
@@ -147,8 +158,8 @@ pub fn sheets_are_refused_at_a_lone_moment()
         fault A (Sheet ceremony way people at) ≡ Some (Lone t) → IsFirstAlone (sheet_after (Sheet ceremony way people at) (sheet A)) ceremony t }
 {}
 
-/// In every register the refusal `held` holds of an appointment exactly where on its day or a later one somebody holds the
-/// place, or the person holds some place; of a replacement exactly where the person does.
+/// In every register the refusal `held` holds of an appointment exactly where on its day or a later one somebody holds
+/// the place, or the person holds some place; of a replacement exactly where the person does.
 pub fn places_are_held_on_some_day()
     ensures appointment { (A : History) → IsRegister A → (place : Place) (who : List ℕ) (day : ℕ) →
         IsTrue (place_or_person_holds A place who day) ↔ (IsHeldFrom A place day ⊎ HoldsFrom A who day) }
@@ -159,18 +170,20 @@ pub fn places_are_held_on_some_day()
     person_holds_from_a_day();
 }
 
-/// Whether somebody may follow in a place, or give it up, is told by its last command: the row that has no end, if there is
-/// one, begins on the day from which on that command puts somebody there. So of a replacement and of a release `range` holds
-/// exactly where the last command of the place puts somebody there from that very day or a later one on, and `vacant` exactly
-/// where it is a release, or where there is none.
+/// Whether somebody may follow in a place, or give it up, is told by its last command: the row that has no end, if
+/// there is one, begins on the day from which on that command puts somebody there. So of a replacement and of a release
+/// `range` holds exactly where the last command of the place puts somebody there from that very day or a later one on,
+/// and `vacant` exactly where it is a release, or where there is none.
 pub fn places_are_as_their_last_command_says()
-    ensures rows { (A : History) (place : Place) → option_map (λ row. row.since) (open_row_by (appointments A) place) ≡ held_since A place }
-    ensures range { (A : History) (place : Place) (day : ℕ) → not_after_first_day A place day ≡ Some Range ↔ BeginsFrom A place day }
+    ensures rows { (A : History) (place : Place)
+        → option_map (λ row. row.since) (open_row_by (appointments A) place) ≡ held_since A place }
+    ensures range { (A : History) (place : Place) (day : ℕ) → not_after_first_day A place day ≡ Some Range
+        ↔ BeginsFrom A place day }
     ensures vacant { (A : History) (place : Place) → vacant A place ≡ Some Vacant ↔ held_since A place ≡ None }
 {}
 
-/// In every register the test of a withdrawal, whether there is something to withdraw, passes exactly where on its day or a
-/// later one the person is trained for the role.
+/// In every register the test of a withdrawal, whether there is something to withdraw, passes exactly where on its day
+/// or a later one the person is trained for the role.
 pub fn trainings_are_there_on_some_day()
     ensures { (A : History) → IsRegister A → (who : List ℕ) (role : Role) (day : ℕ) →
         IsTrue (trained_from_by (trainings A) (withdrawals A) who role day) ↔ IsTrainedFrom A who role day }

@@ -15,7 +15,9 @@ ghost use Rattle.kcr_script.specs.declared.seat.Seat.{Seat};
 ghost use Rattle.kcr_script.specs.declared.seat.Seat.TheVariants.{Staff};
 ghost use Rattle.kcr_history.specs.declared.rows.CeremonyState.TheVariants as States;
 ghost use Rattle.kcr_history.specs.declared.rows.StepState.TheVariants as StepStates;
-ghost use Rattle.kcr_history.specs.declared.commands.Act.TheVariants.{Enter, Train, Withdraw, AddBox, Appoint, Replace, Release, Plan, Open, Close, Sign, Except, AddItem, Seal, Cut, TurnSafe, Put, Take};
+ghost use Rattle.kcr_history.specs.declared.commands.Act.TheVariants.{Enter, Train, Withdraw, AddBox, Appoint, Replace};
+ghost use Rattle.kcr_history.specs.declared.commands.Act.TheVariants.{Release, Plan, Open, Close, Sign, Except};
+ghost use Rattle.kcr_history.specs.declared.commands.Act.TheVariants.{AddItem, Seal, Cut, TurnSafe, Put, Take};
 ghost use Rattle.kcr_history.specs.History.{History};
 ghost use Rattle.kcr_history.specs.Machine.{Accepts, Refuses, answer_to, machine};
 ghost use Rattle.kcr_history.specs.Prints.{annotated, attendance, custody};
@@ -27,7 +29,13 @@ ghost use Rattle.kcr_history.specs.Seating.{IsLeast};
 ghost use Rattle.kcr_history.specs.Ceremonies.{is_ceremony, steps_of};
 ghost use Rattle.kcr_history.specs.Tables.{people, seats_at, tables, trainings, withdrawals};
 ghost use Rattle.kcr_history.specs.Texts.{answer_text, command_text};
-ghost use Rattle.kcr_laws.specs.Examples.{AA, BB, CC, DD, EA, EB, EE, WC, new_year, that_day, february, march, june, december, clock, come, leave, new_command, with_act, with_acts, lines, AreAnswered, accepted_from, script_of_one, script_of_two, script_of_three, opening_acts, opened_with, attended_by, signed_by_two, signed_by_officers, three_steps_done, two_left, signed_at_midnight, withdrawn_from, bag_7, bag_8, HSM4, bag_on_table, bag_sealed, bag_in_box, one_officer, another_officer, three_planned, closed_in_order, entered};
+ghost use Rattle.kcr_laws.specs.Examples.{AA, BB, CC, DD, EA, EB, EE, WC, new_year, that_day, february, march, june};
+ghost use Rattle.kcr_laws.specs.Examples.{december, clock, come, leave, new_command, with_act, with_acts, lines};
+ghost use Rattle.kcr_laws.specs.Examples.{AreAnswered, accepted_from, script_of_one, script_of_two, script_of_three};
+ghost use Rattle.kcr_laws.specs.Examples.{opening_acts, opened_with, attended_by, signed_by_two, signed_by_officers};
+ghost use Rattle.kcr_laws.specs.Examples.{three_steps_done, two_left, signed_at_midnight, withdrawn_from, bag_7, bag_8};
+ghost use Rattle.kcr_laws.specs.Examples.{HSM4, bag_on_table, bag_sealed, bag_in_box, one_officer, another_officer};
+ghost use Rattle.kcr_laws.specs.Examples.{three_planned, closed_in_order, entered};
 
 /// The days that the examples speak of.
 pub fn days_of_the_examples()
@@ -41,12 +49,18 @@ pub fn days_of_the_examples()
 
 /// The commands with which most examples begin are accepted, whatever the seats of the script.
 pub fn opening()
-    ensures one_ca_iw { AreAnswered [] (accepted_from 1 (opening_acts (script_of_one (codes "CA;IW")))) (opened_with (script_of_one (codes "CA;IW"))) }
-    ensures three_ca_iw { AreAnswered [] (accepted_from 1 (opening_acts (script_of_three (codes "CA;IW")))) (opened_with (script_of_three (codes "CA;IW"))) }
-    ensures one_iw { AreAnswered [] (accepted_from 1 (opening_acts (script_of_one (codes "IW")))) (opened_with (script_of_one (codes "IW"))) }
-    ensures two_iw { AreAnswered [] (accepted_from 1 (opening_acts (script_of_two (codes "IW")))) (opened_with (script_of_two (codes "IW"))) }
-    ensures three_co { AreAnswered [] (accepted_from 1 (opening_acts (script_of_one (codes "CO*3")))) (opened_with (script_of_one (codes "CO*3"))) }
-    ensures co_and_five { AreAnswered [] (accepted_from 1 (opening_acts (script_of_one (codes "CO;CO/5")))) (opened_with (script_of_one (codes "CO;CO/5"))) }
+    ensures one_ca_iw { AreAnswered [] (accepted_from 1 (opening_acts (script_of_one (codes "CA;IW"))))
+        (opened_with (script_of_one (codes "CA;IW"))) }
+    ensures three_ca_iw { AreAnswered [] (accepted_from 1 (opening_acts (script_of_three (codes "CA;IW"))))
+        (opened_with (script_of_three (codes "CA;IW"))) }
+    ensures one_iw { AreAnswered [] (accepted_from 1 (opening_acts (script_of_one (codes "IW"))))
+        (opened_with (script_of_one (codes "IW"))) }
+    ensures two_iw { AreAnswered [] (accepted_from 1 (opening_acts (script_of_two (codes "IW"))))
+        (opened_with (script_of_two (codes "IW"))) }
+    ensures three_co { AreAnswered [] (accepted_from 1 (opening_acts (script_of_one (codes "CO*3"))))
+        (opened_with (script_of_one (codes "CO*3"))) }
+    ensures co_and_five { AreAnswered [] (accepted_from 1 (opening_acts (script_of_one (codes "CO;CO/5"))))
+        (opened_with (script_of_one (codes "CO;CO/5"))) }
 {}
 
 /// Into an empty register Ann Abel enters as AA. The same command again gets the same reply and changes nothing;
@@ -297,7 +311,8 @@ pub fn least_shortages()
 
 /// A box is reached through the open safe 2, and with the holder of its place in the room.
 pub fn bag_into_a_box()
-    ensures sealed { AreAnswered (opened_with (script_of_one (codes "IW"))) (accepted_from 17 (Enter DD (codes "Dan Dahl")
+    ensures sealed { AreAnswered (opened_with (script_of_one (codes "IW")))
+        (accepted_from 17 (Enter DD (codes "Dan Dahl")
         ∷ Train DD Ssc2 new_year that_day
         ∷ AddBox East 3 (Co East 1)
         ∷ come (AA ∷ DD ∷ EA ∷ []) (clock 20 5 0)
@@ -399,7 +414,8 @@ pub fn custody_of_two_bags()
 pub fn what_is_shown()
     ensures people { people entered ≡ record { who = AA; name = codes "Ann Abel" } ∷ [] }
     ensures no_roles { roles_of (trainings entered) (withdrawals entered) AA ≡ [] }
-    ensures roles { roles_of (trainings (withdrawn_from (february 14))) (withdrawals (withdrawn_from (february 14))) AA ≡
+    ensures roles { roles_of (trainings (withdrawn_from (february 14)))
+        (withdrawals (withdrawn_from (february 14))) AA ≡
         record { since = february 1; role = Iw; until = december 31; withdrawn = Some (february 14) }
         ∷ record { since = new_year; role = Iw; until = that_day; withdrawn = None }
         ∷ record { since = new_year; role = Ca; until = that_day; withdrawn = None } ∷ [] }
@@ -425,7 +441,10 @@ pub fn stays_end()
 
 /// What the tables hold: the row that was put first stands last.
 pub fn rows_of_the_examples()
-    ensures people { (tables (with_acts [] (Enter AA (codes "Ann Abel") ∷ []))).people ≡ record { who = AA; name = codes "Ann Abel" } ∷ [] }
+    ensures people { (tables (with_acts [] (Enter AA (codes "Ann Abel") ∷ []))).people ≡ record {
+      who = AA;
+      name = codes "Ann Abel";
+    } ∷ [] }
     ensures keys { (tables (with_acts [] (Enter AA (codes "Ann Abel") ∷ []))).keys ≡
         record { key = codes "k1"; accepted = 1; command = codes "/people\nAA\nAnn Abel"; reply = codes "{\"accepted\":1}" } ∷ [] }
     ensures withdrawals { (tables (withdrawn_from (february 14))).withdrawals ≡

@@ -1,5 +1,6 @@
 -- What a decision says, by the rows of a view.
-use Rattle.std.specs.Prelude.{◌≡◌, ◌≢◌, ◌+◌, ℕ, Bool, true, false, nat_le, List, [], ◌∷◌, ◌++◌, Option, Some, None, MatchOption, MatchResult, Result}
+use Rattle.std.specs.Prelude.{◌≡◌, ◌≢◌, ◌+◌, ℕ, Bool, true, false, nat_le, List, [], ◌∷◌, ◌++◌, Option, Some, None}
+use Rattle.std.specs.Prelude.{MatchOption, MatchResult, Result}
 use Rattle.kcr_base.specs.Same.{same_text}
 use Rattle.kcr_base.specs.declared.refusal.Refusal.{Refusal}
 use Rattle.kcr_base.specs.declared.refusal.Refusal.TheVariants.{Key, Memory}
@@ -12,7 +13,8 @@ use Rattle.kcr_history.specs.declared.views.Verdict.{Verdict}
 use Rattle.kcr_history.specs.declared.views.View.{View}
 use Rattle.kcr_history.specs.Texts.{command_text, answer_text}
 use Rattle.kcr_history.specs.Views.{row_of_key, greatest_number}
-use Rattle.kcr_acts.specs.ByRows.{refusal_by, sitting_by, IsSeatedFor, all_changes_by, exception_by, told_step_by, IsRefused}
+use Rattle.kcr_acts.specs.ByRows.{refusal_by, sitting_by, IsSeatedFor, all_changes_by, exception_by, told_step_by}
+use Rattle.kcr_acts.specs.ByRows.{IsRefused}
 
 -- the register is full
 abbrev pub is_full_by : View → Bool
@@ -20,12 +22,19 @@ is_full_by view = nat_le 4000000000 (greatest_number view.keys.items)
 
 -- the row of a command that is accepted now
 abbrev pub new_key_row : Command → Answer → KeyRow
-new_key_row x answer = record { key = x.key; accepted = answer.accepted; command = command_text x.act; reply = answer_text answer }
+new_key_row x answer =
+    record { key = x.key; accepted = answer.accepted; command = command_text x.act; reply = answer_text answer }
 
 -- the answer, with the people who are seated
 abbrev pub answer_by : View → Act → Option (List (List ℕ)) → Answer
 answer_by view act people =
-    record { accepted = greatest_number view.keys.items + 1; exception = exception_by view act; seating = people; step = told_step_by view act }
+    record {
+      accepted =
+          greatest_number view.keys.items + 1;
+      exception = exception_by view act;
+      seating = people;
+      step = told_step_by view act;
+    }
 
 -- the key is new: the act's changes and the row of the command, and the next number's reply
 pub record AcceptsNew (view : View) (x : Command) (verdict : Verdict) (answer : Answer) : Type 0 where

@@ -83,9 +83,11 @@ fn decide_by_rows(alloc: Global, view: &View, command: &Command) -> Result<Verdi
 /// reply is given and nothing changes, with another command it is refused (11). Then come the act's own refusals in the
 /// order of their numbers, and 27 where 4,000,000,000 commands have been accepted. Want of memory (33) may be answered
 /// in place of all of these; it changes nothing. Over any other view there is some answer. A signature and an exception
-/// that passes a step record the first seating of the people in the room, or else are refused (32) with a least shortage.
+/// that passes a step record the first seating of the people in the room, or else are refused (32) with a least
+/// shortage.
 pub fn decide(alloc: Global, view: &View, command: &Command) -> Result<Verdict, Refusal>
-    ensures { (A : History) → IsRegister A → IsViewOf (asks_of command.now) (tables A) view.now → IsDecision A command.now result }
+    ensures { (A : History) → IsRegister A → IsViewOf (asks_of command.now) (tables A) view.now
+        → IsDecision A command.now result }
 {
     decide_by_rows(alloc, view, command)
 }

@@ -1,4 +1,5 @@
--- Files of older versions. Their tables are a front of today's: version 1 has the first 15, version 2 the stays too, version 3 the withdrawals too.
+-- Files of older versions. Their tables are a front of today's: version 1 has the first 15, version 2 the stays too,
+-- version 3 the withdrawals too.
 use Rattle.std.specs.Prelude.{◌≡◌, ℕ, ◌+◌, ◌<◌, [], ◌∷◌, List, take}
 use Rattle.sqlite.specs.Effect.{Database}
 use Rattle.sqlite.specs.Tree.{Trees}

@@ -58,8 +58,8 @@ fn is_number_of(versions: &[Version], from: Older) -> bool
     }
 }
 
-/// As `bring`, from version 1: it makes the stays of the sheet, a table of withdrawals without rows, and last the number
-/// of this version.
+/// As `bring`, from version 1: it makes the stays of the sheet, a table of withdrawals without rows, and last the
+/// number of this version.
 fn bring_first<S: Alter>(alloc: Global, tx: &mut Transaction<'_, S>) -> Result<bool, Refusal>
     ensures same_reference { tx.new.conn.ghost_name ≡ tx.old.conn.ghost_name }
     ensures brought { HasCleanDisk (state S.Store tx.new.conn.now) → (A : History)
@@ -70,7 +70,8 @@ fn bring_first<S: Alter>(alloc: Global, tx: &mut Transaction<'_, S>) -> Result<b
         → IfOk result (λ is_brought. IsTrue is_brought ↔ (t.versions ≡ numbered 1)) }
     ensures rows { HasCleanDisk (state S.Store tx.new.conn.now) → (t : Tables)
         → HoldsUpTo 15 (state S.Store tx.old.conn.now).now t
-        → IfOk result (λ is_brought. IsTrue is_brought → Holds (state S.Store tx.new.conn.now).now (brought Older.First t)) }
+        → IfOk result (λ is_brought. IsTrue is_brought
+        → Holds (state S.Store tx.new.conn.now).now (brought Older.First t)) }
     ensures frame { Writes (state S.Store tx.old.conn.now) (state S.Store tx.new.conn.now) result }
 {
     grow_from_1(tx)?;
@@ -93,7 +94,8 @@ fn bring_second<S: Alter>(alloc: Global, tx: &mut Transaction<'_, S>) -> Result<
         → IfOk result (λ is_brought. IsTrue is_brought ↔ (t.versions ≡ numbered 2)) }
     ensures rows { HasCleanDisk (state S.Store tx.new.conn.now) → (t : Tables)
         → HoldsUpTo 16 (state S.Store tx.old.conn.now).now t
-        → IfOk result (λ is_brought. IsTrue is_brought → Holds (state S.Store tx.new.conn.now).now (brought Older.Second t)) }
+        → IfOk result (λ is_brought. IsTrue is_brought
+        → Holds (state S.Store tx.new.conn.now).now (brought Older.Second t)) }
     ensures frame { Writes (state S.Store tx.old.conn.now) (state S.Store tx.new.conn.now) result }
 {
     grow_from_2(tx)?;

@@ -103,7 +103,8 @@ fn compare(schema: &Schema, all: &[Table]) -> Standing
 fn make_tables<S: Alter>(conn: &mut Connection<S>) -> Result<(), Refusal>
     requires autocommit { conn.old.in_transaction ≡ false }
     requires empty { (state S.Store conn.old).now.schema ≡ no_schema }
-    ensures schema { HasCleanDisk (state S.Store conn.new) → OnOk result ((state S.Store conn.new).now.schema ≡ register_schema) }
+    ensures schema { HasCleanDisk (state S.Store conn.new)
+        → OnOk result ((state S.Store conn.new).now.schema ≡ register_schema) }
     ensures cause { IfErr result IsFault }
 {
     let mut tx = conn.transaction();

@@ -1,12 +1,14 @@
 -- People, training and custodians, by rows.
-use Rattle.std.specs.Prelude.{ℕ, ◌==◌, Bool, true, false, not, ◌&&◌, ◌||◌, nat_lt, nat_le, min, max, List, [], ◌∷◌, map, filter, fold, Option, Some, None, option_map, find, is_none}
+use Rattle.std.specs.Prelude.{ℕ, ◌==◌, Bool, true, false, not, ◌&&◌, ◌||◌, nat_lt, nat_le, min, max, List, [], ◌∷◌, map}
+use Rattle.std.specs.Prelude.{filter, fold, Option, Some, None, option_map, find, is_none}
 use Rattle.std.specs.List.{list_any}
 use Rattle.kcr_base.specs.Same.{same_text, same_role, same_place}
 use Rattle.kcr_base.specs.Refuse.{when, first_of}
 use Rattle.kcr_base.specs.declared.place.Role.{Role}
 use Rattle.kcr_base.specs.declared.place.Place.{Place}
 use Rattle.kcr_base.specs.declared.refusal.Refusal.{Refusal}
-use Rattle.kcr_base.specs.declared.refusal.Refusal.TheVariants.{Unknown, Taken, Range, Apart, Held, Vacant, Settled, Full}
+use Rattle.kcr_base.specs.declared.refusal.Refusal.TheVariants.{Unknown, Taken, Range, Apart, Held, Vacant, Settled}
+use Rattle.kcr_base.specs.declared.refusal.Refusal.TheVariants.{Full}
 use Rattle.kcr_base.specs.declared.refusal.Thing.TheVariants.{Person as AsPerson}
 use Rattle.kcr_people.specs.declared.Person.{Person}
 use Rattle.kcr_people.specs.declared.Training.{Training}
@@ -23,16 +25,19 @@ is_person_by people who = list_any (λ row. same_text row.who who) people
 
 -- the training is the person's for the role and covers the day, both ends inclusive
 abbrev pub covers : List ℕ → Role → ℕ → Training → Bool
-covers who role day row = same_text row.who who && same_role row.role role && nat_le row.since day && nat_le day row.until
+covers who role day row =
+    same_text row.who who && same_role row.role role && nat_le row.since day && nat_le day row.until
 
 -- the withdrawal is of that very training
 abbrev pub is_of : Training → Withdrawal → Bool
 is_of row withdrawal =
-    same_text withdrawal.who row.who && same_role withdrawal.role row.role && withdrawal.since == row.since && withdrawal.until == row.until
+    same_text withdrawal.who row.who && same_role withdrawal.role row.role && withdrawal.since == row.since
+    && withdrawal.until == row.until
 
 -- a withdrawal of the training has that day or an earlier one
 abbrev pub is_withdrawn_by : List Withdrawal → Training → ℕ → Bool
-is_withdrawn_by withdrawals row day = list_any (λ withdrawal. is_of row withdrawal && nat_le withdrawal.day day) withdrawals
+is_withdrawn_by withdrawals row day =
+    list_any (λ withdrawal. is_of row withdrawal && nat_le withdrawal.day day) withdrawals
 
 -- by this training the person is trained for the role on the day: it covers the day and is not withdrawn by then
 abbrev pub trains : List Withdrawal → List ℕ → Role → ℕ → Training → Bool
@@ -44,7 +49,8 @@ trained_by trainings withdrawals who role day = list_any (trains withdrawals who
 
 -- the person is trained for the role on the day or a later one: by a training on the first such day that it may cover
 abbrev pub trained_from_by : List Training → List Withdrawal → List ℕ → Role → ℕ → Bool
-trained_from_by trainings withdrawals who role day = list_any (λ row. trains withdrawals who role (max row.since day) row) trainings
+trained_from_by trainings withdrawals who role day =
+    list_any (λ row. trains withdrawals who role (max row.since day) row) trainings
 
 -- the person has a training, of whatever days
 abbrev pub ever_trained_by : List Training → List ℕ → Bool
@@ -68,7 +74,8 @@ withdrawal_of withdrawals day row =
 
 -- the rows of a withdrawal: one for each training of the person for the role that ends on the day or later
 abbrev pub withdrawn_rows : List Training → List Withdrawal → List ℕ → Role → ℕ → List Withdrawal
-withdrawn_rows trainings withdrawals who role day = map (withdrawal_of withdrawals day) (filter (ends_from who role day) trainings)
+withdrawn_rows trainings withdrawals who role day =
+    map (withdrawal_of withdrawals day) (filter (ends_from who role day) trainings)
 
 -- CUSTODIANS
 
@@ -95,7 +102,8 @@ holder_by rows place day = option_map (λ row. row.who) (find (holds place day) 
 
 -- the person holds a place on the day
 abbrev pub holds_some_by : List Appointment → List ℕ → ℕ → Bool
-holds_some_by rows who day = list_any (λ row. same_text row.who who && nat_le row.since day && lasts_beyond day row) rows
+holds_some_by rows who day =
+    list_any (λ row. same_text row.who who && nat_le row.since day && lasts_beyond day row) rows
 
 -- the person was put in a place at some time
 abbrev pub ever_put_by : List Appointment → List ℕ → Bool
@@ -155,7 +163,8 @@ train_refusal people trainings appointments full row =
     ∷ when full Full
     ∷ [])
 
-abbrev pub withdraw_refusal : List Person → List Training → List Withdrawal → Option ℕ → Bool → List ℕ → Role → ℕ → Option Refusal
+abbrev pub withdraw_refusal : List Person → List Training → List Withdrawal → Option ℕ → Bool → List ℕ → Role → ℕ
+    → Option Refusal
 withdraw_refusal people trainings withdrawals settled full who role day =
     first_of
     (when (not (is_person_by people who)) (Unknown (AsPerson who))
@@ -164,7 +173,8 @@ withdraw_refusal people trainings withdrawals settled full who role day =
     ∷ when full Full
     ∷ [])
 
-abbrev pub appoint_refusal : List Person → List Training → List Appointment → Option ℕ → Bool → Place → List ℕ → ℕ → Option Refusal
+abbrev pub appoint_refusal : List Person → List Training → List Appointment → Option ℕ → Bool → Place → List ℕ → ℕ
+    → Option Refusal
 appoint_refusal people trainings appointments settled full place who day =
     first_of
     (when (not (is_person_by people who)) (Unknown (AsPerson who))
@@ -174,7 +184,8 @@ appoint_refusal people trainings appointments settled full place who day =
     ∷ when full Full
     ∷ [])
 
-abbrev pub replace_refusal : List Person → List Training → List Appointment → Option ℕ → Bool → Place → List ℕ → ℕ → Option Refusal
+abbrev pub replace_refusal : List Person → List Training → List Appointment → Option ℕ → Bool → Place → List ℕ → ℕ
+    → Option Refusal
 replace_refusal people trainings appointments settled full place who day =
     first_of
     (when (not (is_person_by people who)) (Unknown (AsPerson who))

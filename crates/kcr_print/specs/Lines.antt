@@ -9,7 +9,8 @@ use Rattle.kcr_history.specs.declared.rows.CeremonyRow.{CeremonyRow}
 use Rattle.kcr_history.specs.declared.rows.StepRow.{StepRow}
 use Rattle.kcr_history.specs.declared.rows.StepState.{StepState}
 use Rattle.kcr_history.specs.declared.rows.StepState.TheVariants.{Undone, Signed, Passed}
-use Rattle.kcr_history.specs.Prints.{ends_line, line_of, head_line, moment_line, seat_lines, seats_filled, open_lines, csv_line}
+use Rattle.kcr_history.specs.Prints.{ends_line, line_of, head_line, moment_line, seat_lines, seats_filled, open_lines}
+use Rattle.kcr_history.specs.Prints.{csv_line}
 use Rattle.kcr_reading.specs.declared.bags.PackedBag.{PackedBag}
 use Rattle.kcr_reading.specs.declared.stays.NamedStay.{NamedStay}
 use Rattle.kcr_reading.specs.declared.steps.SeatedStep.{SeatedStep}

@@ -1,5 +1,6 @@
 -- What a call that writes a report leaves.
-use Rattle.std.specs.Prelude.{◌≡◌, ◌≢◌, ◌<◌, ◌⊎◌, ◌↔◌, ⊤, ℕ, List, Option, None, Result, Err, IfErr, MatchResult, IsSome, unwrap_or}
+use Rattle.std.specs.Prelude.{◌≡◌, ◌≢◌, ◌<◌, ◌⊎◌, ◌↔◌, ⊤, ℕ, List, Option, None, Result, Err, IfErr, MatchResult}
+use Rattle.std.specs.Prelude.{IsSome, unwrap_or}
 use Rattle.std.specs.Io.KnownBytes.{Appends}
 use Rattle.sqlite.specs.Store.{Ghosts}
 use Rattle.sqlite.specs.Held.{state}

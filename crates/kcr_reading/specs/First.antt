@@ -1,5 +1,6 @@
 -- The first of the rows of a table that pass, in an order.
-use Rattle.std.specs.Prelude.{◌≡◌, ℕ, ◌^◌, ℤ, pos, negsuc, nat_le, Bool, false, List, [], ◌∷◌, slice_get, filter, Option, Some, None, IsPermutation}
+use Rattle.std.specs.Prelude.{◌≡◌, ℕ, ◌^◌, ℤ, pos, negsuc, nat_le, Bool, false, List, [], ◌∷◌, slice_get, filter}
+use Rattle.std.specs.Prelude.{Option, Some, None, IsPermutation}
 use Rattle.std.specs.List.{list_all}
 use Rattle.std.specs.declared.cmp.Ordering.{Ordering}
 use Rattle.std.specs.declared.cmp.Ordering.TheVariants.{Less}
@@ -41,17 +42,23 @@ pub record ShowsFirst (sql : List ℕ) (place : Place) (params : Row) (choice : 
   pub project : List Term
   pub order : List (Term × Key)
   pub names : List (List ℕ)
-  pub is : (command_of (understood register_schema sql) ≡ Select (record { lets = []; body = first_of place.tree test project order }) names) × (reads_listing register_schema sql ≡ false)
+  pub is : (command_of (understood register_schema sql) ≡ Select
+      (record { lets = []; body = first_of place.tree test project order }) names)
+      × (reads_listing register_schema sql ≡ false)
   pub bare : IsPlain (understood register_schema sql)
-  pub shows : (r : Row) → output (first_of place.tree test project order) (params ∷ r ∷ []) ≡ (choice.rank (cells 1 place.width r), cells 1 place.width r)
+  pub shows : (r : Row)
+      → output (first_of place.tree test project order) (params ∷ r ∷ []) ≡
+      (choice.rank (cells 1 place.width r), cells 1 place.width r)
   pub tests : (r : Row) → list_all (holds (params ∷ r ∷ [])) test ≡ choice.passes (cells 1 place.width r)
-  pub sorts : (a b : Row) → output_cmp (first_of place.tree test project order) (choice.rank a, a) (choice.rank b, b) ≡ choice.compare a b
+  pub sorts : (a b : Row)
+      → output_cmp (first_of place.tree test project order) (choice.rank a, a) (choice.rank b, b) ≡ choice.compare a b
   pub low : nat_le (2 ^ 31) place.tree ≡ false
 
 -- the first of the values that pass is this one, by any list of them in which they rise
 abbrev pub IsFirst : {X : Type 0} → (X → Row) → Choice → List X → Option X → Type 0
 IsFirst {X = X} row_of choice all found =
-    (rows : List X) → IsPermutation (filter (λ x. choice.passes (row_of x)) all) rows → IsAscending (λ a b. choice.compare (row_of a) (row_of b) ≡ Less) rows → found ≡ slice_get rows 0
+    (rows : List X) → IsPermutation (filter (λ x. choice.passes (row_of x)) all) rows
+    → IsAscending (λ a b. choice.compare (row_of a) (row_of b) ≡ Less) rows → found ≡ slice_get rows 0
 
 -- the number behind which rows are sought: -1 before the first
 abbrev pub bound_of : Option ℕ → ℤ

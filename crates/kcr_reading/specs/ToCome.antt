@@ -1,5 +1,6 @@
 -- What of the rows that are read one at a time is still to come, by the tables of the machine.
-use Rattle.std.specs.Prelude.{◌≡◌, ℕ, ◌+◌, ◌*◌, ◌==◌, Bool, true, false, ◌&&◌, nat_lt, List, [], ◌∷◌, map, filter, Option, Some, None, Result, IfOk}
+use Rattle.std.specs.Prelude.{◌≡◌, ℕ, ◌+◌, ◌*◌, ◌==◌, Bool, true, false, ◌&&◌, nat_lt, List, [], ◌∷◌, map, filter}
+use Rattle.std.specs.Prelude.{Option, Some, None, Result, IfOk}
 use Rattle.sqlite.specs.State.{State, HasCleanDisk}
 use Rattle.kcr_base.specs.declared.refusal.Refusal.{Refusal}
 use Rattle.kcr_base.specs.Same.{is_before, facility_number}
@@ -68,7 +69,8 @@ steps_past last ceremony m = map (with_seated m.seatings) (rows_past last ceremo
 
 -- the exceptions of a ceremony in order
 abbrev pub exceptions_of : ℕ → machine.Tables → List ExceptionRow
-exceptions_of ceremony m = in_order (λ a b. nat_lt a.exception b.exception) (filter (λ row. row.ceremony == ceremony) m.exceptions)
+exceptions_of ceremony m =
+    in_order (λ a b. nat_lt a.exception b.exception) (filter (λ row. row.ceremony == ceremony) m.exceptions)
 
 -- those past this one
 abbrev pub exceptions_past : Option ℕ → ℕ → machine.Tables → List ExceptionRow

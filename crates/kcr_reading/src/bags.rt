@@ -56,8 +56,10 @@ fn bag_behind<S: Alter>(
     last: &Option<Serial>,
 ) -> Result<Option<Bag>, Refusal>
     ensures same_reference { tx.new.conn.ghost_name ≡ tx.old.conn.ghost_name }
-    ensures first { ByTables (state S.Store tx.old.conn.now) (state S.Store tx.new.conn.now) result (λ m found. found ≡ slice_get (serials_past last.now m) 0) }
-    ensures opened { HasCleanDisk (state S.Store tx.new.conn.now) → OnOk result (IsTrue (state S.Store tx.old.conn.now).is_open) }
+    ensures first { ByTables (state S.Store tx.old.conn.now)
+        (state S.Store tx.new.conn.now) result (λ m found. found ≡ slice_get (serials_past last.now m) 0) }
+    ensures opened { HasCleanDisk (state S.Store tx.new.conn.now)
+        → OnOk result (IsTrue (state S.Store tx.old.conn.now).is_open) }
     ensures frame { Reads (state S.Store tx.old.conn.now) (state S.Store tx.new.conn.now) result }
 {
     match last {
@@ -83,8 +85,11 @@ fn next_bag<S: Alter>(
     last: &mut Option<Serial>,
 ) -> Result<Option<Bag>, Refusal>
     ensures same_reference { tx.new.conn.ghost_name ≡ tx.old.conn.ghost_name }
-    ensures gives { ByTables (state S.Store tx.old.conn.now) (state S.Store tx.new.conn.now) result (λ m found. Gives (serials_past last.old m) found (serials_past last.new m)) }
-    ensures opened { HasCleanDisk (state S.Store tx.new.conn.now) → OnOk result (IsTrue (state S.Store tx.old.conn.now).is_open) }
+    ensures gives { ByTables (state S.Store tx.old.conn.now)
+        (state S.Store tx.new.conn.now) result (λ m found. Gives (serials_past last.old m) found
+        (serials_past last.new m)) }
+    ensures opened { HasCleanDisk (state S.Store tx.new.conn.now)
+        → OnOk result (IsTrue (state S.Store tx.old.conn.now).is_open) }
     ensures frame { Reads (state S.Store tx.old.conn.now) (state S.Store tx.new.conn.now) result }
 {
     let found = bag_behind(alloc, tx, last)?;
@@ -101,8 +106,10 @@ fn items_within<S: Alter>(
     serial: &Serial,
 ) -> Result<Vec<Item>, Refusal>
     ensures same_reference { tx.new.conn.ghost_name ≡ tx.old.conn.ghost_name }
-    ensures rows { ByTables (state S.Store tx.old.conn.now) (state S.Store tx.new.conn.now) result (λ m rows. rows.items ≡ filter (lies_in serial.now) (items_by_code m)) }
-    ensures opened { HasCleanDisk (state S.Store tx.new.conn.now) → OnOk result (IsTrue (state S.Store tx.old.conn.now).is_open) }
+    ensures rows { ByTables (state S.Store tx.old.conn.now)
+        (state S.Store tx.new.conn.now) result (λ m rows. rows.items ≡ filter (lies_in serial.now) (items_by_code m)) }
+    ensures opened { HasCleanDisk (state S.Store tx.new.conn.now)
+        → OnOk result (IsTrue (state S.Store tx.old.conn.now).is_open) }
     ensures frame { Reads (state S.Store tx.old.conn.now) (state S.Store tx.new.conn.now) result }
 {
     rows_under(alloc, tx, serial)

@@ -24,8 +24,11 @@ fn next_exception<S: Alter>(
     last: &mut Option<u32>,
 ) -> Result<Option<ExceptionRow>, Refusal>
     ensures same_reference { tx.new.conn.ghost_name ≡ tx.old.conn.ghost_name }
-    ensures gives { ByTables (state S.Store tx.old.conn.now) (state S.Store tx.new.conn.now) result (λ m found. Gives (exceptions_past last.old ceremony m) found (exceptions_past last.new ceremony m)) }
-    ensures opened { HasCleanDisk (state S.Store tx.new.conn.now) → OnOk result (IsTrue (state S.Store tx.old.conn.now).is_open) }
+    ensures gives { ByTables (state S.Store tx.old.conn.now)
+        (state S.Store tx.new.conn.now) result (λ m found. Gives (exceptions_past last.old ceremony m) found
+        (exceptions_past last.new ceremony m)) }
+    ensures opened { HasCleanDisk (state S.Store tx.new.conn.now)
+        → OnOk result (IsTrue (state S.Store tx.old.conn.now).is_open) }
     ensures frame { Reads (state S.Store tx.old.conn.now) (state S.Store tx.new.conn.now) result }
 {
     let found: Option<ExceptionRow> = first_row(

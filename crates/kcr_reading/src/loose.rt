@@ -23,8 +23,10 @@ fn loose_behind<S: Alter>(
     last: &Option<ItemCode>,
 ) -> Result<Option<Item>, Refusal>
     ensures same_reference { tx.new.conn.ghost_name ≡ tx.old.conn.ghost_name }
-    ensures first { ByTables (state S.Store tx.old.conn.now) (state S.Store tx.new.conn.now) result (λ m found. found ≡ slice_get (loose_past last.now m) 0) }
-    ensures opened { HasCleanDisk (state S.Store tx.new.conn.now) → OnOk result (IsTrue (state S.Store tx.old.conn.now).is_open) }
+    ensures first { ByTables (state S.Store tx.old.conn.now)
+        (state S.Store tx.new.conn.now) result (λ m found. found ≡ slice_get (loose_past last.now m) 0) }
+    ensures opened { HasCleanDisk (state S.Store tx.new.conn.now)
+        → OnOk result (IsTrue (state S.Store tx.old.conn.now).is_open) }
     ensures frame { Reads (state S.Store tx.old.conn.now) (state S.Store tx.new.conn.now) result }
 {
     match last {
@@ -50,8 +52,11 @@ fn next_loose<S: Alter>(
     last: &mut Option<ItemCode>,
 ) -> Result<Option<Item>, Refusal>
     ensures same_reference { tx.new.conn.ghost_name ≡ tx.old.conn.ghost_name }
-    ensures gives { ByTables (state S.Store tx.old.conn.now) (state S.Store tx.new.conn.now) result (λ m found. Gives (loose_past last.old m) found (loose_past last.new m)) }
-    ensures opened { HasCleanDisk (state S.Store tx.new.conn.now) → OnOk result (IsTrue (state S.Store tx.old.conn.now).is_open) }
+    ensures gives { ByTables (state S.Store tx.old.conn.now)
+        (state S.Store tx.new.conn.now) result (λ m found. Gives (loose_past last.old m) found
+        (loose_past last.new m)) }
+    ensures opened { HasCleanDisk (state S.Store tx.new.conn.now)
+        → OnOk result (IsTrue (state S.Store tx.old.conn.now).is_open) }
     ensures frame { Reads (state S.Store tx.old.conn.now) (state S.Store tx.new.conn.now) result }
 {
     let found = loose_behind(alloc, tx, last)?;

@@ -31,7 +31,8 @@ pub trait Reading: Drop {
         tx: &mut Transaction<'_, S>,
     ) -> Result<Option<Self::Row>, Refusal>
         ensures same_reference { tx.new.conn.ghost_name ≡ tx.old.conn.ghost_name }
-        ensures gives { HasCleanDisk (state S.Store tx.new.conn.now) → (m : machine.Tables) → (IsTrue (state S.Store tx.old.conn.now).is_open → HoldsTables m (state S.Store tx.old.conn.now).now)
+        ensures gives { HasCleanDisk (state S.Store tx.new.conn.now) → (m : machine.Tables)
+            → (IsTrue (state S.Store tx.old.conn.now).is_open → HoldsTables m (state S.Store tx.old.conn.now).now)
             → IfOk result (λ row. Gives (to_come self.old m) row (to_come self.new m)) }
         ensures frame { Reads (state S.Store tx.old.conn.now) (state S.Store tx.new.conn.now) result };
 }

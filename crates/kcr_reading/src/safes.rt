@@ -55,8 +55,11 @@ fn next_safe<S: Alter>(
     last: &mut Option<u32>,
 ) -> Result<Option<SafeRow>, Refusal>
     ensures same_reference { tx.new.conn.ghost_name ≡ tx.old.conn.ghost_name }
-    ensures gives { ByTables (state S.Store tx.old.conn.now) (state S.Store tx.new.conn.now) result (λ m found. Gives (safes_past last.old m) found (safes_past last.new m)) }
-    ensures opened { HasCleanDisk (state S.Store tx.new.conn.now) → OnOk result (IsTrue (state S.Store tx.old.conn.now).is_open) }
+    ensures gives { ByTables (state S.Store tx.old.conn.now)
+        (state S.Store tx.new.conn.now) result (λ m found. Gives (safes_past last.old m) found
+        (safes_past last.new m)) }
+    ensures opened { HasCleanDisk (state S.Store tx.new.conn.now)
+        → OnOk result (IsTrue (state S.Store tx.old.conn.now).is_open) }
     ensures frame { Reads (state S.Store tx.old.conn.now) (state S.Store tx.new.conn.now) result }
 {
     let rows: Vec<SafeRow> = all_rows(alloc, tx)?;

@@ -36,10 +36,13 @@ pub(crate) fn first_row<S: Alter, T: Listed>(
     params: &[ValueRef<'_>],
 ) -> Result<Option<T>, Refusal>
     ensures same_reference { tx.new.conn.ghost_name ≡ tx.old.conn.ghost_name }
-    ensures row { (choice : Choice) → ShowsFirst sql.now T.table.place (bound params.now) choice → HasCleanDisk (state S.Store tx.new.conn.now) → (t : Tables) → Holds (state S.Store tx.old.conn.now).now t
+    ensures row { (choice : Choice) → ShowsFirst sql.now T.table.place (bound params.now) choice
+        → HasCleanDisk (state S.Store tx.new.conn.now) → (t : Tables) → Holds (state S.Store tx.old.conn.now).now t
         → IfOk result (IsFirst T.row_of choice (T.table.rows_in t)) }
-    ensures opened { HasCleanDisk (state S.Store tx.new.conn.now) → OnOk result (IsTrue (state S.Store tx.old.conn.now).is_open) }
-    ensures frame { (choice : Choice) → ShowsFirst sql.now T.table.place (bound params.now) choice → Reads (state S.Store tx.old.conn.now) (state S.Store tx.new.conn.now) result }
+    ensures opened { HasCleanDisk (state S.Store tx.new.conn.now)
+        → OnOk result (IsTrue (state S.Store tx.old.conn.now).is_open) }
+    ensures frame { (choice : Choice) → ShowsFirst sql.now T.table.place (bound params.now) choice
+        → Reads (state S.Store tx.old.conn.now) (state S.Store tx.new.conn.now) result }
 {
     let mut rows: Vec<T> = rows_of(alloc, tx, sql, params)?;
     Ok(rows.pop())

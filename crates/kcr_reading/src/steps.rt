@@ -57,8 +57,11 @@ fn next_step<S: Alter>(
     last: &mut Option<u32>,
 ) -> Result<Option<StepRow>, Refusal>
     ensures same_reference { tx.new.conn.ghost_name ≡ tx.old.conn.ghost_name }
-    ensures gives { ByTables (state S.Store tx.old.conn.now) (state S.Store tx.new.conn.now) result (λ m found. Gives (rows_past last.old ceremony m) found (rows_past last.new ceremony m)) }
-    ensures opened { HasCleanDisk (state S.Store tx.new.conn.now) → OnOk result (IsTrue (state S.Store tx.old.conn.now).is_open) }
+    ensures gives { ByTables (state S.Store tx.old.conn.now)
+        (state S.Store tx.new.conn.now) result (λ m found. Gives (rows_past last.old ceremony m) found
+        (rows_past last.new ceremony m)) }
+    ensures opened { HasCleanDisk (state S.Store tx.new.conn.now)
+        → OnOk result (IsTrue (state S.Store tx.old.conn.now).is_open) }
     ensures frame { Reads (state S.Store tx.old.conn.now) (state S.Store tx.new.conn.now) result }
 {
     let found: Option<StepRow> = first_row(
@@ -82,7 +85,8 @@ fn seatings_at<S: Alter>(
 ) -> Result<Vec<SeatingRow>, Refusal>
     ensures same_reference { tx.new.conn.ghost_name ≡ tx.old.conn.ghost_name }
     ensures rows { ByTables (state S.Store tx.old.conn.now) (state S.Store tx.new.conn.now) result (λ m rows. map (λ row. row.who) rows.items ≡ seated_at m.seatings ceremony step) }
-    ensures opened { HasCleanDisk (state S.Store tx.new.conn.now) → OnOk result (IsTrue (state S.Store tx.old.conn.now).is_open) }
+    ensures opened { HasCleanDisk (state S.Store tx.new.conn.now)
+        → OnOk result (IsTrue (state S.Store tx.old.conn.now).is_open) }
     ensures frame { Reads (state S.Store tx.old.conn.now) (state S.Store tx.new.conn.now) result }
 {
     rows_of(

@@ -1,5 +1,6 @@
 -- What a request adds to the sheet, by stays, and why it is refused.
-use Rattle.std.specs.Prelude.{ℕ, ◌==◌, Bool, true, false, not, ◌&&◌, ◌||◌, nat_lt, nat_le, List, [], ◌∷◌, ◌++◌, map, filter, length, Option, Some, None, if◌then◌else◌}
+use Rattle.std.specs.Prelude.{ℕ, ◌==◌, Bool, true, false, not, ◌&&◌, ◌||◌, nat_lt, nat_le, List, [], ◌∷◌, ◌++◌, map}
+use Rattle.std.specs.Prelude.{filter, length, Option, Some, None, if◌then◌else◌}
 use Rattle.std.specs.List.{list_any, count_by, find}
 use Rattle.kcr_base.specs.Same.{same_text}
 use Rattle.kcr_base.specs.Refuse.{when, first_of}
@@ -34,10 +35,12 @@ is_inside who stay = same_text stay.who who && is_open stay.until
 abbrev pub is_inside_of : ℕ → List ℕ → Stay → Bool
 is_inside_of ceremony who stay = is_inside who stay && stay.ceremony == ceremony
 
--- it is not the person's turn: the last row is not earlier, or an `in` follows an `in`, or an `out` no `in` of this ceremony
+-- it is not the person's turn: the last row is not earlier, or an `in` follows an `in`, or an `out` no `in` of this
+-- ceremony
 abbrev pub is_out_of_turn_in : List Stay → ℕ → Way → ℕ → List ℕ → Bool
 is_out_of_turn_in stays ceremony Enter at who = list_any (reaches who at) stays || list_any (is_inside who) stays
-is_out_of_turn_in stays ceremony Leave at who = list_any (reaches who at) stays || not (list_any (is_inside_of ceremony who) stays)
+is_out_of_turn_in stays ceremony Leave at who =
+    list_any (reaches who at) stays || not (list_any (is_inside_of ceremony who) stays)
 
 -- the stay is of one of the people
 abbrev pub is_among : List (List ℕ) → List ℕ → Bool
@@ -49,7 +52,8 @@ new_stay ceremony at who = record { ceremony = ceremony; who = who; since = at; 
 
 -- the stay ends, where it is one of these people's and has no end
 abbrev pub closed : List (List ℕ) → ℕ → Stay → Stay
-closed people at stay = record stay { until = if is_among people stay.who && is_open stay.until then Some at else stay.until }
+closed people at stay =
+    record stay { until = if is_among people stay.who && is_open stay.until then Some at else stay.until }
 
 abbrev pub of_ceremony : ℕ → Stay → Bool
 of_ceremony ceremony stay = stay.ceremony == ceremony
@@ -105,7 +109,8 @@ abbrev pub is_no_turn : Way → ℕ → SheetRow → Bool
 is_no_turn Enter ceremony row = is_enter row.way
 is_no_turn Leave ceremony row = not (is_enter row.way && row.ceremony == ceremony)
 
--- it is not the person's turn: the last row is not earlier, or an `in` follows an `in`, or an `out` no `in` of this ceremony
+-- it is not the person's turn: the last row is not earlier, or an `in` follows an `in`, or an `out` no `in` of this
+-- ceremony
 abbrev pub is_out_of_turn : Way → ℕ → ℕ → Option SheetRow → Bool
 is_out_of_turn way ceremony at None = not (is_enter way)
 is_out_of_turn way ceremony at (Some row) = nat_le at row.at || is_no_turn way ceremony row

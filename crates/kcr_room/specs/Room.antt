@@ -1,5 +1,6 @@
 -- Who is in a room, by the rows of the sheet.
-use Rattle.std.specs.Prelude.{ℕ, ◌==◌, Bool, true, false, not, ◌&&◌, nat_lt, nat_le, List, [], ◌∷◌, ◌++◌, map, filter, length, Option, Some, None, if◌then◌else◌, codes}
+use Rattle.std.specs.Prelude.{ℕ, ◌==◌, Bool, true, false, not, ◌&&◌, nat_lt, nat_le, List, [], ◌∷◌, ◌++◌, map, filter}
+use Rattle.std.specs.Prelude.{length, Option, Some, None, if◌then◌else◌, codes}
 use Rattle.std.specs.List.{list_any, count_by}
 use Rattle.kcr_base.specs.Same.{same_text, is_before}
 use Rattle.kcr_room.specs.declared.Way.{Way}
@@ -60,7 +61,8 @@ is_ahead row other = same_text other.who row.who && nat_lt row.at other.at
 
 -- a further row takes the place of its person's last row, unless that one is later
 abbrev pub force_next : List SheetRow → SheetRow → List SheetRow
-force_next lasts row = filter (λ other. not (is_replaced row other)) lasts ++ (if list_any (is_ahead row) lasts then [] else row ∷ [])
+force_next lasts row =
+    filter (λ other. not (is_replaced row other)) lasts ++ (if list_any (is_ahead row) lasts then [] else row ∷ [])
 
 -- each person's last row, of those with moments at most t
 abbrev pub force_onto : ℕ → List SheetRow → List SheetRow → List SheetRow

@@ -1,5 +1,6 @@
 -- Who is in a room, by stays with a beginning and an end.
-use Rattle.std.specs.Prelude.{ℕ, ◌==◌, Bool, true, false, not, ◌&&◌, ◌||◌, nat_lt, nat_le, List, [], ◌∷◌, ◌++◌, map, filter, Option, Some, None, if◌then◌else◌}
+use Rattle.std.specs.Prelude.{ℕ, ◌==◌, Bool, true, false, not, ◌&&◌, ◌||◌, nat_lt, nat_le, List, [], ◌∷◌, ◌++◌, map}
+use Rattle.std.specs.Prelude.{filter, Option, Some, None, if◌then◌else◌}
 use Rattle.std.specs.List.{list_any, list_all, count_by}
 use Rattle.kcr_base.specs.Same.{same_text, is_before}
 use Rattle.kcr_room.specs.declared.SheetRow.{SheetRow}
@@ -23,12 +24,17 @@ sooner t (Some until) = if nat_lt t until then t else until
 
 -- a further row ends the stays of its person that did not begin later
 abbrev pub cut : SheetRow → Stay → Stay
-cut row stay = record stay { until = if same_text stay.who row.who && nat_le stay.since row.at then Some (sooner row.at stay.until) else stay.until }
+cut row stay =
+    record stay {
+      until = if same_text stay.who row.who
+          && nat_le stay.since row.at then Some (sooner row.at stay.until) else stay.until;
+    }
 
 -- the moment of the person's next row among those listed before
 abbrev pub next_onto : Option ℕ → SheetRow → List SheetRow → Option ℕ
 next_onto found row [] = found
-next_onto found row (other ∷ before) = next_onto (if is_ahead row other then Some (sooner other.at found) else found) row before
+next_onto found row (other ∷ before) =
+    next_onto (if is_ahead row other then Some (sooner other.at found) else found) row before
 
 -- a stay that begins with the row
 abbrev pub stay_from : SheetRow → Option ℕ → Stay
@@ -36,7 +42,8 @@ stay_from row until = record { ceremony = row.ceremony; who = row.who; since = r
 
 -- the stays with a further row, which comes behind those listed before
 abbrev pub stays_next : List SheetRow → List Stay → SheetRow → List Stay
-stays_next before stays row = map (cut row) stays ++ (if is_enter row.way then stay_from row (next_onto None row before) ∷ [] else [])
+stays_next before stays row =
+    map (cut row) stays ++ (if is_enter row.way then stay_from row (next_onto None row before) ∷ [] else [])
 
 abbrev pub stays_onto : List SheetRow → List Stay → List SheetRow → List Stay
 stays_onto before stays [] = stays
@@ -61,7 +68,9 @@ is_lone_in_by stays ceremony t = crowd_in_by stays ceremony t == 1
 -- exactly one person is in the room, of whom `one` says whether one was found before; a second one decides it
 abbrev pub is_one_onto : ℕ → ℕ → Bool → List Stay → Bool
 is_one_onto ceremony t one [] = one
-is_one_onto ceremony t one (stay ∷ stays) = if holds ceremony t stay then (if one then false else is_one_onto ceremony t true stays) else is_one_onto ceremony t one stays
+is_one_onto ceremony t one (stay ∷ stays) =
+    if holds ceremony t stay then
+    (if one then false else is_one_onto ceremony t true stays) else is_one_onto ceremony t one stays
 
 -- more than 128 people are in the room at t
 abbrev pub is_crowd_in_by : List Stay → ℕ → ℕ → Bool
@@ -75,7 +84,9 @@ ends (Some until) = until ∷ []
 -- the moments at which somebody comes to the ceremony or goes
 abbrev pub moments_in : List Stay → ℕ → List ℕ
 moments_in [] ceremony = []
-moments_in (stay ∷ stays) ceremony = if stay.ceremony == ceremony then stay.since ∷ (ends stay.until ++ moments_in stays ceremony) else moments_in stays ceremony
+moments_in (stay ∷ stays) ceremony =
+    if stay.ceremony == ceremony then stay.since
+    ∷ (ends stay.until ++ moments_in stays ceremony) else moments_in stays ceremony
 
 -- the first moment with exactly one person in the room, sought at those moments
 abbrev pub first_lone_in_by : List Stay → ℕ → Option ℕ
@@ -91,7 +102,8 @@ is_crowded_in_by stays ceremony = list_any (is_crowd_at stays ceremony) stays
 
 -- the first stay begins before the second, or at its moment with initials before its
 abbrev pub is_listed_before : Stay → Stay → Bool
-is_listed_before stay other = nat_lt stay.since other.since || (stay.since == other.since && is_before stay.who other.who)
+is_listed_before stay other =
+    nat_lt stay.since other.since || (stay.since == other.since && is_before stay.who other.who)
 
 -- a stay put into a list by beginning, then initials
 abbrev pub put_stay : Stay → List Stay → List Stay

@@ -210,7 +210,8 @@ fn ended_stays(
     people: &[Initials],
     at: Moment,
 ) -> Result<Vec<Stay>, AllocError>
-    ensures { IfOk result (λ changed. changed.items ≡ map (Adding.closed people.now at) (filter (Adding.ends_by ceremony people.now) stays.now)) }
+    ensures { IfOk result (λ changed. changed.items ≡ map (Adding.closed people.now at)
+        (filter (Adding.ends_by ceremony people.now) stays.now)) }
 {
     stays
         .iter()
@@ -290,7 +291,8 @@ pub fn add_stays(
     ensures { MatchResult result
         (λ changed. (Adding.stays_refusal stays.now ceremony mark full way people.now at ≡ None)
         × (changed.items ≡ Adding.changed_stays stays.now ceremony way people.now at))
-        (λ refusal. refusal ≢ Memory → Adding.stays_refusal stays.now ceremony mark full way people.now at ≡ Some refusal) }
+        (λ refusal. refusal ≢ Memory
+        → Adding.stays_refusal stays.now ceremony mark full way people.now at ≡ Some refusal) }
 {
     if not_later(at, mark) {
         return Err(Refusal::Late { mark });

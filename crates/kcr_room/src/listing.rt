@@ -54,7 +54,8 @@ fn stays_in_order(alloc: Global, stays: &[Stay], ceremony: u32) -> Result<Vec<St
 
 /// The ceremony's stays by the rows, by beginning, then initials: each of them once, and no other.
 pub fn attendance(alloc: Global, rows: &[SheetRow], ceremony: u32) -> Result<Vec<Stay>, AllocError>
-    ensures complete { IfOk result (λ listed. IsPermutation (filter (of_ceremony ceremony) (Stays.stays_by rows.now)) listed.items) }
+    ensures complete { IfOk result (λ listed. IsPermutation
+        (filter (of_ceremony ceremony) (Stays.stays_by rows.now)) listed.items) }
     ensures ordered { IfOk result (λ listed. Stays.are_listed listed.items ≡ true) }
     ensures value { IfOk result (λ listed. listed.items ≡ Stays.attendance_in_by (Stays.stays_by rows.now) ceremony) }
 {

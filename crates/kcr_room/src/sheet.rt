@@ -159,7 +159,8 @@ pub fn add_rows(
     ensures { MatchResult result
         (λ added. (Adding.rows_refusal rows.now ceremony mark full way people.now at ≡ None)
         × (added.items ≡ map (Adding.new_row ceremony way at) people.now))
-        (λ refusal. refusal ≢ Memory → Adding.rows_refusal rows.now ceremony mark full way people.now at ≡ Some refusal) }
+        (λ refusal. refusal ≢ Memory
+        → Adding.rows_refusal rows.now ceremony mark full way people.now at ≡ Some refusal) }
 {
     let is_late = not_later(at, mark);
     if is_late {

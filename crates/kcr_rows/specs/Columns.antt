@@ -13,7 +13,8 @@ use Rattle.sqlite.specs.Kind.{Kind}
 use Rattle.sqlite.specs.Kind.TheVariants.{Integer, Text}
 
 abbrev pub column_of : Kind → Bool → List ℕ → Column
-column_of kind not_null name = record { name = name; kind = kind; is_strict = true; not_null = not_null; default = Null; collation = Binary }
+column_of kind not_null name =
+    record { name = name; kind = kind; is_strict = true; not_null = not_null; default = Null; collation = Binary }
 
 -- texts, and numbers
 abbrev pub words : List ℕ → Column
@@ -48,7 +49,8 @@ keyed name tree columns places others = record {
 
 abbrev pub indexes_from : Table → ℕ → List (List ℕ) → List Index
 indexes_from table at [] = []
-indexes_from table at (places ∷ more) = automatic table at places (table.tree + 1 + at) ∷ indexes_from table (at + 1) more
+indexes_from table at (places ∷ more) =
+    automatic table at places (table.tree + 1 + at) ∷ indexes_from table (at + 1) more
 
 -- the indexes of a table, in the trees behind its own: that of its key first
 abbrev pub indexes_for : Table → List Index

@@ -1,7 +1,8 @@
 //! One value of a row: read from a column, counted from 0, and made into a parameter of a statement. Each reader's
 //! error is `Disk` where the column has no such value; those that take an allocator answer `Memory` when out of memory.
 
-ghost use Rattle.std.specs.Prelude.{⊤, ◌≡◌, ◌≢◌, ◌<◌, ◌^◌, ℕ, List, length, IsUtf8, pos, Err, IfOk, IfErr, OnErr, Bool, true, false};
+ghost use Rattle.std.specs.Prelude.{⊤, ◌≡◌, ◌≢◌, ◌<◌, ◌^◌, ℕ, List, length, IsUtf8, pos, Err, IfOk, IfErr, OnErr, Bool};
+ghost use Rattle.std.specs.Prelude.{true, false};
 ghost use Rattle.sqlite.specs.declared.types.Value.TheVariants.{Null, Int, Text as Chars};
 ghost use Rattle.sqlite.specs.Order.{column};
 ghost use Rattle.sqlite.specs.Values.{bound_value};

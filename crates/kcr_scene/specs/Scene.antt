@@ -60,12 +60,14 @@ is_trained_by view who role day = trained_by view.trainings.items view.withdrawa
 
 -- somebody in the room at t is trained for the role on the day of t
 abbrev pub is_attended_by : View → Role → ℕ → ℕ → Bool
-is_attended_by view role ceremony t = list_any (λ who. is_trained_by view who role (day_of t)) (present_in_by view.stays.items ceremony t)
+is_attended_by view role ceremony t =
+    list_any (λ who. is_trained_by view who role (day_of t)) (present_in_by view.stays.items ceremony t)
 
 -- the place has a holder on the day of t, who is in the room
 abbrev pub has_holder_in_by : View → Place → ℕ → ℕ → Bool
 has_holder_in_by view place ceremony t =
-    unwrap_or (option_map (λ who. is_in_by view.stays.items who ceremony t) (holder_by view.appointments.items place (day_of t))) false
+    unwrap_or (option_map (λ who. is_in_by view.stays.items who ceremony t)
+    (holder_by view.appointments.items place (day_of t))) false
 
 -- THE SCENE
 

@@ -1,5 +1,6 @@
 -- Signatures and exceptions, by the rows of a view: the steps of a ceremony, who fits a seat, and who is seated.
-use Rattle.std.specs.Prelude.{◌≡◌, ℕ, suc, ◌==◌, Bool, true, false, not, ◌&&◌, nat_lt, nat_le, List, [], ◌∷◌, ◌++◌, map, filter, length, find, get_or, slice_get, Option, Some, None, is_some, is_none, ◌⊎◌}
+use Rattle.std.specs.Prelude.{◌≡◌, ℕ, suc, ◌==◌, Bool, true, false, not, ◌&&◌, nat_lt, nat_le, List, [], ◌∷◌, ◌++◌, map}
+use Rattle.std.specs.Prelude.{filter, length, find, get_or, slice_get, Option, Some, None, is_some, is_none, ◌⊎◌}
 use Rattle.kcr_base.specs.Days.{day_of}
 use Rattle.kcr_base.specs.Refuse.{when, first_of}
 use Rattle.kcr_base.specs.declared.place.Role.TheVariants.{Ca, Iw}
@@ -72,7 +73,8 @@ except_refusal view full ceremony pass at =
     (when (not (is_some (ceremony_by view.ceremonies.items ceremony))) (Unknown (Things.Ceremony ceremony))
     ∷ when (not (is_open_row (ceremony_by view.ceremonies.items ceremony))) Refusals.State
     ∷ is_late at (mark_by view.marks.items ceremony)
-    ∷ when (pass && is_none (step_by view.steps.items ceremony (next_by view.steps.items ceremony))) (Order (next_by view.steps.items ceremony))
+    ∷ when (pass && is_none (step_by view.steps.items ceremony (next_by view.steps.items ceremony)))
+    (Order (next_by view.steps.items ceremony))
     ∷ when (nat_le 200 (stated_by view.exceptions.items ceremony)) Full
     ∷ when full Full
     ∷ [])
@@ -95,7 +97,8 @@ room_by view s = present_in_by view.stays.items s.ceremony s.at
 -- which of them fits which of the seats
 abbrev pub fits_in : View → Sitting → ℕ → ℕ → Bool
 fits_in view s =
-    fits_of (fits_by view.trainings.items view.withdrawals.items view.appointments.items (facility_by (ceremony_by view.ceremonies.items s.ceremony)) (day_of s.at))
+    fits_of (fits_by view.trainings.items view.withdrawals.items view.appointments.items
+    (facility_by (ceremony_by view.ceremonies.items s.ceremony)) (day_of s.at))
     s.seats (room_by view s)
 
 -- the people are those whom the search names
@@ -133,9 +136,17 @@ mark_change ceremony at = PutMark (record { ceremony = ceremony; at = at })
 -- the step's row, the rows of its seats, the mark
 abbrev pub seat_changes : View → StepState → ℕ → ℕ → ℕ → List (List ℕ) → List Change
 seat_changes view state ceremony step at people =
-    step_change (step_by view.steps.items ceremony step) state at ++ map PutSeating (seat_rows ceremony step 0 people) ++ mark_change ceremony at ∷ []
+    step_change (step_by view.steps.items ceremony step) state at ++ map PutSeating (seat_rows ceremony step 0 people)
+    ++ mark_change ceremony at ∷ []
 
 -- the row of an exception
 abbrev pub exception_change : View → ℕ → List ℕ → ℕ → Option ℕ → Change
 exception_change view ceremony text at passed =
-    PutException (record { ceremony = ceremony; exception = suc (stated_by view.exceptions.items ceremony); text = text; at = at; passed = passed })
+    PutException
+    (record {
+      ceremony = ceremony;
+      exception = suc (stated_by view.exceptions.items ceremony);
+      text = text;
+      at = at;
+      passed = passed;
+    })

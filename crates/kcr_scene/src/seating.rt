@@ -1,5 +1,6 @@
 //! Who is seated: the people in the room, the seats that each of them fits, and the search over both.
-ghost use Rattle.std.specs.Prelude.{◌≡◌, ◌≢◌, ◌&&◌, [], ◌<◌, ◌≤◌, nat_le, MatchResult, IfOk, EachIndex, slice_index, get_or, length, map};
+ghost use Rattle.std.specs.Prelude.{◌≡◌, ◌≢◌, ◌&&◌, [], ◌<◌, ◌≤◌, nat_le, MatchResult, IfOk, EachIndex, slice_index};
+ghost use Rattle.std.specs.Prelude.{get_or, length, map};
 ghost use Rattle.kcr_base.specs.declared.refusal.Refusal.TheVariants.{Memory};
 ghost use Rattle.kcr_seats.specs.Outcome.{IsOutcome};
 ghost use Rattle.kcr_history.specs.Fitting.{fits_by};
@@ -11,7 +12,7 @@ use kcr_base::{Day, Facility, Initials, Moment, Positions, Refusal};
 use kcr_history::{InitialsList, View, fits};
 use kcr_people::{Appointment, Training, Withdrawal};
 use kcr_script::Seat;
-use kcr_seats::{Outcome, Fits};
+use kcr_seats::{Fits, Outcome};
 use std::alloc::{AllocError, Global};
 
 /// At most this many people are in a room.

@@ -1,6 +1,7 @@
 //! Steps and exceptions of a ceremony, over the rows of a view: which step is next, why a step may not be signed or an
 //! exception not be stated, their seats aside, and the rows that both put.
-ghost use Rattle.std.specs.Prelude.{◌≡◌, ◌≤◌, ◌++◌, ◌∷◌, [], None, Some, suc, length, map, option_copied, true, false, nat_lt, MatchResult, IfOk, OnOk};
+ghost use Rattle.std.specs.Prelude.{◌≡◌, ◌≤◌, ◌++◌, ◌∷◌, [], None, Some, suc, length, map, option_copied, true, false};
+ghost use Rattle.std.specs.Prelude.{nat_lt, MatchResult, IfOk, OnOk};
 ghost use Rattle.kcr_history.specs.Tables.{seat_rows};
 ghost use Rattle.kcr_history.specs.declared.views.Change.TheVariants as Changes;
 ghost use Rattle.kcr_scene.specs.Signing;
@@ -79,7 +80,8 @@ pub fn may_sign(
 ) -> Result<(), Refusal>
     ensures { MatchResult result
         (λ _. Signing.sign_refusal view.now full ceremony step at ≡ None)
-        (λ refusal. nat_lt 400 (Signing.done_by view.now.steps.items ceremony) ≡ false → Signing.sign_refusal view.now full ceremony step at ≡ Some refusal) }
+        (λ refusal. nat_lt 400 (Signing.done_by view.now.steps.items ceremony) ≡ false
+        → Signing.sign_refusal view.now full ceremony step at ≡ Some refusal) }
 {
     let row = scene::ceremony_row(view, ceremony);
     if row.is_none() {
@@ -111,8 +113,8 @@ pub fn may_sign(
 }
 
 /// The number of the exception, counted from 1, where it may be stated, but for the seats of one that passes a step, or
-/// the first refusal: there is no such ceremony (12), it is not open (20), the moment is before its mark (22), no step is
-/// left to pass (23), or the ceremony has 200 exceptions or the register is full (27). It is 34 where `next` is.
+/// the first refusal: there is no such ceremony (12), it is not open (20), the moment is before its mark (22), no step
+/// is left to pass (23), or the ceremony has 200 exceptions or the register is full (27). It is 34 where `next` is.
 pub fn may_except(
     view: &View,
     full: bool,
@@ -123,7 +125,8 @@ pub fn may_except(
     ensures { MatchResult result
         (λ number. (Signing.except_refusal view.now full ceremony pass at ≡ None)
         × (number ≡ suc (Signing.stated_by view.now.exceptions.items ceremony)))
-        (λ refusal. nat_lt 400 (Signing.done_by view.now.steps.items ceremony) ≡ false → Signing.except_refusal view.now full ceremony pass at ≡ Some refusal) }
+        (λ refusal. nat_lt 400 (Signing.done_by view.now.steps.items ceremony) ≡ false
+        → Signing.except_refusal view.now full ceremony pass at ≡ Some refusal) }
 {
     let row = scene::ceremony_row(view, ceremony);
     if row.is_none() {
@@ -157,7 +160,8 @@ fn add_step(
     state: StepState,
     at: Moment,
 ) -> Result<(), AllocError>
-    ensures { OnOk result (changes.new.items ≡ changes.old.items ++ Signing.step_change (option_copied old.entry) state at) }
+    ensures { OnOk result
+        (changes.new.items ≡ changes.old.items ++ Signing.step_change (option_copied old.entry) state at) }
 {
     if let Some(old) = old {
         changes.push(Change::PutStep(StepRow {
@@ -180,7 +184,8 @@ fn add_seats(
     people: &[Initials],
 ) -> Result<(), AllocError>
     requires { length people.now ≤ 16 }
-    ensures { OnOk result (changes.new.items ≡ changes.old.items ++ map Changes.PutSeating (seat_rows ceremony step 0 people.now)) }
+    ensures { OnOk result
+        (changes.new.items ≡ changes.old.items ++ map Changes.PutSeating (seat_rows ceremony step 0 people.now)) }
 {
     for i in 0..people.len() {
         changes.push(Change::PutSeating(SeatingRow {
@@ -236,7 +241,8 @@ pub fn add_exception(
     passed: Option<u32>,
 ) -> Result<(), AllocError>
     requires { number ≡ suc (Signing.stated_by view.now.exceptions.items ceremony) }
-    ensures { OnOk result (changes.new.items ≡ changes.old.items ++ Signing.exception_change view.now ceremony text.now at passed ∷ []) }
+    ensures { OnOk result
+        (changes.new.items ≡ changes.old.items ++ Signing.exception_change view.now ceremony text.now at passed ∷ []) }
 {
     changes.push(Change::PutException(ExceptionRow {
         ceremony,

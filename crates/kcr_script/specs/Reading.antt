@@ -1,5 +1,6 @@
 -- The seats that a text stands for, and the steps of a script, as values that compute.
-use Rattle.std.specs.Prelude.{ℕ, ◌+◌, ◌==◌, nat_lt, nat_le, Bool, not, ◌&&◌, if◌then◌else◌, List, [], ◌∷◌, ◌++◌, length, map, Option, Some, None, option_map, Result, Ok, Err}
+use Rattle.std.specs.Prelude.{ℕ, ◌+◌, ◌==◌, nat_lt, nat_le, Bool, not, ◌&&◌, if◌then◌else◌, List, [], ◌∷◌, ◌++◌, length}
+use Rattle.std.specs.Prelude.{map, Option, Some, None, option_map, Result, Ok, Err}
 use Rattle.std.specs.List.{flat_map, find, list_all, slice_split}
 use Rattle.std.specs.Option.{option_and_then}
 use Rattle.std.specs.Str.{is_utf8}
@@ -28,7 +29,9 @@ repeated seat = map (λ count. pair_item (seat, count)) one_to_seven
 
 -- every item: one to seven of a seat without a number, or one seat with a number
 abbrev pub all_items : List Item
-all_items = flat_map repeated free_seats ++ map (λ n. pair_item (Co n, 1)) one_to_seven ++ map (λ n. pair_item (Rksh n, 1)) one_to_seven
+all_items =
+    flat_map repeated free_seats ++ map (λ n. pair_item (Co n, 1)) one_to_seven
+    ++ map (λ n. pair_item (Rksh n, 1)) one_to_seven
 
 -- the item with this text
 abbrev pub item_of : List ℕ → Option Item

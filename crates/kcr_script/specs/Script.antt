@@ -48,7 +48,8 @@ BreaksFrom k (row ∷ rows) r =
 -- row r is the first that breaks a rule
 abbrev pub BreaksAt : List Fields → ℕ → Type 0
 BreaksAt [] r = r ≡ 1
-BreaksAt (first ∷ rows) r = ((first ≢ header) × (r ≡ 1)) ⊎ ((first ≡ header) × (((rows ≡ []) × (r ≡ 2)) ⊎ BreaksFrom 1 rows r))
+BreaksAt (first ∷ rows) r =
+    ((first ≢ header) × (r ≡ 1)) ⊎ ((first ≡ header) × (((rows ≡ []) × (r ≡ 2)) ⊎ BreaksFrom 1 rows r))
 
 -- the text is that of the script
 abbrev pub IsScript : List ℕ → List Step → Type 0

@@ -1,5 +1,6 @@
 -- Which text stands for which list of seats.
-use Rattle.std.specs.Prelude.{◌≡◌, ℕ, suc, ◌+◌, ◌/◌, ◌%◌, ◌<◌, ◌≤◌, ◌==◌, ◌&&◌, if◌then◌else◌, false, All, List, [], ◌∷◌, ◌++◌, length, replicate}
+use Rattle.std.specs.Prelude.{◌≡◌, ℕ, suc, ◌+◌, ◌/◌, ◌%◌, ◌<◌, ◌≤◌, ◌==◌, ◌&&◌, if◌then◌else◌, false, All, List, []}
+use Rattle.std.specs.Prelude.{◌∷◌, ◌++◌, length, replicate}
 use Rattle.std.specs.List.{flat_map, AllByRecursion}
 use Rattle.kcr_script.specs.declared.seat.Seat.{Seat}
 use Rattle.kcr_script.specs.Seat.{seat_text, IsSeat, can_repeat, kind}
@@ -61,7 +62,8 @@ pub record Leads (text : List ℕ) (seat : Seat) (count : ℕ) (rest : List ℕ)
   pub count_at_most : count ≤ 7
   pub shorter : length rest < length text
   pub on : (seats : List Seat) → Spells rest seats → Spells text (replicate count seat ++ seats)
-  pub back : (all : List Seat) → Spells text all → (seats : List Seat) × Spells rest seats × (all ≡ replicate count seat ++ seats)
+  pub back : (all : List Seat) → Spells text all → (seats : List Seat) × Spells rest seats
+      × (all ≡ replicate count seat ++ seats)
 
 pub record IsLast (text : List ℕ) (seat : Seat) (count : ℕ) : Type 0 where
   pub count_at_most : count ≤ 7

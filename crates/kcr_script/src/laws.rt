@@ -40,7 +40,9 @@ pub fn scripts_are_read()
 /// A script has 1 to 400 steps, each with an activity of 1 to 500 bytes and 1 to 16 seats whose numbers are 1 to 7.
 pub fn scripts_have_form()
     ensures number { (text : List ℕ) (steps : List Step) → script_of text ≡ Ok steps → HasSteps steps }
-    ensures activities { (text : List ℕ) (steps : List Step) → script_of text ≡ Ok steps → All (λ step. IsLine 500 step.activity) steps }
-    ensures seats { (text : List ℕ) (steps : List Step) → script_of text ≡ Ok steps → All (λ step. IsSeats step.seats) steps }
+    ensures activities { (text : List ℕ) (steps : List Step) → script_of text ≡ Ok steps
+        → All (λ step. IsLine 500 step.activity) steps }
+    ensures seats { (text : List ℕ) (steps : List Step) → script_of text ≡ Ok steps
+        → All (λ step. IsSeats step.seats) steps }
     ensures seats_alone { (text : List ℕ) (seats : List Seat) → seats_of text ≡ Some seats → IsSeats seats }
 {}

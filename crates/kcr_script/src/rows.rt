@@ -16,10 +16,10 @@ pub enum RowsFault {
     Csv(Error),
 }
 
-/// Every row of a text in the order of its lines, as `csv` reads it with default settings, but that no row is taken as a
-/// header and rows may have any length. One byte order mark at the front is dropped. Commas, quotes and doubled quotes
-/// are those of RFC 4180; outside quotes LF, CR LF or CR alone ends a line, and blank lines are no rows. The only fault
-/// that can come is out of memory.
+/// Every row of a text in the order of its lines, as `csv` reads it with default settings, but that no row is taken as
+/// a header and rows may have any length. One byte order mark at the front is dropped. Commas, quotes and doubled
+/// quotes are those of RFC 4180; outside quotes LF, CR LF or CR alone ends a line, and blank lines are no rows. The
+/// only fault that can come is out of memory.
 pub fn all_rows(alloc: Global, text: &[u8]) -> Result<Vec<ByteRecord>, RowsFault>
     ensures rows { IfOk result (λ v. AreRows text.now (map fields_of v.items)) }
     ensures lengths { IfErr result IsNoLength }

@@ -1,5 +1,6 @@
 //! Scripts, and the fields of their rows.
-ghost use Rattle.std.specs.Prelude.{⊤, ◌≡◌, ◌≢◌, ◌↔◌, ℕ, ◌+◌, ◌^◌, ◌<◌, ◌≤◌, List, [], ◌∷◌, IfOk, IfSome, IfErr, IsTrue, MatchResult, MatchOption, OnOk, Some, map};
+ghost use Rattle.std.specs.Prelude.{⊤, ◌≡◌, ◌≢◌, ◌↔◌, ℕ, ◌+◌, ◌^◌, ◌<◌, ◌≤◌, List, [], ◌∷◌, IfOk, IfSome, IfErr};
+ghost use Rattle.std.specs.Prelude.{IsTrue, MatchResult, MatchOption, OnOk, Some, map};
 ghost use Rattle.std.specs.Fmt.{decimal};
 ghost use Rattle.csv.specs.Records.{fields_of};
 ghost use Rattle.kcr_script.specs.Script.{header};
@@ -96,7 +97,9 @@ pub(crate) fn is_number(bytes: &[u8], number: u32) -> bool
 
 /// The three fields of a row that has three.
 pub(crate) fn three_fields(row: &ByteRecord) -> Option<(&[u8], &[u8], &[u8])>
-    ensures { MatchOption result ((a b c : List ℕ) → fields_of row.now ≢ a ∷ b ∷ c ∷ []) (λ p. fields_of row.now ≡ p.0.now ∷ p.1.now ∷ p.2.now ∷ []) }
+    ensures { MatchOption result
+        ((a b c : List ℕ) → fields_of row.now ≢ a ∷ b ∷ c ∷ []) (λ p. fields_of row.now ≡ p.0.now ∷ p.1.now ∷ p.2.now
+        ∷ []) }
 {
     if row.len() != 3 {
         return None;

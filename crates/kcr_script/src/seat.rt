@@ -1,5 +1,6 @@
 //! The seats of a step.
-ghost use Rattle.std.specs.Prelude.{⊤, ◌≡◌, ◌≢◌, ℕ, ◌+◌, ◌≤◌, List, [], ◌∷◌, ◌++◌, length, IsTrue, ◌↔◌, Some, true, IfOk};
+ghost use Rattle.std.specs.Prelude.{⊤, ◌≡◌, ◌≢◌, ℕ, ◌+◌, ◌≤◌, List, [], ◌∷◌, ◌++◌, length, IsTrue, ◌↔◌, Some, true};
+ghost use Rattle.std.specs.Prelude.{IfOk};
 ghost use Rattle.kcr_base.specs.Reads.{Found, Only};
 ghost use Rattle.kcr_script.specs.Seat.{seat_text, IsSeat, can_repeat};
 

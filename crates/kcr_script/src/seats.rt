@@ -2,8 +2,10 @@
 //!
 //! A seat text is a list of items joined by `;` without spaces. An item is a seat; one without a number may be followed
 //! by `*m`, m from 2 to 7, and then stands for m such seats. The list that results has 1 to 16 seats.
-ghost use Rattle.std.specs.Prelude.{◌≡◌, ◌≢◌, ◌↔◌, IsTrue, ℕ, ◌+◌, ◌≤◌, ◌<◌, List, [], ◌∷◌, ◌++◌, All, length, replicate, drop, string_bytes, Some, IfSome, IfOk, OnOk, MatchOption, option_map};
-ghost use Rattle.kcr_script.specs.Seats.{Item, IsItem, item_text, pair_item, Spells, StandsFor, IsLast, Leads, IsSeats, runs, groups, appended, all_appended, written};
+ghost use Rattle.std.specs.Prelude.{◌≡◌, ◌≢◌, ◌↔◌, IsTrue, ℕ, ◌+◌, ◌≤◌, ◌<◌, List, [], ◌∷◌, ◌++◌, All, length};
+ghost use Rattle.std.specs.Prelude.{replicate, drop, string_bytes, Some, IfSome, IfOk, OnOk, MatchOption, option_map};
+ghost use Rattle.kcr_script.specs.Seats.{Item, IsItem, item_text, pair_item, Spells, StandsFor, IsLast, Leads, IsSeats};
+ghost use Rattle.kcr_script.specs.Seats.{runs, groups, appended, all_appended, written};
 ghost use Rattle.kcr_script.specs.Reading.{seats_of};
 ghost use Rattle.kcr_script.specs.Seat.{IsSeat};
 ghost use Rattle.std.specs.Cmp.Lexicographic.{pointwise, lists_per};
@@ -81,7 +83,8 @@ fn read_item(bytes: &[u8]) -> Option<(Seat, u8)>
 /// What stands before the first semicolon, and what after it.
 fn cut(bytes: &[u8]) -> (&[u8], Option<&[u8]>)
     ensures free { All (λ b. b ≢ 59) result.0.now }
-    ensures whole { MatchOption result.1 (bytes.now ≡ result.0.now) (λ rest. bytes.now ≡ result.0.now ++ 59 ∷ rest.now) }
+    ensures whole { MatchOption result.1
+        (bytes.now ≡ result.0.now) (λ rest. bytes.now ≡ result.0.now ++ 59 ∷ rest.now) }
 {
     for (i, b) in bytes.iter().enumerate() {
         if *b == b';' {
@@ -200,7 +203,8 @@ fn push_item(text: &mut String, seat: Seat, count: u8) -> Result<(), AllocError>
 fn push_run(text: &mut String, seat: Seat, count: usize) -> Result<(), AllocError>
     requires count { 0 < count }
     requires seat { IsSeat seat }
-    ensures { OnOk result (string_bytes text.new ≡ all_appended (string_bytes text.old) (groups (pair_item (seat, count)))) }
+    ensures { OnOk result
+        (string_bytes text.new ≡ all_appended (string_bytes text.old) (groups (pair_item (seat, count)))) }
 {
     let mut left = count;
     while left > 7 {

@@ -37,7 +37,8 @@ fn read_row(alloc: Global, number: u32, row: &ByteRecord) -> Result<Option<Step>
 fn read_steps(alloc: Global, rows: &[ByteRecord]) -> Result<Vec<Step>, Refusal>
     ensures found { IfOk result (λ v. AreSteps 1 (map fields_of rows.now) v.items) }
     ensures fault { IfErr result (IfRow (BreaksFrom 1 (map fields_of rows.now))) }
-    ensures only { (steps : List Step) → AreSteps 1 (map fields_of rows.now) steps → MatchResult result (λ v. v.items ≡ steps) (λ e. e ≡ Refusal.Memory) }
+    ensures only { (steps : List Step) → AreSteps 1 (map fields_of rows.now) steps
+        → MatchResult result (λ v. v.items ≡ steps) (λ e. e ≡ Refusal.Memory) }
 {
     let mut steps = Vec::new(alloc);
     let mut rest = rows;
@@ -60,7 +61,8 @@ fn read_steps(alloc: Global, rows: &[ByteRecord]) -> Result<Vec<Step>, Refusal>
 fn read_rows(alloc: Global, rows: &[ByteRecord]) -> Result<Script, Refusal>
     ensures found { IfOk result (IsScriptRows (map fields_of rows.now)) }
     ensures fault { IfErr result (IfRow (BreaksAt (map fields_of rows.now))) }
-    ensures only { (steps : List Step) → IsScriptRows (map fields_of rows.now) steps → MatchResult result (λ script. script ≡ steps) (λ e. e ≡ Refusal.Memory) }
+    ensures only { (steps : List Step) → IsScriptRows (map fields_of rows.now) steps
+        → MatchResult result (λ script. script ≡ steps) (λ e. e ≡ Refusal.Memory) }
 {
     let Some((first, rest)) = rows.split_first() else {
         return Err(Refusal::Script { row: 1 });
@@ -78,14 +80,16 @@ fn read_rows(alloc: Global, rows: &[ByteRecord]) -> Result<Script, Refusal>
 }
 
 /// The script that the text is. Row 1 has the three fields `step`, `activity`, `seats`; row k + 1 has three fields: the
-/// number k in decimal without sign or leading zeros, an activity, a seat text; there are 1 to 400 steps. Else refusal 19
-/// with the number of the first row that breaks a rule: 1 where row 1 is missing, 2 where there is no step, 402 where
-/// there are more than 400; or 33 when out of memory.
+/// number k in decimal without sign or leading zeros, an activity, a seat text; there are 1 to 400 steps. Else refusal
+/// 19 with the number of the first row that breaks a rule: 1 where row 1 is missing, 2 where there is no step, 402
+/// where there are more than 400; or 33 when out of memory.
 pub fn read_script(alloc: Global, text: &[u8]) -> Result<Script, Refusal>
     ensures found { IfOk result (IsScript text.now) }
     ensures fault { IfErr result (IfRow (BreaksScript text.now)) }
-    ensures only { (steps : List Step) → IsScript text.now steps → MatchResult result (λ script. script ≡ steps) (λ e. e ≡ Refusal.Memory) }
-    ensures value { MatchResult result (λ script. script_of text.now ≡ Ok script) (IfRow (λ row. script_of text.now ≡ Err row)) }
+    ensures only { (steps : List Step) → IsScript text.now steps
+        → MatchResult result (λ script. script ≡ steps) (λ e. e ≡ Refusal.Memory) }
+    ensures value { MatchResult result (λ script. script_of text.now ≡ Ok script)
+        (IfRow (λ row. script_of text.now ≡ Err row)) }
 {
     match all_rows(alloc, text) {
         Ok(rows) => read_rows(alloc, &rows),

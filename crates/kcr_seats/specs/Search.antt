@@ -1,5 +1,6 @@
 -- What the search knows in between.
-use Rattle.std.specs.Prelude.{◌≡◌, ◌≢◌, ℕ, ◌+◌, ◌*◌, ◌<◌, ◌≤◌, Bool, true, false, IsTrue, List, [], ◌∷◌, ◌++◌, length, replicate, slice_index, slice_index_or, slice_set, SomeIndex}
+use Rattle.std.specs.Prelude.{◌≡◌, ◌≢◌, ℕ, ◌+◌, ◌*◌, ◌<◌, ◌≤◌, Bool, true, false, IsTrue, List, [], ◌∷◌, ◌++◌, length}
+use Rattle.std.specs.Prelude.{replicate, slice_index, slice_index_or, slice_set, SomeIndex}
 use Rattle.kcr_seats.specs.Seating.{IsSeating}
 use Rattle.kcr_seats.specs.People.{contains}
 use Rattle.kcr_seats.specs.declared.people.People.{People}
@@ -10,9 +11,11 @@ use Rattle.std.specs.List.Sorted.{IsStrictlyIncreasing}
 pub record IsSeatedBut (fits : ℕ → ℕ → Bool) (people root : ℕ) (w : List ℕ) : Type 0 where
   pub in_range : (k : ℕ) → k < length w → k ≢ root → slice_index w k < people
   pub fitting : (k : ℕ) → k < length w → k ≢ root → IsTrue (fits k (slice_index w k))
-  pub distinct : (j k : ℕ) → j < length w → k < length w → j ≢ root → k ≢ root → slice_index w j ≡ slice_index w k → j ≡ k
+  pub distinct : (j k : ℕ) → j < length w → k < length w → j ≢ root → k ≢ root → slice_index w j ≡ slice_index w k
+      → j ≡ k
 
--- the seats reached from the root, in the order in which they were reached: the person of each fits an earlier one, at the index `from`
+-- the seats reached from the root, in the order in which they were reached: the person of each fits an earlier one, at
+-- the index `from`
 pub record IsReached (fits : ℕ → ℕ → Bool) (root fixed : ℕ) (w order from : List ℕ) : Type 0 where
   pub some : 0 < length order
   pub starts : slice_index order 0 ≡ root
@@ -21,7 +24,8 @@ pub record IsReached (fits : ℕ → ℕ → Bool) (root fixed : ℕ) (w order f
   pub high : (i : ℕ) → i < length order → slice_index order i < length w
   pub distinct : (i j : ℕ) → i < length order → j < length order → slice_index order i ≡ slice_index order j → i ≡ j
   pub before : (i : ℕ) → 0 < i → i < length order → slice_index from i < i
-  pub edge : (i : ℕ) → 0 < i → i < length order → IsTrue (fits (slice_index order (slice_index from i)) (slice_index w (slice_index order i)))
+  pub edge : (i : ℕ) → 0 < i → i < length order
+      → IsTrue (fits (slice_index order (slice_index from i)) (slice_index w (slice_index order i)))
 
 -- of so many seats the root alone is reached, and marked
 pub record IsRootAlone (seats root : ℕ) (order from : List ℕ) (marked : List Bool) : Type 0 where
@@ -39,18 +43,23 @@ pub record IsPut (seat from : ℕ) (old new : Reached) : Type 0 where
 pub record IsMarked (w order : List ℕ) (marked : List Bool) : Type 0 where
   pub table : length marked ≡ length w
   pub all : (i : ℕ) → i < length order → slice_index_or marked (slice_index order i) false ≡ true
-  pub only : (j : ℕ) → j < length w → slice_index_or marked j false ≡ true → SomeIndex order (λ i. slice_index order i ≡ j)
+  pub only : (j : ℕ) → j < length w → slice_index_or marked j false ≡ true
+      → SomeIndex order (λ i. slice_index order i ≡ j)
 
 -- whom the first n seats of the order fit sits, from `fixed` on, on a marked seat, among the seats below `high`
 abbrev pub IsClosed : (ℕ → ℕ → Bool) → ℕ → ℕ → ℕ → List ℕ → List ℕ → List Bool → Type 0
-IsClosed fits fixed n high w order marked = (i j : ℕ) → i < n → fixed ≤ j → j < high → IsTrue (fits (slice_index order i) (slice_index w j)) → slice_index_or marked j false ≡ true
+IsClosed fits fixed n high w order marked =
+    (i j : ℕ) → i < n → fixed ≤ j → j < high → IsTrue (fits (slice_index order i) (slice_index w j))
+    → slice_index_or marked j false ≡ true
 
 -- how far the seats have been asked whose people fit the seat at the index `next` of the order
-pub record IsRow (fits : ℕ → ℕ → Bool) (root fixed next other seat : ℕ) (w order from : List ℕ) (marked : List Bool) : Type 0 where
+pub record IsRow (fits : ℕ → ℕ → Bool) (root fixed next other seat : ℕ) (w order from : List ℕ)
+    (marked : List Bool) : Type 0 where
   pub reached : IsReached fits root fixed w order from
   pub marks : IsMarked w order marked
   pub closed : IsClosed fits fixed next (length w) w order marked
-  pub row : (j : ℕ) → fixed ≤ j → j < other → IsTrue (fits seat (slice_index w j)) → slice_index_or marked j false ≡ true
+  pub row : (j : ℕ) → fixed ≤ j → j < other → IsTrue (fits seat (slice_index w j))
+      → slice_index_or marked j false ≡ true
   pub inside : next < length order
   pub here : slice_index order next ≡ seat
 
@@ -67,7 +76,8 @@ pub record IsGoodBelow (fits : ℕ → ℕ → Bool) (people n : ℕ) (w : List 
 
 -- a person who fits a reached seat sits on a marked seat, or before `fixed`
 pub record IsStuck (fits : ℕ → ℕ → Bool) (people root fixed : ℕ) (w order : List ℕ) (marked : List Bool) : Type 0 where
-  pub taken : (i p : ℕ) → i < length order → p < people → IsTrue (fits (slice_index order i) p) → SomeIndex w (λ k. (k ≢ root) × (slice_index w k ≡ p) × (fixed ≤ k → slice_index_or marked k false ≡ true))
+  pub taken : (i p : ℕ) → i < length order → p < people → IsTrue (fits (slice_index order i) p)
+      → SomeIndex w (λ k. (k ≢ root) × (slice_index w k ≡ p) × (fixed ≤ k → slice_index_or marked k false ≡ true))
 
 -- the list has the indices below n that the table marks, rising
 pub record IsListed (marked : List Bool) (n : ℕ) (s : List ℕ) : Type 0 where
@@ -84,7 +94,8 @@ pub record IsWay (fits : ℕ → ℕ → Bool) (people root index person : ℕ) 
   pub inside : index < length order
   pub fitting : IsTrue (fits (slice_index order index) person)
   pub before : (i : ℕ) → 0 < i → i ≤ index → slice_index from i < i
-  pub edge : (i : ℕ) → 0 < i → i ≤ index → IsTrue (fits (slice_index order (slice_index from i)) (slice_index w (slice_index order i)))
+  pub edge : (i : ℕ) → 0 < i → i ≤ index
+      → IsTrue (fits (slice_index order (slice_index from i)) (slice_index w (slice_index order i)))
 
 -- a new seating, like the old before the seat, where the person sits now
 pub record IsGiven (fits : ℕ → ℕ → Bool) (seats people seat person : ℕ) (old new : List ℕ) : Type 0 where
@@ -95,18 +106,21 @@ pub record IsGiven (fits : ℕ → ℕ → Bool) (seats people seat person : ℕ
 -- the old seating, and no seating like it before the seat has the person there
 pub record IsRefused (fits : ℕ → ℕ → Bool) (seats people seat person : ℕ) (old new : List ℕ) : Type 0 where
   pub same : new ≡ old
-  pub none : (v : List ℕ) → IsSeating fits seats people v → ((k : ℕ) → k < seat → slice_index v k ≡ slice_index old k) → slice_index v seat ≢ person
+  pub none : (v : List ℕ) → IsSeating fits seats people v → ((k : ℕ) → k < seat → slice_index v k ≡ slice_index old k)
+      → slice_index v seat ≢ person
 
 -- a new seating, like the old before the seat, and no such seating has a lower person there
 pub record IsLowered (fits : ℕ → ℕ → Bool) (seats people seat : ℕ) (old new : List ℕ) : Type 0 where
   pub seating : IsSeating fits seats people new
   pub same : (k : ℕ) → k < seat → slice_index new k ≡ slice_index old k
-  pub lowest : (v : List ℕ) → IsSeating fits seats people v → ((k : ℕ) → k < seat → slice_index v k ≡ slice_index old k) → slice_index new seat ≤ slice_index v seat
+  pub lowest : (v : List ℕ) → IsSeating fits seats people v
+      → ((k : ℕ) → k < seat → slice_index v k ≡ slice_index old k) → slice_index new seat ≤ slice_index v seat
 
 -- a seating, and no seating that is like it before a seat below n has a lower person there
 pub record IsFirstBelow (fits : ℕ → ℕ → Bool) (seats people n : ℕ) (w : List ℕ) : Type 0 where
   pub seating : IsSeating fits seats people w
-  pub first : (v : List ℕ) (k : ℕ) → IsSeating fits seats people v → k < n → ((j : ℕ) → j < k → slice_index v j ≡ slice_index w j) → slice_index w k ≤ slice_index v k
+  pub first : (v : List ℕ) (k : ℕ) → IsSeating fits seats people v → k < n
+      → ((j : ℕ) → j < k → slice_index v j ≡ slice_index w j) → slice_index w k ≤ slice_index v k
 
 -- a bound on the steps of a try to seat one more, and of a try to give a seat to a person
 unfoldable pub search_steps : ℕ → ℕ → ℕ

@@ -1,6 +1,7 @@
 //! Seats people: each seat one person who fits it, and nobody two seats.
 //!
-//! `seat` always decides. It finds the first seating in the order of numbers, or names a least list of seats that fewer people fit than it has seats. By the theorem of Hall exactly one of a seating and such a list exists.
+//! `seat` always decides. It finds the first seating in the order of numbers, or names a least list of seats that fewer
+//! people fit than it has seats. By the theorem of Hall exactly one of a seating and such a list exists.
 #![tactic(auto)]
 
 ghost use Rattle.std.specs.Prelude.{◌≡◌, ℕ, ◌+◌, ◌*◌, ◌<◌, ◌≤◌, Bool, IfOk};
@@ -21,7 +22,8 @@ use std::sync::ledger::{Blank, Ledger};
 pub use steps::Steps;
 use table::Table;
 
-/// Which people fit which seats: a fixed relation between the numbers of the seats and of the people, both counted from 0.
+/// Which people fit which seats: a fixed relation between the numbers of the seats and of the people, both counted from
+/// 0.
 pub trait Fits {
     ghost seat_count: { Self → ℕ };
 
@@ -55,7 +57,8 @@ pub enum Outcome {
 
 /// Seats people, or says which seats too few people fit. It calls `fits` at most seats times people times.
 ///
-/// The only error is out of memory. A step is a call of `fits` or a turn of a loop; `steps` counts both, also where memory runs out.
+/// The only error is out of memory. A step is a call of `fits` or a turn of a loop; `steps` counts both, also where
+/// memory runs out.
 pub fn seat<F: Fits, L: Ledger>(
     alloc: Global,
     fits: &F,

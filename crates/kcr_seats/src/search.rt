@@ -1,11 +1,13 @@
 //! The search: one seat after the other gets a person, along alternating paths; then the seating is made the first one.
-ghost use Rattle.std.specs.Prelude.{◌≡◌, ◌≢◌, ℕ, ◌+◌, ◌*◌, ◌<◌, ◌≤◌, IsTrue, IfOk, OnOk, IfNone, IfSome, MatchBool, EachIndex, length, slice_index, true, false, vec_len};
+ghost use Rattle.std.specs.Prelude.{◌≡◌, ◌≢◌, ℕ, ◌+◌, ◌*◌, ◌<◌, ◌≤◌, IsTrue, IfOk, OnOk, IfNone, IfSome, MatchBool};
+ghost use Rattle.std.specs.Prelude.{EachIndex, length, slice_index, true, false, vec_len};
 ghost use Rattle.kcr_seats.specs.Seating.{IsSeating, IsFirst};
 ghost use Rattle.kcr_seats.specs.People.{contains};
 ghost use Rattle.kcr_seats.specs.Table.{fits_of, seats_of, people_of};
 ghost use Rattle.kcr_seats.specs.Tried.{IsTried};
 ghost use Rattle.kcr_seats.specs.Outcome.{IsOutcome};
-ghost use Rattle.kcr_seats.specs.Search.{IsSeatedBut, IsRootAlone, IsPut, IsReached, IsMarked, IsClosed, IsBusy, IsListed, IsGiven, IsRefused, IsLowered, all_steps, lower_steps, search_steps};
+ghost use Rattle.kcr_seats.specs.Search.{IsSeatedBut, IsRootAlone, IsPut, IsReached, IsMarked, IsClosed, IsBusy};
+ghost use Rattle.kcr_seats.specs.Search.{IsListed, IsGiven, IsRefused, IsLowered, all_steps, lower_steps, search_steps};
 
 use crate::Outcome;
 use crate::people::People;
@@ -14,7 +16,8 @@ use crate::table::Table;
 use std::alloc::{AllocError, Global};
 use std::sync::ledger::Ledger;
 
-/// The seats reached from a root, in that order; the index of the seat that each was reached from; and a mark on each of them.
+/// The seats reached from a root, in that order; the index of the seat that each was reached from; and a mark on each
+/// of them.
 #[derive(Drop)]
 struct Reached {
     order: Vec<usize>,

@@ -38,13 +38,15 @@ GivesOr Other Is result = MatchResult result Is (λ fault. fault ≡ Version →
 
 -- what is given of a register of an older version, by its rows and by its history
 pub record GivesOlder (from : Older) (db : Database) (result : Result View OpenFault) : Type 0 where
-  pub rows : (t : held.Tables) → HoldsUpTo (14 + number_of from) db t → GivesOr (t.versions ≢ numbered (number_of from)) (IsBroughtView from t) result
+  pub rows : (t : held.Tables) → HoldsUpTo (14 + number_of from) db t
+      → GivesOr (t.versions ≢ numbered (number_of from)) (IsBroughtView from t) result
   pub own : (A : History) → StoresAs (number_of from) A db → GivesOr ⊥ (IsListed (tables A)) result
 
 -- what is given of a database of each standing
 abbrev pub Gives : Standing → Database → Result View OpenFault → Type 0
 Gives Empty db result = db.schema ≡ no_schema → GivesOr ⊥ (IsListed (tables [])) result
-Gives Current db result = (t : held.Tables) → held.Holds db t → GivesOr (t.versions ≢ numbered 3) (IsNumberedView t) result
+Gives Current db result =
+    (t : held.Tables) → held.Holds db t → GivesOr (t.versions ≢ numbered 3) (IsNumberedView t) result
 Gives Second db result = GivesOlder older.Second db result
 Gives First db result = GivesOlder older.First db result
 Gives Numbered db result = Unit {0}

@@ -16,7 +16,8 @@ pub record Shows (accepted : History) (s : State) : Type 0 where
 
 -- each crash leaves the tables of the one history or of the other
 abbrev pub LeavesEither : History → History → State → Type 0
-LeavesEither accepted tried s = HasCleanDisk s → (db : Trees) → s.may_leave db → IsTables accepted db ⊎ IsTables tried db
+LeavesEither accepted tried s =
+    HasCleanDisk s → (db : Trees) → s.may_leave db → IsTables accepted db ⊎ IsTables tried db
 
 -- each crash leaves the tables of the history
 abbrev pub Leaves : History → State → Type 0
@@ -30,7 +31,8 @@ pub record IsWhole (accepted : History) (s : State) : Type 0 where
 abbrev pub history_code : Coded History
 history_code = coded_list entry.the_row.coded
 
--- what contracts see of a register: its connection, the history of what it accepted, and, once it is broken, the history that a crash may leave in place of that
+-- what contracts see of a register: its connection, the history of what it accepted, and, once it is broken, the
+-- history that a crash may leave in place of that
 pub record Seen (S : Type 0) : Type 0 where
   pub conn : Held S
   -- its database was empty at first, or held the tables of a history

@@ -17,7 +17,8 @@ use Rattle.kcr_history.specs.declared.questions.Shown.{Shown}
 -- machine's refusal. Out of memory and a fault of the device say nothing of the command, and leave the list.
 abbrev pub Steps : History → Command → Result Reply Refusal → History → Type 0
 Steps A command (Ok reply) A' = (a : Answer) × machine A command (Accepts a) A' × (reply.text ≡ answer_text a)
-Steps A command (Err refusal) A' = (A' ≡ A) × (refusal ≢ Memory → refusal ≢ Disk → machine A command (Refuses refusal) A')
+Steps A command (Err refusal) A' =
+    (A' ≡ A) × (refusal ≢ Memory → refusal ≢ Disk → machine A command (Refuses refusal) A')
 
 -- the history with the command in front, where it gets a new answer; a repeat gets none
 abbrev pub with_answer : History → Command → Option Answer → History

@@ -1,5 +1,6 @@
 //! All rows of a database of any version, which stays as it is.
-ghost use Rattle.std.specs.Prelude.{◌≡◌, ◌≢◌, ◌+◌, ◌⊎◌, [], false, Some, None, Ok, IfOk, IfErr, MatchOption, IsTrue, OnOk};
+ghost use Rattle.std.specs.Prelude.{◌≡◌, ◌≢◌, ◌+◌, ◌⊎◌, [], false, Some, None, Ok, IfOk, IfErr, MatchOption, IsTrue};
+ghost use Rattle.std.specs.Prelude.{OnOk};
 ghost use Rattle.sqlite.specs.State.{HasCleanDisk, Survives};
 ghost use Rattle.sqlite.specs.Held.{state};
 ghost use Rattle.kcr_history.specs.History.{History};
@@ -28,7 +29,8 @@ fn new_rows<S: Alter>(alloc: Global, tx: &mut Transaction<'_, S>) -> Result<Opti
     ensures same_reference { tx.new.conn.ghost_name ≡ tx.old.conn.ghost_name }
     ensures rows { HasCleanDisk (state S.Store tx.new.conn.now) → (state S.Store tx.old.conn.now).now.schema ≡ no_schema
         → IfOk result (λ view. MatchOption view ⊥ (IsListed (tables []))) }
-    ensures opened { HasCleanDisk (state S.Store tx.new.conn.now) → IsTrue (state S.Store tx.old.conn.now).in_transaction
+    ensures opened { HasCleanDisk (state S.Store tx.new.conn.now)
+        → IsTrue (state S.Store tx.old.conn.now).in_transaction
         → OnOk result (IsTrue (state S.Store tx.old.conn.now).is_open) }
     ensures survives { Survives (state S.Store tx.old.conn.now) (state S.Store tx.new.conn.now) (λ _. ⊥) }
     ensures cause { IfErr result IsFault }
@@ -44,8 +46,10 @@ fn numbered_rows<S: Alter>(
 ) -> Result<Option<View>, Refusal>
     ensures same_reference { tx.new.conn.ghost_name ≡ tx.old.conn.ghost_name }
     ensures rows { HasCleanDisk (state S.Store tx.new.conn.now) → (t : Held)
-        → Holds (state S.Store tx.old.conn.now).now t → IfOk result (λ view. MatchOption view (t.versions ≢ numbered 3) (IsNumberedView t)) }
-    ensures opened { HasCleanDisk (state S.Store tx.new.conn.now) → IsTrue (state S.Store tx.old.conn.now).in_transaction
+        → Holds (state S.Store tx.old.conn.now).now t
+        → IfOk result (λ view. MatchOption view (t.versions ≢ numbered 3) (IsNumberedView t)) }
+    ensures opened { HasCleanDisk (state S.Store tx.new.conn.now)
+        → IsTrue (state S.Store tx.old.conn.now).in_transaction
         → OnOk result (IsTrue (state S.Store tx.old.conn.now).is_open) }
     ensures survives { Survives (state S.Store tx.old.conn.now) (state S.Store tx.new.conn.now) (λ _. ⊥) }
     ensures cause { IfErr result IsFault }
@@ -71,7 +75,8 @@ fn brought_rows<S: Alter>(
     ensures own { HasCleanDisk (state S.Store tx.new.conn.now) → (A : History)
         → StoresAs (number_of from) A (state S.Store tx.old.conn.now).now
         → IfOk result (λ view. MatchOption view ⊥ (IsListed (tables A))) }
-    ensures opened { HasCleanDisk (state S.Store tx.new.conn.now) → IsTrue (state S.Store tx.old.conn.now).in_transaction
+    ensures opened { HasCleanDisk (state S.Store tx.new.conn.now)
+        → IsTrue (state S.Store tx.old.conn.now).in_transaction
         → IfOk result (λ view. MatchOption view (Unit {0}) (λ _. IsTrue (state S.Store tx.old.conn.now).is_open)) }
     ensures survives { Survives (state S.Store tx.old.conn.now) (state S.Store tx.new.conn.now) (λ _. ⊥) }
     ensures cause { IfErr result IsFault }
@@ -102,8 +107,10 @@ fn rows_as<S: Alter>(
     standing: Standing,
 ) -> Result<View, OpenFault>
     ensures same_reference { tx.new.conn.ghost_name ≡ tx.old.conn.ghost_name }
-    ensures gives { HasCleanDisk (state S.Store tx.new.conn.now) → Gives standing (state S.Store tx.old.conn.now).now result }
-    ensures opened { HasCleanDisk (state S.Store tx.new.conn.now) → IsTrue (state S.Store tx.old.conn.now).in_transaction
+    ensures gives { HasCleanDisk (state S.Store tx.new.conn.now)
+        → Gives standing (state S.Store tx.old.conn.now).now result }
+    ensures opened { HasCleanDisk (state S.Store tx.new.conn.now)
+        → IsTrue (state S.Store tx.old.conn.now).in_transaction
         → OnOk result (IsTrue (state S.Store tx.old.conn.now).is_open) }
     ensures read { IfOk result (λ _. ¬ IsUnread standing) }
     ensures foreign { IfErr result (λ e. e ≡ OpenFault.Foreign → IsUnread standing) }

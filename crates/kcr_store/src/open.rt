@@ -57,17 +57,18 @@ fn fault_of_error(error: Error) -> OpenFault
     }
 }
 
-/// Connects to the file at the path and its log beside it; a file that is not there is made. `start` stands for what the
-/// two held, which no code can read: where that was a history's tables, or nothing, so is what the connection finds, and
-/// `Register::adopt` may be told so. `Disk` comes also where another process has the file open, where it is no database,
-/// and for the name `:memory:`.
+/// Connects to the file at the path and its log beside it; a file that is not there is made. `start` stands for what
+/// the two held, which no code can read: where that was a history's tables, or nothing, so is what the connection
+/// finds, and `Register::adopt` may be told so. `Disk` comes also where another process has the file open, where it is
+/// no database, and for the name `:memory:`.
 pub fn connect<S: Start>(
     rt: &HostRuntime,
     path: &str,
     start: S,
 ) -> Result<Connection<FileStore<FileFrom<S>>>, OpenFault>
     ensures autocommit { IfOk result (λ connection. connection.in_transaction ≡ false) }
-    ensures founded { IfOk result (λ connection. (A : History) → IsHeldIn A (image_at S.Start) → IsFounded A (file_state connection)) }
+    ensures founded { IfOk result (λ connection. (A : History) → IsHeldIn A (image_at S.Start)
+        → IsFounded A (file_state connection)) }
     ensures kind { IfErr result (λ e. (e ≡ OpenFault.Memory) ⊎ (e ≡ OpenFault.Disk)) }
 {
     match Connection::open_from(rt, path, false, start) {
@@ -94,7 +95,10 @@ fn found<S: Alter>(conn: &mut Connection<S>) -> Result<(), OpenFault>
     requires autocommit { conn.old.in_transaction ≡ false }
     requires empty { (state S.Store conn.old).now.schema ≡ no_schema }
     ensures autocommit { conn.new.in_transaction ≡ false }
-    ensures made { HasCleanDisk (state S.Store conn.new) → OnOk result (Shows [] (state S.Store conn.new) × IsTrue (state S.Store conn.new).is_open × IsTrue (state S.Store conn.old).is_open) }
+    ensures made { HasCleanDisk (state S.Store conn.new)
+        → OnOk result
+        (Shows [] (state S.Store conn.new) × IsTrue (state S.Store conn.new).is_open
+        × IsTrue (state S.Store conn.old).is_open) }
     ensures kind { IfErr result (λ e. (e ≡ OpenFault.Memory) ⊎ (e ≡ OpenFault.Disk)) }
     ensures survives { Survives (state S.Store conn.old) (state S.Store conn.new) (IsTables []) }
 {
@@ -112,7 +116,8 @@ fn found<S: Alter>(conn: &mut Connection<S>) -> Result<(), OpenFault>
 fn probe<S: Alter>(conn: &mut Connection<S>) -> Result<(), OpenFault>
     requires autocommit { conn.old.in_transaction ≡ false }
     ensures autocommit { conn.new.in_transaction ≡ false }
-    ensures same { HasCleanDisk (state S.Store conn.new) → OnOk result (IsUnchanged (state S.Store conn.old) (state S.Store conn.new)) }
+    ensures same { HasCleanDisk (state S.Store conn.new)
+        → OnOk result (IsUnchanged (state S.Store conn.old) (state S.Store conn.new)) }
     ensures kind { IfErr result (λ e. (e ≡ OpenFault.Memory) ⊎ (e ≡ OpenFault.Disk)) }
     ensures survives { Survives (state S.Store conn.old) (state S.Store conn.new) (λ _. ⊥) }
 {
@@ -126,9 +131,14 @@ fn probe<S: Alter>(conn: &mut Connection<S>) -> Result<(), OpenFault>
 fn read_versions<S: Alter>(alloc: Global, conn: &mut Connection<S>) -> Result<Vec<Version>, Refusal>
     requires autocommit { conn.old.in_transaction ≡ false }
     ensures autocommit { conn.new.in_transaction ≡ false }
-    ensures rows { HasCleanDisk (state S.Store conn.new) → (A : History) → (IsTrue (state S.Store conn.old).is_open → Shows A (state S.Store conn.old)) → IfOk result (λ rows. rows.items ≡ first_tables.versions) }
-    ensures exact { HasCleanDisk (state S.Store conn.new) → (t : Tables) → Holds (state S.Store conn.old).now t → IfOk result (λ rows. rows.items ≡ t.versions) }
-    ensures shows { HasCleanDisk (state S.Store conn.new) → (A : History) → (IsTrue (state S.Store conn.old).is_open → Shows A (state S.Store conn.old)) → IsTrue (state S.Store conn.new).is_open → Shows A (state S.Store conn.new) }
+    ensures rows { HasCleanDisk (state S.Store conn.new) → (A : History)
+        → (IsTrue (state S.Store conn.old).is_open → Shows A (state S.Store conn.old))
+        → IfOk result (λ rows. rows.items ≡ first_tables.versions) }
+    ensures exact { HasCleanDisk (state S.Store conn.new) → (t : Tables) → Holds (state S.Store conn.old).now t
+        → IfOk result (λ rows. rows.items ≡ t.versions) }
+    ensures shows { HasCleanDisk (state S.Store conn.new) → (A : History)
+        → (IsTrue (state S.Store conn.old).is_open → Shows A (state S.Store conn.old))
+        → IsTrue (state S.Store conn.new).is_open → Shows A (state S.Store conn.new) }
     ensures survives { Survives (state S.Store conn.old) (state S.Store conn.new) (λ _. ⊥) }
 {
     let mut tx = conn.transaction();
@@ -151,11 +161,14 @@ pub(crate) fn is_this_version(versions: &[Version]) -> bool
 fn resume<S: Alter>(alloc: Global, conn: &mut Connection<S>) -> Result<(), OpenFault>
     requires autocommit { conn.old.in_transaction ≡ false }
     ensures autocommit { conn.new.in_transaction ≡ false }
-    ensures shows { HasCleanDisk (state S.Store conn.new) → (A : History) → (IsTrue (state S.Store conn.old).is_open → Shows A (state S.Store conn.old))
+    ensures shows { HasCleanDisk (state S.Store conn.new) → (A : History)
+        → (IsTrue (state S.Store conn.old).is_open → Shows A (state S.Store conn.old))
         → OnOk result (Shows A (state S.Store conn.new) × IsTrue (state S.Store conn.new).is_open) }
-    ensures taken { HasCleanDisk (state S.Store conn.new) → (A : History) → (IsTrue (state S.Store conn.old).is_open → Shows A (state S.Store conn.old))
+    ensures taken { HasCleanDisk (state S.Store conn.new) → (A : History)
+        → (IsTrue (state S.Store conn.old).is_open → Shows A (state S.Store conn.old))
         → IfErr result (λ e. (e ≡ OpenFault.Memory) ⊎ (e ≡ OpenFault.Disk)) }
-    ensures version { HasCleanDisk (state S.Store conn.new) → (t : Tables) → Holds (state S.Store conn.old).now t → IsNumberAnswer 3 t result }
+    ensures version { HasCleanDisk (state S.Store conn.new) → (t : Tables) → Holds (state S.Store conn.old).now t
+        → IsNumberAnswer 3 t result }
     ensures kind { IfErr result (λ e. e ≢ OpenFault.Foreign) }
     ensures survives { Survives (state S.Store conn.old) (state S.Store conn.new) (λ _. ⊥) }
 {
@@ -176,16 +189,20 @@ fn resume<S: Alter>(alloc: Global, conn: &mut Connection<S>) -> Result<(), OpenF
 fn renew<S: Alter>(alloc: Global, conn: &mut Connection<S>, from: Older) -> Result<(), OpenFault>
     requires autocommit { conn.old.in_transaction ≡ false }
     ensures autocommit { conn.new.in_transaction ≡ false }
-    ensures shows { HasCleanDisk (state S.Store conn.new) → (A : History) → StoresAs (number_of from) A (state S.Store conn.old).now
+    ensures shows { HasCleanDisk (state S.Store conn.new) → (A : History)
+        → StoresAs (number_of from) A (state S.Store conn.old).now
         → OnOk result (Shows A (state S.Store conn.new) × IsTrue (state S.Store conn.new).is_open) }
     ensures opened { HasCleanDisk (state S.Store conn.new) → OnOk result (IsTrue (state S.Store conn.old).is_open) }
-    ensures taken { HasCleanDisk (state S.Store conn.new) → (A : History) → StoresAs (number_of from) A (state S.Store conn.old).now
+    ensures taken { HasCleanDisk (state S.Store conn.new) → (A : History)
+        → StoresAs (number_of from) A (state S.Store conn.old).now
         → IfErr result (λ e. (e ≡ OpenFault.Memory) ⊎ (e ≡ OpenFault.Disk)) }
     ensures version { HasCleanDisk (state S.Store conn.new) → (t : Tables)
         → HoldsUpTo (14 + number_of from) (state S.Store conn.old).now t → IsNumberAnswer (number_of from) t result }
     ensures kind { IfErr result (λ e. e ≢ OpenFault.Foreign) }
-    ensures left { IfErr result (λ e. e ≡ OpenFault.Version → Survives (state S.Store conn.old) (state S.Store conn.new) (λ _. ⊥)) }
-    ensures survives { Survives (state S.Store conn.old) (state S.Store conn.new) (IsBrought (number_of from) (state S.Store conn.old).now) }
+    ensures left { IfErr result (λ e. e ≡ OpenFault.Version
+        → Survives (state S.Store conn.old) (state S.Store conn.new) (λ _. ⊥)) }
+    ensures survives { Survives (state S.Store conn.old) (state S.Store conn.new)
+        (IsBrought (number_of from) (state S.Store conn.old).now) }
 {
     let mut tx = conn.transaction();
     match bring(alloc, &mut tx, from) {
@@ -227,16 +244,19 @@ pub(crate) fn settle<S: Alter>(alloc: Global, conn: &mut Connection<S>) -> Resul
     ensures autocommit { conn.new.in_transaction ≡ false }
     ensures found { HasCleanDisk (state S.Store conn.new) → (A : History) → IsFounded A (state S.Store conn.old)
         → OnOk result (Shows A (state S.Store conn.new) × IsTrue (state S.Store conn.new).is_open) }
-    ensures taken { HasCleanDisk (state S.Store conn.new) → IsTrue (state S.Store conn.old).is_open → (A : History) → IsFounded A (state S.Store conn.old)
+    ensures taken { HasCleanDisk (state S.Store conn.new) → IsTrue (state S.Store conn.old).is_open → (A : History)
+        → IsFounded A (state S.Store conn.old)
         → IfErr result (λ e. (e ≡ OpenFault.Memory) ⊎ (e ≡ OpenFault.Disk)) }
-    ensures version { HasCleanDisk (state S.Store conn.new) → (t : Tables) → Holds (state S.Store conn.old).now t → IsNumberAnswer 3 t result }
+    ensures version { HasCleanDisk (state S.Store conn.new) → (t : Tables) → Holds (state S.Store conn.old).now t
+        → IsNumberAnswer 3 t result }
     ensures older { HasCleanDisk (state S.Store conn.new) → (from : Older) → (t : Tables)
         → HoldsUpTo (14 + number_of from) (state S.Store conn.old).now t → IsNumberAnswer (number_of from) t result }
     ensures known { IfOk result (λ _. ¬ IsStrange (state S.Store conn.old).now.schema) }
     ensures foreign { IfErr result (λ e. e ≡ OpenFault.Foreign → IsStrange (state S.Store conn.old).now.schema) }
     ensures left { IfErr result (λ e. (e ≡ OpenFault.Foreign) ⊎ (e ≡ OpenFault.Version)
         → Survives (state S.Store conn.old) (state S.Store conn.new) (λ _. ⊥)) }
-    ensures survives { Survives (state S.Store conn.old) (state S.Store conn.new) (IsMadeOf (state S.Store conn.old).now) }
+    ensures survives { Survives (state S.Store conn.old) (state S.Store conn.new)
+        (IsMadeOf (state S.Store conn.old).now) }
 {
     let is_settled = conn.is_autocommit();
     prove!(is_settled);

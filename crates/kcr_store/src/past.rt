@@ -39,7 +39,8 @@ impl Past {
 
     /// The history with this command in front, which was accepted with this answer.
     pub fn with(_before: &Past, _command: &Command, _answer: &Answer) -> Past
-        ensures { (result.entries ≡ record { command = _command.now; answer = _answer.now } ∷ _before.now.entries) × (result.is_founded ≡ _before.now.is_founded) }
+        ensures { (result.entries ≡ record { command = _command.now; answer = _answer.now } ∷ _before.now.entries)
+            × (result.is_founded ≡ _before.now.is_founded) }
     {
         Past {}
     }

@@ -46,14 +46,17 @@ pub(crate) fn prepare<S: Alter>(
 
     // Over the tables of a history, an answer is the machine's, and the transaction then holds the tables after it.
     ensures done { HasCleanDisk (state S.Store tx.new.conn.now) → IsTrue (state S.Store tx.old.conn.now).in_transaction
-        → (A : History) → (IsTrue (state S.Store tx.old.conn.now).is_open → Stores A (state S.Store tx.old.conn.now).now)
+        → (A : History)
+        → (IsTrue (state S.Store tx.old.conn.now).is_open → Stores A (state S.Store tx.old.conn.now).now)
         → IfOk result (λ p. Steps A command.now (Ok p.reply) (with_answer A command.now p.answer)
         × Stores (with_answer A command.now p.answer) (state S.Store tx.new.conn.now).now
         × IsTrue (state S.Store tx.new.conn.now).in_transaction) }
     ensures denied { HasCleanDisk (state S.Store tx.new.conn.now)
-        → (A : History) → (IsTrue (state S.Store tx.old.conn.now).is_open → Stores A (state S.Store tx.old.conn.now).now)
+        → (A : History)
+        → (IsTrue (state S.Store tx.old.conn.now).is_open → Stores A (state S.Store tx.old.conn.now).now)
         → IfErr result (λ e. Steps A command.now (Err e) A) }
-    ensures kept { HasCleanDisk (state S.Store tx.new.conn.now) → IsTrue (state S.Store tx.old.conn.now).in_transaction → KeepsCommit (state S.Store tx.old.conn.now) (state S.Store tx.new.conn.now) }
+    ensures kept { HasCleanDisk (state S.Store tx.new.conn.now) → IsTrue (state S.Store tx.old.conn.now).in_transaction
+        → KeepsCommit (state S.Store tx.old.conn.now) (state S.Store tx.new.conn.now) }
     ensures survives { Survives (state S.Store tx.old.conn.now) (state S.Store tx.new.conn.now) (λ _. ⊥) }
 {
     let asked = asks(alloc, command)?;
@@ -88,11 +91,16 @@ pub(crate) fn perform<S: Alter>(
     ensures autocommit { conn.new.in_transaction ≡ false }
     ensures clean { HasCleanDisk (state S.Store conn.new) → HasCleanDisk (state S.Store conn.old) }
     ensures founded { is_founded_after past.now.is_founded result ≡ past.now.is_founded }
-    ensures step { IsWhole past.now.entries (state S.Store conn.old) → HasCleanDisk (state S.Store conn.new) → Steps past.now.entries command.now (answer_of result) (history_after past.now.entries result) }
-    ensures served { HasCleanDisk (state S.Store conn.new) → OnOk (answer_of result) (IsTrue (state S.Store conn.new).is_open) }
-    ensures candidate { IsWhole past.now.entries (state S.Store conn.old) → HasCleanDisk (state S.Store conn.new) → IsNext past.now.entries command.now (tried_after past.now.entries result) }
-    ensures whole { IsWhole past.now.entries (state S.Store conn.old) → is_torn result ≡ false → IsWhole (history_after past.now.entries result) (state S.Store conn.new) }
-    ensures tried { IsWhole past.now.entries (state S.Store conn.old) → LeavesEither past.now.entries (tried_after past.now.entries result) (state S.Store conn.new) }
+    ensures step { IsWhole past.now.entries (state S.Store conn.old) → HasCleanDisk (state S.Store conn.new)
+        → Steps past.now.entries command.now (answer_of result) (history_after past.now.entries result) }
+    ensures served { HasCleanDisk (state S.Store conn.new)
+        → OnOk (answer_of result) (IsTrue (state S.Store conn.new).is_open) }
+    ensures candidate { IsWhole past.now.entries (state S.Store conn.old) → HasCleanDisk (state S.Store conn.new)
+        → IsNext past.now.entries command.now (tried_after past.now.entries result) }
+    ensures whole { IsWhole past.now.entries (state S.Store conn.old) → is_torn result ≡ false
+        → IsWhole (history_after past.now.entries result) (state S.Store conn.new) }
+    ensures tried { IsWhole past.now.entries (state S.Store conn.old)
+        → LeavesEither past.now.entries (tried_after past.now.entries result) (state S.Store conn.new) }
 {
     let mut tx = conn.transaction();
     let prepared = match prepare(alloc, &mut tx, command) {
@@ -122,7 +130,8 @@ pub(crate) fn ask<S: Alter>(
     requires autocommit { conn.old.in_transaction ≡ false }
     ensures autocommit { conn.new.in_transaction ≡ false }
     ensures clean { HasCleanDisk (state S.Store conn.new) → HasCleanDisk (state S.Store conn.old) }
-    ensures shown { (A : History) → IsWhole A (state S.Store conn.old) → HasCleanDisk (state S.Store conn.new) → IsAsked A question.now result }
+    ensures shown { (A : History) → IsWhole A (state S.Store conn.old) → HasCleanDisk (state S.Store conn.new)
+        → IsAsked A question.now result }
     ensures whole { (A : History) → IsWhole A (state S.Store conn.old) → IsWhole A (state S.Store conn.new) }
     ensures cause { IfErr result (MayRefuse question.now) }
 {
@@ -139,8 +148,10 @@ fn read<S: Alter>(
     question: &Question,
 ) -> Result<Shown, Refusal>
     ensures same_reference { tx.new.conn.ghost_name ≡ tx.old.conn.ghost_name }
-    ensures shown { OfStored (state S.Store tx.old.conn.now) (state S.Store tx.new.conn.now) (λ A. IsAsked A question.now result) }
-    ensures kept { HasCleanDisk (state S.Store tx.new.conn.now) → IsTrue (state S.Store tx.old.conn.now).in_transaction → KeepsCommit (state S.Store tx.old.conn.now) (state S.Store tx.new.conn.now) }
+    ensures shown { OfStored (state S.Store tx.old.conn.now)
+        (state S.Store tx.new.conn.now) (λ A. IsAsked A question.now result) }
+    ensures kept { HasCleanDisk (state S.Store tx.new.conn.now) → IsTrue (state S.Store tx.old.conn.now).in_transaction
+        → KeepsCommit (state S.Store tx.old.conn.now) (state S.Store tx.new.conn.now) }
     ensures survives { Survives (state S.Store tx.old.conn.now) (state S.Store tx.new.conn.now) (λ _. ⊥) }
     ensures cause { IfErr result (MayRefuse question.now) }
 {
@@ -158,8 +169,10 @@ fn read_people<S: Alter>(
     tx: &mut Transaction<'_, S>,
 ) -> Result<Vec<PersonShown>, Refusal>
     ensures same_reference { tx.new.conn.ghost_name ≡ tx.old.conn.ghost_name }
-    ensures shown { OfStored (state S.Store tx.old.conn.now) (state S.Store tx.new.conn.now) (λ A. IfOk result (λ rows. ArePeopleShown A rows.items)) }
-    ensures kept { HasCleanDisk (state S.Store tx.new.conn.now) → IsTrue (state S.Store tx.old.conn.now).in_transaction → KeepsCommit (state S.Store tx.old.conn.now) (state S.Store tx.new.conn.now) }
+    ensures shown { OfStored (state S.Store tx.old.conn.now)
+        (state S.Store tx.new.conn.now) (λ A. IfOk result (λ rows. ArePeopleShown A rows.items)) }
+    ensures kept { HasCleanDisk (state S.Store tx.new.conn.now) → IsTrue (state S.Store tx.old.conn.now).in_transaction
+        → KeepsCommit (state S.Store tx.old.conn.now) (state S.Store tx.new.conn.now) }
     ensures survives { Survives (state S.Store tx.old.conn.now) (state S.Store tx.new.conn.now) (λ _. ⊥) }
     ensures cause { IfErr result IsFault }
 {
@@ -176,8 +189,10 @@ fn read_custodians<S: Alter>(
     day: Day,
 ) -> Result<CustodiansShown, Refusal>
     ensures same_reference { tx.new.conn.ghost_name ≡ tx.old.conn.ghost_name }
-    ensures shown { OfStored (state S.Store tx.old.conn.now) (state S.Store tx.new.conn.now) (λ A. IfOk result (AreCustodiansShown A day)) }
-    ensures kept { HasCleanDisk (state S.Store tx.new.conn.now) → IsTrue (state S.Store tx.old.conn.now).in_transaction → KeepsCommit (state S.Store tx.old.conn.now) (state S.Store tx.new.conn.now) }
+    ensures shown { OfStored (state S.Store tx.old.conn.now)
+        (state S.Store tx.new.conn.now) (λ A. IfOk result (AreCustodiansShown A day)) }
+    ensures kept { HasCleanDisk (state S.Store tx.new.conn.now) → IsTrue (state S.Store tx.old.conn.now).in_transaction
+        → KeepsCommit (state S.Store tx.old.conn.now) (state S.Store tx.new.conn.now) }
     ensures survives { Survives (state S.Store tx.old.conn.now) (state S.Store tx.new.conn.now) (λ _. ⊥) }
     ensures cause { IfErr result IsFault }
 {
@@ -192,8 +207,11 @@ fn read_bag<S: Alter>(
     serial: Serial,
 ) -> Result<BagShown, Refusal>
     ensures same_reference { tx.new.conn.ghost_name ≡ tx.old.conn.ghost_name }
-    ensures shown { OfStored (state S.Store tx.old.conn.now) (state S.Store tx.new.conn.now) (λ A. MatchResult result (IsBagShown A serial) (IsRefused A (Question.Bag serial))) }
-    ensures kept { HasCleanDisk (state S.Store tx.new.conn.now) → IsTrue (state S.Store tx.old.conn.now).in_transaction → KeepsCommit (state S.Store tx.old.conn.now) (state S.Store tx.new.conn.now) }
+    ensures shown { OfStored (state S.Store tx.old.conn.now)
+        (state S.Store tx.new.conn.now) (λ A. MatchResult result (IsBagShown A serial)
+        (IsRefused A (Question.Bag serial))) }
+    ensures kept { HasCleanDisk (state S.Store tx.new.conn.now) → IsTrue (state S.Store tx.old.conn.now).in_transaction
+        → KeepsCommit (state S.Store tx.old.conn.now) (state S.Store tx.new.conn.now) }
     ensures survives { Survives (state S.Store tx.old.conn.now) (state S.Store tx.new.conn.now) (λ _. ⊥) }
     ensures cause { IfErr result (MayRefuse (Question.Bag serial)) }
 {
@@ -219,8 +237,11 @@ fn read_room<S: Alter>(
     at: Moment,
 ) -> Result<RoomShown, Refusal>
     ensures same_reference { tx.new.conn.ghost_name ≡ tx.old.conn.ghost_name }
-    ensures shown { OfStored (state S.Store tx.old.conn.now) (state S.Store tx.new.conn.now) (λ A. MatchResult result (IsRoomShown A ceremony at) (IsRefused A (Question.Room ceremony at))) }
-    ensures kept { HasCleanDisk (state S.Store tx.new.conn.now) → IsTrue (state S.Store tx.old.conn.now).in_transaction → KeepsCommit (state S.Store tx.old.conn.now) (state S.Store tx.new.conn.now) }
+    ensures shown { OfStored (state S.Store tx.old.conn.now)
+        (state S.Store tx.new.conn.now) (λ A. MatchResult result (IsRoomShown A ceremony at)
+        (IsRefused A (Question.Room ceremony at))) }
+    ensures kept { HasCleanDisk (state S.Store tx.new.conn.now) → IsTrue (state S.Store tx.old.conn.now).in_transaction
+        → KeepsCommit (state S.Store tx.old.conn.now) (state S.Store tx.new.conn.now) }
     ensures survives { Survives (state S.Store tx.old.conn.now) (state S.Store tx.new.conn.now) (λ _. ⊥) }
     ensures cause { IfErr result (MayRefuse (Question.Room ceremony at)) }
 {

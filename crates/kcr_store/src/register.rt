@@ -1,5 +1,6 @@
 //! The register itself.
-ghost use Rattle.std.specs.Prelude.{[], false, true, ◌≡◌, ◌↔◌, IsTrue, IsSome, IfOk, IfErr, OnOk, Ok, Err, Some, None, unwrap_or};
+ghost use Rattle.std.specs.Prelude.{[], false, true, ◌≡◌, ◌↔◌, IsTrue, IsSome, IfOk, IfErr, OnOk, Ok, Err, Some, None};
+ghost use Rattle.std.specs.Prelude.{unwrap_or};
 ghost use Rattle.sqlite.specs.State.{HasCleanDisk};
 ghost use Rattle.sqlite.specs.Held.{state};
 ghost use Rattle.kcr_store.specs.Steps.{Steps, IsNext, IsAsked, MayRefuse};
@@ -48,9 +49,20 @@ impl<S: Alter> Model for Register<S> {
 
     ghost coded = { seen_code S.code };
 
-    ghost view = { λ r. record { conn = r.conn; is_founded = r.past.is_founded; accepted = r.past.entries; torn = if r.broken then Some r.tried.entries else None } };
+    ghost view = { λ r. record {
+      conn = r.conn;
+      is_founded = r.past.is_founded;
+      accepted = r.past.entries;
+      torn = if r.broken then Some r.tried.entries else None;
+    } };
 
-    ghost invariant = { λ r. IsKept S.Store (record { conn = r.conn; is_founded = r.past.is_founded; accepted = r.past.entries; torn = if r.broken then Some r.tried.entries else None }) };
+    ghost invariant = { λ r. IsKept S.Store
+        (record {
+          conn = r.conn;
+          is_founded = r.past.is_founded;
+          accepted = r.past.entries;
+          torn = if r.broken then Some r.tried.entries else None;
+        }) };
 }
 
 impl<S: Alter + Drop> Register<S> {
@@ -73,21 +85,28 @@ impl<S: Alter + Drop> Register<S> {
     ) -> Result<Register<S>, (OpenFault, Connection<S>)>
         requires autocommit { connection.in_transaction ≡ false }
         requires founded { IsTrue past.is_founded → IsFounded past.entries (state S.Store connection) }
-        ensures adopted { IfOk result (λ r. (r.is_founded ≡ past.is_founded) × (r.accepted ≡ past.entries) × (r.torn ≡ None)) }
+        ensures adopted { IfOk result (λ r. (r.is_founded ≡ past.is_founded) × (r.accepted ≡ past.entries)
+            × (r.torn ≡ None)) }
         ensures kept { IfOk result (IsKept S.Store) }
-        ensures taken { IfErr result (λ e. IsTrue past.is_founded → IsTrue (state S.Store connection).is_open → HasCleanDisk (state S.Store e.1) → (e.0 ≡ OpenFault.Memory) ⊎ (e.0 ≡ OpenFault.Disk)) }
+        ensures taken { IfErr result (λ e. IsTrue past.is_founded → IsTrue (state S.Store connection).is_open
+            → HasCleanDisk (state S.Store e.1) → (e.0 ≡ OpenFault.Memory) ⊎ (e.0 ≡ OpenFault.Disk)) }
         ensures version { MatchResult result
-            (λ r. HasCleanDisk (state S.Store r.conn) → (t : Tables) → Holds (state S.Store connection).now t → t.versions ≡ numbered 3)
-            (λ e. HasCleanDisk (state S.Store e.1) → (t : Tables) → Holds (state S.Store connection).now t → e.0 ≡ OpenFault.Version → t.versions ≢ numbered 3) }
+            (λ r. HasCleanDisk (state S.Store r.conn) → (t : Tables) → Holds (state S.Store connection).now t
+            → t.versions ≡ numbered 3)
+            (λ e. HasCleanDisk (state S.Store e.1) → (t : Tables) → Holds (state S.Store connection).now t
+            → e.0 ≡ OpenFault.Version → t.versions ≢ numbered 3) }
         ensures older { MatchResult result
-            (λ r. HasCleanDisk (state S.Store r.conn) → (from : Older) → (t : Tables) → HoldsUpTo (14 + number_of from) (state S.Store connection).now t
+            (λ r. HasCleanDisk (state S.Store r.conn) → (from : Older) → (t : Tables)
+            → HoldsUpTo (14 + number_of from) (state S.Store connection).now t
             → t.versions ≡ numbered (number_of from))
-            (λ e. HasCleanDisk (state S.Store e.1) → (from : Older) → (t : Tables) → HoldsUpTo (14 + number_of from) (state S.Store connection).now t
+            (λ e. HasCleanDisk (state S.Store e.1) → (from : Older) → (t : Tables)
+            → HoldsUpTo (14 + number_of from) (state S.Store connection).now t
             → e.0 ≡ OpenFault.Version → t.versions ≢ numbered (number_of from)) }
 
         // What looks like no register is not taken, and nothing else is refused as foreign.
         ensures known { IfOk result (λ _. ¬ IsStrange (state S.Store connection).now.schema) }
-        ensures foreign { IfErr result (λ e. e.0 ≡ OpenFault.Foreign → IsStrange (state S.Store connection).now.schema) }
+        ensures foreign { IfErr result (λ e. e.0 ≡ OpenFault.Foreign
+            → IsStrange (state S.Store connection).now.schema) }
         ensures left { IfErr result (λ e. (e.0 ≡ OpenFault.Foreign) ⊎ (e.0 ≡ OpenFault.Version)
             → Survives (state S.Store connection) (state S.Store e.1) (λ _. ⊥)) }
 
@@ -112,12 +131,12 @@ impl<S: Alter + Drop> Register<S> {
         }
     }
 
-    /// Takes a database that is empty or a register's. An empty one gets its tables, and a register of version 1 or 2 is
-    /// brought to this version, which is 3, each in one transaction: the stays are made of the sheet, and there are no
-    /// withdrawals. The history that it begins with is the one that the caller's proof names, where it is true of the
-    /// database. A database with something else is refused as foreign, one whose number is another version's as that;
-    /// both are left as they are. Where memory is wanting or the device fails, a crash leaves the database as it was
-    /// or as it was to become.
+    /// Takes a database that is empty or a register's. An empty one gets its tables, and a register of version 1 or 2
+    /// is brought to this version, which is 3, each in one transaction: the stays are made of the sheet, and there are
+    /// no withdrawals. The history that it begins with is the one that the caller's proof names, where it is true of
+    /// the database. A database with something else is refused as foreign, one whose number is another version's as
+    /// that; both are left as they are. Where memory is wanting or the device fails, a crash leaves the database as it
+    /// was or as it was to become.
     pub fn adopt(
         alloc: Global,
         connection: Connection<S>,
@@ -127,19 +146,25 @@ impl<S: Alter + Drop> Register<S> {
         requires founded { IsTrue past.0 → IsFounded past.1 (state S.Store connection) }
         ensures adopted { IfOk result (λ r. (r.is_founded ≡ past.0) × (r.accepted ≡ past.1) × (r.torn ≡ None)) }
         ensures kept { IfOk result (IsKept S.Store) }
-        ensures taken { IfErr result (λ e. IsTrue past.0 → IsTrue (state S.Store connection).is_open → HasCleanDisk (state S.Store e.1) → (e.0 ≡ OpenFault.Memory) ⊎ (e.0 ≡ OpenFault.Disk)) }
+        ensures taken { IfErr result (λ e. IsTrue past.0 → IsTrue (state S.Store connection).is_open
+            → HasCleanDisk (state S.Store e.1) → (e.0 ≡ OpenFault.Memory) ⊎ (e.0 ≡ OpenFault.Disk)) }
         ensures version { MatchResult result
-            (λ r. HasCleanDisk (state S.Store r.conn) → (t : Tables) → Holds (state S.Store connection).now t → t.versions ≡ numbered 3)
-            (λ e. HasCleanDisk (state S.Store e.1) → (t : Tables) → Holds (state S.Store connection).now t → e.0 ≡ OpenFault.Version → t.versions ≢ numbered 3) }
+            (λ r. HasCleanDisk (state S.Store r.conn) → (t : Tables) → Holds (state S.Store connection).now t
+            → t.versions ≡ numbered 3)
+            (λ e. HasCleanDisk (state S.Store e.1) → (t : Tables) → Holds (state S.Store connection).now t
+            → e.0 ≡ OpenFault.Version → t.versions ≢ numbered 3) }
         ensures older { MatchResult result
-            (λ r. HasCleanDisk (state S.Store r.conn) → (from : Older) → (t : Tables) → HoldsUpTo (14 + number_of from) (state S.Store connection).now t
+            (λ r. HasCleanDisk (state S.Store r.conn) → (from : Older) → (t : Tables)
+            → HoldsUpTo (14 + number_of from) (state S.Store connection).now t
             → t.versions ≡ numbered (number_of from))
-            (λ e. HasCleanDisk (state S.Store e.1) → (from : Older) → (t : Tables) → HoldsUpTo (14 + number_of from) (state S.Store connection).now t
+            (λ e. HasCleanDisk (state S.Store e.1) → (from : Older) → (t : Tables)
+            → HoldsUpTo (14 + number_of from) (state S.Store connection).now t
             → e.0 ≡ OpenFault.Version → t.versions ≢ numbered (number_of from)) }
 
         // What looks like no register is not taken, and nothing else is refused as foreign.
         ensures known { IfOk result (λ _. ¬ IsStrange (state S.Store connection).now.schema) }
-        ensures foreign { IfErr result (λ e. e.0 ≡ OpenFault.Foreign → IsStrange (state S.Store connection).now.schema) }
+        ensures foreign { IfErr result (λ e. e.0 ≡ OpenFault.Foreign
+            → IsStrange (state S.Store connection).now.schema) }
         ensures left { IfErr result (λ e. (e.0 ≡ OpenFault.Foreign) ⊎ (e.0 ≡ OpenFault.Version)
             → Survives (state S.Store connection) (state S.Store e.1) (λ _. ⊥)) }
 
@@ -160,7 +185,8 @@ impl Register<MemStore> {
     /// A new register in memory, with no command. It is lost with the process. Where memory is wanting there is none:
     /// the fault is `Memory`, or `Disk` as the store tells it, and never `Foreign` or `Version`.
     pub fn in_memory(alloc: Global) -> Result<Register<MemStore>, OpenFault>
-        ensures new { IfOk result (λ r. (r.is_founded ≡ true) × (r.accepted ≡ []) × (r.torn ≡ None) × IsKept over_memory r) }
+        ensures new { IfOk result (λ r. (r.is_founded ≡ true) × (r.accepted ≡ []) × (r.torn ≡ None)
+            × IsKept over_memory r) }
         ensures fault { IfErr result (λ e. (e ≡ OpenFault.Memory) ⊎ (e ≡ OpenFault.Disk)) }
     {
         let Ok(connection) = Connection::open_in_memory(alloc) else {
@@ -210,17 +236,22 @@ impl<S: Alter> Register<S> {
         ensures broken { IsSome self.old.torn → (result ≡ Err Refusal.Broken) × (self.new ≡ self.old) }
 
         // As long as the disk returns what was written, the command is a step of the machine.
-        ensures step { IsTrue self.old.is_founded → self.old.torn ≡ None → HasCleanDisk (state S.Store self.new.conn) → Steps self.old.accepted command.now result self.new.accepted }
+        ensures step { IsTrue self.old.is_founded → self.old.torn ≡ None → HasCleanDisk (state S.Store self.new.conn)
+            → Steps self.old.accepted command.now result self.new.accepted }
 
         // A fault of the device breaks it, and nothing else does. Broken or not, a crash then leaves the tables of the
         // history, or of the one that was tried.
         ensures breaks { self.old.torn ≡ None → IsSome self.new.torn ↔ (result ≡ Err Refusal.Disk) }
-        ensures tried { IsTrue self.old.is_founded → self.old.torn ≡ None → HasCleanDisk (state S.Store self.new.conn) → IsNext self.old.accepted command.now (unwrap_or self.new.torn self.new.accepted) }
-        ensures crash { IsTrue self.old.is_founded → self.old.torn ≡ None → LeavesEither self.old.accepted (unwrap_or self.new.torn self.new.accepted) (state S.Store self.new.conn) }
+        ensures tried { IsTrue self.old.is_founded → self.old.torn ≡ None → HasCleanDisk (state S.Store self.new.conn)
+            → IsNext self.old.accepted command.now (unwrap_or self.new.torn self.new.accepted) }
+        ensures crash { IsTrue self.old.is_founded → self.old.torn ≡ None
+            → LeavesEither self.old.accepted (unwrap_or self.new.torn self.new.accepted) (state S.Store self.new.conn) }
 
         // After a reply the store serves, and a crash leaves the tables with the command.
-        ensures served { HasCleanDisk (state S.Store self.new.conn) → OnOk result (IsTrue (state S.Store self.new.conn).is_open) }
-        ensures durable { IsTrue self.old.is_founded → OnOk result (Leaves self.new.accepted (state S.Store self.new.conn)) }
+        ensures served { HasCleanDisk (state S.Store self.new.conn)
+            → OnOk result (IsTrue (state S.Store self.new.conn).is_open) }
+        ensures durable { IsTrue self.old.is_founded
+            → OnOk result (Leaves self.new.accepted (state S.Store self.new.conn)) }
 
         // A disk that is honest at the end was so at the beginning.
         ensures clean { HasCleanDisk (state S.Store self.new.conn) → HasCleanDisk (state S.Store self.old.conn) }
@@ -254,7 +285,8 @@ impl<S: Alter> Register<S> {
     /// (34), which breaks the register; every later call then answers 35.
     pub fn look(&mut self, question: &Question) -> Result<Shown, Refusal>
         ensures broken { IsSome self.old.torn → (result ≡ Err Refusal.Broken) × (self.new ≡ self.old) }
-        ensures shown { IsTrue self.old.is_founded → self.old.torn ≡ None → HasCleanDisk (state S.Store self.new.conn) → IsAsked self.old.accepted question.now result }
+        ensures shown { IsTrue self.old.is_founded → self.old.torn ≡ None → HasCleanDisk (state S.Store self.new.conn)
+            → IsAsked self.old.accepted question.now result }
         ensures cause { self.old.torn ≡ None → IfErr result (MayRefuse question.now) }
         ensures breaks { self.old.torn ≡ None → IsSome self.new.torn ↔ (result ≡ Err Refusal.Disk) }
         ensures same { self.new.accepted ≡ self.old.accepted }
@@ -277,9 +309,9 @@ impl<S: Alter> Register<S> {
         }
     }
 
-    /// All rows of one table, in the order of their keys; its memory grows with their number. It changes nothing. Beside
-    /// out of memory (33) it meets only a fault of the device or a row that no register stores (34), which breaks the
-    /// register; a broken one answers 35.
+    /// All rows of one table, in the order of their keys; its memory grows with their number. It changes nothing.
+    /// Beside out of memory (33) it meets only a fault of the device or a row that no register stores (34), which
+    /// breaks the register; a broken one answers 35.
     pub fn table_rows<R: Listed>(&mut self) -> Result<Vec<R>, Refusal>
         ensures broken { IsSome self.old.torn → (result ≡ Err Refusal.Broken) × (self.new ≡ self.old) }
 
@@ -312,15 +344,18 @@ impl<S: Alter> Register<S> {
         }
     }
 
-    /// What an audit finds in all its rows, whose number its memory grows with: a finding of the first kind that has one,
-    /// or None. In the tables of a history nothing is found. It changes nothing. Beside out of memory (33) it meets only
-    /// a fault of the device or a row that no register stores (34), which breaks the register; a broken one answers 35.
+    /// What an audit finds in all its rows, whose number its memory grows with: a finding of the first kind that has
+    /// one, or None. In the tables of a history nothing is found. It changes nothing. Beside out of memory (33) it
+    /// meets only a fault of the device or a row that no register stores (34), which breaks the register; a broken one
+    /// answers 35.
     pub fn audit(&mut self) -> Result<Option<Finding>, Refusal>
         ensures broken { IsSome self.old.torn → (result ≡ Err Refusal.Broken) × (self.new ≡ self.old) }
 
         // Whatever rows the tables hold, what is found is true of them, and nothing of an earlier kind is.
-        ensures found { self.old.torn ≡ None → HasCleanDisk (state S.Store self.new.conn) → (m : Tables) → HoldsTables m (state S.Store self.old.conn).now → IfOk result (FindsIn m) }
-        ensures nothing { IsTrue self.old.is_founded → self.old.torn ≡ None → HasCleanDisk (state S.Store self.new.conn) → IfOk result (λ found. found ≡ None) }
+        ensures found { self.old.torn ≡ None → HasCleanDisk (state S.Store self.new.conn) → (m : Tables)
+            → HoldsTables m (state S.Store self.old.conn).now → IfOk result (FindsIn m) }
+        ensures nothing { IsTrue self.old.is_founded → self.old.torn ≡ None
+            → HasCleanDisk (state S.Store self.new.conn) → IfOk result (λ found. found ≡ None) }
         ensures cause { self.old.torn ≡ None → IfErr result IsFault }
         ensures breaks { self.old.torn ≡ None → IsSome self.new.torn ↔ (result ≡ Err Refusal.Disk) }
         ensures same { self.new.accepted ≡ self.old.accepted }

@@ -24,14 +24,18 @@ fn rows_of_two<S: Alter, A: Listed, B: Listed>(
     tx: &mut Transaction<'_, S>,
 ) -> Result<(Vec<A>, Vec<B>), Refusal>
     ensures same_reference { tx.new.conn.ghost_name ≡ tx.old.conn.ghost_name }
-    ensures rows { HasCleanDisk (state S.Store tx.new.conn.now) → (t : Held) → Holds (state S.Store tx.old.conn.now).now t
+    ensures rows { HasCleanDisk (state S.Store tx.new.conn.now) → (t : Held)
+        → Holds (state S.Store tx.old.conn.now).now t
         → IfOk result (λ rows. (rows.0.items ≡ A.table.rows_in t) × (rows.1.items ≡ B.table.rows_in t)) }
-    ensures holds { HasCleanDisk (state S.Store tx.new.conn.now) → (t : Held) → Holds (state S.Store tx.old.conn.now).now t
+    ensures holds { HasCleanDisk (state S.Store tx.new.conn.now) → (t : Held)
+        → Holds (state S.Store tx.old.conn.now).now t
         → OnOk result (Holds (state S.Store tx.new.conn.now).now t) }
-    ensures opened { HasCleanDisk (state S.Store tx.new.conn.now) → OnOk result (IsTrue (state S.Store tx.old.conn.now).is_open) }
+    ensures opened { HasCleanDisk (state S.Store tx.new.conn.now)
+        → OnOk result (IsTrue (state S.Store tx.old.conn.now).is_open) }
     ensures kept { HasCleanDisk (state S.Store tx.new.conn.now) → IsTrue (state S.Store tx.old.conn.now).in_transaction
         → KeepsCommit (state S.Store tx.old.conn.now) (state S.Store tx.new.conn.now) }
-    ensures inside { HasCleanDisk (state S.Store tx.new.conn.now) → IsTrue (state S.Store tx.old.conn.now).in_transaction
+    ensures inside { HasCleanDisk (state S.Store tx.new.conn.now)
+        → IsTrue (state S.Store tx.old.conn.now).in_transaction
         → OnOk result (IsTrue (state S.Store tx.new.conn.now).in_transaction) }
     ensures survives { Survives (state S.Store tx.old.conn.now) (state S.Store tx.new.conn.now) (λ _. ⊥) }
     ensures cause { IfErr result IsFault }
@@ -47,15 +51,19 @@ fn rows_of_four<S: Alter, A: Listed, B: Listed, C: Listed, D: Listed>(
     tx: &mut Transaction<'_, S>,
 ) -> Result<((Vec<A>, Vec<B>), (Vec<C>, Vec<D>)), Refusal>
     ensures same_reference { tx.new.conn.ghost_name ≡ tx.old.conn.ghost_name }
-    ensures rows { HasCleanDisk (state S.Store tx.new.conn.now) → (t : Held) → Holds (state S.Store tx.old.conn.now).now t
+    ensures rows { HasCleanDisk (state S.Store tx.new.conn.now) → (t : Held)
+        → Holds (state S.Store tx.old.conn.now).now t
         → IfOk result (λ rows. ((rows.0.0.items ≡ A.table.rows_in t) × (rows.0.1.items ≡ B.table.rows_in t))
         × ((rows.1.0.items ≡ C.table.rows_in t) × (rows.1.1.items ≡ D.table.rows_in t))) }
-    ensures holds { HasCleanDisk (state S.Store tx.new.conn.now) → (t : Held) → Holds (state S.Store tx.old.conn.now).now t
+    ensures holds { HasCleanDisk (state S.Store tx.new.conn.now) → (t : Held)
+        → Holds (state S.Store tx.old.conn.now).now t
         → OnOk result (Holds (state S.Store tx.new.conn.now).now t) }
-    ensures opened { HasCleanDisk (state S.Store tx.new.conn.now) → OnOk result (IsTrue (state S.Store tx.old.conn.now).is_open) }
+    ensures opened { HasCleanDisk (state S.Store tx.new.conn.now)
+        → OnOk result (IsTrue (state S.Store tx.old.conn.now).is_open) }
     ensures kept { HasCleanDisk (state S.Store tx.new.conn.now) → IsTrue (state S.Store tx.old.conn.now).in_transaction
         → KeepsCommit (state S.Store tx.old.conn.now) (state S.Store tx.new.conn.now) }
-    ensures inside { HasCleanDisk (state S.Store tx.new.conn.now) → IsTrue (state S.Store tx.old.conn.now).in_transaction
+    ensures inside { HasCleanDisk (state S.Store tx.new.conn.now)
+        → IsTrue (state S.Store tx.old.conn.now).in_transaction
         → OnOk result (IsTrue (state S.Store tx.new.conn.now).in_transaction) }
     ensures survives { Survives (state S.Store tx.old.conn.now) (state S.Store tx.new.conn.now) (λ _. ⊥) }
     ensures cause { IfErr result IsFault }
@@ -68,14 +76,18 @@ fn rows_of_four<S: Alter, A: Listed, B: Listed, C: Listed, D: Listed>(
 /// All rows of each table.
 pub(crate) fn all_of<S: Alter>(alloc: Global, tx: &mut Transaction<'_, S>) -> Result<View, Refusal>
     ensures same_reference { tx.new.conn.ghost_name ≡ tx.old.conn.ghost_name }
-    ensures rows { HasCleanDisk (state S.Store tx.new.conn.now) → (t : Held) → Holds (state S.Store tx.old.conn.now).now t
+    ensures rows { HasCleanDisk (state S.Store tx.new.conn.now) → (t : Held)
+        → Holds (state S.Store tx.old.conn.now).now t
         → IfOk result (Lists t) }
-    ensures holds { HasCleanDisk (state S.Store tx.new.conn.now) → (t : Held) → Holds (state S.Store tx.old.conn.now).now t
+    ensures holds { HasCleanDisk (state S.Store tx.new.conn.now) → (t : Held)
+        → Holds (state S.Store tx.old.conn.now).now t
         → OnOk result (Holds (state S.Store tx.new.conn.now).now t) }
-    ensures opened { HasCleanDisk (state S.Store tx.new.conn.now) → OnOk result (IsTrue (state S.Store tx.old.conn.now).is_open) }
+    ensures opened { HasCleanDisk (state S.Store tx.new.conn.now)
+        → OnOk result (IsTrue (state S.Store tx.old.conn.now).is_open) }
     ensures kept { HasCleanDisk (state S.Store tx.new.conn.now) → IsTrue (state S.Store tx.old.conn.now).in_transaction
         → KeepsCommit (state S.Store tx.old.conn.now) (state S.Store tx.new.conn.now) }
-    ensures inside { HasCleanDisk (state S.Store tx.new.conn.now) → IsTrue (state S.Store tx.old.conn.now).in_transaction
+    ensures inside { HasCleanDisk (state S.Store tx.new.conn.now)
+        → IsTrue (state S.Store tx.old.conn.now).in_transaction
         → OnOk result (IsTrue (state S.Store tx.new.conn.now).in_transaction) }
     ensures survives { Survives (state S.Store tx.old.conn.now) (state S.Store tx.new.conn.now) (λ _. ⊥) }
     ensures cause { IfErr result IsFault }

@@ -1,4 +1,5 @@
--- Of the rows that a decision asks for none is strange: each is the row of a value that is shown, whatever else the tables have.
+-- Of the rows that a decision asks for none is strange: each is the row of a value that is shown, whatever else the
+-- tables have.
 use Rattle.std.specs.Prelude.{◌≡◌, ◌⊎◌, ℕ, pos, Bool, List, [], ◌∷◌, map, filter}
 use Rattle.std.specs.List.{AllByRecursion, list_any}
 use Rattle.sqlite.specs.Order.{Row}
@@ -31,9 +32,12 @@ use Rattle.kcr_history.specs.declared.views.StaysOf.{StaysOf}
 use Rattle.kcr_history.specs.declared.views.View.{View}
 use Rattle.kcr_rows.specs.Keyed.{Place, cells}
 use Rattle.kcr_rows.proofs.FilterLemmas.{has_value}
-use Rattle.kcr_cells.specs.Rows.{person_row, training_row, appointment_row, box_row, safe_row, bag_row, item_row, ceremony_row, mark_row, step_row, exception_row, key_row, stay_row, withdrawal_row}
+use Rattle.kcr_cells.specs.Rows.{person_row, training_row, appointment_row, box_row, safe_row, bag_row, item_row}
+use Rattle.kcr_cells.specs.Rows.{ceremony_row, mark_row, step_row, exception_row, key_row, stay_row, withdrawal_row}
 use Rattle.kcr_tables.specs.Asked.{asked_of, asked_all}
-use Rattle.kcr_tables.specs.Held.{people_place, trainings_place, appointments_place, boxes_place, safes_place, bags_place, items_place, ceremonies_place, marks_place, steps_place, exceptions_place, keys_place, stays_place, withdrawals_place}
+use Rattle.kcr_tables.specs.Held.{people_place, trainings_place, appointments_place, boxes_place, safes_place}
+use Rattle.kcr_tables.specs.Held.{bags_place, items_place, ceremonies_place, marks_place, steps_place, exceptions_place}
+use Rattle.kcr_tables.specs.Held.{keys_place, stays_place, withdrawals_place}
 
 -- the rows of a table, whatever they are
 abbrev pub rows_at : Place → Trees → List Row
@@ -84,21 +88,24 @@ abbrev pub WholeIsShown : {X : Type 0} → (X → Row) → Place → Bool → Li
 WholeIsShown row_of place asked shown db = AreShown row_of shown (asked_all asked (rows_at place db))
 
 -- of people and their offices
-pub record StaffIsShown (asks : Asks) (people : List Person) (trainings : List Training) (withdrawals : List Withdrawal) (appointments : List Appointment) (db : Trees) : Type 0 where
+pub record StaffIsShown (asks : Asks) (people : List Person) (trainings : List Training)
+    (withdrawals : List Withdrawal) (appointments : List Appointment) (db : Trees) : Type 0 where
   pub people_are : AskedAreShown person_row people_place (has_any 0) asks.people people db
   pub trainings_are : AskedAreShown training_row trainings_place (has_text 0) asks.trainings trainings db
   pub withdrawals_are : AskedAreShown withdrawal_row withdrawals_place (has_text 0) asks.withdrawals withdrawals db
   pub appointments_are : AskedAreShown appointment_row appointments_place is_appointment_row asks.appointments appointments db
 
 -- of what is kept in the safes
-pub record CustodyIsShown (asks : Asks) (boxes : List BoxRow) (safes : List SafeRow) (bags : List Bag) (items : List Item) (db : Trees) : Type 0 where
+pub record CustodyIsShown (asks : Asks) (boxes : List BoxRow) (safes : List SafeRow) (bags : List Bag)
+    (items : List Item) (db : Trees) : Type 0 where
   pub boxes_are : WholeIsShown box_row boxes_place asks.boxes boxes db
   pub safes_are : WholeIsShown safe_row safes_place asks.safes safes db
   pub bags_are : AskedAreShown bag_row bags_place (has_text 0) asks.bags bags db
   pub items_are : AskedAreShown item_row items_place is_item_row asks.items items db
 
 -- of ceremonies; of the stays those of the ceremony
-pub record CeremoniesAreShown (asks : Asks) (ceremonies : List CeremonyRow) (marks : List MarkRow) (steps : List StepRow) (exceptions : List ExceptionRow) (stays : List Stay) (db : Trees) : Type 0 where
+pub record CeremoniesAreShown (asks : Asks) (ceremonies : List CeremonyRow) (marks : List MarkRow)
+    (steps : List StepRow) (exceptions : List ExceptionRow) (stays : List Stay) (db : Trees) : Type 0 where
   pub ceremonies_are : AskedAreShown ceremony_row ceremonies_place (has_number 0) asks.ceremonies ceremonies db
   pub marks_are : AskedAreShown mark_row marks_place (has_number 0) asks.marks marks db
   pub steps_are : AskedAreShown step_row steps_place (has_number 0) asks.steps steps db

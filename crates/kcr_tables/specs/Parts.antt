@@ -9,4 +9,5 @@ text_in at row = elim (column row at) [ Null ↦ [] | Int n ↦ [] | Real x ↦ 
 
 -- the number in a column; 0 where it holds none
 abbrev pub number_in : ℕ → Row → ℕ
-number_in at row = elim (column row at) [ Null ↦ 0 | Int n ↦ elim n [ pos m ↦ m | negsuc m ↦ 0 ] | Real x ↦ 0 | Text t ↦ 0 | Blob b ↦ 0 ]
+number_in at row = elim
+    (column row at) [ Null ↦ 0 | Int n ↦ elim n [ pos m ↦ m | negsuc m ↦ 0 ] | Real x ↦ 0 | Text t ↦ 0 | Blob b ↦ 0 ]

@@ -24,7 +24,9 @@ fn make_change<S: Alter>(
     change: &Change,
 ) -> Result<(), Refusal>
     ensures same_reference { tx.new.conn.ghost_name ≡ tx.old.conn.ghost_name }
-    ensures holds { HasCleanDisk (state S.Store tx.new.conn.now) → (t : Tables) → Holds (state S.Store tx.old.conn.now).now t → OnOk result (Holds (state S.Store tx.new.conn.now).now (changed change.now t)) }
+    ensures holds { HasCleanDisk (state S.Store tx.new.conn.now) → (t : Tables)
+        → Holds (state S.Store tx.old.conn.now).now t
+        → OnOk result (Holds (state S.Store tx.new.conn.now).now (changed change.now t)) }
     ensures frame { Writes (state S.Store tx.old.conn.now) (state S.Store tx.new.conn.now) result }
 {
     match change {
@@ -56,10 +58,17 @@ pub fn make_changes<S: Alter>(
     changes: &[Change],
 ) -> Result<(), Refusal>
     ensures same_reference { tx.new.conn.ghost_name ≡ tx.old.conn.ghost_name }
-    ensures holds { HasCleanDisk (state S.Store tx.new.conn.now) → (t : Tables) → Holds (state S.Store tx.old.conn.now).now t → OnOk result (Holds (state S.Store tx.new.conn.now).now (changed_all changes.now t)) }
-    ensures tables { HasCleanDisk (state S.Store tx.new.conn.now) → (m : machine.Tables) → HoldsTables m (state S.Store tx.old.conn.now).now → OnOk result (HoldsTables (changed_by changes.now m) (state S.Store tx.new.conn.now).now) }
-    ensures inside { HasCleanDisk (state S.Store tx.new.conn.now) → IsTrue (state S.Store tx.old.conn.now).in_transaction → OnOk result (IsTrue (state S.Store tx.new.conn.now).in_transaction) }
-    ensures kept { HasCleanDisk (state S.Store tx.new.conn.now) → IsTrue (state S.Store tx.old.conn.now).in_transaction → KeepsCommit (state S.Store tx.old.conn.now) (state S.Store tx.new.conn.now) }
+    ensures holds { HasCleanDisk (state S.Store tx.new.conn.now) → (t : Tables)
+        → Holds (state S.Store tx.old.conn.now).now t
+        → OnOk result (Holds (state S.Store tx.new.conn.now).now (changed_all changes.now t)) }
+    ensures tables { HasCleanDisk (state S.Store tx.new.conn.now) → (m : machine.Tables)
+        → HoldsTables m (state S.Store tx.old.conn.now).now
+        → OnOk result (HoldsTables (changed_by changes.now m) (state S.Store tx.new.conn.now).now) }
+    ensures inside { HasCleanDisk (state S.Store tx.new.conn.now)
+        → IsTrue (state S.Store tx.old.conn.now).in_transaction
+        → OnOk result (IsTrue (state S.Store tx.new.conn.now).in_transaction) }
+    ensures kept { HasCleanDisk (state S.Store tx.new.conn.now) → IsTrue (state S.Store tx.old.conn.now).in_transaction
+        → KeepsCommit (state S.Store tx.old.conn.now) (state S.Store tx.new.conn.now) }
     ensures survives { Survives (state S.Store tx.old.conn.now) (state S.Store tx.new.conn.now) (λ _. ⊥) }
     ensures cause { IfErr result IsFault }
 {

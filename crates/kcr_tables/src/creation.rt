@@ -32,9 +32,18 @@ const VERSION: u32 = 3;
 fn create_one<S: Alter>(tx: &mut Transaction<'_, S>, at: usize) -> Result<(), Refusal>
     requires { at < 17 }
     ensures same_reference { tx.new.conn.ghost_name ≡ tx.old.conn.ghost_name }
-    ensures schema { HasCleanDisk (state S.Store tx.new.conn.now) → (state S.Store tx.old.conn.now).now.schema ≡ first at → AreEmpty (take at all_tables) (state S.Store tx.old.conn.now).now.trees → OnOk result ((state S.Store tx.new.conn.now).now.schema ≡ first (at + 1)) }
-    ensures empty { HasCleanDisk (state S.Store tx.new.conn.now) → (state S.Store tx.old.conn.now).now.schema ≡ first at → AreEmpty (take at all_tables) (state S.Store tx.old.conn.now).now.trees → OnOk result (AreEmpty (take (at + 1) all_tables) (state S.Store tx.new.conn.now).now.trees) }
-    ensures sound { HasCleanDisk (state S.Store tx.new.conn.now) → (state S.Store tx.old.conn.now).now.schema ≡ first at → AreEmpty (take at all_tables) (state S.Store tx.old.conn.now).now.trees → OnOk result (IsSound (first (at + 1)) (state S.Store tx.new.conn.now).now.trees) }
+    ensures schema { HasCleanDisk (state S.Store tx.new.conn.now)
+        → (state S.Store tx.old.conn.now).now.schema ≡ first at
+        → AreEmpty (take at all_tables) (state S.Store tx.old.conn.now).now.trees
+        → OnOk result ((state S.Store tx.new.conn.now).now.schema ≡ first (at + 1)) }
+    ensures empty { HasCleanDisk (state S.Store tx.new.conn.now)
+        → (state S.Store tx.old.conn.now).now.schema ≡ first at
+        → AreEmpty (take at all_tables) (state S.Store tx.old.conn.now).now.trees
+        → OnOk result (AreEmpty (take (at + 1) all_tables) (state S.Store tx.new.conn.now).now.trees) }
+    ensures sound { HasCleanDisk (state S.Store tx.new.conn.now)
+        → (state S.Store tx.old.conn.now).now.schema ≡ first at
+        → AreEmpty (take at all_tables) (state S.Store tx.old.conn.now).now.trees
+        → OnOk result (IsSound (first (at + 1)) (state S.Store tx.new.conn.now).now.trees) }
     ensures frame { Writes (state S.Store tx.old.conn.now) (state S.Store tx.new.conn.now) result }
 {
     let text = create_text(at);
@@ -44,7 +53,8 @@ fn create_one<S: Alter>(tx: &mut Transaction<'_, S>, at: usize) -> Result<(), Re
 /// All tables, without rows.
 fn create_all<S: Alter>(tx: &mut Transaction<'_, S>) -> Result<(), Refusal>
     ensures same_reference { tx.new.conn.ghost_name ≡ tx.old.conn.ghost_name }
-    ensures holds { HasCleanDisk (state S.Store tx.new.conn.now) → (state S.Store tx.old.conn.now).now.schema ≡ first 0 → OnOk result (Holds (state S.Store tx.new.conn.now).now empty_tables) }
+    ensures holds { HasCleanDisk (state S.Store tx.new.conn.now) → (state S.Store tx.old.conn.now).now.schema ≡ first 0
+        → OnOk result (Holds (state S.Store tx.new.conn.now).now empty_tables) }
     ensures frame { Writes (state S.Store tx.old.conn.now) (state S.Store tx.new.conn.now) result }
 {
     for at in 0..COUNT {
@@ -56,8 +66,11 @@ fn create_all<S: Alter>(tx: &mut Transaction<'_, S>) -> Result<(), Refusal>
 /// Puts the two safes of a facility, which are shut.
 fn put_pair<S: Alter>(tx: &mut Transaction<'_, S>, facility: Facility) -> Result<(), Refusal>
     ensures same_reference { tx.new.conn.ghost_name ≡ tx.old.conn.ghost_name }
-    ensures holds { HasCleanDisk (state S.Store tx.new.conn.now) → (t : Tables) → Holds (state S.Store tx.old.conn.now).now t
-        → OnOk result (Holds (state S.Store tx.new.conn.now).now (record t { safes = put_in 2 safe_row (shut facility Two) (put_in 2 safe_row (shut facility One) t.safes) })) }
+    ensures holds { HasCleanDisk (state S.Store tx.new.conn.now) → (t : Tables)
+        → Holds (state S.Store tx.old.conn.now).now t
+        → OnOk result
+        (Holds (state S.Store tx.new.conn.now).now
+        (record t { safes = put_in 2 safe_row (shut facility Two) (put_in 2 safe_row (shut facility One) t.safes) })) }
     ensures frame { Writes (state S.Store tx.old.conn.now) (state S.Store tx.new.conn.now) result }
 {
     let equipment = SafeRow {
@@ -77,7 +90,8 @@ fn put_pair<S: Alter>(tx: &mut Transaction<'_, S>, facility: Facility) -> Result
 /// The tables and rows of `make`.
 fn make_rows<S: Alter>(tx: &mut Transaction<'_, S>) -> Result<(), Refusal>
     ensures same_reference { tx.new.conn.ghost_name ≡ tx.old.conn.ghost_name }
-    ensures holds { HasCleanDisk (state S.Store tx.new.conn.now) → (state S.Store tx.old.conn.now).now.schema ≡ first 0 → OnOk result (Holds (state S.Store tx.new.conn.now).now first_tables) }
+    ensures holds { HasCleanDisk (state S.Store tx.new.conn.now) → (state S.Store tx.old.conn.now).now.schema ≡ first 0
+        → OnOk result (Holds (state S.Store tx.new.conn.now).now first_tables) }
     ensures frame { Writes (state S.Store tx.old.conn.now) (state S.Store tx.new.conn.now) result }
 {
     create_all(tx)?;
@@ -88,14 +102,19 @@ fn make_rows<S: Alter>(tx: &mut Transaction<'_, S>) -> Result<(), Refusal>
 }
 
 /// Makes the tables of a new register in an empty database: the four safes, which are shut, one row with the
-/// number of the schema, and no others. The error is `Memory` when out of memory, and else `Disk`. It leaves a part of the tables in the
-/// transaction, which the caller rolls back; what was committed before stays.
+/// number of the schema, and no others. The error is `Memory` when out of memory, and else `Disk`. It leaves a part of
+/// the tables in the transaction, which the caller rolls back; what was committed before stays.
 pub fn make<S: Alter>(tx: &mut Transaction<'_, S>) -> Result<(), Refusal>
     ensures same_reference { tx.new.conn.ghost_name ≡ tx.old.conn.ghost_name }
-    ensures holds { HasCleanDisk (state S.Store tx.new.conn.now) → (state S.Store tx.old.conn.now).now.schema ≡ first 0 → OnOk result (Holds (state S.Store tx.new.conn.now).now first_tables) }
-    ensures made { HasCleanDisk (state S.Store tx.new.conn.now) → (state S.Store tx.old.conn.now).now.schema ≡ first 0 → OnOk result (HoldsTables (tables []) (state S.Store tx.new.conn.now).now) }
-    ensures inside { HasCleanDisk (state S.Store tx.new.conn.now) → IsTrue (state S.Store tx.old.conn.now).in_transaction → OnOk result (IsTrue (state S.Store tx.new.conn.now).in_transaction) }
-    ensures kept { HasCleanDisk (state S.Store tx.new.conn.now) → IsTrue (state S.Store tx.old.conn.now).in_transaction → KeepsCommit (state S.Store tx.old.conn.now) (state S.Store tx.new.conn.now) }
+    ensures holds { HasCleanDisk (state S.Store tx.new.conn.now) → (state S.Store tx.old.conn.now).now.schema ≡ first 0
+        → OnOk result (Holds (state S.Store tx.new.conn.now).now first_tables) }
+    ensures made { HasCleanDisk (state S.Store tx.new.conn.now) → (state S.Store tx.old.conn.now).now.schema ≡ first 0
+        → OnOk result (HoldsTables (tables []) (state S.Store tx.new.conn.now).now) }
+    ensures inside { HasCleanDisk (state S.Store tx.new.conn.now)
+        → IsTrue (state S.Store tx.old.conn.now).in_transaction
+        → OnOk result (IsTrue (state S.Store tx.new.conn.now).in_transaction) }
+    ensures kept { HasCleanDisk (state S.Store tx.new.conn.now) → IsTrue (state S.Store tx.old.conn.now).in_transaction
+        → KeepsCommit (state S.Store tx.old.conn.now) (state S.Store tx.new.conn.now) }
     ensures survives { Survives (state S.Store tx.old.conn.now) (state S.Store tx.new.conn.now) (λ _. ⊥) }
     ensures cause { IfErr result IsFault }
 {

@@ -27,12 +27,15 @@ pub fn last_key_row<S: Alter>(
     tx: &mut Transaction<'_, S>,
 ) -> Result<Vec<KeyRow>, Refusal>
     ensures same_reference { tx.new.conn.ghost_name ≡ tx.old.conn.ghost_name }
-    ensures rows { HasCleanDisk (state S.Store tx.new.conn.now) → (t : Tables) → Holds (state S.Store tx.old.conn.now).now t → IfOk result (λ all. IsGreatest (λ x. x.accepted) t.keys all.items) }
+    ensures rows { HasCleanDisk (state S.Store tx.new.conn.now) → (t : Tables)
+        → Holds (state S.Store tx.old.conn.now).now t
+        → IfOk result (λ all. IsGreatest (λ x. x.accepted) t.keys all.items) }
     ensures exact { HasCleanDisk (state S.Store tx.new.conn.now)
         → (state S.Store tx.old.conn.now).now.schema ≡ register_schema
         → IfOk result (λ all. IsOneOf (rows_at keys_place (state S.Store tx.old.conn.now).now.trees)
         (map key_row all.items)) }
-    ensures opened { HasCleanDisk (state S.Store tx.new.conn.now) → OnOk result (IsTrue (state S.Store tx.old.conn.now).is_open) }
+    ensures opened { HasCleanDisk (state S.Store tx.new.conn.now)
+        → OnOk result (IsTrue (state S.Store tx.old.conn.now).is_open) }
     ensures frame { Reads (state S.Store tx.old.conn.now) (state S.Store tx.new.conn.now) result }
 {
     rows_of(
@@ -50,7 +53,9 @@ pub fn last_stay_of<S: Alter>(
     who: &Initials,
 ) -> Result<Vec<Stay>, Refusal>
     ensures same_reference { tx.new.conn.ghost_name ≡ tx.old.conn.ghost_name }
-    ensures rows { HasCleanDisk (state S.Store tx.new.conn.now) → (t : Tables) → Holds (state S.Store tx.old.conn.now).now t → IfOk result (λ all. IsGreatest (λ x. x.since) (filter (λ x. same_text x.who who.now) t.stays) all.items) }
+    ensures rows { HasCleanDisk (state S.Store tx.new.conn.now) → (t : Tables)
+        → Holds (state S.Store tx.old.conn.now).now t
+        → IfOk result (λ all. IsGreatest (λ x. x.since) (filter (λ x. same_text x.who who.now) t.stays) all.items) }
     ensures exact { HasCleanDisk (state S.Store tx.new.conn.now)
         → (state S.Store tx.old.conn.now).now.schema ≡ register_schema
         → IfOk result (λ all. IsOneOf

@@ -29,8 +29,11 @@ fn last_elsewhere<S: Alter>(
     who: &Initials,
 ) -> Result<Vec<Stay>, Refusal>
     ensures same_reference { tx.new.conn.ghost_name ≡ tx.old.conn.ghost_name }
-    ensures rows { HasCleanDisk (state S.Store tx.new.conn.now) → (t : Tables) → Holds (state S.Store tx.old.conn.now).now t
-        → IfOk result (λ all. (last : List AnyStay) × IsGreatest (λ x. x.since) (filter (λ x. same_text x.who who.now) t.stays) last × (all.items ≡ filter (λ x. not (x.ceremony == ceremony)) last)) }
+    ensures rows { HasCleanDisk (state S.Store tx.new.conn.now) → (t : Tables)
+        → Holds (state S.Store tx.old.conn.now).now t
+        → IfOk result (λ all. (last : List AnyStay)
+        × IsGreatest (λ x. x.since) (filter (λ x. same_text x.who who.now) t.stays) last
+        × (all.items ≡ filter (λ x. not (x.ceremony == ceremony)) last)) }
     ensures frame { Reads (state S.Store tx.old.conn.now) (state S.Store tx.new.conn.now) result }
 {
     let mut last = last_stay_of(alloc, tx, who)?;
@@ -45,7 +48,8 @@ fn stays_and_last<S: Alter>(
     asked: &StaysOf,
 ) -> Result<Vec<Stay>, Refusal>
     ensures same_reference { tx.new.conn.ghost_name ≡ tx.old.conn.ghost_name }
-    ensures rows { HasCleanDisk (state S.Store tx.new.conn.now) → (t : Tables) → Holds (state S.Store tx.old.conn.now).now t → IfOk result (λ all. ShowsStaysOf asked.now t.stays all.items) }
+    ensures rows { HasCleanDisk (state S.Store tx.new.conn.now) → (t : Tables)
+        → Holds (state S.Store tx.old.conn.now).now t → IfOk result (λ all. ShowsStaysOf asked.now t.stays all.items) }
     ensures exact { HasCleanDisk (state S.Store tx.new.conn.now)
         → (state S.Store tx.old.conn.now).now.schema ≡ register_schema
         → IfOk result (λ all. AreShown stay_row all.items
@@ -68,7 +72,8 @@ pub fn asked_stays<S: Alter>(
     asked: &Selection<StaysOf>,
 ) -> Result<Vec<Stay>, Refusal>
     ensures same_reference { tx.new.conn.ghost_name ≡ tx.old.conn.ghost_name }
-    ensures rows { HasCleanDisk (state S.Store tx.new.conn.now) → (t : Tables) → Holds (state S.Store tx.old.conn.now).now t → IfOk result (λ all. ShowsStays asked.now t.stays all.items) }
+    ensures rows { HasCleanDisk (state S.Store tx.new.conn.now) → (t : Tables)
+        → Holds (state S.Store tx.old.conn.now).now t → IfOk result (λ all. ShowsStays asked.now t.stays all.items) }
     ensures exact { HasCleanDisk (state S.Store tx.new.conn.now)
         → (state S.Store tx.old.conn.now).now.schema ≡ register_schema
         → IfOk result (λ all. AskedAreShown stay_row stays_place is_stay_row asked.now all.items

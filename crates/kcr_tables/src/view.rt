@@ -3,7 +3,9 @@
 ghost use Rattle.std.specs.Prelude.{◌≡◌, ◌++◌, List, filter, IfOk, OnOk, IsTrue, IfErr};
 ghost use Rattle.sqlite.specs.Held.{state};
 ghost use Rattle.sqlite.specs.State.{HasCleanDisk, KeepsCommit, Survives};
-ghost use Rattle.kcr_history.specs.Views.{IsViewOf, Shows, ShowsStays, is_of_people, is_training_of, is_withdrawal_of, is_appointment_of, is_of_serial, is_item_of, is_of_number, is_mark_of, is_step_of, is_exception_of, is_of_key};
+ghost use Rattle.kcr_history.specs.Views.{IsViewOf, Shows, ShowsStays, is_of_people, is_training_of, is_withdrawal_of};
+ghost use Rattle.kcr_history.specs.Views.{is_appointment_of, is_of_serial, is_item_of, is_of_number, is_mark_of};
+ghost use Rattle.kcr_history.specs.Views.{is_step_of, is_exception_of, is_of_key};
 ghost use Rattle.kcr_history.specs.Tables as machine;
 ghost use Rattle.kcr_history.specs.declared.rows.KeyRow.{KeyRow};
 ghost use Rattle.kcr_rows.specs.Refusals.{IsFault};
@@ -62,11 +64,15 @@ fn asked_keys<S: Alter>(
     key: &Key,
 ) -> Result<Vec<KeyRow>, Refusal>
     ensures same_reference { tx.new.conn.ghost_name ≡ tx.old.conn.ghost_name }
-    ensures rows { HasCleanDisk (state S.Store tx.new.conn.now) → (t : Tables) → Holds (state S.Store tx.old.conn.now).now t → IfOk result (λ all. (last : List KeyRow) × IsGreatest (λ x. x.accepted) t.keys last × (all.items ≡ filter (is_of_key key.now) t.keys ++ last)) }
+    ensures rows { HasCleanDisk (state S.Store tx.new.conn.now) → (t : Tables)
+        → Holds (state S.Store tx.old.conn.now).now t
+        → IfOk result (λ all. (last : List KeyRow) × IsGreatest (λ x. x.accepted) t.keys last
+        × (all.items ≡ filter (is_of_key key.now) t.keys ++ last)) }
     ensures exact { HasCleanDisk (state S.Store tx.new.conn.now)
         → (state S.Store tx.old.conn.now).now.schema ≡ register_schema
         → IfOk result (λ all. KeyIsShown key.now all.items (state S.Store tx.old.conn.now).now.trees) }
-    ensures opened { HasCleanDisk (state S.Store tx.new.conn.now) → OnOk result (IsTrue (state S.Store tx.old.conn.now).is_open) }
+    ensures opened { HasCleanDisk (state S.Store tx.new.conn.now)
+        → OnOk result (IsTrue (state S.Store tx.old.conn.now).is_open) }
     ensures frame { Reads (state S.Store tx.old.conn.now) (state S.Store tx.new.conn.now) result }
 {
     let mut rows: Vec<KeyRow> = rows_under(alloc, tx, key)?;
@@ -82,9 +88,15 @@ fn staff_rows<S: Alter>(
     asks: &Asks,
 ) -> Result<StaffRows, Refusal>
     ensures same_reference { tx.new.conn.ghost_name ≡ tx.old.conn.ghost_name }
-    ensures people { HasCleanDisk (state S.Store tx.new.conn.now) → (t : Tables) → Holds (state S.Store tx.old.conn.now).now t → IfOk result (λ rows. Shows is_of_people asks.now.people t.people rows.people.items) }
-    ensures trainings { HasCleanDisk (state S.Store tx.new.conn.now) → (t : Tables) → Holds (state S.Store tx.old.conn.now).now t → IfOk result (λ rows. rows.trainings.items ≡ asked_of is_training_of asks.now.trainings t.trainings) }
-    ensures withdrawals { HasCleanDisk (state S.Store tx.new.conn.now) → (t : Tables) → Holds (state S.Store tx.old.conn.now).now t → IfOk result (λ rows. rows.withdrawals.items ≡ asked_of is_withdrawal_of asks.now.withdrawals t.withdrawals) }
+    ensures people { HasCleanDisk (state S.Store tx.new.conn.now) → (t : Tables)
+        → Holds (state S.Store tx.old.conn.now).now t
+        → IfOk result (λ rows. Shows is_of_people asks.now.people t.people rows.people.items) }
+    ensures trainings { HasCleanDisk (state S.Store tx.new.conn.now) → (t : Tables)
+        → Holds (state S.Store tx.old.conn.now).now t
+        → IfOk result (λ rows. rows.trainings.items ≡ asked_of is_training_of asks.now.trainings t.trainings) }
+    ensures withdrawals { HasCleanDisk (state S.Store tx.new.conn.now) → (t : Tables)
+        → Holds (state S.Store tx.old.conn.now).now t
+        → IfOk result (λ rows. rows.withdrawals.items ≡ asked_of is_withdrawal_of asks.now.withdrawals t.withdrawals) }
     ensures appointments { HasCleanDisk (state S.Store tx.new.conn.now) → (t : Tables) → Holds (state S.Store tx.old.conn.now).now t → IfOk result (λ rows. rows.appointments.items ≡ asked_of is_appointment_of asks.now.appointments t.appointments) }
     ensures exact { HasCleanDisk (state S.Store tx.new.conn.now)
         → (state S.Store tx.old.conn.now).now.schema ≡ register_schema
@@ -111,10 +123,18 @@ fn custody_rows<S: Alter>(
     asks: &Asks,
 ) -> Result<CustodyRows, Refusal>
     ensures same_reference { tx.new.conn.ghost_name ≡ tx.old.conn.ghost_name }
-    ensures boxes { HasCleanDisk (state S.Store tx.new.conn.now) → (t : Tables) → Holds (state S.Store tx.old.conn.now).now t → IfOk result (λ rows. rows.boxes.items ≡ asked_all asks.now.boxes t.boxes) }
-    ensures safes { HasCleanDisk (state S.Store tx.new.conn.now) → (t : Tables) → Holds (state S.Store tx.old.conn.now).now t → IfOk result (λ rows. rows.safes.items ≡ asked_all asks.now.safes t.safes) }
-    ensures bags { HasCleanDisk (state S.Store tx.new.conn.now) → (t : Tables) → Holds (state S.Store tx.old.conn.now).now t → IfOk result (λ rows. rows.bags.items ≡ asked_of is_of_serial asks.now.bags t.bags) }
-    ensures items { HasCleanDisk (state S.Store tx.new.conn.now) → (t : Tables) → Holds (state S.Store tx.old.conn.now).now t → IfOk result (λ rows. Shows is_item_of asks.now.items t.items rows.items.items) }
+    ensures boxes { HasCleanDisk (state S.Store tx.new.conn.now) → (t : Tables)
+        → Holds (state S.Store tx.old.conn.now).now t
+        → IfOk result (λ rows. rows.boxes.items ≡ asked_all asks.now.boxes t.boxes) }
+    ensures safes { HasCleanDisk (state S.Store tx.new.conn.now) → (t : Tables)
+        → Holds (state S.Store tx.old.conn.now).now t
+        → IfOk result (λ rows. rows.safes.items ≡ asked_all asks.now.safes t.safes) }
+    ensures bags { HasCleanDisk (state S.Store tx.new.conn.now) → (t : Tables)
+        → Holds (state S.Store tx.old.conn.now).now t
+        → IfOk result (λ rows. rows.bags.items ≡ asked_of is_of_serial asks.now.bags t.bags) }
+    ensures items { HasCleanDisk (state S.Store tx.new.conn.now) → (t : Tables)
+        → Holds (state S.Store tx.old.conn.now).now t
+        → IfOk result (λ rows. Shows is_item_of asks.now.items t.items rows.items.items) }
     ensures exact { HasCleanDisk (state S.Store tx.new.conn.now)
         → (state S.Store tx.old.conn.now).now.schema ≡ register_schema
         → IfOk result (λ rows. CustodyIsShown asks.now rows.boxes.items rows.safes.items rows.bags.items
@@ -140,11 +160,21 @@ fn ceremony_rows<S: Alter>(
     asks: &Asks,
 ) -> Result<CeremonyRows, Refusal>
     ensures same_reference { tx.new.conn.ghost_name ≡ tx.old.conn.ghost_name }
-    ensures ceremonies { HasCleanDisk (state S.Store tx.new.conn.now) → (t : Tables) → Holds (state S.Store tx.old.conn.now).now t → IfOk result (λ rows. rows.ceremonies.items ≡ asked_of is_of_number asks.now.ceremonies t.ceremonies) }
-    ensures marks { HasCleanDisk (state S.Store tx.new.conn.now) → (t : Tables) → Holds (state S.Store tx.old.conn.now).now t → IfOk result (λ rows. rows.marks.items ≡ asked_of is_mark_of asks.now.marks t.marks) }
-    ensures steps { HasCleanDisk (state S.Store tx.new.conn.now) → (t : Tables) → Holds (state S.Store tx.old.conn.now).now t → IfOk result (λ rows. rows.steps.items ≡ asked_of is_step_of asks.now.steps t.steps) }
-    ensures exceptions { HasCleanDisk (state S.Store tx.new.conn.now) → (t : Tables) → Holds (state S.Store tx.old.conn.now).now t → IfOk result (λ rows. rows.exceptions.items ≡ asked_of is_exception_of asks.now.exceptions t.exceptions) }
-    ensures stays { HasCleanDisk (state S.Store tx.new.conn.now) → (t : Tables) → Holds (state S.Store tx.old.conn.now).now t → IfOk result (λ rows. ShowsStays asks.now.stays t.stays rows.stays.items) }
+    ensures ceremonies { HasCleanDisk (state S.Store tx.new.conn.now) → (t : Tables)
+        → Holds (state S.Store tx.old.conn.now).now t
+        → IfOk result (λ rows. rows.ceremonies.items ≡ asked_of is_of_number asks.now.ceremonies t.ceremonies) }
+    ensures marks { HasCleanDisk (state S.Store tx.new.conn.now) → (t : Tables)
+        → Holds (state S.Store tx.old.conn.now).now t
+        → IfOk result (λ rows. rows.marks.items ≡ asked_of is_mark_of asks.now.marks t.marks) }
+    ensures steps { HasCleanDisk (state S.Store tx.new.conn.now) → (t : Tables)
+        → Holds (state S.Store tx.old.conn.now).now t
+        → IfOk result (λ rows. rows.steps.items ≡ asked_of is_step_of asks.now.steps t.steps) }
+    ensures exceptions { HasCleanDisk (state S.Store tx.new.conn.now) → (t : Tables)
+        → Holds (state S.Store tx.old.conn.now).now t
+        → IfOk result (λ rows. rows.exceptions.items ≡ asked_of is_exception_of asks.now.exceptions t.exceptions) }
+    ensures stays { HasCleanDisk (state S.Store tx.new.conn.now) → (t : Tables)
+        → Holds (state S.Store tx.old.conn.now).now t
+        → IfOk result (λ rows. ShowsStays asks.now.stays t.stays rows.stays.items) }
     ensures exact { HasCleanDisk (state S.Store tx.new.conn.now)
         → (state S.Store tx.old.conn.now).now.schema ≡ register_schema
         → IfOk result (λ rows. CeremoniesAreShown asks.now rows.ceremonies.items rows.marks.items rows.steps.items
@@ -172,11 +202,13 @@ fn rows_asked<S: Alter>(
     asks: &Asks,
 ) -> Result<View, Refusal>
     ensures same_reference { tx.new.conn.ghost_name ≡ tx.old.conn.ghost_name }
-    ensures view { HasCleanDisk (state S.Store tx.new.conn.now) → (m : machine.Tables) → HoldsTables m (state S.Store tx.old.conn.now).now → IfOk result (IsViewOf asks.now m) }
+    ensures view { HasCleanDisk (state S.Store tx.new.conn.now) → (m : machine.Tables)
+        → HoldsTables m (state S.Store tx.old.conn.now).now → IfOk result (IsViewOf asks.now m) }
     ensures exact { HasCleanDisk (state S.Store tx.new.conn.now)
         → (state S.Store tx.old.conn.now).now.schema ≡ register_schema
         → IfOk result (λ view. NoneIsStrange asks.now view (state S.Store tx.old.conn.now).now.trees) }
-    ensures opened { HasCleanDisk (state S.Store tx.new.conn.now) → OnOk result (IsTrue (state S.Store tx.old.conn.now).is_open) }
+    ensures opened { HasCleanDisk (state S.Store tx.new.conn.now)
+        → OnOk result (IsTrue (state S.Store tx.old.conn.now).is_open) }
     ensures frame { Reads (state S.Store tx.old.conn.now) (state S.Store tx.new.conn.now) result }
 {
     let keys = asked_keys(alloc, tx, &asks.key)?;
@@ -204,23 +236,31 @@ fn rows_asked<S: Alter>(
 }
 
 /// The rows asked for, of each table: of the accepted commands always the row of the key, if there is one, and the row
-/// with the greatest number. Of a table that is not asked for nothing is read. Nothing is changed. The error is `Memory`
-/// when out of memory, and else `Disk`: the device failed, or a row asked for is one that no register stores.
+/// with the greatest number. Of a table that is not asked for nothing is read. Nothing is changed. The error is
+/// `Memory` when out of memory, and else `Disk`: the device failed, or a row asked for is one that no register stores.
 pub fn view_of<S: Alter>(
     alloc: Global,
     tx: &mut Transaction<'_, S>,
     asks: &Asks,
 ) -> Result<View, Refusal>
     ensures same_reference { tx.new.conn.ghost_name ≡ tx.old.conn.ghost_name }
-    ensures view { HasCleanDisk (state S.Store tx.new.conn.now) → (m : machine.Tables) → HoldsTables m (state S.Store tx.old.conn.now).now → IfOk result (IsViewOf asks.now m) }
+    ensures view { HasCleanDisk (state S.Store tx.new.conn.now) → (m : machine.Tables)
+        → HoldsTables m (state S.Store tx.old.conn.now).now → IfOk result (IsViewOf asks.now m) }
     ensures exact { HasCleanDisk (state S.Store tx.new.conn.now)
         → (state S.Store tx.old.conn.now).now.schema ≡ register_schema
         → IfOk result (λ view. NoneIsStrange asks.now view (state S.Store tx.old.conn.now).now.trees) }
-    ensures stays { HasCleanDisk (state S.Store tx.new.conn.now) → (m : machine.Tables) → HoldsTables m (state S.Store tx.old.conn.now).now → OnOk result (HoldsTables m (state S.Store tx.new.conn.now).now) }
-    ensures holds { HasCleanDisk (state S.Store tx.new.conn.now) → (t : Tables) → Holds (state S.Store tx.old.conn.now).now t → OnOk result (Holds (state S.Store tx.new.conn.now).now t) }
-    ensures opened { HasCleanDisk (state S.Store tx.new.conn.now) → OnOk result (IsTrue (state S.Store tx.old.conn.now).is_open) }
-    ensures inside { HasCleanDisk (state S.Store tx.new.conn.now) → IsTrue (state S.Store tx.old.conn.now).in_transaction → OnOk result (IsTrue (state S.Store tx.new.conn.now).in_transaction) }
-    ensures kept { HasCleanDisk (state S.Store tx.new.conn.now) → IsTrue (state S.Store tx.old.conn.now).in_transaction → KeepsCommit (state S.Store tx.old.conn.now) (state S.Store tx.new.conn.now) }
+    ensures stays { HasCleanDisk (state S.Store tx.new.conn.now) → (m : machine.Tables)
+        → HoldsTables m (state S.Store tx.old.conn.now).now
+        → OnOk result (HoldsTables m (state S.Store tx.new.conn.now).now) }
+    ensures holds { HasCleanDisk (state S.Store tx.new.conn.now) → (t : Tables)
+        → Holds (state S.Store tx.old.conn.now).now t → OnOk result (Holds (state S.Store tx.new.conn.now).now t) }
+    ensures opened { HasCleanDisk (state S.Store tx.new.conn.now)
+        → OnOk result (IsTrue (state S.Store tx.old.conn.now).is_open) }
+    ensures inside { HasCleanDisk (state S.Store tx.new.conn.now)
+        → IsTrue (state S.Store tx.old.conn.now).in_transaction
+        → OnOk result (IsTrue (state S.Store tx.new.conn.now).in_transaction) }
+    ensures kept { HasCleanDisk (state S.Store tx.new.conn.now) → IsTrue (state S.Store tx.old.conn.now).in_transaction
+        → KeepsCommit (state S.Store tx.old.conn.now) (state S.Store tx.new.conn.now) }
     ensures survives { Survives (state S.Store tx.old.conn.now) (state S.Store tx.new.conn.now) (λ _. ⊥) }
     ensures cause { IfErr result IsFault }
 {

@@ -9,7 +9,8 @@ file_rule = record (new_rule (codes "file")) { long = Some (codes "file"); value
 
 -- a required option whose value is a number from 1 to the most
 abbrev pub number_rule : Text → ℕ → Rule
-number_rule name most = record (new_rule name) { long = Some name; value_names = 1; parser = Some (Unsigned 1 most); required = true }
+number_rule name most =
+    record (new_rule name) { long = Some name; value_names = 1; parser = Some (Unsigned 1 most); required = true }
 
 -- a required option whose value is a text
 abbrev pub text_rule : Text → Rule

@@ -65,15 +65,16 @@ HasCause (Open fault) old_input new_input old_output new_output = IsUntouched ol
 HasCause (Into fault) old_input new_input old_output new_output = IsUntouched old_input new_input old_output new_output
 HasCause (Stream stream.Read) old_input new_input old_output new_output =
     (failures_of old_input < failures_of new_input) ⊎ (gifts_of new_input ≡ gifts_of old_input + 1000000)
-HasCause (Stream stream.Write) old_input new_input old_output new_output = failures_of old_output < failures_of new_output
+HasCause (Stream stream.Write) old_input new_input old_output new_output =
+    failures_of old_output < failures_of new_output
 HasCause (Stream stream.Memory) old_input new_input old_output new_output = Unit {0}
 HasCause (Refused r) old_input new_input old_output new_output = Unit {0}
 HasCause Unwritten old_input new_input old_output new_output = failures_of old_output < failures_of new_output
 HasCause Net old_input new_input old_output new_output = Unit {0}
 HasCause Words old_input new_input old_output new_output = IsUntouched old_input new_input old_output new_output
 
--- why a report, an audit or the line of a port was not written whole: the register refused, or a write failed, which the
--- writer's count tells
+-- why a report, an audit or the line of a port was not written whole: the register refused, or a write failed, which
+-- the writer's count tells
 abbrev pub StopsReport : {W : Type 0} → Counted W → Counted W → Fault → Type 0
 StopsReport old_output new_output (Refused r) = Unit {0}
 StopsReport old_output new_output Unwritten = failures_of old_output < failures_of new_output

@@ -15,7 +15,8 @@ use Rattle.kcr_tool.specs.Lines.{clean_line, listening_line}
 use Rattle.kcr_tool.specs.Audits.{TellsFinding, TellsFront}
 use Rattle.kcr_tool.specs.Verifications.{TellsWhole, TellsDifference, TellsVerifiedFront, verified_head, rebuilt_head}
 use Rattle.kcr_tool.specs.declared.words.Task.{Task}
-use Rattle.kcr_tool.specs.declared.words.Task.TheVariants.{Run, Serve, Print, Attendance, Custody, Audit, Verify, Rebuild}
+use Rattle.kcr_tool.specs.declared.words.Task.TheVariants.{Run, Serve, Print, Attendance, Custody, Audit, Verify}
+use Rattle.kcr_tool.specs.declared.words.Task.TheVariants.{Rebuild}
 
 -- a register with this history that nothing has broken
 abbrev pub whole : History → Standing
@@ -94,4 +95,5 @@ TellsWrong other old new = ⊥
 -- said of the history of a register that is not broken, over a store whose disk is never in doubt, as memory is
 abbrev pub OfHistory : {S : Type 0} → Ghosts S → Seen S → (History → Type 0) → Type 0
 OfHistory {S} g register Says =
-    ((conn : Held S) → HasCleanDisk (state g conn)) → IsTrue register.is_founded → register.torn ≡ None → Says register.accepted
+    ((conn : Held S) → HasCleanDisk (state g conn)) → IsTrue register.is_founded → register.torn ≡ None
+    → Says register.accepted

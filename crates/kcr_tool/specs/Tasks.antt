@@ -8,7 +8,8 @@ use Rattle.kcr_tool.specs.Commands.{tool_app}
 use Rattle.kcr_tool.specs.declared.words.WordsFault.{WordsFault}
 use Rattle.kcr_tool.specs.declared.words.WordsFault.TheVariants as WordsFaults
 use Rattle.kcr_tool.specs.declared.words.Task.{Task}
-use Rattle.kcr_tool.specs.declared.words.Task.TheVariants.{Run, Serve, Print, Attendance, Custody, Audit, Verify, Rebuild}
+use Rattle.kcr_tool.specs.declared.words.Task.TheVariants.{Run, Serve, Print, Attendance, Custody, Audit, Verify}
+use Rattle.kcr_tool.specs.declared.words.Task.TheVariants.{Rebuild}
 
 -- the number that a text is in decimal, where it is one from 1 to the most; a plus may stand before it
 abbrev pub number_up_to : ℕ → Text → Option ℕ

@@ -1,5 +1,6 @@
 //! What the program does with its words.
-ghost use Rattle.std.specs.Prelude.{◌≡◌, ◌≢◌, ◌≤◌, ◌⊎◌, ℕ, List, [], Option, Some, None, IsSome, IfOk, IfErr, OnErr, map, string_bytes};
+ghost use Rattle.std.specs.Prelude.{◌≡◌, ◌≢◌, ◌≤◌, ◌⊎◌, ℕ, List, [], Option, Some, None, IsSome, IfOk, IfErr, OnErr};
+ghost use Rattle.std.specs.Prelude.{map, string_bytes};
 ghost use Rattle.kcr_base.specs.Counted.{inner_of};
 ghost use Rattle.kcr_print.specs.Written.{WritesFront};
 ghost use Rattle.kcr_tool.specs.declared.fault.Fault.{Fault as WhyNot};
@@ -19,8 +20,8 @@ use kcr_store::Register;
 use sqlite::Alter;
 use std::io::{Read, Write};
 
-/// Does a task over an open register, and answers the exit status: 0, or 1 after a finding. A verification and a rebuild
-/// are no such tasks.
+/// Does a task over an open register, and answers the exit status: 0, or 1 after a finding. A verification and a
+/// rebuild are no such tasks.
 #[tactic(auto, using(crate::proofs::Causes::stops_cause, crate::proofs::Causes::serving_cause, crate::proofs::Audits::clean_told, crate::proofs::Audits::finding_told))]
 fn perform<S: Alter + Drop, R: Read, W: Write>(
     rt: &HostRuntime,
@@ -72,8 +73,8 @@ fn perform<S: Alter + Drop, R: Read, W: Write>(
     }
 }
 
-/// Does the task of an order. A verification and a rebuild read the rows of the register that it names, which stays as it
-/// is; for all others it is opened.
+/// Does the task of an order. A verification and a rebuild read the rows of the register that it names, which stays as
+/// it is; for all others it is opened.
 #[tactic(auto, using(crate::proofs::Causes::stops_cause, crate::proofs::Causes::rebuild_cause, crate::proofs::Causes::reading_cause, crate::proofs::Verifications::whole_told, crate::proofs::Verifications::difference_told))]
 fn obey<R: Read, W: Write>(
     rt: &HostRuntime,
@@ -121,10 +122,10 @@ fn obey<R: Read, W: Write>(
     }
 }
 
-/// Does what the words say, the first of which is the program's name, and answers the exit status: 0 where all went well
-/// (refusals within a stream are answers), 1 after a finding, or after a line on `faults` that says why the
-/// task was not done to its end, 2 where the words are refused or ask for help or the version, with what `clap` says
-/// on `faults`. The words are read first, then the file is opened, then the port is taken.
+/// Does what the words say, the first of which is the program's name, and answers the exit status: 0 where all went
+/// well (refusals within a stream are answers), 1 after a finding, or after a line on `faults` that says why the task
+/// was not done to its end, 2 where the words are refused or ask for help or the version, with what `clap` says on
+/// `faults`. The words are read first, then the file is opened, then the port is taken.
 ///
 /// What was written is told of a reader that tells the bytes it has left, and of writers that tell those they hold: as
 /// byte slices and vectors do in this library, and files, sockets and terminals never do.
@@ -138,32 +139,41 @@ pub fn act<R: Read, W: Write, F: Write>(
 ) -> u8
     ensures status { result ≤ 2 }
 
-    // All went well: the words are a task, and what was written is what it says. Over a register in memory that is by its
-    // history, which was empty; over a file, of whose past nothing is known, each message got a reply.
-    ensures done { result ≡ 0 → file_of (map string_bytes words.now) ≡ None → (task : Order_task) × (task_of (map string_bytes words.now) ≡ Some task)
-        × Does task [] (R.remaining (inner_of input.old)) (W.contents (inner_of output.old)) (W.contents (inner_of output.new)) }
+    // All went well: the words are a task, and what was written is what it says. Over a register in memory that is by
+    // its history, which was empty; over a file, of whose past nothing is known, each message got a reply.
+    ensures done { result ≡ 0 → file_of (map string_bytes words.now) ≡ None → (task : Order_task)
+        × (task_of (map string_bytes words.now) ≡ Some task)
+        × Does task [] (R.remaining (inner_of input.old)) (W.contents (inner_of output.old))
+        (W.contents (inner_of output.new)) }
     ensures answered { result ≡ 0 → (task : Order_task) × (task_of (map string_bytes words.now) ≡ Some task)
-        × Leaves task (R.remaining (inner_of input.old)) (W.contents (inner_of output.old)) (W.contents (inner_of output.new)) }
+        × Leaves task (R.remaining (inner_of input.old)) (W.contents (inner_of output.old))
+        (W.contents (inner_of output.new)) }
 
-    // Something was found wrong in a file, and its line stands on the output; or a fault stopped the task. Then its line
-    // stands on `faults`, as far as it could be written, and it says that a read or a write failed only where one did.
-    ensures cause { result ≡ 1 → ((file_of (map string_bytes words.now) ≡ None → into_of (map string_bytes words.now) ≢ None)
+    // Something was found wrong in a file, and its line stands on the output; or a fault stopped the task. Then its
+    // line stands on `faults`, as far as it could be written, and it says that a read or a write failed only where one
+    // did.
+    ensures cause { result ≡ 1
+        → ((file_of (map string_bytes words.now) ≡ None → into_of (map string_bytes words.now) ≢ None)
         × ((task : Order_task) × (task_of (map string_bytes words.now) ≡ Some task)
         × TellsWrong task (W.contents (inner_of output.old)) (W.contents (inner_of output.new))))
-        ⊎ ((why : WhyNot) × ((line : List ℕ) × IsLineOf why line × WritesFront (F.contents faults.old) (F.contents faults.new) line)
+        ⊎ ((why : WhyNot)
+        × ((line : List ℕ) × IsLineOf why line × WritesFront (F.contents faults.old) (F.contents faults.new) line)
         × HasCause why input.old input.new output.old output.new) }
 
     // Then nothing was written, or a beginning of a line or a text that the task may write.
     ensures part { result ≡ 1 → file_of (map string_bytes words.now) ≡ None → (output.new ≡ output.old)
         ⊎ ((task : Order_task) × (task_of (map string_bytes words.now) ≡ Some task)
-        × DoesInPart task [] (R.remaining (inner_of input.old)) (W.contents (inner_of output.old)) (W.contents (inner_of output.new))) }
+        × DoesInPart task [] (R.remaining (inner_of input.old)) (W.contents (inner_of output.old))
+        (W.contents (inner_of output.new))) }
     ensures answered_in_part { result ≡ 1 → ((task : Order_task) × (task_of (map string_bytes words.now) ≡ Some task)
         × TellsWrong task (W.contents (inner_of output.old)) (W.contents (inner_of output.new)))
         ⊎ ((output.new ≡ output.old) ⊎ ((task : Order_task) × (task_of (map string_bytes words.now) ≡ Some task)
-        × LeavesInPart task (R.remaining (inner_of input.old)) (W.contents (inner_of output.old)) (W.contents (inner_of output.new)))) }
+        × LeavesInPart task (R.remaining (inner_of input.old)) (W.contents (inner_of output.old))
+        (W.contents (inner_of output.new)))) }
 
     // The words are no task: nothing was read or written.
-    ensures refused { result ≡ 2 → (faults_of (map string_bytes words.now) ≢ []) × (input.new ≡ input.old) × (output.new ≡ output.old) }
+    ensures refused { result ≡ 2 → (faults_of (map string_bytes words.now) ≢ []) × (input.new ≡ input.old)
+        × (output.new ≡ output.old) }
 {
     match read_words(rt.alloc(), words) {
         Ok(order) => match obey(rt, order, input, output) {

@@ -52,7 +52,8 @@ fn tell_found<W: Write>(
     found: &Option<Finding>,
     output: &mut Counted<W>,
 ) -> Result<u8, Fault>
-    ensures told { IfOk result (TellsFound found.now (W.contents (inner_of output.old)) (W.contents (inner_of output.new))) }
+    ensures told { IfOk result
+        (TellsFound found.now (W.contents (inner_of output.old)) (W.contents (inner_of output.new))) }
     ensures part { OnErr result ((output.new ≡ output.old)
         ⊎ TellsFront (W.contents (inner_of output.old)) (W.contents (inner_of output.new))) }
     ensures cause { IfErr result (StopsReport output.old output.new) }
@@ -89,7 +90,8 @@ pub fn audit<S: Alter, W: Write>(
     ensures told { IfOk result (λ status. (found : Option Found)
         × TellsFound found (W.contents (inner_of output.old)) (W.contents (inner_of output.new)) status) }
     ensures found { ((conn : Held S) → HasCleanDisk (state S.Store conn)) → register.old.torn ≡ None
-        → (m : Tables) → HoldsTables m (state S.Store register.old.conn).now → IfOk result (λ status. (found : Option Found) × FindsIn m found
+        → (m : Tables) → HoldsTables m (state S.Store register.old.conn).now
+        → IfOk result (λ status. (found : Option Found) × FindsIn m found
         × TellsFound found (W.contents (inner_of output.old)) (W.contents (inner_of output.new)) status) }
 
     // In the tables of a history it finds nothing.

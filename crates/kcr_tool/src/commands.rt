@@ -2,7 +2,8 @@
 ghost use Rattle.std.specs.Prelude.{◌≡◌, codes, false, IfOk};
 ghost use Rattle.clap.specs.Words.{App, app_of, rule_of, with_rule, with_subcommand};
 ghost use Rattle.clap.specs.declared.builder.command.Command.TheViews.{out-Command};
-ghost use Rattle.kcr_tool.specs.Commands.{file_rule, number_rule, text_rule, root_app, of_file, of_ceremony, serve_app, rebuild_app, tool_app};
+ghost use Rattle.kcr_tool.specs.Commands.{file_rule, number_rule, text_rule, root_app, of_file, of_ceremony, serve_app};
+ghost use Rattle.kcr_tool.specs.Commands.{rebuild_app, tool_app};
 
 use clap::builder::ValueParser;
 use clap::{Arg, Command};

@@ -130,7 +130,8 @@ pub fn tell<F: Write>(faults: &mut F, line: &str)
 
 /// Writes the line of a refusal, as far as it can be written; where no memory is found for the line, it says that.
 fn tell_refusal<F: Write>(alloc: Global, faults: &mut F, refusal: &Refusal)
-    ensures { (line : List ℕ) × IsLineOf (Fault.Refused refusal.now) line × WritesFront (F.contents faults.old) (F.contents faults.new) line }
+    ensures { (line : List ℕ) × IsLineOf (Fault.Refused refusal.now) line
+        × WritesFront (F.contents faults.old) (F.contents faults.new) line }
 {
     match refused(alloc, refusal) {
         Ok(line) => tell(faults, line.as_str()),
@@ -141,7 +142,8 @@ fn tell_refusal<F: Write>(alloc: Global, faults: &mut F, refusal: &Refusal)
 /// Writes the line of a fault, as far as it can be written; where no memory is found for the line of a refusal, it says
 /// that.
 pub fn tell_fault<F: Write>(alloc: Global, faults: &mut F, fault: &Fault)
-    ensures { (line : List ℕ) × IsLineOf fault.now line × WritesFront (F.contents faults.old) (F.contents faults.new) line }
+    ensures { (line : List ℕ) × IsLineOf fault.now line
+        × WritesFront (F.contents faults.old) (F.contents faults.new) line }
 {
     match fault {
         Fault::Refused(refusal) => tell_refusal(alloc, faults, refusal),

@@ -1,8 +1,8 @@
 //! The program `kcr`: the register of root zone key ceremonies, answered over HTTP.
 //!
 //! `kcr run` answers the stream of requests on standard input on standard output, `kcr serve` those of connections to a
-//! port; `print`, `attendance`, `custody`, `audit` and `verify` tell of a register, and `rebuild` makes a new one of its
-//! commands. Each works over a register in memory, which is empty at first, or over a file.
+//! port; `print`, `attendance`, `custody`, `audit` and `verify` tell of a register, and `rebuild` makes a new one of
+//! its commands. Each works over a register in memory, which is empty at first, or over a file.
 #![tactic(auto)]
 
 ghost use Rattle.std.specs.Prelude.{◌≡◌, ◌⊎◌, ◌≤◌};

@@ -48,7 +48,8 @@ pub fn print<S: Alter, W: Write>(
     output: &mut Counted<W>,
 ) -> Result<(), Fault>
     ensures done { OfHistory S.Store register.old (λ A. OnOk result (IsTrue (is_ceremony A ceremony)
-        × Appends (W.contents (inner_of output.old)) (W.contents (inner_of output.new)) (report.annotated A ceremony))) }
+        × Appends (W.contents (inner_of output.old)) (W.contents (inner_of output.new))
+        (report.annotated A ceremony))) }
     ensures part { OfHistory S.Store register.old (λ A. OnErr result
         (WritesFront (W.contents (inner_of output.old)) (W.contents (inner_of output.new)) (report.annotated A ceremony))) }
     ensures cause { IfErr result (StopsReport output.old output.new) }
@@ -67,7 +68,8 @@ pub fn attendance<S: Alter, W: Write>(
     output: &mut Counted<W>,
 ) -> Result<(), Fault>
     ensures done { OfHistory S.Store register.old (λ A. OnOk result (IsTrue (is_ceremony A ceremony)
-        × Appends (W.contents (inner_of output.old)) (W.contents (inner_of output.new)) (report.attendance A ceremony))) }
+        × Appends (W.contents (inner_of output.old)) (W.contents (inner_of output.new))
+        (report.attendance A ceremony))) }
     ensures part { OfHistory S.Store register.old (λ A. OnErr result
         (WritesFront (W.contents (inner_of output.old)) (W.contents (inner_of output.new)) (report.attendance A ceremony))) }
     ensures cause { IfErr result (StopsReport output.old output.new) }

@@ -7,7 +7,8 @@ ghost use Rattle.kcr_history.specs.Tables.{Tables, tables};
 ghost use Rattle.kcr_store.specs.Whole.{IsListed};
 ghost use Rattle.kcr_tool.specs.Faults.{StopsReading, StopsReport, StopsRebuild};
 ghost use Rattle.kcr_tool.specs.Lines.{difference_line, found_line, whole_line};
-ghost use Rattle.kcr_tool.specs.Verifications.{IsLineFor, TellsVerified, TellsVerifiedFront, verified_head, rebuilt_head};
+ghost use Rattle.kcr_tool.specs.Verifications.{IsLineFor, TellsVerified, TellsVerifiedFront, verified_head};
+ghost use Rattle.kcr_tool.specs.Verifications.{rebuilt_head};
 ghost use Rattle.kcr_verify.specs.Verified.{AreValues, IsTold};
 ghost use Rattle.kcr_verify.specs.declared.verification.Verified.{Verified as Told};
 
@@ -116,17 +117,20 @@ fn rows_of_none(alloc: Global) -> Result<View, Fault>
 }
 
 /// Verifies the rows of a register: a line that says of how many commands it is the register, or the first thing that
-/// differs from what its commands lead to, and the exit status, 1 where something differs. Out of memory is refused (33),
-/// which the store in memory may tell as a fault of a device (34), and nothing is written then.
+/// differs from what its commands lead to, and the exit status, 1 where something differs. Out of memory is refused
+/// (33), which the store in memory may tell as a fault of a device (34), and nothing is written then.
 #[tactic(auto, using(crate::proofs::Verifications::status_told, crate::proofs::Verifications::nothing_told))]
 pub fn verify<W: Write>(alloc: Global, rows: View, output: &mut Counted<W>) -> Result<u8, Fault>
     ensures status { IfOk result (λ status. status ≤ 1) }
     ensures told { IfOk result (λ status. (told : Told)
-        × TellsVerified verified_head told (W.contents (inner_of output.old)) (W.contents (inner_of output.new)) status) }
+        × TellsVerified verified_head told (W.contents (inner_of output.old))
+        (W.contents (inner_of output.new)) status) }
 
     // That the register is the one of its commands is told where it is true of the tables, whoever wrote them.
-    ensures found { (m : Tables) → IsListed m rows → IfOk result (λ status. (told : Told) × ((A : History) × IsTold m A told)
-        × TellsVerified verified_head told (W.contents (inner_of output.old)) (W.contents (inner_of output.new)) status) }
+    ensures found { (m : Tables) → IsListed m rows
+        → IfOk result (λ status. (told : Told) × ((A : History) × IsTold m A told)
+        × TellsVerified verified_head told (W.contents (inner_of output.old))
+        (W.contents (inner_of output.new)) status) }
 
     // In the tables of a history nothing differs.
     ensures nothing { (A : History) → IsRegister A → AreValues A → IsListed (tables A) rows
@@ -141,12 +145,12 @@ pub fn verify<W: Write>(alloc: Global, rows: View, output: &mut Counted<W>) -> R
     }
 }
 
-/// Makes a new register in the file at the path, where there is none or it holds nothing, and gives it the commands among
-/// these rows of a register: a line that says of how many commands both are the register, or the first thing that differs
-/// from what the commands lead to, and the exit status, 1 where something differs. The new register has then the commands
-/// before the one that differs, that one too where its reply does, and all of them where a table does. Out of memory is
-/// refused (33), as is a fault of the new register's device (34); it then keeps what it was given. In all these cases, and
-/// where no new register can be made, nothing is written.
+/// Makes a new register in the file at the path, where there is none or it holds nothing, and gives it the commands
+/// among these rows of a register: a line that says of how many commands both are the register, or the first thing that
+/// differs from what the commands lead to, and the exit status, 1 where something differs. The new register has then
+/// the commands before the one that differs, that one too where its reply does, and all of them where a table does. Out
+/// of memory is refused (33), as is a fault of the new register's device (34); it then keeps what it was given. In all
+/// these cases, and where no new register can be made, nothing is written.
 #[tactic(auto, using(crate::proofs::Verifications::status_told))]
 pub fn rebuild<W: Write>(
     rt: &HostRuntime,
@@ -156,7 +160,8 @@ pub fn rebuild<W: Write>(
 ) -> Result<u8, Fault>
     ensures status { IfOk result (λ status. status ≤ 1) }
     ensures told { IfOk result (λ status. (told : Told)
-        × TellsVerified rebuilt_head told (W.contents (inner_of output.old)) (W.contents (inner_of output.new)) status) }
+        × TellsVerified rebuilt_head told (W.contents (inner_of output.old))
+        (W.contents (inner_of output.new)) status) }
     ensures part { OnErr result ((output.new ≡ output.old)
         ⊎ TellsVerifiedFront rebuilt_head (W.contents (inner_of output.old)) (W.contents (inner_of output.new))) }
     ensures cause { IfErr result (StopsRebuild output.old output.new) }

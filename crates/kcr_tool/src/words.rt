@@ -1,7 +1,9 @@
 //! The words of the command line, and the task that they hold.
-ghost use Rattle.std.specs.Prelude.{◌≡◌, ◌≢◌, ◌≤◌, [], codes, Some, IfOk, IfErr, IfSome, IsSome, map, option_map, string_bytes};
+ghost use Rattle.std.specs.Prelude.{◌≡◌, ◌≢◌, ◌≤◌, [], codes, Some, IfOk, IfErr, IfSome, IsSome, map, option_map};
+ghost use Rattle.std.specs.Prelude.{string_bytes};
 ghost use Rattle.clap.specs.Words.{rows_of, found_of, subcommand_rows_of};
-ghost use Rattle.kcr_tool.specs.Tasks.{IsLine, task_of, task_at, file_of, file_at, into_of, into_at, number_at, ceremony_at, serve_at, met_in, faults_of};
+ghost use Rattle.kcr_tool.specs.Tasks.{IsLine, task_of, task_at, file_of, file_at, into_of, into_at, number_at};
+ghost use Rattle.kcr_tool.specs.Tasks.{ceremony_at, serve_at, met_in, faults_of};
 
 use crate::commands::tool;
 use clap::ArgMatches;
@@ -133,8 +135,10 @@ fn read_file<'a>(matches: &ArgMatches<'a>) -> Option<&'a str>
 /// version, and where it does, no task comes. `Memory` comes only where memory was refused.
 pub fn read_words<'a>(alloc: Global, words: &'a [String]) -> Result<Order<'a>, WordsFault>
     ensures task { IfOk result (λ order. task_of (map string_bytes words.entry.now) ≡ Some order.task) }
-    ensures file { IfOk result (λ order. file_of (map string_bytes words.entry.now) ≡ option_map (λ file. file.now) order.file) }
-    ensures into { IfOk result (λ order. into_of (map string_bytes words.entry.now) ≡ option_map (λ file. file.now) order.into) }
+    ensures file { IfOk result (λ order. file_of
+        (map string_bytes words.entry.now) ≡ option_map (λ file. file.now) order.file) }
+    ensures into { IfOk result (λ order. into_of
+        (map string_bytes words.entry.now) ≡ option_map (λ file. file.now) order.into) }
 
     // A rebuild has a file for the new register.
     ensures rebuild { IfOk result (λ order. order.task ≡ Task.Rebuild → IsSome order.into) }

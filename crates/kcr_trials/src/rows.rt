@@ -3,7 +3,7 @@ ghost use Rattle.std.specs.Prelude.{◌≡◌};
 
 use crate::asserts::holds;
 use kcr_base::{Key, Refusal};
-use kcr_history::{Asks, KeyRow, Selection, SeatingRow};
+use kcr_history::{Asks, KeyRow, SeatingRow, Selection};
 use kcr_room::SheetRow;
 use kcr_tables::{Version, all_rows, make, view_of};
 use sqlite::{Alter, Connection, MemStore, Transaction};

@@ -32,7 +32,9 @@ use Rattle.kcr_tables.specs.SheetLaws as sheet
 use Rattle.kcr_tables.specs.StaysLaws as stays
 use Rattle.kcr_tables.specs.ExceptionsLaws as exceptions
 use Rattle.kcr_verify.specs.declared.compare.Table.{Table}
-use Rattle.kcr_verify.specs.declared.compare.Table.TheVariants.{People, Trainings, Withdrawals, Appointments, Boxes, Safes, Bags, Items, Ceremonies, Marks, Steps, Seatings, Sheet, Stays, Exceptions, Keys}
+use Rattle.kcr_verify.specs.declared.compare.Table.TheVariants.{People, Trainings, Withdrawals, Appointments, Boxes}
+use Rattle.kcr_verify.specs.declared.compare.Table.TheVariants.{Safes, Bags, Items, Ceremonies, Marks, Steps, Seatings}
+use Rattle.kcr_verify.specs.declared.compare.Table.TheVariants.{Sheet, Stays, Exceptions, Keys}
 use Rattle.kcr_verify.specs.declared.verification.Verified.{Verified}
 use Rattle.kcr_verify.specs.declared.verification.Verified.TheVariants.{Whole, Differs}
 
@@ -55,7 +57,8 @@ name_of Stays = codes "stays"
 name_of Exceptions = codes "exceptions"
 name_of Keys = codes "keys"
 
--- the view has the machine's rows of this table, in the order in which a database keeps them; the accepted commands in any order
+-- the view has the machine's rows of this table, in the order in which a database keeps them; the accepted commands in
+-- any order
 abbrev pub HasRows : Table → Tables → View → Type 0
 HasRows People m view = AreRows people.table m view.people.items
 HasRows Trainings m view = AreRows trainings.table m view.trainings.items
@@ -101,7 +104,8 @@ pub record AreOf (history : History) (count : ℕ) (m : Tables) : Type 0 where
   pub same : SameTables m (tables history)
   pub counted : length history ≡ count
 
--- what is said of these tables, whoever wrote them, where their commands led to this history: that they are a register's of its own commands is true
+-- what is said of these tables, whoever wrote them, where their commands led to this history: that they are a
+-- register's of its own commands is true
 abbrev pub IsTold : Tables → History → Verified → Type 0
 IsTold m A (Whole count) = AreOf A count m
 IsTold m A (Differs difference) = Unit {0}

@@ -313,7 +313,8 @@ fn first_of<S: Alter>(
     ensures none { HasCleanDisk (state S.Store register.new.conn) → IfOk result (λ found. found ≡ None
         → AllByRecursion (λ table. HasRows table (machine.tables register.new.accepted) rows.now) tables.now) }
     ensures some { HasCleanDisk (state S.Store register.new.conn)
-        → IfOk result (λ found. IfSome found (λ table. ¬ HasRows table (machine.tables register.new.accepted) rows.now)) }
+        → IfOk result (λ found. IfSome found (λ table. ¬ HasRows table
+        (machine.tables register.new.accepted) rows.now)) }
     ensures frame { Reads S.Store register.old register.new result }
 {
     for table in tables {
@@ -324,8 +325,9 @@ fn first_of<S: Alter>(
     Ok(None)
 }
 
-/// The first table whose rows are not the register's, the accepted commands before the others; one table at a time is read. The accepted commands among these
-/// rows are in the order of their numbers, the rows of each other table in that of their keys.
+/// The first table whose rows are not the register's, the accepted commands before the others; one table at a time is
+/// read. The accepted commands among these rows are in the order of their numbers, the rows of each other table in that
+/// of their keys.
 pub(crate) fn first_difference<S: Alter>(
     register: &mut Register<S>,
     rows: &View,
@@ -337,7 +339,8 @@ pub(crate) fn first_difference<S: Alter>(
     ensures none { HasCleanDisk (state S.Store register.new.conn) → IfOk result (λ found. found ≡ None
         → (table : Named) → HasRows table (machine.tables register.new.accepted) rows.now) }
     ensures some { HasCleanDisk (state S.Store register.new.conn)
-        → IfOk result (λ found. IfSome found (λ table. ¬ HasRows table (machine.tables register.new.accepted) rows.now)) }
+        → IfOk result (λ found. IfSome found (λ table. ¬ HasRows table
+        (machine.tables register.new.accepted) rows.now)) }
     ensures register { HasCleanDisk (state S.Store register.new.conn)
         → IfOk result (λ _. IsRegister register.new.accepted) }
     ensures frame { Reads S.Store register.old register.new result }

@@ -36,7 +36,8 @@ fn give<S: Alter>(
     ensures kept { IsKept S.Store register.new }
 
     // Where it is the row of the entry that the machine goes to next, nothing differs, and the register has the entry.
-    ensures own { HasCleanDisk (state S.Store register.new.conn) → (entry : Accepted) → IsRegister (entry ∷ register.old.accepted) → IsAct entry.command.act
+    ensures own { HasCleanDisk (state S.Store register.new.conn) → (entry : Accepted)
+        → IsRegister (entry ∷ register.old.accepted) → IsAct entry.command.act
         → row.now ≡ key_row entry
         → IfOk result (λ difference. (difference ≡ None) × (register.new.accepted ≡ entry ∷ register.old.accepted)) }
 {

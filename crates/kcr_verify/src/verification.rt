@@ -46,7 +46,8 @@ pub enum Verified {
 
 /// An empty register in memory.
 fn empty(alloc: Global) -> Result<Register<MemStore>, Refusal>
-    ensures new { IfOk result (λ r. (r.is_founded ≡ true) × (r.accepted ≡ []) × (r.torn ≡ None) × IsKept over_memory r) }
+    ensures new { IfOk result (λ r. (r.is_founded ≡ true) × (r.accepted ≡ []) × (r.torn ≡ None)
+        × IsKept over_memory r) }
     ensures cause { IfErr result IsFault }
 {
     match Register::in_memory(alloc) {
@@ -59,11 +60,12 @@ fn empty(alloc: Global) -> Result<Register<MemStore>, Refusal>
 /// Gives the commands among these rows, which are those of a register, to an empty register, `fresh`, and compares its
 /// tables with the rows, one table after the other.
 ///
-/// Whatever is said of where the rows come from, the fresh register is founded by its making, so all that is promised of a
-/// register holds of it with no premise about them. After `Whole` its tables are the rows. After a difference it has the
-/// commands before the one that is named, that one too where its reply differs, and all of them where a table does.
-/// Beside out of memory (33) it meets only a fault of the fresh register's device (34), which breaks that register; what
-/// was accepted before stays in it.
+/// Whatever is said of where the rows come from, the fresh register is founded by its making, so all that is promised
+/// of a register holds of it with no premise about them. After `Whole` its tables are the rows. After a difference it
+/// has the commands before the one that is named, that one too where its reply differs, and all of them where a table
+/// does.
+/// Beside out of memory (33) it meets only a fault of the fresh register's device (34), which breaks that register;
+/// what was accepted before stays in it.
 pub fn rebuild<S: Alter>(
     alloc: Global,
     rows: View,
@@ -103,10 +105,10 @@ pub fn rebuild<S: Alter>(
 /// Gives the commands among these rows, which are those of a register, to an empty register in memory, and compares the
 /// tables.
 ///
-/// Where it answers `Whole`, the rows are the tables of a history that the machine leads to, whoever wrote them, and the
-/// accepted commands are that history's. Its time grows with the number of rows, and its memory too: beside `rows` it holds
-/// the register in memory, and of that one table's rows. It meets only out of memory (33), which the store in memory may
-/// tell as a fault of a device (34).
+/// Where it answers `Whole`, the rows are the tables of a history that the machine leads to, whoever wrote them, and
+/// the accepted commands are that history's. Its time grows with the number of rows, and its memory too: beside `rows`
+/// it holds the register in memory, and of that one table's rows. It meets only out of memory (33), which the store in
+/// memory may tell as a fault of a device (34).
 pub fn verify(alloc: Global, rows: View) -> Result<Verified, Refusal>
     ensures told { (m : Tables) → IsListed m rows → IfOk result (λ told. (A : History) × IsTold m A told) }
 

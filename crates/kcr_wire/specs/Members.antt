@@ -5,7 +5,8 @@ use Rattle.serde_json.specs.Data.{Data, Items, no_items, item}
 use Rattle.serde_json.specs.Read.{read}
 use Rattle.serde_json.specs.Find.{get, as_str, as_bool, as_number, as_u64, as_array}
 use Rattle.kcr_wire.specs.Targets.{text_in}
-use Rattle.kcr_forms.specs.Forms.{initials_of, key_of, item_of, name_of, remark_of, day_of, moment_of, role_of, facility_of, place_of, way_of, store_of, number_to, listed_to}
+use Rattle.kcr_forms.specs.Forms.{initials_of, key_of, item_of, name_of, remark_of, day_of, moment_of, role_of}
+use Rattle.kcr_forms.specs.Forms.{facility_of, place_of, way_of, store_of, number_to, listed_to}
 use Rattle.kcr_base.specs.declared.place.Facility.{Facility}
 use Rattle.kcr_base.specs.declared.place.Place.{Place}
 use Rattle.kcr_base.specs.declared.place.Role.{Role}
@@ -36,7 +37,8 @@ truth_at name d = option_and_then as_bool (get name d)
 unfoldable pub texts_in : (List ℕ → Option (List ℕ)) → Items → Option (List (List ℕ))
 texts_in read_text no_items = Some []
 texts_in read_text (item d rest) =
-    option_and_then (λ text. option_map (λ texts. text ∷ texts) (texts_in read_text rest)) (option_and_then read_text (as_str d))
+    option_and_then (λ text. option_map (λ texts. text ∷ texts) (texts_in read_text rest))
+    (option_and_then read_text (as_str d))
 
 -- the texts of a member that is an array
 abbrev pub texts_at : List ℕ → (List ℕ → Option (List ℕ)) → Data → Option (List (List ℕ))

@@ -1,12 +1,16 @@
 -- The routes, and what a router that took them in their order holds.
-use Rattle.std.specs.Prelude.{ℕ, List, [], ◌∷◌, codes, Result, Ok, Err, Bool, true, false, ◌≡◌, ◌&&◌, Option, Some, None}
+use Rattle.std.specs.Prelude.{ℕ, List, [], ◌∷◌, codes, Result, Ok, Err, Bool, true, false, ◌≡◌, ◌&&◌, Option, Some}
+use Rattle.std.specs.Prelude.{None}
 use Rattle.matchit.specs.Rows.{RowsOf}
 use Rattle.matchit.specs.Route.{parse_route, Scan}
 use Rattle.matchit.specs.Router.{RouteOf, route_from, nearest}
 use Rattle.matchit.specs.Order.{placed}
 use Rattle.matchit.specs.declared.error.InsertError.{InsertError}
 use Rattle.kcr_wire.specs.declared.route.Route.{Route}
-use Rattle.kcr_wire.specs.declared.route.Route.TheVariants.{People, Roles, Withdrawals, Custodians, Replacement, Release, Boxes, Items, Ceremonies, Opening, Closing, Sheet, Signature, Exceptions, Safes, Seal, Take, Put, Cut, CustodiansOn, Bag, Room, Script, Attendance}
+use Rattle.kcr_wire.specs.declared.route.Route.TheVariants.{People, Roles, Withdrawals, Custodians, Replacement}
+use Rattle.kcr_wire.specs.declared.route.Route.TheVariants.{Release, Boxes, Items, Ceremonies, Opening, Closing, Sheet}
+use Rattle.kcr_wire.specs.declared.route.Route.TheVariants.{Signature, Exceptions, Safes, Seal, Take, Put, Cut}
+use Rattle.kcr_wire.specs.declared.route.Route.TheVariants.{CustodiansOn, Bag, Room, Script, Attendance}
 
 -- a route as `matchit` reads it
 abbrev pub route_text : Route → List ℕ

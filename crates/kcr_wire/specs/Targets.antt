@@ -1,5 +1,6 @@
 -- What a target asks for: the route of its path, and its parts in braces.
-use Rattle.std.specs.Prelude.{ℕ, ◌+◌, ◌==◌, List, [], take, drop, codes, Option, Some, None, option_and_then, option_map, Result, if◌then◌else◌}
+use Rattle.std.specs.Prelude.{ℕ, ◌+◌, ◌==◌, List, [], take, drop, codes, Option, Some, None, option_and_then}
+use Rattle.std.specs.Prelude.{option_map, Result, if◌then◌else◌}
 use Rattle.std.specs.List.{position}
 use Rattle.std.specs.Str.{is_utf8}
 use Rattle.std.specs.Option.{ok_or, option_map_or}
@@ -58,7 +59,8 @@ target_by route.Ceremonies path = Some target.Ceremonies
 target_by route.Opening path = option_map target.Opening (ceremony_of (second_piece path))
 target_by route.Closing path = option_map target.Closing (ceremony_of (second_piece path))
 target_by route.Sheet path = option_map target.Sheet (ceremony_of (second_piece path))
-target_by route.Signature path = with_parts target.Signature (ceremony_of (second_piece path)) (step_of (fourth_piece path))
+target_by route.Signature path =
+    with_parts target.Signature (ceremony_of (second_piece path)) (step_of (fourth_piece path))
 target_by route.Exceptions path = option_map target.Exceptions (ceremony_of (second_piece path))
 target_by route.Safes path = with_parts target.Safe (ceremony_of (second_piece path)) (safe_of (fourth_piece path))
 target_by route.Seal path = with_parts target.Seal (ceremony_of (second_piece path)) (serial_of (fourth_piece path))

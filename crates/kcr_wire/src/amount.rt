@@ -4,7 +4,8 @@ ghost use Rattle.serde_json.specs.Find.{as_str, as_array};
 ghost use Rattle.serde_json.specs.View.{view, items_view};
 ghost use Rattle.kcr_wire.specs.OrMemory.{OrMemory};
 ghost use Rattle.kcr_forms.specs.Forms.{initials_of, item_of, listed_to};
-ghost use Rattle.kcr_wire.specs.Members.{whole_at, truth_at, texts_in, box_at, ceremony_at, number_at, open_at, pass_at, people_at, items_at};
+ghost use Rattle.kcr_wire.specs.Members.{whole_at, truth_at, texts_in, box_at, ceremony_at, number_at, open_at};
+ghost use Rattle.kcr_wire.specs.Members.{pass_at, people_at, items_at};
 
 use crate::member::formed;
 use kcr_base::{BoxNumber, CeremonyNumber, Initials, ItemCode, Items, Member, People, Refusal};
@@ -124,7 +125,8 @@ fn items_list(alloc: Global, items: &[Value]) -> Result<Option<Vec<ItemCode>>, A
 
 // The people that a value lists.
 fn read_people(alloc: Global, value: &Value) -> Result<Option<People>, AllocError>
-    ensures { IfOk result (λ o. o ≡ option_and_then (listed_to 32) (option_and_then (texts_in initials_of) (as_array (view value.now)))) }
+    ensures { IfOk result (λ o. o ≡ option_and_then (listed_to 32)
+        (option_and_then (texts_in initials_of) (as_array (view value.now)))) }
 {
     let Some(items) = value.as_array() else {
         return Ok(None);
@@ -137,7 +139,8 @@ fn read_people(alloc: Global, value: &Value) -> Result<Option<People>, AllocErro
 
 // The items that a value lists.
 fn read_items(alloc: Global, value: &Value) -> Result<Option<Items>, AllocError>
-    ensures { IfOk result (λ o. o ≡ option_and_then (listed_to 64) (option_and_then (texts_in item_of) (as_array (view value.now)))) }
+    ensures { IfOk result (λ o. o ≡ option_and_then (listed_to 64)
+        (option_and_then (texts_in item_of) (as_array (view value.now)))) }
 {
     let Some(items) = value.as_array() else {
         return Ok(None);

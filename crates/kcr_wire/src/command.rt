@@ -2,7 +2,10 @@
 ghost use Rattle.std.specs.Prelude.{◌≡◌};
 ghost use Rattle.serde_json.specs.View.{view};
 ghost use Rattle.kcr_wire.specs.OrMemory.{OrMemory};
-ghost use Rattle.kcr_wire.specs.Commands.{entering, training, withdrawing, appointing, replacing, releasing, adding_box, adding_item, planning, opening, closing, listing, signing, excepting, turning_safe, sealing, taking, putting, cutting, may_post, command_by, command_of};
+ghost use Rattle.kcr_wire.specs.Commands.{entering, training, withdrawing, appointing, replacing, releasing};
+ghost use Rattle.kcr_wire.specs.Commands.{adding_box, adding_item, planning, opening, closing, listing, signing};
+ghost use Rattle.kcr_wire.specs.Commands.{excepting, turning_safe, sealing, taking, putting, cutting, may_post};
+ghost use Rattle.kcr_wire.specs.Commands.{command_by, command_of};
 
 use crate::allow::Allow;
 use crate::amount::{box_in, ceremony_in, items_in, number_in, open_in, pass_in, people_in};

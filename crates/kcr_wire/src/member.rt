@@ -3,7 +3,9 @@ ghost use Rattle.std.specs.Prelude.{◌≡◌, ◌≢◌, None, Some, option_map
 ghost use Rattle.std.specs.Option.{ok_or};
 ghost use Rattle.serde_json.specs.View.{view};
 ghost use Rattle.kcr_wire.specs.OrMemory.{OrMemory};
-ghost use Rattle.kcr_wire.specs.Members.{text_at, json_of, key_at, who_at, by_at, name_at, role_at, from_at, until_at, day_at, place_at, facility_at, item_at, at_at, script_at, way_at, remark_at, to_at};
+ghost use Rattle.kcr_wire.specs.Members.{text_at, json_of, key_at, who_at, by_at, name_at, role_at, from_at, until_at};
+ghost use Rattle.kcr_wire.specs.Members.{day_at, place_at, facility_at, item_at, at_at, script_at, way_at, remark_at};
+ghost use Rattle.kcr_wire.specs.Members.{to_at};
 
 use kcr_base::{
     Day, Facility, Initials, ItemCode, Key, Member, Moment, Name, Place, Refusal, Remark, Role,

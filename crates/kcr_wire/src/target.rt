@@ -1,6 +1,7 @@
 //! What a request's target asks for.
 ghost use Rattle.std.specs.Prelude.{◌≡◌, ◌==◌, ◌<◌, length, position, option_map, IfErr, IfSome};
-ghost use Rattle.kcr_wire.specs.Targets.{path_of, text_in, before_slash, after_slash, second_piece, fourth_piece, target_by, target_of, allowed, allow_of};
+ghost use Rattle.kcr_wire.specs.Targets.{path_of, text_in, before_slash, after_slash, second_piece, fourth_piece};
+ghost use Rattle.kcr_wire.specs.Targets.{target_by, target_of, allowed, allow_of};
 
 use crate::allow::Allow;
 use crate::route::{Route, router};
