@@ -14,13 +14,12 @@ order, as `tests/program.py` compares them with what sqlite3 reads in a register
 What differs from table to table stands in `table_list.py`: the columns, the key, and the readings. Everything that this
 program writes is committed; edit a table here and never in the files that are written. The files that are not written
 by it (lib.rt, table.rt, last.rt, several.rt, rooms.rt, view.rt, changes.rt, creation.rt, all of kcr_cells but rows.rt
-and its specs/Rows.antt, and the definitions and lemmas that name no single table) are edited by hand.
+and its specs/Rows.antt, and all definitions and proofs but those that `main` names) are edited by hand.
 """
 import sys
 
 sys.dont_write_bytecode = True  # no files beside these
 
-from table_answers import answers
 from table_joint import lemmas_joint, lemmas_make
 from table_laws import laws
 from table_list import TABLES
@@ -47,7 +46,6 @@ def main():
     for t in TABLES:
         source(t)
         laws(t)
-        answers(t)
 
 
 if __name__ == "__main__":
