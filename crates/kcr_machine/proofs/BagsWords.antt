@@ -1,5 +1,5 @@
 -- What the rows of a view say of bags, items, safes and boxes is what the history says.
-use Rattle.std.proofs.Common.{◌≡◌, ℕ, Bool, true, false, cond, ◌||◌, ◌&&◌, eqb, List, [], ◌∷◌, filter, Option, Some, None, option_map, is_some, is_none, refl, sym, ap, ◌∙◌, subst, ◌==◌}
+use Rattle.std.proofs.Common.{◌≡◌, ℕ, Bool, true, false, cond, ◌||◌, ◌&&◌, eqb, List, [], ◌∷◌, filter, Option, Some, None, option_map, is_some, is_none, refl, sym, ap, ◌∙◌, subst, ◌==◌, arith}
 use Rattle.std.specs.Prelude.{unwrap_or}
 use Rattle.std.specs.List.{list_any, cons_option, AllByRecursion}
 use Rattle.std.specs.List.Sorted.{IsPermutation}
@@ -59,11 +59,7 @@ added A k = last_told (λ before. added_at (facility_of before) k) A
 -- an item was added somewhere exactly where it was added
 added_after : (A : History) (act : Act) (k : List ℕ) → is_added A k ≡ is_some (added A k)
     → list_any (λ i. same_text i k) (cons_option (added_item act) (all_said added_item A)) ≡ is_some (or_else (added_at (facility_of A) k act) (added A k))
-added_after A (AddItem c item at) k ih = by_test (same_text item k)
-  where
-    by_test : (b : Bool) → (b || is_added A k) ≡ is_some (or_else (cond b (Some (facility_of A c)) None) (added A k))
-    by_test true = refl
-    by_test false = ih
+added_after A (AddItem c item at) k ih = grind arith
 added_after A act k ih = ih
 
 added_somewhere : (A : History) (k : List ℕ) → is_added A k ≡ is_some (added A k)
@@ -82,9 +78,7 @@ pub in-listed : (k : List ℕ) (ks : List (List ℕ)) → IsIn k ks → list_any
 in-listed k ks i = in-any (same_text k) k ks i (text_refl k)
 
 some_rest : (S : Option (List ℕ)) (D : Option Facility) (inside : List ℕ → Rest) → is_some (or_else (option_map inside S) (option_map Loose D)) ≡ (is_some S || is_some D)
-some_rest (Some s) D inside = refl
-some_rest None (Some f) inside = refl
-some_rest None None inside = refl
+some_rest S D inside = grind arith
 
 abbrev last_bag : History → List ℕ → Option (List ℕ)
 last_bag A k = last_said (sealed_in k) A
@@ -96,27 +90,15 @@ sealed_added (entry ∷ A) h k s =
     said-then (sealed_in k entry.command.act) (last_bag A k) (added_at (facility_of A) k entry.command.act) (added A k)
     (by_act entry.command.act (took A entry h.0).no_fault (sealed_added A h.1 k)) (sealed_added A h.1 k) s
   where
-    join : (x y : Bool) → (x ≡ true → y ≡ true) → (x || y) ≡ true → y ≡ true
-    join true y g e = g refl
-    join false y g e = e
-
     by_act : (act : Act) → fault A act ≡ None → (is_some (last_bag A k) ≡ true → is_some (added A k) ≡ true) → is_some (sealed_in k act) ≡ true → is_some (added A k) ≡ true
     by_act (Seal c serial codes at) f ih e =
-        join (is_some (last_bag A k)) (is_some (added A k)) ih
-        (sym (some_rest (last_bag A k) (added A k) (rest_in A))
-        ∙ items_known A k codes (none_holds (conditions A (Seal c serial codes at)) f).1.0 (listed-in k codes (some-where (list_any (same_text k) codes) serial e)))
+        let r = items_known A k codes (none_holds (conditions A (Seal c serial codes at)) f).1.0 (listed-in k codes (some-where (list_any (same_text k) codes) serial e)) in
+        grind (arith, some_rest (last_bag A k) (added A k) (rest_in A))
     by_act act f ih e = absurd (false≢true e)
 
 -- an item is somewhere exactly where it was added
 pub added_rest : (A : History) → IsRegister A → (k : List ℕ) → list_any (λ i. same_text i k) (all_said added_item A) ≡ is_some (rest A k)
-added_rest A h k =
-    added_somewhere A k
-    ∙ join (is_some (last_bag A k)) (is_some (added A k)) (sealed_added A h k)
-    ∙ sym (some_rest (last_bag A k) (added A k) (rest_in A))
-  where
-    join : (x y : Bool) → (x ≡ true → y ≡ true) → y ≡ (x || y)
-    join true y f = f refl
-    join false y f = refl
+added_rest A h k = grind (arith, added_somewhere A k, sealed_added A h k, some_rest (last_bag A k) (added A k) (rest_in A))
 
 -- where an item is, by rows among which its own is
 rest-shown : (A : History) → IsRegister A → (of : Item → Bool) (k : List ℕ) → ((row : Item) → same_text row.code k ≡ true → of row ≡ true) → (rows : List Item)
@@ -132,25 +114,18 @@ rest-coded A h codes rows p k i = rest-shown A h (is_item_of (Items.Codes codes)
 
 -- SAFES
 
-or_false : (b : Bool) → (b || false) ≡ b
-or_false true = refl
-or_false false = refl
-
 open-safes : (A : History) (facility : Facility) (safe : SafeNumber) → is_open_by (safes A) facility safe ≡ is_safe_open A facility safe
-open-safes A East One = or_false (is_safe_open A East One)
-open-safes A East Two = or_false (is_safe_open A East Two)
-open-safes A West One = or_false (is_safe_open A West One)
-open-safes A West Two = or_false (is_safe_open A West Two)
+open-safes A East One = grind arith
+open-safes A East Two = grind arith
+open-safes A West One = grind arith
+open-safes A West Two = grind arith
 
 -- whether a safe is open, by the four rows in any order
 pub open-shown : (A : History) (rows : List SafeRow) → IsPermutation (safes A) rows → (facility : Facility) (safe : SafeNumber) → is_open_by rows facility safe ≡ is_safe_open A facility safe
 open-shown A rows p facility safe = sym (list_any-IsPermutation (opens facility safe) (safes A) rows p) ∙ open-safes A facility safe
 
 facility-same : (f g : Facility) → same_facility f g ≡ true → f ≡ g
-facility-same East East e = refl
-facility-same East West e = absurd (false≢true e)
-facility-same West East e = absurd (false≢true e)
-facility-same West West e = refl
+facility-same f g e = grind arith
 
 abbrev Placed : History → Facility → ℕ → BoxRow → Type 0
 Placed A f n row = is_box f n row ≡ true → place_of_box A f n ≡ Some row.place
@@ -173,15 +148,7 @@ placed_after A (AddBox facility number place) f n fine ih =
         (unmet _ Taken (none_holds (conditions A (AddBox facility number place)) fine).0)).0
 
     older : (row : BoxRow) → place_of_box A f n ≡ Some row.place → or_else (cond (same_facility facility f && eqb number n) (Some place) None) (place_of_box A f n) ≡ Some row.place
-    older row g = by_test (same_facility facility f && eqb number n) refl
-      where
-        by_test : (b : Bool) → (same_facility facility f && eqb number n) ≡ b → or_else (cond b (Some place) None) (place_of_box A f n) ≡ Some row.place
-        by_test false e = g
-        by_test true e =
-            let p = and_parts (same_facility facility f) (eqb number n) e in
-            let i : facility ≡ f = facility-same facility f p.0 in
-            let j : number ≡ n = eqb-true number n p.1 in
-            absurd (true≢false (sym (ap is_some g) ∙ ap (λ m. is_some (place_of_box A f m)) (sym j) ∙ ap (λ k. is_some (place_of_box A k number)) (sym i) ∙ free))
+    older row g = grind (arith, facility-same facility f, free)
 placed_after A act f n fine ih = ih
 
 placed : (A : History) → IsRegister A → (f : Facility) (n : ℕ) → AllByRecursion (Placed A f n) (boxes A)

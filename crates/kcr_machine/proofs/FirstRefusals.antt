@@ -1,5 +1,5 @@
 -- The first refusal of a list of conditions.
-use Rattle.std.proofs.Common.{◌≡◌, Bool, true, false, cond, not, List, [], ◌∷◌, ◌++◌, find, Option, Some, None, option_map, refl, sym, ap, ◌∙◌, inl, inr}
+use Rattle.std.proofs.Common.{◌≡◌, Bool, true, false, cond, not, List, [], ◌∷◌, ◌++◌, find, Option, Some, None, option_map, refl, sym, ap, ◌∙◌, inl, inr, arith}
 use Rattle.std.proofs.lemmas.Bool.{not-false}
 use Rattle.std.proofs.lemmas.Option.{none-some}
 use Rattle.kcr_base.specs.Refuse.{when, first_of}
@@ -27,18 +27,10 @@ nested (Some r ∷ os) xs = refl
 -- where no value of a list has a refusal, each has none
 pub none-first : {X : Type 0} (f : X → Option Refusal) (xs : List X) → first_with f xs ≡ None → (x : X) → IsIn x xs → f x ≡ None
 none-first f [] h x i = absurd i
-none-first f (y ∷ xs) h x i = by_own (f y) refl h (λ g j. none-first f xs g x j)
-  where
-    by_own : (o : Option Refusal) → f y ≡ o → or_else o (first_with f xs) ≡ None → (first_with f xs ≡ None → IsIn x xs → f x ≡ None) → f x ≡ None
-    by_own None e g later = elim i [ inl same ↦ ap f same ∙ e | inr j ↦ later g j ]
-    by_own (Some r) e g later = absurd (none-some r (sym g))
+none-first f (y ∷ xs) h x (inl e) = grind arith
+none-first f (y ∷ xs) h x (inr i) = none-first f xs (grind arith) x i
 
 -- the first value that a test finds is refused as the first of the list that has a refusal
 pub first-found : {X : Type 0} (p q : X → Bool) (refuse : X → Refusal) (xs : List X) → ((x : X) → IsIn x xs → p x ≡ q x) → option_map refuse (find p xs) ≡ first_with (λ x. when (q x) (refuse x)) xs
 first-found p q refuse [] h = refl
-first-found p q refuse (x ∷ xs) h = ap (λ b. option_map refuse (cond b (Some x) (find p xs))) (h x (inl refl)) ∙ by_test (q x) (first-found p q refuse xs (λ y i. h y (inr i)))
-  where
-    by_test : (b : Bool) → option_map refuse (find p xs) ≡ first_with (λ x. when (q x) (refuse x)) xs
-        → option_map refuse (cond b (Some x) (find p xs)) ≡ or_else (when b (refuse x)) (first_with (λ x. when (q x) (refuse x)) xs)
-    by_test true ih = refl
-    by_test false ih = ih
+first-found p q refuse (x ∷ xs) h = grind (arith, h x (inl refl), first-found p q refuse xs (λ y i. h y (inr i)))

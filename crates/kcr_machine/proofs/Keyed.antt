@@ -1,5 +1,5 @@
 -- Tables whose rows are functions of their keys: what is found among the rows that a view shows, in any order, and what a row put under its key makes of a table.
-use Rattle.std.proofs.Common.{◌≡◌, Bool, true, false, cond, ◌&&◌, ◌||◌, List, [], ◌∷◌, map, filter, find, Option, Some, None, option_map, is_some, refl, sym, ap, ◌∙◌, inl, inr}
+use Rattle.std.proofs.Common.{◌≡◌, Bool, true, false, cond, ◌&&◌, ◌||◌, List, [], ◌∷◌, map, filter, find, Option, Some, None, option_map, is_some, refl, sym, ap, ◌∙◌, inl, inr, arith}
 use Rattle.std.specs.Prelude.{unwrap_or}
 use Rattle.std.specs.List.{list_any, AllByRecursion}
 use Rattle.std.specs.List.Sorted.{IsPermutation}
@@ -21,12 +21,7 @@ any-map test f (x ∷ xs) = ap (λ b. test (f x) || b) (any-map test f xs)
 -- ROWS THAT ARE SHOWN: those of a table that pass `of`, in any order. Only such rows pass the test
 
 pub any-filter : {X : Type 0} (test of : X → Bool) → ((x : X) → test x ≡ true → of x ≡ true) → (rows : List X) → list_any test (filter of rows) ≡ list_any test rows
-any-filter test of inside rows = RoomLists.any-filter of test rows ∙ any-same (λ x. of x && test x) test rows (λ x. within (of x) (test x) (inside x))
-  where
-    within : (o t : Bool) → (t ≡ true → o ≡ true) → (o && t) ≡ t
-    within true t i = refl
-    within false true i = i refl
-    within false false i = refl
+any-filter test of inside rows = RoomLists.any-filter of test rows ∙ any-same (λ x. of x && test x) test rows (λ x. let i = inside x in grind arith)
 
 -- what the test finds in the table it finds among them
 pub any-shown : {X : Type 0} (test of : X → Bool) → ((x : X) → test x ≡ true → of x ≡ true) → (table rows : List X) → IsPermutation (filter of table) (filter of rows)
@@ -68,12 +63,7 @@ find-shown {X} test of inside table rows p only = by_row (find test table) refl
 pub said-shown : {X Y : Type 0} (test of : X → Bool) (v : X) (says : X → Y) (said : Option Y) (other : Y) → ((x : X) → test x ≡ true → of x ≡ true) → (table rows : List X)
     → IsPermutation (filter of table) (filter of rows) → AllByRecursion (λ x. test x ≡ true → x ≡ v) table → list_any test table ≡ is_some said → says v ≡ unwrap_or said other
     → option_map says (find test rows) ≡ said
-said-shown {X} {Y} test of v says said other inside table rows p only there own =
-    ap (option_map says) (found-shown test of v inside table rows p only ∙ ap (λ b. some_if b v) there) ∙ by_said said own
-  where
-    by_said : (o : Option Y) → says v ≡ unwrap_or o other → option_map says (some_if (is_some o) v) ≡ o
-    by_said None e = refl
-    by_said (Some y) e = ap Some e
+said-shown test of v says said other inside table rows p only there own = grind (arith, found-shown test of v inside table rows p only)
 
 -- THE SAME OF ROWS THAT ARE FUNCTIONS OF THEIR KEYS
 
@@ -106,7 +96,7 @@ put-first {K} same f g row keep ks new = put-new same row (map f ks) (any-map (s
   where
     kept : (ks : List K) → list_any (λ k. same row (f k)) ks ≡ false → map f ks ≡ map g ks
     kept [] h = refl
-    kept (k ∷ ks) h = let p = or_parts (same row (f k)) (list_any (λ k. same row (f k)) ks) h in rw (keep k p.0, kept ks p.1) refl
+    kept (k ∷ ks) h = grind (arith, keep k, kept ks)
 
 -- a row under a key that is there: g gives the new row at the key, and elsewhere what f gives
 put-there : {K X : Type 0} (same : X → X → Bool) (f g : K → X) (row : X) (ks : List K) → list_any (λ k. same row (f k)) ks ≡ true
@@ -114,13 +104,9 @@ put-there : {K X : Type 0} (same : X → X → Bool) (f g : K → X) (row : X) (
 put-there same f g row ks there now =
     rw (any-map (same row) f ks ∙ there) (map-map (λ old. cond (same row old) row old) f ks ∙ map-same-in (λ k. cond (same row (f k)) row (f k)) g ks now)
 
-by_key : {X : Type 0} (b : Bool) (row old new : X) → (b ≡ true → row ≡ new) → (b ≡ false → old ≡ new) → cond b row old ≡ new
-by_key true row old new here elsewhere = here refl
-by_key false row old new here elsewhere = elsewhere refl
-
 pub put-at : {K X : Type 0} (same : X → X → Bool) (f g : K → X) (row : X) → ((k : K) → same row (f k) ≡ true → row ≡ g k) → ((k : K) → same row (f k) ≡ false → f k ≡ g k) → (ks : List K)
     → list_any (λ k. same row (f k)) ks ≡ true → put same row (map f ks) ≡ map g ks
-put-at same f g row here elsewhere ks there = put-there same f g row ks there (λ k i. by_key (same row (f k)) row (f k) (g k) (here k) (elsewhere k))
+put-at same f g row here elsewhere ks there = put-there same f g row ks there (λ k i. grind (arith, here k, elsewhere k))
 
 -- rows under keys that are all there, one after the other: each that is put is the new row of its key
 module _ {K X : Type 0} (same : X → X → Bool) (is : K → K → Bool) (new : K → X) (new_key : (c k : K) → same (new c) (new k) ≡ is c k) (all : List K) where
@@ -131,23 +117,13 @@ module _ {K X : Type 0} (same : X → X → Bool) (is : K → K → Bool) (new :
       ap (put_all same (map new cs)) (put-there same f next (new c) all (any-same (λ k. same (new c) (f k)) (is c) all (key c) ∙ there c (inl refl)) now)
       ∙ put-rows cs (λ d i. there d (inr i)) (λ d k i. one d k (inr i)) next next-key
       ∙ map-same-in (λ k. cond (list_any (λ d. is d k) cs) (new k) (next k)) (λ k. cond (is c k || list_any (λ d. is d k) cs) (new k) (f k)) all
-      (λ k i. merge (list_any (λ d. is d k) cs) (is c k) (new k) (f k))
+      (λ k i. grind arith)
     where
       next : K → X
       next k = cond (is c k) (new k) (f k)
 
       now : (k : K) → IsIn k all → cond (same (new c) (f k)) (new c) (f k) ≡ next k
-      now k i = rw (key c k) (by_key (is c k) (new c) (f k) (next k) (λ e. rw e (one c k (inl refl) i e)) (λ e. rw e refl))
+      now k i = grind (arith, key c k, one c k (inl refl) i)
 
       next-key : (d k : K) → same (new d) (next k) ≡ is d k
-      next-key d k = by_test (is c k)
-        where
-          by_test : (b : Bool) → same (new d) (cond b (new k) (f k)) ≡ is d k
-          by_test true = new_key d k
-          by_test false = key d k
-
-      merge : (a b : Bool) (u v : X) → cond a u (cond b u v) ≡ cond (b || a) u v
-      merge true true u v = refl
-      merge true false u v = refl
-      merge false true u v = refl
-      merge false false u v = refl
+      next-key d k = grind (arith, new_key d k, key d k)

@@ -1,5 +1,5 @@
 -- What is in a list.
-use Rattle.std.proofs.Common.{◌≡◌, Bool, true, false, cond, List, [], ◌∷◌, ◌++◌, map, filter, find, Option, Some, None, refl, sym, ap, ◌∙◌, subst, ◌⊎◌, inl, inr}
+use Rattle.std.proofs.Common.{◌≡◌, Bool, true, false, cond, List, [], ◌∷◌, ◌++◌, map, filter, find, Option, Some, None, refl, sym, ap, ◌∙◌, subst, ◌⊎◌, inl, inr, arith}
 use Rattle.std.specs.List.{list_any, list_all, AllByRecursion, filter_map, cons_option}
 use Rattle.std.specs.List.Sorted.{IsPermutation}
 use Rattle.std.proofs.lemmas.Bool.{true≢false, false≢true, cases_Bool, or_left, or_right, false_from_ne_true}
@@ -37,48 +37,27 @@ map-in f x (z ∷ xs) (inr i) = inr (map-in f x xs i)
 
 pub in-filter_map : {X Y : Type 0} (f : X → Option Y) (y : Y) (xs : List X) → IsIn y (filter_map f xs) → (x : X) × IsIn x xs × (f x ≡ Some y)
 in-filter_map f y [] i = absurd i
-in-filter_map {X} {Y} f y (z ∷ xs) i = by_value (f z) refl i (λ j. let k = in-filter_map f y xs j in (k.0, inr k.1, k.2))
-  where
-    by_value : (o : Option Y) → f z ≡ o → IsIn y (cons_option o (filter_map f xs)) → (IsIn y (filter_map f xs) → (x : X) × IsIn x (z ∷ xs) × (f x ≡ Some y)) → (x : X) × IsIn x (z ∷ xs) × (f x ≡ Some y)
-    by_value None e j later = later j
-    by_value (Some v) e (inl same) later = (z, inl refl, e ∙ ap Some (sym same))
-    by_value (Some v) e (inr j) later = later j
+in-filter_map f y (z ∷ xs) i = grind (arith, in-filter_map f y xs)
 
 pub filter_map-in : {X Y : Type 0} (f : X → Option Y) (x : X) (y : Y) (xs : List X) → IsIn x xs → f x ≡ Some y → IsIn y (filter_map f xs)
 filter_map-in f x y [] i e = absurd i
 filter_map-in f x y (z ∷ xs) (inl same) e = rw (sym (ap f same) ∙ e) (inl refl)
-filter_map-in {X} {Y} f x y (z ∷ xs) (inr i) e = by_value (f z) (filter_map-in f x y xs i e)
-  where
-    by_value : (o : Option Y) → IsIn y (filter_map f xs) → IsIn y (cons_option o (filter_map f xs))
-    by_value None j = j
-    by_value (Some v) j = inr j
+filter_map-in f x y (z ∷ xs) (inr i) e = grind (arith, filter_map-in f x y xs i e)
 
 pub in-filter : {X : Type 0} (test : X → Bool) (x : X) (xs : List X) → IsIn x (filter test xs) → IsIn x xs × (test x ≡ true)
 in-filter test x [] i = absurd i
-in-filter {X} test x (z ∷ xs) i = by_test (test z) refl i (λ j. let k = in-filter test x xs j in (inr k.0, k.1))
-  where
-    by_test : (b : Bool) → test z ≡ b → IsIn x (cond b (z ∷ filter test xs) (filter test xs)) → (IsIn x (filter test xs) → IsIn x (z ∷ xs) × (test x ≡ true)) → IsIn x (z ∷ xs) × (test x ≡ true)
-    by_test true e (inl same) later = (inl same, ap test same ∙ e)
-    by_test true e (inr j) later = later j
-    by_test false e j later = later j
+in-filter test x (z ∷ xs) i = grind (arith, in-filter test x xs)
 
 pub filter-in : {X : Type 0} (test : X → Bool) (x : X) (xs : List X) → IsIn x xs → test x ≡ true → IsIn x (filter test xs)
 filter-in test x [] i t = absurd i
-filter-in test x (z ∷ xs) (inl same) t = rw (sym (ap test same) ∙ t) (inl same)
-filter-in test x (z ∷ xs) (inr i) t = by_test (test z) (filter-in test x xs i t)
-  where
-    by_test : (b : Bool) → IsIn x (filter test xs) → IsIn x (cond b (z ∷ filter test xs) (filter test xs))
-    by_test true j = inr j
-    by_test false j = j
+filter-in test x (z ∷ xs) (inl same) t = grind arith
+filter-in test x (z ∷ xs) (inr i) t = grind (arith, filter-in test x xs i t)
 
 -- TESTS
 
 pub any-in : {X : Type 0} (test : X → Bool) (xs : List X) → list_any test xs ≡ true → (x : X) × IsIn x xs × (test x ≡ true)
 any-in test [] h = absurd (false≢true h)
-any-in test (z ∷ xs) h = elim (cases_Bool (test z)) [
-  | inl e ↦ (z, inl refl, e)
-  | inr e ↦ let k = any-in test xs (rw e at h) in (k.0, inr k.1, k.2)
-]
+any-in test (z ∷ xs) h = grind (arith, any-in test xs)
 
 pub in-any : {X : Type 0} (test : X → Bool) (x : X) (xs : List X) → IsIn x xs → test x ≡ true → list_any test xs ≡ true
 in-any test x [] i t = absurd i
@@ -102,9 +81,7 @@ filter-none test [] h = refl
 filter-none test (x ∷ xs) h = rw (h x (inl refl)) (filter-none test xs (λ y i. h y (inr i)))
 
 pub same-answers : (a b : Bool) → (a ≡ true → b ≡ true) → (b ≡ true → a ≡ true) → a ≡ b
-same-answers true b f g = sym (f refl)
-same-answers false true f g = g refl
-same-answers false false f g = refl
+same-answers a b f g = grind arith
 
 -- WHAT AGREES ON A LIST
 

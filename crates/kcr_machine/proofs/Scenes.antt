@@ -43,28 +43,21 @@ turned a b h = false_from_ne_true (eqb a b) (λ e. true≢false (sym (eq-eqb b a
 
 -- by one more command something is said still
 pub still : {X : Type 0} (o p : Option X) → is_some p ≡ true → is_some (or_else o p) ≡ true
-still None p e = e
-still (Some x) p e = refl
+still o p e = grind arith
 
 -- what is said only after something else was said, by one more command as before it
 pub said-then : {X Y : Type 0} (o p : Option X) (q r : Option Y) → (is_some o ≡ true → is_some r ≡ true) → (is_some p ≡ true → is_some r ≡ true) → is_some (or_else o p) ≡ true → is_some (or_else q r) ≡ true
-said-then None p q r new old e = still q r (old e)
-said-then (Some x) p q r new old e = still q r (new refl)
+said-then o p q r new old e = grind arith
 
 pub some-where : {X : Type 0} (b : Bool) (x : X) → is_some (cond b (Some x) None) ≡ true → b ≡ true
-some-where true x e = refl
-some-where false x e = absurd (false≢true e)
+some-where b x e = grind arith
 
 -- THE CEREMONY
 
 -- a ceremony has a row where it was planned
 planned_after : (act : Act) (c : ℕ) (numbers : List ℕ) (plan : Option Planned) → list_any (λ k. eqb k c) numbers ≡ is_some plan
     → list_any (λ k. eqb k c) (cons_option (planned_number act) numbers) ≡ is_some (or_else (planned_as c act) plan)
-planned_after (Plan number facility day script) c numbers plan ih = by_test (eqb number c) (record { facility = facility; day = day; steps = result_unwrap_or (script_of script) [] })
-  where
-    by_test : (b : Bool) (new : Planned) → (b || list_any (λ k. eqb k c) numbers) ≡ is_some (or_else (cond b (Some new) None) plan)
-    by_test true new = refl
-    by_test false new = ih
+planned_after (Plan number facility day script) c numbers plan ih = grind arith
 planned_after act c numbers plan ih = ih
 
 pub planned-number : (A : History) (c : ℕ) → list_any (λ k. eqb k c) (all_said planned_number A) ≡ is_ceremony A c
@@ -94,13 +87,7 @@ opened-planned (entry ∷ A) h c e =
 
 -- the state of a row tells whether the ceremony is open
 pub open-state : (A : History) (c : ℕ) → is_open_row (Some (ceremony_row A c)) ≡ is_open A c
-open-state A c = by_both (closed A c) (opened A c)
-  where
-    by_both : (end begin : Option ℕ) → is_open_state (cond (is_some end) States.Closed (cond (is_some begin) States.Open States.Planned)) ≡ (is_some begin && is_none end)
-    by_both None None = refl
-    by_both None (Some at) = refl
-    by_both (Some at) None = refl
-    by_both (Some at) (Some now) = refl
+open-state A c = grind arith
 
 never-open : (A : History) → IsRegister A → (c : ℕ) → is_ceremony A c ≡ false → is_open A c ≡ false
 never-open A h c e = and_left (is_some (opened A c)) (is_none (closed A c)) (false_from_ne_true (is_some (opened A c)) (λ o. true≢false (sym (opened-planned A h c o) ∙ e)))
@@ -108,27 +95,15 @@ never-open A h c e = and_left (is_some (opened A c)) (is_none (closed A c)) (fal
 module _ (A : History) (c : ℕ) (rows : List CeremonyRow) (p : ShowsCeremony c (ceremonies A) rows) where
   -- whether there is such a ceremony
   pub known-shown : is_some (ceremony_by rows c) ≡ is_ceremony A c
-  known-shown = ap is_some (ceremony-shown A c rows p) ∙ by_test (is_ceremony A c)
-    where
-      by_test : (b : Bool) → is_some (some_if b (ceremony_row A c)) ≡ b
-      by_test true = refl
-      by_test false = refl
+  known-shown = grind (arith, ceremony-shown A c rows p)
 
   -- its facility
   pub facility-shown : facility_by (ceremony_by rows c) ≡ facility_of A c
-  facility-shown = ap facility_by (ceremony-shown A c rows p) ∙ by_plan (plan_of A c)
-    where
-      by_plan : (o : Option Planned) → facility_by (some_if (is_some o) (record (ceremony_row A c) { facility = unwrap_or (option_map (λ plan. plan.facility) o) East })) ≡ unwrap_or (option_map (λ plan. plan.facility) o) East
-      by_plan None = refl
-      by_plan (Some plan) = refl
+  facility-shown = grind (arith, ceremony-shown A c rows p)
 
   -- whether it is open
   pub is_open-shown : IsRegister A → is_open_row (ceremony_by rows c) ≡ is_open A c
-  is_open-shown h = ap is_open_row (ceremony-shown A c rows p) ∙ by_test (is_ceremony A c) refl
-    where
-      by_test : (b : Bool) → is_ceremony A c ≡ b → is_open_row (some_if b (ceremony_row A c)) ≡ is_open A c
-      by_test true e = open-state A c
-      by_test false e = sym (never-open A h c e)
+  is_open-shown h = grind (arith, ceremony-shown A c rows p, open-state A c, never-open A h c)
 
 -- MARKS
 
@@ -139,11 +114,7 @@ mark_with (Some new) c m = cond (eqb new.0 c) (Some (max_with new.1 m)) m
 
 greatest_with : (o : Option (ℕ × ℕ)) (c : ℕ) (ms : List (ℕ × ℕ)) → greatest (map (λ m. m.1) (filter (λ m. eqb m.0 c) (cons_option o ms))) ≡ mark_with o c (greatest (map (λ m. m.1) (filter (λ m. eqb m.0 c) ms)))
 greatest_with None c ms = refl
-greatest_with (Some new) c ms = by_test (eqb new.0 c)
-  where
-    by_test : (b : Bool) → greatest (map (λ m. m.1) (cond b (new ∷ filter (λ m. eqb m.0 c) ms) (filter (λ m. eqb m.0 c) ms))) ≡ cond b (Some (max_with new.1 (greatest (map (λ m. m.1) (filter (λ m. eqb m.0 c) ms))))) (greatest (map (λ m. m.1) (filter (λ m. eqb m.0 c) ms)))
-    by_test true = refl
-    by_test false = refl
+greatest_with (Some new) c ms = grind arith
 
 pub mark-after : (A : History) (entry : Entry) (c : ℕ) → mark (entry ∷ A) c ≡ mark_with (marked entry.command.act) c (mark A c)
 mark-after A entry c = greatest_with (marked entry.command.act) c (all_said marked A)
@@ -170,18 +141,10 @@ open-opened A c e = (and_parts (is_some (opened A c)) (is_none (closed A c)) e).
 -- a ceremony has a mark where it was opened
 mark_stays : (A : History) (c : ℕ) (o : Option (ℕ × ℕ)) → IsReady A o None → is_some (mark A c) ≡ is_some (opened A c) → is_some (mark_with o c (mark A c)) ≡ is_some (opened A c)
 mark_stays A c None r ih = ih
-mark_stays A c (Some new) r ih = by_test (eqb new.0 c) refl
-  where
-    by_test : (b : Bool) → eqb new.0 c ≡ b → is_some (cond b (Some (max_with new.1 (mark A c))) (mark A c)) ≡ is_some (opened A c)
-    by_test true e = sym (open-opened A c (subst (λ c. is_open A c ≡ true) (eqb-true new.0 c e) r.0))
-    by_test false e = ih
+mark_stays A c (Some new) r ih = grind (arith, open-opened A new.0 r.0)
 
 marked_opened_after : (A : History) (act : Act) (c : ℕ) → fault A act ≡ None → is_some (mark A c) ≡ is_some (opened A c) → is_some (mark_with (marked act) c (mark A c)) ≡ is_some (or_else (opening c act) (opened A c))
-marked_opened_after A (Open d at) c f ih = by_test (eqb d c)
-  where
-    by_test : (b : Bool) → is_some (cond b (Some (max_with at (mark A c))) (mark A c)) ≡ is_some (or_else (cond b (Some at) None) (opened A c))
-    by_test true = refl
-    by_test false = ih
+marked_opened_after A (Open d at) c f ih = grind arith
 marked_opened_after A act c f ih = mark_stays A c (marked act) (ready A act f) ih
 
 pub marked-opened : (A : History) → IsRegister A → (c : ℕ) → is_some (mark A c) ≡ is_some (opened A c)
@@ -191,11 +154,7 @@ marked-opened (entry ∷ A) h c = ap is_some (mark-after A entry c) ∙ marked_o
 -- a ceremony has a row of marks where it was opened
 opened_after : (act : Act) (c : ℕ) (numbers : List ℕ) (o : Option ℕ) → list_any (λ k. eqb k c) numbers ≡ is_some o
     → list_any (λ k. eqb k c) (cons_option (opened_number act) numbers) ≡ is_some (or_else (opening c act) o)
-opened_after (Open d at) c numbers o ih = by_test (eqb d c)
-  where
-    by_test : (b : Bool) → (b || list_any (λ k. eqb k c) numbers) ≡ is_some (or_else (cond b (Some at) None) o)
-    by_test true = refl
-    by_test false = ih
+opened_after (Open d at) c numbers o ih = grind arith
 opened_after act c numbers o ih = ih
 
 pub opened-number : (A : History) (c : ℕ) → list_any (λ k. eqb k c) (all_said opened_number A) ≡ is_some (opened A c)
@@ -262,10 +221,4 @@ scene-shown A h c at has_ca view p q =
 -- what an act of custody tests of its ceremony, behind some conditions, one after the other
 pub ready-by : (A : History) (c at : ℕ) (has_ca : Bool) (os rest : List (Option Refusal))
     → first_of (os ++ not_ready (scene_of A c at has_ca) ∷ rest) ≡ first_of (os ++ not_open A c ∷ late A c at ∷ full A ∷ rest)
-ready-by A c at has_ca os rest =
-    behind os (not_ready (scene_of A c at has_ca) ∷ rest) (not_open A c ∷ late A c at ∷ full A ∷ rest)
-    (nested (not_open A c ∷ Custody.late (mark A c) at ∷ full A ∷ []) rest ∙ ap (λ o. first_of (not_open A c ∷ o ∷ full A ∷ rest)) (by_mark (mark A c)))
-  where
-    by_mark : (m : Option ℕ) → Custody.late m at ≡ is_late at m
-    by_mark None = refl
-    by_mark (Some m) = refl
+ready-by A c at has_ca os rest = behind os (not_ready (scene_of A c at has_ca) ∷ rest) (not_open A c ∷ late A c at ∷ full A ∷ rest) (grind arith)
