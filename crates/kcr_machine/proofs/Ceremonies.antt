@@ -151,17 +151,11 @@ module _ (A : History) (h : IsRegister A) (key : List ℕ) (answer : Answer) (c 
 -- STEPS THAT ARE NEITHER SIGNED NOR PASSED
 
 undone-state : (state : StepState) → is_undone state ≡ not (is_done state)
-undone-state Undone = refl
-undone-state Signed = refl
-undone-state Passed = refl
+undone-state state = grind arith
 
 any-counted : {X : Type 0} (p : X → Bool) (xs : List X) → list_any p xs ≡ nat_lt 0 (length (filter p xs))
 any-counted p [] = refl
-any-counted p (x ∷ xs) = by_test (p x) (any-counted p xs)
-  where
-    by_test : (b : Bool) → list_any p xs ≡ nat_lt 0 (length (filter p xs)) → (b || list_any p xs) ≡ nat_lt 0 (length (cond b (x ∷ filter p xs) (filter p xs)))
-    by_test true ih = sym (lt-ltb 0 (length (x ∷ filter p xs)) (omega arith))
-    by_test false ih = ih
+any-counted p (x ∷ xs) = grind (arith, any-counted p xs)
 
 -- a step is left where not all were done: those that are shown are as many as the script has, done or not
 steps-shown : (A : History) → IsRegister A → (c : ℕ) (rows : List StepRow) → IsPermutation (filter (is_step_of c) (steps A)) (filter (is_step_of c) rows)
@@ -189,8 +183,7 @@ steps-shown A h c rows p =
 -- BAGS ON THE TABLE
 
 spent : (facility : Facility) (o : Option Spot) → is_on_table facility (Some (unwrap_or o Spent)) ≡ is_on_table facility o
-spent facility None = refl
-spent facility (Some at) = refl
+spent facility o = grind arith
 
 table-shown : (A : History) (facility : Facility) (rows : List Bag) → IsPermutation (bags A) rows → list_any (lies_on_table facility) rows ≡ list_any (λ serial. is_on_table facility (spot A serial)) (all_said sealed_serial A)
 table-shown A facility rows p =

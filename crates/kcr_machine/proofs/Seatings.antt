@@ -57,12 +57,7 @@ position_in same (y ∷ ys) x = if same x y then 0 else suc (position_in same ys
 position : {X : Type 0} (same : X → X → Bool) → ((a b : X) → same a b ≡ true → a ≡ b) → (d : X) (xs : List X) (x : X) → list_any (same x) xs ≡ true
     → (position_in same xs x < length xs) × (get_or xs (position_in same xs x) d ≡ x)
 position same is d [] x h = absurd (false≢true h)
-position {X} same is d (y ∷ ys) x h = by_test (same x y) refl h (position same is d ys x)
-  where
-    by_test : (b : Bool) → same x y ≡ b → (b || list_any (same x) ys) ≡ true → (list_any (same x) ys ≡ true → (position_in same ys x < length ys) × (get_or ys (position_in same ys x) d ≡ x))
-        → (cond b 0 (suc (position_in same ys x)) < suc (length ys)) × (get_or (y ∷ ys) (cond b 0 (suc (position_in same ys x))) d ≡ x)
-    by_test true e g ih = (omega arith, sym (is x y e))
-    by_test false e g ih = let q = ih g in (omega (arith, q.0), q.1)
+position same is d (y ∷ ys) x h = grind (arith, is x y, position same is d ys x)
 
 -- COUNTING
 
@@ -74,11 +69,7 @@ count-shift test (suc n) = omega (arith, count-shift test n)
 count-people : (test : List ℕ → Bool) (P : List (List ℕ)) → count_below (λ p. test (get_or P p [])) (length P) ≡ length (filter test P)
 unfolding count_below
 count-people test [] = refl
-count-people test (x ∷ P) = count-shift (λ p. test (get_or (x ∷ P) p [])) (length P) ∙ by_test (test x) (count-people test P)
-  where
-    by_test : (b : Bool) → count_below (λ p. test (get_or P p [])) (length P) ≡ length (filter test P) → cond b 1 0 + count_below (λ p. test (get_or P p [])) (length P) ≡ length (cond b (x ∷ filter test P) (filter test P))
-    by_test true ih = omega (arith, ih)
-    by_test false ih = omega (arith, ih)
+count-people test (x ∷ P) = grind (arith, count-shift (λ p. test (get_or (x ∷ P) p [])) (length P), count-people test P)
 
 count-agree : (f g : ℕ → Bool) (n : ℕ) → ((i : ℕ) → i < n → f i ≡ g i) → count_below f n ≡ count_below g n
 unfolding count_below
@@ -330,14 +321,14 @@ module _ (A : History) (c t : ℕ) (F : Seat → List ℕ → Bool) (L : List Se
     where
       by_seat : (o : Option Seat) → on_seat (fits A (facility_of A c) (day_of t)) o who ≡ on_seat (eligible A c t) o who
       by_seat None = refl
-      by_seat (Some seat) = sym (ap (λ b. b && fits A (facility_of A c) (day_of t) seat who) (sym (present_are_in (sheet A) who c t) ∙ e))
+      by_seat (Some seat) = grind (arith, present_are_in (sheet A) who c t)
 
   inside : (k : ℕ) (who : List ℕ) → on_seat (eligible A c t) (slice_get L k) who ≡ true → list_any (same_text who) (present A c t) ≡ true
   inside k who e = by_seat (slice_get L k) e
     where
       by_seat : (o : Option Seat) → on_seat (eligible A c t) o who ≡ true → list_any (same_text who) (present A c t) ≡ true
       by_seat None g = absurd (false≢true g)
-      by_seat (Some seat) g = present_are_in (sheet A) who c t ∙ (and_parts (is_in A who c t) (fits A (facility_of A c) (day_of t) seat who) g).0
+      by_seat (Some seat) g = grind (arith, present_are_in (sheet A) who c t)
 
   -- the first seating
   pub first-of : (w : List ℕ) → Search.IsFirst (fits_of F L (present A c t)) (length L) (length (present A c t)) w → IsFirst A c t L (map (λ p. get_or (present A c t) p []) w)

@@ -68,12 +68,7 @@ stays-shown table rows c people p h =
 
 -- a last stay elsewhere is the last stay, and is elsewhere
 is-last : (c : ℕ) (o : Option Stay) (s : Stay) → elsewhere c o ≡ Some s → (o ≡ Some s) × (of_ceremony c s ≡ false)
-is-last c None s e = absurd (none-some s e)
-is-last c (Some stay) s e = by_test (stay.ceremony == c) refl e
-  where
-    by_test : (b : Bool) → stay.ceremony == c ≡ b → cond b None (Some stay) ≡ Some s → (Some stay ≡ Some s) × (of_ceremony c s ≡ false)
-    by_test true f g = absurd (none-some s g)
-    by_test false f g = (g, ap (of_ceremony c) (sym (same_Some stay s g)) ∙ f)
+is-last c o s e = grind arith
 
 -- none of them is of the ceremony
 not-here : (stays : List Stay) (c : ℕ) (people : List (List ℕ)) → filter (of_ceremony c) (last_elsewhere stays c people) ≡ []
@@ -149,10 +144,7 @@ next-entries c before stays row =
     new = stay_from row (next_onto None row before)
 
     by_way : (b : Bool) → count_by (of_ceremony c) (cond b (new ∷ []) []) ≡ cond (b && row.ceremony == c) 1 0
-    by_way true = count-cons (of_ceremony c) new [] (row.ceremony == c) refl ∙ plus (cond (row.ceremony == c) 1 0)
-      where
-        plus : (n : ℕ) → n + 0 ≡ n
-        plus n = omega arith
+    by_way true = count-cons (of_ceremony c) new [] (row.ceremony == c) refl ∙ omega arith
     by_way false = refl
 
 entries-onto : (c : ℕ) (rows before : List SheetRow) (stays : List Stay) → count_by (of_ceremony c) (stays_onto before stays rows) ≡ count_by (of_ceremony c) stays + count_by (enters c) rows
@@ -174,11 +166,9 @@ overfull-stays rows c Ways.Leave = refl
 
 -- the first of them whose turn it is not
 pub turns-first : (A : History) (c : ℕ) (way : Way) (at : ℕ) (people : List (List ℕ)) → turn_refusal (find (is_out_of_turn_by (sheet A) c way at) people) ≡ first_with (out_of_turn A c way at) people
-turns-first A c way at people = told (find (is_out_of_turn_by (sheet A) c way at) people) ∙ first-found (is_out_of_turn_by (sheet A) c way at) (is_out_of_turn_by (sheet A) c way at) Turn people (λ who i. refl)
-  where
-    told : (o : Option (List ℕ)) → turn_refusal o ≡ option_map Turn o
-    told None = refl
-    told (Some who) = refl
+turns-first A c way at people =
+    let found = first-found (is_out_of_turn_by (sheet A) c way at) (is_out_of_turn_by (sheet A) c way at) Turn people (λ who i. refl) in
+    grind (arith, found)
 
 -- the people are in the register by their rows where they are by the history
 people-shown : (A : History) (rows : List Person) (all : List (List ℕ)) → IsPermutation (filter (is_of_people all) (people A)) (filter (is_of_people all) rows)
@@ -187,29 +177,17 @@ people-shown A rows all p who i =
     any-shown (λ row. same_text row.who who) (is_of_people all) (λ row h. in-any (same_text row.who) who all i h) (people A) rows p ∙ is_person-people A who
 
 lone-first : (o : Option ℕ) → lone_refusal o ≡ option_map Lone o
-lone-first None = refl
-lone-first (Some m) = refl
+lone-first o = grind arith
 
 -- one after the other
 flat : (l t c o : Option Refusal) (full over : Bool)
     → first_of (first_of (l ∷ t ∷ first_of (c ∷ o ∷ when (full || over) Full ∷ []) ∷ []) ∷ []) ≡ first_of (l ∷ t ∷ c ∷ o ∷ when over Full ∷ when full Full ∷ [])
-flat (Some r) t c o full over = refl
-flat None (Some r) c o full over = refl
-flat None None (Some r) o full over = refl
-flat None None None (Some r) full over = refl
-flat None None None None true true = refl
-flat None None None None true false = refl
-flat None None None None false true = refl
-flat None None None None false false = refl
+flat l t c o full over = grind arith
 
 -- whoever is named once is named apart
 pub named_once : (people : List (List ℕ)) → named_twice people ≡ None → are_apart people ≡ true
 named_once [] h = refl
-named_once (who ∷ people) h = by_test (list_any (same_text who) people) h (named_once people)
-  where
-    by_test : (b : Bool) → turn_refusal (cond b (Some who) (first_twice people)) ≡ None → (named_twice people ≡ None → are_apart people ≡ true) → (not b && are_apart people) ≡ true
-    by_test true e ih = absurd (none-some (Turn who) (sym e))
-    by_test false e ih = ih e
+named_once (who ∷ people) h = grind (arith, named_once people)
 
 -- what a request is refused for behind its mark, but for somebody named twice
 abbrev room_conditions : History → ℕ → Way → List (List ℕ) → ℕ → List (Option Refusal)
@@ -235,9 +213,7 @@ rows-conditions A c m way all at =
 
 -- the same where nobody is named twice, and where somebody is
 twice-first : (l n r : Option Refusal) (xs : List (Option Refusal)) → (n ≡ None → first_of (r ∷ []) ≡ first_of (l ∷ xs)) → first_of (first_of (l ∷ n ∷ r ∷ []) ∷ []) ≡ first_of (l ∷ n ∷ xs)
-twice-first (Some x) n r xs h = refl
-twice-first None (Some x) r xs h = refl
-twice-first None None r xs h = nested (r ∷ []) [] ∙ h refl
+twice-first l n r xs h = grind arith
 
 -- by the rows of a view a request is refused for its fault
 pub sheet-fault : (A : History) → IsRegister A → IsSheet (sheet A) → (c : ℕ) (way : Way) (all : List (List ℕ)) (at : ℕ) → FaultShown A (Sheet c way all at)

@@ -79,22 +79,7 @@ turns-each p (first ∷ people) h who (inr i) = turns-each p people (none-found 
 -- rows of which the last is before the moment are all before it
 all-before : (at : ℕ) (rows : List SheetRow) (last : Option SheetRow) → last_reaches at (last_onto last rows) ≡ false → (last_reaches at last ≡ false) × (list_any (λ row. nat_le at row.at) rows ≡ false)
 all-before at [] last h = (h, refl)
-all-before at (row ∷ rows) last h = by_last last (all-before at rows (later last row) h)
-  where
-    by_test : (other : SheetRow) (b : Bool) → nat_lt row.at other.at ≡ b → (last_reaches at (cond b (Some other) (Some row)) ≡ false) × (list_any (λ r. nat_le at r.at) rows ≡ false)
-        → (nat_le at other.at ≡ false) × ((nat_le at row.at || list_any (λ r. nat_le at r.at) rows) ≡ false)
-    by_test other true e g =
-        let l = leb-false at other.at g.0 in
-        let m = ltb-true row.at other.at e in
-        (g.0, rw (lt-leb at row.at (omega (arith, l, m)), g.1) refl)
-    by_test other false e g =
-        let l = leb-false at row.at g.0 in
-        let m = ltb-false row.at other.at e in
-        (lt-leb at other.at (omega (arith, l, m)), rw (g.0, g.1) refl)
-
-    by_last : (o : Option SheetRow) → (last_reaches at (later o row) ≡ false) × (list_any (λ r. nat_le at r.at) rows ≡ false) → (last_reaches at o ≡ false) × ((nat_le at row.at || list_any (λ r. nat_le at r.at) rows) ≡ false)
-    by_last None g = (refl, rw (g.0, g.1) refl)
-    by_last (Some other) g = by_test other (nat_lt row.at other.at) refl g
+all-before at (row ∷ rows) last h = grind (arith, all-before at rows (later last row) h)
 
 -- a person whose turn it is has no row of the moment
 row-fresh : (rows : List SheetRow) (c : ℕ) (way : Way) (at : ℕ) (who : List ℕ) → is_out_of_turn_by rows c way at who ≡ false → list_any (same_sheet_row (new_row c way at who)) (reverse rows) ≡ false
@@ -185,16 +170,7 @@ module _ (all shown : List Stay) (c at : ℕ) (people : List (List ℕ)) (clear 
       ap (put_all same_stay (map (closed people at) changed)) (sym (map-itself all))
       ∙ put-rows same_stay same_stay (closed people at) (λ x r. refl) all changed (λ x i. in-any (same_stay x) x all (changed-in x i) (same-stay x))
       (λ x r i j e. ap (closed people at) (only-one x r (changed-in x i) j e)) (λ r. r) (λ x r. refl)
-      ∙ map-same-in (λ r. cond (list_any (λ x. same_stay x r) changed) (closed people at r) r) (closed people at) all (λ r i. by_test r i (list_any (λ x. same_stay x r) changed) refl)
-    where
-      kept : (r : Stay) → IsIn r all → list_any (λ x. same_stay x r) changed ≡ false → (m o : Bool) → is_among people r.who ≡ m → is_open r.until ≡ o → r ≡ record r { until = cond (m && o) (Some at) r.until }
-      kept r i e true true f g = absurd (true≢false (sym (ends r i f g) ∙ e))
-      kept r i e true false f g = refl
-      kept r i e false o f g = refl
-
-      by_test : (r : Stay) → IsIn r all → (b : Bool) → list_any (λ x. same_stay x r) changed ≡ b → cond b (closed people at r) r ≡ closed people at r
-      by_test r i true e = refl
-      by_test r i false e = kept r i e (is_among people r.who) (is_open r.until) refl refl
+      ∙ map-same-in (λ r. cond (list_any (λ x. same_stay x r) changed) (closed people at r) r) (closed people at) all (λ r i. grind (arith, ends r i))
 
 -- the stays are put
 stays-put : (rows : List SheetRow) → IsSheet rows → (shown : List Stay) (c : ℕ) (way : Way) (at : ℕ) (people : List (List ℕ)) → are_apart people ≡ true

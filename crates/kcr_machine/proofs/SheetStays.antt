@@ -78,15 +78,13 @@ clear-order xs ys p h = record { apart = λ r s i j. h.apart r s (in-order r xs 
 pub before-enter : (stays : List Stay) (c at : ℕ) (who : List ℕ) → is_out_of_turn_in stays c Enter at who ≡ false → (r : Stay) → IsIn r stays → same_text r.who who ≡ true → (r.since < at) × EndsBy at r.until
 before-enter stays c at who h r i e =
     let p = or_parts (list_any (reaches who at) stays) (list_any (is_inside who) stays) h in
-    by_parts (same_text r.who who) e r.since r.until (none-in (reaches who at) r stays p.0 i) (none-in (is_inside who) r stays p.1 i)
+    let a = none-in (reaches who at) r stays p.0 i in
+    let b = none-in (is_inside who) r stays p.1 i in
+    by_until r.since r.until (grind arith) (grind arith) (grind arith)
   where
     by_until : (since : ℕ) (until : Option ℕ) → nat_le at since ≡ false → ends_from at until ≡ false → is_open until ≡ false → (since < at) × EndsBy at until
     by_until since None f g k = absurd (true≢false k)
     by_until since (Some u) f g k = let a = leb-false at since f in let b = leb-false at u g in (a, (u, refl, omega (arith, b)))
-
-    by_parts : (b : Bool) → b ≡ true → (since : ℕ) (until : Option ℕ) → (b && (nat_le at since || ends_from at until)) ≡ false → (b && is_open until) ≡ false → (since < at) × EndsBy at until
-    by_parts true k since until f g = let q = or_parts (nat_le at since) (ends_from at until) f in by_until since until q.0 q.1 g
-    by_parts false k since until f g = absurd (false≢true k)
 
 clear-enter : (stays : List Stay) (c at : ℕ) (who : List ℕ) → is_out_of_turn_in stays c Enter at who ≡ false → IsClear stays → IsClear (stays ++ new_stay c at who ∷ [])
 clear-enter stays c at who h clear = record { apart = λ r s i j. both r s (in-append r stays (new ∷ []) i) (in-append s stays (new ∷ []) j) }
@@ -235,14 +233,7 @@ of-reaches : (who : List ℕ) (at : ℕ) → IsOfLast who (reaches who at)
 of-reaches who at = (λ r h. (and_parts (same_text r.who who) (nat_le at r.since || ends_from at r.until) h).0, later)
   where
     later : (r s : Stay) → same_text s.who who ≡ true → r.since < s.since → EndsBy s.since r.until → reaches who at r ≡ true → reaches who at s ≡ true
-    later r s e l q h =
-        let p = (and_parts (same_text r.who who) (nat_le at r.since || ends_from at r.until) h).1 in
-        let g : (nat_le at r.since || nat_le at q.0) ≡ true = ap (λ o. nat_le at r.since || ends_from at o) (sym q.1) ∙ p in
-        let m : nat_le at s.since ≡ true = elim (or_cases (nat_le at r.since) (nat_le at q.0) g) [
-          | inl a ↦ let k = leb-true at r.since a in le-leb at s.since (omega (arith, k, l))
-          | inr a ↦ let k = leb-true at q.0 a in let n = q.2 in le-leb at s.since (omega (arith, k, n))
-        ] in
-        and_from (same_text s.who who) (nat_le at s.since || ends_from at s.until) e (ap (λ b. b || ends_from at s.until) m)
+    later r s e l q h = grind arith
 
 -- a test that only stays in the room pass
 of-inside : (who : List ℕ) (test : Stay → Bool) → ((r : Stay) → test r ≡ true → is_inside who r ≡ true) → IsOfLast who test

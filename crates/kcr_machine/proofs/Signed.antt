@@ -54,11 +54,7 @@ use Rattle.kcr_machine.proofs.StepRows.{ShowsSteps, done-shown, fresh-exception,
 
 -- whether the script has the step
 no_step-shown : (A : History) → IsRegister A → (c : ℕ) (view : View) → ShowsSteps c (steps A) view.steps.items → (k : ℕ) → is_none (step_by view.steps.items c k) ≡ is_none (step_at (steps_of A c) k)
-no_step-shown A h c view p k = ap is_none (step-shown A h c view.steps.items p k) ∙ by_step (step_at (steps_of A c) k)
-  where
-    by_step : (o : Option Step) → is_none (some_if (is_some o) (step_row A (c, k))) ≡ is_none o
-    by_step None = refl
-    by_step (Some x) = refl
+no_step-shown A h c view p k = grind (arith, step-shown A h c view.steps.items p k)
 
 pub sign-fault : (A : History) → IsRegister A → (c k at : ℕ) → FaultShown A (Sign c k at)
 sign-fault A h c k at key view v =

@@ -83,11 +83,7 @@ no_steps : (A : History) (c : ℕ) → is_ceremony A c ≡ false → steps_of A 
 no_steps A c h = unplanned (plan_of A c) h
 
 is_within : (steps : List Step) (n : ℕ) → is_some (step_at steps (suc n)) ≡ true → suc n ≤ length steps
-is_within steps n h = by_test (nat_le (length steps) n) refl
-  where
-    by_test : (b : Bool) → nat_le (length steps) n ≡ b → suc n ≤ length steps
-    by_test true e = absurd (false≢true (ap is_some (sym (slice_get_past steps n (leb-true (length steps) n e))) ∙ h))
-    by_test false e = leb-false (length steps) n e
+is_within steps n h = grind (arith, slice_get_past steps n)
 
 -- the step of a signature or of a passing exception that has no fault is in the script
 pub sign-there : (A : History) (c k at : ℕ) → fault A (Sign c k at) ≡ None → is_some (step_at (steps_of A c) k) ≡ true
@@ -108,8 +104,7 @@ next-there A (Except d text false at) c f e = absurd (false≢true (and_parts (d
 next-there A act c f e = absurd (false≢true e)
 
 one_below : (b : Bool) (n : ℕ) (ss : List Step) → (b ≡ true → is_some (step_at ss (suc n)) ≡ true) → n ≤ length ss → one_more b n ≤ length ss
-one_below true n ss inside l = is_within ss n (inside refl)
-one_below false n ss inside l = l
+one_below b n ss inside l = grind (arith, is_within ss n)
 
 -- a ceremony that is planned now had no steps
 new_planned : (A : History) (number : ℕ) (facility : Facility) (day : ℕ) (script : List ℕ) (c : ℕ) → fault A (Plan number facility day script) ≡ None → (number == c) ≡ true → steps_of A c ≡ []
@@ -118,12 +113,7 @@ new_planned A number facility day script c f q =
 
 below_after : (A : History) (act : Act) (answer : Answer) (key : List ℕ) (c : ℕ) → fault A act ≡ None → steps_done A c ≤ length (steps_of A c)
     → one_more (does_step c act) (steps_done A c) ≤ length (steps_of (record { command = record { key = key; act = act }; answer = answer } ∷ A) c)
-below_after A (Plan number facility day script) answer key c f ih = by_ceremony (number == c) refl
-  where
-    by_ceremony : (b : Bool) → (number == c) ≡ b
-        → steps_done A c ≤ length (unwrap_or (option_map (λ plan. plan.steps) (or_else (cond b (Some (record { facility = facility; day = day; steps = result_unwrap_or (script_of script) [] })) None) (plan_of A c))) [])
-    by_ceremony false q = ih
-    by_ceremony true q = let few : steps_done A c ≤ 0 = rw (new_planned A number facility day script c f q) at ih in omega (arith, few)
+below_after A (Plan number facility day script) answer key c f ih = grind (arith, new_planned A number facility day script c f)
 below_after A act answer key c f ih = one_below (does_step c act) (steps_done A c) (steps_of A c) (next-there A act c f) ih
 
 -- no more steps are done than the script has
@@ -142,11 +132,7 @@ few_script script = by_result (script_of script) refl
     by_result (Err row) e = omega arith
 
 few_after : (act : Act) (c : ℕ) (plan : Option Planned) → length (unwrap_or (option_map (λ plan. plan.steps) plan) []) ≤ 400 → length (unwrap_or (option_map (λ plan. plan.steps) (or_else (planned_as c act) plan)) []) ≤ 400
-few_after (Plan number facility day script) c plan ih = by_test (number == c)
-  where
-    by_test : (b : Bool) → length (unwrap_or (option_map (λ plan. plan.steps) (or_else (cond b (Some (record { facility = facility; day = day; steps = result_unwrap_or (script_of script) [] })) None) plan)) []) ≤ 400
-    by_test true = few_script script
-    by_test false = ih
+few_after (Plan number facility day script) c plan ih = grind (arith, few_script script)
 few_after act c plan ih = ih
 
 few-steps : (A : History) (c : ℕ) → length (steps_of A c) ≤ 400
@@ -165,11 +151,7 @@ other-keys c d i (s ∷ ss) e = rw e (other-keys c d (suc i) ss e)
 
 filter-stacked : {X : Type 0} (p : X → Bool) (xs ys : List X) → filter p (stacked_on xs ys) ≡ stacked_on (filter p xs) (filter p ys)
 filter-stacked p [] ys = refl
-filter-stacked p (x ∷ xs) ys = filter-stacked p xs (x ∷ ys) ∙ by_test (p x)
-  where
-    by_test : (b : Bool) → stacked_on (filter p xs) (cond b (x ∷ filter p ys) (filter p ys)) ≡ stacked_on (cond b (x ∷ filter p xs) (filter p xs)) (filter p ys)
-    by_test true = refl
-    by_test false = refl
+filter-stacked p (x ∷ xs) ys = grind (arith, filter-stacked p xs (x ∷ ys))
 
 -- the keys of a ceremony's steps in the table are those of its script
 keys-stacked : (A : History) → IsRegister A → (c : ℕ) → filter (λ key. key.0 == c) (step_keys A) ≡ stacked_on (numbered c 0 (steps_of A c)) []
@@ -178,15 +160,9 @@ keys-stacked (entry ∷ A) h c = by_act entry.command.act (took A entry h.0).no_
   where
     by_act : (act : Act) → fault A act ≡ None → filter (λ key. key.0 == c) (step_keys A) ≡ stacked_on (numbered c 0 (steps_of A c)) []
         → filter (λ key. key.0 == c) (step_keys_after act (step_keys A)) ≡ stacked_on (numbered c 0 (steps_of (record { command = record { key = entry.command.key; act = act }; answer = entry.answer } ∷ A) c)) []
-    by_act (Plan number facility day script) f ih = filter-stacked (λ key. key.0 == c) (numbered number 0 ss) (step_keys A) ∙ by_ceremony (number == c) refl
-      where
-        ss : List Step
-        ss = result_unwrap_or (script_of script) []
-
-        by_ceremony : (b : Bool) → (number == c) ≡ b → stacked_on (filter (λ key. key.0 == c) (numbered number 0 ss)) (filter (λ key. key.0 == c) (step_keys A))
-            ≡ stacked_on (numbered c 0 (unwrap_or (option_map (λ plan. plan.steps) (or_else (cond b (Some (record { facility = facility; day = day; steps = ss })) None) (plan_of A c))) [])) []
-        by_ceremony false q = rw (other-keys c number 0 ss q) ih
-        by_ceremony true q = rw (ih, new_planned A number facility day script c f q, eqb-true number c q, own-keys c 0 ss) refl
+    by_act (Plan number facility day script) f ih =
+        let ss = result_unwrap_or (script_of script) [] in
+        grind (arith, filter-stacked (λ key. key.0 == c) (numbered number 0 ss) (step_keys A), other-keys c number 0 ss, own-keys c 0 ss, new_planned A number facility day script c f)
     by_act act f ih = ih
 
 keys-order : (A : History) → IsRegister A → (c : ℕ) → IsPermutation (filter (λ key. key.0 == c) (step_keys A)) (numbered c 0 (steps_of A c))
@@ -219,12 +195,7 @@ steps-count A h c =
 -- no step of a ceremony that was not planned has a key
 pub keys-planned : (A : History) → IsRegister A → (c : ℕ) → is_ceremony A c ≡ false → list_any (λ key. key.0 == c) (step_keys A) ≡ false
 keys-planned A h c e =
-    any-same (λ key. key.0 == c) (λ key. key.0 == c && true) (step_keys A) (λ key. sym (and_true (key.0 == c)))
-    ∙ keys-any A h c (λ k. true) ∙ ap (λ ss. list_any (λ key. true) (numbered c 0 ss)) (no_steps A c e)
-  where
-    and_true : (b : Bool) → (b && true) ≡ b
-    and_true true = refl
-    and_true false = refl
+    any-same (λ key. key.0 == c) (λ key. key.0 == c && true) (step_keys A) (λ key. grind arith) ∙ keys-any A h c (λ k. true) ∙ ap (λ ss. list_any (λ key. true) (numbered c 0 ss)) (no_steps A c e)
 
 none_zero : (c i : ℕ) (ss : List Step) → list_any (λ key. key.1 == 0) (numbered c i ss) ≡ false
 none_zero c i [] = refl
@@ -247,21 +218,12 @@ has-step A h c k = keys-any A h c (λ j. j == k) ∙ by_number k
 
 count-numbered : (n c i : ℕ) (ss : List Step) → n ≤ i + length ss → tally (λ key. nat_le 1 key.1 && nat_le key.1 n) (numbered c i ss) ≡ n - i
 count-numbered n c i [] l = omega (arith, l)
-count-numbered n c i (s ∷ ss) l =
-    count-cons (λ key. nat_le 1 key.1 && nat_le key.1 n) (c, suc i) (numbered c (suc i) ss)
-    ∙ ap (one_more (nat_le 1 (suc i) && nat_le (suc i) n)) (count-numbered n c (suc i) ss (omega (arith, l)))
-    ∙ ap (λ b. one_more (b && nat_le (suc i) n) (n - suc i)) (le-leb 1 (suc i) (omega arith))
-    ∙ by_test (nat_le (suc i) n) refl
-  where
-    by_test : (b : Bool) → nat_le (suc i) n ≡ b → one_more b (n - suc i) ≡ n - i
-    by_test true e = omega (arith, leb-true (suc i) n e)
-    by_test false e = omega (arith, leb-false (suc i) n e)
+count-numbered n c i (s ∷ ss) l = grind (arith, count-numbered n c (suc i) ss)
 
 -- what became of a step is that it was signed or passed
 done_one : (b : Bool) (state : StepState) (at : ℕ) (fate : Option (StepState × ℕ)) → is_done state ≡ true → is_done (state_by fate) ≡ is_some fate
     → is_done (state_by (or_else (cond b (Some (state, at)) None) fate)) ≡ is_some (or_else (cond b (Some (state, at)) None) fate)
-done_one true state at fate e ih = e
-done_one false state at fate e ih = ih
+done_one b state at fate e ih = grind arith
 
 done_after : (c k : ℕ) (act : Act) (said : Option ℕ) (fate : Option (StepState × ℕ)) → is_done (state_by fate) ≡ is_some fate → is_done (state_by (or_else (step_done c k act said) fate)) ≡ is_some (or_else (step_done c k act said) fate)
 done_after c k (Sign d step at) said fate ih = done_one (d == c && step == k) Signed at fate refl ih
@@ -284,11 +246,7 @@ done-steps A h c =
     ∙ omega arith
   where
     here : (key : ℕ × ℕ) → (key.0 == c && is_done (state_by (fate_of A key.0 key.1))) ≡ (key.0 == c && is_some (fate_of A c key.1))
-    here key = by_test (key.0 == c) refl
-      where
-        by_test : (b : Bool) → (key.0 == c) ≡ b → (b && is_done (state_by (fate_of A key.0 key.1))) ≡ (b && is_some (fate_of A c key.1))
-        by_test false e = refl
-        by_test true e = done-fate A key.0 key.1 ∙ ap (λ d. is_some (fate_of A d key.1)) (eqb-true key.0 c e)
+    here key = grind (arith, done-fate A key.0 key.1)
 
 -- EXCEPTIONS
 
@@ -299,13 +257,10 @@ stated-exceptions (entry ∷ A) h c =
     by_act entry.command.act entry.answer t.people t.answer (stated-exceptions A h.1 c)
     ∙ sym (count-cons (λ entry. is_exception c entry.command.act) entry A)
   where
-    one_row : (d : ℕ) (row : ExceptionRow) → row.ceremony ≡ d → stated_by (exceptions A) c ≡ exceptions_of A c → tally (is_exception_of c) (row ∷ exceptions A) ≡ one_more (d == c) (exceptions_of A c)
-    one_row d row e ih = count-cons (is_exception_of c) row (exceptions A) ∙ ap (λ d. one_more (d == c) (stated_by (exceptions A) c)) e ∙ ap (one_more (d == c)) ih
-
     by_act : (act : Act) (answer : Answer) (people : Option (List (List ℕ))) → answer ≡ answer_to A act people → stated_by (exceptions A) c ≡ exceptions_of A c
         → stated_by (exceptions (record { command = record { key = entry.command.key; act = act }; answer = answer } ∷ A)) c ≡ one_more (is_exception c act) (exceptions_of A c)
-    by_act (Except d text true at) answer people e ih = rw e (one_row d (record { ceremony = d; exception = suc (exceptions_of A d); text = text; at = at; passed = Some (next_step A d) }) refl ih)
-    by_act (Except d text false at) answer people e ih = rw e (one_row d (record { ceremony = d; exception = suc (exceptions_of A d); text = text; at = at; passed = None }) refl ih)
+    by_act (Except d text true at) answer people e ih = rw e (grind arith)
+    by_act (Except d text false at) answer people e ih = rw e (grind arith)
     by_act act answer people e ih = ih
 
 -- THE ROWS THAT A VIEW SHOWS
@@ -392,31 +347,19 @@ fresh-seats (entry ∷ A) h c k j l =
     any-stacked (is_seat_of c k j) (seating_rows (ceremony_of_step entry.command.act) entry.answer.step entry.answer.seating) (seatings A)
     ∙ or_from _ _
     (ap (λ answer. list_any (is_seat_of c k j) (seating_rows (ceremony_of_step entry.command.act) answer.step answer.seating)) t.answer ∙ by_act entry.command.act t.people t.no_fault l2)
-    (fresh-seats A h.1 c k j (less (does_step c entry.command.act) (steps_done A c) l2))
+    (fresh-seats A h.1 c k j (grind arith))
   where
-    less : (b : Bool) (n : ℕ) → one_more b n < k → n < k
-    less true n q = omega (arith, q)
-    less false n q = q
-
     rows_of : (d s : ℕ) (people : Option (List (List ℕ))) → (d == c && s == k) ≡ false → list_any (is_seat_of c k j) (seating_rows (Some d) (Some s) people) ≡ false
     rows_of d s None e = refl
     rows_of d s (Some people) e = foreign-seats c k d s 0 j people e
 
-    other : (d s : ℕ) (b : Bool) → (d == c) ≡ b → s ≡ suc (steps_done A d) → one_more b (steps_done A c) < k → (d == c && s == k) ≡ false
-    other d s true e q l =
-        let same : d ≡ c = eqb-true d c e in
-        let number : s ≡ suc (steps_done A c) = q ∙ ap (λ d. suc (steps_done A d)) same in
-        and_right (d == c) (s == k) (ne_eqb s k (λ r. omega (arith, r, number, l)))
-    other d s false e q l = ap (λ b. b && s == k) e
-
-    and_one : (b : Bool) → one_more (b && true) (steps_done A c) < k → one_more b (steps_done A c) < k
-    and_one true q = q
-    and_one false q = q
+    other : (d s : ℕ) → s ≡ suc (steps_done A d) → one_more (d == c) (steps_done A c) < k → (d == c && s == k) ≡ false
+    other d s q l = let same : (d == c) ≡ true → steps_done A d ≡ steps_done A c = λ e. ap (steps_done A) (eqb-true d c e) in grind arith
 
     by_act : (act : Act) (people : Option (List (List ℕ))) → fault A act ≡ None → one_more (does_step c act) (steps_done A c) < k
         → list_any (is_seat_of c k j) (seating_rows (ceremony_of_step act) (answer_to A act people).step (answer_to A act people).seating) ≡ false
-    by_act (Sign d s at) people f l = rows_of d s people (other d s (d == c) refl (next_signed A d s at f) l)
-    by_act (Except d text true at) people f l = rows_of d (next_step A d) people (other d (next_step A d) (d == c) refl refl (and_one (d == c) l))
+    by_act (Sign d s at) people f l = rows_of d s people (other d s (next_signed A d s at f) l)
+    by_act (Except d text true at) people f l = rows_of d (next_step A d) people (other d (next_step A d) refl (grind arith))
     by_act (Except d text false at) people f l = refl
     by_act act people f l = refl
 
@@ -433,16 +376,8 @@ fresh-exception (entry ∷ A) h c j l =
     let l2 : one_more (is_exception c entry.command.act) (exceptions_of A c) < j = rw (count-cons (λ entry. is_exception c entry.command.act) entry A) at l in
     by_act entry.command.act entry.answer t.people t.answer l2 (fresh-exception A h.1 c j)
   where
-    other : (d : ℕ) (b : Bool) → (d == c) ≡ b → one_more b (exceptions_of A c) < j → (exceptions_of A c < j → list_any (is_numbered c j) (exceptions A) ≡ false)
-        → ((d == c && suc (exceptions_of A d) == j) || list_any (is_numbered c j) (exceptions A)) ≡ false
-    other d true e q ih =
-        let same : d ≡ c = eqb-true d c e in
-        let number : suc (exceptions_of A d) ≡ suc (exceptions_of A c) = ap (λ d. suc (exceptions_of A d)) same in
-        or_from (d == c && suc (exceptions_of A d) == j) _ (and_right (d == c) (suc (exceptions_of A d) == j) (ne_eqb (suc (exceptions_of A d)) j (λ r. omega (arith, r, number, q)))) (ih (omega (arith, q)))
-    other d false e q ih = or_from (d == c && suc (exceptions_of A d) == j) _ (ap (λ b. b && suc (exceptions_of A d) == j) e) (ih q)
-
     by_act : (act : Act) (answer : Answer) (people : Option (List (List ℕ))) → answer ≡ answer_to A act people → one_more (is_exception c act) (exceptions_of A c) < j → (exceptions_of A c < j → list_any (is_numbered c j) (exceptions A) ≡ false)
         → list_any (is_numbered c j) (exceptions (record { command = record { key = entry.command.key; act = act }; answer = answer } ∷ A)) ≡ false
-    by_act (Except d text true at) answer people e l ih = rw e (other d (d == c) refl l ih)
-    by_act (Except d text false at) answer people e l ih = rw e (other d (d == c) refl l ih)
+    by_act (Except d text true at) answer people e l ih = rw e (grind arith)
+    by_act (Except d text false at) answer people e l ih = rw e (grind arith)
     by_act act answer people e l ih = ih l
