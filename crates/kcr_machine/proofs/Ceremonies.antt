@@ -1,5 +1,5 @@
 -- Planning, opening and closing: whether the rows let a ceremony be planned, opened or closed, and the rows of one that is.
-use Rattle.std.proofs.Common.{◌≡◌, ℕ, Bool, true, false, cond, not, ◌&&◌, eqb, nat_lt, List, [], ◌∷◌, ◌++◌, map, Option, Some, None, refl, sym, ap, ◌∙◌, subst, suc, ◌+◌, ◌||◌, filter, length, arith, ◌≤◌, add-one}
+use Rattle.std.proofs.Common.{◌≡◌, ℕ, Bool, true, false, not, ◌&&◌, eqb, nat_lt, List, [], ◌∷◌, ◌++◌, map, Option, Some, None, refl, sym, ap, ◌∙◌, subst, suc, ◌+◌, filter, length, arith, ◌≤◌, add-one}
 use Rattle.std.specs.Prelude.{is_some, unwrap_or, slice_get}
 use Rattle.std.specs.List.{list_any}
 use Rattle.std.specs.List.Sorted.{IsPermutation}
@@ -44,7 +44,7 @@ use Rattle.kcr_custody.specs.Custody.{is_on_table}
 use Rattle.kcr_script.specs.declared.script.Step.{Step}
 use Rattle.kcr_history.specs.declared.rows.StepRow.{StepRow}
 use Rattle.kcr_history.specs.declared.rows.StepState.{StepState}
-use Rattle.kcr_history.specs.declared.rows.StepState.TheVariants.{Undone, Signed, Passed}
+use Rattle.kcr_history.specs.declared.rows.StepState.TheVariants.{Signed, Passed}
 use Rattle.kcr_history.specs.Custody.{spot}
 use Rattle.kcr_scene.specs.Signing.{is_done}
 use Rattle.kcr_laws.proofs.Done.{none-there}

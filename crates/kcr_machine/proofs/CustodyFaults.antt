@@ -1,5 +1,5 @@
 -- The first refusal of an act of custody, on a box, an item, a safe or a bag, by the rows of a view, is its fault by the history.
-use Rattle.std.proofs.Common.{◌≡◌, ℕ, Bool, false, not, List, [], ◌∷◌, Option, Some, None, is_some, is_none, refl, ap, ◌∙◌, ◌||◌, inl, reverse}
+use Rattle.std.proofs.Common.{◌≡◌, ℕ, Bool, false, not, List, [], ◌∷◌, Option, Some, None, is_some, is_none, refl, ap, ◌∙◌, ◌||◌, inl, reverse, arith}
 use Rattle.std.specs.Prelude.{option_and_then}
 use Rattle.std.specs.List.{list_any, list_all, cons_option}
 use Rattle.std.specs.List.Sorted.{IsPermutation}
@@ -73,8 +73,7 @@ no_holder-shown A h c at view p inside facility box =
     ∙ ap (option_and_then (λ place. when (not (has_holder_in A place c at)) (Absent (Absentees.Place place)))) (place_of-shown A h view.boxes.items p facility box)
   where
     by_place : (o : Option Place) → Custody.no_holder o (has_keeper_by view c at o) ≡ option_and_then (λ place. when (not (has_holder_in A place c at)) (Absent (Absentees.Place place))) o
-    by_place None = refl
-    by_place (Some place) = ap (λ b. when (not b) (Absent (Absentees.Place place))) (inside place)
+    by_place o = grind (arith, inside)
 
 -- ITEMS
 

@@ -1,10 +1,9 @@
 -- The rows that an act of custody puts, on a box, an item, a safe or a bag, lead from the tables before it to those after it.
-use Rattle.std.proofs.Common.{◌≡◌, ℕ, Bool, true, false, cond, not, ◌&&◌, List, [], ◌∷◌, map, filter, Option, Some, None, option_map, is_some, is_none, refl, sym, ap, ◌∙◌, ◌++◌, subst}
+use Rattle.std.proofs.Common.{◌≡◌, ℕ, Bool, true, false, cond, not, ◌&&◌, List, [], ◌∷◌, map, filter, Option, Some, None, option_map, is_some, is_none, refl, sym, ap, ◌∙◌, ◌++◌, subst, arith}
 use Rattle.std.specs.Prelude.{unwrap_or}
 use Rattle.std.specs.List.{list_any}
 use Rattle.std.specs.List.Sorted.{IsPermutation}
 use Rattle.std.proofs.lemmas.List.Sorted.{IsPermutation-sym}
-use Rattle.std.proofs.lemmas.Bool.{true≢false, false≢true}
 use Rattle.kcr_base.proofs.RefuseLemmas.{none_holds, unmet}
 use Rattle.kcr_base.specs.Refuse.{when}
 use Rattle.kcr_base.specs.Rows.{or_else, put, put_all}
@@ -17,9 +16,8 @@ use Rattle.kcr_custody.specs.declared.Item.{Item}
 use Rattle.kcr_custody.specs.declared.Rest.{Rest}
 use Rattle.kcr_custody.specs.declared.Rest.TheVariants.{Loose, Within}
 use Rattle.kcr_custody.specs.declared.Spot.{Spot}
-use Rattle.kcr_custody.specs.declared.Spot.TheVariants.{Table, Equipment, InBox, Spent}
+use Rattle.kcr_custody.specs.declared.Spot.TheVariants.{Table, Spent}
 use Rattle.kcr_custody.specs.declared.Store.{Store}
-use Rattle.kcr_custody.specs.declared.Store.TheVariants.{SafeOne, Boxed}
 use Rattle.kcr_custody.specs.Balance.{same_bag, same_item, same_box}
 use Rattle.kcr_custody.specs.Custody.{is_on_table, safe_of, is_within, lies_in, within, loosened, packed, spot_of_store, same_safe}
 use Rattle.kcr_history.specs.declared.commands.Act.{Act}
@@ -46,7 +44,6 @@ use Rattle.kcr_history.proofs.Stacked.{or_parts}
 use Rattle.kcr_room.proofs.Lists.{map-same, map-map}
 use Rattle.kcr_base.specs.declared.refusal.Thing.TheVariants as Things
 use Rattle.kcr_machine.proofs.BagsWords.{added_rest, in-listed, items_known, listed-in}
-use Rattle.kcr_machine.proofs.FirstRefusals.{met}
 use Rattle.kcr_machine.proofs.Keyed.{put-at, put-first, put-new, put-rows}
 use Rattle.kcr_machine.proofs.Leads.{LeadsOn, changed_by-rows, command_of, entry_as, new_key}
 use Rattle.kcr_machine.proofs.Members.{IsIn, filter-in, in-any, in-filter, in-map, in-order, map-in, map-same-in, same-answers}
@@ -109,11 +106,7 @@ added A k = option_map Loose (last_told (λ before. added_at (facility_of before
 
 -- an item that is nowhere was never sealed
 no_bag_yet : (A : History) (k : List ℕ) → is_some (rest A k) ≡ false → last_bag A k ≡ None
-no_bag_yet A k h = by_bag (last_bag A k) h
-  where
-    by_bag : (o : Option (List ℕ)) → is_some (or_else (option_map (rest_in A) o) (added A k)) ≡ false → o ≡ None
-    by_bag None e = refl
-    by_bag (Some s) e = absurd (true≢false e)
+no_bag_yet A k h = grind arith
 
 -- its row is put in front, and the others stay
 items-added : (A : History) → IsRegister A → (key : List ℕ) (answer : Answer) (c : ℕ) (item : List ℕ) (at : ℕ) → is_some (rest A item) ≡ false
@@ -165,11 +158,7 @@ loosed A s = Loose (unwrap_or (last_told (λ before. cut_at (facility_of before)
 -- a bag that is not spent, moved to where it is not either, leaves its items in it
 still_in : (A : History) (t : List ℕ) (to : Spot) → is_spent (spot A t) ≡ false → is_spent (Some to) ≡ false → (s : List ℕ)
     → rest_in A s ≡ cond (is_spent (or_else (cond (same_text t s) (Some to) None) (spot A s))) (loosed A s) (Within s)
-still_in A t to u v s = by_test (same_text t s) refl
-  where
-    by_test : (b : Bool) → same_text t s ≡ b → rest_in A s ≡ cond (is_spent (or_else (cond b (Some to) None) (spot A s))) (loosed A s) (Within s)
-    by_test false e = refl
-    by_test true e = let q : t ≡ s = text_same t s e in ap (λ b. cond b (loosed A s) (Within s)) (ap (λ k. is_spent (spot A k)) (sym q) ∙ u ∙ sym v)
+still_in A t to u v s = grind (arith, text_same t s)
 
 items_stay : (A : History) (t : List ℕ) (to : Spot) → is_spent (spot A t) ≡ false → is_spent (Some to) ≡ false → (ks : List (List ℕ))
     → map (item_row A) ks
@@ -177,37 +166,23 @@ items_stay : (A : History) (t : List ℕ) (to : Spot) → is_spent (spot A t) �
 items_stay A t to u v ks = map-same (item_row A) _ ks (λ k. ap (λ o. record { code = k; rest = unwrap_or (or_else o (added A k)) (Loose East) }) (in_bag (last_bag A k)))
   where
     in_bag : (o : Option (List ℕ)) → option_map (rest_in A) o ≡ option_map (λ s. cond (is_spent (or_else (cond (same_text t s) (Some to) None) (spot A s))) (loosed A s) (Within s)) o
-    in_bag None = refl
-    in_bag (Some s) = ap Some (still_in A t to u v s)
+    in_bag o = grind (arith, still_in A t to u v)
 
 -- a bag in a safe is not spent, nor is one on a table
-unspent : (o : Option Spot) → (o ≡ Some Spent → ⊥) → is_spent o ≡ false
-unspent None h = refl
-unspent (Some (Table f)) h = refl
-unspent (Some (Equipment f)) h = refl
-unspent (Some (InBox f number)) h = refl
-unspent (Some Spent) h = absurd (h refl)
-
 stored : (facility : Facility) (o : Option Spot) → when (is_none (safe_of facility o)) Elsewhere ≡ None → is_spent o ≡ false
-stored facility o m = unspent o (λ e. true≢false (rw e at (unmet (is_none (safe_of facility o)) Elsewhere m)))
+stored facility o m = grind arith
 
 on_table : (facility : Facility) (o : Option Spot) → when (not (is_on_table facility o)) Elsewhere ≡ None → is_spent o ≡ false
-on_table facility o m = unspent o (λ e. false≢true (rw e at (met (is_on_table facility o) Elsewhere m)))
+on_table facility o m = grind arith
 
 stored_there : (facility : Facility) (to : Store) → is_spent (Some (spot_of_store facility to)) ≡ false
-stored_there facility SafeOne = refl
-stored_there facility (Boxed number) = refl
+stored_there facility to = grind arith
 
 -- ITEMS THAT ARE SEALED
 
 sealed_spot_after : (A : History) (act : Act) (k s : List ℕ) → (last_said (sealed_in k) A ≡ Some s → is_some (spot A s) ≡ true)
     → or_else (sealed_in k act) (last_said (sealed_in k) A) ≡ Some s → is_some (or_else (moved (facility_of A) s act) (spot A s)) ≡ true
-sealed_spot_after A (Seal c serial codes at) k s ih e = by_test (list_any (same_text k) codes) e
-  where
-    by_test : (b : Bool) → or_else (cond b (Some serial) None) (last_said (sealed_in k) A) ≡ Some s
-        → is_some (or_else (cond (same_text serial s) (Some (Table (facility_of A c))) None) (spot A s)) ≡ true
-    by_test true g = let q : serial ≡ s = (let w : Some serial ≡ Some s = g in cc) in rw (q, text_refl s)
-    by_test false g = still (cond (same_text serial s) (Some (Table (facility_of A c))) None) (spot A s) (ih g)
+sealed_spot_after A (Seal c serial codes at) k s ih e = grind (arith, text_refl s)
 sealed_spot_after A act k s ih e = still (moved (facility_of A) s act) (spot A s) (ih e)
 
 -- a bag that an item was sealed in is somewhere
@@ -218,31 +193,7 @@ sealed_spot (entry ∷ A) k s e = sealed_spot_after A entry.command.act k s (sea
 -- an item's row, in the new bag or as it was
 sealed_row : (A : History) (key : List ℕ) (c : ℕ) (serial : List ℕ) (codes : List (List ℕ)) (at : ℕ) (answer : Answer) → is_some (spot A serial) ≡ false → (k : List ℕ)
     → cond (list_any (same_text k) codes) (within serial k) (item_row A k) ≡ item_row (then_act A key (Seal c serial codes at) answer) k
-sealed_row A key c serial codes at answer n k = by_test (list_any (same_text k) codes)
-  where
-    bag : Option Spot → List ℕ → Option Spot
-    bag old s = or_else (cond (same_text serial s) (Some (Table (facility_of A c))) None) old
-
-    in_new : cond (is_spent (bag (spot A serial) serial)) (loosed A serial) (Within serial) ≡ Within serial
-    in_new = rw (text_refl serial)
-
-    in_old : (o : Option (List ℕ)) → ((s : List ℕ) → o ≡ Some s → is_some (spot A s) ≡ true)
-        → or_else (option_map (rest_in A) o) (added A k)
-        ≡ or_else (option_map (λ s. cond (is_spent (bag (spot A s) s)) (loosed A s) (Within s)) o) (added A k)
-    in_old None f = refl
-    in_old (Some s) f = ap Some (one (same_text serial s) refl)
-      where
-        one : (b : Bool) → same_text serial s ≡ b → rest_in A s ≡ cond (is_spent (or_else (cond b (Some (Table (facility_of A c))) None) (spot A s))) (loosed A s) (Within s)
-        one true e = let q : serial ≡ s = text_same serial s e in absurd (true≢false (sym (f s refl) ∙ ap (λ t. is_some (spot A t)) (sym q) ∙ n))
-        one false e = refl
-
-    by_test : (b : Bool) → cond b (within serial k) (item_row A k)
-        ≡ record {
-          code = k;
-          rest = unwrap_or (or_else (option_map (λ s. cond (is_spent (bag (spot A s) s)) (loosed A s) (Within s)) (or_else (cond b (Some serial) None) (last_bag A k))) (added A k)) (Loose East);
-        }
-    by_test true = ap (λ r. record { code = k; rest = r }) (sym in_new)
-    by_test false = ap (λ o. record { code = k; rest = unwrap_or o (Loose East) }) (in_old (last_bag A k) (sealed_spot A k))
+sealed_row A key c serial codes at answer n k = grind (arith, text_refl serial, text_same serial, sealed_spot A k)
 
 items-seal : (A : History) → IsRegister A → (key : List ℕ) (c : ℕ) (serial : List ℕ) (codes : List (List ℕ)) (at : ℕ) (answer : Answer) → fault A (Seal c serial codes at) ≡ None
     → put_all same_item (packed serial codes) (items A) ≡ items (then_act A key (Seal c serial codes at) answer)
@@ -261,33 +212,7 @@ itemed code rest = record { code = code; rest = rest }
 -- an item's row, loose where its bag was cut or as it was
 cut_row : (A : History) (key : List ℕ) (c : ℕ) (t : List ℕ) (at : ℕ) (answer : Answer) → is_spent (spot A t) ≡ false → (k : List ℕ)
     → cond (is_within t (unwrap_or (rest A k) (Loose East))) (itemed k (Loose (facility_of A c))) (item_row A k) ≡ item_row (then_act A key (Cut c t at) answer) k
-cut_row A key c t at answer n k = by_bag (last_said (sealed_in k) A) (added A k) (outside (last_told (λ before. added_at (facility_of before) k) A))
-  where
-    outside : (o : Option Facility) → is_within t (unwrap_or (option_map Loose o) (Loose East)) ≡ false
-    outside None = refl
-    outside (Some f) = refl
-
-    loosed_now : List ℕ → Rest
-    loosed_now s = Loose (unwrap_or (or_else (cond (same_text t s) (Some (facility_of A c)) None) (last_told (λ before. cut_at (facility_of before) s) A)) East)
-
-    now : List ℕ → Rest
-    now s = cond (is_spent (or_else (cond (same_text t s) (Some Spent) None) (spot A s))) (loosed_now s) (Within s)
-
-    one : (s : List ℕ) (b : Bool) → same_text t s ≡ b → cond (is_within t (rest_in A s)) (itemed k (Loose (facility_of A c))) (itemed k (rest_in A s))
-        ≡ itemed k (cond (is_spent (or_else (cond b (Some Spent) None) (spot A s))) (Loose (unwrap_or (or_else (cond b (Some (facility_of A c)) None) (last_told (λ before. cut_at (facility_of before) s) A)) East)) (Within s))
-    one s true e = let q : t ≡ s = text_same t s e in rw (← q, n, text_refl t)
-    one s false e = by_spent (is_spent (spot A s))
-      where
-        by_spent : (x : Bool) → cond (is_within t (cond x (loosed A s) (Within s))) (itemed k (Loose (facility_of A c))) (itemed k (cond x (loosed A s) (Within s)))
-            ≡ itemed k (cond x (loosed A s) (Within s))
-        by_spent true = refl
-        by_spent false = rw (text_flip s t, e)
-
-    by_bag : (o : Option (List ℕ)) (d : Option Rest) → is_within t (unwrap_or d (Loose East)) ≡ false
-        → cond (is_within t (unwrap_or (or_else (option_map (rest_in A) o) d) (Loose East))) (itemed k (Loose (facility_of A c))) (itemed k (unwrap_or (or_else (option_map (rest_in A) o) d) (Loose East)))
-        ≡ itemed k (unwrap_or (or_else (option_map now o) d) (Loose East))
-    by_bag None d m = rw m
-    by_bag (Some s) d m = one s (same_text t s) refl
+cut_row A key c t at answer n k = grind (arith, text_refl t, text_same t, text_flip t)
 
 abbrev itemed_loose : Facility → List ℕ → Item
 itemed_loose facility code = record { code = code; rest = Loose facility }

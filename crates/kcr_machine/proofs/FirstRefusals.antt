@@ -1,9 +1,7 @@
 -- The first refusal of a list of conditions.
-use Rattle.std.proofs.Common.{◌≡◌, Bool, true, false, cond, not, List, [], ◌∷◌, ◌++◌, find, Option, Some, None, option_map, refl, sym, ap, ◌∙◌, inl, inr, arith}
+use Rattle.std.proofs.Common.{◌≡◌, Bool, true, not, List, [], ◌∷◌, ◌++◌, find, Option, Some, None, option_map, refl, inl, inr, arith}
 use Rattle.std.proofs.lemmas.Bool.{not-false}
-use Rattle.std.proofs.lemmas.Option.{none-some}
 use Rattle.kcr_base.specs.Refuse.{when, first_of}
-use Rattle.kcr_base.specs.Rows.{or_else}
 use Rattle.kcr_base.specs.declared.refusal.Refusal.{Refusal}
 use Rattle.kcr_base.proofs.RefuseLemmas.{unmet}
 use Rattle.kcr_history.specs.Conditions.{first_with}

@@ -1,9 +1,7 @@
 -- Who is in a room, who is trained and who holds a place: by the rows that a view shows, as by the history.
-use Rattle.std.proofs.Common.{◌≡◌, ℕ, true, false, ◌&&◌, ◌==◌, nat_le, List, map, filter, reverse, Option, Some, None, option_map, refl, sym, ap, ◌∙◌}
-use Rattle.std.specs.Prelude.{unwrap_or}
+use Rattle.std.proofs.Common.{◌≡◌, ℕ, true, List, map, filter, reverse, option_map, refl, sym, ap, ◌∙◌, arith}
 use Rattle.std.specs.List.{list_any}
 use Rattle.std.specs.List.Sorted.{IsPermutation}
-use Rattle.std.proofs.lemmas.Bool.{and_parts}
 use Rattle.std.proofs.lemmas.List.Sorted.{IsPermutation-reverse}
 use Rattle.kcr_base.specs.Days.{day_of}
 use Rattle.kcr_base.specs.Same.{same_text}
@@ -46,7 +44,7 @@ abbrev pub ShowsRoom : ℕ → List Stay → List Stay → Type 0
 ShowsRoom c table rows = IsPermutation (filter (is_stay_of c) table) (filter (is_stay_of c) rows)
 
 holds-of : (c t : ℕ) (stay : Stay) → Stays.holds c t stay ≡ true → is_stay_of c stay ≡ true
-holds-of c t stay h = (and_parts (stay.ceremony == c) (nat_le stay.since t) (and_parts ((stay.ceremony == c) && nat_le stay.since t) (lasts_at t stay.until) h).0).0
+holds-of c t stay h = grind arith
 
 present-own : (stays : List Stay) (c t : ℕ) → present_in_by (filter (is_stay_of c) stays) c t ≡ present_in_by stays c t
 present-own stays c t = ap (λ some. ascending (map (λ stay. stay.who) some)) (filter-kept (Stays.holds c t) (is_stay_of c) stays (holds-of c t))
@@ -96,9 +94,5 @@ holder-shown A h rows p place day =
 pub holder_in-shown : (A : History) → IsRegister A → (view : View) (c : ℕ) → ShowsRoom c (reverse (stays_by (sheet A))) view.stays.items → IsPermutation (appointments A) view.appointments.items
     → (place : Place) (t : ℕ) → has_holder_in_by view place c t ≡ has_holder_in A place c t
 holder_in-shown A h view c s p place t =
-    ap (λ o. unwrap_or (option_map (λ who. is_in_by view.stays.items who c t) o) false) (holder-shown A h view.appointments.items p place (day_of t))
-    ∙ by_holder (holder A place (day_of t))
-  where
-    by_holder : (o : Option (List ℕ)) → unwrap_or (option_map (λ who. is_in_by view.stays.items who c t) o) false ≡ unwrap_or (option_map (λ who. is_in A who c t) o) false
-    by_holder None = refl
-    by_holder (Some who) = in-shown A c view.stays.items s who t
+    let inside : (who : List ℕ) → is_in_by view.stays.items who c t ≡ is_in A who c t = λ who. in-shown A c view.stays.items s who t in
+    grind (arith, holder-shown A h view.appointments.items p place (day_of t), inside)

@@ -1,10 +1,10 @@
 -- People, trainings and places: what the rows of a view say of them, the first refusal of an act on them, and where its changes lead.
-use Rattle.std.proofs.Common.{◌≡◌, ℕ, Bool, true, false, not, ◌||◌, ◌&&◌, nat_le, max, List, filter, refl, sym, ap, ◌∙◌, subst, arith, eqb, [], ◌∷◌, is_none, map, None}
+use Rattle.std.proofs.Common.{◌≡◌, ℕ, true, false, not, ◌||◌, ◌&&◌, nat_le, max, List, filter, refl, sym, ap, ◌∙◌, subst, arith, [], ◌∷◌, is_none, map, None}
 use Rattle.std.specs.List.{list_any}
 use Rattle.std.specs.List.Sorted.{IsPermutation}
 use Rattle.std.proofs.lemmas.Bool.{and_parts, leb-true, le-leb, or_left}
 use Rattle.std.proofs.lemmas.List.Sorted.{IsPermutation-map, list_any-IsPermutation, IsPermutation-refl, IsPermutation-sym}
-use Rattle.kcr_base.specs.Same.{same_text, same_role, same_place}
+use Rattle.kcr_base.specs.Same.{same_text, same_place}
 use Rattle.kcr_base.specs.declared.place.Role.{Role}
 use Rattle.kcr_people.specs.declared.Training.{Training}
 use Rattle.kcr_people.specs.declared.Withdrawal.{Withdrawal}
@@ -67,17 +67,10 @@ withdrawn-shown who table rows p row own day =
 -- WHO IS TRAINED
 
 covers-who : (who : List ℕ) (role : Role) (day : ℕ) (row : Training) → covers who role day row ≡ true → same_text row.who who ≡ true
-covers-who who role day row h =
-    let a = and_parts (same_text row.who who && same_role row.role role && nat_le row.since day) (nat_le day row.until) h in
-    let b = and_parts (same_text row.who who && same_role row.role role) (nat_le row.since day) a.0 in
-    (and_parts (same_text row.who who) (same_role row.role role) b.0).0
+covers-who who role day row h = grind arith
 
 trains-shown : (who : List ℕ) (table rows : List Withdrawal) → ShowsWithdrawals who table rows → (role : Role) (day : ℕ) (row : Training) → trains rows who role day row ≡ trains table who role day row
-trains-shown who table rows p role day row = by_cover (covers who role day row) refl
-  where
-    by_cover : (b : Bool) → covers who role day row ≡ b → (b && not (is_withdrawn_by rows row day)) ≡ (b && not (is_withdrawn_by table row day))
-    by_cover true e = ap not (withdrawn-shown who table rows p row (covers-who who role day row e) day)
-    by_cover false e = refl
+trains-shown who table rows p role day row = grind (arith, covers-who who role day row, withdrawn-shown who table rows p row)
 
 -- whether some training of the person holds on a day of its own
 trains-any : (who : List ℕ) (ts us : List Training) (ws vs : List Withdrawal) → ShowsTrainings who ts us → ShowsWithdrawals who ws vs → (role : Role) (on : Training → ℕ)
@@ -112,9 +105,7 @@ least-shown who table rows p row own day =
     (λ d. least-day rows row day d ∙ ap (λ b. nat_le day d || b) (withdrawn-shown who table rows p row own d) ∙ sym (least-day table row day d))
 
 ends_from-who : (who : List ℕ) (role : Role) (day : ℕ) (row : Training) → ends_from who role day row ≡ true → same_text row.who who ≡ true
-ends_from-who who role day row h =
-    let a = and_parts (same_text row.who who && same_role row.role role) (nat_le day row.until) h in
-    (and_parts (same_text row.who who) (same_role row.role role) a.0).0
+ends_from-who who role day row h = grind arith
 
 -- the same rows are to be put, in some order
 pub withdrawn_rows-shown : (who : List ℕ) (ts us : List Training) (ws vs : List Withdrawal) → ShowsTrainings who ts us → ShowsWithdrawals who ws vs → (role : Role) (day : ℕ)
@@ -140,11 +131,7 @@ ever_trained-shown A who rows p = any-shown (is_training_of who) (is_training_of
 
 -- a training of the same four values is the person's
 same-who : (new old : Training) → same_training new old ≡ true → same_text old.who new.who ≡ true
-same-who new old h =
-    let a = and_parts (same_text new.who old.who && same_role new.role old.role && eqb new.since old.since) (eqb new.until old.until) h in
-    let b = and_parts (same_text new.who old.who && same_role new.role old.role) (eqb new.since old.since) a.0 in
-    let c = and_parts (same_text new.who old.who) (same_role new.role old.role) b.0 in
-    text-turn new.who old.who c.0
+same-who new old h = grind (arith, text-turn new.who old.who)
 
 training-shown : (A : History) (new : Training) (rows : List Training) → IsPermutation (filter (is_training_of new.who) (trainings A)) (filter (is_training_of new.who) rows)
     → list_any (same_training new) rows ≡ list_any (same_training new) (trainings A)

@@ -1,26 +1,21 @@
 -- What the rows of a view say of a ceremony is what the history says of it.
-use Rattle.std.proofs.Common.{◌≡◌, ℕ, Bool, true, false, cond, ◌||◌, ◌&&◌, eqb, nat_lt, List, [], ◌∷◌, ◌++◌, map, filter, Option, Some, None, option_map, is_none, refl, sym, ap, ◌∙◌, subst, arith}
-use Rattle.std.specs.Prelude.{is_some, unwrap_or}
+use Rattle.std.proofs.Common.{◌≡◌, ℕ, Bool, true, false, cond, eqb, nat_lt, List, [], ◌∷◌, ◌++◌, map, filter, Option, Some, None, is_none, refl, sym, ap, ◌∙◌, subst, arith}
+use Rattle.std.specs.Prelude.{is_some}
 use Rattle.std.specs.List.{list_any, cons_option}
 use Rattle.std.specs.List.Sorted.{IsPermutation}
-use Rattle.std.specs.Result.{result_unwrap_or}
-use Rattle.std.proofs.lemmas.Bool.{true≢false, false≢true, eqb-true, eq-eqb, and_parts, and_left, ltb-false, false_from_ne_true}
+use Rattle.std.proofs.lemmas.Bool.{true≢false, false≢true, eqb-true, eq-eqb, and_left, ltb-false, false_from_ne_true}
 use Rattle.kcr_base.specs.Rows.{put, or_else}
 use Rattle.kcr_base.specs.Refuse.{first_of}
-use Rattle.kcr_base.specs.declared.place.Facility.TheVariants.{East}
 use Rattle.kcr_base.specs.declared.refusal.Refusal.{Refusal}
 use Rattle.kcr_base.specs.declared.refusal.Refusal.TheVariants.{Unknown, State, Late}
 use Rattle.kcr_base.specs.declared.refusal.Thing.TheVariants as Things
 use Rattle.kcr_base.proofs.RefuseLemmas.{none_holds, unmet}
 use Rattle.kcr_custody.specs.declared.Scene.{Scene}
-use Rattle.kcr_custody.specs.Custody
 use Rattle.kcr_custody.specs.Custody.{not_ready}
-use Rattle.kcr_script.specs.Reading.{script_of}
 use Rattle.kcr_history.specs.declared.commands.Act.{Act}
 use Rattle.kcr_history.specs.declared.commands.Act.TheVariants.{AddItem, Plan, Open, Sign, Except, TurnSafe, Seal, Take, Put, Cut}
 use Rattle.kcr_history.specs.declared.commands.Entry.{Entry}
 use Rattle.kcr_history.specs.declared.rows.CeremonyRow.{CeremonyRow}
-use Rattle.kcr_history.specs.declared.rows.CeremonyState.TheVariants as States
 use Rattle.kcr_history.specs.declared.rows.MarkRow.{MarkRow}
 use Rattle.kcr_history.specs.declared.views.View.{View}
 use Rattle.kcr_history.specs.History.{History, all_said, greatest, max_with}
@@ -31,9 +26,9 @@ use Rattle.kcr_history.specs.Views.{is_of_number, is_mark_of}
 use Rattle.kcr_history.specs.Conditions.{conditions, fault, is_full, full, not_open, is_late, late}
 use Rattle.kcr_history.specs.Machine.{IsRegister}
 use Rattle.kcr_history.proofs.Steps.{took}
-use Rattle.kcr_scene.specs.Scene.{ceremony_by, facility_by, is_open_state, is_open_row, mark_by, scene_by}
+use Rattle.kcr_scene.specs.Scene.{ceremony_by, facility_by, is_open_row, mark_by, scene_by}
 use Rattle.kcr_laws.proofs.Finds.{some_if}
-use Rattle.kcr_machine.proofs.FirstRefusals.{behind, met, nested}
+use Rattle.kcr_machine.proofs.FirstRefusals.{behind, met}
 use Rattle.kcr_machine.proofs.Keyed.{find-view, put-at, said-view}
 
 pub turned : (a b : ℕ) → eqb b a ≡ false → eqb a b ≡ false
@@ -136,7 +131,7 @@ ready A (Cut c serial at) f = let n = none_holds (conditions A (Cut c serial at)
 ready A act f = tt
 
 pub open-opened : (A : History) (c : ℕ) → is_open A c ≡ true → is_some (opened A c) ≡ true
-open-opened A c e = (and_parts (is_some (opened A c)) (is_none (closed A c)) e).0
+open-opened A c e = grind arith
 
 -- a ceremony has a mark where it was opened
 mark_stays : (A : History) (c : ℕ) (o : Option (ℕ × ℕ)) → IsReady A o None → is_some (mark A c) ≡ is_some (opened A c) → is_some (mark_with o c (mark A c)) ≡ is_some (opened A c)

@@ -1,8 +1,8 @@
 -- The search's answers by numbers, over those present, are the machine's: a first seating of people, and a least shortage of seats.
-use Rattle.std.proofs.Common.{◌≡◌, ◌≢◌, ℕ, zero, suc, ◌+◌, ◌<◌, ◌≤◌, Bool, true, false, cond, ◌||◌, nat_lt, List, [], ◌∷◌, map, filter, length, get_or, refl, sym, ap, ◌∙◌, arith, subst, not, ◌&&◌, ◌==◌, nat_le, Option, Some, None, inl, inr}
+use Rattle.std.proofs.Common.{◌≡◌, ◌≢◌, ℕ, zero, suc, ◌+◌, ◌<◌, ◌≤◌, Bool, true, false, cond, nat_lt, List, [], ◌∷◌, map, filter, length, get_or, refl, sym, ap, ◌∙◌, arith, subst, not, ◌&&◌, ◌==◌, nat_le, Option, Some, None, inl, inr}
 use Rattle.std.specs.Prelude.{slice_get, slice_index, if◌then◌else◌, EachIndex}
 use Rattle.std.specs.List.{list_any, list_all}
-use Rattle.std.proofs.lemmas.Bool.{false≢true, both_ways, ltb-true, and_parts, and_from, not-true, eqb-true, eq-eqb, leb-true, le-leb, lt-ltb, cases_order, or_from, false_from_ne_true, true_from_ne_false, true≢false}
+use Rattle.std.proofs.lemmas.Bool.{false≢true, both_ways, ltb-true, and_parts, and_from, not-true, eqb-true, eq-eqb, le-leb, lt-ltb, cases_order, or_from, false_from_ne_true, true_from_ne_false, true≢false}
 use Rattle.std.proofs.lemmas.List.{length-map, get_or-map}
 use Rattle.std.proofs.lemmas.List.Folds.{list_any_at, list_all_at}
 use Rattle.kcr_base.specs.Same.{same_text, is_before}
@@ -19,7 +19,7 @@ use Rattle.kcr_room.proofs.Keeping.{present_are_in}
 use Rattle.kcr_room.proofs.Rising.{present_are_rising}
 use Rattle.kcr_history.specs.History.{History}
 use Rattle.kcr_history.specs.Ceremonies.{facility_of}
-use Rattle.kcr_history.specs.Room.{sheet, is_in, present}
+use Rattle.kcr_history.specs.Room.{sheet, present}
 use Rattle.kcr_history.specs.Seating.{fits, eligible, is_seating, comes_first, IsFirst, is_eligible_at, who_fit, rise, is_short, IsLeast}
 use Rattle.std.proofs.lemmas.List.Elements.{filter_agree}
 use Rattle.kcr_people.proofs.Orders.{any-same}
@@ -265,20 +265,16 @@ rise-is low high (p ∷ S) inc range first =
 
 range-of : (low high : ℕ) (S : List ℕ) → rise low high S ≡ true → (i : ℕ) → i < length S → slice_index S i < high
 range-of low high [] r i l = absurd (omega (arith, l))
-range-of low high (p ∷ S) r zero l = let k = and_parts (nat_le low p && nat_lt p high) (rise (suc p) high S) r in ltb-true p high (and_parts (nat_le low p) (nat_lt p high) k.0).1
-range-of low high (p ∷ S) r (suc i) l = range-of (suc p) high S (and_parts (nat_le low p && nat_lt p high) (rise (suc p) high S) r).1 i (omega (arith, l))
+range-of low high (p ∷ S) r zero l = grind arith
+range-of low high (p ∷ S) r (suc i) l = range-of (suc p) high S (grind arith) i (omega (arith, l))
 
 rises-of : (low high : ℕ) (S : List ℕ) → rise low high S ≡ true → (k : ℕ) → k + 1 < length S → slice_index S k < slice_index S (k + 1)
 rises-of low high [] r k l = absurd (omega (arith, l))
 rises-of low high (p ∷ []) r k l = absurd (omega (arith, l))
-rises-of low high (p ∷ q ∷ S) r zero l =
-    let k = and_parts (nat_le low p && nat_lt p high) (rise (suc p) high (q ∷ S)) r in
-    let m = and_parts (nat_le (suc p) q && nat_lt q high) (rise (suc q) high S) k.1 in
-    leb-true (suc p) q (and_parts (nat_le (suc p) q) (nat_lt q high) m.0).0
+rises-of low high (p ∷ q ∷ S) r zero l = grind arith
 rises-of low high (p ∷ q ∷ S) r (suc k) l =
     let e : suc (k + 1) ≡ suc k + 1 = omega arith in
-    subst (λ n. slice_index (p ∷ q ∷ S) (suc k) < slice_index (p ∷ q ∷ S) n) e
-    (rises-of (suc p) high (q ∷ S) (and_parts (nat_le low p && nat_lt p high) (rise (suc p) high (q ∷ S)) r).1 k (omega (arith, l)))
+    subst (λ n. slice_index (p ∷ q ∷ S) (suc k) < slice_index (p ∷ q ∷ S) n) e (rises-of (suc p) high (q ∷ S) (grind arith) k (omega (arith, l)))
 
 -- PARTS
 

@@ -1,7 +1,7 @@
 -- The first refusal of a request of the sheet by the rows of a view is its fault by the history, and so the sheet of a register was made in turn.
 use Rattle.std.proofs.Common.{◌≡◌, ℕ, ◌+◌, Bool, true, false, cond, not, ◌||◌, ◌&&◌, ◌==◌, nat_le, nat_lt, List, [], ◌∷◌, ◌++◌, map, filter, find, reverse, Option, Some, None, option_map, is_none, refl, sym, ap, ◌∙◌, subst, arith, append-nil, inl, inr}
 use Rattle.std.specs.Prelude.{is_some, count_by}
-use Rattle.std.specs.List.{list_any, cons_option}
+use Rattle.std.specs.List.{cons_option}
 use Rattle.std.specs.List.Sorted.{IsPermutation}
 use Rattle.std.proofs.lemmas.Bool.{true≢false}
 use Rattle.std.proofs.lemmas.List.Elements.{filter-append}
@@ -40,8 +40,7 @@ use Rattle.kcr_history.specs.Conditions.{conditions, fault, is_full, first_with,
 use Rattle.kcr_history.specs.Machine.{IsRegister}
 use Rattle.kcr_history.proofs.Steps.{took}
 use Rattle.kcr_history.proofs.Words.{is_person-people}
-use Rattle.kcr_acts.specs.SheetRows.{elsewhere, last_elsewhere, stays_of_request, first_twice, named_twice, room_refusal}
-use Rattle.std.proofs.lemmas.Option.{none-some, same_Some}
+use Rattle.kcr_acts.specs.SheetRows.{elsewhere, last_elsewhere, stays_of_request, named_twice, room_refusal}
 use Rattle.kcr_laws.proofs.Signing.{no_first}
 use Rattle.kcr_machine.proofs.FirstRefusals.{behind, first-found, met, nested}
 use Rattle.kcr_machine.proofs.Keyed.{any-shown}

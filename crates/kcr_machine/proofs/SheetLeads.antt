@@ -1,8 +1,8 @@
 -- The rows that a request of the sheet puts lead to the tables after it, where the sheet was made in turn and each person is named once.
-use Rattle.std.proofs.Common.{◌≡◌, ℕ, Bool, true, false, cond, not, ◌||◌, ◌&&◌, ◌==◌, nat_le, nat_lt, List, [], ◌∷◌, ◌++◌, map, filter, find, reverse, Option, Some, None, refl, sym, ap, ◌∙◌, subst, arith, append_assoc, append-nil, inl, inr, ◌≤◌}
+use Rattle.std.proofs.Common.{◌≡◌, ℕ, Bool, true, false, cond, not, ◌&&◌, ◌==◌, nat_le, List, [], ◌∷◌, ◌++◌, map, filter, find, reverse, Option, None, refl, sym, ap, ◌∙◌, subst, arith, append_assoc, append-nil, inl, inr, ◌≤◌}
 use Rattle.std.specs.List.{list_any}
 use Rattle.std.specs.List.Sorted.{IsPermutation}
-use Rattle.std.proofs.lemmas.Bool.{true≢false, both_ways, and_parts, and_from, or_parts, not-true, not-false, leb-false, le-leb, lt-leb, eqb-true, eq-eqb, ltb-true, ltb-false, false_from_ne_true, or_from, cases_lt}
+use Rattle.std.proofs.lemmas.Bool.{true≢false, both_ways, and_parts, and_from, or_parts, not-true, not-false, le-leb, eqb-true, eq-eqb, false_from_ne_true, or_from, cases_lt}
 use Rattle.std.proofs.lemmas.List.Sorted.{IsPermutation-refl, IsPermutation-sym, IsPermutation-trans, IsPermutation-reverse, IsPermutation-append, IsPermutation-map, list_any-IsPermutation, IsPermutation-middle}
 use Rattle.kcr_base.specs.Rows.{put_all}
 use Rattle.kcr_base.specs.Same.{same_text}

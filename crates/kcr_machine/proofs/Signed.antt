@@ -12,7 +12,6 @@ use Rattle.kcr_base.specs.declared.place.Place.TheVariants as Places
 use Rattle.kcr_base.specs.declared.place.Role.TheVariants.{Ca, Iw}
 use Rattle.kcr_base.specs.declared.refusal.Refusal.{Refusal}
 use Rattle.kcr_base.specs.declared.refusal.Refusal.TheVariants.{Short}
-use Rattle.kcr_script.specs.declared.script.Step.{Step}
 use Rattle.kcr_script.specs.declared.seat.Seat.{Seat}
 use Rattle.kcr_script.specs.declared.seat.Seat.TheVariants.{Staff, AnyCo, AnyRksh, Co, Rksh}
 use Rattle.kcr_seats.specs.Seating as Search
@@ -40,7 +39,6 @@ use Rattle.kcr_scene.specs.Signing.{step_by, seats_by, next_by, on_seat, fits_of
 use Rattle.kcr_machine.specs.RowDecision.{new_key_row}
 use Rattle.kcr_laws.proofs.Alone.{rooms}
 use Rattle.kcr_laws.proofs.Done.{next_signed}
-use Rattle.kcr_laws.proofs.Finds.{some_if}
 use Rattle.kcr_people.proofs.Orders.{any-same}
 use Rattle.std.proofs.lemmas.Option.{same_Some, none-some}
 use Rattle.kcr_machine.proofs.InRoom.{holder-shown, present-shown, trained-all}

@@ -4,7 +4,7 @@ use Rattle.std.specs.Prelude.{is_some, slice_get, unwrap_or, option_map}
 use Rattle.std.specs.List.{list_any}
 use Rattle.std.specs.List.Sorted.{IsPermutation}
 use Rattle.std.specs.Result.{result_unwrap_or}
-use Rattle.std.proofs.lemmas.Bool.{true≢false, false≢true, leb-true, leb-false, le-leb, le-ltb, eqb-true, eq-eqb, ne_eqb, and_parts, and_right, or_from}
+use Rattle.std.proofs.lemmas.Bool.{true≢false, false≢true, le-ltb, eqb-true, eq-eqb, ne_eqb, and_parts, and_right, or_from}
 use Rattle.std.proofs.lemmas.List.Sorted.{length_permutation, list_any-IsPermutation, IsPermutation-refl, IsPermutation-trans, IsPermutation-sym, IsPermutation-middle}
 use Rattle.std.proofs.lemmas.Option.{slice_get_past}
 use Rattle.kcr_base.specs.Rows.{or_else, put}

@@ -1,5 +1,5 @@
 -- Whether anybody is in the room of a ceremony at a moment or comes or goes later: by the stays that a view shows as by the sheet.
-use Rattle.std.proofs.Common.{◌≡◌, ℕ, ◌+◌, Bool, true, false, cond, not, ◌||◌, ◌&&◌, ◌==◌, nat_le, nat_lt, List, [], ◌∷◌, filter, reverse, length, refl, sym, ap, ◌∙◌, arith, inl, inr}
+use Rattle.std.proofs.Common.{◌≡◌, ℕ, true, not, ◌||◌, ◌&&◌, ◌==◌, nat_le, nat_lt, List, [], ◌∷◌, filter, reverse, length, refl, sym, ap, ◌∙◌, arith, inl, inr}
 use Rattle.std.specs.List.{list_any}
 use Rattle.std.specs.List.Sorted.{IsPermutation}
 use Rattle.std.proofs.lemmas.Bool.{and_parts, and_from, le-leb, lt-ltb, ltb-false, or_left, or_right, cases_Bool, or_cases}
@@ -24,11 +24,7 @@ use Rattle.kcr_machine.proofs.SheetStays.{row-bounds, stay-begun}
 -- somebody is in the room where some stay holds
 held : (c t : ℕ) (stays : List Stay) → nat_lt 0 (crowd_in_by stays c t) ≡ list_any (holds c t) stays
 held c t [] = refl
-held c t (stay ∷ stays) = ap (λ n. nat_lt 0 n) (crowd-cons stay stays c t) ∙ by_test (holds c t stay) (held c t stays)
-  where
-    by_test : (b : Bool) → nat_lt 0 (crowd_in_by stays c t) ≡ list_any (holds c t) stays → nat_lt 0 (cond b 1 0 + crowd_in_by stays c t) ≡ (b || list_any (holds c t) stays)
-    by_test true ih = lt-ltb 0 (1 + crowd_in_by stays c t) (omega arith)
-    by_test false ih = ap (λ n. nat_lt 0 n) (let z : 0 + crowd_in_by stays c t ≡ crowd_in_by stays c t = omega arith in z) ∙ ih
+held c t (stay ∷ stays) = grind (arith, crowd-cons stay stays c t, held c t stays)
 
 some_present : (people : List (List ℕ)) → not (is_empty people) ≡ nat_lt 0 (length people)
 some_present [] = refl
@@ -68,9 +64,7 @@ used-unended A h c t e = elim (or_cases (not (is_empty (present A c t))) (list_a
 ]
   where
     here : (s : Stay) → holds c t s ≡ true → is_unended c t s ≡ true
-    here s q =
-        let p = and_parts (s.ceremony == c && nat_le s.since t) (lasts_at t s.until) q in
-        and_from (s.ceremony == c) (nat_lt t s.since || lasts_at t s.until) (and_parts (s.ceremony == c) (nat_le s.since t) p.0).0 (or_right (nat_lt t s.since) (lasts_at t s.until) p.1)
+    here s q = grind arith
 
 -- the room is used where some stay that is shown has not ended
 pub used-shown : (A : History) → IsRegister A → (c t : ℕ) (rows : List Stay) → IsPermutation (filter (is_stay_of c) (reverse (stays_by (sheet A)))) (filter (is_stay_of c) rows) → list_any (is_unended c t) rows ≡ is_room_used A c t
