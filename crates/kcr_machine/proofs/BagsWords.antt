@@ -38,12 +38,12 @@ use Rattle.kcr_laws.proofs.Stored.{there, sealed_somewhere, box-there}
 use Rattle.kcr_base.proofs.RowsLemmas.{filter-order}
 use Rattle.kcr_base.specs.declared.place.Place.TheVariants.{Rksh}
 use Rattle.kcr_machine.proofs.FirstRefusals.{none-first}
-use Rattle.kcr_machine.proofs.Keyed.{said-shown, said-view}
+use Rattle.kcr_machine.proofs.Keyed.{Shown, said-shown, said-view}
 use Rattle.kcr_machine.proofs.Members.{IsIn, any-in, in-any}
 use Rattle.kcr_machine.proofs.Scenes.{said-then, some-where}
 
 -- where the bag is, by the rows of its serial
-pub spot-shown : (A : History) → IsRegister A → (s : List ℕ) (rows : List Bag) → IsPermutation (filter (is_of_serial s) (bags A)) (filter (is_of_serial s) rows) → spot_by rows s ≡ spot A s
+pub spot-shown : (A : History) → IsRegister A → (s : List ℕ) (rows : List Bag) → Shown (is_of_serial s) (bags A) rows → spot_by rows s ≡ spot A s
 spot-shown A h s rows p =
     said-view (λ row. same_text row.serial s) (is_of_serial s) (bag_row A) (bag_row A s) (λ row. row.spot) (spot A s) Spent (λ row e. e) (λ k e. ap (bag_row A) (text_same k s e)) (all_said sealed_serial A) rows p
     (sealed_somewhere A h s) refl
@@ -102,13 +102,13 @@ added_rest A h k = grind (arith, added_somewhere A k, sealed_added A h k, some_r
 
 -- where an item is, by rows among which its own is
 rest-shown : (A : History) → IsRegister A → (of : Item → Bool) (k : List ℕ) → ((row : Item) → same_text row.code k ≡ true → of row ≡ true) → (rows : List Item)
-    → IsPermutation (filter of (items A)) (filter of rows) → rest_by rows k ≡ rest A k
+    → Shown of (items A) rows → rest_by rows k ≡ rest A k
 rest-shown A h of k own rows p =
     said-view (λ row. same_text row.code k) of (item_row A) (item_row A k) (λ row. row.rest) (rest A k) (Loose East) own (λ j e. ap (item_row A) (text_same j k e)) (all_said added_item A) rows p
     (added_rest A h k) refl
 
 -- the same of items that are asked for by their codes
-pub rest-coded : (A : History) → IsRegister A → (codes : List (List ℕ)) (rows : List Item) → IsPermutation (filter (is_item_of (Items.Codes codes)) (items A)) (filter (is_item_of (Items.Codes codes)) rows)
+pub rest-coded : (A : History) → IsRegister A → (codes : List (List ℕ)) (rows : List Item) → Shown (is_item_of (Items.Codes codes)) (items A) rows
     → (k : List ℕ) → IsIn k codes → rest_by rows k ≡ rest A k
 rest-coded A h codes rows p k i = rest-shown A h (is_item_of (Items.Codes codes)) k (λ row e. in-any (same_text row.code) k codes i e) rows p
 

@@ -56,10 +56,10 @@ use Rattle.kcr_room.proofs.Lists as RoomLists
 use Rattle.kcr_room.proofs.Lists.{filter-and}
 use Rattle.kcr_machine.proofs.BagsWords.{open-shown}
 use Rattle.kcr_machine.proofs.FirstRefusals.{met}
-use Rattle.kcr_machine.proofs.Keyed.{any-map, put-at, put-first, put-new}
+use Rattle.kcr_machine.proofs.Keyed.{Shown, any-filter, any-map, put-at, put-first, put-new}
 use Rattle.kcr_machine.proofs.Leads.{FaultShown, Leads, command_of, entry_as, new_key}
 use Rattle.kcr_machine.proofs.Members.{IsIn, map-same-in, none-in, none-passes, same-answers}
-use Rattle.kcr_machine.proofs.Scenes.{ShowsCeremony, ceremony-shown, known-shown, mark-after, mark-shown, marked-opened, open-opened, open-state, opened-number, opened-planned, planned-number, said-then, some-where, turned}
+use Rattle.kcr_machine.proofs.Scenes.{ceremony-shown, known-shown, mark-after, mark-shown, marked-opened, open-opened, open-state, opened-number, opened-planned, planned-number, said-then, some-where, turned}
 use Rattle.kcr_machine.proofs.StepRows.{done-shown, keys-planned, steps-count}
 use Rattle.kcr_machine.proofs.UsedRooms.{used-shown}
 
@@ -158,7 +158,7 @@ any-counted p [] = refl
 any-counted p (x ∷ xs) = grind (arith, any-counted p xs)
 
 -- a step is left where not all were done: those that are shown are as many as the script has, done or not
-steps-shown : (A : History) → IsRegister A → (c : ℕ) (rows : List StepRow) → IsPermutation (filter (is_step_of c) (steps A)) (filter (is_step_of c) rows)
+steps-shown : (A : History) → IsRegister A → (c : ℕ) (rows : List StepRow) → Shown (is_step_of c) (steps A) rows
     → list_any (is_undone_of c) rows ≡ nat_lt (steps_done A c) (length (steps_of A c))
 steps-shown A h c rows p =
     sym (RoomLists.any-filter (is_step_of c) (λ row. is_undone row.state) rows)
@@ -231,7 +231,7 @@ module _ (A : History) (key : List ℕ) (answer : Answer) (c at : ℕ) (f : faul
   ceremonies-closed : put same_ceremony closed_row (ceremonies A) ≡ ceremonies closed_now
   ceremonies-closed = ceremony-put A closed_now c closed_row (rw (eq-eqb c c refl) refl) (λ k e. rw (turned c k e) refl) to_close
 
-  pub close-leads : (view : View) → ShowsCeremony c (ceremonies A) view.ceremonies.items → entry_of A key ≡ None → Leads A view (command_of key (Close c at)) answer
+  pub close-leads : (view : View) → Shown (is_of_number c) (ceremonies A) view.ceremonies.items → entry_of A key ≡ None → Leads A view (command_of key (Close c at)) answer
   close-leads view v k = rw (ceremony-shown A c view.ceremonies.items v, to_close) (rw (ceremonies-closed, new_key A (command_of key (Close c at)) answer k) refl)
 
 -- PLANNING

@@ -1,4 +1,5 @@
 -- The first refusal of an act of custody, on a box, an item, a safe or a bag, by the rows of a view, is its fault by the history.
+use Rattle.kcr_history.specs.Views.{is_stay_of, is_of_number, is_mark_of}
 use Rattle.std.proofs.Common.{◌≡◌, ℕ, Bool, false, not, List, [], ◌∷◌, Option, Some, None, is_some, is_none, refl, ap, ◌∙◌, ◌||◌, inl, reverse, arith}
 use Rattle.std.specs.Prelude.{option_and_then}
 use Rattle.std.specs.List.{list_any, list_all, cons_option}
@@ -44,11 +45,12 @@ use Rattle.kcr_custody.specs.declared.Keeper.{Keeper}
 use Rattle.kcr_room.specs.Stays.{stays_by}
 use Rattle.kcr_machine.proofs.BagsWords.{open-shown, place-shown, rest-coded, spot-shown}
 use Rattle.kcr_machine.proofs.FirstRefusals.{first-found}
-use Rattle.kcr_machine.proofs.InRoom.{ShowsRoom, attended-shown, holder_in-shown, in-shown, trained-own}
+use Rattle.kcr_machine.proofs.InRoom.{attended-shown, holder_in-shown, in-shown, trained-own}
+use Rattle.kcr_machine.proofs.Keyed.{Shown}
 use Rattle.kcr_machine.proofs.Leads.{FaultShown}
 use Rattle.kcr_machine.proofs.Members.{IsIn, all-same-in}
 use Rattle.kcr_machine.proofs.People.{person-shown}
-use Rattle.kcr_machine.proofs.Scenes.{ShowsCeremony, ShowsMark, facility-shown, ready-by, scene-shown, scene_of}
+use Rattle.kcr_machine.proofs.Scenes.{facility-shown, ready-by, scene-shown, scene_of}
 
 -- SAFES AND BOXES
 
@@ -92,7 +94,7 @@ abbrev has_ca : History → ℕ → ℕ → Bool
 has_ca A c at = Room.is_attended_by A Ca c at
 
 -- the scene by the rows of the view is the one by the history
-ca-scene : (A : History) → IsRegister A → (c at : ℕ) (view : View) → ShowsCeremony c (ceremonies A) view.ceremonies.items → ShowsMark c (marks A) view.marks.items → ShowsRoom c (reverse (stays_by (sheet A))) view.stays.items
+ca-scene : (A : History) → IsRegister A → (c at : ℕ) (view : View) → Shown (is_of_number c) (ceremonies A) view.ceremonies.items → Shown (is_mark_of c) (marks A) view.marks.items → Shown (is_stay_of c) (reverse (stays_by (sheet A))) view.stays.items
     → IsPermutation (trainings A) view.trainings.items → IsPermutation (withdrawals A) view.withdrawals.items → scene_in view (is_full A) c at ≡ scene_of A c at (has_ca A c at)
 ca-scene A h c at view p q room ts ws = scene-shown A h c at (is_attended_by view Ca c at) view p q ∙ ap (scene_of A c at) (attended-shown A h view c room ts ws Ca at)
 

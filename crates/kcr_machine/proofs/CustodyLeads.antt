@@ -44,7 +44,8 @@ use Rattle.kcr_history.proofs.Stacked.{or_parts}
 use Rattle.kcr_room.proofs.Lists.{map-same, map-map}
 use Rattle.kcr_base.specs.declared.refusal.Thing.TheVariants as Things
 use Rattle.kcr_machine.proofs.BagsWords.{added_rest, in-listed, items_known, listed-in}
-use Rattle.kcr_machine.proofs.Keyed.{put-at, put-first, put-new, put-rows}
+use Rattle.kcr_machine.proofs.FirstRefusals.{met}
+use Rattle.kcr_machine.proofs.Keyed.{Shown, put-at, put-first, put-new, put-rows}
 use Rattle.kcr_machine.proofs.Leads.{LeadsOn, changed_by-rows, command_of, entry_as, new_key}
 use Rattle.kcr_machine.proofs.Members.{IsIn, filter-in, in-any, in-filter, in-map, in-order, map-in, map-same-in, same-answers}
 use Rattle.kcr_machine.proofs.Scenes.{facility-shown, marks-put, still}
@@ -218,7 +219,7 @@ abbrev itemed_loose : Facility → List ℕ → Item
 itemed_loose facility code = record { code = code; rest = Loose facility }
 
 -- the codes of the items of a bag, found in any order, are those of the register's items that lie in it
-module _ (A : History) (t : List ℕ) (rows : List Item) (p : IsPermutation (filter (lies_in t) (items A)) (filter (lies_in t) rows)) where
+module _ (A : History) (t : List ℕ) (rows : List Item) (p : Shown (lies_in t) (items A) rows) where
   abbrev codes_in : List (List ℕ)
   codes_in = map (λ row. row.code) (filter (lies_in t) rows)
 
@@ -239,7 +240,7 @@ module _ (A : History) (t : List ℕ) (rows : List Item) (p : IsPermutation (fil
 
 -- so they lead to the table after the cut
 items-cut : (A : History) (key : List ℕ) (c : ℕ) (t : List ℕ) (at : ℕ) (answer : Answer) → fault A (Cut c t at) ≡ None
-    → (rows : List Item) → IsPermutation (filter (lies_in t) (items A)) (filter (lies_in t) rows)
+    → (rows : List Item) → Shown (lies_in t) (items A) rows
     → put_all same_item (loosened rows t (facility_of A c)) (items A) ≡ items (then_act A key (Cut c t at) answer)
 items-cut A key c t at answer n rows p =
     let here = facility_of A c in

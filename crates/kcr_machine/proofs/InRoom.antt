@@ -27,21 +27,17 @@ use Rattle.kcr_history.specs.Training.{trained, holder}
 use Rattle.kcr_history.specs.Room.{sheet, is_in, present}
 use Rattle.kcr_history.specs.Room as Rooms
 use Rattle.kcr_history.specs.Tables.{trainings, withdrawals, appointments}
-use Rattle.kcr_history.specs.Views.{is_stay_of}
+use Rattle.kcr_history.specs.Views.{is_stay_of, is_training_of, is_withdrawal_of}
 use Rattle.kcr_history.specs.Conditions.{has_holder_in}
 use Rattle.kcr_history.specs.Machine.{IsRegister}
 use Rattle.kcr_history.proofs.Orderly.{orderly, holder-appointments}
 use Rattle.kcr_history.proofs.Trained.{trained-rows}
 use Rattle.kcr_scene.specs.Scene.{is_in_by, is_attended_by, has_holder_in_by}
 use Rattle.kcr_laws.proofs.Finds.{only-holder}
-use Rattle.kcr_machine.proofs.Keyed.{find-shown}
-use Rattle.kcr_machine.proofs.People.{ShowsTrainings, ShowsWithdrawals, trained-shown}
+use Rattle.kcr_machine.proofs.Keyed.{Shown, find-shown}
+use Rattle.kcr_machine.proofs.People.{trained-shown}
 
 -- THE ROOM
-
--- the stays of the ceremony that the table has are those that are shown, in some order
-abbrev pub ShowsRoom : ℕ → List Stay → List Stay → Type 0
-ShowsRoom c table rows = IsPermutation (filter (is_stay_of c) table) (filter (is_stay_of c) rows)
 
 holds-of : (c t : ℕ) (stay : Stay) → Stays.holds c t stay ≡ true → is_stay_of c stay ≡ true
 holds-of c t stay h = grind arith
@@ -49,7 +45,7 @@ holds-of c t stay h = grind arith
 present-own : (stays : List Stay) (c t : ℕ) → present_in_by (filter (is_stay_of c) stays) c t ≡ present_in_by stays c t
 present-own stays c t = ap (λ some. ascending (map (λ stay. stay.who) some)) (filter-kept (Stays.holds c t) (is_stay_of c) stays (holds-of c t))
 
-module _ (A : History) (c : ℕ) (rows : List Stay) (p : ShowsRoom c (reverse (stays_by (sheet A))) rows) where
+module _ (A : History) (c : ℕ) (rows : List Stay) (p : Shown (is_stay_of c) (reverse (stays_by (sheet A))) rows) where
   -- those in the room
   pub present-shown : (t : ℕ) → present_in_by rows c t ≡ present A c t
   present-shown t =
@@ -71,12 +67,12 @@ pub trained-all : (A : History) → IsRegister A → (us : List Training) (vs : 
 trained-all A h us vs p q who role day = trained-order (trainings A) us (withdrawals A) vs p q who role day ∙ trained-rows A h who role day
 
 -- the same by those of the person
-pub trained-own : (A : History) → IsRegister A → (us : List Training) (vs : List Withdrawal) → (who : List ℕ) → ShowsTrainings who (trainings A) us → ShowsWithdrawals who (withdrawals A) vs
+pub trained-own : (A : History) → IsRegister A → (us : List Training) (vs : List Withdrawal) → (who : List ℕ) → Shown (is_training_of who) (trainings A) us → Shown (is_withdrawal_of who) (withdrawals A) vs
     → (role : Role) (day : ℕ) → trained_by us vs who role day ≡ trained A who role day
 trained-own A h us vs who p q role day = trained-shown who (trainings A) us (withdrawals A) vs p q role day ∙ trained-rows A h who role day
 
 -- whether somebody in the room is trained
-pub attended-shown : (A : History) → IsRegister A → (view : View) (c : ℕ) → ShowsRoom c (reverse (stays_by (sheet A))) view.stays.items
+pub attended-shown : (A : History) → IsRegister A → (view : View) (c : ℕ) → Shown (is_stay_of c) (reverse (stays_by (sheet A))) view.stays.items
     → IsPermutation (trainings A) view.trainings.items → IsPermutation (withdrawals A) view.withdrawals.items
     → (role : Role) (t : ℕ) → is_attended_by view role c t ≡ Rooms.is_attended_by A role c t
 attended-shown A h view c s p q role t =
@@ -91,7 +87,7 @@ holder-shown A h rows p place day =
     ∙ holder-appointments A h place day
 
 -- whether the place has a holder, who is in the room
-pub holder_in-shown : (A : History) → IsRegister A → (view : View) (c : ℕ) → ShowsRoom c (reverse (stays_by (sheet A))) view.stays.items → IsPermutation (appointments A) view.appointments.items
+pub holder_in-shown : (A : History) → IsRegister A → (view : View) (c : ℕ) → Shown (is_stay_of c) (reverse (stays_by (sheet A))) view.stays.items → IsPermutation (appointments A) view.appointments.items
     → (place : Place) (t : ℕ) → has_holder_in_by view place c t ≡ has_holder_in A place c t
 holder_in-shown A h view c s p place t =
     let inside : (who : List ℕ) → is_in_by view.stays.items who c t ≡ is_in A who c t = λ who. in-shown A c view.stays.items s who t in

@@ -12,7 +12,7 @@ use Rattle.kcr_room.proofs.Lists as RoomLists
 use Rattle.kcr_room.proofs.Lists.{any-same, map-map, filter-kept}
 use Rattle.kcr_history.proofs.Stacked.{find-none}
 use Rattle.kcr_laws.proofs.Finds.{some_if, find-all, none-find, some-find}
-use Rattle.kcr_machine.proofs.Members.{IsIn, map-same-in}
+use Rattle.kcr_machine.proofs.Members.{IsIn, Implies, map-same-in}
 
 pub any-map : {X Y : Type 0} (test : Y → Bool) (f : X → Y) (xs : List X) → list_any test (map f xs) ≡ list_any (λ x. test (f x)) xs
 any-map test f [] = refl
@@ -20,18 +20,22 @@ any-map test f (x ∷ xs) = ap (λ b. test (f x) || b) (any-map test f xs)
 
 -- ROWS THAT ARE SHOWN: those of a table that pass `of`, in any order. Only such rows pass the test
 
-pub any-filter : {X : Type 0} (test of : X → Bool) → ((x : X) → test x ≡ true → of x ≡ true) → (rows : List X) → list_any test (filter of rows) ≡ list_any test rows
+-- the rows that are shown of a table, in some order
+abbrev pub Shown : {X : Type 0} → (X → Bool) → List X → List X → Type 0
+Shown of table rows = IsPermutation (filter of table) (filter of rows)
+
+pub any-filter : {X : Type 0} (test of : X → Bool) → Implies test of → (rows : List X) → list_any test (filter of rows) ≡ list_any test rows
 any-filter test of inside rows = RoomLists.any-filter of test rows ∙ any-same (λ x. of x && test x) test rows (λ x. let i = inside x in grind arith)
 
 -- what the test finds in the table it finds among them
-pub any-shown : {X : Type 0} (test of : X → Bool) → ((x : X) → test x ≡ true → of x ≡ true) → (table rows : List X) → IsPermutation (filter of table) (filter of rows)
+pub any-shown : {X : Type 0} (test of : X → Bool) → Implies test of → (table rows : List X) → Shown of table rows
     → list_any test rows ≡ list_any test table
 any-shown test of inside table rows p =
     sym (any-filter test of inside rows) ∙ sym (list_any-IsPermutation test (filter of table) (filter of rows) p) ∙ any-filter test of inside table
 
 -- what it keeps of the table it keeps of them, in some order
-pub filter-shown : {X : Type 0} (test of : X → Bool) → ((x : X) → test x ≡ true → of x ≡ true) → (table rows : List X) → IsPermutation (filter of table) (filter of rows)
-    → IsPermutation (filter test table) (filter test rows)
+pub filter-shown : {X : Type 0} (test of : X → Bool) → Implies test of → (table rows : List X) → Shown of table rows
+    → Shown test table rows
 filter-shown test of inside table rows p =
     rw (← filter-kept test of table inside, ← filter-kept test of rows inside) (filter-order test (filter of table) (filter of rows) p)
 
@@ -44,14 +48,14 @@ unfilter P of other (x ∷ rows) a = elim (cases_Bool (of x)) [
 ]
 
 -- where all rows of the table that pass are one, that one is found
-pub found-shown : {X : Type 0} (test of : X → Bool) (v : X) → ((x : X) → test x ≡ true → of x ≡ true) → (table rows : List X) → IsPermutation (filter of table) (filter of rows)
+pub found-shown : {X : Type 0} (test of : X → Bool) (v : X) → Implies test of → (table rows : List X) → Shown of table rows
     → AllByRecursion (λ x. test x ≡ true → x ≡ v) table → find test rows ≡ some_if (list_any test table) v
 found-shown {X} test of v inside table rows p only =
     let P : X → Type 0 = λ x. test x ≡ true → x ≡ v in
     let shown = recursion_from_All P (filter of rows) (All-permutation P (filter of table) (filter of rows) p (All-filter of P table (All-from_recursion P table only))) in
     find-all test v rows (unfilter P of (λ x e t. absurd (both_ways (of x) e (inside x t))) rows shown) ∙ ap (λ b. some_if b v) (any-shown test of inside table rows p)
 
-pub find-shown : {X : Type 0} (test of : X → Bool) → ((x : X) → test x ≡ true → of x ≡ true) → (table rows : List X) → IsPermutation (filter of table) (filter of rows)
+pub find-shown : {X : Type 0} (test of : X → Bool) → Implies test of → (table rows : List X) → Shown of table rows
     → ((r : X) → find test table ≡ Some r → AllByRecursion (λ row. test row ≡ true → row ≡ r) table) → find test rows ≡ find test table
 find-shown {X} test of inside table rows p only = by_row (find test table) refl
   where
@@ -60,8 +64,8 @@ find-shown {X} test of inside table rows p only = by_row (find test table) refl
     by_row (Some r) e = found-shown test of r inside table rows p (only r e) ∙ ap (λ b. some_if b r) (some-find test r table e)
 
 -- what that one says is what the history says, where it is there exactly where the history says something
-pub said-shown : {X Y : Type 0} (test of : X → Bool) (v : X) (says : X → Y) (said : Option Y) (other : Y) → ((x : X) → test x ≡ true → of x ≡ true) → (table rows : List X)
-    → IsPermutation (filter of table) (filter of rows) → AllByRecursion (λ x. test x ≡ true → x ≡ v) table → list_any test table ≡ is_some said → says v ≡ unwrap_or said other
+pub said-shown : {X Y : Type 0} (test of : X → Bool) (v : X) (says : X → Y) (said : Option Y) (other : Y) → Implies test of → (table rows : List X)
+    → Shown of table rows → AllByRecursion (λ x. test x ≡ true → x ≡ v) table → list_any test table ≡ is_some said → says v ≡ unwrap_or said other
     → option_map says (find test rows) ≡ said
 said-shown test of v says said other inside table rows p only there own = grind (arith, found-shown test of v inside table rows p only)
 
@@ -72,13 +76,13 @@ all-keys : {K X : Type 0} (test : X → Bool) (row_of : K → X) (v : X) → ((k
 all-keys test row_of v same [] = tt
 all-keys test row_of v same (k ∷ keys) = (same k, all-keys test row_of v same keys)
 
-pub find-view : {K X : Type 0} (test of : X → Bool) (row_of : K → X) (v : X) → ((x : X) → test x ≡ true → of x ≡ true) → ((k : K) → test (row_of k) ≡ true → row_of k ≡ v)
-    → (keys : List K) (rows : List X) → IsPermutation (filter of (map row_of keys)) (filter of rows) → find test rows ≡ some_if (list_any (λ k. test (row_of k)) keys) v
+pub find-view : {K X : Type 0} (test of : X → Bool) (row_of : K → X) (v : X) → Implies test of → ((k : K) → test (row_of k) ≡ true → row_of k ≡ v)
+    → (keys : List K) (rows : List X) → Shown of (map row_of keys) rows → find test rows ≡ some_if (list_any (λ k. test (row_of k)) keys) v
 find-view test of row_of v inside same keys rows p =
     found-shown test of v inside (map row_of keys) rows p (all-keys test row_of v same keys) ∙ ap (λ b. some_if b v) (any-map test row_of keys)
 
-pub said-view : {K X Y : Type 0} (test of : X → Bool) (row_of : K → X) (v : X) (says : X → Y) (said : Option Y) (other : Y) → ((x : X) → test x ≡ true → of x ≡ true)
-    → ((k : K) → test (row_of k) ≡ true → row_of k ≡ v) → (keys : List K) (rows : List X) → IsPermutation (filter of (map row_of keys)) (filter of rows)
+pub said-view : {K X Y : Type 0} (test of : X → Bool) (row_of : K → X) (v : X) (says : X → Y) (said : Option Y) (other : Y) → Implies test of
+    → ((k : K) → test (row_of k) ≡ true → row_of k ≡ v) → (keys : List K) (rows : List X) → Shown of (map row_of keys) rows
     → list_any (λ k. test (row_of k)) keys ≡ is_some said → says v ≡ unwrap_or said other → option_map says (find test rows) ≡ said
 said-view test of row_of v says said other inside same keys rows p there own =
     said-shown test of v says said other inside (map row_of keys) rows p (all-keys test row_of v same keys) (any-map test row_of keys ∙ there) own

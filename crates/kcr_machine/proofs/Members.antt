@@ -64,8 +64,12 @@ in-any test x [] i t = absurd i
 in-any test x (z ∷ xs) (inl e) t = or_left (test z) (list_any test xs) (sym (ap test e) ∙ t)
 in-any test x (z ∷ xs) (inr i) t = or_right (test z) (list_any test xs) (in-any test x xs i t)
 
+-- what passes a test passes another
+abbrev pub Implies : {X : Type 0} → (X → Bool) → (X → Bool) → Type 0
+Implies {X} p q = (x : X) → p x ≡ true → q x ≡ true
+
 -- a test that implies another finds no more
-pub any-imp : {X : Type 0} (p q : X → Bool) → ((x : X) → p x ≡ true → q x ≡ true) → (xs : List X) → list_any p xs ≡ true → list_any q xs ≡ true
+pub any-imp : {X : Type 0} (p q : X → Bool) → Implies p q → (xs : List X) → list_any p xs ≡ true → list_any q xs ≡ true
 any-imp p q imp xs h = let a = any-in p xs h in in-any q a.0 xs a.1 (imp a.0 a.2)
 
 -- what no test finds does not pass it

@@ -42,25 +42,18 @@ use Rattle.kcr_history.specs.declared.views.Change.TheVariants.{PutWithdrawal, P
 use Rattle.kcr_history.specs.Changes.{same_person, same_appointment}
 use Rattle.kcr_history.proofs.Distinct.{trainings-apart}
 use Rattle.kcr_machine.specs.RowDecision.{new_key_row}
-use Rattle.kcr_machine.proofs.Keyed.{any-shown, filter-shown, find-shown, put-new}
+use Rattle.kcr_machine.proofs.Keyed.{Shown, any-shown, filter-shown, find-shown, put-new}
 use Rattle.kcr_machine.proofs.Leads.{FaultShown, LeadsOn, changed_by-rows, changed_with, command_of, new_key, other-order}
 use Rattle.kcr_machine.proofs.Members.{in-filter, map-same-in}
 
 -- WITHDRAWALS
-
--- the rows of the person that the table has are those that are shown, in some order
-abbrev pub ShowsTrainings : List ℕ → List Training → List Training → Type 0
-ShowsTrainings who table rows = IsPermutation (filter (is_training_of who) table) (filter (is_training_of who) rows)
-
-abbrev pub ShowsWithdrawals : List ℕ → List Withdrawal → List Withdrawal → Type 0
-ShowsWithdrawals who table rows = IsPermutation (filter (is_withdrawal_of who) table) (filter (is_withdrawal_of who) rows)
 
 -- a withdrawal of a person's training is the person's
 withdrawal-who : (who : List ℕ) (row : Training) (w : Withdrawal) → same_text row.who who ≡ true → is_of row w ≡ true → same_text w.who who ≡ true
 withdrawal-who who row w own h = subst (λ t. same_text t.who who ≡ true) (sym (is_of-true row w h)) own
 
 -- whether a training of the person is withdrawn
-withdrawn-shown : (who : List ℕ) (table rows : List Withdrawal) → ShowsWithdrawals who table rows → (row : Training) → same_text row.who who ≡ true → (day : ℕ) → is_withdrawn_by rows row day ≡ is_withdrawn_by table row day
+withdrawn-shown : (who : List ℕ) (table rows : List Withdrawal) → Shown (is_withdrawal_of who) table rows → (row : Training) → same_text row.who who ≡ true → (day : ℕ) → is_withdrawn_by rows row day ≡ is_withdrawn_by table row day
 withdrawn-shown who table rows p row own day =
     any-shown (λ w. is_of row w && nat_le w.day day) (is_withdrawal_of who) (λ w h. withdrawal-who who row w own (and_parts (is_of row w) (nat_le w.day day) h).0) table rows p
 
@@ -69,11 +62,11 @@ withdrawn-shown who table rows p row own day =
 covers-who : (who : List ℕ) (role : Role) (day : ℕ) (row : Training) → covers who role day row ≡ true → same_text row.who who ≡ true
 covers-who who role day row h = grind arith
 
-trains-shown : (who : List ℕ) (table rows : List Withdrawal) → ShowsWithdrawals who table rows → (role : Role) (day : ℕ) (row : Training) → trains rows who role day row ≡ trains table who role day row
+trains-shown : (who : List ℕ) (table rows : List Withdrawal) → Shown (is_withdrawal_of who) table rows → (role : Role) (day : ℕ) (row : Training) → trains rows who role day row ≡ trains table who role day row
 trains-shown who table rows p role day row = grind (arith, covers-who who role day row, withdrawn-shown who table rows p row)
 
 -- whether some training of the person holds on a day of its own
-trains-any : (who : List ℕ) (ts us : List Training) (ws vs : List Withdrawal) → ShowsTrainings who ts us → ShowsWithdrawals who ws vs → (role : Role) (on : Training → ℕ)
+trains-any : (who : List ℕ) (ts us : List Training) (ws vs : List Withdrawal) → Shown (is_training_of who) ts us → Shown (is_withdrawal_of who) ws vs → (role : Role) (on : Training → ℕ)
     → list_any (λ row. trains vs who role (on row) row) us ≡ list_any (λ row. trains ws who role (on row) row) ts
 trains-any who ts us ws vs p q role on =
     any-same (λ row. trains vs who role (on row) row) (λ row. trains ws who role (on row) row) (λ row. trains-shown who ws vs q role (on row) row) us
@@ -81,12 +74,12 @@ trains-any who ts us ws vs p q role on =
     (λ row h. covers-who who role (on row) row (and_parts (covers who role (on row) row) (not (is_withdrawn_by ws row (on row))) h).0) ts us p
 
 -- whether the person is trained on the day or a later one
-pub trained_from-shown : (who : List ℕ) (ts us : List Training) (ws vs : List Withdrawal) → ShowsTrainings who ts us → ShowsWithdrawals who ws vs → (role : Role) (day : ℕ)
+pub trained_from-shown : (who : List ℕ) (ts us : List Training) (ws vs : List Withdrawal) → Shown (is_training_of who) ts us → Shown (is_withdrawal_of who) ws vs → (role : Role) (day : ℕ)
     → trained_from_by us vs who role day ≡ trained_from_by ts ws who role day
 trained_from-shown who ts us ws vs p q role day = trains-any who ts us ws vs p q role (λ row. max row.since day)
 
 -- whether the person is trained on the day
-pub trained-shown : (who : List ℕ) (ts us : List Training) (ws vs : List Withdrawal) → ShowsTrainings who ts us → ShowsWithdrawals who ws vs → (role : Role) (day : ℕ)
+pub trained-shown : (who : List ℕ) (ts us : List Training) (ws vs : List Withdrawal) → Shown (is_training_of who) ts us → Shown (is_withdrawal_of who) ws vs → (role : Role) (day : ℕ)
     → trained_by us vs who role day ≡ trained_by ts ws who role day
 trained-shown who ts us ws vs p q role day = trains-any who ts us ws vs p q role (λ row. day)
 
@@ -99,7 +92,7 @@ one_number a b h =
     let q = leb-true b a (sym (h a) ∙ le-leb a a (omega arith)) in
     omega arith
 
-least-shown : (who : List ℕ) (table rows : List Withdrawal) → ShowsWithdrawals who table rows → (row : Training) → same_text row.who who ≡ true → (day : ℕ) → least_day rows row day ≡ least_day table row day
+least-shown : (who : List ℕ) (table rows : List Withdrawal) → Shown (is_withdrawal_of who) table rows → (row : Training) → same_text row.who who ≡ true → (day : ℕ) → least_day rows row day ≡ least_day table row day
 least-shown who table rows p row own day =
     one_number (least_day rows row day) (least_day table row day)
     (λ d. least-day rows row day d ∙ ap (λ b. nat_le day d || b) (withdrawn-shown who table rows p row own d) ∙ sym (least-day table row day d))
@@ -108,7 +101,7 @@ ends_from-who : (who : List ℕ) (role : Role) (day : ℕ) (row : Training) → 
 ends_from-who who role day row h = grind arith
 
 -- the same rows are to be put, in some order
-pub withdrawn_rows-shown : (who : List ℕ) (ts us : List Training) (ws vs : List Withdrawal) → ShowsTrainings who ts us → ShowsWithdrawals who ws vs → (role : Role) (day : ℕ)
+pub withdrawn_rows-shown : (who : List ℕ) (ts us : List Training) (ws vs : List Withdrawal) → Shown (is_training_of who) ts us → Shown (is_withdrawal_of who) ws vs → (role : Role) (day : ℕ)
     → IsPermutation (withdrawn_rows ts ws who role day) (withdrawn_rows us vs who role day)
 withdrawn_rows-shown who ts us ws vs p q role day =
     rw (map-same-in (withdrawal_of vs day) (withdrawal_of ws day) (filter (ends_from who role day) us)
@@ -122,27 +115,27 @@ text-turn a b h = (bytes_decides b a).1 (sym ((bytes_decides a b).0 h))
 
 -- WORDS ON THE ROWS THAT A VIEW SHOWS
 
-pub person-shown : (A : History) (who : List ℕ) (rows : List Person) → IsPermutation (filter (is_of_people (who ∷ [])) (people A)) (filter (is_of_people (who ∷ [])) rows) → is_person_by rows who ≡ is_person A who
+pub person-shown : (A : History) (who : List ℕ) (rows : List Person) → Shown (is_of_people (who ∷ [])) (people A) rows → is_person_by rows who ≡ is_person A who
 person-shown A who rows p =
     any-shown (λ row. same_text row.who who) (is_of_people (who ∷ [])) (λ row h. or_left (same_text row.who who) false h) (people A) rows p ∙ is_person-people A who
 
-ever_trained-shown : (A : History) (who : List ℕ) (rows : List Training) → IsPermutation (filter (is_training_of who) (trainings A)) (filter (is_training_of who) rows) → ever_trained_by rows who ≡ ever_trained A who
+ever_trained-shown : (A : History) (who : List ℕ) (rows : List Training) → Shown (is_training_of who) (trainings A) rows → ever_trained_by rows who ≡ ever_trained A who
 ever_trained-shown A who rows p = any-shown (is_training_of who) (is_training_of who) (λ row h. h) (trainings A) rows p ∙ ever_trained-trainings A who
 
 -- a training of the same four values is the person's
 same-who : (new old : Training) → same_training new old ≡ true → same_text old.who new.who ≡ true
 same-who new old h = grind (arith, text-turn new.who old.who)
 
-training-shown : (A : History) (new : Training) (rows : List Training) → IsPermutation (filter (is_training_of new.who) (trainings A)) (filter (is_training_of new.who) rows)
+training-shown : (A : History) (new : Training) (rows : List Training) → Shown (is_training_of new.who) (trainings A) rows
     → list_any (same_training new) rows ≡ list_any (same_training new) (trainings A)
 training-shown A new rows p = any-shown (same_training new) (is_training_of new.who) (same-who new) (trainings A) rows p
 
-put-shown : (A : History) (who : List ℕ) (rows : List Appointment) → IsPermutation (filter (is_appointment_of (Appointments.Person who)) (appointments A)) (filter (is_appointment_of (Appointments.Person who)) rows)
+put-shown : (A : History) (who : List ℕ) (rows : List Appointment) → Shown (is_appointment_of (Appointments.Person who)) (appointments A) rows
     → ever_put_by rows who ≡ ever_put_by (appointments A) who
 put-shown A who rows p = any-shown (λ row. same_text row.who who) (is_appointment_of (Appointments.Person who)) (λ row h. h) (appointments A) rows p
 
 -- the open appointment of a place, among those of the place
-pub open_row-shown : (A : History) → IsRegister A → (place : Place) (rows : List Appointment) → IsPermutation (filter (is_appointment_of (Appointments.Place place)) (appointments A)) (filter (is_appointment_of (Appointments.Place place)) rows)
+pub open_row-shown : (A : History) → IsRegister A → (place : Place) (rows : List Appointment) → Shown (is_appointment_of (Appointments.Place place)) (appointments A) rows
     → open_row_by rows place ≡ open_row_by (appointments A) place
 open_row-shown A h place rows p =
     find-shown (stands place) (is_appointment_of (Appointments.Place place)) (λ row e. (and_parts (same_place row.place place) (is_none row.until) e).0) (appointments A) rows p
@@ -207,7 +200,7 @@ train-leads A who role since until key view answer v k f =
     rw (put-new same_training new (trainings A) absent, new_key A (command_of key (Train who role since until)) answer k)
 
 -- by the rows shown the same rows are put, in some order; no two of them have one key
-withdrawals-put : (A : History) → IsRegister A → (who : List ℕ) (role : Role) (day : ℕ) (us : List Training) (vs : List Withdrawal) → ShowsTrainings who (trainings A) us → ShowsWithdrawals who (withdrawals A) vs
+withdrawals-put : (A : History) → IsRegister A → (who : List ℕ) (role : Role) (day : ℕ) (us : List Training) (vs : List Withdrawal) → Shown (is_training_of who) (trainings A) us → Shown (is_withdrawal_of who) (withdrawals A) vs
     → IsPermutation (put_all same_withdrawn (withdrawn_rows us vs who role day) (withdrawals A)) (put_all same_withdrawn (withdrawn_rows (trainings A) (withdrawals A) who role day) (withdrawals A))
 withdrawals-put A h who role day us vs p q =
     IsPermutation-sym _ _

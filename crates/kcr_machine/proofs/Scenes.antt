@@ -29,7 +29,7 @@ use Rattle.kcr_history.proofs.Steps.{took}
 use Rattle.kcr_scene.specs.Scene.{ceremony_by, facility_by, is_open_row, mark_by, scene_by}
 use Rattle.kcr_laws.proofs.Finds.{some_if}
 use Rattle.kcr_machine.proofs.FirstRefusals.{behind, met}
-use Rattle.kcr_machine.proofs.Keyed.{find-view, put-at, said-view}
+use Rattle.kcr_machine.proofs.Keyed.{Shown, find-view, put-at, said-view}
 
 pub turned : (a b : ℕ) → eqb b a ≡ false → eqb a b ≡ false
 turned a b h = false_from_ne_true (eqb a b) (λ e. true≢false (sym (eq-eqb b a (sym (eqb-true a b e))) ∙ h))
@@ -59,11 +59,8 @@ pub planned-number : (A : History) (c : ℕ) → list_any (λ k. eqb k c) (all_s
 planned-number [] c = refl
 planned-number (entry ∷ A) c = planned_after entry.command.act c (all_said planned_number A) (plan_of A c) (planned-number A c)
 
-abbrev pub ShowsCeremony : ℕ → List CeremonyRow → List CeremonyRow → Type 0
-ShowsCeremony c table rows = IsPermutation (filter (is_of_number c) table) (filter (is_of_number c) rows)
-
 -- the row of the ceremony, where it was planned
-pub ceremony-shown : (A : History) (c : ℕ) (rows : List CeremonyRow) → ShowsCeremony c (ceremonies A) rows → ceremony_by rows c ≡ some_if (is_ceremony A c) (ceremony_row A c)
+pub ceremony-shown : (A : History) (c : ℕ) (rows : List CeremonyRow) → Shown (is_of_number c) (ceremonies A) rows → ceremony_by rows c ≡ some_if (is_ceremony A c) (ceremony_row A c)
 ceremony-shown A c rows p =
     find-view (is_of_number c) (is_of_number c) (ceremony_row A) (ceremony_row A c) (λ x e. e) (λ k e. ap (ceremony_row A) (eqb-true k c e)) (all_said planned_number A) rows p
     ∙ ap (λ b. some_if b (ceremony_row A c)) (planned-number A c)
@@ -87,7 +84,7 @@ open-state A c = grind arith
 never-open : (A : History) → IsRegister A → (c : ℕ) → is_ceremony A c ≡ false → is_open A c ≡ false
 never-open A h c e = and_left (is_some (opened A c)) (is_none (closed A c)) (false_from_ne_true (is_some (opened A c)) (λ o. true≢false (sym (opened-planned A h c o) ∙ e)))
 
-module _ (A : History) (c : ℕ) (rows : List CeremonyRow) (p : ShowsCeremony c (ceremonies A) rows) where
+module _ (A : History) (c : ℕ) (rows : List CeremonyRow) (p : Shown (is_of_number c) (ceremonies A) rows) where
   -- whether there is such a ceremony
   pub known-shown : is_some (ceremony_by rows c) ≡ is_ceremony A c
   known-shown = grind (arith, ceremony-shown A c rows p)
@@ -156,11 +153,8 @@ pub opened-number : (A : History) (c : ℕ) → list_any (λ k. eqb k c) (all_sa
 opened-number [] c = refl
 opened-number (entry ∷ A) c = opened_after entry.command.act c (all_said opened_number A) (opened A c) (opened-number A c)
 
-abbrev pub ShowsMark : ℕ → List MarkRow → List MarkRow → Type 0
-ShowsMark c table rows = IsPermutation (filter (is_mark_of c) table) (filter (is_mark_of c) rows)
-
 -- the mark of the ceremony
-pub mark-shown : (A : History) → IsRegister A → (c : ℕ) (rows : List MarkRow) → ShowsMark c (marks A) rows → mark_by rows c ≡ mark A c
+pub mark-shown : (A : History) → IsRegister A → (c : ℕ) (rows : List MarkRow) → Shown (is_mark_of c) (marks A) rows → mark_by rows c ≡ mark A c
 mark-shown A h c rows p =
     said-view (is_mark_of c) (is_mark_of c) (mark_row A) (mark_row A c) (λ row. row.at) (mark A c) 0 (λ x e. e) (λ k e. ap (mark_row A) (eqb-true k c e)) (all_said opened_number A) rows p
     (opened-number A c ∙ sym (marked-opened A h c)) refl
@@ -207,7 +201,7 @@ scene_of A c at has_ca =
       has_ca = has_ca;
     }
 
-pub scene-shown : (A : History) → IsRegister A → (c at : ℕ) (has_ca : Bool) (view : View) → ShowsCeremony c (ceremonies A) view.ceremonies.items → ShowsMark c (marks A) view.marks.items
+pub scene-shown : (A : History) → IsRegister A → (c at : ℕ) (has_ca : Bool) (view : View) → Shown (is_of_number c) (ceremonies A) view.ceremonies.items → Shown (is_mark_of c) (marks A) view.marks.items
     → scene_by view c at (is_full A) has_ca ≡ scene_of A c at has_ca
 scene-shown A h c at has_ca view p q =
     let rows = view.ceremonies.items in

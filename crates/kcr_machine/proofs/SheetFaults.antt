@@ -43,10 +43,10 @@ use Rattle.kcr_history.proofs.Words.{is_person-people}
 use Rattle.kcr_acts.specs.SheetRows.{elsewhere, last_elsewhere, stays_of_request, named_twice, room_refusal}
 use Rattle.kcr_laws.proofs.Signing.{no_first}
 use Rattle.kcr_machine.proofs.FirstRefusals.{behind, first-found, met, nested}
-use Rattle.kcr_machine.proofs.Keyed.{any-shown}
+use Rattle.kcr_machine.proofs.Keyed.{Shown, any-shown}
 use Rattle.kcr_machine.proofs.Leads.{FaultShown}
 use Rattle.kcr_machine.proofs.Members.{IsIn, filter-in, filter-none, filter_map-in, find-same-in, in-any, in-append, in-behind, in-filter, in-filter_map, in-front}
-use Rattle.kcr_machine.proofs.Scenes.{is_open-shown, known-shown, mark-shown, marked-opened}
+use Rattle.kcr_machine.proofs.Scenes.{is_open-shown, known-shown, mark-shown, marked-opened, turned}
 use Rattle.kcr_machine.proofs.SheetStays.{IsClear, clear-order, clear-sheet, last-in, turn-last}
 
 -- THE STAYS THAT A REQUEST BEARS ON
@@ -59,7 +59,7 @@ last-same table rows c (who ∷ people) h =
     ∙ ap (cons_option (elsewhere c (last_stay table who))) (last-same table rows c people h.1)
 
 -- the stays of a request are the same, in some order
-pub stays-shown : (table rows : List Stay) (c : ℕ) (people : List (List ℕ)) → IsPermutation (filter (of_ceremony c) table) (filter (of_ceremony c) rows) → ShowsLast people table rows
+pub stays-shown : (table rows : List Stay) (c : ℕ) (people : List (List ℕ)) → Shown (of_ceremony c) table rows → ShowsLast people table rows
     → IsPermutation (stays_of_request table c people) (stays_of_request rows c people)
 stays-shown table rows c people p h =
     IsPermutation-append (filter (of_ceremony c) table) (filter (of_ceremony c) rows) (last_elsewhere table c people) (last_elsewhere rows c people) p
@@ -114,7 +114,7 @@ some-refusal stays clear c m full way people at =
 
 -- so by the rows of a view it is refused for what it is refused for by the sheet
 request-refusal : (rows : List SheetRow) → IsSheet rows → (shown : List Stay) (c m : ℕ) (full : Bool) (way : Way) (people : List (List ℕ)) (at : ℕ)
-    → IsPermutation (filter (of_ceremony c) (reverse (stays_by rows))) (filter (of_ceremony c) shown) → ShowsLast people (reverse (stays_by rows)) shown → are_apart people ≡ true
+    → Shown (of_ceremony c) (reverse (stays_by rows)) shown → ShowsLast people (reverse (stays_by rows)) shown → are_apart people ≡ true
     → stays_refusal (stays_of_request shown c people) c m full way people at ≡ rows_refusal rows c m full way people at
 request-refusal rows s shown c m full way people at p l a =
     let table : List Stay = reverse (stays_by rows) in
@@ -170,7 +170,7 @@ turns-first A c way at people =
     grind (arith, found)
 
 -- the people are in the register by their rows where they are by the history
-people-shown : (A : History) (rows : List Person) (all : List (List ℕ)) → IsPermutation (filter (is_of_people all) (people A)) (filter (is_of_people all) rows)
+people-shown : (A : History) (rows : List Person) (all : List (List ℕ)) → Shown (is_of_people all) (people A) rows
     → (who : List ℕ) → IsIn who all → is_person_by rows who ≡ is_person A who
 people-shown A rows all p who i =
     any-shown (λ row. same_text row.who who) (is_of_people all) (λ row h. in-any (same_text row.who) who all i h) (people A) rows p ∙ is_person-people A who

@@ -34,9 +34,10 @@ use Rattle.kcr_history.specs.Conditions.{first_with, out_of_turn}
 use Rattle.kcr_history.specs.Machine.{with_command}
 use Rattle.kcr_acts.specs.SheetRows.{stays_of_request, sheet_changes_by}
 use Rattle.kcr_machine.specs.RowDecision.{new_key_row}
-use Rattle.kcr_machine.proofs.Keyed.{put-rows}
+use Rattle.kcr_machine.proofs.Keyed.{Shown, put-rows}
 use Rattle.kcr_machine.proofs.Leads.{changed_by-rows, changed_with, command_of, new_key, other-order}
 use Rattle.kcr_machine.proofs.Members.{IsIn, any-in, filter-in, in-any, in-filter, in-front, in-order, map-same-in, none-in, none-passes}
+use Rattle.kcr_machine.proofs.Scenes.{turned}
 use Rattle.kcr_machine.proofs.SheetFaults.{among-all, stays-shown, turns-first}
 use Rattle.kcr_machine.proofs.SheetStays.{IsClear, before-enter, clear-order, clear-sheet}
 
@@ -127,7 +128,7 @@ same-stay : (x : Stay) → same_stay x x ≡ true
 same-stay x = and_from (same_text x.who x.who) (x.since == x.since) (same-itself x.who) (eq-eqb x.since x.since refl)
 
 -- those who leave get an end
-module _ (all shown : List Stay) (c at : ℕ) (people : List (List ℕ)) (clear : IsClear all) (p : IsPermutation (filter (of_ceremony c) all) (filter (of_ceremony c) shown)) (last : ShowsLast people all shown)
+module _ (all shown : List Stay) (c at : ℕ) (people : List (List ℕ)) (clear : IsClear all) (p : Shown (of_ceremony c) all shown) (last : ShowsLast people all shown)
     (turns : (who : List ℕ) → IsIn who people → is_out_of_turn_in all c Leave at who ≡ false) where
   abbrev changed : List Stay
   changed = filter (ends_by c people) (stays_of_request shown c people)
@@ -174,7 +175,7 @@ module _ (all shown : List Stay) (c at : ℕ) (people : List (List ℕ)) (clear 
 
 -- the stays are put
 stays-put : (rows : List SheetRow) → IsSheet rows → (shown : List Stay) (c : ℕ) (way : Way) (at : ℕ) (people : List (List ℕ)) → are_apart people ≡ true
-    → IsPermutation (filter (of_ceremony c) (reverse (stays_by rows))) (filter (of_ceremony c) shown) → ShowsLast people (reverse (stays_by rows)) shown
+    → Shown (of_ceremony c) (reverse (stays_by rows)) shown → ShowsLast people (reverse (stays_by rows)) shown
     → turn_refusal (find (is_out_of_turn_by rows c way at) people) ≡ None
     → IsPermutation (put_all same_stay (changed_stays (stays_of_request shown c people) c way people at) (reverse (stays_by rows))) (reverse (stays_by (rows ++ map (new_row c way at) people)))
 stays-put rows s shown c way at people a p l h =

@@ -31,7 +31,7 @@ use Rattle.kcr_history.specs.Fitting.{is_holder_by, fits_by}
 use Rattle.kcr_history.specs.Seating.{fits, one_to_seven, IsFirst, IsLeast}
 use Rattle.kcr_history.specs.Tables.{Tables, tables, marks, steps, step_row, seatings, seat_rows, seats_at, exceptions, trainings, withdrawals, appointments}
 use Rattle.kcr_history.specs.Changes.{changed_by, same_step, same_mark, same_exception}
-use Rattle.kcr_history.specs.Views.{IsViewOf}
+use Rattle.kcr_history.specs.Views.{IsViewOf, is_step_of}
 use Rattle.kcr_history.specs.Asked.{asks_by}
 use Rattle.kcr_history.specs.Machine.{Sitting, answer_to, IsRegister, sitting}
 use Rattle.kcr_scene.specs.Scene.{ceremony_by, facility_by}
@@ -42,16 +42,16 @@ use Rattle.kcr_laws.proofs.Done.{next_signed}
 use Rattle.kcr_people.proofs.Orders.{any-same}
 use Rattle.std.proofs.lemmas.Option.{same_Some, none-some}
 use Rattle.kcr_machine.proofs.InRoom.{holder-shown, present-shown, trained-all}
-use Rattle.kcr_machine.proofs.Keyed.{put-new}
+use Rattle.kcr_machine.proofs.Keyed.{Shown, put-new}
 use Rattle.kcr_machine.proofs.Leads.{FaultShown, SeatsLeadOn, changed-append, command_of, entry_as, new_key}
 use Rattle.kcr_machine.proofs.Scenes.{facility-shown, is_open-shown, known-shown, mark-shown, marks-put}
 use Rattle.kcr_machine.proofs.Seatings.{first-of, least-of}
-use Rattle.kcr_machine.proofs.StepRows.{ShowsSteps, done-shown, fresh-exception, fresh-seats, pass-there, put-seats, put-step, sign-there, stated-shown, step-shown}
+use Rattle.kcr_machine.proofs.StepRows.{done-shown, fresh-exception, fresh-seats, pass-there, put-seats, put-step, sign-there, stated-shown, step-shown}
 
 -- THE FIRST REFUSAL
 
 -- whether the script has the step
-no_step-shown : (A : History) → IsRegister A → (c : ℕ) (view : View) → ShowsSteps c (steps A) view.steps.items → (k : ℕ) → is_none (step_by view.steps.items c k) ≡ is_none (step_at (steps_of A c) k)
+no_step-shown : (A : History) → IsRegister A → (c : ℕ) (view : View) → Shown (is_step_of c) (steps A) view.steps.items → (k : ℕ) → is_none (step_by view.steps.items c k) ≡ is_none (step_at (steps_of A c) k)
 no_step-shown A h c view p k = grind (arith, step-shown A h c view.steps.items p k)
 
 pub sign-fault : (A : History) → IsRegister A → (c k at : ℕ) → FaultShown A (Sign c k at)
@@ -78,7 +78,7 @@ except-fault A h c text pass at key view v =
 -- SEATS
 
 -- the seats of the step's row are those of the script
-pub seats-shown : (A : History) → IsRegister A → (c : ℕ) (view : View) → ShowsSteps c (steps A) view.steps.items → (k : ℕ) → is_some (step_at (steps_of A c) k) ≡ true
+pub seats-shown : (A : History) → IsRegister A → (c : ℕ) (view : View) → Shown (is_step_of c) (steps A) view.steps.items → (k : ℕ) → is_some (step_at (steps_of A c) k) ≡ true
     → seats_by (step_by view.steps.items c k) ≡ seats_at (steps_of A c) k
 seats-shown A h c view p k e = rw (step-shown A h c view.steps.items p k, e) refl
 
@@ -171,7 +171,7 @@ seat-tables A c k at state people h l =
     ∙ ap (λ t. changed_by (mark_change c at ∷ []) t) (put-seats c k 0 people t (λ j m. fresh-seats A h c k j l))
 
 -- by the rows of the view the step's row is that one
-seats-changed : (A : History) → IsRegister A → (view : View) → (c k at : ℕ) (state : StepState) (people : List (List ℕ)) → ShowsSteps c (steps A) view.steps.items → is_some (step_at (steps_of A c) k) ≡ true → steps_done A c < k
+seats-changed : (A : History) → IsRegister A → (view : View) → (c k at : ℕ) (state : StepState) (people : List (List ℕ)) → Shown (is_step_of c) (steps A) view.steps.items → is_some (step_at (steps_of A c) k) ≡ true → steps_done A c < k
     → (rest : List Change) → changed_by (seat_changes view state c k at people ++ rest) (tables A)
     ≡ changed_by rest (record (tables A) { steps = put same_step (record (step_row A (c, k)) { state = state; at = Some at }) (steps A); seatings = stacked_on (seat_rows c k 0 people) (seatings A); marks = put same_mark (record { ceremony = c; at = at }) (marks A) })
 seats-changed A h view c k at state people p inside l rest =

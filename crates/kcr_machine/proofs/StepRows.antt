@@ -42,8 +42,8 @@ use Rattle.kcr_base.specs.declared.place.Facility.{Facility}
 use Rattle.kcr_room.proofs.Lists as RoomLists
 use Rattle.kcr_room.proofs.Lists.{filter-and, any-same}
 use Rattle.kcr_laws.proofs.Stored.{there}
-use Rattle.kcr_machine.proofs.Keyed.{filter-shown, find-view, put-at, put-new}
-use Rattle.kcr_machine.proofs.Members.{same-answers}
+use Rattle.kcr_machine.proofs.Keyed.{Shown, any-filter, filter-shown, find-view, put-at, put-new}
+use Rattle.kcr_machine.proofs.Members.{Implies, same-answers}
 
 -- COUNTING
 
@@ -62,7 +62,7 @@ count-map : {X Y : Type 0} (p : Y → Bool) (f : X → Y) (xs : List X) → tall
 count-map p f [] = refl
 count-map p f (x ∷ xs) = count-cons p (f x) (map f xs) ∙ ap (one_more (p (f x))) (count-map p f xs) ∙ sym (count-cons (λ x. p (f x)) x xs)
 
-count-view : {X : Type 0} (test of : X → Bool) → ((x : X) → test x ≡ true → of x ≡ true) → (table rows : List X) → IsPermutation (filter of table) (filter of rows) → tally test rows ≡ tally test table
+count-view : {X : Type 0} (test of : X → Bool) → Implies test of → (table rows : List X) → Shown of table rows → tally test rows ≡ tally test table
 count-view test of inside table rows p = length_permutation (filter test table) (filter test rows) (filter-shown test of inside table rows p)
 
 stacked-order : {X : Type 0} (xs ys : List X) → IsPermutation (xs ++ ys) (stacked_on xs ys)
@@ -265,14 +265,8 @@ stated-exceptions (entry ∷ A) h c =
 
 -- THE ROWS THAT A VIEW SHOWS
 
-abbrev pub ShowsSteps : ℕ → List StepRow → List StepRow → Type 0
-ShowsSteps c table rows = IsPermutation (filter (is_step_of c) table) (filter (is_step_of c) rows)
-
-abbrev pub ShowsExceptions : ℕ → List ExceptionRow → List ExceptionRow → Type 0
-ShowsExceptions c table rows = IsPermutation (filter (is_exception_of c) table) (filter (is_exception_of c) rows)
-
 -- the row of a step of the script
-pub step-shown : (A : History) → IsRegister A → (c : ℕ) (rows : List StepRow) → ShowsSteps c (steps A) rows → (k : ℕ)
+pub step-shown : (A : History) → IsRegister A → (c : ℕ) (rows : List StepRow) → Shown (is_step_of c) (steps A) rows → (k : ℕ)
     → step_by rows c k ≡ some_if (is_some (step_at (steps_of A c) k)) (step_row A (c, k))
 step-shown A h c rows p k =
     find-view (λ row. is_step_of c row && row.step == k) (is_step_of c) (step_row A) (step_row A (c, k))
@@ -282,17 +276,17 @@ step-shown A h c rows p k =
     ∙ ap (λ b. some_if b (step_row A (c, k))) (has-step A h c k)
 
 -- how many steps are signed or passed
-pub done-shown : (A : History) → IsRegister A → (c : ℕ) (rows : List StepRow) → ShowsSteps c (steps A) rows → done_by rows c ≡ steps_done A c
+pub done-shown : (A : History) → IsRegister A → (c : ℕ) (rows : List StepRow) → Shown (is_step_of c) (steps A) rows → done_by rows c ≡ steps_done A c
 done-shown A h c rows p =
     count-view (λ row. is_step_of c row && is_done row.state) (is_step_of c) (λ x e. (and_parts (is_step_of c x) (is_done x.state) e).0) (steps A) rows p
     ∙ done-steps A h c
 
 -- never more than a script has
-pub not_overdone : (A : History) → IsRegister A → (c : ℕ) (rows : List StepRow) → ShowsSteps c (steps A) rows → nat_lt 400 (done_by rows c) ≡ false
+pub not_overdone : (A : History) → IsRegister A → (c : ℕ) (rows : List StepRow) → Shown (is_step_of c) (steps A) rows → nat_lt 400 (done_by rows c) ≡ false
 not_overdone A h c rows p = le-ltb 400 (done_by rows c) (omega (arith, done-shown A h c rows p, done-below A h c, few-steps A c))
 
 -- how many exceptions are stated
-pub stated-shown : (A : History) → IsRegister A → (c : ℕ) (rows : List ExceptionRow) → ShowsExceptions c (exceptions A) rows → stated_by rows c ≡ exceptions_of A c
+pub stated-shown : (A : History) → IsRegister A → (c : ℕ) (rows : List ExceptionRow) → Shown (is_exception_of c) (exceptions A) rows → stated_by rows c ≡ exceptions_of A c
 stated-shown A h c rows p = count-view (is_exception_of c) (is_exception_of c) (λ x e. e) (exceptions A) rows p ∙ stated-exceptions A h c
 
 -- THE ROW OF A STEP THAT IS DONE

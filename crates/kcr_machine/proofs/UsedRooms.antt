@@ -16,7 +16,7 @@ use Rattle.kcr_history.specs.Conditions.{is_empty, is_room_used}
 use Rattle.kcr_history.specs.Machine.{IsRegister}
 use Rattle.kcr_history.specs.Views.{is_stay_of}
 use Rattle.kcr_acts.specs.CeremonyRows.{is_unended}
-use Rattle.kcr_machine.proofs.Keyed.{any-shown}
+use Rattle.kcr_machine.proofs.Keyed.{Shown, any-shown}
 use Rattle.kcr_machine.proofs.Members.{any-imp, any-in, in-any, same-answers}
 use Rattle.kcr_machine.proofs.SheetFaults.{sheet-made}
 use Rattle.kcr_machine.proofs.SheetStays.{row-bounds, stay-begun}
@@ -67,7 +67,7 @@ used-unended A h c t e = elim (or_cases (not (is_empty (present A c t))) (list_a
     here s q = grind arith
 
 -- the room is used where some stay that is shown has not ended
-pub used-shown : (A : History) → IsRegister A → (c t : ℕ) (rows : List Stay) → IsPermutation (filter (is_stay_of c) (reverse (stays_by (sheet A)))) (filter (is_stay_of c) rows) → list_any (is_unended c t) rows ≡ is_room_used A c t
+pub used-shown : (A : History) → IsRegister A → (c t : ℕ) (rows : List Stay) → Shown (is_stay_of c) (reverse (stays_by (sheet A))) rows → list_any (is_unended c t) rows ≡ is_room_used A c t
 used-shown A h c t rows p =
     any-shown (is_unended c t) (is_stay_of c) (λ stay e. (and_parts (stay.ceremony == c) (nat_lt t stay.since || lasts_at t stay.until) e).0) (reverse (stays_by (sheet A))) rows p
     ∙ sym (list_any-IsPermutation (is_unended c t) (stays_by (sheet A)) (reverse (stays_by (sheet A))) (IsPermutation-reverse (stays_by (sheet A))))
