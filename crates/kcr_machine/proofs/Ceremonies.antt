@@ -56,7 +56,7 @@ use Rattle.kcr_room.proofs.Lists as RoomLists
 use Rattle.kcr_room.proofs.Lists.{filter-and}
 use Rattle.kcr_machine.proofs.BagsWords.{open-shown}
 use Rattle.kcr_machine.proofs.FirstRefusals.{met}
-use Rattle.kcr_machine.proofs.Keyed.{Shown, any-filter, any-map, put-at, put-first, put-new}
+use Rattle.kcr_machine.proofs.Keyed.{Shown, any-map, put-at, put-first, put-new}
 use Rattle.kcr_machine.proofs.Leads.{FaultShown, Leads, command_of, entry_as, new_key}
 use Rattle.kcr_machine.proofs.Members.{IsIn, map-same-in, none-in, none-passes, same-answers}
 use Rattle.kcr_machine.proofs.Scenes.{ceremony-shown, known-shown, mark-after, mark-shown, marked-opened, open-opened, open-state, opened-number, opened-planned, planned-number, said-then, some-where, turned}

@@ -2,7 +2,6 @@
 use Rattle.std.proofs.Common.{◌≡◌, ℕ, Bool, true, false, cond, not, ◌&&◌, List, [], ◌∷◌, map, filter, Option, Some, None, option_map, is_some, is_none, refl, sym, ap, ◌∙◌, ◌++◌, subst, arith}
 use Rattle.std.specs.Prelude.{unwrap_or}
 use Rattle.std.specs.List.{list_any}
-use Rattle.std.specs.List.Sorted.{IsPermutation}
 use Rattle.std.proofs.lemmas.List.Sorted.{IsPermutation-sym}
 use Rattle.kcr_base.proofs.RefuseLemmas.{none_holds, unmet}
 use Rattle.kcr_base.specs.Refuse.{when}
@@ -44,7 +43,6 @@ use Rattle.kcr_history.proofs.Stacked.{or_parts}
 use Rattle.kcr_room.proofs.Lists.{map-same, map-map}
 use Rattle.kcr_base.specs.declared.refusal.Thing.TheVariants as Things
 use Rattle.kcr_machine.proofs.BagsWords.{added_rest, in-listed, items_known, listed-in}
-use Rattle.kcr_machine.proofs.FirstRefusals.{met}
 use Rattle.kcr_machine.proofs.Keyed.{Shown, put-at, put-first, put-new, put-rows}
 use Rattle.kcr_machine.proofs.Leads.{LeadsOn, changed_by-rows, command_of, entry_as, new_key}
 use Rattle.kcr_machine.proofs.Members.{IsIn, filter-in, in-any, in-filter, in-map, in-order, map-in, map-same-in, same-answers}

@@ -47,16 +47,20 @@ unfilter P of other (x ∷ rows) a = elim (cases_Bool (of x)) [
   | inr e ↦ (other x e, unfilter P of other rows (rw e at a))
 ]
 
+-- all rows that pass are this one
+abbrev pub Only : {X : Type 0} → (X → Bool) → X → List X → Type 0
+Only test v rows = AllByRecursion (λ x. test x ≡ true → x ≡ v) rows
+
 -- where all rows of the table that pass are one, that one is found
 pub found-shown : {X : Type 0} (test of : X → Bool) (v : X) → Implies test of → (table rows : List X) → Shown of table rows
-    → AllByRecursion (λ x. test x ≡ true → x ≡ v) table → find test rows ≡ some_if (list_any test table) v
+    → Only test v table → find test rows ≡ some_if (list_any test table) v
 found-shown {X} test of v inside table rows p only =
     let P : X → Type 0 = λ x. test x ≡ true → x ≡ v in
     let shown = recursion_from_All P (filter of rows) (All-permutation P (filter of table) (filter of rows) p (All-filter of P table (All-from_recursion P table only))) in
     find-all test v rows (unfilter P of (λ x e t. absurd (both_ways (of x) e (inside x t))) rows shown) ∙ ap (λ b. some_if b v) (any-shown test of inside table rows p)
 
 pub find-shown : {X : Type 0} (test of : X → Bool) → Implies test of → (table rows : List X) → Shown of table rows
-    → ((r : X) → find test table ≡ Some r → AllByRecursion (λ row. test row ≡ true → row ≡ r) table) → find test rows ≡ find test table
+    → ((r : X) → find test table ≡ Some r → Only test r table) → find test rows ≡ find test table
 find-shown {X} test of inside table rows p only = by_row (find test table) refl
   where
     by_row : (o : Option X) → find test table ≡ o → find test rows ≡ o
@@ -65,14 +69,14 @@ find-shown {X} test of inside table rows p only = by_row (find test table) refl
 
 -- what that one says is what the history says, where it is there exactly where the history says something
 pub said-shown : {X Y : Type 0} (test of : X → Bool) (v : X) (says : X → Y) (said : Option Y) (other : Y) → Implies test of → (table rows : List X)
-    → Shown of table rows → AllByRecursion (λ x. test x ≡ true → x ≡ v) table → list_any test table ≡ is_some said → says v ≡ unwrap_or said other
+    → Shown of table rows → Only test v table → list_any test table ≡ is_some said → says v ≡ unwrap_or said other
     → option_map says (find test rows) ≡ said
 said-shown test of v says said other inside table rows p only there own = grind (arith, found-shown test of v inside table rows p only)
 
 -- THE SAME OF ROWS THAT ARE FUNCTIONS OF THEIR KEYS
 
 all-keys : {K X : Type 0} (test : X → Bool) (row_of : K → X) (v : X) → ((k : K) → test (row_of k) ≡ true → row_of k ≡ v) → (keys : List K)
-    → AllByRecursion (λ x. test x ≡ true → x ≡ v) (map row_of keys)
+    → Only test v (map row_of keys)
 all-keys test row_of v same [] = tt
 all-keys test row_of v same (k ∷ keys) = (same k, all-keys test row_of v same keys)
 

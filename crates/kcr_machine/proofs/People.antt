@@ -1,8 +1,8 @@
 -- People, trainings and places: what the rows of a view say of them, the first refusal of an act on them, and where its changes lead.
-use Rattle.std.proofs.Common.{◌≡◌, ℕ, true, false, not, ◌||◌, ◌&&◌, nat_le, max, List, filter, refl, sym, ap, ◌∙◌, subst, arith, [], ◌∷◌, is_none, map, None}
+use Rattle.std.proofs.Common.{◌≡◌, ℕ, true, false, ◌||◌, ◌&&◌, nat_le, max, List, filter, refl, sym, ap, ◌∙◌, subst, arith, [], ◌∷◌, map, None}
 use Rattle.std.specs.List.{list_any}
 use Rattle.std.specs.List.Sorted.{IsPermutation}
-use Rattle.std.proofs.lemmas.Bool.{and_parts, leb-true, le-leb, or_left}
+use Rattle.std.proofs.lemmas.Bool.{leb-true, le-leb, or_left}
 use Rattle.std.proofs.lemmas.List.Sorted.{IsPermutation-map, list_any-IsPermutation, IsPermutation-refl, IsPermutation-sym}
 use Rattle.kcr_base.specs.Same.{same_text, same_place}
 use Rattle.kcr_base.specs.declared.place.Role.{Role}
@@ -55,7 +55,7 @@ withdrawal-who who row w own h = subst (λ t. same_text t.who who ≡ true) (sym
 -- whether a training of the person is withdrawn
 withdrawn-shown : (who : List ℕ) (table rows : List Withdrawal) → Shown (is_withdrawal_of who) table rows → (row : Training) → same_text row.who who ≡ true → (day : ℕ) → is_withdrawn_by rows row day ≡ is_withdrawn_by table row day
 withdrawn-shown who table rows p row own day =
-    any-shown (λ w. is_of row w && nat_le w.day day) (is_withdrawal_of who) (λ w h. withdrawal-who who row w own (and_parts (is_of row w) (nat_le w.day day) h).0) table rows p
+    any-shown (λ w. is_of row w && nat_le w.day day) (is_withdrawal_of who) (λ w h. withdrawal-who who row w own (grind arith)) table rows p
 
 -- WHO IS TRAINED
 
@@ -71,7 +71,7 @@ trains-any : (who : List ℕ) (ts us : List Training) (ws vs : List Withdrawal) 
 trains-any who ts us ws vs p q role on =
     any-same (λ row. trains vs who role (on row) row) (λ row. trains ws who role (on row) row) (λ row. trains-shown who ws vs q role (on row) row) us
     ∙ any-shown (λ row. trains ws who role (on row) row) (is_training_of who)
-    (λ row h. covers-who who role (on row) row (and_parts (covers who role (on row) row) (not (is_withdrawn_by ws row (on row))) h).0) ts us p
+    (λ row h. covers-who who role (on row) row (grind arith)) ts us p
 
 -- whether the person is trained on the day or a later one
 pub trained_from-shown : (who : List ℕ) (ts us : List Training) (ws vs : List Withdrawal) → Shown (is_training_of who) ts us → Shown (is_withdrawal_of who) ws vs → (role : Role) (day : ℕ)
@@ -138,7 +138,7 @@ put-shown A who rows p = any-shown (λ row. same_text row.who who) (is_appointme
 pub open_row-shown : (A : History) → IsRegister A → (place : Place) (rows : List Appointment) → Shown (is_appointment_of (Appointments.Place place)) (appointments A) rows
     → open_row_by rows place ≡ open_row_by (appointments A) place
 open_row-shown A h place rows p =
-    find-shown (stands place) (is_appointment_of (Appointments.Place place)) (λ row e. (and_parts (same_place row.place place) (is_none row.until) e).0) (appointments A) rows p
+    find-shown (stands place) (is_appointment_of (Appointments.Place place)) (λ row e. grind arith) (appointments A) rows p
     (λ r e. only-one place r (appointments A) (orderly A h).0 e)
 
 -- THE FIRST REFUSAL OF AN ACT

@@ -1,15 +1,14 @@
 -- What the rows of a view say of a ceremony is what the history says of it.
-use Rattle.std.proofs.Common.{◌≡◌, ℕ, Bool, true, false, cond, eqb, nat_lt, List, [], ◌∷◌, ◌++◌, map, filter, Option, Some, None, is_none, refl, sym, ap, ◌∙◌, subst, arith}
+use Rattle.std.proofs.Common.{◌≡◌, ℕ, Bool, true, false, cond, eqb, List, [], ◌∷◌, ◌++◌, map, filter, Option, Some, None, is_none, refl, sym, ap, ◌∙◌, subst, arith}
 use Rattle.std.specs.Prelude.{is_some}
 use Rattle.std.specs.List.{list_any, cons_option}
-use Rattle.std.specs.List.Sorted.{IsPermutation}
-use Rattle.std.proofs.lemmas.Bool.{true≢false, false≢true, eqb-true, eq-eqb, and_left, ltb-false, false_from_ne_true}
+use Rattle.std.proofs.lemmas.Bool.{true≢false, false≢true, eqb-true, eq-eqb, and_left, false_from_ne_true}
 use Rattle.kcr_base.specs.Rows.{put, or_else}
 use Rattle.kcr_base.specs.Refuse.{first_of}
 use Rattle.kcr_base.specs.declared.refusal.Refusal.{Refusal}
-use Rattle.kcr_base.specs.declared.refusal.Refusal.TheVariants.{Unknown, State, Late}
+use Rattle.kcr_base.specs.declared.refusal.Refusal.TheVariants.{Unknown, State}
 use Rattle.kcr_base.specs.declared.refusal.Thing.TheVariants as Things
-use Rattle.kcr_base.proofs.RefuseLemmas.{none_holds, unmet}
+use Rattle.kcr_base.proofs.RefuseLemmas.{none_holds}
 use Rattle.kcr_custody.specs.declared.Scene.{Scene}
 use Rattle.kcr_custody.specs.Custody.{not_ready}
 use Rattle.kcr_history.specs.declared.commands.Act.{Act}
@@ -163,8 +162,7 @@ mark-shown A h c rows p =
 
 -- not before the mark: the moment is the new mark
 pub mark-now : (o : Option ℕ) (at : ℕ) → is_late at o ≡ None → max_with at o ≡ at
-mark-now None at h = refl
-mark-now (Some m) at h = omega (arith, ltb-false at m (unmet (nat_lt at m) (Late m) h))
+mark-now o at h = grind arith
 
 abbrev row_at : ℕ → ℕ → MarkRow
 row_at c at = record { ceremony = c; at = at }

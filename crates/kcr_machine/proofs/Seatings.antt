@@ -1,8 +1,8 @@
 -- The search's answers by numbers, over those present, are the machine's: a first seating of people, and a least shortage of seats.
-use Rattle.std.proofs.Common.{◌≡◌, ◌≢◌, ℕ, zero, suc, ◌+◌, ◌<◌, ◌≤◌, Bool, true, false, cond, nat_lt, List, [], ◌∷◌, map, filter, length, get_or, refl, sym, ap, ◌∙◌, arith, subst, not, ◌&&◌, ◌==◌, nat_le, Option, Some, None, inl, inr}
+use Rattle.std.proofs.Common.{◌≡◌, ◌≢◌, ℕ, zero, suc, ◌+◌, ◌<◌, ◌≤◌, Bool, true, false, cond, nat_lt, List, [], ◌∷◌, map, filter, length, get_or, refl, sym, ap, ◌∙◌, arith, subst, ◌==◌, Option, Some, None, inl, inr}
 use Rattle.std.specs.Prelude.{slice_get, slice_index, if◌then◌else◌, EachIndex}
 use Rattle.std.specs.List.{list_any, list_all}
-use Rattle.std.proofs.lemmas.Bool.{false≢true, both_ways, ltb-true, and_parts, and_from, not-true, eqb-true, eq-eqb, le-leb, lt-ltb, cases_order, or_from, false_from_ne_true, true_from_ne_false, true≢false}
+use Rattle.std.proofs.lemmas.Bool.{false≢true, both_ways, ltb-true, and_parts, and_from, eqb-true, eq-eqb, lt-ltb, cases_order, or_from, false_from_ne_true, true_from_ne_false, true≢false}
 use Rattle.std.proofs.lemmas.List.{length-map, get_or-map}
 use Rattle.std.proofs.lemmas.List.Folds.{list_any_at, list_all_at}
 use Rattle.kcr_base.specs.Same.{same_text, is_before}
@@ -177,9 +177,7 @@ seating-is A c t (seat ∷ L) (who ∷ people) s =
     } in
     let alone : list_any (same_text who) people ≡ false
     = not_there who people (λ j l e. (let same : suc j ≡ 0 = s.distinct (suc j) 0 (omega (arith, l, count)) (omega arith) e in omega (arith, same))) in
-    and_from (eligible A c t seat who && not (list_any (same_text who) people)) (is_seating A c t L people)
-    (and_from (eligible A c t seat who) (not (list_any (same_text who) people)) (s.fitting 0 (omega arith)) (ap not alone))
-    (seating-is A c t L people rest)
+    grind (arith, s.fitting 0 (omega arith), seating-is A c t L people rest)
 
 one_more_seat : (E : Seat → List ℕ → Bool) (seat : Seat) (who : List ℕ) (L : List Seat) (people : List (List ℕ)) → E seat who ≡ true → list_any (same_text who) people ≡ false → IsSeatingOf E L people
     → IsSeatingOf E (seat ∷ L) (who ∷ people)
@@ -203,9 +201,7 @@ seating-of A c t [] [] h = record { each_seat = refl; fitting = λ k l. absurd (
 seating-of A c t [] (who ∷ people) h = absurd (false≢true h)
 seating-of A c t (seat ∷ L) [] h = absurd (false≢true h)
 seating-of A c t (seat ∷ L) (who ∷ people) h =
-    let q = and_parts (eligible A c t seat who && not (list_any (same_text who) people)) (is_seating A c t L people) h in
-    let p = and_parts (eligible A c t seat who) (not (list_any (same_text who) people)) q.0 in
-    one_more_seat (eligible A c t) seat who L people p.0 (not-true (list_any (same_text who) people) p.1) (seating-of A c t L people q.1)
+    one_more_seat (eligible A c t) seat who L people (grind arith) (grind arith) (seating-of A c t L people (grind arith))
 
 -- where the first position that differs has a later person, the first list comes first
 comes-first : (people others : List (List ℕ)) → length people ≡ length others → others ≢ people
@@ -259,9 +255,9 @@ tail-rises p S h = λ k l.
 rise-is : (low high : ℕ) (S : List ℕ) → IsStrictlyIncreasing S → EachIndex S (λ i. slice_index S i < high) → (0 < length S → low ≤ slice_index S 0) → rise low high S ≡ true
 rise-is low high [] inc range first = refl
 rise-is low high (p ∷ S) inc range first =
-    and_from (nat_le low p && nat_lt p high) (rise (suc p) high S)
-    (and_from (nat_le low p) (nat_lt p high) (le-leb low p (first (omega arith))) (lt-ltb p high (range 0 (omega arith))))
-    (rise-is (suc p) high S (tail-rises p S inc) (λ i l. range (suc i) (omega (arith, l))) (λ l. inc 0 (omega (arith, l))))
+    let above : low ≤ p = first (omega arith) in
+    let below : p < high = range 0 (omega arith) in
+    grind (arith, rise-is (suc p) high S (tail-rises p S inc) (λ i l. range (suc i) (omega (arith, l))) (λ l. inc 0 (omega (arith, l))))
 
 range-of : (low high : ℕ) (S : List ℕ) → rise low high S ≡ true → (i : ℕ) → i < length S → slice_index S i < high
 range-of low high [] r i l = absurd (omega (arith, l))
@@ -281,9 +277,9 @@ rises-of low high (p ∷ q ∷ S) r (suc k) l =
 part-of : (part whole : List ℕ) → list_all (λ p. is_one p whole) part ≡ true → Search.IsPart part whole
 part-of [] whole h i l = absurd (omega (arith, l))
 part-of (p ∷ part) whole h zero l =
-    let q = position (λ p q. q == p) (λ p q e. sym (eqb-true q p e)) 0 whole p (and_parts (is_one p whole) (list_all (λ p. is_one p whole) part) h).0 in
+    let q = position (λ p q. q == p) (λ p q e. sym (eqb-true q p e)) 0 whole p (grind arith) in
     (position_in (λ p q. q == p) whole p, q.0, q.1)
-part-of (p ∷ part) whole h (suc i) l = part-of part whole (and_parts (is_one p whole) (list_all (λ p. is_one p whole) part) h).1 i (omega (arith, l))
+part-of (p ∷ part) whole h (suc i) l = part-of part whole (grind arith) i (omega (arith, l))
 
 -- rising numbers that are all in a list are not more than it has
 pigeon : (S T : List ℕ) → IsStrictlyIncreasing S → Search.IsPart S T → length S ≤ length T
@@ -303,8 +299,8 @@ rising-at : (P : List (List ℕ)) → are_rising P ≡ true → (i j : ℕ) → 
 rising-at [] h i j l m = absurd (omega (arith, m))
 rising-at (x ∷ P) h i zero l m = absurd (omega (arith, l))
 rising-at (x ∷ P) h zero (suc j) l m =
-    true_from_ne_false (is_before x (get_or P j [])) (λ e. true≢false (sym (and_parts (list_all (is_before x) P) (are_rising P) h).0 ∙ list_all_at (is_before x) P j [] (omega (arith, m)) e))
-rising-at (x ∷ P) h (suc i) (suc j) l m = rising-at P (and_parts (list_all (is_before x) P) (are_rising P) h).1 i j (omega (arith, l)) (omega (arith, m))
+    true_from_ne_false (is_before x (get_or P j [])) (λ e. true≢false (sym (let q : list_all (is_before x) P ≡ true = grind arith in q) ∙ list_all_at (is_before x) P j [] (omega (arith, m)) e))
+rising-at (x ∷ P) h (suc i) (suc j) l m = rising-at P (grind arith) i j (omega (arith, l)) (omega (arith, m))
 
 -- F says who fits by the rows, and of the seats at hand says what the history does
 module _ (A : History) (c t : ℕ) (F : Seat → List ℕ → Bool) (L : List Seat)

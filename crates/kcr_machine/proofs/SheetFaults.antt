@@ -46,7 +46,7 @@ use Rattle.kcr_machine.proofs.FirstRefusals.{behind, first-found, met, nested}
 use Rattle.kcr_machine.proofs.Keyed.{Shown, any-shown}
 use Rattle.kcr_machine.proofs.Leads.{FaultShown}
 use Rattle.kcr_machine.proofs.Members.{IsIn, filter-in, filter-none, filter_map-in, find-same-in, in-any, in-append, in-behind, in-filter, in-filter_map, in-front}
-use Rattle.kcr_machine.proofs.Scenes.{is_open-shown, known-shown, mark-shown, marked-opened, turned}
+use Rattle.kcr_machine.proofs.Scenes.{is_open-shown, known-shown, mark-shown, marked-opened}
 use Rattle.kcr_machine.proofs.SheetStays.{IsClear, clear-order, clear-sheet, last-in, turn-last}
 
 -- THE STAYS THAT A REQUEST BEARS ON

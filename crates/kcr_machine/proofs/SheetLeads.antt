@@ -37,7 +37,6 @@ use Rattle.kcr_machine.specs.RowDecision.{new_key_row}
 use Rattle.kcr_machine.proofs.Keyed.{Shown, put-rows}
 use Rattle.kcr_machine.proofs.Leads.{changed_by-rows, changed_with, command_of, new_key, other-order}
 use Rattle.kcr_machine.proofs.Members.{IsIn, any-in, filter-in, in-any, in-filter, in-front, in-order, map-same-in, none-in, none-passes}
-use Rattle.kcr_machine.proofs.Scenes.{turned}
 use Rattle.kcr_machine.proofs.SheetFaults.{among-all, stays-shown, turns-first}
 use Rattle.kcr_machine.proofs.SheetStays.{IsClear, before-enter, clear-order, clear-sheet}
 
@@ -152,12 +151,11 @@ module _ (all shown : List Stay) (c at : ℕ) (people : List (List ℕ)) (clear 
       let same : r.who ≡ w.0 = same-is r.who w.0 w.2 in
       let t = or_parts (list_any (reaches w.0 at) all) (not (list_any (is_inside_of c w.0) all)) (turns w.0 w.1) in
       let s = any-in (is_inside_of c w.0) all (not-false (list_any (is_inside_of c w.0) all) t.1) in
-      let a = and_parts (same_text s.0.who w.0 && is_open s.0.until) (s.0.ceremony == c) s.2 in
-      let b = and_parts (same_text s.0.who w.0) (is_open s.0.until) a.0 in
+      let b : (same_text s.0.who w.0 ≡ true) × (is_open s.0.until ≡ true) = (grind arith, grind arith) in
       let owner : same_text r.who s.0.who ≡ true = ap (same_text r.who) (same-is s.0.who w.0 b.0 ∙ sym same) ∙ same-itself r.who in
       let is : r ≡ s.0 = elim (cases_lt r.since s.0.since) [ inl l ↦ by_time r s.0 i s.1 owner o (omega (arith, l)) | inr l ↦ sym (by_time s.0 r s.1 i (same-turned s.0.who r.who ∙ owner) b.1 l) ] in
-      let here : (r.ceremony == c) ≡ true = ap (λ z. z.ceremony == c) is ∙ a.1 in
-      let fits : ends_by c people r ≡ true = and_from (r.ceremony == c && is_among people r.who) (is_open r.until) (and_from (r.ceremony == c) (is_among people r.who) here m) o in
+      let here : (r.ceremony == c) ≡ true = rw is (grind arith) in
+      let fits : ends_by c people r ≡ true = grind arith in
       let own : IsIn r (filter (of_ceremony c) shown) = in-order r (filter (of_ceremony c) shown) (filter (of_ceremony c) all) (IsPermutation-sym (filter (of_ceremony c) all) (filter (of_ceremony c) shown) p) (filter-in (of_ceremony c) r all i here) in
       in-any (λ x. same_stay x r) r changed
       (filter-in (ends_by c people) r (stays_of_request shown c people) (in-front r (filter (of_ceremony c) shown) _ own) fits)

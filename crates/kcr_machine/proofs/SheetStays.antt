@@ -1,8 +1,8 @@
 -- The stays of a sheet made in turn: of a person's stays each ended before the next began, so the last one tells whose turn it is.
-use Rattle.std.proofs.Common.{◌≡◌, ℕ, ◌<◌, ◌≤◌, Bool, true, false, cond, not, ◌||◌, ◌&&◌, ◌==◌, nat_le, List, [], ◌∷◌, ◌++◌, map, filter, Option, Some, None, refl, sym, ap, ◌∙◌, subst, arith, append-nil, append_assoc, ◌⊎◌, inl, inr}
+use Rattle.std.proofs.Common.{◌≡◌, ℕ, ◌<◌, ◌≤◌, Bool, true, false, cond, not, ◌&&◌, nat_le, List, [], ◌∷◌, ◌++◌, map, filter, Option, Some, None, refl, sym, ap, ◌∙◌, subst, arith, append-nil, append_assoc, ◌⊎◌, inl, inr}
 use Rattle.std.specs.List.{list_any}
 use Rattle.std.specs.List.Sorted.{IsPermutation}
-use Rattle.std.proofs.lemmas.Bool.{true≢false, and_parts, and_from, or_parts, not-true, leb-true, leb-false, and_right, eqb-true, not-false}
+use Rattle.std.proofs.lemmas.Bool.{true≢false, and_parts, and_from, or_parts, not-true, leb-true, leb-false, and_right}
 use Rattle.kcr_base.specs.Same.{same_text}
 use Rattle.kcr_room.specs.declared.SheetRow.{SheetRow}
 use Rattle.kcr_room.specs.declared.Stay.{Stay}
@@ -161,10 +161,9 @@ bounds-kept c Leave at who stays row (s, i, e, inr until) = (closed (who ∷ [])
 bounds-new : (c : ℕ) (way : Way) (at : ℕ) (who : List ℕ) (stays : List Stay) → is_out_of_turn_in stays c way at who ≡ false → Bounds (added c way at (who ∷ []) stays) (new_row c way at who)
 bounds-new c Enter at who stays h = (new_stay c at who, in-behind (new_stay c at who) stays (new_stay c at who ∷ []) (inl refl), refl, inl refl)
 bounds-new c Leave at who stays h =
-    let a = any-in (is_inside_of c who) stays (not-false (list_any (is_inside_of c who) stays) (or_parts (list_any (reaches who at) stays) (not (list_any (is_inside_of c who) stays)) h).1) in
-    let p = and_parts (is_inside who a.0) (a.0.ceremony == c) a.2 in
-    let q = and_parts (same_text a.0.who who) (is_open a.0.until) p.0 in
-    (closed (who ∷ []) at a.0, map-in (closed (who ∷ []) at) a.0 stays a.1, eqb-true a.0.ceremony c p.1, inr (rw (q.0, q.1) refl))
+    let a = any-in (is_inside_of c who) stays (grind arith) in
+    let q : (same_text a.0.who who ≡ true) × (is_open a.0.until ≡ true) × (a.0.ceremony ≡ c) = (grind arith, grind arith, grind arith) in
+    (closed (who ∷ []) at a.0, map-in (closed (who ∷ []) at) a.0 stays a.1, q.2, inr (rw (q.0, q.1) refl))
 
 -- each row of a sheet made in turn begins or ends a stay
 pub row-bounds : (rows : List SheetRow) → IsSheet rows → (row : SheetRow) → IsIn row rows → Bounds (stays_by rows) row
@@ -230,7 +229,7 @@ any-last all some who clear sub has test of = same-answers (list_any test some) 
         in-any test z.0 some (has z.0 z.1) (by_since a.0 z.0 a.1 z.2 own z.3 z.4 a.2)
 
 of-reaches : (who : List ℕ) (at : ℕ) → IsOfLast who (reaches who at)
-of-reaches who at = (λ r h. (and_parts (same_text r.who who) (nat_le at r.since || ends_from at r.until) h).0, later)
+of-reaches who at = (λ r h. grind arith, later)
   where
     later : (r s : Stay) → same_text s.who who ≡ true → r.since < s.since → EndsBy s.since r.until → reaches who at r ≡ true → reaches who at s ≡ true
     later r s e l q h = grind arith
@@ -238,8 +237,8 @@ of-reaches who at = (λ r h. (and_parts (same_text r.who who) (nat_le at r.since
 -- a test that only stays in the room pass
 of-inside : (who : List ℕ) (test : Stay → Bool) → ((r : Stay) → test r ≡ true → is_inside who r ≡ true) → IsOfLast who test
 of-inside who test inside = (
-  λ r h. (and_parts (same_text r.who who) (is_open r.until) (inside r h)).0,
-  λ r s e l q h. absurd (true≢false (sym (and_parts (same_text r.who who) (is_open r.until) (inside r h)).1 ∙ ap is_open q.1)),
+  λ r h. let i = inside r h in grind arith,
+  λ r s e l q h. let i = inside r h in absurd (grind arith),
 )
 
 -- it is somebody's turn by some of the stays, the last one among them, where it is by all
@@ -250,6 +249,6 @@ turn-last all some who clear sub has c Enter at =
 turn-last all some who clear sub has c Leave at =
     rw (
       any-last all some who clear sub has (reaches who at) (of-reaches who at),
-      any-last all some who clear sub has (is_inside_of c who) (of-inside who (is_inside_of c who) (λ r h. (and_parts (is_inside who r) (r.ceremony == c) h).0)),
+      any-last all some who clear sub has (is_inside_of c who) (of-inside who (is_inside_of c who) (λ r h. grind arith)),
     )
     refl

@@ -4,7 +4,7 @@ use Rattle.std.specs.Prelude.{is_some, slice_get, unwrap_or, option_map}
 use Rattle.std.specs.List.{list_any}
 use Rattle.std.specs.List.Sorted.{IsPermutation}
 use Rattle.std.specs.Result.{result_unwrap_or}
-use Rattle.std.proofs.lemmas.Bool.{true≢false, false≢true, le-ltb, eqb-true, eq-eqb, ne_eqb, and_parts, and_right, or_from}
+use Rattle.std.proofs.lemmas.Bool.{false≢true, le-ltb, eqb-true, eq-eqb, ne_eqb, and_parts, and_right, or_from}
 use Rattle.std.proofs.lemmas.List.Sorted.{length_permutation, list_any-IsPermutation, IsPermutation-refl, IsPermutation-trans, IsPermutation-sym, IsPermutation-middle}
 use Rattle.std.proofs.lemmas.Option.{slice_get_past}
 use Rattle.kcr_base.specs.Rows.{or_else, put}
@@ -42,7 +42,7 @@ use Rattle.kcr_base.specs.declared.place.Facility.{Facility}
 use Rattle.kcr_room.proofs.Lists as RoomLists
 use Rattle.kcr_room.proofs.Lists.{filter-and, any-same}
 use Rattle.kcr_laws.proofs.Stored.{there}
-use Rattle.kcr_machine.proofs.Keyed.{Shown, any-filter, filter-shown, find-view, put-at, put-new}
+use Rattle.kcr_machine.proofs.Keyed.{Shown, filter-shown, find-view, put-at, put-new}
 use Rattle.kcr_machine.proofs.Members.{Implies, same-answers}
 
 -- COUNTING
@@ -76,8 +76,7 @@ any-stacked p xs ys = sym (list_any-IsPermutation p (xs ++ ys) (stacked_on xs ys
 -- THE STEPS OF A CEREMONY
 
 unplanned : (o : Option Planned) → is_some o ≡ false → unwrap_or (option_map (λ plan. plan.steps) o) [] ≡ []
-unplanned None h = refl
-unplanned (Some p) h = absurd (true≢false h)
+unplanned o h = grind arith
 
 no_steps : (A : History) (c : ℕ) → is_ceremony A c ≡ false → steps_of A c ≡ []
 no_steps A c h = unplanned (plan_of A c) h
@@ -99,8 +98,8 @@ next-there A (Sign d k at) c f e =
     subst (λ c. is_some (step_at (steps_of A c) (next_step A c)) ≡ true) (eqb-true d c e)
     (subst (λ k. is_some (step_at (steps_of A d) k) ≡ true) (next_signed A d k at f) (sign-there A d k at f))
 next-there A (Except d text true at) c f e =
-    subst (λ c. is_some (step_at (steps_of A c) (next_step A c)) ≡ true) (eqb-true d c (and_parts (d == c) true e).0) (pass-there A d text at f)
-next-there A (Except d text false at) c f e = absurd (false≢true (and_parts (d == c) false e).1)
+    subst (λ c. is_some (step_at (steps_of A c) (next_step A c)) ≡ true) (eqb-true d c (grind arith)) (pass-there A d text at f)
+next-there A (Except d text false at) c f e = absurd (grind arith)
 next-there A act c f e = absurd (false≢true e)
 
 one_below : (b : Bool) (n : ℕ) (ss : List Step) → (b ≡ true → is_some (step_at ss (suc n)) ≡ true) → n ≤ length ss → one_more b n ≤ length ss
@@ -270,7 +269,7 @@ pub step-shown : (A : History) → IsRegister A → (c : ℕ) (rows : List StepR
     → step_by rows c k ≡ some_if (is_some (step_at (steps_of A c) k)) (step_row A (c, k))
 step-shown A h c rows p k =
     find-view (λ row. is_step_of c row && row.step == k) (is_step_of c) (step_row A) (step_row A (c, k))
-    (λ x e. (and_parts (is_step_of c x) (x.step == k) e).0)
+    (λ x e. grind arith)
     (λ key e. let q = and_parts (key.0 == c) (key.1 == k) e in ap (λ a. step_row A (a, key.1)) (eqb-true key.0 c q.0) ∙ ap (λ b. step_row A (c, b)) (eqb-true key.1 k q.1))
     (step_keys A) rows p
     ∙ ap (λ b. some_if b (step_row A (c, k))) (has-step A h c k)
@@ -278,7 +277,7 @@ step-shown A h c rows p k =
 -- how many steps are signed or passed
 pub done-shown : (A : History) → IsRegister A → (c : ℕ) (rows : List StepRow) → Shown (is_step_of c) (steps A) rows → done_by rows c ≡ steps_done A c
 done-shown A h c rows p =
-    count-view (λ row. is_step_of c row && is_done row.state) (is_step_of c) (λ x e. (and_parts (is_step_of c x) (is_done x.state) e).0) (steps A) rows p
+    count-view (λ row. is_step_of c row && is_done row.state) (is_step_of c) (λ x e. grind arith) (steps A) rows p
     ∙ done-steps A h c
 
 -- never more than a script has

@@ -1,13 +1,12 @@
 -- Whether anybody is in the room of a ceremony at a moment or comes or goes later: by the stays that a view shows as by the sheet.
-use Rattle.std.proofs.Common.{◌≡◌, ℕ, true, not, ◌||◌, ◌&&◌, ◌==◌, nat_le, nat_lt, List, [], ◌∷◌, filter, reverse, length, refl, sym, ap, ◌∙◌, arith, inl, inr}
+use Rattle.std.proofs.Common.{◌≡◌, ℕ, true, not, ◌&&◌, ◌==◌, nat_lt, List, [], ◌∷◌, reverse, length, refl, sym, ap, ◌∙◌, arith, inl, inr}
 use Rattle.std.specs.List.{list_any}
-use Rattle.std.specs.List.Sorted.{IsPermutation}
-use Rattle.std.proofs.lemmas.Bool.{and_parts, and_from, le-leb, lt-ltb, ltb-false, or_left, or_right, cases_Bool, or_cases}
+use Rattle.std.proofs.lemmas.Bool.{lt-ltb, or_left, or_right, cases_Bool, or_cases}
 use Rattle.std.proofs.lemmas.List.Sorted.{list_any-IsPermutation, IsPermutation-reverse}
 use Rattle.kcr_room.specs.declared.SheetRow.{SheetRow}
 use Rattle.kcr_room.specs.declared.Stay.{Stay}
 use Rattle.kcr_room.specs.Room.{present_by}
-use Rattle.kcr_room.specs.Stays.{lasts_at, holds, stays_by, crowd_in_by}
+use Rattle.kcr_room.specs.Stays.{holds, stays_by, crowd_in_by}
 use Rattle.kcr_room.proofs.Agreement.{same-crowd}
 use Rattle.kcr_room.proofs.Moments.{crowd-cons}
 use Rattle.kcr_history.specs.History.{History}
@@ -38,16 +37,11 @@ unended-used : (A : History) → IsRegister A → (c t : ℕ) → list_any (is_u
 unended-used A h c t e =
     let a = any-in (is_unended c t) (stays_by (sheet A)) e in
     let s : Stay = a.0 in
-    let p = and_parts (s.ceremony == c) (nat_lt t s.since || lasts_at t s.until) a.2 in
     let later = list_any (λ (row : SheetRow). (row.ceremony == c) && nat_lt t row.at) (sheet A) in
     elim (cases_Bool (nat_lt t s.since)) [
       | inl l ↦ let r = stay-begun (sheet A) (sheet-made A h) s a.1 in
-          or_right (not (is_empty (present A c t))) later
-          (in-any (λ row. (row.ceremony == c) && nat_lt t row.at) r.0 (sheet A) r.1 (and_from (r.0.ceremony == c) (nat_lt t r.0.at) (ap (λ d. d == c) r.2 ∙ p.0) (ap (nat_lt t) r.3 ∙ l)))
-      | inr l ↦ let began = le-leb s.since t (omega (arith, ltb-false t s.since l)) in
-          or_left (not (is_empty (present A c t))) later
-          (present-held (sheet A) c t
-          ∙ in-any (holds c t) s (stays_by (sheet A)) a.1 (and_from (s.ceremony == c && nat_le s.since t) (lasts_at t s.until) (and_from (s.ceremony == c) (nat_le s.since t) p.0 began) (rw l at p.1)))
+          or_right (not (is_empty (present A c t))) later (in-any (λ row. (row.ceremony == c) && nat_lt t row.at) r.0 (sheet A) r.1 (grind arith))
+      | inr l ↦ or_left (not (is_empty (present A c t))) later (present-held (sheet A) c t ∙ in-any (holds c t) s (stays_by (sheet A)) a.1 (grind arith))
     ]
 
 -- the stay of somebody in the room has not ended, nor one that a later row begins or ends
@@ -55,12 +49,8 @@ used-unended : (A : History) → IsRegister A → (c t : ℕ) → is_room_used A
 used-unended A h c t e = elim (or_cases (not (is_empty (present A c t))) (list_any (λ row. (row.ceremony == c) && nat_lt t row.at) (sheet A)) e) [
   | inl p ↦ any-imp (holds c t) (is_unended c t) here (stays_by (sheet A)) (sym (present-held (sheet A) c t) ∙ p)
   | inr l ↦ let a = any-in (λ row. (row.ceremony == c) && nat_lt t row.at) (sheet A) l in
-      let p = and_parts (a.0.ceremony == c) (nat_lt t a.0.at) a.2 in
       let b = row-bounds (sheet A) (sheet-made A h) a.0 a.1 in
-      in-any (is_unended c t) b.0 (stays_by (sheet A)) b.1 (and_from (b.0.ceremony == c) (nat_lt t b.0.since || lasts_at t b.0.until) (ap (λ d. d == c) b.2 ∙ p.0) (elim b.3 [
-        | inl since ↦ or_left (nat_lt t b.0.since) (lasts_at t b.0.until) (ap (nat_lt t) since ∙ p.1)
-        | inr until ↦ or_right (nat_lt t b.0.since) (lasts_at t b.0.until) (ap (lasts_at t) until ∙ p.1)
-      ]))
+      in-any (is_unended c t) b.0 (stays_by (sheet A)) b.1 (grind arith)
 ]
   where
     here : (s : Stay) → holds c t s ≡ true → is_unended c t s ≡ true
@@ -69,6 +59,6 @@ used-unended A h c t e = elim (or_cases (not (is_empty (present A c t))) (list_a
 -- the room is used where some stay that is shown has not ended
 pub used-shown : (A : History) → IsRegister A → (c t : ℕ) (rows : List Stay) → Shown (is_stay_of c) (reverse (stays_by (sheet A))) rows → list_any (is_unended c t) rows ≡ is_room_used A c t
 used-shown A h c t rows p =
-    any-shown (is_unended c t) (is_stay_of c) (λ stay e. (and_parts (stay.ceremony == c) (nat_lt t stay.since || lasts_at t stay.until) e).0) (reverse (stays_by (sheet A))) rows p
+    any-shown (is_unended c t) (is_stay_of c) (λ stay e. grind arith) (reverse (stays_by (sheet A))) rows p
     ∙ sym (list_any-IsPermutation (is_unended c t) (stays_by (sheet A)) (reverse (stays_by (sheet A))) (IsPermutation-reverse (stays_by (sheet A))))
     ∙ same-answers (list_any (is_unended c t) (stays_by (sheet A))) (is_room_used A c t) (unended-used A h c t) (used-unended A h c t)
