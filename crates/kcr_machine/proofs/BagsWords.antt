@@ -45,7 +45,8 @@ use Rattle.kcr_machine.proofs.Scenes.{said-then, some-where}
 -- where the bag is, by the rows of its serial
 pub spot-shown : (A : History) → IsRegister A → (s : List ℕ) (rows : List Bag) → Shown (is_of_serial s) (bags A) rows → spot_by rows s ≡ spot A s
 spot-shown A h s rows p =
-    said-view (λ row. same_text row.serial s) (is_of_serial s) (bag_row A) (bag_row A s) (λ row. row.spot) (spot A s) Spent (λ row e. e) (λ k e. ap (bag_row A) (text_same k s e)) (all_said sealed_serial A) rows p
+    said-view (λ row. same_text row.serial s) (is_of_serial s) (bag_row A) (bag_row A s) (λ row. row.spot) (spot A s) Spent (λ row e. e)
+    (λ k e. ap (bag_row A) (text_same k s e)) (all_said sealed_serial A) rows p
     (sealed_somewhere A h s) refl
 
 -- ITEMS
@@ -77,7 +78,8 @@ listed-in k ks h = let a = any-in (same_text k) ks h in subst (λ x. IsIn x ks) 
 pub in-listed : (k : List ℕ) (ks : List (List ℕ)) → IsIn k ks → list_any (same_text k) ks ≡ true
 in-listed k ks i = in-any (same_text k) k ks i (text_refl k)
 
-some_rest : (S : Option (List ℕ)) (D : Option Facility) (inside : List ℕ → Rest) → is_some (or_else (option_map inside S) (option_map Loose D)) ≡ (is_some S || is_some D)
+some_rest : (S : Option (List ℕ)) (D : Option Facility) (inside : List ℕ → Rest)
+    → is_some (or_else (option_map inside S) (option_map Loose D)) ≡ (is_some S || is_some D)
 some_rest S D inside = grind arith
 
 abbrev last_bag : History → List ℕ → Option (List ℕ)
@@ -90,9 +92,11 @@ sealed_added (entry ∷ A) h k s =
     said-then (sealed_in k entry.command.act) (last_bag A k) (added_at (facility_of A) k entry.command.act) (added A k)
     (by_act entry.command.act (took A entry h.0).no_fault (sealed_added A h.1 k)) (sealed_added A h.1 k) s
   where
-    by_act : (act : Act) → fault A act ≡ None → (is_some (last_bag A k) ≡ true → is_some (added A k) ≡ true) → is_some (sealed_in k act) ≡ true → is_some (added A k) ≡ true
+    by_act : (act : Act) → fault A act ≡ None → (is_some (last_bag A k) ≡ true → is_some (added A k) ≡ true) → is_some (sealed_in k act) ≡ true
+        → is_some (added A k) ≡ true
     by_act (Seal c serial codes at) f ih e =
-        let r = items_known A k codes (none_holds (conditions A (Seal c serial codes at)) f).1.0 (listed-in k codes (some-where (list_any (same_text k) codes) serial e)) in
+        let r = items_known A k codes (none_holds (conditions A (Seal c serial codes at)) f).1.0
+        (listed-in k codes (some-where (list_any (same_text k) codes) serial e)) in
         grind (arith, some_rest (last_bag A k) (added A k) (rest_in A))
     by_act act f ih e = absurd (false≢true e)
 
@@ -104,7 +108,8 @@ added_rest A h k = grind (arith, added_somewhere A k, sealed_added A h k, some_r
 rest-shown : (A : History) → IsRegister A → (of : Item → Bool) (k : List ℕ) → ((row : Item) → same_text row.code k ≡ true → of row ≡ true) → (rows : List Item)
     → Shown of (items A) rows → rest_by rows k ≡ rest A k
 rest-shown A h of k own rows p =
-    said-view (λ row. same_text row.code k) of (item_row A) (item_row A k) (λ row. row.rest) (rest A k) (Loose East) own (λ j e. ap (item_row A) (text_same j k e)) (all_said added_item A) rows p
+    said-view (λ row. same_text row.code k) of (item_row A) (item_row A k) (λ row. row.rest) (rest A k) (Loose East) own
+    (λ j e. ap (item_row A) (text_same j k e)) (all_said added_item A) rows p
     (added_rest A h k) refl
 
 -- the same of items that are asked for by their codes
@@ -121,7 +126,8 @@ open-safes A West One = grind arith
 open-safes A West Two = grind arith
 
 -- whether a safe is open, by the four rows in any order
-pub open-shown : (A : History) (rows : List SafeRow) → IsPermutation (safes A) rows → (facility : Facility) (safe : SafeNumber) → is_open_by rows facility safe ≡ is_safe_open A facility safe
+pub open-shown : (A : History) (rows : List SafeRow) → IsPermutation (safes A) rows → (facility : Facility) (safe : SafeNumber)
+    → is_open_by rows facility safe ≡ is_safe_open A facility safe
 open-shown A rows p facility safe = sym (list_any-IsPermutation (opens facility safe) (safes A) rows p) ∙ open-safes A facility safe
 
 facility-same : (f g : Facility) → same_facility f g ≡ true → f ≡ g
@@ -136,10 +142,14 @@ each P Q f (x ∷ xs) a = (f x a.0, each P Q f xs a.1)
 
 placed_after : (A : History) (act : Act) (f : Facility) (n : ℕ) → fault A act ≡ None → AllByRecursion (Placed A f n) (boxes A)
     → AllByRecursion (λ row. is_box f n row ≡ true → or_else (boxed f n act) (place_of_box A f n) ≡ Some row.place) (cons_option (box_row act) (boxes A))
-placed_after A (AddBox facility number place) f n fine ih =
-    (first, each (Placed A f n) (λ row. is_box f n row ≡ true → or_else (boxed f n (AddBox facility number place)) (place_of_box A f n) ≡ Some row.place) (λ row g e. older row (g e)) (boxes A) ih)
+placed_after A (AddBox facility number place) f n fine ih = (
+  first,
+  each (Placed A f n) (λ row. is_box f n row ≡ true → or_else (boxed f n (AddBox facility number place)) (place_of_box A f n) ≡ Some row.place)
+      (λ row g e. older row (g e)) (boxes A) ih,
+)
   where
-    first : (same_facility facility f && eqb number n) ≡ true → or_else (cond (same_facility facility f && eqb number n) (Some place) None) (place_of_box A f n) ≡ Some place
+    first : (same_facility facility f && eqb number n) ≡ true
+        → or_else (cond (same_facility facility f && eqb number n) (Some place) None) (place_of_box A f n) ≡ Some place
     first e = rw e
 
     free : is_some (place_of_box A facility number) ≡ false
@@ -147,7 +157,8 @@ placed_after A (AddBox facility number place) f n fine ih =
         (or_parts (is_some (place_of_box A facility number)) _
         (unmet _ Taken (none_holds (conditions A (AddBox facility number place)) fine).0)).0
 
-    older : (row : BoxRow) → place_of_box A f n ≡ Some row.place → or_else (cond (same_facility facility f && eqb number n) (Some place) None) (place_of_box A f n) ≡ Some row.place
+    older : (row : BoxRow) → place_of_box A f n ≡ Some row.place
+        → or_else (cond (same_facility facility f && eqb number n) (Some place) None) (place_of_box A f n) ≡ Some row.place
     older row g = grind (arith, facility-same facility f, free)
 placed_after A act f n fine ih = ih
 
@@ -156,13 +167,16 @@ placed [] h f n = tt
 placed (entry ∷ A) h f n = placed_after A entry.command.act f n (took A entry h.0).no_fault (placed A h.1 f n)
 
 -- the place of a box, by all boxes in any order
-pub place-shown : (A : History) → IsRegister A → (rows : List BoxRow) → IsPermutation (boxes A) rows → (f : Facility) (n : ℕ) → place_of_box_by rows f n ≡ place_of_box A f n
+pub place-shown : (A : History) → IsRegister A → (rows : List BoxRow) → IsPermutation (boxes A) rows → (f : Facility) (n : ℕ)
+    → place_of_box_by rows f n ≡ place_of_box A f n
 place-shown A h rows p f n =
-    said-shown (is_box f n) (λ row. true) own (λ row. row.place) (place_of_box A f n) (Rksh 0) (λ row e. refl) (boxes A) rows (filter-order (λ row. true) (boxes A) rows p)
+    said-shown (is_box f n) (λ row. true) own (λ row. row.place) (place_of_box A f n) (Rksh 0) (λ row e. refl) (boxes A) rows
+    (filter-order (λ row. true) (boxes A) rows p)
     (each (Placed A f n) (λ row. is_box f n row ≡ true → row ≡ own) same (boxes A) (placed A h f n)) (box-there A f n) refl
   where
     own : BoxRow
     own = record { facility = f; number = n; place = unwrap_or (place_of_box A f n) (Rksh 0) }
 
     same : (row : BoxRow) → Placed A f n row → is_box f n row ≡ true → row ≡ own
-    same row g e = let p = and_parts (same_facility row.facility f) (row.number == n) e in rw (g e, ← facility-same row.facility f p.0, ← eqb-true row.number n p.1) refl
+    same row g e =
+        let p = and_parts (same_facility row.facility f) (row.number == n) e in rw (g e, ← facility-same row.facility f p.0, ← eqb-true row.number n p.1) refl

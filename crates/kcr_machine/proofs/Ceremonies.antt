@@ -66,16 +66,19 @@ use Rattle.kcr_machine.proofs.UsedRooms.{used-shown}
 -- OPENING
 
 -- the row of the ceremony, where all rows are shown
-row-shown : (A : History) (c : ℕ) (rows : List CeremonyRow) → IsPermutation (ceremonies A) rows → ceremony_by rows c ≡ some_if (is_ceremony A c) (ceremony_row A c)
+row-shown : (A : History) (c : ℕ) (rows : List CeremonyRow) → IsPermutation (ceremonies A) rows
+    → ceremony_by rows c ≡ some_if (is_ceremony A c) (ceremony_row A c)
 row-shown A c rows p = ceremony-shown A c rows (filter-order (is_of_number c) (ceremonies A) rows p)
 
 -- whether another ceremony is open in its facility
 busy-shown : (A : History) (c : ℕ) (rows : List CeremonyRow) → IsPermutation (ceremonies A) rows
-    → list_any (is_open_beside (ceremony_row A c)) rows ≡ list_any (λ other. not (eqb other c) && same_facility (facility_of A other) (facility_of A c) && is_open A other) (all_said planned_number A)
+    → list_any (is_open_beside (ceremony_row A c)) rows
+    ≡ list_any (λ other. not (eqb other c) && same_facility (facility_of A other) (facility_of A c) && is_open A other) (all_said planned_number A)
 busy-shown A c rows p =
     sym (list_any-IsPermutation (is_open_beside (ceremony_row A c)) (ceremonies A) rows p)
     ∙ any-map (is_open_beside (ceremony_row A c)) (ceremony_row A) (all_said planned_number A)
-    ∙ any-same (λ other. is_open_beside (ceremony_row A c) (ceremony_row A other)) (λ other. not (eqb other c) && same_facility (facility_of A other) (facility_of A c) && is_open A other)
+    ∙ any-same (λ other. is_open_beside (ceremony_row A c) (ceremony_row A other))
+    (λ other. not (eqb other c) && same_facility (facility_of A other) (facility_of A c) && is_open A other)
     (λ other. ap (λ b. not (eqb other c) && same_facility (facility_of A other) (facility_of A c) && b) (open-state A other)) (all_said planned_number A)
 
 pub open-fault : (A : History) (c at : ℕ) → FaultShown A (Open c at)
@@ -96,7 +99,8 @@ open-fault A c at key view v = rw (row-shown A c view.ceremonies.items v.ceremon
 closed-opened : (A : History) → IsRegister A → (c : ℕ) → is_some (closed A c) ≡ true → is_some (opened A c) ≡ true
 closed-opened [] h c e = absurd (false≢true e)
 closed-opened (entry ∷ A) h c e =
-    said-then (closing c entry.command.act) (closed A c) (opening c entry.command.act) (opened A c) (by_act entry.command.act (took A entry h.0).no_fault) (closed-opened A h.1 c) e
+    said-then (closing c entry.command.act) (closed A c) (opening c entry.command.act) (opened A c) (by_act entry.command.act (took A entry h.0).no_fault)
+    (closed-opened A h.1 c) e
   where
     by_act : (act : Act) → fault A act ≡ None → is_some (closing c act) ≡ true → is_some (opened A c) ≡ true
     by_act (Close d at) f e =
@@ -109,11 +113,13 @@ never-closed : (A : History) → IsRegister A → (c : ℕ) → is_some (opened 
 never-closed A h c e = none-there (closed A c) (false_from_ne_true (is_some (closed A c)) (λ g. true≢false (sym (closed-opened A h c g) ∙ e)))
 
 -- one row is put under its number, and the others stay
-ceremony-put : (A B : History) (c : ℕ) (row : CeremonyRow) → row ≡ ceremony_row B c → ((k : ℕ) → eqb k c ≡ false → ceremony_row A k ≡ ceremony_row B k) → is_ceremony A c ≡ true
+ceremony-put : (A B : History) (c : ℕ) (row : CeremonyRow) → row ≡ ceremony_row B c → ((k : ℕ) → eqb k c ≡ false → ceremony_row A k ≡ ceremony_row B k)
+    → is_ceremony A c ≡ true
     → put same_ceremony row (ceremonies A) ≡ map (ceremony_row B) (all_said planned_number A)
 ceremony-put A B c row own other known =
     ap (λ row. put same_ceremony row (ceremonies A)) own
-    ∙ put-at same_ceremony (ceremony_row A) (ceremony_row B) (ceremony_row B c) (λ k e. ap (ceremony_row B) (sym (eqb-true k c e))) other (all_said planned_number A) (planned-number A c ∙ known)
+    ∙ put-at same_ceremony (ceremony_row A) (ceremony_row B) (ceremony_row B c) (λ k e. ap (ceremony_row B) (sym (eqb-true k c e))) other
+    (all_said planned_number A) (planned-number A c ∙ known)
 
 -- the tables with one that is opened
 module _ (A : History) (h : IsRegister A) (key : List ℕ) (answer : Answer) (c at : ℕ) (f : fault A (Open c at) ≡ None) where
@@ -137,14 +143,16 @@ module _ (A : History) (h : IsRegister A) (key : List ℕ) (answer : Answer) (c 
 
   marks-first : put same_mark first_mark (marks A) ≡ marks opened_now
   marks-first =
-      put-first same_mark (mark_row A) (mark_row opened_now) first_mark (λ k e. rw (mark-after A (entry_as key (Open c at) answer) k, turned c k e) refl) (all_said opened_number A) (opened-number A c ∙ fresh)
+      put-first same_mark (mark_row A) (mark_row opened_now) first_mark (λ k e. rw (mark-after A (entry_as key (Open c at) answer) k, turned c k e) refl)
+      (all_said opened_number A) (opened-number A c ∙ fresh)
       ∙ ap (λ row. row ∷ map (mark_row opened_now) (all_said opened_number A)) own
     where
       own : first_mark ≡ mark_row opened_now c
       own = rw (mark-after A (entry_as key (Open c at) answer) c, eq-eqb c c refl, none-there (mark A c) (marked-opened A h c ∙ fresh)) refl
 
   pub open-leads : (view : View) → IsPermutation (ceremonies A) view.ceremonies.items → entry_of A key ≡ None → Leads A view (command_of key (Open c at)) answer
-  open-leads view v k = rw (row-shown A c view.ceremonies.items v, known) (rw (ceremonies-opened, marks-first, new_key A (command_of key (Open c at)) answer k) refl)
+  open-leads view v k =
+      rw (row-shown A c view.ceremonies.items v, known) (rw (ceremonies-opened, marks-first, new_key A (command_of key (Open c at)) answer k) refl)
 
 -- CLOSING
 
@@ -185,11 +193,13 @@ steps-shown A h c rows p =
 spent : (facility : Facility) (o : Option Spot) → is_on_table facility (Some (unwrap_or o Spent)) ≡ is_on_table facility o
 spent facility o = grind arith
 
-table-shown : (A : History) (facility : Facility) (rows : List Bag) → IsPermutation (bags A) rows → list_any (lies_on_table facility) rows ≡ list_any (λ serial. is_on_table facility (spot A serial)) (all_said sealed_serial A)
+table-shown : (A : History) (facility : Facility) (rows : List Bag) → IsPermutation (bags A) rows
+    → list_any (lies_on_table facility) rows ≡ list_any (λ serial. is_on_table facility (spot A serial)) (all_said sealed_serial A)
 table-shown A facility rows p =
     sym (list_any-IsPermutation (lies_on_table facility) (bags A) rows p)
     ∙ any-map (lies_on_table facility) (bag_row A) (all_said sealed_serial A)
-    ∙ any-same (λ serial. lies_on_table facility (bag_row A serial)) (λ serial. is_on_table facility (spot A serial)) (λ serial. spent facility (spot A serial)) (all_said sealed_serial A)
+    ∙ any-same (λ serial. lies_on_table facility (bag_row A serial)) (λ serial. is_on_table facility (spot A serial))
+    (λ serial. spent facility (spot A serial)) (all_said sealed_serial A)
 
 -- THE KIND
 
@@ -231,8 +241,10 @@ module _ (A : History) (key : List ℕ) (answer : Answer) (c at : ℕ) (f : faul
   ceremonies-closed : put same_ceremony closed_row (ceremonies A) ≡ ceremonies closed_now
   ceremonies-closed = ceremony-put A closed_now c closed_row (rw (eq-eqb c c refl) refl) (λ k e. rw (turned c k e) refl) to_close
 
-  pub close-leads : (view : View) → Shown (is_of_number c) (ceremonies A) view.ceremonies.items → entry_of A key ≡ None → Leads A view (command_of key (Close c at)) answer
-  close-leads view v k = rw (ceremony-shown A c view.ceremonies.items v, to_close) (rw (ceremonies-closed, new_key A (command_of key (Close c at)) answer k) refl)
+  pub close-leads : (view : View) → Shown (is_of_number c) (ceremonies A) view.ceremonies.items → entry_of A key ≡ None
+      → Leads A view (command_of key (Close c at)) answer
+  close-leads view v k =
+      rw (ceremony-shown A c view.ceremonies.items v, to_close) (rw (ceremonies-closed, new_key A (command_of key (Close c at)) answer k) refl)
 
 -- PLANNING
 
@@ -249,11 +261,13 @@ done-planned (entry ∷ A) h c k e =
     (by_act entry.command.act entry.answer.step (took A entry h.0).no_fault) (done-planned A h.1 c k) e
   where
     own : (d step : ℕ) → no_ceremony A d ≡ None → (eqb d c && eqb step k) ≡ true → is_ceremony A c ≡ true
-    own d step f e = subst (λ c. is_ceremony A c ≡ true) (eqb-true d c (and_parts (eqb d c) (eqb step k) e).0) (met (is_ceremony A d) (Unknown (Things.Ceremony d)) f)
+    own d step f e =
+        subst (λ c. is_ceremony A c ≡ true) (eqb-true d c (and_parts (eqb d c) (eqb step k) e).0) (met (is_ceremony A d) (Unknown (Things.Ceremony d)) f)
 
     by_act : (act : Act) (said : Option ℕ) → fault A act ≡ None → is_some (step_done c k act said) ≡ true → is_ceremony A c ≡ true
     by_act (Sign d step at) said f e = own d step (none_holds (conditions A (Sign d step at)) f).0 (some-where (eqb d c && eqb step k) (Signed, at) e)
-    by_act (Except d text pass at) (Some step) f e = own d step (none_holds (conditions A (Except d text pass at)) f).0 (some-where (eqb d c && eqb step k) (Passed, at) e)
+    by_act (Except d text pass at) (Some step) f e =
+        own d step (none_holds (conditions A (Except d text pass at)) f).0 (some-where (eqb d c && eqb step k) (Passed, at) e)
     by_act (Except d text pass at) None f e = absurd (false≢true e)
     by_act act said f e = absurd (false≢true e)
 
@@ -268,27 +282,32 @@ map-stacked f (x ∷ xs) ys = map-stacked f xs (x ∷ ys)
 -- THE STEPS' ROWS
 
 -- rows of steps that are all new are put in front, one planned_now the other
-put-steps : (c i : ℕ) (ss : List Step) (rest : List Change) (t : Tables) → ((j : ℕ) → i ≤ j → list_any (λ row. eqb row.ceremony c && eqb row.step j) t.steps ≡ false)
+put-steps : (c i : ℕ) (ss : List Step) (rest : List Change) (t : Tables)
+    → ((j : ℕ) → i ≤ j → list_any (λ row. eqb row.ceremony c && eqb row.step j) t.steps ≡ false)
     → changed_by (map PutStep (undone_rows c i ss) ++ rest) t ≡ changed_by rest (record t { steps = stacked_on (undone_rows c i ss) t.steps })
 put-steps c i [] rest t not_known = refl
 put-steps c i (s ∷ ss) rest t not_known =
     let row : StepRow = undone_row c i s in
-    ap (λ rows. changed_by (map PutStep (undone_rows c (i + 1) ss) ++ rest) (record t { steps = rows })) (put-new same_step row t.steps (not_known i (omega arith)))
+    ap (λ rows. changed_by (map PutStep (undone_rows c (i + 1) ss) ++ rest) (record t { steps = rows }))
+    (put-new same_step row t.steps (not_known i (omega arith)))
     ∙ put-steps c (i + 1) ss rest (record t { steps = row ∷ t.steps })
     (λ j l. rw (and_right (eqb c c) (eqb i j) (ne_eqb i j (λ e. omega (arith, e, l))), not_known j (omega (arith, l))) refl)
 
 -- the rows of a ceremony's steps, none of which was done
-own-rows : (B : History) (c i : ℕ) (all ss : List Step) → steps_of B c ≡ all → ((k : ℕ) → fate_of B c k ≡ None) → ((j : ℕ) → slice_get all (i + j) ≡ slice_get ss j)
+own-rows : (B : History) (c i : ℕ) (all ss : List Step) → steps_of B c ≡ all → ((k : ℕ) → fate_of B c k ≡ None)
+    → ((j : ℕ) → slice_get all (i + j) ≡ slice_get ss j)
     → map (step_row B) (numbered c i ss) ≡ undone_rows c (suc i) ss
 own-rows B c i all [] e undone at = refl
 own-rows B c i all (s ∷ ss) e undone at =
     let here : slice_get all i ≡ Some s = ap (slice_get all) (let z : i ≡ i + 0 = omega arith in z) ∙ at 0 in
     rw (e, undone (suc i), here)
     (ap (λ rows. undone_row c (suc i) s ∷ rows)
-    (own-rows B c (suc i) all ss e undone (λ j. ap (slice_get all) (let z : suc i + j ≡ i + suc j = omega arith in z) ∙ at (suc j)) ∙ ap (λ n. undone_rows c n ss) (sym (add-one (suc i)))))
+    (own-rows B c (suc i) all ss e undone (λ j. ap (slice_get all) (let z : suc i + j ≡ i + suc j = omega arith in z) ∙ at (suc j))
+    ∙ ap (λ n. undone_rows c n ss) (sym (add-one (suc i)))))
 
 -- the tables with one that is planned
-module _ (A : History) (h : IsRegister A) (key : List ℕ) (answer : Answer) (c : ℕ) (facility : Facility) (day : ℕ) (script : List ℕ) (f : fault A (Plan c facility day script) ≡ None) where
+module _ (A : History) (h : IsRegister A) (key : List ℕ) (answer : Answer) (c : ℕ) (facility : Facility) (day : ℕ) (script : List ℕ)
+    (f : fault A (Plan c facility day script) ≡ None) where
   abbrev planned_now : History
   planned_now = with_command A (command_of key (Plan c facility day script)) answer
 
@@ -303,7 +322,8 @@ module _ (A : History) (h : IsRegister A) (key : List ℕ) (answer : Answer) (c 
 
   ceremonies-planned : put same_ceremony (planned_row c facility day) (ceremonies A) ≡ ceremonies planned_now
   ceremonies-planned =
-      put-first same_ceremony (ceremony_row A) (ceremony_row planned_now) (planned_row c facility day) (λ k e. rw (turned c k e) refl) (all_said planned_number A) (planned-number A c ∙ not_known)
+      put-first same_ceremony (ceremony_row A) (ceremony_row planned_now) (planned_row c facility day) (λ k e. rw (turned c k e) refl)
+      (all_said planned_number A) (planned-number A c ∙ not_known)
       ∙ ap (λ row. row ∷ map (ceremony_row planned_now) (all_said planned_number A)) own
     where
       own : planned_row c facility day ≡ ceremony_row planned_now c
@@ -319,8 +339,11 @@ module _ (A : History) (h : IsRegister A) (key : List ℕ) (answer : Answer) (c 
   steps-put : stacked_on (undone_rows c 1 its_steps) (steps A) ≡ steps planned_now
   steps-put =
       sym (map-stacked (step_row planned_now) (numbered c 0 its_steps) (step_keys A)
-      ∙ ap (λ rows. stacked_on rows (map (step_row planned_now) (step_keys A))) (own-rows planned_now c 0 its_steps its_steps its_own (λ k. not-planned (fate_of A c k) (is_ceremony A c) (done-planned A h c k) not_known) (λ j. ap (slice_get its_steps) (let z : 0 + j ≡ j = omega arith in z)))
-      ∙ ap (λ rows. stacked_on (undone_rows c 1 its_steps) rows) (sym (map-same-in (step_row A) (step_row planned_now) (step_keys A) (λ k i. rw (turned c k.0 (no_key k i)) refl))))
+      ∙ ap (λ rows. stacked_on rows (map (step_row planned_now) (step_keys A))) (own-rows planned_now c 0 its_steps its_steps its_own
+      (λ k. not-planned (fate_of A c k) (is_ceremony A c) (done-planned A h c k) not_known)
+      (λ j. ap (slice_get its_steps) (let z : 0 + j ≡ j = omega arith in z)))
+      ∙ ap (λ rows. stacked_on (undone_rows c 1 its_steps) rows)
+      (sym (map-same-in (step_row A) (step_row planned_now) (step_keys A) (λ k i. rw (turned c k.0 (no_key k i)) refl))))
 
   new_steps : (j : ℕ) → list_any (λ row. eqb row.ceremony c && eqb row.step j) (steps A) ≡ false
   new_steps j =

@@ -54,11 +54,13 @@ use Rattle.kcr_machine.proofs.Scenes.{facility-shown, ready-by, scene-shown, sce
 
 -- SAFES AND BOXES
 
-shut-shown : (A : History) (rows : List SafeRow) → IsPermutation (safes A) rows → (facility : Facility) (safe : Option SafeNumber) → Custody.shut rows facility safe ≡ shut A facility safe
+shut-shown : (A : History) (rows : List SafeRow) → IsPermutation (safes A) rows → (facility : Facility) (safe : Option SafeNumber)
+    → Custody.shut rows facility safe ≡ shut A facility safe
 shut-shown A rows p facility None = refl
 shut-shown A rows p facility (Some safe) = ap (λ b. when (not b) Refusals.Safe) (open-shown A rows p facility safe)
 
-no_box-shown : (A : History) → IsRegister A → (rows : List BoxRow) → IsPermutation (boxes A) rows → (facility : Facility) (to : Store) → Custody.no_box rows facility (box_of_store to) ≡ no_box A facility to
+no_box-shown : (A : History) → IsRegister A → (rows : List BoxRow) → IsPermutation (boxes A) rows → (facility : Facility) (to : Store)
+    → Custody.no_box rows facility (box_of_store to) ≡ no_box A facility to
 no_box-shown A h rows p facility SafeOne = refl
 no_box-shown A h rows p facility (Boxed number) = ap (λ o. when (is_none o) (Unknown (Things.Box number))) (place-shown A h rows p facility number)
 
@@ -68,13 +70,17 @@ place_of-shown A h rows p facility None = refl
 place_of-shown A h rows p facility (Some number) = place-shown A h rows p facility number
 
 -- the holder of the box's place is missed where the place is there, and its holder not in the room
-no_holder-shown : (A : History) → IsRegister A → (c at : ℕ) (view : View) → IsPermutation (boxes A) view.boxes.items → ((place : Place) → has_holder_in_by view place c at ≡ has_holder_in A place c at) → (facility : Facility) (box : Option ℕ)
-    → Custody.no_holder (place_of view.boxes.items facility box) (has_keeper_by view c at (place_of view.boxes.items facility box)) ≡ no_holder A facility c at box
+no_holder-shown : (A : History) → IsRegister A → (c at : ℕ) (view : View) → IsPermutation (boxes A) view.boxes.items
+    → ((place : Place) → has_holder_in_by view place c at ≡ has_holder_in A place c at) → (facility : Facility) (box : Option ℕ)
+    → Custody.no_holder (place_of view.boxes.items facility box) (has_keeper_by view c at (place_of view.boxes.items facility box))
+    ≡ no_holder A facility c at box
 no_holder-shown A h c at view p inside facility box =
     by_place (place_of view.boxes.items facility box)
-    ∙ ap (option_and_then (λ place. when (not (has_holder_in A place c at)) (Absent (Absentees.Place place)))) (place_of-shown A h view.boxes.items p facility box)
+    ∙ ap (option_and_then (λ place. when (not (has_holder_in A place c at)) (Absent (Absentees.Place place))))
+    (place_of-shown A h view.boxes.items p facility box)
   where
-    by_place : (o : Option Place) → Custody.no_holder o (has_keeper_by view c at o) ≡ option_and_then (λ place. when (not (has_holder_in A place c at)) (Absent (Absentees.Place place))) o
+    by_place : (o : Option Place) → Custody.no_holder o (has_keeper_by view c at o)
+        ≡ option_and_then (λ place. when (not (has_holder_in A place c at)) (Absent (Absentees.Place place))) o
     by_place o = grind (arith, inside)
 
 -- ITEMS
@@ -85,7 +91,8 @@ module _ (A : History) (rows : List Item) (codes : List (List ℕ)) (same : (k :
   no_item-shown = first-found (λ k. is_none (rest_by rows k)) (λ k. is_none (rest A k)) (λ k. Unknown (Things.Item k)) codes (λ k i. ap is_none (same k i))
 
   loose-shown : (facility : Facility) → list_all (λ k. is_loose_at facility (rest_by rows k)) codes ≡ list_all (λ k. is_loose_at facility (rest A k)) codes
-  loose-shown facility = all-same-in (λ k. is_loose_at facility (rest_by rows k)) (λ k. is_loose_at facility (rest A k)) codes (λ k i. ap (is_loose_at facility) (same k i))
+  loose-shown facility =
+      all-same-in (λ k. is_loose_at facility (rest_by rows k)) (λ k. is_loose_at facility (rest A k)) codes (λ k i. ap (is_loose_at facility) (same k i))
 
 -- THE CEREMONY AT THE MOMENT
 
@@ -94,14 +101,19 @@ abbrev has_ca : History → ℕ → ℕ → Bool
 has_ca A c at = Room.is_attended_by A Ca c at
 
 -- the scene by the rows of the view is the one by the history
-ca-scene : (A : History) → IsRegister A → (c at : ℕ) (view : View) → Shown (is_of_number c) (ceremonies A) view.ceremonies.items → Shown (is_mark_of c) (marks A) view.marks.items → Shown (is_stay_of c) (reverse (stays_by (sheet A))) view.stays.items
-    → IsPermutation (trainings A) view.trainings.items → IsPermutation (withdrawals A) view.withdrawals.items → scene_in view (is_full A) c at ≡ scene_of A c at (has_ca A c at)
-ca-scene A h c at view p q room ts ws = scene-shown A h c at (is_attended_by view Ca c at) view p q ∙ ap (scene_of A c at) (attended-shown A h view c room ts ws Ca at)
+ca-scene : (A : History) → IsRegister A → (c at : ℕ) (view : View) → Shown (is_of_number c) (ceremonies A) view.ceremonies.items
+    → Shown (is_mark_of c) (marks A) view.marks.items → Shown (is_stay_of c) (reverse (stays_by (sheet A))) view.stays.items
+    → IsPermutation (trainings A) view.trainings.items → IsPermutation (withdrawals A) view.withdrawals.items
+    → scene_in view (is_full A) c at ≡ scene_of A c at (has_ca A c at)
+ca-scene A h c at view p q room ts ws =
+    scene-shown A h c at (is_attended_by view Ca c at) view p q ∙ ap (scene_of A c at) (attended-shown A h view c room ts ws Ca at)
 
 -- THE KINDS
 
 -- a box of the place is added by the last command, or was there
-place_after : (place : Place) (act : Act) (rows : List BoxRow) → list_any (λ old. same_place old.place place) (cons_option (box_row act) rows) ≡ (boxes_place place act || list_any (λ old. same_place old.place place) rows)
+place_after : (place : Place) (act : Act) (rows : List BoxRow)
+    → list_any (λ old. same_place old.place place) (cons_option (box_row act) rows)
+    ≡ (boxes_place place act || list_any (λ old. same_place old.place place) rows)
 place_after place (AddBox f n p) rows = refl
 place_after place act rows = refl
 
@@ -140,9 +152,18 @@ turn-fault A h c safe state by at key view v =
     wrong s = when (same_truth (is_safe_open A (facility_of A c) s) state) Refusals.Safe ∷ when (not (may_turn A c s by at)) (Absent (Absentees.Person by)) ∷ []
 
     keeper : Keeper
-    keeper = record { who = by; is_known = is_person A by; is_inside = is_in A by c at; has_ssc1 = trained A by Ssc1 (day_of at); has_ssc2 = trained A by Ssc2 (day_of at) }
+    keeper =
+        record {
+          who = by;
+          is_known = is_person A by;
+          is_inside = is_in A by c at;
+          has_ssc1 = trained A by Ssc1 (day_of at);
+          has_ssc2 = trained A by Ssc2
+              (day_of at);
+        }
 
-    by_safe : (s : SafeNumber) → first_of (no_ceremony A c ∷ no_person A by ∷ not_ready (scene_of A c at false) ∷ when (same_truth (is_safe_open A (facility_of A c) s) state) Refusals.Safe ∷ when (not (Custody.may_turn s keeper)) (Absent (Absentees.Person by)) ∷ [])
+    by_safe : (s : SafeNumber) → first_of (no_ceremony A c ∷ no_person A by ∷ not_ready (scene_of A c at false) ∷ when
+        (same_truth (is_safe_open A (facility_of A c) s) state) Refusals.Safe ∷ when (not (Custody.may_turn s keeper)) (Absent (Absentees.Person by)) ∷ [])
         ≡ first_of (no_ceremony A c ∷ no_person A by ∷ not_ready (scene_of A c at false) ∷ wrong s)
     by_safe One = refl
     by_safe Two = refl
@@ -157,7 +178,8 @@ pub seal-fault : (A : History) → IsRegister A → (c : ℕ) (t : List ℕ) (co
 seal-fault A h c t codes at key view v =
     let here = facility_of A c in
     let same = rest-coded A h codes view.items.items v.items in
-    ap (λ scene. seal_refusal scene view.bags.items view.items.items t codes) (ca-scene A h c at view v.ceremonies v.marks v.stays.room v.trainings v.withdrawals)
+    ap (λ scene. seal_refusal scene view.bags.items view.items.items t codes)
+    (ca-scene A h c at view v.ceremonies v.marks v.stays.room v.trainings v.withdrawals)
     ∙ rw (spot-shown A h t view.bags.items v.bags, no_item-shown A view.items.items codes same, loose-shown A view.items.items codes same here)
     (ready-by A c at (has_ca A c at) (no_ceremony A c ∷ first_with (no_item A) codes ∷ when (is_some (spot A t)) Taken ∷ [])
     (when (not (list_all (λ k. is_loose_at here (rest A k)) codes)) Elsewhere ∷ no_ca A c at ∷ []))
@@ -174,7 +196,8 @@ take-fault A h c t at key view v =
       no_holder-shown A h c at view v.boxes (λ place. holder_in-shown A h view c v.stays.room v.appointments place at) here (box_of (spot A t)),
     )
     (ready-by A c at (has_ca A c at) (no_ceremony A c ∷ no_bag A t ∷ [])
-    (shut A here (safe_of here (spot A t)) ∷ when (is_none (safe_of here (spot A t))) Elsewhere ∷ no_ca A c at ∷ no_holder A here c at (box_of (spot A t)) ∷ []))
+    (shut A here (safe_of here (spot A t)) ∷ when (is_none (safe_of here (spot A t))) Elsewhere ∷ no_ca A c at ∷ no_holder A here c at (box_of (spot A t))
+    ∷ []))
 
 pub put-fault : (A : History) → IsRegister A → (c : ℕ) (t : List ℕ) (to : Store) (at : ℕ) → FaultShown A (Put c t to at)
 put-fault A h c t to at key view v =

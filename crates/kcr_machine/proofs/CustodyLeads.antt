@@ -57,21 +57,25 @@ then_act A key act answer = with_command A (command_of key act) answer
 pub add_box-leads : (A : History) (facility : Facility) (number : ℕ) (place : Place) → LeadsOn A (AddBox facility number place)
 add_box-leads A facility number place key view answer v k f =
     let new : BoxRow = record { facility = facility; number = number; place = place } in
-    let free = (or_parts (is_some (place_of_box A facility number)) (some_command (boxes_place place) A) (unmet _ Taken (none_holds (conditions A (AddBox facility number place)) f).0)).0 in
+    let free = (or_parts (is_some (place_of_box A facility number)) (some_command (boxes_place place) A)
+    (unmet _ Taken (none_holds (conditions A (AddBox facility number place)) f).0)).0 in
     rw (put-new same_box new (boxes A) (box-there A facility number ∙ free), new_key A (command_of key (AddBox facility number place)) answer k)
 
 -- A SAFE
 
 -- what is said of a safe by one more command
 abbrev next_state : Facility → SafeNumber → Bool → Facility → SafeNumber → Option Bool → Bool
-next_state here safe state facility other before = unwrap_or (or_else (cond (same_facility here facility && same_safe safe other) (Some state) None) before) false
+next_state here safe state facility other before =
+    unwrap_or (or_else (cond (same_facility here facility && same_safe safe other) (Some state) None) before) false
 
 abbrev row_of : Facility → SafeNumber → Bool → SafeRow
 row_of facility safe is_open = record { facility = facility; safe = safe; is_open = is_open }
 
 put-safe : (here : Facility) (safe : SafeNumber) (state : Bool) (a b c d : Option Bool)
-    → put same_safe_row (row_of here safe state) (row_of East One (unwrap_or a false) ∷ row_of East Two (unwrap_or b false) ∷ row_of West One (unwrap_or c false) ∷ row_of West Two (unwrap_or d false) ∷ [])
-    ≡ row_of East One (next_state here safe state East One a) ∷ row_of East Two (next_state here safe state East Two b) ∷ row_of West One (next_state here safe state West One c) ∷ row_of West Two (next_state here safe state West Two d) ∷ []
+    → put same_safe_row (row_of here safe state)
+    (row_of East One (unwrap_or a false) ∷ row_of East Two (unwrap_or b false) ∷ row_of West One (unwrap_or c false) ∷ row_of West Two (unwrap_or d false) ∷ [])
+    ≡ row_of East One (next_state here safe state East One a) ∷ row_of East Two (next_state here safe state East Two b) ∷ row_of West One
+    (next_state here safe state West One c) ∷ row_of West Two (next_state here safe state West Two d) ∷ []
 put-safe East One state a b c d = refl
 put-safe East Two state a b c d = refl
 put-safe West One state a b c d = refl
@@ -82,7 +86,8 @@ last_turn A facility safe = last_told (λ before. turned (facility_of before) fa
 
 safes-put : (A : History) (key : List ℕ) (answer : Answer) (c : ℕ) (safe : SafeNumber) (state : Bool) (by : List ℕ) (at : ℕ)
     → put same_safe_row (row_of (facility_of A c) safe state) (safes A) ≡ safes (with_command A (command_of key (TurnSafe c safe state by at)) answer)
-safes-put A key answer c safe state by at = put-safe (facility_of A c) safe state (last_turn A East One) (last_turn A East Two) (last_turn A West One) (last_turn A West Two)
+safes-put A key answer c safe state by at =
+    put-safe (facility_of A c) safe state (last_turn A East One) (last_turn A East Two) (last_turn A West One) (last_turn A West Two)
 
 pub turn-leads : (A : History) → IsRegister A → (c : ℕ) (safe : SafeNumber) (state : Bool) (by : List ℕ) (at : ℕ) → LeadsOn A (TurnSafe c safe state by at)
 turn-leads A h c safe state by at key view answer v k f =
@@ -111,7 +116,8 @@ no_bag_yet A k h = grind arith
 items-added : (A : History) → IsRegister A → (key : List ℕ) (answer : Answer) (c : ℕ) (item : List ℕ) (at : ℕ) → is_some (rest A item) ≡ false
     → put same_item (record { code = item; rest = Loose (facility_of A c) }) (items A) ≡ items (with_command A (command_of key (AddItem c item at)) answer)
 items-added A h key answer c item at free =
-    put-first same_item (item_row A) (item_row B) (record { code = item; rest = Loose (facility_of A c) }) (λ k e. rw (text_flip item k ∙ e) refl) (all_said added_item A) (added_rest A h item ∙ free)
+    put-first same_item (item_row A) (item_row B) (record { code = item; rest = Loose (facility_of A c) }) (λ k e. rw (text_flip item k ∙ e) refl)
+    (all_said added_item A) (added_rest A h item ∙ free)
     ∙ ap (λ row. row ∷ map (item_row B) (all_said added_item A)) own
   where
     B : History
@@ -137,7 +143,8 @@ add_item-leads A h c item at key view answer v k f =
 abbrev moved_row : History → List ℕ → Spot → List ℕ → Bag
 moved_row A t to k = record { serial = k; spot = unwrap_or (or_else (cond (same_text t k) (Some to) None) (spot A k)) Spent }
 
-bags_moved : (A : History) → IsRegister A → (t : List ℕ) (to : Spot) → no_bag A t ≡ None → put same_bag (record { serial = t; spot = to }) (bags A) ≡ map (moved_row A t to) (all_said sealed_serial A)
+bags_moved : (A : History) → IsRegister A → (t : List ℕ) (to : Spot) → no_bag A t ≡ None
+    → put same_bag (record { serial = t; spot = to }) (bags A) ≡ map (moved_row A t to) (all_said sealed_serial A)
 bags_moved A h t to n =
     put-at same_bag (bag_row A) (moved_row A t to) (record { serial = t; spot = to })
     (λ k e. let q : k ≡ t = text_same k t e in rw (q, text_refl t) refl) (λ k e. rw (text_flip t k ∙ e) refl)
@@ -147,24 +154,28 @@ bags_moved A h t to n =
 bags_sealed : (A : History) → IsRegister A → (t : List ℕ) (to : Spot) → is_some (spot A t) ≡ false
     → put same_bag (record { serial = t; spot = to }) (bags A) ≡ record { serial = t; spot = to } ∷ map (moved_row A t to) (all_said sealed_serial A)
 bags_sealed A h t to new =
-    put-first same_bag (bag_row A) (moved_row A t to) (record { serial = t; spot = to }) (λ k e. rw (text_flip t k ∙ e) refl) (all_said sealed_serial A) (sealed_somewhere A h t ∙ new)
+    put-first same_bag (bag_row A) (moved_row A t to) (record { serial = t; spot = to }) (λ k e. rw (text_flip t k ∙ e) refl) (all_said sealed_serial A)
+    (sealed_somewhere A h t ∙ new)
 
 -- ITEMS OF A BAG THAT IS TAKEN OR PUT
 
 abbrev loosed : History → List ℕ → Rest
 loosed A s = Loose (unwrap_or (last_told (λ before. cut_at (facility_of before) s) A) East)
 
+-- where the items of bag s are, once bag t has moved
+abbrev in_moved : History → List ℕ → Spot → List ℕ → Rest
+in_moved A t to s = cond (is_spent (or_else (cond (same_text t s) (Some to) None) (spot A s))) (loosed A s) (Within s)
+
 -- a bag that is not spent, moved to where it is not either, leaves its items in it
-still_in : (A : History) (t : List ℕ) (to : Spot) → is_spent (spot A t) ≡ false → is_spent (Some to) ≡ false → (s : List ℕ)
-    → rest_in A s ≡ cond (is_spent (or_else (cond (same_text t s) (Some to) None) (spot A s))) (loosed A s) (Within s)
+still_in : (A : History) (t : List ℕ) (to : Spot) → is_spent (spot A t) ≡ false → is_spent (Some to) ≡ false → (s : List ℕ) → rest_in A s ≡ in_moved A t to s
 still_in A t to u v s = grind (arith, text_same t s)
 
 items_stay : (A : History) (t : List ℕ) (to : Spot) → is_spent (spot A t) ≡ false → is_spent (Some to) ≡ false → (ks : List (List ℕ))
-    → map (item_row A) ks
-    ≡ map (λ k. record { code = k; rest = unwrap_or (or_else (option_map (λ s. cond (is_spent (or_else (cond (same_text t s) (Some to) None) (spot A s))) (loosed A s) (Within s)) (last_bag A k)) (added A k)) (Loose East) }) ks
-items_stay A t to u v ks = map-same (item_row A) _ ks (λ k. ap (λ o. record { code = k; rest = unwrap_or (or_else o (added A k)) (Loose East) }) (in_bag (last_bag A k)))
+    → map (item_row A) ks ≡ map (λ k. record { code = k; rest = unwrap_or (or_else (option_map (in_moved A t to) (last_bag A k)) (added A k)) (Loose East) }) ks
+items_stay A t to u v ks =
+    map-same (item_row A) _ ks (λ k. ap (λ o. record { code = k; rest = unwrap_or (or_else o (added A k)) (Loose East) }) (in_bag (last_bag A k)))
   where
-    in_bag : (o : Option (List ℕ)) → option_map (rest_in A) o ≡ option_map (λ s. cond (is_spent (or_else (cond (same_text t s) (Some to) None) (spot A s))) (loosed A s) (Within s)) o
+    in_bag : (o : Option (List ℕ)) → option_map (rest_in A) o ≡ option_map (in_moved A t to) o
     in_bag o = grind (arith, still_in A t to u v)
 
 -- a bag in a safe is not spent, nor is one on a table
@@ -190,17 +201,21 @@ sealed_spot [] k s e = absurd (let q : None ≡ Some s = e in cc)
 sealed_spot (entry ∷ A) k s e = sealed_spot_after A entry.command.act k s (sealed_spot A k s) e
 
 -- an item's row, in the new bag or as it was
-sealed_row : (A : History) (key : List ℕ) (c : ℕ) (serial : List ℕ) (codes : List (List ℕ)) (at : ℕ) (answer : Answer) → is_some (spot A serial) ≡ false → (k : List ℕ)
+sealed_row : (A : History) (key : List ℕ) (c : ℕ) (serial : List ℕ) (codes : List (List ℕ)) (at : ℕ) (answer : Answer) → is_some (spot A serial) ≡ false
+    → (k : List ℕ)
     → cond (list_any (same_text k) codes) (within serial k) (item_row A k) ≡ item_row (then_act A key (Seal c serial codes at) answer) k
 sealed_row A key c serial codes at answer n k = grind (arith, text_refl serial, text_same serial, sealed_spot A k)
 
-items-seal : (A : History) → IsRegister A → (key : List ℕ) (c : ℕ) (serial : List ℕ) (codes : List (List ℕ)) (at : ℕ) (answer : Answer) → fault A (Seal c serial codes at) ≡ None
+items-seal : (A : History) → IsRegister A → (key : List ℕ) (c : ℕ) (serial : List ℕ) (codes : List (List ℕ)) (at : ℕ) (answer : Answer)
+    → fault A (Seal c serial codes at) ≡ None
     → put_all same_item (packed serial codes) (items A) ≡ items (then_act A key (Seal c serial codes at) answer)
 items-seal A h key c serial codes at answer n =
     let met = none_holds (conditions A (Seal c serial codes at)) n in
-    put-rows same_item (λ c k. same_text k c) (within serial) (λ c k. refl) (all_said added_item A) codes (λ code i. added_rest A h code ∙ items_known A code codes met.1.0 i)
+    put-rows same_item (λ c k. same_text k c) (within serial) (λ c k. refl) (all_said added_item A) codes
+    (λ code i. added_rest A h code ∙ items_known A code codes met.1.0 i)
     (λ c k i j e. ap (within serial) (sym (text_same k c e))) (item_row A) (λ c k. refl)
-    ∙ map-same (λ k. cond (list_any (same_text k) codes) (within serial k) (item_row A k)) (item_row (then_act A key (Seal c serial codes at) answer)) (all_said added_item A)
+    ∙ map-same (λ k. cond (list_any (same_text k) codes) (within serial k) (item_row A k)) (item_row (then_act A key (Seal c serial codes at) answer))
+    (all_said added_item A)
     (sealed_row A key c serial codes at answer (unmet (is_some (spot A serial)) Taken met.1.1.0))
 
 -- ITEMS OF A BAG THAT IS CUT
@@ -210,7 +225,8 @@ itemed code rest = record { code = code; rest = rest }
 
 -- an item's row, loose where its bag was cut or as it was
 cut_row : (A : History) (key : List ℕ) (c : ℕ) (t : List ℕ) (at : ℕ) (answer : Answer) → is_spent (spot A t) ≡ false → (k : List ℕ)
-    → cond (is_within t (unwrap_or (rest A k) (Loose East))) (itemed k (Loose (facility_of A c))) (item_row A k) ≡ item_row (then_act A key (Cut c t at) answer) k
+    → cond (is_within t (unwrap_or (rest A k) (Loose East))) (itemed k (Loose (facility_of A c))) (item_row A k)
+    ≡ item_row (then_act A key (Cut c t at) answer) k
 cut_row A key c t at answer n k = grind (arith, text_refl t, text_same t, text_flip t)
 
 abbrev itemed_loose : Facility → List ℕ → Item
@@ -233,7 +249,8 @@ module _ (A : History) (t : List ℕ) (rows : List Item) (p : Shown (lies_in t) 
   lies-told k i =
       same-answers (list_any (same_text k) codes_in) (lies_in t (item_row A k)) (λ h. (code-in k (listed-in k codes_in h)).1)
       (λ e. in-listed k codes_in (map-in (λ row. row.code) (item_row A k) (filter (lies_in t) rows)
-      (in-order (item_row A k) (filter (lies_in t) rows) (filter (lies_in t) (items A)) (IsPermutation-sym (filter (lies_in t) (items A)) (filter (lies_in t) rows) p)
+      (in-order (item_row A k) (filter (lies_in t) rows) (filter (lies_in t) (items A))
+      (IsPermutation-sym (filter (lies_in t) (items A)) (filter (lies_in t) rows) p)
       (filter-in (lies_in t) (item_row A k) (items A) (map-in (item_row A) k (all_said added_item A) i) e))))
 
 -- so they lead to the table after the cut
@@ -245,7 +262,8 @@ items-cut A key c t at answer n rows p =
     let all = all_said added_item A in
     let codes = codes_in A t rows p in
     ap (λ changes. put_all same_item changes (items A)) (sym (map-map (itemed_loose here) (λ (row : Item). row.code) (filter (lies_in t) rows)))
-    ∙ put-rows same_item (λ c k. same_text k c) (itemed_loose here) (λ c k. refl) all codes (λ code i. in-any (λ k. same_text k code) code all (code-in A t rows p code i).0 (text_refl code))
+    ∙ put-rows same_item (λ c k. same_text k c) (itemed_loose here) (λ c k. refl) all codes
+    (λ code i. in-any (λ k. same_text k code) code all (code-in A t rows p code i).0 (text_refl code))
     (λ c k i j e. ap (itemed_loose here) (sym (text_same k c e))) (item_row A) (λ c k. refl)
     ∙ map-same-in (λ k. cond (list_any (same_text k) codes) (itemed_loose here k) (item_row A k)) (item_row (then_act A key (Cut c t at) answer)) all
     (λ k i. ap (λ b. cond b (itemed_loose here k) (item_row A k)) (lies-told A t rows p k i)
@@ -282,7 +300,8 @@ put-leads A h c t to at key view answer v k f =
     refl
 
 -- the rows of items put one after the other
-items-changed : (rows : List Item) (rest : List Change) (t : Tables) → changed_by (map PutItem rows ++ rest) t ≡ changed_by rest (record t { items = put_all same_item rows t.items })
+items-changed : (rows : List Item) (rest : List Change) (t : Tables)
+    → changed_by (map PutItem rows ++ rest) t ≡ changed_by rest (record t { items = put_all same_item rows t.items })
 items-changed rows rest t = changed_by-rows PutItem same_item (λ rows t. record t { items = rows }) (λ row rows t. refl) rows t.items rest t
 
 -- the tables with the bag's row and the mark's
@@ -295,7 +314,8 @@ seal-leads A h c t codes at key view answer v k f =
     let here = facility_of A c in
     let n = none_holds (conditions A act) f in
     let tell = PutKey (new_key_row (command_of key act) answer) ∷ [] in
-    ap (λ facility. changed_by (map PutItem (packed t codes) ++ tell) (with_bag (record { serial = t; spot = Table facility }) c at (tables A))) (facility-shown A c view.ceremonies.items v.ceremonies)
+    ap (λ facility. changed_by (map PutItem (packed t codes) ++ tell) (with_bag (record { serial = t; spot = Table facility }) c at (tables A)))
+    (facility-shown A c view.ceremonies.items v.ceremonies)
     ∙ items-changed (packed t codes) tell (with_bag (record { serial = t; spot = Table here }) c at (tables A))
     ∙ rw (
       bags_sealed A h t (Table here) (unmet (is_some (spot A t)) Taken n.1.1.0),
@@ -311,7 +331,8 @@ cut-leads A h c t at key view answer v k f =
     let here = facility_of A c in
     let tell = PutKey (new_key_row (command_of key act) answer) ∷ [] in
     let bag : Bag = record { serial = t; spot = Spent } in
-    ap (λ facility. changed_by (map PutItem (loosened view.items.items t facility) ++ tell) (with_bag bag c at (tables A))) (facility-shown A c view.ceremonies.items v.ceremonies)
+    ap (λ facility. changed_by (map PutItem (loosened view.items.items t facility) ++ tell) (with_bag bag c at (tables A)))
+    (facility-shown A c view.ceremonies.items v.ceremonies)
     ∙ items-changed (loosened view.items.items t here) tell (with_bag bag c at (tables A))
     ∙ rw (
       bags_moved A h t Spent (none_holds (conditions A act) f).1.0,

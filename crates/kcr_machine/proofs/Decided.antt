@@ -67,18 +67,22 @@ fault-shown A h key (TurnSafe c safe state by at) view v = turn-fault A h c safe
 fault-shown A h key (Sign ceremony step at) view v = sign-fault A h ceremony step at key view v
 fault-shown A h key (Except ceremony text pass at) view v = except-fault A h ceremony text pass at key view v
 
-full-shown : (A : History) (x : Command) (view : View) → IsRegister A → IsViewOf (asks_of x) (tables A) view → refusal_by view (is_full_by view) x.act ≡ refusal_by view (is_full A) x.act
+full-shown : (A : History) (x : Command) (view : View) → IsRegister A → IsViewOf (asks_of x) (tables A) view
+    → refusal_by view (is_full_by view) x.act ≡ refusal_by view (is_full A) x.act
 full-shown A x view h v = ap (λ n. refusal_by view (nat_le 4000000000 n) x.act) (v.greatest ∙ greatest-keys A h)
 
 -- SEATS
 
-sign-fine : (A : History) → IsRegister A → (key : List ℕ) (c k at : ℕ) (view : View) → IsViewOf (asks_by key (Sign c k at)) (tables A) view → refusal_by view (is_full A) (Sign c k at) ≡ None → fault A (Sign c k at) ≡ None
+sign-fine : (A : History) → IsRegister A → (key : List ℕ) (c k at : ℕ) (view : View) → IsViewOf (asks_by key (Sign c k at)) (tables A) view
+    → refusal_by view (is_full A) (Sign c k at) ≡ None → fault A (Sign c k at) ≡ None
 sign-fine A h key c k at view v none = sym (sign-fault A h c k at key view v) ∙ none
 
 -- the seats that an act needs by the rows are those by the history
-sitting-shown : (A : History) → IsRegister A → (key : List ℕ) (act : Act) (view : View) → IsViewOf (asks_by key act) (tables A) view → refusal_by view (is_full A) act ≡ None → sitting_by view act ≡ sitting A act
+sitting-shown : (A : History) → IsRegister A → (key : List ℕ) (act : Act) (view : View) → IsViewOf (asks_by key act) (tables A) view
+    → refusal_by view (is_full A) act ≡ None → sitting_by view act ≡ sitting A act
 sitting-shown A h key (Sign c k at) view v none =
-    ap (λ seats. Some (record { ceremony = c; at = at; seats = seats })) (seats-shown A h c view v.steps k (sign-there A c k at (sign-fine A h key c k at view v none)))
+    ap (λ seats. Some (record { ceremony = c; at = at; seats = seats }))
+    (seats-shown A h c view v.steps k (sign-there A c k at (sign-fine A h key c k at view v none)))
 sitting-shown A h key (Except c text true at) view v none = refl
 sitting-shown A h key (Except c text false at) view v none = refl
 sitting-shown A h key act view v none = refl
@@ -88,14 +92,16 @@ abbrev Lacks : History → Sitting → Refusal → Type 0
 Lacks A s refusal = (positions : List ℕ) × IsLeast A s.ceremony s.at s.seats positions × (refusal ≡ Short (map suc positions))
 
 -- the rows tell of no more steps done than a script has
-not_overdone-shown : (A : History) → IsRegister A → (key : List ℕ) (act : Act) (view : View) → IsViewOf (asks_by key act) (tables A) view → is_overdone view act ≡ false
+not_overdone-shown : (A : History) → IsRegister A → (key : List ℕ) (act : Act) (view : View) → IsViewOf (asks_by key act) (tables A) view
+    → is_overdone view act ≡ false
 not_overdone-shown A h key (Sign c k at) view v = not_overdone A h c view.steps.items v.steps
 not_overdone-shown A h key (Except c text pass at) view v = not_overdone A h c view.steps.items v.steps
 not_overdone-shown A h key act view v = refl
 
 -- ANSWERS
 
-number-shown : (A : History) (act : Act) (key : List ℕ) (view : View) → IsRegister A → IsViewOf (asks_by key act) (tables A) view → greatest_number view.keys.items ≡ length A
+number-shown : (A : History) (act : Act) (key : List ℕ) (view : View) → IsRegister A → IsViewOf (asks_by key act) (tables A) view
+    → greatest_number view.keys.items ≡ length A
 number-shown A act key view h v = v.greatest ∙ greatest-keys A h
 
 -- the answer by the rows is the one by the history
@@ -103,7 +109,12 @@ answer-shown : (A : History) → IsRegister A → (key : List ℕ) (act : Act) (
     → (people : Option (List (List ℕ))) → IsSeatedFor view (sitting_by view act) people → answer_by view act people ≡ answer_to A act people
 answer-shown A h key (Sign c k at) view v people g = rw (number-shown A (Sign c k at) key view h v) refl
 answer-shown A h key (Except c text true at) view v people g =
-    rw (number-shown A (Except c text true at) key view h v, stated-shown A h c view.exceptions.items v.exceptions, done-shown A h c view.steps.items v.steps) refl
+    rw (
+      number-shown A (Except c text true at) key view h v,
+      stated-shown A h c view.exceptions.items v.exceptions,
+      done-shown A h c view.steps.items v.steps,
+    )
+    refl
 answer-shown A h key (Except c text false at) view v people g =
     rw (number-shown A (Except c text false at) key view h v, stated-shown A h c view.exceptions.items v.exceptions, g) refl
 answer-shown A h key act view v people g = rw (number-shown A act key view h v, g) refl
@@ -111,7 +122,8 @@ answer-shown A h key act view v people g = rw (number-shown A act key view h v, 
 -- CHANGES
 
 -- the changes of an act that has no fault, with those of its seats, lead from the tables before it to those after it
-leads : (A : History) → IsRegister A → (key : List ℕ) (act : Act) (view : View) (seats : Option (List (List ℕ))) (answer : Answer) → IsViewOf (asks_by key act) (tables A) view → entry_of A key ≡ None → fault A act ≡ None
+leads : (A : History) → IsRegister A → (key : List ℕ) (act : Act) (view : View) (seats : Option (List (List ℕ))) (answer : Answer)
+    → IsViewOf (asks_by key act) (tables A) view → entry_of A key ≡ None → fault A act ≡ None
     → IsSeatedFor view (sitting_by view act) seats → answer ≡ answer_to A act seats
     → SameTables (changed_with (all_changes_by view act seats) (command_of key act) answer (tables A)) (tables (with_command A (command_of key act) answer))
 leads A h key (Enter who name) view seats answer v k f g e = same-tables _ _ (enter-leads A who name key view answer v k f)
@@ -144,14 +156,18 @@ leads A h key (Except c text false at) view seats answer v q f g e = same-tables
 -- where no seats are needed the command is accepted; else with the people who are seated
 module _ (A : History) (x : Command) (view : View) (answer : Answer) where
   abbrev Steps : Option Sitting → Type 0
-  Steps o = MatchOption o (accepts A x (answer_to A x.act None) (Accepts answer) (with_command A x answer)) (λ s. seats A x s (Accepts answer) (with_command A x answer))
+  Steps o =
+      MatchOption o (accepts A x (answer_to A x.act None) (Accepts answer) (with_command A x answer))
+      (λ s. seats A x s (Accepts answer) (with_command A x answer))
 
-  by_people : (s : Sitting) (people : Option (List (List ℕ))) → IsSeatedFor view (Some s) people → ((ps : List (List ℕ)) → IsSeatedBy view s ps → IsFirst A s.ceremony s.at s.seats ps)
+  by_people : (s : Sitting) (people : Option (List (List ℕ))) → IsSeatedFor view (Some s) people
+      → ((ps : List (List ℕ)) → IsSeatedBy view s ps → IsFirst A s.ceremony s.at s.seats ps)
       → answer ≡ answer_to A x.act people → seats A x s (Accepts answer) (with_command A x answer)
   by_people s None g first e = absurd g
   by_people s (Some people) g first e = inl (people, first people g, (ap Accepts e, ap (with_command A x) e))
 
-  by_sitting : (o : Option Sitting) → IsSeatedFor view o answer.seating → ((s : Sitting) (ps : List (List ℕ)) → o ≡ Some s → IsSeatedBy view s ps → IsFirst A s.ceremony s.at s.seats ps)
+  by_sitting : (o : Option Sitting) → IsSeatedFor view o answer.seating
+      → ((s : Sitting) (ps : List (List ℕ)) → o ≡ Some s → IsSeatedBy view s ps → IsFirst A s.ceremony s.at s.seats ps)
       → answer ≡ answer_to A x.act answer.seating → Steps o
   by_sitting None g first e = let n = e ∙ ap (answer_to A x.act) g in (ap Accepts n, ap (with_command A x) n)
   by_sitting (Some s) g first e = by_people s answer.seating g (λ ps q. first s ps refl q) e
@@ -162,7 +178,8 @@ accepted A x view verdict answer h v k g =
     let none : refusal_by view (is_full A) x.act ≡ None = sym (full-shown A x view h v) ∙ g.fine in
     let fine : fault A x.act ≡ None = sym (fault-shown A h x.key x.act view v) ∙ none in
     let next : answer ≡ answer_to A x.act answer.seating = g.next ∙ answer-shown A h x.key x.act view v answer.seating g.seated in
-    let seated : IsSeatedFor view (sitting A x.act) answer.seating = subst (λ o. IsSeatedFor view o answer.seating) (sitting-shown A h x.key x.act view v none) g.seated in
+    let seated : IsSeatedFor view (sitting A x.act) answer.seating = subst (λ o. IsSeatedFor view o answer.seating)
+    (sitting-shown A h x.key x.act view v none) g.seated in
     let step = by_sitting A x view answer (sitting A x.act) seated (λ s ps e. seated-first A h view s (sitting-is A h x.key x.act view v s e) ps) next in
     record {
       step = rw (k, fine) step;
@@ -170,7 +187,8 @@ accepted A x view verdict answer h v k g =
       reply = g.reply;
     }
 
-repeated : (A : History) (x : Command) (view : View) (verdict : Verdict) (kept : Entry) → entry_of A x.key ≡ Some kept → RepeatsRow view x verdict (key_row kept) → IsRepeat A x verdict kept
+repeated : (A : History) (x : Command) (view : View) (verdict : Verdict) (kept : Entry) → entry_of A x.key ≡ Some kept
+    → RepeatsRow view x verdict (key_row kept) → IsRepeat A x verdict kept
 repeated A x view verdict kept k g =
     record {
       found = k;
@@ -189,7 +207,8 @@ verdict-view A x view verdict h v (Some kept) e (Some answer) g = absurd g
 
 -- REFUSED
 
-unseated : (A : History) (x : Command) (view : View) (refusal : Refusal) → (o : Option Sitting) → IsUnseatedFor view o refusal → ((s : Sitting) → o ≡ Some s → IsUnseatedBy view s refusal → Lacks A s refusal)
+unseated : (A : History) (x : Command) (view : View) (refusal : Refusal) → (o : Option Sitting) → IsUnseatedFor view o refusal
+    → ((s : Sitting) → o ≡ Some s → IsUnseatedBy view s refusal → Lacks A s refusal)
     → MatchOption o (accepts A x (answer_to A x.act None) (Refuses refusal) A) (λ s. seats A x s (Refuses refusal) A)
 unseated A x view refusal None g least = absurd g
 unseated A x view refusal (Some s) g least = let w = least s refl g in inr (w.0, w.1, (ap Refuses w.2, refl))
@@ -203,8 +222,10 @@ refused_new A h x view refusal ne v e None f g =
     let w : IsUnseatedFor view (sitting A x.act) refusal = subst (λ o. IsUnseatedFor view o refusal) (sitting-shown A h x.key x.act view v f) g in
     rw fine (unseated A x view refusal (sitting A x.act) w (λ s e. unseated-least A h view s (sitting-is A h x.key x.act view v s e) refusal))
 
-refused : (A : History) (x : Command) (view : View) (refusal : Refusal) → refusal ≢ Memory → IsRegister A → IsViewOf (asks_of x) (tables A) view → (k : Option Entry)
-    → MatchOption (option_map key_row k) (IsRefused view (is_full_by view) x.act refusal) (λ row. (same_text row.command (command_text x.act) ≡ false) × (refusal ≡ Key))
+refused : (A : History) (x : Command) (view : View) (refusal : Refusal) → refusal ≢ Memory → IsRegister A → IsViewOf (asks_of x) (tables A) view
+    → (k : Option Entry)
+    → MatchOption (option_map key_row k) (IsRefused view (is_full_by view) x.act refusal)
+    (λ row. (same_text row.command (command_text x.act) ≡ false) × (refusal ≡ Key))
     → MatchOption k (acts A x (fault A x.act) (Refuses refusal) A) (λ kept. repeats A x kept (Refuses refusal) A)
 refused A x view refusal ne h v (Some kept) g = (rw (g.0, g.1), refl)
 refused A x view refusal ne h v None g =
@@ -216,11 +237,13 @@ asks-key : (key : List ℕ) (act : Act) → (asks_by key act).key ≡ key
 asks-key key (Enter who name) = refl
 asks-key key act = refl
 
-key-shown : (A : History) (x : Command) (view : View) → IsViewOf (asks_of x) (tables A) view → row_of_key x.key view.keys.items ≡ option_map key_row (entry_of A x.key)
+key-shown : (A : History) (x : Command) (view : View) → IsViewOf (asks_of x) (tables A) view
+    → row_of_key x.key view.keys.items ≡ option_map key_row (entry_of A x.key)
 key-shown A x view v = rw (asks-key x.key x.act) at v.key_row ∙ row_of_key-keys A x.key
 
 -- a decision by the rows of a view is a step of the machine
-pub decision : (A : History) (x : Command) (view : View) (result : Result Verdict Refusal) → IsRegister A → IsViewOf (asks_of x) (tables A) view → IsRowDecision view x result → IsDecision A x result
+pub decision : (A : History) (x : Command) (view : View) (result : Result Verdict Refusal) → IsRegister A → IsViewOf (asks_of x) (tables A) view
+    → IsRowDecision view x result → IsDecision A x result
 decision A x view (Ok verdict) h v g =
     let e = key-shown A x view v in
     verdict-view A x view verdict h v (entry_of A x.key) refl verdict.answer (rw e at g)

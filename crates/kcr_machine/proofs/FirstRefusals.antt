@@ -29,6 +29,7 @@ none-first f (y ∷ xs) h x (inl e) = grind arith
 none-first f (y ∷ xs) h x (inr i) = none-first f xs (grind arith) x i
 
 -- the first value that a test finds is refused as the first of the list that has a refusal
-pub first-found : {X : Type 0} (p q : X → Bool) (refuse : X → Refusal) (xs : List X) → ((x : X) → IsIn x xs → p x ≡ q x) → option_map refuse (find p xs) ≡ first_with (λ x. when (q x) (refuse x)) xs
+pub first-found : {X : Type 0} (p q : X → Bool) (refuse : X → Refusal) (xs : List X) → ((x : X) → IsIn x xs → p x ≡ q x)
+    → option_map refuse (find p xs) ≡ first_with (λ x. when (q x) (refuse x)) xs
 first-found p q refuse [] h = refl
 first-found p q refuse (x ∷ xs) h = grind (arith, h x (inl refl), first-found p q refuse xs (λ y i. h y (inr i)))

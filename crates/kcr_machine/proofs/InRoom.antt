@@ -67,7 +67,8 @@ pub trained-all : (A : History) → IsRegister A → (us : List Training) (vs : 
 trained-all A h us vs p q who role day = trained-order (trainings A) us (withdrawals A) vs p q who role day ∙ trained-rows A h who role day
 
 -- the same by those of the person
-pub trained-own : (A : History) → IsRegister A → (us : List Training) (vs : List Withdrawal) → (who : List ℕ) → Shown (is_training_of who) (trainings A) us → Shown (is_withdrawal_of who) (withdrawals A) vs
+pub trained-own : (A : History) → IsRegister A → (us : List Training) (vs : List Withdrawal) → (who : List ℕ) → Shown (is_training_of who) (trainings A) us
+    → Shown (is_withdrawal_of who) (withdrawals A) vs
     → (role : Role) (day : ℕ) → trained_by us vs who role day ≡ trained A who role day
 trained-own A h us vs who p q role day = trained-shown who (trainings A) us (withdrawals A) vs p q role day ∙ trained-rows A h who role day
 
@@ -76,18 +77,22 @@ pub attended-shown : (A : History) → IsRegister A → (view : View) (c : ℕ) 
     → IsPermutation (trainings A) view.trainings.items → IsPermutation (withdrawals A) view.withdrawals.items
     → (role : Role) (t : ℕ) → is_attended_by view role c t ≡ Rooms.is_attended_by A role c t
 attended-shown A h view c s p q role t =
-    any-same (λ who. trained_by view.trainings.items view.withdrawals.items who role (day_of t)) (λ who. trained A who role (day_of t)) (λ who. trained-all A h view.trainings.items view.withdrawals.items p q who role (day_of t)) (present_in_by view.stays.items c t)
+    any-same (λ who. trained_by view.trainings.items view.withdrawals.items who role (day_of t)) (λ who. trained A who role (day_of t))
+    (λ who. trained-all A h view.trainings.items view.withdrawals.items p q who role (day_of t)) (present_in_by view.stays.items c t)
     ∙ ap (list_any (λ who. trained A who role (day_of t))) (present-shown A c view.stays.items s t)
 
 -- who holds a place, by all appointments
-pub holder-shown : (A : History) → IsRegister A → (rows : List Appointment) → IsPermutation (appointments A) rows → (place : Place) (day : ℕ) → holder_by rows place day ≡ holder A place day
+pub holder-shown : (A : History) → IsRegister A → (rows : List Appointment) → IsPermutation (appointments A) rows → (place : Place) (day : ℕ)
+    → holder_by rows place day ≡ holder A place day
 holder-shown A h rows p place day =
     ap (option_map (λ row. row.who))
-    (find-shown (holds place day) (λ row. true) (λ row e. refl) (appointments A) rows (filter-order (λ row. true) (appointments A) rows p) (λ r e. only-holder place day r (appointments A) (orderly A h).0 e))
+    (find-shown (holds place day) (λ row. true) (λ row e. refl) (appointments A) rows (filter-order (λ row. true) (appointments A) rows p)
+    (λ r e. only-holder place day r (appointments A) (orderly A h).0 e))
     ∙ holder-appointments A h place day
 
 -- whether the place has a holder, who is in the room
-pub holder_in-shown : (A : History) → IsRegister A → (view : View) (c : ℕ) → Shown (is_stay_of c) (reverse (stays_by (sheet A))) view.stays.items → IsPermutation (appointments A) view.appointments.items
+pub holder_in-shown : (A : History) → IsRegister A → (view : View) (c : ℕ) → Shown (is_stay_of c) (reverse (stays_by (sheet A))) view.stays.items
+    → IsPermutation (appointments A) view.appointments.items
     → (place : Place) (t : ℕ) → has_holder_in_by view place c t ≡ has_holder_in A place c t
 holder_in-shown A h view c s p place t =
     let inside : (who : List ℕ) → is_in_by view.stays.items who c t ≡ is_in A who c t = λ who. in-shown A c view.stays.items s who t in

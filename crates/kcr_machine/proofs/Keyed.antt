@@ -1,4 +1,5 @@
--- Tables whose rows are functions of their keys: what is found among the rows that a view shows, in any order, and what a row put under its key makes of a table.
+-- Tables whose rows are functions of their keys: what is found among the rows that a view shows, in any order, and what a row put under its key makes of a
+-- table.
 use Rattle.std.proofs.Common.{◌≡◌, Bool, true, false, cond, ◌&&◌, ◌||◌, List, [], ◌∷◌, map, filter, find, Option, Some, None, option_map, is_some, refl, sym, ap, ◌∙◌, inl, inr, arith}
 use Rattle.std.specs.Prelude.{unwrap_or}
 use Rattle.std.specs.List.{list_any, AllByRecursion}
@@ -40,7 +41,8 @@ filter-shown test of inside table rows p =
     rw (← filter-kept test of table inside, ← filter-kept test of rows inside) (filter-order test (filter of table) (filter of rows) p)
 
 -- what holds of the rows that are asked for, and of all others, holds of all
-unfilter : {X : Type 0} (P : X → Type 0) (of : X → Bool) → ((x : X) → of x ≡ false → P x) → (rows : List X) → AllByRecursion P (filter of rows) → AllByRecursion P rows
+unfilter : {X : Type 0} (P : X → Type 0) (of : X → Bool) → ((x : X) → of x ≡ false → P x) → (rows : List X) → AllByRecursion P (filter of rows)
+    → AllByRecursion P rows
 unfilter P of other [] a = tt
 unfilter P of other (x ∷ rows) a = elim (cases_Bool (of x)) [
   | inl e ↦ let b = rw e at a in (b.0, unfilter P of other rows b.1)
@@ -56,8 +58,10 @@ pub found-shown : {X : Type 0} (test of : X → Bool) (v : X) → Implies test o
     → Only test v table → find test rows ≡ some_if (list_any test table) v
 found-shown {X} test of v inside table rows p only =
     let P : X → Type 0 = λ x. test x ≡ true → x ≡ v in
-    let shown = recursion_from_All P (filter of rows) (All-permutation P (filter of table) (filter of rows) p (All-filter of P table (All-from_recursion P table only))) in
-    find-all test v rows (unfilter P of (λ x e t. absurd (both_ways (of x) e (inside x t))) rows shown) ∙ ap (λ b. some_if b v) (any-shown test of inside table rows p)
+    let shown = recursion_from_All P (filter of rows)
+    (All-permutation P (filter of table) (filter of rows) p (All-filter of P table (All-from_recursion P table only))) in
+    find-all test v rows (unfilter P of (λ x e t. absurd (both_ways (of x) e (inside x t))) rows shown)
+    ∙ ap (λ b. some_if b v) (any-shown test of inside table rows p)
 
 pub find-shown : {X : Type 0} (test of : X → Bool) → Implies test of → (table rows : List X) → Shown of table rows
     → ((r : X) → find test table ≡ Some r → Only test r table) → find test rows ≡ find test table
@@ -112,14 +116,16 @@ put-there : {K X : Type 0} (same : X → X → Bool) (f g : K → X) (row : X) (
 put-there same f g row ks there now =
     rw (any-map (same row) f ks ∙ there) (map-map (λ old. cond (same row old) row old) f ks ∙ map-same-in (λ k. cond (same row (f k)) row (f k)) g ks now)
 
-pub put-at : {K X : Type 0} (same : X → X → Bool) (f g : K → X) (row : X) → ((k : K) → same row (f k) ≡ true → row ≡ g k) → ((k : K) → same row (f k) ≡ false → f k ≡ g k) → (ks : List K)
+pub put-at : {K X : Type 0} (same : X → X → Bool) (f g : K → X) (row : X) → ((k : K) → same row (f k) ≡ true → row ≡ g k)
+    → ((k : K) → same row (f k) ≡ false → f k ≡ g k) → (ks : List K)
     → list_any (λ k. same row (f k)) ks ≡ true → put same row (map f ks) ≡ map g ks
 put-at same f g row here elsewhere ks there = put-there same f g row ks there (λ k i. grind (arith, here k, elsewhere k))
 
 -- rows under keys that are all there, one after the other: each that is put is the new row of its key
 module _ {K X : Type 0} (same : X → X → Bool) (is : K → K → Bool) (new : K → X) (new_key : (c k : K) → same (new c) (new k) ≡ is c k) (all : List K) where
   pub put-rows : (cs : List K) → ((c : K) → IsIn c cs → list_any (is c) all ≡ true) → ((c k : K) → IsIn c cs → IsIn k all → is c k ≡ true → new c ≡ new k)
-      → (f : K → X) → ((c k : K) → same (new c) (f k) ≡ is c k) → put_all same (map new cs) (map f all) ≡ map (λ k. cond (list_any (λ c. is c k) cs) (new k) (f k)) all
+      → (f : K → X) → ((c k : K) → same (new c) (f k) ≡ is c k)
+      → put_all same (map new cs) (map f all) ≡ map (λ k. cond (list_any (λ c. is c k) cs) (new k) (f k)) all
   put-rows [] there one f key = refl
   put-rows (c ∷ cs) there one f key =
       ap (put_all same (map new cs)) (put-there same f next (new c) all (any-same (λ k. same (new c) (f k)) (is c) all (key c) ∙ there c (inl refl)) now)

@@ -49,17 +49,22 @@ FaultShown A act = (key : List ℕ) (view : View) → IsViewOf (asks_by key act)
 
 -- and where it has none, its changes lead on
 abbrev pub LeadsOn : History → Act → Type 0
-LeadsOn A act = (key : List ℕ) (view : View) (answer : Answer) → IsViewOf (asks_by key act) (tables A) view → entry_of A key ≡ None → fault A act ≡ None → Leads A view (command_of key act) answer
+LeadsOn A act =
+    (key : List ℕ) (view : View) (answer : Answer) → IsViewOf (asks_by key act) (tables A) view → entry_of A key ≡ None → fault A act ≡ None
+    → Leads A view (command_of key act) answer
 
 -- the same of an act with those who fill its seats
 abbrev pub SeatsLeadOn : History → Act → Option (List (List ℕ)) → Type 0
 SeatsLeadOn A act people =
-    (key : List ℕ) (view : View) (answer : Answer) → IsViewOf (asks_by key act) (tables A) view → entry_of A key ≡ None → fault A act ≡ None → answer ≡ answer_to A act people
+    (key : List ℕ) (view : View) (answer : Answer) → IsViewOf (asks_by key act) (tables A) view → entry_of A key ≡ None → fault A act ≡ None → answer
+    ≡ answer_to A act people
     → changed_with (all_changes_by view act people) (command_of key act) answer (tables A) ≡ tables (with_command A (command_of key act) answer)
 
 -- the row of a command whose key is new is put in front
-pub new_key : (A : History) (x : Command) (answer : Answer) → entry_of A x.key ≡ None → put same_key_row (new_key_row x answer) (keys A) ≡ new_key_row x answer ∷ keys A
-new_key A x answer k = put-new same_key_row (new_key_row x answer) (keys A) (none-find (is_of_key x.key) (keys A) (row_of_key-keys A x.key ∙ ap (option_map key_row) k))
+pub new_key : (A : History) (x : Command) (answer : Answer) → entry_of A x.key ≡ None
+    → put same_key_row (new_key_row x answer) (keys A) ≡ new_key_row x answer ∷ keys A
+new_key A x answer k =
+    put-new same_key_row (new_key_row x answer) (keys A) (none-find (is_of_key x.key) (keys A) (row_of_key-keys A x.key ∙ ap (option_map key_row) k))
 
 -- CHANGES ONE AFTER THE OTHER
 
@@ -70,7 +75,8 @@ changed-append (x ∷ xs) ys t = changed-append xs ys (changed x t)
 -- rows of one table, where `to` is the change that puts one and `with_rows` gives the table other rows
 pub changed_by-rows : {X : Type 0} (to : X → Change) (same : X → X → Bool) (with_rows : List X → Tables → Tables)
     → ((row : X) (rows : List X) (t : Tables) → changed (to row) (with_rows rows t) ≡ with_rows (put same row rows) t)
-    → (xs rows : List X) (rest : List Change) (t : Tables) → changed_by (map to xs ++ rest) (with_rows rows t) ≡ changed_by rest (with_rows (put_all same xs rows) t)
+    → (xs rows : List X) (rest : List Change) (t : Tables)
+    → changed_by (map to xs ++ rest) (with_rows rows t) ≡ changed_by rest (with_rows (put_all same xs rows) t)
 changed_by-rows to same with_rows one [] rows rest t = refl
 changed_by-rows to same with_rows one (x ∷ xs) rows rest t =
     ap (changed_by (map to xs ++ rest)) (one x rows t) ∙ changed_by-rows to same with_rows one xs (put same x rows) rest t
@@ -78,7 +84,8 @@ changed_by-rows to same with_rows one (x ∷ xs) rows rest t =
 -- THE SAME ROWS IN ANOTHER ORDER
 
 -- tables that differ in the order of their withdrawals, of the sheet and of the stays alone
-pub other-order : (t : Tables) (withdrawn : List Withdrawal) (sheet : List SheetRow) (stays : List Stay) → IsPermutation withdrawn t.withdrawals → IsPermutation sheet t.sheet → IsPermutation stays t.stays
+pub other-order : (t : Tables) (withdrawn : List Withdrawal) (sheet : List SheetRow) (stays : List Stay) → IsPermutation withdrawn t.withdrawals
+    → IsPermutation sheet t.sheet → IsPermutation stays t.stays
     → SameTables (record t { withdrawals = withdrawn; sheet = sheet; stays = stays }) t
 other-order t withdrawn sheet stays p q r =
     record {
@@ -102,4 +109,5 @@ other-order t withdrawn sheet stays p q r =
 
 pub same-tables : (t u : Tables) → t ≡ u → SameTables t u
 same-tables t u e =
-    subst (SameTables t) e (other-order t t.withdrawals t.sheet t.stays (IsPermutation-refl t.withdrawals) (IsPermutation-refl t.sheet) (IsPermutation-refl t.stays))
+    subst (SameTables t) e (other-order t t.withdrawals t.sheet t.stays (IsPermutation-refl t.withdrawals) (IsPermutation-refl t.sheet)
+    (IsPermutation-refl t.stays))

@@ -53,7 +53,8 @@ withdrawal-who : (who : List ℕ) (row : Training) (w : Withdrawal) → same_tex
 withdrawal-who who row w own h = subst (λ t. same_text t.who who ≡ true) (sym (is_of-true row w h)) own
 
 -- whether a training of the person is withdrawn
-withdrawn-shown : (who : List ℕ) (table rows : List Withdrawal) → Shown (is_withdrawal_of who) table rows → (row : Training) → same_text row.who who ≡ true → (day : ℕ) → is_withdrawn_by rows row day ≡ is_withdrawn_by table row day
+withdrawn-shown : (who : List ℕ) (table rows : List Withdrawal) → Shown (is_withdrawal_of who) table rows → (row : Training) → same_text row.who who ≡ true
+    → (day : ℕ) → is_withdrawn_by rows row day ≡ is_withdrawn_by table row day
 withdrawn-shown who table rows p row own day =
     any-shown (λ w. is_of row w && nat_le w.day day) (is_withdrawal_of who) (λ w h. withdrawal-who who row w own (grind arith)) table rows p
 
@@ -62,11 +63,13 @@ withdrawn-shown who table rows p row own day =
 covers-who : (who : List ℕ) (role : Role) (day : ℕ) (row : Training) → covers who role day row ≡ true → same_text row.who who ≡ true
 covers-who who role day row h = grind arith
 
-trains-shown : (who : List ℕ) (table rows : List Withdrawal) → Shown (is_withdrawal_of who) table rows → (role : Role) (day : ℕ) (row : Training) → trains rows who role day row ≡ trains table who role day row
+trains-shown : (who : List ℕ) (table rows : List Withdrawal) → Shown (is_withdrawal_of who) table rows → (role : Role) (day : ℕ) (row : Training)
+    → trains rows who role day row ≡ trains table who role day row
 trains-shown who table rows p role day row = grind (arith, covers-who who role day row, withdrawn-shown who table rows p row)
 
 -- whether some training of the person holds on a day of its own
-trains-any : (who : List ℕ) (ts us : List Training) (ws vs : List Withdrawal) → Shown (is_training_of who) ts us → Shown (is_withdrawal_of who) ws vs → (role : Role) (on : Training → ℕ)
+trains-any : (who : List ℕ) (ts us : List Training) (ws vs : List Withdrawal) → Shown (is_training_of who) ts us → Shown (is_withdrawal_of who) ws vs
+    → (role : Role) (on : Training → ℕ)
     → list_any (λ row. trains vs who role (on row) row) us ≡ list_any (λ row. trains ws who role (on row) row) ts
 trains-any who ts us ws vs p q role on =
     any-same (λ row. trains vs who role (on row) row) (λ row. trains ws who role (on row) row) (λ row. trains-shown who ws vs q role (on row) row) us
@@ -74,12 +77,14 @@ trains-any who ts us ws vs p q role on =
     (λ row h. covers-who who role (on row) row (grind arith)) ts us p
 
 -- whether the person is trained on the day or a later one
-pub trained_from-shown : (who : List ℕ) (ts us : List Training) (ws vs : List Withdrawal) → Shown (is_training_of who) ts us → Shown (is_withdrawal_of who) ws vs → (role : Role) (day : ℕ)
+pub trained_from-shown : (who : List ℕ) (ts us : List Training) (ws vs : List Withdrawal) → Shown (is_training_of who) ts us
+    → Shown (is_withdrawal_of who) ws vs → (role : Role) (day : ℕ)
     → trained_from_by us vs who role day ≡ trained_from_by ts ws who role day
 trained_from-shown who ts us ws vs p q role day = trains-any who ts us ws vs p q role (λ row. max row.since day)
 
 -- whether the person is trained on the day
-pub trained-shown : (who : List ℕ) (ts us : List Training) (ws vs : List Withdrawal) → Shown (is_training_of who) ts us → Shown (is_withdrawal_of who) ws vs → (role : Role) (day : ℕ)
+pub trained-shown : (who : List ℕ) (ts us : List Training) (ws vs : List Withdrawal) → Shown (is_training_of who) ts us → Shown (is_withdrawal_of who) ws vs
+    → (role : Role) (day : ℕ)
     → trained_by us vs who role day ≡ trained_by ts ws who role day
 trained-shown who ts us ws vs p q role day = trains-any who ts us ws vs p q role (λ row. day)
 
@@ -92,7 +97,8 @@ one_number a b h =
     let q = leb-true b a (sym (h a) ∙ le-leb a a (omega arith)) in
     omega arith
 
-least-shown : (who : List ℕ) (table rows : List Withdrawal) → Shown (is_withdrawal_of who) table rows → (row : Training) → same_text row.who who ≡ true → (day : ℕ) → least_day rows row day ≡ least_day table row day
+least-shown : (who : List ℕ) (table rows : List Withdrawal) → Shown (is_withdrawal_of who) table rows → (row : Training) → same_text row.who who ≡ true
+    → (day : ℕ) → least_day rows row day ≡ least_day table row day
 least-shown who table rows p row own day =
     one_number (least_day rows row day) (least_day table row day)
     (λ d. least-day rows row day d ∙ ap (λ b. nat_le day d || b) (withdrawn-shown who table rows p row own d) ∙ sym (least-day table row day d))
@@ -101,7 +107,8 @@ ends_from-who : (who : List ℕ) (role : Role) (day : ℕ) (row : Training) → 
 ends_from-who who role day row h = grind arith
 
 -- the same rows are to be put, in some order
-pub withdrawn_rows-shown : (who : List ℕ) (ts us : List Training) (ws vs : List Withdrawal) → Shown (is_training_of who) ts us → Shown (is_withdrawal_of who) ws vs → (role : Role) (day : ℕ)
+pub withdrawn_rows-shown : (who : List ℕ) (ts us : List Training) (ws vs : List Withdrawal) → Shown (is_training_of who) ts us
+    → Shown (is_withdrawal_of who) ws vs → (role : Role) (day : ℕ)
     → IsPermutation (withdrawn_rows ts ws who role day) (withdrawn_rows us vs who role day)
 withdrawn_rows-shown who ts us ws vs p q role day =
     rw (map-same-in (withdrawal_of vs day) (withdrawal_of ws day) (filter (ends_from who role day) us)
@@ -117,9 +124,11 @@ text-turn a b h = (bytes_decides b a).1 (sym ((bytes_decides a b).0 h))
 
 pub person-shown : (A : History) (who : List ℕ) (rows : List Person) → Shown (is_of_people (who ∷ [])) (people A) rows → is_person_by rows who ≡ is_person A who
 person-shown A who rows p =
-    any-shown (λ row. same_text row.who who) (is_of_people (who ∷ [])) (λ row h. or_left (same_text row.who who) false h) (people A) rows p ∙ is_person-people A who
+    any-shown (λ row. same_text row.who who) (is_of_people (who ∷ [])) (λ row h. or_left (same_text row.who who) false h) (people A) rows p
+    ∙ is_person-people A who
 
-ever_trained-shown : (A : History) (who : List ℕ) (rows : List Training) → Shown (is_training_of who) (trainings A) rows → ever_trained_by rows who ≡ ever_trained A who
+ever_trained-shown : (A : History) (who : List ℕ) (rows : List Training) → Shown (is_training_of who) (trainings A) rows
+    → ever_trained_by rows who ≡ ever_trained A who
 ever_trained-shown A who rows p = any-shown (is_training_of who) (is_training_of who) (λ row h. h) (trainings A) rows p ∙ ever_trained-trainings A who
 
 -- a training of the same four values is the person's
@@ -135,7 +144,8 @@ put-shown : (A : History) (who : List ℕ) (rows : List Appointment) → Shown (
 put-shown A who rows p = any-shown (λ row. same_text row.who who) (is_appointment_of (Appointments.Person who)) (λ row h. h) (appointments A) rows p
 
 -- the open appointment of a place, among those of the place
-pub open_row-shown : (A : History) → IsRegister A → (place : Place) (rows : List Appointment) → Shown (is_appointment_of (Appointments.Place place)) (appointments A) rows
+pub open_row-shown : (A : History) → IsRegister A → (place : Place) (rows : List Appointment)
+    → Shown (is_appointment_of (Appointments.Place place)) (appointments A) rows
     → open_row_by rows place ≡ open_row_by (appointments A) place
 open_row-shown A h place rows p =
     find-shown (stands place) (is_appointment_of (Appointments.Place place)) (λ row e. grind arith) (appointments A) rows p
@@ -196,29 +206,37 @@ enter-leads A who name key view answer v k f =
 pub train-leads : (A : History) (who : List ℕ) (role : Role) (since until : ℕ) → LeadsOn A (Train who role since until)
 train-leads A who role since until key view answer v k f =
     let new : Training = record { who = who; role = role; since = since; until = until } in
-    let absent = is_training-trainings A new ∙ unmet (some_command (is_training who role since until) A) Taken (none_holds (conditions A (Train who role since until)) f).1.0 in
+    let absent = is_training-trainings A new ∙ unmet (some_command (is_training who role since until) A) Taken
+    (none_holds (conditions A (Train who role since until)) f).1.0 in
     rw (put-new same_training new (trainings A) absent, new_key A (command_of key (Train who role since until)) answer k)
 
 -- by the rows shown the same rows are put, in some order; no two of them have one key
-withdrawals-put : (A : History) → IsRegister A → (who : List ℕ) (role : Role) (day : ℕ) (us : List Training) (vs : List Withdrawal) → Shown (is_training_of who) (trainings A) us → Shown (is_withdrawal_of who) (withdrawals A) vs
-    → IsPermutation (put_all same_withdrawn (withdrawn_rows us vs who role day) (withdrawals A)) (put_all same_withdrawn (withdrawn_rows (trainings A) (withdrawals A) who role day) (withdrawals A))
+withdrawals-put : (A : History) → IsRegister A → (who : List ℕ) (role : Role) (day : ℕ) (us : List Training) (vs : List Withdrawal)
+    → Shown (is_training_of who) (trainings A) us → Shown (is_withdrawal_of who) (withdrawals A) vs
+    → IsPermutation (put_all same_withdrawn (withdrawn_rows us vs who role day) (withdrawals A))
+    (put_all same_withdrawn (withdrawn_rows (trainings A) (withdrawals A) who role day) (withdrawals A))
 withdrawals-put A h who role day us vs p q =
     IsPermutation-sym _ _
-    (put_all-order same_withdrawn same_withdrawn-keys (withdrawn_rows (trainings A) (withdrawals A) who role day) (withdrawn_rows us vs who role day) (withdrawals A)
+    (put_all-order same_withdrawn same_withdrawn-keys (withdrawn_rows (trainings A) (withdrawals A) who role day) (withdrawn_rows us vs who role day)
+    (withdrawals A)
     (withdrawn_rows-shown who (trainings A) us (withdrawals A) vs p q role day)
     (withdrawn_rows-apart (trainings A) (withdrawals A) who role day (trainings-apart A h)))
 
-pub withdraw-leads : (A : History) → IsRegister A → (key who : List ℕ) (role : Role) (day : ℕ) (view : View) (answer : Answer) → IsViewOf (asks_by key (Withdraw who role day)) (tables A) view → entry_of A key ≡ None
-    → SameTables (changed_with (changes_by view (Withdraw who role day)) (command_of key (Withdraw who role day)) answer (tables A)) (tables (with_command A (command_of key (Withdraw who role day)) answer))
+pub withdraw-leads : (A : History) → IsRegister A → (key who : List ℕ) (role : Role) (day : ℕ) (view : View) (answer : Answer)
+    → IsViewOf (asks_by key (Withdraw who role day)) (tables A) view → entry_of A key ≡ None
+    → SameTables (changed_with (changes_by view (Withdraw who role day)) (command_of key (Withdraw who role day)) answer (tables A))
+    (tables (with_command A (command_of key (Withdraw who role day)) answer))
 withdraw-leads A h key who role day view answer v k =
     let x : Command = command_of key (Withdraw who role day) in
     let after = tables (with_command A x answer) in
     let rows = withdrawn_rows view.trainings.items view.withdrawals.items who role day in
     rw (
-      changed_by-rows PutWithdrawal same_withdrawn (λ rows t. record t { withdrawals = rows }) (λ row rows t. refl) rows (withdrawals A) (PutKey (new_key_row x answer) ∷ []) (tables A),
+      changed_by-rows PutWithdrawal same_withdrawn (λ rows t. record t { withdrawals = rows }) (λ row rows t. refl) rows (withdrawals A)
+          (PutKey (new_key_row x answer) ∷ []) (tables A),
       new_key A x answer k,
     )
-    (other-order after (put_all same_withdrawn rows (withdrawals A)) after.sheet after.stays (withdrawals-put A h who role day view.trainings.items view.withdrawals.items v.trainings v.withdrawals)
+    (other-order after (put_all same_withdrawn rows (withdrawals A)) after.sheet after.stays
+    (withdrawals-put A h who role day view.trainings.items view.withdrawals.items v.trainings v.withdrawals)
     (IsPermutation-refl after.sheet) (IsPermutation-refl after.stays))
 
 pub appoint-leads : (A : History) → IsRegister A → (place : Place) (who : List ℕ) (day : ℕ) → LeadsOn A (Appoint place who day)
@@ -234,11 +252,17 @@ replace-leads A h place who day key view answer v k f =
     let n = none_holds (conditions A (Replace place who day)) f in
     let st = standing (open_row_by (appointments A) place) day (unmet _ Range n.1.0) (unmet _ Vacant n.1.1.1.1.0) in
     let o = orderly A h in
-    let p : put same_appointment (end_of (open_row_by view.appointments.items place) day (new_appointment place who day)) (appointments A) ≡ map (ended place day) (appointments A)
+    let p : put same_appointment (end_of (open_row_by view.appointments.items place) day (new_appointment place who day)) (appointments A) ≡ map
+    (ended place day) (appointments A)
     = rw (shown ∙ st.1) (put-ended place day st.0 (appointments A) o.0 o.1 st.1) in
     let free = closing place day st.0 (appointments A) o.0 st.1 st.2 in
     let fresh = no_begin place day (map (ended place day) (appointments A)) (lasts-ended place day st.0 (appointments A) o.0 o.1 st.1 st.2) free in
-    rw (p, put-new same_appointment (new_appointment place who day) (map (ended place day) (appointments A)) fresh, new_key A (command_of key (Replace place who day)) answer k)
+    rw (
+      p,
+      put-new same_appointment (new_appointment place who day) (map (ended place day) (appointments A)) fresh,
+      new_key A
+          (command_of key (Replace place who day)) answer k,
+    )
 
 pub release-leads : (A : History) → IsRegister A → (place : Place) (day : ℕ) → LeadsOn A (Release place day)
 release-leads A h place day key view answer v k f =
@@ -246,6 +270,7 @@ release-leads A h place day key view answer v k f =
     let n = none_holds (conditions A (Release place day)) f in
     let st = standing (open_row_by (appointments A) place) day (unmet _ Range n.0) (unmet _ Vacant n.1.0) in
     let o = orderly A h in
-    let p : put same_appointment (end_of (open_row_by view.appointments.items place) day (nobody place day)) (appointments A) ≡ map (ended place day) (appointments A)
+    let p : put same_appointment (end_of (open_row_by view.appointments.items place) day (nobody place day)) (appointments A) ≡ map (ended place day)
+    (appointments A)
     = rw (shown ∙ st.1) (put-ended place day st.0 (appointments A) o.0 o.1 st.1) in
     rw (p, new_key A (command_of key (Release place day)) answer k)

@@ -40,7 +40,8 @@ pub still : {X : Type 0} (o p : Option X) → is_some p ≡ true → is_some (or
 still o p e = grind arith
 
 -- what is said only after something else was said, by one more command as before it
-pub said-then : {X Y : Type 0} (o p : Option X) (q r : Option Y) → (is_some o ≡ true → is_some r ≡ true) → (is_some p ≡ true → is_some r ≡ true) → is_some (or_else o p) ≡ true → is_some (or_else q r) ≡ true
+pub said-then : {X Y : Type 0} (o p : Option X) (q r : Option Y) → (is_some o ≡ true → is_some r ≡ true) → (is_some p ≡ true → is_some r ≡ true)
+    → is_some (or_else o p) ≡ true → is_some (or_else q r) ≡ true
 said-then o p q r new old e = grind arith
 
 pub some-where : {X : Type 0} (b : Bool) (x : X) → is_some (cond b (Some x) None) ≡ true → b ≡ true
@@ -59,9 +60,11 @@ planned-number [] c = refl
 planned-number (entry ∷ A) c = planned_after entry.command.act c (all_said planned_number A) (plan_of A c) (planned-number A c)
 
 -- the row of the ceremony, where it was planned
-pub ceremony-shown : (A : History) (c : ℕ) (rows : List CeremonyRow) → Shown (is_of_number c) (ceremonies A) rows → ceremony_by rows c ≡ some_if (is_ceremony A c) (ceremony_row A c)
+pub ceremony-shown : (A : History) (c : ℕ) (rows : List CeremonyRow) → Shown (is_of_number c) (ceremonies A) rows
+    → ceremony_by rows c ≡ some_if (is_ceremony A c) (ceremony_row A c)
 ceremony-shown A c rows p =
-    find-view (is_of_number c) (is_of_number c) (ceremony_row A) (ceremony_row A c) (λ x e. e) (λ k e. ap (ceremony_row A) (eqb-true k c e)) (all_said planned_number A) rows p
+    find-view (is_of_number c) (is_of_number c) (ceremony_row A) (ceremony_row A c) (λ x e. e) (λ k e. ap (ceremony_row A) (eqb-true k c e))
+    (all_said planned_number A) rows p
     ∙ ap (λ b. some_if b (ceremony_row A c)) (planned-number A c)
 
 -- THE STATE
@@ -70,10 +73,13 @@ ceremony-shown A c rows p =
 pub opened-planned : (A : History) → IsRegister A → (c : ℕ) → is_some (opened A c) ≡ true → is_ceremony A c ≡ true
 opened-planned [] h c e = absurd (false≢true e)
 opened-planned (entry ∷ A) h c e =
-    said-then (opening c entry.command.act) (opened A c) (planned_as c entry.command.act) (plan_of A c) (by_act entry.command.act (took A entry h.0).no_fault) (opened-planned A h.1 c) e
+    said-then (opening c entry.command.act) (opened A c) (planned_as c entry.command.act) (plan_of A c) (by_act entry.command.act (took A entry h.0).no_fault)
+    (opened-planned A h.1 c) e
   where
     by_act : (act : Act) → fault A act ≡ None → is_some (opening c act) ≡ true → is_ceremony A c ≡ true
-    by_act (Open d at) f e = subst (λ c. is_ceremony A c ≡ true) (eqb-true d c (some-where (eqb d c) at e)) (met (is_ceremony A d) (Unknown (Things.Ceremony d)) (none_holds (conditions A (Open d at)) f).0)
+    by_act (Open d at) f e =
+        subst (λ c. is_ceremony A c ≡ true) (eqb-true d c (some-where (eqb d c) at e))
+        (met (is_ceremony A d) (Unknown (Things.Ceremony d)) (none_holds (conditions A (Open d at)) f).0)
     by_act act f e = absurd (false≢true e)
 
 -- the state of a row tells whether the ceremony is open
@@ -81,7 +87,8 @@ pub open-state : (A : History) (c : ℕ) → is_open_row (Some (ceremony_row A c
 open-state A c = grind arith
 
 never-open : (A : History) → IsRegister A → (c : ℕ) → is_ceremony A c ≡ false → is_open A c ≡ false
-never-open A h c e = and_left (is_some (opened A c)) (is_none (closed A c)) (false_from_ne_true (is_some (opened A c)) (λ o. true≢false (sym (opened-planned A h c o) ∙ e)))
+never-open A h c e =
+    and_left (is_some (opened A c)) (is_none (closed A c)) (false_from_ne_true (is_some (opened A c)) (λ o. true≢false (sym (opened-planned A h c o) ∙ e)))
 
 module _ (A : History) (c : ℕ) (rows : List CeremonyRow) (p : Shown (is_of_number c) (ceremonies A) rows) where
   -- whether there is such a ceremony
@@ -103,7 +110,8 @@ abbrev pub mark_with : Option (ℕ × ℕ) → ℕ → Option ℕ → Option ℕ
 mark_with None c m = m
 mark_with (Some new) c m = cond (eqb new.0 c) (Some (max_with new.1 m)) m
 
-greatest_with : (o : Option (ℕ × ℕ)) (c : ℕ) (ms : List (ℕ × ℕ)) → greatest (map (λ m. m.1) (filter (λ m. eqb m.0 c) (cons_option o ms))) ≡ mark_with o c (greatest (map (λ m. m.1) (filter (λ m. eqb m.0 c) ms)))
+greatest_with : (o : Option (ℕ × ℕ)) (c : ℕ) (ms : List (ℕ × ℕ))
+    → greatest (map (λ m. m.1) (filter (λ m. eqb m.0 c) (cons_option o ms))) ≡ mark_with o c (greatest (map (λ m. m.1) (filter (λ m. eqb m.0 c) ms)))
 greatest_with None c ms = refl
 greatest_with (Some new) c ms = grind arith
 
@@ -130,17 +138,20 @@ pub open-opened : (A : History) (c : ℕ) → is_open A c ≡ true → is_some (
 open-opened A c e = grind arith
 
 -- a ceremony has a mark where it was opened
-mark_stays : (A : History) (c : ℕ) (o : Option (ℕ × ℕ)) → IsReady A o None → is_some (mark A c) ≡ is_some (opened A c) → is_some (mark_with o c (mark A c)) ≡ is_some (opened A c)
+mark_stays : (A : History) (c : ℕ) (o : Option (ℕ × ℕ)) → IsReady A o None → is_some (mark A c) ≡ is_some (opened A c)
+    → is_some (mark_with o c (mark A c)) ≡ is_some (opened A c)
 mark_stays A c None r ih = ih
 mark_stays A c (Some new) r ih = grind (arith, open-opened A new.0 r.0)
 
-marked_opened_after : (A : History) (act : Act) (c : ℕ) → fault A act ≡ None → is_some (mark A c) ≡ is_some (opened A c) → is_some (mark_with (marked act) c (mark A c)) ≡ is_some (or_else (opening c act) (opened A c))
+marked_opened_after : (A : History) (act : Act) (c : ℕ) → fault A act ≡ None → is_some (mark A c) ≡ is_some (opened A c)
+    → is_some (mark_with (marked act) c (mark A c)) ≡ is_some (or_else (opening c act) (opened A c))
 marked_opened_after A (Open d at) c f ih = grind arith
 marked_opened_after A act c f ih = mark_stays A c (marked act) (ready A act f) ih
 
 pub marked-opened : (A : History) → IsRegister A → (c : ℕ) → is_some (mark A c) ≡ is_some (opened A c)
 marked-opened [] h c = refl
-marked-opened (entry ∷ A) h c = ap is_some (mark-after A entry c) ∙ marked_opened_after A entry.command.act c (took A entry h.0).no_fault (marked-opened A h.1 c)
+marked-opened (entry ∷ A) h c =
+    ap is_some (mark-after A entry c) ∙ marked_opened_after A entry.command.act c (took A entry h.0).no_fault (marked-opened A h.1 c)
 
 -- a ceremony has a row of marks where it was opened
 opened_after : (act : Act) (c : ℕ) (numbers : List ℕ) (o : Option ℕ) → list_any (λ k. eqb k c) numbers ≡ is_some o
@@ -155,7 +166,8 @@ opened-number (entry ∷ A) c = opened_after entry.command.act c (all_said opene
 -- the mark of the ceremony
 pub mark-shown : (A : History) → IsRegister A → (c : ℕ) (rows : List MarkRow) → Shown (is_mark_of c) (marks A) rows → mark_by rows c ≡ mark A c
 mark-shown A h c rows p =
-    said-view (is_mark_of c) (is_mark_of c) (mark_row A) (mark_row A c) (λ row. row.at) (mark A c) 0 (λ x e. e) (λ k e. ap (mark_row A) (eqb-true k c e)) (all_said opened_number A) rows p
+    said-view (is_mark_of c) (is_mark_of c) (mark_row A) (mark_row A c) (λ row. row.at) (mark A c) 0 (λ x e. e) (λ k e. ap (mark_row A) (eqb-true k c e))
+    (all_said opened_number A) rows p
     (opened-number A c ∙ sym (marked-opened A h c)) refl
 
 -- THE MARK'S ROW IS PUT
@@ -168,7 +180,8 @@ abbrev row_at : ℕ → ℕ → MarkRow
 row_at c at = record { ceremony = c; at = at }
 
 -- a marked act that is accepted, but for an opening: putting the mark's row gives the marks after it
-pub marks-put : (A : History) (entry : Entry) (c at : ℕ) → fault A entry.command.act ≡ None → marked entry.command.act ≡ Some (c, at) → opened_number entry.command.act ≡ None
+pub marks-put : (A : History) (entry : Entry) (c at : ℕ) → fault A entry.command.act ≡ None → marked entry.command.act ≡ Some (c, at)
+    → opened_number entry.command.act ≡ None
     → put same_mark (record { ceremony = c; at = at }) (marks A) ≡ marks (entry ∷ A)
 marks-put A entry c at f m o =
     put-at same_mark (mark_row A) (mark_row (entry ∷ A)) (row_at c at) here elsewhere (all_said opened_number A) (opened-number A c ∙ open-opened A c go.0)
@@ -199,7 +212,8 @@ scene_of A c at has_ca =
       has_ca = has_ca;
     }
 
-pub scene-shown : (A : History) → IsRegister A → (c at : ℕ) (has_ca : Bool) (view : View) → Shown (is_of_number c) (ceremonies A) view.ceremonies.items → Shown (is_mark_of c) (marks A) view.marks.items
+pub scene-shown : (A : History) → IsRegister A → (c at : ℕ) (has_ca : Bool) (view : View) → Shown (is_of_number c) (ceremonies A) view.ceremonies.items
+    → Shown (is_mark_of c) (marks A) view.marks.items
     → scene_by view c at (is_full A) has_ca ≡ scene_of A c at has_ca
 scene-shown A h c at has_ca view p q =
     let rows = view.ceremonies.items in

@@ -74,7 +74,8 @@ count-people test (x ∷ P) = grind (arith, count-shift (λ p. test (get_or (x �
 count-agree : (f g : ℕ → Bool) (n : ℕ) → ((i : ℕ) → i < n → f i ≡ g i) → count_below f n ≡ count_below g n
 unfolding count_below
 count-agree f g zero e = refl
-count-agree f g (suc n) e = ap (λ m. m + cond (f n) 1 0) (count-agree f g n (λ i l. e i (omega (arith, l)))) ∙ ap (λ b. count_below g n + cond b 1 0) (e n (omega arith))
+count-agree f g (suc n) e =
+    ap (λ m. m + cond (f n) 1 0) (count-agree f g n (λ i l. e i (omega (arith, l)))) ∙ ap (λ b. count_below g n + cond b 1 0) (e n (omega arith))
 
 -- E says who is eligible, F who fits by the rows; P are the people present
 module _ (E F : Seat → List ℕ → Bool) (L : List Seat) (P : List (List ℕ))
@@ -84,7 +85,12 @@ module _ (E F : Seat → List ℕ → Bool) (L : List Seat) (P : List (List ℕ)
   apart : (i j : ℕ) → i < length P → j < length P → get_or P i [] ≡ get_or P j [] → i ≡ j
   apart i j a b e = elim (cases_order i j) [
     | inl same ↦ same
-    | inr differ ↦ elim differ [ inl l ↦ absurd (both_ways _ (before_itself (get_or P j [])) (subst (λ t. is_before t (get_or P j []) ≡ true) e (rising i j l b))) | inr l ↦ absurd (both_ways _ (before_itself (get_or P i [])) (subst (λ t. is_before t (get_or P i []) ≡ true) (sym e) (rising j i l a))) ]
+    | inr differ ↦ elim differ [
+      | inl l ↦ absurd
+          (both_ways _ (before_itself (get_or P j [])) (subst (λ t. is_before t (get_or P j []) ≡ true) e (rising i j l b)))
+      | inr l ↦ absurd
+          (both_ways _ (before_itself (get_or P i [])) (subst (λ t. is_before t (get_or P i []) ≡ true) (sym e) (rising j i l a)))
+    ]
   ]
 
   here : (p : ℕ) → p < length P → list_any (same_text (get_or P p [])) P ≡ true
@@ -116,7 +122,8 @@ module _ (E F : Seat → List ℕ → Bool) (L : List Seat) (P : List (List ℕ)
   numbered_as W = map (position_in same_text P) W
 
   -- the people of a seating are present, so they have numbers
-  placed : (W : List (List ℕ)) → IsSeatingOf E L W → (k : ℕ) → k < length L → (slice_index (numbered_as W) k < length P) × (get_or P (slice_index (numbered_as W) k) [] ≡ get_or W k [])
+  placed : (W : List (List ℕ)) → IsSeatingOf E L W → (k : ℕ) → k < length L
+      → (slice_index (numbered_as W) k < length P) × (get_or P (slice_index (numbered_as W) k) [] ≡ get_or W k [])
   placed W s k l =
       let q = position same_text same-is [] P (get_or W k []) (inside k (get_or W k []) (s.fitting k l)) in
       rw (get_or-map (position_in same_text P) W k [] 0 (omega (arith, l, s.each_seat))) q
@@ -139,7 +146,9 @@ module _ (E F : Seat → List ℕ → Bool) (L : List Seat) (P : List (List ℕ)
         let at : (j : ℕ) → j < length L → get_or (named w) j [] ≡ get_or P (slice_index w j) [] = λ j m. name-at w j (omega (arith, m, f.seating.each_seat)) in
         let q = placed others s k l in
         let alike : (j : ℕ) → j < k → slice_index (numbered_as others) j ≡ slice_index w j
-        = λ j m. let r = placed others s j (omega (arith, m, l)) in apart _ _ r.0 (f.seating.in_range j (omega (arith, m, l))) (r.1 ∙ same j m ∙ at j (omega (arith, m, l))) in
+        = λ j m. let r =
+        placed others s j (omega (arith, m, l)) in apart _ _ r.0 (f.seating.in_range j (omega (arith, m, l)))
+        (r.1 ∙ same j m ∙ at j (omega (arith, m, l))) in
         let low : slice_index w k ≤ slice_index (numbered_as others) k = f.first (numbered_as others) k (seating-back others s) l alike in
         let other : slice_index w k ≢ slice_index (numbered_as others) k = λ e. differ (sym q.1 ∙ ap (λ p. get_or P p []) (sym e) ∙ sym (at k l)) in
         let up : slice_index w k < slice_index (numbered_as others) k = omega (arith, low, other) in
@@ -179,7 +188,8 @@ seating-is A c t (seat ∷ L) (who ∷ people) s =
     = not_there who people (λ j l e. (let same : suc j ≡ 0 = s.distinct (suc j) 0 (omega (arith, l, count)) (omega arith) e in omega (arith, same))) in
     grind (arith, s.fitting 0 (omega arith), seating-is A c t L people rest)
 
-one_more_seat : (E : Seat → List ℕ → Bool) (seat : Seat) (who : List ℕ) (L : List Seat) (people : List (List ℕ)) → E seat who ≡ true → list_any (same_text who) people ≡ false → IsSeatingOf E L people
+one_more_seat : (E : Seat → List ℕ → Bool) (seat : Seat) (who : List ℕ) (L : List Seat) (people : List (List ℕ)) → E seat who ≡ true
+    → list_any (same_text who) people ≡ false → IsSeatingOf E L people
     → IsSeatingOf E (seat ∷ L) (who ∷ people)
 one_more_seat E seat who L people e free s = record { each_seat = ap suc s.each_seat; fitting = fit; distinct = apart }
   where
@@ -203,21 +213,25 @@ seating-of A c t (seat ∷ L) [] h = absurd (false≢true h)
 seating-of A c t (seat ∷ L) (who ∷ people) h =
     one_more_seat (eligible A c t) seat who L people (grind arith) (grind arith) (seating-of A c t L people (grind arith))
 
--- where the first position that differs has a later person, the first list comes first
-comes-first : (people others : List (List ℕ)) → length people ≡ length others → others ≢ people
-    → ((k : ℕ) → k < length people → ((j : ℕ) → j < k → get_or others j [] ≡ get_or people j []) → get_or others k [] ≢ get_or people k [] → is_before (get_or people k []) (get_or others k []) ≡ true)
-    → comes_first people others ≡ true
+-- the first position that differs has a person later in byte order
+abbrev LaterAt : List (List ℕ) → List (List ℕ) → Type 0
+LaterAt people others =
+    (k : ℕ) → k < length people → ((j : ℕ) → j < k → get_or others j [] ≡ get_or people j []) → get_or others k [] ≢ get_or people k []
+    → is_before (get_or people k []) (get_or others k []) ≡ true
+
+-- so the first list comes first
+comes-first : (people others : List (List ℕ)) → length people ≡ length others → others ≢ people → LaterAt people others → comes_first people others ≡ true
 comes-first [] [] n ne f = absurd (ne refl)
 comes-first [] (b ∷ others) n ne f = absurd (omega (arith, n))
 comes-first (a ∷ people) [] n ne f = absurd (omega (arith, n))
 comes-first (a ∷ people) (b ∷ others) n ne f = by_test (same_text a b) refl (comes-first people others (omega (arith, n)))
   where
-    later : (same : a ≡ b) → (k : ℕ) → ((j : ℕ) → j < k → get_or others j [] ≡ get_or people j []) → (j : ℕ) → j < suc k → get_or (b ∷ others) j [] ≡ get_or (a ∷ people) j []
+    later : (same : a ≡ b) → (k : ℕ) → ((j : ℕ) → j < k → get_or others j [] ≡ get_or people j []) → (j : ℕ) → j < suc k
+        → get_or (b ∷ others) j [] ≡ get_or (a ∷ people) j []
     later same k e zero l = sym same
     later same k e (suc j) l = e j (omega (arith, l))
 
-    by_test : (x : Bool) → same_text a b ≡ x
-        → (others ≢ people → ((k : ℕ) → k < length people → ((j : ℕ) → j < k → get_or others j [] ≡ get_or people j []) → get_or others k [] ≢ get_or people k [] → is_before (get_or people k []) (get_or others k []) ≡ true) → comes_first people others ≡ true)
+    by_test : (x : Bool) → same_text a b ≡ x → (others ≢ people → LaterAt people others → comes_first people others ≡ true)
         → cond x (comes_first people others) (is_before a b) ≡ true
     by_test true e ih =
         let same : a ≡ b = same-is a b e in
@@ -230,7 +244,8 @@ first-is A c t L people f =
       seating = seating-is A c t L people f.seating;
       first = λ others so ne.
           let s = seating-of A c t L others so in
-          comes-first people others (f.seating.each_seat ∙ sym s.each_seat) ne (λ k l same differ. f.first others k s (omega (arith, l, f.seating.each_seat)) same differ);
+          comes-first people others (f.seating.each_seat ∙ sym s.each_seat) ne
+          (λ k l same differ. f.first others k s (omega (arith, l, f.seating.each_seat)) same differ);
     }
 
 -- SHORTAGES
@@ -252,7 +267,8 @@ tail-rises p S h = λ k l.
     let e : suc k + 1 ≡ suc (k + 1) = omega arith in
     subst (λ n. slice_index (p ∷ S) (suc k) < slice_index (p ∷ S) n) e (h (suc k) (omega (arith, l)))
 
-rise-is : (low high : ℕ) (S : List ℕ) → IsStrictlyIncreasing S → EachIndex S (λ i. slice_index S i < high) → (0 < length S → low ≤ slice_index S 0) → rise low high S ≡ true
+rise-is : (low high : ℕ) (S : List ℕ) → IsStrictlyIncreasing S → EachIndex S (λ i. slice_index S i < high) → (0 < length S → low ≤ slice_index S 0)
+    → rise low high S ≡ true
 rise-is low high [] inc range first = refl
 rise-is low high (p ∷ S) inc range first =
     let above : low ≤ p = first (omega arith) in
@@ -288,10 +304,12 @@ pigeon S T rises part =
     (λ i j l m e. rising_apart S rises i j l m (sym (at i l).1 ∙ ap (λ p. get_or T p 0) e ∙ (at j m).1)) in
     omega (arith, fit, count_all (length T))
   where
-    at : (i : ℕ) → i < length S → (position_in (λ p q. q == p) T (slice_index S i) < length T) × (get_or T (position_in (λ p q. q == p) T (slice_index S i)) 0 ≡ slice_index S i)
+    at : (i : ℕ) → i < length S → (position_in (λ p q. q == p) T (slice_index S i) < length T)
+        × (get_or T (position_in (λ p q. q == p) T (slice_index S i)) 0 ≡ slice_index S i)
     at i l =
         let j = part i l in
-        position (λ p q. q == p) (λ p q e. sym (eqb-true q p e)) 0 T (slice_index S i) (list_any_at (λ q. q == slice_index S i) T j.0 0 j.1 (eq-eqb (slice_index T j.0) (slice_index S i) j.2))
+        position (λ p q. q == p) (λ p q e. sym (eqb-true q p e)) 0 T (slice_index S i)
+        (list_any_at (λ q. q == slice_index S i) T j.0 0 j.1 (eq-eqb (slice_index T j.0) (slice_index S i) j.2))
 
 -- OVER THOSE PRESENT
 
@@ -299,7 +317,8 @@ rising-at : (P : List (List ℕ)) → are_rising P ≡ true → (i j : ℕ) → 
 rising-at [] h i j l m = absurd (omega (arith, m))
 rising-at (x ∷ P) h i zero l m = absurd (omega (arith, l))
 rising-at (x ∷ P) h zero (suc j) l m =
-    true_from_ne_false (is_before x (get_or P j [])) (λ e. true≢false (sym (let q : list_all (is_before x) P ≡ true = grind arith in q) ∙ list_all_at (is_before x) P j [] (omega (arith, m)) e))
+    true_from_ne_false (is_before x (get_or P j []))
+    (λ e. true≢false (sym (let q : list_all (is_before x) P ≡ true = grind arith in q) ∙ list_all_at (is_before x) P j [] (omega (arith, m)) e))
 rising-at (x ∷ P) h (suc i) (suc j) l m = rising-at P (grind arith) i j (omega (arith, l)) (omega (arith, m))
 
 -- F says who fits by the rows, and of the seats at hand says what the history does
@@ -308,7 +327,8 @@ module _ (A : History) (c t : ℕ) (F : Seat → List ℕ → Bool) (L : List Se
   rising : (i j : ℕ) → i < j → j < length (present A c t) → is_before (get_or (present A c t) i []) (get_or (present A c t) j []) ≡ true
   rising = rising-at (present A c t) (present_are_rising (sheet A) c t)
 
-  agree : (k : ℕ) (who : List ℕ) → list_any (same_text who) (present A c t) ≡ true → on_seat F (slice_get L k) who ≡ on_seat (eligible A c t) (slice_get L k) who
+  agree : (k : ℕ) (who : List ℕ) → list_any (same_text who) (present A c t) ≡ true
+      → on_seat F (slice_get L k) who ≡ on_seat (eligible A c t) (slice_get L k) who
   agree k who e = fit k who ∙ by_seat (slice_get L k)
     where
       by_seat : (o : Option Seat) → on_seat (fits A (facility_of A c) (day_of t)) o who ≡ on_seat (eligible A c t) o who
@@ -323,7 +343,8 @@ module _ (A : History) (c t : ℕ) (F : Seat → List ℕ → Bool) (L : List Se
       by_seat (Some seat) g = grind (arith, present_are_in (sheet A) who c t)
 
   -- the first seating
-  pub first-of : (w : List ℕ) → Search.IsFirst (fits_of F L (present A c t)) (length L) (length (present A c t)) w → IsFirst A c t L (map (λ p. get_or (present A c t) p []) w)
+  pub first-of : (w : List ℕ) → Search.IsFirst (fits_of F L (present A c t)) (length L) (length (present A c t)) w
+      → IsFirst A c t L (map (λ p. get_or (present A c t) p []) w)
   first-of w f = first-is A c t L (map (λ p. get_or (present A c t) p []) w) (first-lift (eligible A c t) F L (present A c t) rising agree inside w f)
 
   counted : (S : List ℕ) → Search.count_below (Search.can_take (fits_of F L (present A c t)) S) (length (present A c t)) ≡ length (who_fit A c t L S)

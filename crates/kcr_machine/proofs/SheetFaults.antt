@@ -52,7 +52,8 @@ use Rattle.kcr_machine.proofs.SheetStays.{IsClear, clear-order, clear-sheet, las
 -- THE STAYS THAT A REQUEST BEARS ON
 
 -- the last stays elsewhere are the same in the view as in the table
-last-same : (table rows : List Stay) (c : ℕ) (people : List (List ℕ)) → ShowsLast people table rows → last_elsewhere rows c people ≡ last_elsewhere table c people
+last-same : (table rows : List Stay) (c : ℕ) (people : List (List ℕ)) → ShowsLast people table rows
+    → last_elsewhere rows c people ≡ last_elsewhere table c people
 last-same table rows c [] h = refl
 last-same table rows c (who ∷ people) h =
     ap (λ o. cons_option (elsewhere c o) (last_elsewhere rows c people)) h.0
@@ -83,7 +84,8 @@ own-stays stays c people =
     ∙ append-nil (filter (of_ceremony c) (filter (of_ceremony c) stays))
     ∙ filter-kept (of_ceremony c) (of_ceremony c) stays (λ x e. e)
 
-same-after : (stays : List Stay) (c : ℕ) (way : Way) (people : List (List ℕ)) (at : ℕ) → after (stays_of_request stays c people) c way people at ≡ after stays c way people at
+same-after : (stays : List Stay) (c : ℕ) (way : Way) (people : List (List ℕ)) (at : ℕ)
+    → after (stays_of_request stays c people) c way people at ≡ after stays c way people at
 same-after stays c Ways.Enter people at = ap (λ own. own ++ map (new_stay c at) people) (own-stays stays c people)
 same-after stays c Ways.Leave people at = ap (map (closed people at)) (own-stays stays c people)
 
@@ -94,7 +96,8 @@ among-all stays c people r i = elim (in-append r (filter (of_ceremony c) stays) 
   | inr j ↦ let k = in-filter_map (λ who. elsewhere c (last_stay stays who)) r people j in last-in stays k.0 r (is-last c (last_stay stays k.0) r k.2).0
 ]
 
-has-last : (stays : List Stay) (c : ℕ) (people : List (List ℕ)) (who : List ℕ) → IsIn who people → (s : Stay) → last_stay stays who ≡ Some s → IsIn s (stays_of_request stays c people)
+has-last : (stays : List Stay) (c : ℕ) (people : List (List ℕ)) (who : List ℕ) → IsIn who people → (s : Stay) → last_stay stays who ≡ Some s
+    → IsIn s (stays_of_request stays c people)
 has-last stays c people who i s e = by_test (s.ceremony == c) refl
   where
     by_test : (b : Bool) → s.ceremony == c ≡ b → IsIn s (stays_of_request stays c people)
@@ -110,7 +113,8 @@ some-refusal stays clear c m full way people at =
     ap (λ o. first_of (when (nat_le at m) (Late m) ∷ turn_refusal o ∷ later_refusal (after (stays_of_request stays c people) c way people at) c full way ∷ []))
     (find-same-in (is_out_of_turn_in (stays_of_request stays c people) c way at) (is_out_of_turn_in stays c way at) people
     (λ who i. turn-last stays (stays_of_request stays c people) who clear (among-all stays c people) (has-last stays c people who i) c way at))
-    ∙ ap (λ later. first_of (when (nat_le at m) (Late m) ∷ turn_refusal (find (is_out_of_turn_in stays c way at) people) ∷ later_refusal later c full way ∷ [])) (same-after stays c way people at)
+    ∙ ap (λ later. first_of (when (nat_le at m) (Late m) ∷ turn_refusal (find (is_out_of_turn_in stays c way at) people) ∷ later_refusal later c full way
+    ∷ [])) (same-after stays c way people at)
 
 -- so by the rows of a view it is refused for what it is refused for by the sheet
 request-refusal : (rows : List SheetRow) → IsSheet rows → (shown : List Stay) (c m : ℕ) (full : Bool) (way : Way) (people : List (List ℕ)) (at : ℕ)
@@ -133,7 +137,8 @@ cut-entries c row (stay ∷ stays) =
     ∙ ap (λ n. cond (stay.ceremony == c) 1 0 + n) (cut-entries c row stays)
     ∙ sym (count-cons (of_ceremony c) stay stays (stay.ceremony == c) refl)
 
-next-entries : (c : ℕ) (before : List SheetRow) (stays : List Stay) (row : SheetRow) → count_by (of_ceremony c) (stays_next before stays row) ≡ count_by (of_ceremony c) stays + cond (enters c row) 1 0
+next-entries : (c : ℕ) (before : List SheetRow) (stays : List Stay) (row : SheetRow)
+    → count_by (of_ceremony c) (stays_next before stays row) ≡ count_by (of_ceremony c) stays + cond (enters c row) 1 0
 next-entries c before stays row =
     sum_by-append (λ s. cond (of_ceremony c s) 1 0) (map (cut row) stays) (cond (is_enter row.way) (new ∷ []) [])
     ∙ ap (λ n. n + count_by (of_ceremony c) (cond (is_enter row.way) (new ∷ []) [])) (cut-entries c row stays)
@@ -146,7 +151,8 @@ next-entries c before stays row =
     by_way true = count-cons (of_ceremony c) new [] (row.ceremony == c) refl ∙ omega arith
     by_way false = refl
 
-entries-onto : (c : ℕ) (rows before : List SheetRow) (stays : List Stay) → count_by (of_ceremony c) (stays_onto before stays rows) ≡ count_by (of_ceremony c) stays + count_by (enters c) rows
+entries-onto : (c : ℕ) (rows before : List SheetRow) (stays : List Stay)
+    → count_by (of_ceremony c) (stays_onto before stays rows) ≡ count_by (of_ceremony c) stays + count_by (enters c) rows
 entries-onto c [] before stays = omega arith
 entries-onto c (row ∷ rows) before stays =
     let ih = entries-onto c rows (before ++ (row ∷ [])) (stays_next before stays row) in
@@ -164,7 +170,8 @@ overfull-stays rows c Ways.Leave = refl
 -- THE CONDITIONS
 
 -- the first of them whose turn it is not
-pub turns-first : (A : History) (c : ℕ) (way : Way) (at : ℕ) (people : List (List ℕ)) → turn_refusal (find (is_out_of_turn_by (sheet A) c way at) people) ≡ first_with (out_of_turn A c way at) people
+pub turns-first : (A : History) (c : ℕ) (way : Way) (at : ℕ) (people : List (List ℕ))
+    → turn_refusal (find (is_out_of_turn_by (sheet A) c way at) people) ≡ first_with (out_of_turn A c way at) people
 turns-first A c way at people =
     let found = first-found (is_out_of_turn_by (sheet A) c way at) (is_out_of_turn_by (sheet A) c way at) Turn people (λ who i. refl) in
     grind (arith, found)
@@ -202,16 +209,13 @@ room_conditions A c way all at =
 rows-conditions : (A : History) (c m : ℕ) (way : Way) (all : List (List ℕ)) (at : ℕ)
     → first_of (rows_refusal (sheet A) c m (is_full A) way all at ∷ []) ≡ first_of (when (nat_le at m) (Late m) ∷ room_conditions A c way all at)
 rows-conditions A c m way all at =
-    flat (when (nat_le at m) (Late m)) (turn_refusal (find (is_out_of_turn_by (sheet A) c way at) all)) (crowded more c) (lone_refusal (first_lone_in_by (stays_by more) c)) (is_full A) (is_overfull_by (stays_by more) c way)
-    ∙ ap (λ t. first_of (when (nat_le at m) (Late m) ∷ t ∷ crowded more c ∷ lone_refusal (first_lone_in_by (stays_by more) c) ∷ when (is_overfull_by (stays_by more) c way) Full ∷ full A ∷ [])) (turns-first A c way at all)
-    ∙ ap (λ o. first_of (when (nat_le at m) (Late m) ∷ first_with (out_of_turn A c way at) all ∷ crowded more c ∷ o ∷ when (is_overfull_by (stays_by more) c way) Full ∷ full A ∷ [])) (lone-first (first_lone_in_by (stays_by more) c))
-    ∙ ap (λ b. first_of (when (nat_le at m) (Late m) ∷ first_with (out_of_turn A c way at) all ∷ crowded more c ∷ lone more c ∷ when b Full ∷ full A ∷ [])) (overfull-stays more c way)
-  where
-    more : List SheetRow
-    more = sheet A ++ map (new_row c way at) all
+    let more : List SheetRow = sheet A ++ map (new_row c way at) all in
+    rw (turns-first A c way at all, lone-first (first_lone_in_by (stays_by more) c), overfull-stays more c way)
+    (flat (when (nat_le at m) (Late m)) (first_with (out_of_turn A c way at) all) (crowded more c) (lone more c) (is_full A) (is_overfull way more c))
 
 -- the same where nobody is named twice, and where somebody is
-twice-first : (l n r : Option Refusal) (xs : List (Option Refusal)) → (n ≡ None → first_of (r ∷ []) ≡ first_of (l ∷ xs)) → first_of (first_of (l ∷ n ∷ r ∷ []) ∷ []) ≡ first_of (l ∷ n ∷ xs)
+twice-first : (l n r : Option Refusal) (xs : List (Option Refusal)) → (n ≡ None → first_of (r ∷ []) ≡ first_of (l ∷ xs))
+    → first_of (first_of (l ∷ n ∷ r ∷ []) ∷ []) ≡ first_of (l ∷ n ∷ xs)
 twice-first l n r xs h = grind arith
 
 -- by the rows of a view a request is refused for its fault
@@ -219,28 +223,34 @@ pub sheet-fault : (A : History) → IsRegister A → IsSheet (sheet A) → (c : 
 sheet-fault A h s c way all at key view v =
     rw (
       known-shown A c view.ceremonies.items v.ceremonies,
-      first-found (λ who. not (is_person_by view.people.items who)) (λ who. not (is_person A who)) (λ who. Unknown (Things.Person who)) all (λ who i. ap not (people-shown A view.people.items all v.people who i)),
+      first-found (λ who. not (is_person_by view.people.items who)) (λ who. not (is_person A who)) (λ who. Unknown (Things.Person who)) all
+          (λ who i. ap not (people-shown A view.people.items all v.people who i)),
       is_open-shown A c view.ceremonies.items v.ceremonies h,
       mark-shown A h c view.marks.items v.marks,
     )
-    (nested (no_ceremony A c ∷ first_with (no_person A) all ∷ not_open A c ∷ []) (room_refusal (stays_of_request view.stays.items c all) c (mark A c) (is_full A) way all at ∷ [])
+    (nested (no_ceremony A c ∷ first_with (no_person A) all ∷ not_open A c ∷ [])
+    (room_refusal (stays_of_request view.stays.items c all) c (mark A c) (is_full A) way all at ∷ [])
     ∙ behind (no_ceremony A c ∷ first_with (no_person A) all ∷ []) _ _ (by_mark (mark A c) refl))
   where
     never : mark A c ≡ None → is_open A c ≡ false
     never e = ap (λ b. b && is_none (closed_at A c)) (sym (marked-opened A h c) ∙ ap is_some e)
 
     by_mark : (o : Option ℕ) → mark A c ≡ o
-        → first_of (not_open A c ∷ room_refusal (stays_of_request view.stays.items c all) c o (is_full A) way all at ∷ []) ≡ first_of (not_open A c ∷ is_not_later at o ∷ named_twice all ∷ room_conditions A c way all at)
+        → first_of (not_open A c ∷ room_refusal (stays_of_request view.stays.items c all) c o (is_full A) way all at ∷ [])
+        ≡ first_of (not_open A c ∷ is_not_later at o ∷ named_twice all ∷ room_conditions A c way all at)
     by_mark None e = rw (never e) refl
     by_mark (Some m) e =
         behind (not_open A c ∷ []) _ _
-        (twice-first (when (nat_le at m) (Late m)) (named_twice all) (stays_refusal (stays_of_request view.stays.items c all) c m (is_full A) way all at) (room_conditions A c way all at)
-        (λ n. ap (λ r. first_of (r ∷ [])) (request-refusal (sheet A) s view.stays.items c m (is_full A) way all at v.stays.room v.stays.last (named_once all n)) ∙ rows-conditions A c m way all at))
+        (twice-first (when (nat_le at m) (Late m)) (named_twice all) (stays_refusal (stays_of_request view.stays.items c all) c m (is_full A) way all at)
+        (room_conditions A c way all at)
+        (λ n. ap (λ r. first_of (r ∷ [])) (request-refusal (sheet A) s view.stays.items c m (is_full A) way all at v.stays.room v.stays.last
+        (named_once all n)) ∙ rows-conditions A c m way all at))
 
 -- SHEETS ARE MADE IN TURN
 
 -- a request in an open ceremony, behind whose mark no condition holds, keeps the sheet in turn
-made-by : (A : History) → IsRegister A → (c : ℕ) (way : Way) (all : List (List ℕ)) (at : ℕ) → are_apart all ≡ true → is_open A c ≡ true → first_of (not_later A c at ∷ room_conditions A c way all at) ≡ None
+made-by : (A : History) → IsRegister A → (c : ℕ) (way : Way) (all : List (List ℕ)) (at : ℕ) → are_apart all ≡ true → is_open A c ≡ true
+    → first_of (not_later A c at ∷ room_conditions A c way all at) ≡ None
     → IsSheet (sheet A) → IsSheet (sheet A ++ map (new_row c way at) all)
 made-by A h c way all at a is f s = by_mark (mark A c) refl
   where
@@ -253,7 +263,8 @@ made-by A h c way all at a is f s = by_mark (mark A c) refl
 made_after : (A : History) (act : Act) → IsRegister A → fault A act ≡ None → IsSheet (sheet A) → IsSheet (sheet_after act (sheet A))
 made_after A (Sheet c way all at) h f s =
     let n = none_holds (conditions A (Sheet c way all at)) f in
-    made-by A h c way all at (named_once all n.1.1.1.1.0) (met (is_open A c) State n.1.1.0) (no_first (not_later A c at ∷ room_conditions A c way all at) (n.1.1.1.0, n.1.1.1.1.1)) s
+    made-by A h c way all at (named_once all n.1.1.1.1.0) (met (is_open A c) State n.1.1.0)
+    (no_first (not_later A c at ∷ room_conditions A c way all at) (n.1.1.1.0, n.1.1.1.1.1)) s
 made_after A act h f s = s
 
 -- the sheet of a register was made in turn

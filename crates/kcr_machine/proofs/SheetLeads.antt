@@ -50,25 +50,30 @@ IsFresh same (x ∷ xs) old = (list_any (same x) old ≡ false) × IsFresh same 
 pub put-fresh : {X : Type 0} (same : X → X → Bool) (xs old : List X) → IsFresh same xs old → IsPermutation (put_all same xs old) (old ++ xs)
 put-fresh same [] old h = subst (IsPermutation old) (sym (append-nil old)) (IsPermutation-refl old)
 put-fresh same (x ∷ xs) old h =
-    rw h.0 (IsPermutation-trans (put_all same xs (x ∷ old)) (x ∷ (old ++ xs)) (old ++ x ∷ xs) (put-fresh same xs (x ∷ old) h.1) (IsPermutation-sym (old ++ x ∷ xs) (x ∷ (old ++ xs)) (IsPermutation-middle old x xs)))
+    rw h.0 (IsPermutation-trans (put_all same xs (x ∷ old)) (x ∷ (old ++ xs)) (old ++ x ∷ xs) (put-fresh same xs (x ∷ old) h.1)
+    (IsPermutation-sym (old ++ x ∷ xs) (x ∷ (old ++ xs)) (IsPermutation-middle old x xs)))
 
 -- a row for each of some people, each named once
 fresh-people : {X : Type 0} (same : X → X → Bool) (f : List ℕ → X) (people : List (List ℕ)) (old : List X) → are_apart people ≡ true
-    → ((x y : List ℕ) → same_text x y ≡ false → same (f y) (f x) ≡ false) → ((who : List ℕ) → IsIn who people → list_any (same (f who)) old ≡ false) → IsFresh same (map f people) old
+    → ((x y : List ℕ) → same_text x y ≡ false → same (f y) (f x) ≡ false) → ((who : List ℕ) → IsIn who people → list_any (same (f who)) old ≡ false)
+    → IsFresh same (map f people) old
 fresh-people same f [] old a other new = tt
 fresh-people same f (who ∷ people) old a other new =
     let d = and_parts (not (list_any (same_text who) people)) (are_apart people) a in (
       new who (inl refl),
       fresh-people same f people (f who ∷ old) d.1 other (λ w i.
-          or_from (same (f w) (f who)) (list_any (same (f w)) old) (other who w (none-in (same_text who) w people (not-true (list_any (same_text who) people) d.0) i)) (new w (inr i))),
+          or_from (same (f w) (f who)) (list_any (same (f w)) old)
+          (other who w (none-in (same_text who) w people (not-true (list_any (same_text who) people) d.0) i)) (new w (inr i))),
     )
 
 -- such rows that are put into a table, of which the last row stands first, stand behind its rows
-put-news : {X : Type 0} (same : X → X → Bool) (news old : List X) → IsFresh same news (reverse old) → IsPermutation (put_all same news (reverse old)) (reverse (old ++ news))
+put-news : {X : Type 0} (same : X → X → Bool) (news old : List X) → IsFresh same news (reverse old)
+    → IsPermutation (put_all same news (reverse old)) (reverse (old ++ news))
 put-news same news old fresh =
     IsPermutation-trans (put_all same news (reverse old)) (reverse old ++ news) (reverse (old ++ news)) (put-fresh same news (reverse old) fresh)
     (IsPermutation-trans (reverse old ++ news) (old ++ news) (reverse (old ++ news))
-    (IsPermutation-append (reverse old) old news news (IsPermutation-sym old (reverse old) (IsPermutation-reverse old)) (IsPermutation-refl news)) (IsPermutation-reverse (old ++ news)))
+    (IsPermutation-append (reverse old) old news news (IsPermutation-sym old (reverse old) (IsPermutation-reverse old)) (IsPermutation-refl news))
+    (IsPermutation-reverse (old ++ news)))
 
 -- where it is the turn of each of the people
 pub turns-each : (p : List ℕ → Bool) (people : List (List ℕ)) → turn_refusal (find p people) ≡ None → (who : List ℕ) → IsIn who people → p who ≡ false
@@ -77,12 +82,14 @@ turns-each p (first ∷ people) h who (inl e) = ap p e ∙ (none-found p first p
 turns-each p (first ∷ people) h who (inr i) = turns-each p people (none-found p first people h).1 who i
 
 -- rows of which the last is before the moment are all before it
-all-before : (at : ℕ) (rows : List SheetRow) (last : Option SheetRow) → last_reaches at (last_onto last rows) ≡ false → (last_reaches at last ≡ false) × (list_any (λ row. nat_le at row.at) rows ≡ false)
+all-before : (at : ℕ) (rows : List SheetRow) (last : Option SheetRow) → last_reaches at (last_onto last rows) ≡ false
+    → (last_reaches at last ≡ false) × (list_any (λ row. nat_le at row.at) rows ≡ false)
 all-before at [] last h = (h, refl)
 all-before at (row ∷ rows) last h = grind (arith, all-before at rows (later last row) h)
 
 -- a person whose turn it is has no row of the moment
-row-fresh : (rows : List SheetRow) (c : ℕ) (way : Way) (at : ℕ) (who : List ℕ) → is_out_of_turn_by rows c way at who ≡ false → list_any (same_sheet_row (new_row c way at who)) (reverse rows) ≡ false
+row-fresh : (rows : List SheetRow) (c : ℕ) (way : Way) (at : ℕ) (who : List ℕ) → is_out_of_turn_by rows c way at who ≡ false
+    → list_any (same_sheet_row (new_row c way at who)) (reverse rows) ≡ false
 row-fresh rows c way at who h =
     none-passes (same_sheet_row (new_row c way at who)) (reverse rows) (λ row i. false_from_ne_true (same_sheet_row (new_row c way at who) row) (λ e.
     let p = and_parts (same_text row.who who) (row.at == at) e in
@@ -98,17 +105,21 @@ other-stay : (c at : ℕ) (x y : List ℕ) → same_text x y ≡ false → same_
 other-stay c at x y e = ap (λ b. b && at == at) e
 
 -- the rows of the sheet are put
-sheet-put : (rows : List SheetRow) (c : ℕ) (way : Way) (at : ℕ) (people : List (List ℕ)) → are_apart people ≡ true → turn_refusal (find (is_out_of_turn_by rows c way at) people) ≡ None
+sheet-put : (rows : List SheetRow) (c : ℕ) (way : Way) (at : ℕ) (people : List (List ℕ)) → are_apart people ≡ true
+    → turn_refusal (find (is_out_of_turn_by rows c way at) people) ≡ None
     → IsPermutation (put_all same_sheet_row (map (new_row c way at) people) (reverse rows)) (reverse (rows ++ map (new_row c way at) people))
 sheet-put rows c way at people a h =
     put-news same_sheet_row (map (new_row c way at) people) rows
-    (fresh-people same_sheet_row (new_row c way at) people (reverse rows) a (other-row c way at) (λ who i. row-fresh rows c way at who (turns-each (is_out_of_turn_by rows c way at) people h who i)))
+    (fresh-people same_sheet_row (new_row c way at) people (reverse rows) a (other-row c way at)
+    (λ who i. row-fresh rows c way at who (turns-each (is_out_of_turn_by rows c way at) people h who i)))
 
 -- those who come get a stay
-enter-put : (stays : List Stay) (c at : ℕ) (people : List (List ℕ)) → are_apart people ≡ true → ((who : List ℕ) → IsIn who people → is_out_of_turn_in stays c Enter at who ≡ false)
+enter-put : (stays : List Stay) (c at : ℕ) (people : List (List ℕ)) → are_apart people ≡ true
+    → ((who : List ℕ) → IsIn who people → is_out_of_turn_in stays c Enter at who ≡ false)
     → IsPermutation (put_all same_stay (map (new_stay c at) people) (reverse stays)) (reverse (stays ++ map (new_stay c at) people))
 enter-put stays c at people a turns =
-    put-news same_stay (map (new_stay c at) people) stays (fresh-people same_stay (new_stay c at) people (reverse stays) a (other-stay c at) (λ who i. stay-fresh who (turns who i)))
+    put-news same_stay (map (new_stay c at) people) stays
+    (fresh-people same_stay (new_stay c at) people (reverse stays) a (other-stay c at) (λ who i. stay-fresh who (turns who i)))
   where
     stay-fresh : (who : List ℕ) → is_out_of_turn_in stays c Enter at who ≡ false → list_any (same_stay (new_stay c at who)) (reverse stays) ≡ false
     stay-fresh who h =
@@ -127,14 +138,16 @@ same-stay : (x : Stay) → same_stay x x ≡ true
 same-stay x = and_from (same_text x.who x.who) (x.since == x.since) (same-itself x.who) (eq-eqb x.since x.since refl)
 
 -- those who leave get an end
-module _ (all shown : List Stay) (c at : ℕ) (people : List (List ℕ)) (clear : IsClear all) (p : Shown (of_ceremony c) all shown) (last : ShowsLast people all shown)
+module _ (all shown : List Stay) (c at : ℕ) (people : List (List ℕ)) (clear : IsClear all) (p : Shown (of_ceremony c) all shown)
+    (last : ShowsLast people all shown)
     (turns : (who : List ℕ) → IsIn who people → is_out_of_turn_in all c Leave at who ≡ false) where
   abbrev changed : List Stay
   changed = filter (ends_by c people) (stays_of_request shown c people)
 
   changed-in : (x : Stay) → IsIn x changed → IsIn x all
   changed-in x i =
-      among-all all c people x (in-order x (stays_of_request all c people) (stays_of_request shown c people) (stays-shown all shown c people p last) (in-filter (ends_by c people) x (stays_of_request shown c people) i).0)
+      among-all all c people x (in-order x (stays_of_request all c people) (stays_of_request shown c people) (stays-shown all shown c people p last)
+      (in-filter (ends_by c people) x (stays_of_request shown c people) i).0)
 
   only-one : (x r : Stay) → IsIn x all → IsIn r all → same_stay x r ≡ true → x ≡ r
   only-one x r i j e =
@@ -153,10 +166,15 @@ module _ (all shown : List Stay) (c at : ℕ) (people : List (List ℕ)) (clear 
       let s = any-in (is_inside_of c w.0) all (not-false (list_any (is_inside_of c w.0) all) t.1) in
       let b : (same_text s.0.who w.0 ≡ true) × (is_open s.0.until ≡ true) = (grind arith, grind arith) in
       let owner : same_text r.who s.0.who ≡ true = ap (same_text r.who) (same-is s.0.who w.0 b.0 ∙ sym same) ∙ same-itself r.who in
-      let is : r ≡ s.0 = elim (cases_lt r.since s.0.since) [ inl l ↦ by_time r s.0 i s.1 owner o (omega (arith, l)) | inr l ↦ sym (by_time s.0 r s.1 i (same-turned s.0.who r.who ∙ owner) b.1 l) ] in
+      let is : r ≡ s.0 = elim (cases_lt r.since s.0.since) [
+        | inl l ↦ by_time r s.0 i s.1 owner o (omega (arith, l))
+        | inr l ↦ sym
+            (by_time s.0 r s.1 i (same-turned s.0.who r.who ∙ owner) b.1 l)
+      ] in
       let here : (r.ceremony == c) ≡ true = rw is (grind arith) in
       let fits : ends_by c people r ≡ true = grind arith in
-      let own : IsIn r (filter (of_ceremony c) shown) = in-order r (filter (of_ceremony c) shown) (filter (of_ceremony c) all) (IsPermutation-sym (filter (of_ceremony c) all) (filter (of_ceremony c) shown) p) (filter-in (of_ceremony c) r all i here) in
+      let own : IsIn r (filter (of_ceremony c) shown) = in-order r (filter (of_ceremony c) shown) (filter (of_ceremony c) all)
+      (IsPermutation-sym (filter (of_ceremony c) all) (filter (of_ceremony c) shown) p) (filter-in (of_ceremony c) r all i here) in
       in-any (λ x. same_stay x r) r changed
       (filter-in (ends_by c people) r (stays_of_request shown c people) (in-front r (filter (of_ceremony c) shown) _ own) fits)
       (same-stay r)
@@ -175,9 +193,11 @@ module _ (all shown : List Stay) (c at : ℕ) (people : List (List ℕ)) (clear 
 stays-put : (rows : List SheetRow) → IsSheet rows → (shown : List Stay) (c : ℕ) (way : Way) (at : ℕ) (people : List (List ℕ)) → are_apart people ≡ true
     → Shown (of_ceremony c) (reverse (stays_by rows)) shown → ShowsLast people (reverse (stays_by rows)) shown
     → turn_refusal (find (is_out_of_turn_by rows c way at) people) ≡ None
-    → IsPermutation (put_all same_stay (changed_stays (stays_of_request shown c people) c way people at) (reverse (stays_by rows))) (reverse (stays_by (rows ++ map (new_row c way at) people)))
+    → IsPermutation (put_all same_stay (changed_stays (stays_of_request shown c people) c way people at) (reverse (stays_by rows)))
+    (reverse (stays_by (rows ++ map (new_row c way at) people)))
 stays-put rows s shown c way at people a p l h =
-    subst (λ stays. IsPermutation (put_all same_stay (changed_stays (stays_of_request shown c people) c way people at) (reverse (stays_by rows))) (reverse stays))
+    subst (λ stays. IsPermutation (put_all same_stay (changed_stays (stays_of_request shown c people) c way people at) (reverse (stays_by rows)))
+    (reverse stays))
     (sym (stays-append rows (map (new_row c way at) people) [] [] ∙ added-onto c way at people rows (stays_by rows) (tells-sheet rows s) a h))
     (by_way way (λ who i. sym (same-turns rows s c way at who) ∙ turns-each (is_out_of_turn_by rows c way at) people h who i))
   where
@@ -185,28 +205,35 @@ stays-put rows s shown c way at people a p l h =
     table = stays_by rows
 
     by_way : (w : Way) → ((who : List ℕ) → IsIn who people → is_out_of_turn_in table c w at who ≡ false)
-        → IsPermutation (put_all same_stay (changed_stays (stays_of_request shown c people) c w people at) (reverse table)) (reverse (added c w at people table))
+        → IsPermutation (put_all same_stay (changed_stays (stays_of_request shown c people) c w people at) (reverse table))
+        (reverse (added c w at people table))
     by_way Enter turns = enter-put table c at people a turns
     by_way Leave turns =
         let turned = IsPermutation-reverse table in
         subst (λ rows. IsPermutation rows (reverse (map (closed people at) table)))
-        (sym (leave-put (reverse table) shown c at people (clear-order table (reverse table) turned (clear-sheet rows s)) p l (λ who i. turn-order table (reverse table) turned c Leave at who ∙ turns who i)))
+        (sym (leave-put (reverse table) shown c at people (clear-order table (reverse table) turned (clear-sheet rows s)) p l
+        (λ who i. turn-order table (reverse table) turned c Leave at who ∙ turns who i)))
         (IsPermutation-trans (map (closed people at) (reverse table)) (map (closed people at) table) (reverse (map (closed people at) table))
-        (IsPermutation-map (closed people at) (reverse table) table (IsPermutation-sym table (reverse table) turned)) (IsPermutation-reverse (map (closed people at) table)))
+        (IsPermutation-map (closed people at) (reverse table) table (IsPermutation-sym table (reverse table) turned))
+        (IsPermutation-reverse (map (closed people at) table)))
       where
-        turn-order : (xs ys : List Stay) → IsPermutation xs ys → (c : ℕ) (w : Way) (at : ℕ) (who : List ℕ) → is_out_of_turn_in ys c w at who ≡ is_out_of_turn_in xs c w at who
+        turn-order : (xs ys : List Stay) → IsPermutation xs ys → (c : ℕ) (w : Way) (at : ℕ) (who : List ℕ)
+            → is_out_of_turn_in ys c w at who ≡ is_out_of_turn_in xs c w at who
         turn-order xs ys q c Enter at who = rw (← list_any-IsPermutation (reaches who at) xs ys q, ← list_any-IsPermutation (is_inside who) xs ys q) refl
         turn-order xs ys q c Leave at who = rw (← list_any-IsPermutation (reaches who at) xs ys q, ← list_any-IsPermutation (is_inside_of c who) xs ys q) refl
 
 -- THE TABLES
 
-pub changed_by-stays : (rows : List Stay) (rest : List Change) (t : Tables) → changed_by (map PutStay rows ++ rest) t ≡ changed_by rest (record t { stays = put_all same_stay rows t.stays })
+pub changed_by-stays : (rows : List Stay) (rest : List Change) (t : Tables)
+    → changed_by (map PutStay rows ++ rest) t ≡ changed_by rest (record t { stays = put_all same_stay rows t.stays })
 changed_by-stays rows rest t = changed_by-rows PutStay same_stay (λ rows t. record t { stays = rows }) (λ row rows t. refl) rows t.stays rest t
 
 -- where it is the turn of each of the people, the rows that a request puts lead to the tables after it
-pub sheet-leads : (A : History) → IsSheet (sheet A) → (key : List ℕ) (c : ℕ) (way : Way) (all : List (List ℕ)) (at : ℕ) → are_apart all ≡ true → (view : View) (answer : Answer)
+pub sheet-leads : (A : History) → IsSheet (sheet A) → (key : List ℕ) (c : ℕ) (way : Way) (all : List (List ℕ)) (at : ℕ) → are_apart all ≡ true
+    → (view : View) (answer : Answer)
     → IsViewOf (asks_by key (Sheet c way all at)) (tables A) view → entry_of A key ≡ None → first_with (out_of_turn A c way at) all ≡ None
-    → SameTables (changed_with (sheet_changes_by view c way all at) (command_of key (Sheet c way all at)) answer (tables A)) (tables (with_command A (command_of key (Sheet c way all at)) answer))
+    → SameTables (changed_with (sheet_changes_by view c way all at) (command_of key (Sheet c way all at)) answer (tables A))
+    (tables (with_command A (command_of key (Sheet c way all at)) answer))
 sheet-leads A s key c way all at a view answer v k f =
     let x : Command = command_of key (Sheet c way all at) in
     let turn : turn_refusal (find (is_out_of_turn_by (sheet A) c way at) all) ≡ None = turns-first A c way at all ∙ f in
@@ -215,8 +242,10 @@ sheet-leads A s key c way all at a view answer v k f =
     let rest = PutKey (new_key_row x answer) ∷ [] in
     rw (
       append_assoc (map PutSheet news) (map PutStay stays) rest,
-      changed_by-rows PutSheet same_sheet_row (λ rows t. record t { sheet = rows }) (λ row rows t. refl) news (reverse (sheet A)) (map PutStay stays ++ rest) (tables A),
+      changed_by-rows PutSheet same_sheet_row (λ rows t. record t { sheet = rows }) (λ row rows t. refl) news (reverse (sheet A)) (map PutStay stays ++ rest)
+          (tables A),
       changed_by-stays stays rest (record (tables A) { sheet = put_all same_sheet_row news (reverse (sheet A)) }),
       new_key A x answer k,
     )
-    (other-order (tables (with_command A x answer)) (withdrawals A) _ _ (IsPermutation-refl (withdrawals A)) (sheet-put (sheet A) c way at all a turn) (stays-put (sheet A) s view.stays.items c way at all a v.stays.room v.stays.last turn))
+    (other-order (tables (with_command A x answer)) (withdrawals A) _ _ (IsPermutation-refl (withdrawals A)) (sheet-put (sheet A) c way at all a turn)
+    (stays-put (sheet A) s view.stays.items c way at all a v.stays.room v.stays.last turn))

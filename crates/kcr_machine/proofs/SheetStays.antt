@@ -31,7 +31,8 @@ last_of-is (stay ∷ stays) = by_last (last_of stays) (last_of-is stays)
     own : (r : Stay) → r ≡ stay → r.since ≤ stay.since
     own r same = let k : r.since ≡ stay.since = ap (λ s. s.since) same in omega arith
 
-    by_test : (other : Stay) (b : Bool) → nat_le other.since stay.since ≡ b → IsLastOf stays (Some other) → IsLastOf (stay ∷ stays) (cond b (Some stay) (Some other))
+    by_test : (other : Stay) (b : Bool) → nat_le other.since stay.since ≡ b → IsLastOf stays (Some other)
+        → IsLastOf (stay ∷ stays) (cond b (Some stay) (Some other))
     by_test other true e h = (inl refl, λ r i. elim i [ inl same ↦ own r same | inr j ↦ omega (arith, h.1 r j, leb-true other.since stay.since e) ])
     by_test other false e h = (inr h.0, λ r i. elim i [ inl same ↦ omega (arith, own r same, leb-false other.since stay.since e) | inr j ↦ h.1 r j ])
 
@@ -50,7 +51,8 @@ last-stay stays who r i e = by_last (last_stay stays who) refl (last_of-is own)
     mine : IsIn r own
     mine = filter-in (λ stay. same_text stay.who who) r stays i e
 
-    by_last : (o : Option Stay) → last_stay stays who ≡ o → IsLastOf own o → (s : Stay) × (last_stay stays who ≡ Some s) × IsIn s stays × (same_text s.who who ≡ true) × (r.since ≤ s.since)
+    by_last : (o : Option Stay) → last_stay stays who ≡ o → IsLastOf own o
+        → (s : Stay) × (last_stay stays who ≡ Some s) × IsIn s stays × (same_text s.who who ≡ true) × (r.since ≤ s.since)
     by_last None f h = absurd (h r mine)
     by_last (Some s) f h = let k = in-filter (λ stay. same_text stay.who who) s stays h.0 in (s, f, k.0, k.1, h.1 r mine)
 
@@ -69,13 +71,15 @@ EndsBy at until = (u : ℕ) × (until ≡ Some u) × (u ≤ at)
 
 -- two stays of a person are one, or the earlier ended before the later began
 pub record IsClear (stays : List Stay) : Type 0 where
-  pub apart : (r s : Stay) → IsIn r stays → IsIn s stays → same_text r.who s.who ≡ true → r.since ≤ s.since → (r ≡ s) ⊎ ((r.since < s.since) × EndsBy s.since r.until)
+  pub apart : (r s : Stay) → IsIn r stays → IsIn s stays → same_text r.who s.who ≡ true → r.since ≤ s.since
+      → (r ≡ s) ⊎ ((r.since < s.since) × EndsBy s.since r.until)
 
 pub clear-order : (xs ys : List Stay) → IsPermutation xs ys → IsClear xs → IsClear ys
 clear-order xs ys p h = record { apart = λ r s i j. h.apart r s (in-order r xs ys p i) (in-order s xs ys p j) }
 
 -- a stay of somebody whose turn it is to come: it ended before
-pub before-enter : (stays : List Stay) (c at : ℕ) (who : List ℕ) → is_out_of_turn_in stays c Enter at who ≡ false → (r : Stay) → IsIn r stays → same_text r.who who ≡ true → (r.since < at) × EndsBy at r.until
+pub before-enter : (stays : List Stay) (c at : ℕ) (who : List ℕ) → is_out_of_turn_in stays c Enter at who ≡ false → (r : Stay) → IsIn r stays
+    → same_text r.who who ≡ true → (r.since < at) × EndsBy at r.until
 before-enter stays c at who h r i e =
     let p = or_parts (list_any (reaches who at) stays) (list_any (is_inside who) stays) h in
     let a = none-in (reaches who at) r stays p.0 i in
@@ -86,7 +90,8 @@ before-enter stays c at who h r i e =
     by_until since None f g k = absurd (true≢false k)
     by_until since (Some u) f g k = let a = leb-false at since f in let b = leb-false at u g in (a, (u, refl, omega (arith, b)))
 
-clear-enter : (stays : List Stay) (c at : ℕ) (who : List ℕ) → is_out_of_turn_in stays c Enter at who ≡ false → IsClear stays → IsClear (stays ++ new_stay c at who ∷ [])
+clear-enter : (stays : List Stay) (c at : ℕ) (who : List ℕ) → is_out_of_turn_in stays c Enter at who ≡ false → IsClear stays
+    → IsClear (stays ++ new_stay c at who ∷ [])
 clear-enter stays c at who h clear = record { apart = λ r s i j. both r s (in-append r stays (new ∷ []) i) (in-append s stays (new ∷ []) j) }
   where
     new : Stay
@@ -99,7 +104,8 @@ clear-enter stays c at who h clear = record { apart = λ r s i j. both r s (in-a
     earlier : (r s : Stay) → IsIn r stays → s ≡ new → same_text r.who s.who ≡ true → (r.since < s.since) × EndsBy s.since r.until
     earlier r s i k e = rw k (before-enter stays c at who h r i (rw k at e))
 
-    both : (r s : Stay) → IsIn r stays ⊎ IsIn r (new ∷ []) → IsIn s stays ⊎ IsIn s (new ∷ []) → same_text r.who s.who ≡ true → r.since ≤ s.since → (r ≡ s) ⊎ ((r.since < s.since) × EndsBy s.since r.until)
+    both : (r s : Stay) → IsIn r stays ⊎ IsIn r (new ∷ []) → IsIn s stays ⊎ IsIn s (new ∷ []) → same_text r.who s.who ≡ true → r.since ≤ s.since
+        → (r ≡ s) ⊎ ((r.since < s.since) × EndsBy s.since r.until)
     both r s (inl i) (inl j) e l = clear.apart r s i j e l
     both r s (inl i) (inr j) e l = inr (earlier r s i (same_at s j) e)
     both r s (inr i) (inl j) e l = absurd (let m = (earlier s r j (same_at r i) (same-turned s.who r.who ∙ e)).0 in omega (arith, m, l))
@@ -113,7 +119,8 @@ closed-ended people at stay u e =
 clear-leave : (stays : List Stay) (at : ℕ) (people : List (List ℕ)) → IsClear stays → IsClear (map (closed people at) stays)
 clear-leave stays at people clear = record { apart = λ r s i j. both r s (in-map (closed people at) r stays i) (in-map (closed people at) s stays j) }
   where
-    both : (r s : Stay) → (x : Stay) × IsIn x stays × (r ≡ closed people at x) → (y : Stay) × IsIn y stays × (s ≡ closed people at y) → same_text r.who s.who ≡ true → r.since ≤ s.since
+    both : (r s : Stay) → (x : Stay) × IsIn x stays × (r ≡ closed people at x) → (y : Stay) × IsIn y stays × (s ≡ closed people at y)
+        → same_text r.who s.who ≡ true → r.since ≤ s.since
         → (r ≡ s) ⊎ ((r.since < s.since) × EndsBy s.since r.until)
     both r s (x, i, f) (y, j, g) e l = elim (clear.apart x y i j (rw (f, g) at e) (rw (f, g) at l)) [
       | inl same ↦ inl (f ∙ ap (closed people at) same ∙ sym g)
@@ -132,8 +139,10 @@ module _ (P : List SheetRow → Type 0)
       let q = and_parts (not out) (in_turn_onto (before ++ (row ∷ [])) rows) t in
       let turn : out ≡ false = not-true out q.0 in
       let told : turn_refusal (cond out (Some row.who) None) ≡ None = rw turn refl in
-      let stays = stays-append before (row ∷ []) [] [] ∙ added-onto row.ceremony row.way row.at (row.who ∷ []) before (stays_by before) (tells-sheet before s) refl told in
-      let more : IsSheet (before ++ (row ∷ [])) = in_turn-append [] before (row ∷ []) ∙ and_from (in_turn_onto [] before) (in_turn_onto before (row ∷ [])) s (ap (λ b. b && true) q.0) in
+      let stays = stays-append before (row ∷ []) [] [] ∙ added-onto row.ceremony row.way row.at (row.who ∷ []) before (stays_by before)
+      (tells-sheet before s) refl told in
+      let more : IsSheet (before ++ (row ∷ [])) = in_turn-append [] before (row ∷ []) ∙ and_from (in_turn_onto [] before) (in_turn_onto before (row ∷ [])) s
+      (ap (λ b. b && true) q.0) in
       subst P (append_assoc before (row ∷ []) rows)
       (made-onto rows (before ++ (row ∷ [])) more q.1 (next before row (sym (same-turns before s row.ceremony row.way row.at row.who) ∙ turn) stays p))
 
@@ -141,13 +150,15 @@ module _ (P : List SheetRow → Type 0)
   made-in-turn none rows s = made-onto rows [] refl s none
 
 -- the stays of a sheet made in turn
-clear-row : (c : ℕ) (way : Way) (at : ℕ) (who : List ℕ) (stays : List Stay) → is_out_of_turn_in stays c way at who ≡ false → IsClear stays → IsClear (added c way at (who ∷ []) stays)
+clear-row : (c : ℕ) (way : Way) (at : ℕ) (who : List ℕ) (stays : List Stay) → is_out_of_turn_in stays c way at who ≡ false → IsClear stays
+    → IsClear (added c way at (who ∷ []) stays)
 clear-row c Enter at who stays h clear = clear-enter stays c at who h clear
 clear-row c Leave at who stays h clear = clear-leave stays at (who ∷ []) clear
 
 pub clear-sheet : (rows : List SheetRow) → IsSheet rows → IsClear (stays_by rows)
 clear-sheet =
-    made-in-turn (λ rows. IsClear (stays_by rows)) (λ before row turn e clear. rw e (clear-row row.ceremony row.way row.at row.who (stays_by before) turn clear)) (record { apart = λ r t i. absurd i })
+    made-in-turn (λ rows. IsClear (stays_by rows))
+    (λ before row turn e clear. rw e (clear-row row.ceremony row.way row.at row.who (stays_by before) turn clear)) (record { apart = λ r t i. absurd i })
 
 -- a stay of the row's ceremony begins or ends at its moment
 abbrev Bounds : List Stay → SheetRow → Type 0
@@ -156,9 +167,11 @@ Bounds stays row = (s : Stay) × IsIn s stays × (s.ceremony ≡ row.ceremony) �
 bounds-kept : (c : ℕ) (way : Way) (at : ℕ) (who : List ℕ) (stays : List Stay) (row : SheetRow) → Bounds stays row → Bounds (added c way at (who ∷ []) stays) row
 bounds-kept c Enter at who stays row (s, i, e, b) = (s, in-front s stays (new_stay c at who ∷ []) i, e, b)
 bounds-kept c Leave at who stays row (s, i, e, inl since) = (closed (who ∷ []) at s, map-in (closed (who ∷ []) at) s stays i, e, inl since)
-bounds-kept c Leave at who stays row (s, i, e, inr until) = (closed (who ∷ []) at s, map-in (closed (who ∷ []) at) s stays i, e, inr (closed-ended (who ∷ []) at s row.at until))
+bounds-kept c Leave at who stays row (s, i, e, inr until) =
+    (closed (who ∷ []) at s, map-in (closed (who ∷ []) at) s stays i, e, inr (closed-ended (who ∷ []) at s row.at until))
 
-bounds-new : (c : ℕ) (way : Way) (at : ℕ) (who : List ℕ) (stays : List Stay) → is_out_of_turn_in stays c way at who ≡ false → Bounds (added c way at (who ∷ []) stays) (new_row c way at who)
+bounds-new : (c : ℕ) (way : Way) (at : ℕ) (who : List ℕ) (stays : List Stay) → is_out_of_turn_in stays c way at who ≡ false
+    → Bounds (added c way at (who ∷ []) stays) (new_row c way at who)
 bounds-new c Enter at who stays h = (new_stay c at who, in-behind (new_stay c at who) stays (new_stay c at who ∷ []) (inl refl), refl, inl refl)
 bounds-new c Leave at who stays h =
     let a = any-in (is_inside_of c who) stays (grind arith) in
@@ -170,7 +183,8 @@ pub row-bounds : (rows : List SheetRow) → IsSheet rows → (row : SheetRow) �
 row-bounds = made-in-turn (λ rows. (row : SheetRow) → IsIn row rows → Bounds (stays_by rows) row) next (λ row i. absurd i)
   where
     next : (before : List SheetRow) (row : SheetRow) → is_out_of_turn_in (stays_by before) row.ceremony row.way row.at row.who ≡ false
-        → stays_by (before ++ row ∷ []) ≡ added row.ceremony row.way row.at (row.who ∷ []) (stays_by before) → ((r : SheetRow) → IsIn r before → Bounds (stays_by before) r)
+        → stays_by (before ++ row ∷ []) ≡ added row.ceremony row.way row.at (row.who ∷ []) (stays_by before)
+        → ((r : SheetRow) → IsIn r before → Bounds (stays_by before) r)
         → (r : SheetRow) → IsIn r (before ++ row ∷ []) → Bounds (stays_by (before ++ row ∷ [])) r
     next before row turn e old r i = rw e (elim (in-append r before (row ∷ []) i) [
       | inl j ↦ bounds-kept row.ceremony row.way row.at row.who (stays_by before) r (old r j)
@@ -188,7 +202,16 @@ stay-begun = made-in-turn (λ rows. (s : Stay) → IsIn s (stays_by rows) → Be
         → (s : Stay) → IsIn s (added c way at (who ∷ []) (stays_by before)) → Begun (before ++ new_row c way at who ∷ []) s
     by_way before c Enter at who old s i = elim (in-append s (stays_by before) (new_stay c at who ∷ []) i) [
       | inl j ↦ let r = old s j in (r.0, in-front r.0 before (new_row c Enter at who ∷ []) r.1, r.2, r.3)
-      | inr j ↦ elim j [ inl same ↦ rw same (new_row c Enter at who, in-behind (new_row c Enter at who) before (new_row c Enter at who ∷ []) (inl refl), refl, refl) | inr none ↦ absurd none ]
+      | inr j ↦ elim j [
+        | inl same ↦ rw same (
+          new_row c Enter at who,
+          in-behind (new_row c Enter at who) before (new_row c Enter at who ∷ [])
+              (inl refl),
+          refl,
+          refl,
+        )
+        | inr none ↦ absurd none
+      ]
     ]
     by_way before c Leave at who old s i =
         let m = in-map (closed (who ∷ []) at) s (stays_by before) i in
@@ -196,7 +219,8 @@ stay-begun = made-in-turn (λ rows. (s : Stay) → IsIn s (stays_by rows) → Be
         rw m.2 (r.0, in-front r.0 before (new_row c Leave at who ∷ []) r.1, r.2, r.3)
 
     next : (before : List SheetRow) (row : SheetRow) → is_out_of_turn_in (stays_by before) row.ceremony row.way row.at row.who ≡ false
-        → stays_by (before ++ row ∷ []) ≡ added row.ceremony row.way row.at (row.who ∷ []) (stays_by before) → ((s : Stay) → IsIn s (stays_by before) → Begun before s)
+        → stays_by (before ++ row ∷ []) ≡ added row.ceremony row.way row.at (row.who ∷ []) (stays_by before)
+        → ((s : Stay) → IsIn s (stays_by before) → Begun before s)
         → (s : Stay) → IsIn s (stays_by (before ++ row ∷ [])) → Begun (before ++ row ∷ []) s
     next before row turn e old s i = by_way before row.ceremony row.way row.at row.who old s (subst (IsIn s) e i)
 
@@ -208,14 +232,16 @@ IsOfLast who test =
     ((r : Stay) → test r ≡ true → same_text r.who who ≡ true)
     × ((r s : Stay) → same_text s.who who ≡ true → r.since < s.since → EndsBy s.since r.until → test r ≡ true → test s ≡ true)
 
-any-last : (all some : List Stay) (who : List ℕ) → IsClear all → ((r : Stay) → IsIn r some → IsIn r all) → ((s : Stay) → last_stay all who ≡ Some s → IsIn s some)
+any-last : (all some : List Stay) (who : List ℕ) → IsClear all → ((r : Stay) → IsIn r some → IsIn r all)
+    → ((s : Stay) → last_stay all who ≡ Some s → IsIn s some)
     → (test : Stay → Bool) → IsOfLast who test → list_any test some ≡ list_any test all
 any-last all some who clear sub has test of = same-answers (list_any test some) (list_any test all) out back
   where
     out : list_any test some ≡ true → list_any test all ≡ true
     out h = let a = any-in test some h in in-any test a.0 all (sub a.0 a.1) a.2
 
-    by_since : (r s : Stay) → IsIn r all → IsIn s all → same_text r.who who ≡ true → same_text s.who who ≡ true → r.since ≤ s.since → test r ≡ true → test s ≡ true
+    by_since : (r s : Stay) → IsIn r all → IsIn s all → same_text r.who who ≡ true → same_text s.who who ≡ true → r.since ≤ s.since → test r ≡ true
+        → test s ≡ true
     by_since r s i j e f l t = elim (clear.apart r s i j (ap (same_text r.who) (same-is s.who who f) ∙ e) l) [
       | inl same ↦ subst (λ z. test z ≡ true) same t
       | inr q ↦ of.1 r s f q.0 q.1 t
@@ -242,10 +268,15 @@ of-inside who test inside = (
 )
 
 -- it is somebody's turn by some of the stays, the last one among them, where it is by all
-pub turn-last : (all some : List Stay) (who : List ℕ) → IsClear all → ((r : Stay) → IsIn r some → IsIn r all) → ((s : Stay) → last_stay all who ≡ Some s → IsIn s some)
+pub turn-last : (all some : List Stay) (who : List ℕ) → IsClear all → ((r : Stay) → IsIn r some → IsIn r all)
+    → ((s : Stay) → last_stay all who ≡ Some s → IsIn s some)
     → (c : ℕ) (way : Way) (at : ℕ) → is_out_of_turn_in some c way at who ≡ is_out_of_turn_in all c way at who
 turn-last all some who clear sub has c Enter at =
-    rw (any-last all some who clear sub has (reaches who at) (of-reaches who at), any-last all some who clear sub has (is_inside who) (of-inside who (is_inside who) (λ r h. h))) refl
+    rw (
+      any-last all some who clear sub has (reaches who at) (of-reaches who at),
+      any-last all some who clear sub has (is_inside who)
+          (of-inside who (is_inside who) (λ r h. h)),
+    ) refl
 turn-last all some who clear sub has c Leave at =
     rw (
       any-last all some who clear sub has (reaches who at) (of-reaches who at),

@@ -1,4 +1,5 @@
 -- Signatures and exceptions: what the rows of a view say of them is what the history says, and their changes lead on.
+use Rattle.kcr_history.specs.declared.rows.StepRow.{StepRow}
 use Rattle.std.proofs.Common.{◌≡◌, ℕ, zero, suc, ◌<◌, Bool, true, false, nat_lt, List, [], ◌∷◌, ◌++◌, map, length, get_or, Option, Some, None, is_none, refl, sym, ap, ◌∙◌, subst, arith, inl, inr, append_assoc}
 use Rattle.std.specs.Prelude.{is_some, slice_get}
 use Rattle.std.specs.List.Sorted.{IsPermutation}
@@ -21,7 +22,7 @@ use Rattle.kcr_history.specs.declared.commands.Command.{Command}
 use Rattle.kcr_history.specs.declared.rows.StepState.{StepState}
 use Rattle.kcr_history.specs.declared.rows.StepState.TheVariants.{Signed, Passed}
 use Rattle.kcr_history.specs.declared.views.Change.{Change}
-use Rattle.kcr_history.specs.declared.views.Change.TheVariants.{PutStep, PutSeating, PutKey}
+use Rattle.kcr_history.specs.declared.views.Change.TheVariants.{PutSeating, PutKey}
 use Rattle.kcr_history.specs.declared.views.View.{View}
 use Rattle.kcr_history.specs.History.{History, stacked_on}
 use Rattle.kcr_history.specs.Training.{is_holder}
@@ -30,7 +31,7 @@ use Rattle.kcr_history.specs.Room.{present}
 use Rattle.kcr_history.specs.Fitting.{is_holder_by, fits_by}
 use Rattle.kcr_history.specs.Seating.{fits, one_to_seven, IsFirst, IsLeast}
 use Rattle.kcr_history.specs.Tables.{Tables, tables, marks, steps, step_row, seatings, seat_rows, seats_at, exceptions, trainings, withdrawals, appointments}
-use Rattle.kcr_history.specs.Changes.{changed_by, same_step, same_mark, same_exception}
+use Rattle.kcr_history.specs.Changes.{changed_by, same_step, same_mark, same_exception, changed}
 use Rattle.kcr_history.specs.Views.{IsViewOf, is_step_of}
 use Rattle.kcr_history.specs.Asked.{asks_by}
 use Rattle.kcr_history.specs.Machine.{Sitting, answer_to, IsRegister, sitting}
@@ -51,7 +52,8 @@ use Rattle.kcr_machine.proofs.StepRows.{done-shown, fresh-exception, fresh-seats
 -- THE FIRST REFUSAL
 
 -- whether the script has the step
-no_step-shown : (A : History) → IsRegister A → (c : ℕ) (view : View) → Shown (is_step_of c) (steps A) view.steps.items → (k : ℕ) → is_none (step_by view.steps.items c k) ≡ is_none (step_at (steps_of A c) k)
+no_step-shown : (A : History) → IsRegister A → (c : ℕ) (view : View) → Shown (is_step_of c) (steps A) view.steps.items → (k : ℕ)
+    → is_none (step_by view.steps.items c k) ≡ is_none (step_at (steps_of A c) k)
 no_step-shown A h c view p k = grind (arith, step-shown A h c view.steps.items p k)
 
 pub sign-fault : (A : History) → IsRegister A → (c k at : ℕ) → FaultShown A (Sign c k at)
@@ -78,12 +80,14 @@ except-fault A h c text pass at key view v =
 -- SEATS
 
 -- the seats of the step's row are those of the script
-pub seats-shown : (A : History) → IsRegister A → (c : ℕ) (view : View) → Shown (is_step_of c) (steps A) view.steps.items → (k : ℕ) → is_some (step_at (steps_of A c) k) ≡ true
+pub seats-shown : (A : History) → IsRegister A → (c : ℕ) (view : View) → Shown (is_step_of c) (steps A) view.steps.items → (k : ℕ)
+    → is_some (step_at (steps_of A c) k) ≡ true
     → seats_by (step_by view.steps.items c k) ≡ seats_at (steps_of A c) k
 seats-shown A h c view p k e = rw (step-shown A h c view.steps.items p k, e) refl
 
 -- who holds a place, by all appointments
-is_holder-shown : (A : History) → IsRegister A → (view : View) → IsPermutation (appointments A) view.appointments.items → (place : Place) (day : ℕ) (who : List ℕ)
+is_holder-shown : (A : History) → IsRegister A → (view : View) → IsPermutation (appointments A) view.appointments.items
+    → (place : Place) (day : ℕ) (who : List ℕ)
     → is_holder_by view.appointments.items place day who ≡ is_holder A place day who
 is_holder-shown A h view p place day who = ap (is_this who) (holder-shown A h view.appointments.items p place day)
 
@@ -91,20 +95,27 @@ is_holder-shown A h view p place day who = ap (is_this who) (holder-shown A h vi
 abbrev by_view : History → View → Sitting → Seat → List ℕ → Bool
 by_view A view s = fits_by view.trainings.items view.withdrawals.items view.appointments.items (facility_of A s.ceremony) (day_of s.at)
 
-pub fits-shown : (A : History) → IsRegister A → (view : View) → IsPermutation (trainings A) view.trainings.items → IsPermutation (withdrawals A) view.withdrawals.items → IsPermutation (appointments A) view.appointments.items
-    → (f : Facility) (day : ℕ) (o : Option Seat) (who : List ℕ) → on_seat (fits_by view.trainings.items view.withdrawals.items view.appointments.items f day) o who ≡ on_seat (fits A f day) o who
+pub fits-shown : (A : History) → IsRegister A → (view : View) → IsPermutation (trainings A) view.trainings.items
+    → IsPermutation (withdrawals A) view.withdrawals.items → IsPermutation (appointments A) view.appointments.items
+    → (f : Facility) (day : ℕ) (o : Option Seat) (who : List ℕ)
+    → on_seat (fits_by view.trainings.items view.withdrawals.items view.appointments.items f day) o who ≡ on_seat (fits A f day) o who
 fits-shown A h view p q r f day None who = refl
 fits-shown A h view p q r f day (Some (Staff role)) who = trained-all A h view.trainings.items view.withdrawals.items p q who role day
 fits-shown A h view p q r f day (Some AnyCo) who =
-    any-same (λ n. is_holder_by view.appointments.items (Places.Co f n) day who) (λ n. is_holder A (Places.Co f n) day who) (λ n. is_holder-shown A h view r (Places.Co f n) day who) one_to_seven
+    any-same (λ n. is_holder_by view.appointments.items (Places.Co f n) day who) (λ n. is_holder A (Places.Co f n) day who)
+    (λ n. is_holder-shown A h view r (Places.Co f n) day who) one_to_seven
 fits-shown A h view p q r f day (Some (Co n)) who = is_holder-shown A h view r (Places.Co f n) day who
 fits-shown A h view p q r f day (Some AnyRksh) who =
-    any-same (λ n. is_holder_by view.appointments.items (Places.Rksh n) day who) (λ n. is_holder A (Places.Rksh n) day who) (λ n. is_holder-shown A h view r (Places.Rksh n) day who) one_to_seven
+    any-same (λ n. is_holder_by view.appointments.items (Places.Rksh n) day who) (λ n. is_holder A (Places.Rksh n) day who)
+    (λ n. is_holder-shown A h view r (Places.Rksh n) day who) one_to_seven
 fits-shown A h view p q r f day (Some (Rksh n)) who = is_holder-shown A h view r (Places.Rksh n) day who
 
 -- of the seats of a passing exception trainings and withdrawals are enough
-pub staff-shown : (A : History) → IsRegister A → (view : View) → IsPermutation (trainings A) view.trainings.items → IsPermutation (withdrawals A) view.withdrawals.items
-    → (f : Facility) (day k : ℕ) (who : List ℕ) → on_seat (fits_by view.trainings.items view.withdrawals.items view.appointments.items f day) (slice_get staff k) who ≡ on_seat (fits A f day) (slice_get staff k) who
+pub staff-shown : (A : History) → IsRegister A → (view : View) → IsPermutation (trainings A) view.trainings.items
+    → IsPermutation (withdrawals A) view.withdrawals.items
+    → (f : Facility) (day k : ℕ) (who : List ℕ)
+    → on_seat (fits_by view.trainings.items view.withdrawals.items view.appointments.items f day) (slice_get staff k) who
+    ≡ on_seat (fits A f day) (slice_get staff k) who
 staff-shown A h view p q f day zero who = trained-all A h view.trainings.items view.withdrawals.items p q who Ca day
 staff-shown A h view p q f day (suc zero) who = trained-all A h view.trainings.items view.withdrawals.items p q who Iw day
 staff-shown A h view p q f day (suc (suc k)) who = refl
@@ -113,10 +124,12 @@ staff-shown A h view p q f day (suc (suc k)) who = refl
 pub record IsShown (A : History) (view : View) (s : Sitting) : Type 0 where
   pub facility : facility_by (ceremony_by view.ceremonies.items s.ceremony) ≡ facility_of A s.ceremony
   pub room : room_by view s ≡ present A s.ceremony s.at
-  pub fit : (k : ℕ) (who : List ℕ) → on_seat (by_view A view s) (slice_get s.seats k) who ≡ on_seat (fits A (facility_of A s.ceremony) (day_of s.at)) (slice_get s.seats k) who
+  pub fit : (k : ℕ) (who : List ℕ)
+      → on_seat (by_view A view s) (slice_get s.seats k) who ≡ on_seat (fits A (facility_of A s.ceremony) (day_of s.at)) (slice_get s.seats k) who
 
 -- the sitting of an act is shown so
-sign-sitting : (A : History) → IsRegister A → (key : List ℕ) (c k at : ℕ) (view : View) → IsViewOf (asks_by key (Sign c k at)) (tables A) view → IsShown A view (record { ceremony = c; at = at; seats = seats_at (steps_of A c) k })
+sign-sitting : (A : History) → IsRegister A → (key : List ℕ) (c k at : ℕ) (view : View) → IsViewOf (asks_by key (Sign c k at)) (tables A) view
+    → IsShown A view (record { ceremony = c; at = at; seats = seats_at (steps_of A c) k })
 sign-sitting A h key c k at view v =
     record {
       facility = facility-shown A c view.ceremonies.items v.ceremonies;
@@ -124,7 +137,8 @@ sign-sitting A h key c k at view v =
       fit = λ j who. fits-shown A h view v.trainings v.withdrawals v.appointments (facility_of A c) (day_of at) (slice_get (seats_at (steps_of A c) k) j) who;
     }
 
-pass-sitting : (A : History) → IsRegister A → (key : List ℕ) (c : ℕ) (text : List ℕ) (at : ℕ) (view : View) → IsViewOf (asks_by key (Except c text true at)) (tables A) view → IsShown A view (record { ceremony = c; at = at; seats = staff })
+pass-sitting : (A : History) → IsRegister A → (key : List ℕ) (c : ℕ) (text : List ℕ) (at : ℕ) (view : View)
+    → IsViewOf (asks_by key (Except c text true at)) (tables A) view → IsShown A view (record { ceremony = c; at = at; seats = staff })
 pass-sitting A h key c text at view v =
     record {
       facility = facility-shown A c view.ceremonies.items v.ceremonies;
@@ -132,7 +146,8 @@ pass-sitting A h key c text at view v =
       fit = staff-shown A h view v.trainings v.withdrawals (facility_of A c) (day_of at);
     }
 
-pub sitting-is : (A : History) → IsRegister A → (key : List ℕ) (act : Act) (view : View) → IsViewOf (asks_by key act) (tables A) view → (s : Sitting) → sitting A act ≡ Some s → IsShown A view s
+pub sitting-is : (A : History) → IsRegister A → (key : List ℕ) (act : Act) (view : View) → IsViewOf (asks_by key act) (tables A) view → (s : Sitting)
+    → sitting A act ≡ Some s → IsShown A view s
 sitting-is A h key (Sign c k at) view v s e = subst (IsShown A view) (same_Some _ s e) (sign-sitting A h key c k at view v)
 sitting-is A h key (Except c text true at) view v s e = subst (IsShown A view) (same_Some _ s e) (pass-sitting A h key c text at view v)
 sitting-is A h key (Except c text false at) view v s e = absurd (none-some s e)
@@ -150,34 +165,41 @@ module _ (A : History) (h : IsRegister A) (view : View) (s : Sitting) (shown : I
       subst (IsFirst A s.ceremony s.at s.seats) (sym (g.named ∙ ap (λ P. map (λ p. get_or P p []) g.numbers) shown.room))
       (first-of A s.ceremony s.at (by_view A view s) s.seats shown.fit g.numbers two)
 
-  pub unseated-least : (refusal : Refusal) → IsUnseatedBy view s refusal → (positions : List ℕ) × IsLeast A s.ceremony s.at s.seats positions × (refusal ≡ Short (map suc positions))
+  pub unseated-least : (refusal : Refusal) → IsUnseatedBy view s refusal
+      → (positions : List ℕ) × IsLeast A s.ceremony s.at s.seats positions × (refusal ≡ Short (map suc positions))
   unseated-least refusal (inl (positions, g, e)) =
       let one = subst (λ f. Search.IsLeast (relation f (room_by view s)) (length s.seats) (length (room_by view s)) g.numbers) shown.facility g.least in
       let two = subst (λ P. Search.IsLeast (relation (facility_of A s.ceremony) P) (length s.seats) (length P) g.numbers) shown.room one in
       (g.numbers, least-of A s.ceremony s.at (by_view A view s) s.seats shown.fit g.numbers two, e ∙ ap Short g.counted)
   unseated-least refusal (inr (e, g)) =
-      let many : 128 < length (present A s.ceremony s.at) = ltb-true 128 (length (present A s.ceremony s.at)) (ap (λ P. nat_lt 128 (length P)) (sym shown.room) ∙ g) in
+      let many : 128 < length (present A s.ceremony s.at) = ltb-true 128 (length (present A s.ceremony s.at))
+      (ap (λ P. nat_lt 128 (length P)) (sym shown.room) ∙ g) in
       absurd (omega (arith, many, (rooms A h s.ceremony s.at).1))
 
 -- CHANGES
 
--- the step row and the seats of a step that is done, and the mark
-seat-tables : (A : History) (c k at : ℕ) (state : StepState) (people : List (List ℕ)) → IsRegister A → steps_done A c < k
-    → changed_by (PutStep (record (step_row A (c, k)) { state = state; at = Some at }) ∷ map PutSeating (seat_rows c k 0 people) ++ mark_change c at ∷ []) (tables A)
-    ≡ record (tables A) { steps = put same_step (record (step_row A (c, k)) { state = state; at = Some at }) (steps A); seatings = stacked_on (seat_rows c k 0 people) (seatings A); marks = put same_mark (record { ceremony = c; at = at }) (marks A) }
-seat-tables A c k at state people h l =
-    let t : Tables = record (tables A) { steps = put same_step (record (step_row A (c, k)) { state = state; at = Some at }) (steps A) } in
-    changed-append (map PutSeating (seat_rows c k 0 people)) (mark_change c at ∷ []) t
-    ∙ ap (λ t. changed_by (mark_change c at ∷ []) t) (put-seats c k 0 people t (λ j m. fresh-seats A h c k j l))
+abbrev done_row : History → ℕ → ℕ → ℕ → StepState → StepRow
+done_row A c k at state = record (step_row A (c, k)) { state = state; at = Some at }
+
+-- the tables with the row of a step that is done, its seats, and the mark
+abbrev with_seats : History → ℕ → ℕ → ℕ → StepState → List (List ℕ) → Tables
+with_seats A c k at state people =
+    record (tables A) {
+      steps = put same_step (done_row A c k at state) (steps A);
+      seatings = stacked_on (seat_rows c k 0 people) (seatings A);
+      marks = put same_mark (record { ceremony = c; at = at }) (marks A);
+    }
 
 -- by the rows of the view the step's row is that one
-seats-changed : (A : History) → IsRegister A → (view : View) → (c k at : ℕ) (state : StepState) (people : List (List ℕ)) → Shown (is_step_of c) (steps A) view.steps.items → is_some (step_at (steps_of A c) k) ≡ true → steps_done A c < k
-    → (rest : List Change) → changed_by (seat_changes view state c k at people ++ rest) (tables A)
-    ≡ changed_by rest (record (tables A) { steps = put same_step (record (step_row A (c, k)) { state = state; at = Some at }) (steps A); seatings = stacked_on (seat_rows c k 0 people) (seatings A); marks = put same_mark (record { ceremony = c; at = at }) (marks A) })
+seats-changed : (A : History) → IsRegister A → (view : View) → (c k at : ℕ) (state : StepState) (people : List (List ℕ))
+    → Shown (is_step_of c) (steps A) view.steps.items → is_some (step_at (steps_of A c) k) ≡ true → steps_done A c < k
+    → (rest : List Change) → changed_by (seat_changes view state c k at people ++ rest) (tables A) ≡ changed_by rest (with_seats A c k at state people)
 seats-changed A h view c k at state people p inside l rest =
+    let t : Tables = record (tables A) { steps = put same_step (done_row A c k at state) (steps A) } in
     rw (step-shown A h c view.steps.items p k, inside)
-    (changed-append (PutStep (record (step_row A (c, k)) { state = state; at = Some at }) ∷ map PutSeating (seat_rows c k 0 people) ++ mark_change c at ∷ []) rest (tables A)
-    ∙ ap (changed_by rest) (seat-tables A c k at state people h l))
+    (changed-append (map PutSeating (seat_rows c k 0 people) ++ mark_change c at ∷ []) rest t
+    ∙ ap (changed_by rest) (changed-append (map PutSeating (seat_rows c k 0 people)) (mark_change c at ∷ []) t)
+    ∙ ap (λ t. changed_by rest (changed (mark_change c at) t)) (put-seats c k 0 people t (λ j m. fresh-seats A h c k j l)))
 
 -- a signature
 pub sign-leads : (A : History) → IsRegister A → (c k at : ℕ) (people : List (List ℕ)) → SeatsLeadOn A (Sign c k at) (Some people)
@@ -190,9 +212,11 @@ sign-leads A h c k at people key view answer v absent f e =
 
 -- the row of an exception is put in front
 put-exception : (A : History) → IsRegister A → (c : ℕ) (text : List ℕ) (at : ℕ) (passed : Option ℕ)
-    → put same_exception (record { ceremony = c; exception = suc (exceptions_of A c); text = text; at = at; passed = passed }) (exceptions A) ≡ record { ceremony = c; exception = suc (exceptions_of A c); text = text; at = at; passed = passed } ∷ exceptions A
+    → put same_exception (record { ceremony = c; exception = suc (exceptions_of A c); text = text; at = at; passed = passed }) (exceptions A)
+    ≡ record { ceremony = c; exception = suc (exceptions_of A c); text = text; at = at; passed = passed } ∷ exceptions A
 put-exception A h c text at passed =
-    put-new same_exception (record { ceremony = c; exception = suc (exceptions_of A c); text = text; at = at; passed = passed }) (exceptions A) (fresh-exception A h c (suc (exceptions_of A c)) (omega arith))
+    put-new same_exception (record { ceremony = c; exception = suc (exceptions_of A c); text = text; at = at; passed = passed }) (exceptions A)
+    (fresh-exception A h c (suc (exceptions_of A c)) (omega arith))
 
 -- an exception that passes a step
 pub pass-leads : (A : History) → IsRegister A → (c : ℕ) (text : List ℕ) (at : ℕ) (people : List (List ℕ)) → SeatsLeadOn A (Except c text true at) (Some people)
@@ -204,10 +228,24 @@ pass-leads A h c text at people key view answer v absent f e =
     let s = put-step A h (entry_as key x.act (answer_to A x.act (Some people))) c k at Passed (λ d j. refl) (λ d. refl) refl inside in
     rw (done-shown A h c view.steps.items v.steps, append_assoc (seat_changes view Passed c k at people) (exception_change view c text at (Some k) ∷ []) tell)
     (seats-changed A h view c k at Passed people v.steps inside (omega arith) (exception_change view c text at (Some k) ∷ tell)
-    ∙ rw (stated-shown A h c view.exceptions.items v.exceptions, put-exception A h c text at (Some k), new_key A x answer absent, marks-put A (entry_as key x.act answer) c at f refl refl, e) (rw s refl))
+    ∙ rw (
+      stated-shown A h c view.exceptions.items v.exceptions,
+      put-exception A h c text at (Some k),
+      new_key A x answer absent,
+      marks-put A
+          (entry_as key x.act answer) c at f refl refl,
+      e,
+    ) (rw s refl))
 
 -- an exception that passes no step
 pub state-leads : (A : History) → IsRegister A → (c : ℕ) (text : List ℕ) (at : ℕ) → SeatsLeadOn A (Except c text false at) None
 state-leads A h c text at key view answer v absent f e =
     let x : Command = command_of key (Except c text false at) in
-    rw (stated-shown A h c view.exceptions.items v.exceptions, put-exception A h c text at None, new_key A x answer absent, marks-put A (entry_as key x.act answer) c at f refl refl, e) refl
+    rw (
+      stated-shown A h c view.exceptions.items v.exceptions,
+      put-exception A h c text at None,
+      new_key A x answer absent,
+      marks-put A
+          (entry_as key x.act answer) c at f refl refl,
+      e,
+    ) refl

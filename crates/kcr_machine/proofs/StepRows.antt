@@ -68,7 +68,8 @@ count-view test of inside table rows p = length_permutation (filter test table) 
 stacked-order : {X : Type 0} (xs ys : List X) → IsPermutation (xs ++ ys) (stacked_on xs ys)
 stacked-order [] ys = IsPermutation-refl ys
 stacked-order (x ∷ xs) ys =
-    IsPermutation-trans (x ∷ (xs ++ ys)) (xs ++ x ∷ ys) (stacked_on xs (x ∷ ys)) (IsPermutation-sym (xs ++ x ∷ ys) (x ∷ (xs ++ ys)) (IsPermutation-middle xs x ys)) (stacked-order xs (x ∷ ys))
+    IsPermutation-trans (x ∷ (xs ++ ys)) (xs ++ x ∷ ys) (stacked_on xs (x ∷ ys))
+    (IsPermutation-sym (xs ++ x ∷ ys) (x ∷ (xs ++ ys)) (IsPermutation-middle xs x ys)) (stacked-order xs (x ∷ ys))
 
 any-stacked : {X : Type 0} (p : X → Bool) (xs ys : List X) → list_any p (stacked_on xs ys) ≡ (list_any p xs || list_any p ys)
 any-stacked p xs ys = sym (list_any-IsPermutation p (xs ++ ys) (stacked_on xs ys) (stacked-order xs ys)) ∙ list_any-append p xs ys
@@ -89,9 +90,11 @@ pub sign-there : (A : History) (c k at : ℕ) → fault A (Sign c k at) ≡ None
 sign-there A c k at f =
     there (step_at (steps_of A c) k) (unmet (is_none (step_at (steps_of A c) k)) (Unknown (Things.Step k)) (none_holds (conditions A (Sign c k at)) f).1.0)
 
-pub pass-there : (A : History) (c : ℕ) (text : List ℕ) (at : ℕ) → fault A (Except c text true at) ≡ None → is_some (step_at (steps_of A c) (next_step A c)) ≡ true
+pub pass-there : (A : History) (c : ℕ) (text : List ℕ) (at : ℕ) → fault A (Except c text true at) ≡ None
+    → is_some (step_at (steps_of A c) (next_step A c)) ≡ true
 pass-there A c text at f =
-    there (step_at (steps_of A c) (next_step A c)) (unmet (is_none (step_at (steps_of A c) (next_step A c))) (Order (next_step A c)) (none_holds (conditions A (Except c text true at)) f).1.1.1.0)
+    there (step_at (steps_of A c) (next_step A c))
+    (unmet (is_none (step_at (steps_of A c) (next_step A c))) (Order (next_step A c)) (none_holds (conditions A (Except c text true at)) f).1.1.1.0)
 
 next-there : (A : History) (act : Act) (c : ℕ) → fault A act ≡ None → does_step c act ≡ true → is_some (step_at (steps_of A c) (next_step A c)) ≡ true
 next-there A (Sign d k at) c f e =
@@ -106,9 +109,11 @@ one_below : (b : Bool) (n : ℕ) (ss : List Step) → (b ≡ true → is_some (s
 one_below b n ss inside l = grind (arith, is_within ss n)
 
 -- a ceremony that is planned now had no steps
-new_planned : (A : History) (number : ℕ) (facility : Facility) (day : ℕ) (script : List ℕ) (c : ℕ) → fault A (Plan number facility day script) ≡ None → (number == c) ≡ true → steps_of A c ≡ []
+new_planned : (A : History) (number : ℕ) (facility : Facility) (day : ℕ) (script : List ℕ) (c : ℕ) → fault A (Plan number facility day script) ≡ None
+    → (number == c) ≡ true → steps_of A c ≡ []
 new_planned A number facility day script c f q =
-    no_steps A c (subst (λ c. is_ceremony A c ≡ false) (eqb-true number c q) (unmet (is_ceremony A number) Taken (none_holds (conditions A (Plan number facility day script)) f).0))
+    no_steps A c (subst (λ c. is_ceremony A c ≡ false) (eqb-true number c q)
+    (unmet (is_ceremony A number) Taken (none_holds (conditions A (Plan number facility day script)) f).0))
 
 below_after : (A : History) (act : Act) (answer : Answer) (key : List ℕ) (c : ℕ) → fault A act ≡ None → steps_done A c ≤ length (steps_of A c)
     → one_more (does_step c act) (steps_done A c) ≤ length (steps_of (record { command = record { key = key; act = act }; answer = answer } ∷ A) c)
@@ -130,7 +135,8 @@ few_script script = by_result (script_of script) refl
     by_result (Ok steps) e = (script_has_steps script steps e).few
     by_result (Err row) e = omega arith
 
-few_after : (act : Act) (c : ℕ) (plan : Option Planned) → length (unwrap_or (option_map (λ plan. plan.steps) plan) []) ≤ 400 → length (unwrap_or (option_map (λ plan. plan.steps) (or_else (planned_as c act) plan)) []) ≤ 400
+few_after : (act : Act) (c : ℕ) (plan : Option Planned) → length (unwrap_or (option_map (λ plan. plan.steps) plan) []) ≤ 400
+    → length (unwrap_or (option_map (λ plan. plan.steps) (or_else (planned_as c act) plan)) []) ≤ 400
 few_after (Plan number facility day script) c plan ih = grind (arith, few_script script)
 few_after act c plan ih = ih
 
@@ -158,23 +164,34 @@ keys-stacked [] h c = refl
 keys-stacked (entry ∷ A) h c = by_act entry.command.act (took A entry h.0).no_fault (keys-stacked A h.1 c)
   where
     by_act : (act : Act) → fault A act ≡ None → filter (λ key. key.0 == c) (step_keys A) ≡ stacked_on (numbered c 0 (steps_of A c)) []
-        → filter (λ key. key.0 == c) (step_keys_after act (step_keys A)) ≡ stacked_on (numbered c 0 (steps_of (record { command = record { key = entry.command.key; act = act }; answer = entry.answer } ∷ A) c)) []
+        → filter (λ key. key.0 == c) (step_keys_after act (step_keys A))
+        ≡ stacked_on (numbered c 0 (steps_of (record { command = record { key = entry.command.key; act = act }; answer = entry.answer } ∷ A) c)) []
     by_act (Plan number facility day script) f ih =
         let ss = result_unwrap_or (script_of script) [] in
-        grind (arith, filter-stacked (λ key. key.0 == c) (numbered number 0 ss) (step_keys A), other-keys c number 0 ss, own-keys c 0 ss, new_planned A number facility day script c f)
+        grind (
+          arith,
+          filter-stacked (λ key. key.0 == c) (numbered number 0 ss)
+              (step_keys A),
+          other-keys c number 0 ss,
+          own-keys c 0 ss,
+          new_planned A number facility day script c f,
+        )
     by_act act f ih = ih
 
 keys-order : (A : History) → IsRegister A → (c : ℕ) → IsPermutation (filter (λ key. key.0 == c) (step_keys A)) (numbered c 0 (steps_of A c))
 keys-order A h c =
     let all = numbered c 0 (steps_of A c) in
-    rw (keys-stacked A h c) (IsPermutation-sym all (stacked_on all []) (subst (λ keys. IsPermutation keys (stacked_on all [])) (append-nil all) (stacked-order all [])))
+    rw (keys-stacked A h c) (IsPermutation-sym all (stacked_on all [])
+    (subst (λ keys. IsPermutation keys (stacked_on all [])) (append-nil all) (stacked-order all [])))
 
-keys-any : (A : History) → IsRegister A → (c : ℕ) (g : ℕ → Bool) → list_any (λ key. key.0 == c && g key.1) (step_keys A) ≡ list_any (λ key. g key.1) (numbered c 0 (steps_of A c))
+keys-any : (A : History) → IsRegister A → (c : ℕ) (g : ℕ → Bool)
+    → list_any (λ key. key.0 == c && g key.1) (step_keys A) ≡ list_any (λ key. g key.1) (numbered c 0 (steps_of A c))
 keys-any A h c g =
     sym (RoomLists.any-filter (λ key. key.0 == c) (λ key. g key.1) (step_keys A))
     ∙ list_any-IsPermutation (λ key. g key.1) (filter (λ key. key.0 == c) (step_keys A)) (numbered c 0 (steps_of A c)) (keys-order A h c)
 
-keys-count : (A : History) → IsRegister A → (c : ℕ) (g : ℕ → Bool) → tally (λ key. key.0 == c && g key.1) (step_keys A) ≡ tally (λ key. g key.1) (numbered c 0 (steps_of A c))
+keys-count : (A : History) → IsRegister A → (c : ℕ) (g : ℕ → Bool)
+    → tally (λ key. key.0 == c && g key.1) (step_keys A) ≡ tally (λ key. g key.1) (numbered c 0 (steps_of A c))
 keys-count A h c g =
     let own = filter (λ (key : ℕ × ℕ). key.0 == c) (step_keys A) in
     let all = numbered c 0 (steps_of A c) in
@@ -194,7 +211,8 @@ steps-count A h c =
 -- no step of a ceremony that was not planned has a key
 pub keys-planned : (A : History) → IsRegister A → (c : ℕ) → is_ceremony A c ≡ false → list_any (λ key. key.0 == c) (step_keys A) ≡ false
 keys-planned A h c e =
-    any-same (λ key. key.0 == c) (λ key. key.0 == c && true) (step_keys A) (λ key. grind arith) ∙ keys-any A h c (λ k. true) ∙ ap (λ ss. list_any (λ key. true) (numbered c 0 ss)) (no_steps A c e)
+    any-same (λ key. key.0 == c) (λ key. key.0 == c && true) (step_keys A) (λ key. grind arith) ∙ keys-any A h c (λ k. true)
+    ∙ ap (λ ss. list_any (λ key. true) (numbered c 0 ss)) (no_steps A c e)
 
 none_zero : (c i : ℕ) (ss : List Step) → list_any (λ key. key.1 == 0) (numbered c i ss) ≡ false
 none_zero c i [] = refl
@@ -224,7 +242,8 @@ done_one : (b : Bool) (state : StepState) (at : ℕ) (fate : Option (StepState �
     → is_done (state_by (or_else (cond b (Some (state, at)) None) fate)) ≡ is_some (or_else (cond b (Some (state, at)) None) fate)
 done_one b state at fate e ih = grind arith
 
-done_after : (c k : ℕ) (act : Act) (said : Option ℕ) (fate : Option (StepState × ℕ)) → is_done (state_by fate) ≡ is_some fate → is_done (state_by (or_else (step_done c k act said) fate)) ≡ is_some (or_else (step_done c k act said) fate)
+done_after : (c k : ℕ) (act : Act) (said : Option ℕ) (fate : Option (StepState × ℕ)) → is_done (state_by fate) ≡ is_some fate
+    → is_done (state_by (or_else (step_done c k act said) fate)) ≡ is_some (or_else (step_done c k act said) fate)
 done_after c k (Sign d step at) said fate ih = done_one (d == c && step == k) Signed at fate refl ih
 done_after c k (Except d text pass at) (Some step) fate ih = done_one (d == c && step == k) Passed at fate refl ih
 done_after c k (Except d text pass at) None fate ih = ih
@@ -240,7 +259,8 @@ done-steps A h c =
     count-map (λ row. is_step_of c row && is_done row.state) (step_row A) (step_keys A)
     ∙ count-ext (λ key. key.0 == c && is_done (state_by (fate_of A key.0 key.1))) (λ key. key.0 == c && is_some (fate_of A c key.1)) here (step_keys A)
     ∙ keys-count A h c (λ k. is_some (fate_of A c k))
-    ∙ count-ext (λ key. is_some (fate_of A c key.1)) (λ key. nat_le 1 key.1 && nat_le key.1 (steps_done A c)) (λ key. fate-done A h c key.1) (numbered c 0 (steps_of A c))
+    ∙ count-ext (λ key. is_some (fate_of A c key.1)) (λ key. nat_le 1 key.1 && nat_le key.1 (steps_done A c)) (λ key. fate-done A h c key.1)
+    (numbered c 0 (steps_of A c))
     ∙ count-numbered (steps_done A c) c 0 (steps_of A c) (omega (arith, done-below A h c))
     ∙ omega arith
   where
@@ -257,7 +277,8 @@ stated-exceptions (entry ∷ A) h c =
     ∙ sym (count-cons (λ entry. is_exception c entry.command.act) entry A)
   where
     by_act : (act : Act) (answer : Answer) (people : Option (List (List ℕ))) → answer ≡ answer_to A act people → stated_by (exceptions A) c ≡ exceptions_of A c
-        → stated_by (exceptions (record { command = record { key = entry.command.key; act = act }; answer = answer } ∷ A)) c ≡ one_more (is_exception c act) (exceptions_of A c)
+        → stated_by (exceptions (record { command = record { key = entry.command.key; act = act }; answer = answer } ∷ A)) c
+        ≡ one_more (is_exception c act) (exceptions_of A c)
     by_act (Except d text true at) answer people e ih = rw e (grind arith)
     by_act (Except d text false at) answer people e ih = rw e (grind arith)
     by_act act answer people e ih = ih
@@ -270,7 +291,8 @@ pub step-shown : (A : History) → IsRegister A → (c : ℕ) (rows : List StepR
 step-shown A h c rows p k =
     find-view (λ row. is_step_of c row && row.step == k) (is_step_of c) (step_row A) (step_row A (c, k))
     (λ x e. grind arith)
-    (λ key e. let q = and_parts (key.0 == c) (key.1 == k) e in ap (λ a. step_row A (a, key.1)) (eqb-true key.0 c q.0) ∙ ap (λ b. step_row A (c, b)) (eqb-true key.1 k q.1))
+    (λ key e. let q = and_parts (key.0 == c) (key.1 == k) e in ap (λ a. step_row A (a, key.1)) (eqb-true key.0 c q.0)
+    ∙ ap (λ b. step_row A (c, b)) (eqb-true key.1 k q.1))
     (step_keys A) rows p
     ∙ ap (λ b. some_if b (step_row A (c, k))) (has-step A h c k)
 
@@ -285,7 +307,8 @@ pub not_overdone : (A : History) → IsRegister A → (c : ℕ) (rows : List Ste
 not_overdone A h c rows p = le-ltb 400 (done_by rows c) (omega (arith, done-shown A h c rows p, done-below A h c, few-steps A c))
 
 -- how many exceptions are stated
-pub stated-shown : (A : History) → IsRegister A → (c : ℕ) (rows : List ExceptionRow) → Shown (is_exception_of c) (exceptions A) rows → stated_by rows c ≡ exceptions_of A c
+pub stated-shown : (A : History) → IsRegister A → (c : ℕ) (rows : List ExceptionRow) → Shown (is_exception_of c) (exceptions A) rows
+    → stated_by rows c ≡ exceptions_of A c
 stated-shown A h c rows p = count-view (is_exception_of c) (is_exception_of c) (λ x e. e) (exceptions A) rows p ∙ stated-exceptions A h c
 
 -- THE ROW OF A STEP THAT IS DONE
@@ -323,9 +346,11 @@ pub put-seats : (c k i : ℕ) (people : List (List ℕ)) (t : Tables) → ((j : 
 put-seats c k i [] t fresh = refl
 put-seats c k i (who ∷ people) t fresh =
     let row : SeatingRow = record { ceremony = c; step = k; seat = suc i; who = who } in
-    ap (λ rows. changed_by (map PutSeating (seat_rows c k (suc i) people)) (record t { seatings = rows })) (put-new same_seating row t.seatings (fresh (suc i) (omega arith)))
+    ap (λ rows. changed_by (map PutSeating (seat_rows c k (suc i) people)) (record t { seatings = rows }))
+    (put-new same_seating row t.seatings (fresh (suc i) (omega arith)))
     ∙ put-seats c k (suc i) people (record t { seatings = row ∷ t.seatings })
-    (λ j l. or_from ((c == c && k == k) && suc i == j) _ (and_right (c == c && k == k) (suc i == j) (ne_eqb (suc i) j (λ e. omega (arith, e, l)))) (fresh j (omega (arith, l))))
+    (λ j l. or_from ((c == c && k == k) && suc i == j) _ (and_right (c == c && k == k) (suc i == j) (ne_eqb (suc i) j (λ e. omega (arith, e, l))))
+    (fresh j (omega (arith, l))))
 
 foreign-seats : (c k d s i j : ℕ) (people : List (List ℕ)) → (d == c && s == k) ≡ false → list_any (is_seat_of c k j) (seat_rows d s i people) ≡ false
 foreign-seats c k d s i j [] e = refl
@@ -339,10 +364,12 @@ fresh-seats (entry ∷ A) h c k j l =
     let l2 : one_more (does_step c entry.command.act) (steps_done A c) < k = rw (done-after A entry c) at l in
     any-stacked (is_seat_of c k j) (seating_rows (ceremony_of_step entry.command.act) entry.answer.step entry.answer.seating) (seatings A)
     ∙ or_from _ _
-    (ap (λ answer. list_any (is_seat_of c k j) (seating_rows (ceremony_of_step entry.command.act) answer.step answer.seating)) t.answer ∙ by_act entry.command.act t.people t.no_fault l2)
+    (ap (λ answer. list_any (is_seat_of c k j) (seating_rows (ceremony_of_step entry.command.act) answer.step answer.seating)) t.answer
+    ∙ by_act entry.command.act t.people t.no_fault l2)
     (fresh-seats A h.1 c k j (grind arith))
   where
-    rows_of : (d s : ℕ) (people : Option (List (List ℕ))) → (d == c && s == k) ≡ false → list_any (is_seat_of c k j) (seating_rows (Some d) (Some s) people) ≡ false
+    rows_of : (d s : ℕ) (people : Option (List (List ℕ))) → (d == c && s == k) ≡ false
+        → list_any (is_seat_of c k j) (seating_rows (Some d) (Some s) people) ≡ false
     rows_of d s None e = refl
     rows_of d s (Some people) e = foreign-seats c k d s 0 j people e
 
@@ -369,7 +396,8 @@ fresh-exception (entry ∷ A) h c j l =
     let l2 : one_more (is_exception c entry.command.act) (exceptions_of A c) < j = rw (count-cons (λ entry. is_exception c entry.command.act) entry A) at l in
     by_act entry.command.act entry.answer t.people t.answer l2 (fresh-exception A h.1 c j)
   where
-    by_act : (act : Act) (answer : Answer) (people : Option (List (List ℕ))) → answer ≡ answer_to A act people → one_more (is_exception c act) (exceptions_of A c) < j → (exceptions_of A c < j → list_any (is_numbered c j) (exceptions A) ≡ false)
+    by_act : (act : Act) (answer : Answer) (people : Option (List (List ℕ))) → answer ≡ answer_to A act people
+        → one_more (is_exception c act) (exceptions_of A c) < j → (exceptions_of A c < j → list_any (is_numbered c j) (exceptions A) ≡ false)
         → list_any (is_numbered c j) (exceptions (record { command = record { key = entry.command.key; act = act }; answer = answer } ∷ A)) ≡ false
     by_act (Except d text true at) answer people e l ih = rw e (grind arith)
     by_act (Except d text false at) answer people e l ih = rw e (grind arith)

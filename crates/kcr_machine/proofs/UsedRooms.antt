@@ -57,7 +57,8 @@ used-unended A h c t e = elim (or_cases (not (is_empty (present A c t))) (list_a
     here s q = grind arith
 
 -- the room is used where some stay that is shown has not ended
-pub used-shown : (A : History) → IsRegister A → (c t : ℕ) (rows : List Stay) → Shown (is_stay_of c) (reverse (stays_by (sheet A))) rows → list_any (is_unended c t) rows ≡ is_room_used A c t
+pub used-shown : (A : History) → IsRegister A → (c t : ℕ) (rows : List Stay) → Shown (is_stay_of c) (reverse (stays_by (sheet A))) rows
+    → list_any (is_unended c t) rows ≡ is_room_used A c t
 used-shown A h c t rows p =
     any-shown (is_unended c t) (is_stay_of c) (λ stay e. grind arith) (reverse (stays_by (sheet A))) rows p
     ∙ sym (list_any-IsPermutation (is_unended c t) (stays_by (sheet A)) (reverse (stays_by (sheet A))) (IsPermutation-reverse (stays_by (sheet A))))
