@@ -5,8 +5,6 @@ use Rattle.std.specs.List.{list_any}
 use Rattle.std.specs.List.Sorted.{IsPermutation}
 use Rattle.std.proofs.lemmas.Bool.{true≢false, false≢true, eqb-true, eq-eqb, and_parts, lt-ltb, ne_eqb, and_right, false_from_ne_true, and_left, ltb-true}
 use Rattle.std.proofs.lemmas.List.Sorted.{list_any-IsPermutation, length_permutation}
-use Rattle.kcr_base.specs.Days.{day_of}
-use Rattle.kcr_base.specs.Refuse.{when, first_of}
 use Rattle.kcr_base.specs.Rows.{put}
 use Rattle.kcr_base.specs.Same.{same_facility}
 use Rattle.kcr_base.specs.declared.refusal.Refusal.TheVariants as Refusals
@@ -24,15 +22,15 @@ use Rattle.kcr_history.specs.declared.rows.MarkRow.{MarkRow}
 use Rattle.kcr_history.specs.declared.views.Change.TheVariants.{PutKey, PutStep}
 use Rattle.kcr_history.specs.declared.views.View.{View}
 use Rattle.kcr_history.specs.History.{History, all_said, entry_of, stacked_on}
-use Rattle.kcr_history.specs.Ceremonies.{is_ceremony, facility_of, day_planned, opening, opened, closing, closed, is_open, mark, opened_number, steps_of, steps_done, planned_as, plan_of}
+use Rattle.kcr_history.specs.Ceremonies.{is_ceremony, facility_of, opening, opened, closing, closed, is_open, mark, opened_number, steps_of, steps_done, planned_as, plan_of}
 use Rattle.kcr_history.specs.Tables.{planned_number, ceremony_row, ceremonies, mark_row, marks, tables, sealed_serial, bag_row, bags, numbered, step_keys, step_row, steps, fate_of, Tables, step_done}
 use Rattle.kcr_history.specs.Changes.{same_ceremony, same_mark, changed_by, same_step}
 use Rattle.kcr_history.specs.Views.{is_of_number, is_step_of}
-use Rattle.kcr_history.specs.Conditions.{conditions, fault, is_full, busy, not_open, late, full, unfinished, no_ceremony}
+use Rattle.kcr_history.specs.Conditions.{conditions, fault, no_ceremony}
 use Rattle.kcr_history.specs.Machine.{IsRegister, with_command}
 use Rattle.kcr_history.proofs.Steps.{took}
 use Rattle.kcr_scene.specs.Scene.{ceremony_by}
-use Rattle.kcr_acts.specs.CeremonyRows.{is_open_beside, opening_refusal, is_undone, is_undone_of, lies_on_table, closing_refusal, planned_row, undone_row, undone_rows}
+use Rattle.kcr_acts.specs.CeremonyRows.{is_open_beside, is_undone, is_undone_of, lies_on_table, planned_row, undone_row, undone_rows}
 use Rattle.kcr_machine.specs.RowDecision.{new_key_row}
 use Rattle.kcr_laws.proofs.Finds.{some_if}
 use Rattle.kcr_base.specs.declared.place.Facility.{Facility}
@@ -82,18 +80,8 @@ busy-shown A c rows p =
     (λ other. ap (λ b. not (eqb other c) && same_facility (facility_of A other) (facility_of A c) && b) (open-state A other)) (all_said planned_number A)
 
 pub open-fault : (A : History) (c at : ℕ) → FaultShown A (Open c at)
-open-fault A c at key view v = rw (row-shown A c view.ceremonies.items v.ceremonies) (by_plan (is_ceremony A c))
-  where
-    by_plan : (b : Bool) → opening_refusal view.ceremonies.items (is_full A) c at (some_if b (ceremony_row A c))
-        ≡ first_of
-        (when (not b) (Unknown (Things.Ceremony c))
-        ∷ when (nat_lt (day_of at) (day_planned A c)) Range
-        ∷ when (is_some (opened A c)) Refusals.State
-        ∷ busy A c
-        ∷ when (is_full A) Refusals.Full
-        ∷ [])
-    by_plan false = refl
-    by_plan true = rw (busy-shown A c view.ceremonies.items v.ceremonies)
+open-fault A c at key view v =
+    rw (row-shown A c view.ceremonies.items v.ceremonies) (grind (arith, busy-shown A c view.ceremonies.items v.ceremonies))
 
 -- only a ceremony that was opened is closed
 closed-opened : (A : History) → IsRegister A → (c : ℕ) → is_some (closed A c) ≡ true → is_some (opened A c) ≡ true
@@ -204,28 +192,18 @@ table-shown A facility rows p =
 -- THE KIND
 
 pub close-fault : (A : History) → IsRegister A → (c at : ℕ) → FaultShown A (Close c at)
-close-fault A h c at key view v = rw (ceremony-shown A c view.ceremonies.items v.ceremonies) (by_plan (is_ceremony A c))
-  where
-    by_plan : (b : Bool) → closing_refusal view (is_full A) c at (some_if b (ceremony_row A c))
-        ≡ first_of
-        (when (not b) (Unknown (Things.Ceremony c))
-        ∷ not_open A c
-        ∷ late A c at
-        ∷ full A
-        ∷ unfinished A c at
-        ∷ [])
-    by_plan false = refl
-    by_plan true =
-        rw (
-          open-state A c,
-          mark-shown A h c view.marks.items v.marks,
-          steps-shown A h c view.steps.items v.steps,
-          used-shown A h c at view.stays.items v.stays.room,
-          open-shown A view.safes.items v.safes (facility_of A c) One,
-          open-shown A view.safes.items v.safes (facility_of A c) Two,
-          table-shown A (facility_of A c) view.bags.items v.bags,
-        )
-        refl
+close-fault A h c at key view v =
+    rw (ceremony-shown A c view.ceremonies.items v.ceremonies)
+    (grind (
+      arith,
+      open-state A c,
+      mark-shown A h c view.marks.items v.marks,
+      steps-shown A h c view.steps.items v.steps,
+      used-shown A h c at view.stays.items v.stays.room,
+      open-shown A view.safes.items v.safes (facility_of A c) One,
+      open-shown A view.safes.items v.safes (facility_of A c) Two,
+      table-shown A (facility_of A c) view.bags.items v.bags,
+    ))
 
 -- the tables with one that is closed
 module _ (A : History) (key : List ℕ) (answer : Answer) (c at : ℕ) (f : fault A (Close c at) ≡ None) where

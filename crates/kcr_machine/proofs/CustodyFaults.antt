@@ -158,8 +158,7 @@ turn-fault A h c safe state by at key view v =
           is_known = is_person A by;
           is_inside = is_in A by c at;
           has_ssc1 = trained A by Ssc1 (day_of at);
-          has_ssc2 = trained A by Ssc2
-              (day_of at);
+          has_ssc2 = trained A by Ssc2 (day_of at);
         }
 
     by_safe : (s : SafeNumber) → first_of (no_ceremony A c ∷ no_person A by ∷ not_ready (scene_of A c at false) ∷ when
@@ -196,8 +195,8 @@ take-fault A h c t at key view v =
       no_holder-shown A h c at view v.boxes (λ place. holder_in-shown A h view c v.stays.room v.appointments place at) here (box_of (spot A t)),
     )
     (ready-by A c at (has_ca A c at) (no_ceremony A c ∷ no_bag A t ∷ [])
-    (shut A here (safe_of here (spot A t)) ∷ when (is_none (safe_of here (spot A t))) Elsewhere ∷ no_ca A c at ∷ no_holder A here c at (box_of (spot A t))
-    ∷ []))
+    (shut A here (safe_of here (spot A t)) ∷ when (is_none (safe_of here (spot A t))) Elsewhere ∷ no_ca A c at
+    ∷ no_holder A here c at (box_of (spot A t)) ∷ []))
 
 pub put-fault : (A : History) → IsRegister A → (c : ℕ) (t : List ℕ) (to : Store) (at : ℕ) → FaultShown A (Put c t to at)
 put-fault A h c t to at key view v =

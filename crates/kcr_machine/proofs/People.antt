@@ -260,8 +260,7 @@ replace-leads A h place who day key view answer v k f =
     rw (
       p,
       put-new same_appointment (new_appointment place who day) (map (ended place day) (appointments A)) fresh,
-      new_key A
-          (command_of key (Replace place who day)) answer k,
+      new_key A (command_of key (Replace place who day)) answer k,
     )
 
 pub release-leads : (A : History) → IsRegister A → (place : Place) (day : ℕ) → LeadsOn A (Release place day)

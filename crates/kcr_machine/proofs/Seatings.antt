@@ -1,8 +1,8 @@
 -- The search's answers by numbers, over those present, are the machine's: a first seating of people, and a least shortage of seats.
-use Rattle.std.proofs.Common.{◌≡◌, ◌≢◌, ℕ, zero, suc, ◌+◌, ◌<◌, ◌≤◌, Bool, true, false, cond, nat_lt, List, [], ◌∷◌, map, filter, length, get_or, refl, sym, ap, ◌∙◌, arith, subst, ◌==◌, Option, Some, None, inl, inr}
+use Rattle.std.proofs.Common.{◌≡◌, ◌≢◌, ℕ, zero, suc, ◌+◌, ◌<◌, ◌≤◌, Bool, true, false, cond, nat_lt, List, [], ◌∷◌, map, filter, length, get_or, refl, sym, ap, ◌∙◌, arith, subst, ◌==◌, Option, Some, None}
 use Rattle.std.specs.Prelude.{slice_get, slice_index, if◌then◌else◌, EachIndex}
 use Rattle.std.specs.List.{list_any, list_all}
-use Rattle.std.proofs.lemmas.Bool.{false≢true, both_ways, ltb-true, and_parts, and_from, eqb-true, eq-eqb, lt-ltb, cases_order, or_from, false_from_ne_true, true_from_ne_false, true≢false}
+use Rattle.std.proofs.lemmas.Bool.{false≢true, both_ways, ltb-true, and_parts, and_from, eqb-true, eq-eqb, lt-ltb, or_from, false_from_ne_true, true_from_ne_false, true≢false}
 use Rattle.std.proofs.lemmas.List.{length-map, get_or-map}
 use Rattle.std.proofs.lemmas.List.Folds.{list_any_at, list_all_at}
 use Rattle.kcr_base.specs.Same.{same_text, is_before}
@@ -83,15 +83,7 @@ module _ (E F : Seat → List ℕ → Bool) (L : List Seat) (P : List (List ℕ)
     (agree : (k : ℕ) (who : List ℕ) → list_any (same_text who) P ≡ true → on_seat F (slice_get L k) who ≡ on_seat E (slice_get L k) who)
     (inside : (k : ℕ) (who : List ℕ) → on_seat E (slice_get L k) who ≡ true → list_any (same_text who) P ≡ true) where
   apart : (i j : ℕ) → i < length P → j < length P → get_or P i [] ≡ get_or P j [] → i ≡ j
-  apart i j a b e = elim (cases_order i j) [
-    | inl same ↦ same
-    | inr differ ↦ elim differ [
-      | inl l ↦ absurd
-          (both_ways _ (before_itself (get_or P j [])) (subst (λ t. is_before t (get_or P j []) ≡ true) e (rising i j l b)))
-      | inr l ↦ absurd
-          (both_ways _ (before_itself (get_or P i [])) (subst (λ t. is_before t (get_or P i []) ≡ true) (sym e) (rising j i l a)))
-    ]
-  ]
+  apart i j a b e = grind (arith, rising i j, rising j i, before_itself (get_or P i []))
 
   here : (p : ℕ) → p < length P → list_any (same_text (get_or P p [])) P ≡ true
   here p l = list_any_at (same_text (get_or P p [])) P p [] l (same-itself (get_or P p []))
@@ -146,9 +138,9 @@ module _ (E F : Seat → List ℕ → Bool) (L : List Seat) (P : List (List ℕ)
         let at : (j : ℕ) → j < length L → get_or (named w) j [] ≡ get_or P (slice_index w j) [] = λ j m. name-at w j (omega (arith, m, f.seating.each_seat)) in
         let q = placed others s k l in
         let alike : (j : ℕ) → j < k → slice_index (numbered_as others) j ≡ slice_index w j
-        = λ j m. let r =
-        placed others s j (omega (arith, m, l)) in apart _ _ r.0 (f.seating.in_range j (omega (arith, m, l)))
-        (r.1 ∙ same j m ∙ at j (omega (arith, m, l))) in
+        = λ j m.
+        let r = placed others s j (omega (arith, m, l)) in
+        apart _ _ r.0 (f.seating.in_range j (omega (arith, m, l))) (r.1 ∙ same j m ∙ at j (omega (arith, m, l))) in
         let low : slice_index w k ≤ slice_index (numbered_as others) k = f.first (numbered_as others) k (seating-back others s) l alike in
         let other : slice_index w k ≢ slice_index (numbered_as others) k = λ e. differ (sym q.1 ∙ ap (λ p. get_or P p []) (sym e) ∙ sym (at k l)) in
         let up : slice_index w k < slice_index (numbered_as others) k = omega (arith, low, other) in

@@ -21,7 +21,7 @@ use Rattle.kcr_room.specs.declared.Way.{Way}
 use Rattle.kcr_room.specs.declared.Way.TheVariants as Ways
 use Rattle.kcr_room.specs.Room.{is_enter, enters, entries_by}
 use Rattle.kcr_room.specs.Stays.{cut, stay_from, next_onto, stays_next, stays_onto, stays_by, first_lone_in_by}
-use Rattle.kcr_room.specs.Adding.{is_out_of_turn_in, is_out_of_turn_by, new_row, new_stay, closed, of_ceremony, after, later_refusal, stays_refusal, rows_refusal, turn_refusal, lone_refusal, entries, is_overfull_by}
+use Rattle.kcr_room.specs.Adding.{is_out_of_turn_in, is_out_of_turn_by, new_row, new_stay, closed, of_ceremony, after, stays_refusal, rows_refusal, turn_refusal, lone_refusal, entries, is_overfull_by}
 use Rattle.kcr_base.specs.Lists.{are_apart}
 use Rattle.kcr_room.specs.Laws.{IsSheet}
 use Rattle.kcr_room.proofs.Lists.{filter-kept, count-cons}
@@ -110,11 +110,12 @@ has-last stays c people who i s e = by_test (s.ceremony == c) refl
 some-refusal : (stays : List Stay) → IsClear stays → (c m : ℕ) (full : Bool) (way : Way) (people : List (List ℕ)) (at : ℕ)
     → stays_refusal (stays_of_request stays c people) c m full way people at ≡ stays_refusal stays c m full way people at
 some-refusal stays clear c m full way people at =
-    ap (λ o. first_of (when (nat_le at m) (Late m) ∷ turn_refusal o ∷ later_refusal (after (stays_of_request stays c people) c way people at) c full way ∷ []))
-    (find-same-in (is_out_of_turn_in (stays_of_request stays c people) c way at) (is_out_of_turn_in stays c way at) people
-    (λ who i. turn-last stays (stays_of_request stays c people) who clear (among-all stays c people) (has-last stays c people who i) c way at))
-    ∙ ap (λ later. first_of (when (nat_le at m) (Late m) ∷ turn_refusal (find (is_out_of_turn_in stays c way at) people) ∷ later_refusal later c full way
-    ∷ [])) (same-after stays c way people at)
+    rw (
+      find-same-in (is_out_of_turn_in (stays_of_request stays c people) c way at) (is_out_of_turn_in stays c way at) people
+          (λ who i. turn-last stays (stays_of_request stays c people) who clear (among-all stays c people) (has-last stays c people who i) c way at),
+      same-after stays c way people at,
+    )
+    refl
 
 -- so by the rows of a view it is refused for what it is refused for by the sheet
 request-refusal : (rows : List SheetRow) → IsSheet rows → (shown : List Stay) (c m : ℕ) (full : Bool) (way : Way) (people : List (List ℕ)) (at : ℕ)

@@ -168,8 +168,7 @@ module _ (all shown : List Stay) (c at : ℕ) (people : List (List ℕ)) (clear 
       let owner : same_text r.who s.0.who ≡ true = ap (same_text r.who) (same-is s.0.who w.0 b.0 ∙ sym same) ∙ same-itself r.who in
       let is : r ≡ s.0 = elim (cases_lt r.since s.0.since) [
         | inl l ↦ by_time r s.0 i s.1 owner o (omega (arith, l))
-        | inr l ↦ sym
-            (by_time s.0 r s.1 i (same-turned s.0.who r.who ∙ owner) b.1 l)
+        | inr l ↦ sym (by_time s.0 r s.1 i (same-turned s.0.who r.who ∙ owner) b.1 l)
       ] in
       let here : (r.ceremony == c) ≡ true = rw is (grind arith) in
       let fits : ends_by c people r ≡ true = grind arith in

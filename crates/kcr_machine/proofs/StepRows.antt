@@ -168,14 +168,8 @@ keys-stacked (entry ∷ A) h c = by_act entry.command.act (took A entry h.0).no_
         ≡ stacked_on (numbered c 0 (steps_of (record { command = record { key = entry.command.key; act = act }; answer = entry.answer } ∷ A) c)) []
     by_act (Plan number facility day script) f ih =
         let ss = result_unwrap_or (script_of script) [] in
-        grind (
-          arith,
-          filter-stacked (λ key. key.0 == c) (numbered number 0 ss)
-              (step_keys A),
-          other-keys c number 0 ss,
-          own-keys c 0 ss,
-          new_planned A number facility day script c f,
-        )
+        let moved = filter-stacked (λ key. key.0 == c) (numbered number 0 ss) (step_keys A) in
+        grind (arith, moved, other-keys c number 0 ss, own-keys c 0 ss, new_planned A number facility day script c f)
     by_act act f ih = ih
 
 keys-order : (A : History) → IsRegister A → (c : ℕ) → IsPermutation (filter (λ key. key.0 == c) (step_keys A)) (numbered c 0 (steps_of A c))
