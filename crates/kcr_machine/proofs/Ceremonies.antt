@@ -1,5 +1,6 @@
 -- Planning, opening and closing: whether the rows let a ceremony be planned, opened or closed, and the rows of one that is.
-use Rattle.std.proofs.Common.{◌≡◌, ℕ, Bool, true, false, not, ◌&&◌, eqb, nat_lt, List, [], ◌∷◌, ◌++◌, map, Option, Some, None, refl, sym, ap, ◌∙◌, subst, suc, ◌+◌, filter, length, arith, ◌≤◌, add-one}
+use Rattle.std.proofs.Common.{◌≡◌, ℕ, Bool, true, false, not, ◌&&◌, eqb, nat_lt, List, [], ◌∷◌, ◌++◌, map, Option, Some, None, refl, sym, ap, ◌∙◌, subst, suc}
+use Rattle.std.proofs.Common.{◌+◌, filter, length, arith, ◌≤◌, add-one}
 use Rattle.std.specs.Prelude.{is_some, unwrap_or, slice_get}
 use Rattle.std.specs.List.{list_any}
 use Rattle.std.specs.List.Sorted.{IsPermutation}
@@ -22,8 +23,10 @@ use Rattle.kcr_history.specs.declared.rows.MarkRow.{MarkRow}
 use Rattle.kcr_history.specs.declared.views.Change.TheVariants.{PutKey, PutStep}
 use Rattle.kcr_history.specs.declared.views.View.{View}
 use Rattle.kcr_history.specs.History.{History, all_said, entry_of, stacked_on}
-use Rattle.kcr_history.specs.Ceremonies.{is_ceremony, facility_of, opening, opened, closing, closed, is_open, mark, opened_number, steps_of, steps_done, planned_as, plan_of}
-use Rattle.kcr_history.specs.Tables.{planned_number, ceremony_row, ceremonies, mark_row, marks, tables, sealed_serial, bag_row, bags, numbered, step_keys, step_row, steps, fate_of, Tables, step_done}
+use Rattle.kcr_history.specs.Ceremonies.{is_ceremony, facility_of, opening, opened, closing, closed, is_open, mark, opened_number, steps_of, steps_done}
+use Rattle.kcr_history.specs.Ceremonies.{planned_as, plan_of}
+use Rattle.kcr_history.specs.Tables.{planned_number, ceremony_row, ceremonies, mark_row, marks, tables, sealed_serial, bag_row, bags, numbered, step_keys}
+use Rattle.kcr_history.specs.Tables.{step_row, steps, fate_of, Tables, step_done}
 use Rattle.kcr_history.specs.Changes.{same_ceremony, same_mark, changed_by, same_step}
 use Rattle.kcr_history.specs.Views.{is_of_number, is_step_of}
 use Rattle.kcr_history.specs.Conditions.{conditions, fault, no_ceremony}
@@ -57,7 +60,8 @@ use Rattle.kcr_machine.proofs.FirstRefusals.{met}
 use Rattle.kcr_machine.proofs.Keyed.{Shown, any-map, put-at, put-first, put-new}
 use Rattle.kcr_machine.proofs.Leads.{FaultShown, Leads, command_of, entry_as, new_key}
 use Rattle.kcr_machine.proofs.Members.{IsIn, map-same-in, none-in, none-passes, same-answers}
-use Rattle.kcr_machine.proofs.Scenes.{ceremony-shown, known-shown, mark-after, mark-shown, marked-opened, open-opened, open-state, opened-number, opened-planned, planned-number, said-then, some-where, turned}
+use Rattle.kcr_machine.proofs.Scenes.{ceremony-shown, known-shown, mark-after, mark-shown, marked-opened, open-opened, open-state, opened-number}
+use Rattle.kcr_machine.proofs.Scenes.{opened-planned, planned-number, said-then, some-where, turned}
 use Rattle.kcr_machine.proofs.StepRows.{done-shown, keys-planned, steps-count}
 use Rattle.kcr_machine.proofs.UsedRooms.{used-shown}
 

@@ -21,7 +21,9 @@ use Rattle.kcr_custody.specs.declared.SafeRow.{SafeRow}
 use Rattle.kcr_custody.specs.declared.Store.{Store}
 use Rattle.kcr_custody.specs.declared.Store.TheVariants.{SafeOne, Boxed}
 use Rattle.kcr_custody.specs.Custody
-use Rattle.kcr_custody.specs.Custody.{spot_by, rest_by, is_loose_at, is_on_table, safe_of, safe_of_store, box_of, box_of_store, place_of, not_ready, seal_refusal, take_refusal, put_refusal, cut_refusal, add_item_refusal, is_box, same_safe, same_truth, is_open_by, turn_refusal}
+use Rattle.kcr_custody.specs.Custody.{spot_by, rest_by, is_loose_at, is_on_table, safe_of, safe_of_store, box_of, box_of_store, place_of, not_ready}
+use Rattle.kcr_custody.specs.Custody.{seal_refusal, take_refusal, put_refusal, cut_refusal, add_item_refusal, is_box, same_safe, same_truth, is_open_by}
+use Rattle.kcr_custody.specs.Custody.{turn_refusal}
 use Rattle.kcr_history.specs.declared.commands.Act.TheVariants.{Seal, Take, Put, Cut, AddItem, AddBox, TurnSafe}
 use Rattle.kcr_history.specs.declared.views.View.{View}
 use Rattle.kcr_history.specs.History.{History, some_command}

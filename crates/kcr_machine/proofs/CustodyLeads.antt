@@ -1,5 +1,6 @@
 -- The rows that an act of custody puts, on a box, an item, a safe or a bag, lead from the tables before it to those after it.
-use Rattle.std.proofs.Common.{◌≡◌, ℕ, Bool, true, false, cond, not, ◌&&◌, List, [], ◌∷◌, map, filter, Option, Some, None, option_map, is_some, is_none, refl, sym, ap, ◌∙◌, ◌++◌, subst, arith}
+use Rattle.std.proofs.Common.{◌≡◌, ℕ, Bool, true, false, cond, not, ◌&&◌, List, [], ◌∷◌, map, filter, Option, Some, None, option_map, is_some, is_none, refl}
+use Rattle.std.proofs.Common.{sym, ap, ◌∙◌, ◌++◌, subst, arith}
 use Rattle.std.specs.Prelude.{unwrap_or}
 use Rattle.std.specs.List.{list_any}
 use Rattle.std.proofs.lemmas.List.Sorted.{IsPermutation-sym}
@@ -71,23 +72,21 @@ next_state here safe state facility other before =
 abbrev row_of : Facility → SafeNumber → Bool → SafeRow
 row_of facility safe is_open = record { facility = facility; safe = safe; is_open = is_open }
 
-put-safe : (here : Facility) (safe : SafeNumber) (state : Bool) (a b c d : Option Bool)
-    → put same_safe_row (row_of here safe state)
-    (row_of East One (unwrap_or a false) ∷ row_of East Two (unwrap_or b false) ∷ row_of West One (unwrap_or c false) ∷ row_of West Two (unwrap_or d false) ∷ [])
-    ≡ row_of East One (next_state here safe state East One a) ∷ row_of East Two (next_state here safe state East Two b) ∷ row_of West One
-    (next_state here safe state West One c) ∷ row_of West Two (next_state here safe state West Two d) ∷ []
-put-safe East One state a b c d = refl
-put-safe East Two state a b c d = refl
-put-safe West One state a b c d = refl
-put-safe West Two state a b c d = refl
+-- the rows of the four safes, by what is said of each
+abbrev four_rows : (Facility → SafeNumber → Bool) → List SafeRow
+four_rows said = row_of East One (said East One) ∷ row_of East Two (said East Two) ∷ row_of West One (said West One) ∷ row_of West Two (said West Two) ∷ []
 
-abbrev last_turn : History → Facility → SafeNumber → Option Bool
-last_turn A facility safe = last_told (λ before. turned (facility_of before) facility safe) A
+put-safe : (here : Facility) (safe : SafeNumber) (state : Bool) (last : Facility → SafeNumber → Option Bool)
+    → put same_safe_row (row_of here safe state) (four_rows (λ f s. unwrap_or (last f s) false)) ≡ four_rows (λ f s. next_state here safe state f s (last f s))
+put-safe East One state last = refl
+put-safe East Two state last = refl
+put-safe West One state last = refl
+put-safe West Two state last = refl
 
 safes-put : (A : History) (key : List ℕ) (answer : Answer) (c : ℕ) (safe : SafeNumber) (state : Bool) (by : List ℕ) (at : ℕ)
     → put same_safe_row (row_of (facility_of A c) safe state) (safes A) ≡ safes (with_command A (command_of key (TurnSafe c safe state by at)) answer)
 safes-put A key answer c safe state by at =
-    put-safe (facility_of A c) safe state (last_turn A East One) (last_turn A East Two) (last_turn A West One) (last_turn A West Two)
+    put-safe (facility_of A c) safe state (λ facility safe. last_told (λ before. turned (facility_of before) facility safe) A)
 
 pub turn-leads : (A : History) → IsRegister A → (c : ℕ) (safe : SafeNumber) (state : Bool) (by : List ℕ) (at : ℕ) → LeadsOn A (TurnSafe c safe state by at)
 turn-leads A h c safe state by at key view answer v k f =

@@ -1,10 +1,12 @@
 -- A decision by the rows of a view is a step of the machine.
-use Rattle.std.proofs.Common.{◌≡◌, ◌≢◌, ℕ, suc, ◌+◌, true, false, nat_le, List, [], ◌∷◌, map, length, Option, Some, None, option_map, refl, sym, ap, ◌∙◌, subst, arith, inl, inr, Result, Ok, Err, MatchOption}
+use Rattle.std.proofs.Common.{◌≡◌, ◌≢◌, ℕ, suc, ◌+◌, true, false, nat_le, List, [], ◌∷◌, map, length, Option, Some, None, option_map, refl, sym, ap, ◌∙◌, subst}
+use Rattle.std.proofs.Common.{arith, inl, inr, Result, Ok, Err, MatchOption}
 use Rattle.kcr_base.specs.Same.{same_text}
 use Rattle.kcr_base.specs.declared.refusal.Refusal.{Refusal}
 use Rattle.kcr_base.specs.declared.refusal.Refusal.TheVariants.{Key, Short, Memory}
 use Rattle.kcr_history.specs.declared.commands.Act.{Act}
-use Rattle.kcr_history.specs.declared.commands.Act.TheVariants.{Enter, Train, Withdraw, Appoint, Replace, Release, AddBox, AddItem, Plan, Open, Close, Sheet, TurnSafe, Sign, Except, Seal, Take, Put, Cut}
+use Rattle.kcr_history.specs.declared.commands.Act.TheVariants.{Enter, Train, Withdraw, Appoint, Replace, Release, AddBox, AddItem, Plan, Open, Close, Sheet}
+use Rattle.kcr_history.specs.declared.commands.Act.TheVariants.{TurnSafe, Sign, Except, Seal, Take, Put, Cut}
 use Rattle.kcr_history.specs.declared.commands.Answer.{Answer}
 use Rattle.kcr_history.specs.declared.commands.Command.{Command}
 use Rattle.kcr_history.specs.declared.commands.Entry.{Entry}
@@ -17,7 +19,8 @@ use Rattle.kcr_history.specs.Tables.{keys, key_row, tables, SameTables, people}
 use Rattle.kcr_history.specs.Views.{greatest_number, row_of_key, IsViewOf}
 use Rattle.kcr_history.specs.Asked.{asks_by, asks_of}
 use Rattle.kcr_history.specs.Conditions.{fault, is_full, conditions}
-use Rattle.kcr_history.specs.Machine.{Accepts, Refuses, Sitting, sitting, answer_to, with_command, accepts, seats, acts, repeats, IsRegister, IsAcceptance, IsRepeat, IsDecision}
+use Rattle.kcr_history.specs.Machine.{Accepts, Refuses, Sitting, sitting, answer_to, with_command, accepts, seats, acts, repeats, IsRegister, IsAcceptance}
+use Rattle.kcr_history.specs.Machine.{IsRepeat, IsDecision}
 use Rattle.kcr_history.proofs.Steps.{took, number_of_answer}
 use Rattle.kcr_history.proofs.Words.{row_of_key-keys}
 use Rattle.kcr_acts.specs.ByRows.{refusal_by, is_overdone, sitting_by, IsSeatedFor, IsUnseatedFor, IsRefused, all_changes_by}
@@ -28,7 +31,8 @@ use Rattle.kcr_machine.proofs.Ceremonies.{close-fault, close-leads, open-fault, 
 use Rattle.kcr_machine.proofs.CustodyFaults.{add_box-fault, add_item-fault, cut-fault, put-fault, seal-fault, take-fault, turn-fault}
 use Rattle.kcr_machine.proofs.CustodyLeads.{add_box-leads, add_item-leads, cut-leads, put-leads, seal-leads, take-leads, turn-leads}
 use Rattle.kcr_machine.proofs.Leads.{changed_with, command_of, same-tables}
-use Rattle.kcr_machine.proofs.People.{appoint-fault, appoint-leads, enter-fault, enter-leads, release-fault, release-leads, replace-fault, replace-leads, train-fault, train-leads, withdraw-fault, withdraw-leads}
+use Rattle.kcr_machine.proofs.People.{appoint-fault, appoint-leads, enter-fault, enter-leads, release-fault, release-leads, replace-fault, replace-leads}
+use Rattle.kcr_machine.proofs.People.{train-fault, train-leads, withdraw-fault, withdraw-leads}
 use Rattle.kcr_machine.proofs.SheetFaults.{named_once, sheet-fault, sheet-made}
 use Rattle.kcr_machine.proofs.SheetLeads.{sheet-leads}
 use Rattle.kcr_machine.proofs.Signed.{except-fault, pass-leads, seated-first, seats-shown, sign-fault, sign-leads, sitting-is, state-leads, unseated-least}

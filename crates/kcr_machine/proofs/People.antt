@@ -8,7 +8,9 @@ use Rattle.kcr_base.specs.Same.{same_text, same_place}
 use Rattle.kcr_base.specs.declared.place.Role.{Role}
 use Rattle.kcr_people.specs.declared.Training.{Training}
 use Rattle.kcr_people.specs.declared.Withdrawal.{Withdrawal}
-use Rattle.kcr_people.specs.People.{is_of, is_withdrawn_by, covers, trains, trained_by, trained_from_by, ends_from, least_day, withdrawal_of, withdrawn_rows, is_person_by, ever_trained_by, ever_put_by, same_training, lasts_beyond, open_row_by, stands, end_of, nobody, place_held_from_by, person_holds_from_by}
+use Rattle.kcr_people.specs.People.{is_of, is_withdrawn_by, covers, trains, trained_by, trained_from_by, ends_from, least_day, withdrawal_of, withdrawn_rows}
+use Rattle.kcr_people.specs.People.{is_person_by, ever_trained_by, ever_put_by, same_training, lasts_beyond, open_row_by, stands, end_of, nobody}
+use Rattle.kcr_people.specs.People.{place_held_from_by, person_holds_from_by}
 use Rattle.kcr_people.proofs.Orders.{any-same}
 use Rattle.kcr_people.proofs.Withdrawn.{is_of-true, least-day}
 use Rattle.kcr_history.specs.Views.{is_training_of, is_withdrawal_of, is_of_people, is_appointment_of, IsViewOf}

@@ -1,8 +1,10 @@
 -- The search's answers by numbers, over those present, are the machine's: a first seating of people, and a least shortage of seats.
-use Rattle.std.proofs.Common.{◌≡◌, ◌≢◌, ℕ, zero, suc, ◌+◌, ◌<◌, ◌≤◌, Bool, true, false, cond, nat_lt, List, [], ◌∷◌, map, filter, length, get_or, refl, sym, ap, ◌∙◌, arith, subst, ◌==◌, Option, Some, None}
+use Rattle.std.proofs.Common.{◌≡◌, ◌≢◌, ℕ, zero, suc, ◌+◌, ◌<◌, ◌≤◌, Bool, true, false, cond, nat_lt, List, [], ◌∷◌, map, filter, length, get_or, refl, sym, ap}
+use Rattle.std.proofs.Common.{◌∙◌, arith, subst, ◌==◌, Option, Some, None}
 use Rattle.std.specs.Prelude.{slice_get, slice_index, if◌then◌else◌, EachIndex}
 use Rattle.std.specs.List.{list_any, list_all}
-use Rattle.std.proofs.lemmas.Bool.{false≢true, both_ways, ltb-true, and_parts, and_from, eqb-true, eq-eqb, lt-ltb, or_from, false_from_ne_true, true_from_ne_false, true≢false}
+use Rattle.std.proofs.lemmas.Bool.{false≢true, both_ways, ltb-true, and_parts, and_from, eqb-true, eq-eqb, lt-ltb, or_from, false_from_ne_true}
+use Rattle.std.proofs.lemmas.Bool.{true_from_ne_false, true≢false}
 use Rattle.std.proofs.lemmas.List.{length-map, get_or-map}
 use Rattle.std.proofs.lemmas.List.Folds.{list_any_at, list_all_at}
 use Rattle.kcr_base.specs.Same.{same_text, is_before}

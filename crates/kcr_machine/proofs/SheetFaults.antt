@@ -1,5 +1,6 @@
 -- The first refusal of a request of the sheet by the rows of a view is its fault by the history, and so the sheet of a register was made in turn.
-use Rattle.std.proofs.Common.{◌≡◌, ℕ, ◌+◌, Bool, true, false, cond, not, ◌||◌, ◌&&◌, ◌==◌, nat_le, nat_lt, List, [], ◌∷◌, ◌++◌, map, filter, find, reverse, Option, Some, None, option_map, is_none, refl, sym, ap, ◌∙◌, subst, arith, append-nil, inl, inr}
+use Rattle.std.proofs.Common.{◌≡◌, ℕ, ◌+◌, Bool, true, false, cond, not, ◌||◌, ◌&&◌, ◌==◌, nat_le, nat_lt, List, [], ◌∷◌, ◌++◌, map, filter, find, reverse}
+use Rattle.std.proofs.Common.{Option, Some, None, option_map, is_none, refl, sym, ap, ◌∙◌, subst, arith, append-nil, inl, inr}
 use Rattle.std.specs.Prelude.{is_some, count_by}
 use Rattle.std.specs.List.{cons_option}
 use Rattle.std.specs.List.Sorted.{IsPermutation}
@@ -21,7 +22,8 @@ use Rattle.kcr_room.specs.declared.Way.{Way}
 use Rattle.kcr_room.specs.declared.Way.TheVariants as Ways
 use Rattle.kcr_room.specs.Room.{is_enter, enters, entries_by}
 use Rattle.kcr_room.specs.Stays.{cut, stay_from, next_onto, stays_next, stays_onto, stays_by, first_lone_in_by}
-use Rattle.kcr_room.specs.Adding.{is_out_of_turn_in, is_out_of_turn_by, new_row, new_stay, closed, of_ceremony, after, stays_refusal, rows_refusal, turn_refusal, lone_refusal, entries, is_overfull_by}
+use Rattle.kcr_room.specs.Adding.{is_out_of_turn_in, is_out_of_turn_by, new_row, new_stay, closed, of_ceremony, after, stays_refusal, rows_refusal}
+use Rattle.kcr_room.specs.Adding.{turn_refusal, lone_refusal, entries, is_overfull_by}
 use Rattle.kcr_base.specs.Lists.{are_apart}
 use Rattle.kcr_room.specs.Laws.{IsSheet}
 use Rattle.kcr_room.proofs.Lists.{filter-kept, count-cons}
@@ -36,7 +38,8 @@ use Rattle.kcr_history.specs.Ceremonies.{closed as closed_at, is_open, mark}
 use Rattle.kcr_history.specs.Room.{sheet, sheet_after}
 use Rattle.kcr_history.specs.Tables.{people}
 use Rattle.kcr_history.specs.Views.{last_stay, is_of_people, ShowsLast}
-use Rattle.kcr_history.specs.Conditions.{conditions, fault, is_full, first_with, no_person, no_ceremony, not_open, not_later, is_not_later, out_of_turn, crowded, lone, is_overfull, full}
+use Rattle.kcr_history.specs.Conditions.{conditions, fault, is_full, first_with, no_person, no_ceremony, not_open, not_later, is_not_later, out_of_turn}
+use Rattle.kcr_history.specs.Conditions.{crowded, lone, is_overfull, full}
 use Rattle.kcr_history.specs.Machine.{IsRegister}
 use Rattle.kcr_history.proofs.Steps.{took}
 use Rattle.kcr_history.proofs.Words.{is_person-people}
@@ -45,7 +48,8 @@ use Rattle.kcr_laws.proofs.Signing.{no_first}
 use Rattle.kcr_machine.proofs.FirstRefusals.{behind, first-found, met, nested}
 use Rattle.kcr_machine.proofs.Keyed.{Shown, any-shown}
 use Rattle.kcr_machine.proofs.Leads.{FaultShown}
-use Rattle.kcr_machine.proofs.Members.{IsIn, filter-in, filter-none, filter_map-in, find-same-in, in-any, in-append, in-behind, in-filter, in-filter_map, in-front}
+use Rattle.kcr_machine.proofs.Members.{IsIn, filter-in, filter-none, filter_map-in, find-same-in, in-any, in-append, in-behind, in-filter, in-filter_map}
+use Rattle.kcr_machine.proofs.Members.{in-front}
 use Rattle.kcr_machine.proofs.Scenes.{is_open-shown, known-shown, mark-shown, marked-opened}
 use Rattle.kcr_machine.proofs.SheetStays.{IsClear, clear-order, clear-sheet, last-in, turn-last}
 

@@ -1,9 +1,12 @@
 -- The rows that a request of the sheet puts lead to the tables after it, where the sheet was made in turn and each person is named once.
-use Rattle.std.proofs.Common.{◌≡◌, ℕ, Bool, true, false, cond, not, ◌&&◌, ◌==◌, nat_le, List, [], ◌∷◌, ◌++◌, map, filter, find, reverse, Option, None, refl, sym, ap, ◌∙◌, subst, arith, append_assoc, append-nil, inl, inr, ◌≤◌}
+use Rattle.std.proofs.Common.{◌≡◌, ℕ, Bool, true, false, cond, not, ◌&&◌, ◌==◌, nat_le, List, [], ◌∷◌, ◌++◌, map, filter, find, reverse, Option, None, refl}
+use Rattle.std.proofs.Common.{sym, ap, ◌∙◌, subst, arith, append_assoc, append-nil, inl, inr, ◌≤◌}
 use Rattle.std.specs.List.{list_any}
 use Rattle.std.specs.List.Sorted.{IsPermutation}
-use Rattle.std.proofs.lemmas.Bool.{true≢false, both_ways, and_parts, and_from, or_parts, not-true, not-false, le-leb, eqb-true, eq-eqb, false_from_ne_true, or_from, cases_lt}
-use Rattle.std.proofs.lemmas.List.Sorted.{IsPermutation-refl, IsPermutation-sym, IsPermutation-trans, IsPermutation-reverse, IsPermutation-append, IsPermutation-map, list_any-IsPermutation, IsPermutation-middle}
+use Rattle.std.proofs.lemmas.Bool.{true≢false, both_ways, and_parts, and_from, or_parts, not-true, not-false, le-leb, eqb-true, eq-eqb, false_from_ne_true}
+use Rattle.std.proofs.lemmas.Bool.{or_from, cases_lt}
+use Rattle.std.proofs.lemmas.List.Sorted.{IsPermutation-refl, IsPermutation-sym, IsPermutation-trans, IsPermutation-reverse, IsPermutation-append}
+use Rattle.std.proofs.lemmas.List.Sorted.{IsPermutation-map, list_any-IsPermutation, IsPermutation-middle}
 use Rattle.kcr_base.specs.Rows.{put_all}
 use Rattle.kcr_base.specs.Same.{same_text}
 use Rattle.kcr_room.specs.declared.SheetRow.{SheetRow}
@@ -12,7 +15,8 @@ use Rattle.kcr_room.specs.declared.Way.{Way}
 use Rattle.kcr_room.specs.declared.Way.TheVariants.{Enter, Leave}
 use Rattle.kcr_room.specs.Room.{later, last_onto, last_row_of}
 use Rattle.kcr_room.specs.Stays.{stays_by}
-use Rattle.kcr_room.specs.Adding.{is_open, is_inside, is_inside_of, is_out_of_turn_in, is_out_of_turn_by, new_row, new_stay, is_among, closed, of_ceremony, ends_by, changed_stays, reaches, turn_refusal}
+use Rattle.kcr_room.specs.Adding.{is_open, is_inside, is_inside_of, is_out_of_turn_in, is_out_of_turn_by, new_row, new_stay, is_among, closed, of_ceremony}
+use Rattle.kcr_room.specs.Adding.{ends_by, changed_stays, reaches, turn_refusal}
 use Rattle.kcr_base.specs.Lists.{are_apart}
 use Rattle.kcr_room.specs.Laws.{IsSheet}
 use Rattle.kcr_room.proofs.Agreement.{same-is, same-itself, same-turned}

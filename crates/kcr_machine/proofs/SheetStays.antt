@@ -1,5 +1,6 @@
 -- The stays of a sheet made in turn: of a person's stays each ended before the next began, so the last one tells whose turn it is.
-use Rattle.std.proofs.Common.{◌≡◌, ℕ, ◌<◌, ◌≤◌, Bool, true, false, cond, not, ◌&&◌, nat_le, List, [], ◌∷◌, ◌++◌, map, filter, Option, Some, None, refl, sym, ap, ◌∙◌, subst, arith, append-nil, append_assoc, ◌⊎◌, inl, inr}
+use Rattle.std.proofs.Common.{◌≡◌, ℕ, ◌<◌, ◌≤◌, Bool, true, false, cond, not, ◌&&◌, nat_le, List, [], ◌∷◌, ◌++◌, map, filter, Option, Some, None, refl, sym, ap}
+use Rattle.std.proofs.Common.{◌∙◌, subst, arith, append-nil, append_assoc, ◌⊎◌, inl, inr}
 use Rattle.std.specs.List.{list_any}
 use Rattle.std.specs.List.Sorted.{IsPermutation}
 use Rattle.std.proofs.lemmas.Bool.{true≢false, and_parts, and_from, or_parts, not-true, leb-true, leb-false, and_right}
@@ -9,13 +10,15 @@ use Rattle.kcr_room.specs.declared.Stay.{Stay}
 use Rattle.kcr_room.specs.declared.Way.{Way}
 use Rattle.kcr_room.specs.declared.Way.TheVariants.{Enter, Leave}
 use Rattle.kcr_room.specs.Stays.{stays_by}
-use Rattle.kcr_room.specs.Adding.{is_open, ends_from, reaches, is_inside, is_inside_of, is_out_of_turn_in, is_out_of_turn_by, new_stay, is_among, closed, turn_refusal, new_row}
+use Rattle.kcr_room.specs.Adding.{is_open, ends_from, reaches, is_inside, is_inside_of, is_out_of_turn_in, is_out_of_turn_by, new_stay, is_among, closed}
+use Rattle.kcr_room.specs.Adding.{turn_refusal, new_row}
 use Rattle.kcr_room.specs.Laws.{in_turn_onto, IsSheet}
 use Rattle.kcr_room.proofs.Agreement.{same-is, same-turned}
 use Rattle.kcr_room.proofs.Keeping.{in_turn-append}
 use Rattle.kcr_room.proofs.Sheets.{tells-sheet, same-turns, stays-append, added, added-onto}
 use Rattle.kcr_history.specs.Views.{later_stay, last_of, last_stay}
-use Rattle.kcr_machine.proofs.Members.{IsIn, any-in, filter-in, in-any, in-append, in-behind, in-filter, in-front, in-map, in-order, map-in, none-in, same-answers}
+use Rattle.kcr_machine.proofs.Members.{IsIn, any-in, filter-in, in-any, in-append, in-behind, in-filter, in-front, in-map, in-order, map-in, none-in}
+use Rattle.kcr_machine.proofs.Members.{same-answers}
 
 -- THE LAST STAY OF A LIST
 

@@ -1,6 +1,7 @@
 -- Signatures and exceptions: what the rows of a view say of them is what the history says, and their changes lead on.
 use Rattle.kcr_history.specs.declared.rows.StepRow.{StepRow}
-use Rattle.std.proofs.Common.{◌≡◌, ℕ, zero, suc, ◌<◌, Bool, true, false, nat_lt, List, [], ◌∷◌, ◌++◌, map, length, get_or, Option, Some, None, is_none, refl, sym, ap, ◌∙◌, subst, arith, inl, inr, append_assoc}
+use Rattle.std.proofs.Common.{◌≡◌, ℕ, zero, suc, ◌<◌, Bool, true, false, nat_lt, List, [], ◌∷◌, ◌++◌, map, length, get_or, Option, Some, None, is_none, refl}
+use Rattle.std.proofs.Common.{sym, ap, ◌∙◌, subst, arith, inl, inr, append_assoc}
 use Rattle.std.specs.Prelude.{is_some, slice_get}
 use Rattle.std.specs.List.Sorted.{IsPermutation}
 use Rattle.std.proofs.lemmas.Bool.{ltb-true}
@@ -36,7 +37,8 @@ use Rattle.kcr_history.specs.Views.{IsViewOf, is_step_of}
 use Rattle.kcr_history.specs.Asked.{asks_by}
 use Rattle.kcr_history.specs.Machine.{Sitting, answer_to, IsRegister, sitting}
 use Rattle.kcr_scene.specs.Scene.{ceremony_by, facility_by}
-use Rattle.kcr_scene.specs.Signing.{step_by, seats_by, next_by, on_seat, fits_of, room_by, IsSeatedBy, IsUnseatedBy, staff, mark_change, seat_changes, exception_change}
+use Rattle.kcr_scene.specs.Signing.{step_by, seats_by, next_by, on_seat, fits_of, room_by, IsSeatedBy, IsUnseatedBy, staff, mark_change}
+use Rattle.kcr_scene.specs.Signing.{seat_changes, exception_change}
 use Rattle.kcr_machine.specs.RowDecision.{new_key_row}
 use Rattle.kcr_laws.proofs.Alone.{rooms}
 use Rattle.kcr_laws.proofs.Done.{next_signed}

@@ -1,11 +1,13 @@
 -- Steps and exceptions: how many there are by the rows as by the history, each step once and in order, and the rows of one that is done.
-use Rattle.std.proofs.Common.{◌≡◌, ℕ, zero, suc, ◌+◌, ◌-◌, ◌≤◌, Bool, true, false, cond, ◌||◌, ◌&&◌, nat_le, List, [], ◌∷◌, map, filter, length, Option, Some, None, is_none, Result, Ok, Err, nat_lt, refl, sym, ap, ◌∙◌, arith, subst, ◌<◌, ◌==◌, ◌++◌, append-nil}
+use Rattle.std.proofs.Common.{◌≡◌, ℕ, zero, suc, ◌+◌, ◌-◌, ◌≤◌, Bool, true, false, cond, ◌||◌, ◌&&◌, nat_le, List, [], ◌∷◌, map, filter, length, Option, Some}
+use Rattle.std.proofs.Common.{None, is_none, Result, Ok, Err, nat_lt, refl, sym, ap, ◌∙◌, arith, subst, ◌<◌, ◌==◌, ◌++◌, append-nil}
 use Rattle.std.specs.Prelude.{is_some, slice_get, unwrap_or, option_map}
 use Rattle.std.specs.List.{list_any}
 use Rattle.std.specs.List.Sorted.{IsPermutation}
 use Rattle.std.specs.Result.{result_unwrap_or}
 use Rattle.std.proofs.lemmas.Bool.{false≢true, le-ltb, eqb-true, eq-eqb, ne_eqb, and_parts, and_right, or_from}
-use Rattle.std.proofs.lemmas.List.Sorted.{length_permutation, list_any-IsPermutation, IsPermutation-refl, IsPermutation-trans, IsPermutation-sym, IsPermutation-middle}
+use Rattle.std.proofs.lemmas.List.Sorted.{length_permutation, list_any-IsPermutation, IsPermutation-refl, IsPermutation-trans, IsPermutation-sym}
+use Rattle.std.proofs.lemmas.List.Sorted.{IsPermutation-middle}
 use Rattle.std.proofs.lemmas.Option.{slice_get_past}
 use Rattle.kcr_base.specs.Rows.{or_else, put}
 use Rattle.kcr_base.specs.declared.refusal.Refusal.TheVariants.{Taken, Unknown, Order}
@@ -22,10 +24,12 @@ use Rattle.kcr_history.specs.declared.rows.StepRow.{StepRow}
 use Rattle.kcr_history.specs.declared.rows.StepState.{StepState}
 use Rattle.kcr_history.specs.declared.rows.StepState.TheVariants.{Undone, Signed, Passed}
 use Rattle.kcr_history.specs.History.{History, stacked_on}
-use Rattle.kcr_history.specs.Ceremonies.{Planned, planned_as, plan_of, is_ceremony, steps_of, step_at, does_step, steps_done, next_step, is_exception, exceptions_of}
+use Rattle.kcr_history.specs.Ceremonies.{Planned, planned_as, plan_of, is_ceremony, steps_of, step_at, does_step, steps_done, next_step, is_exception}
+use Rattle.kcr_history.specs.Ceremonies.{exceptions_of}
 use Rattle.kcr_history.specs.Conditions.{conditions, fault}
 use Rattle.kcr_history.specs.Machine.{answer_to, IsRegister}
-use Rattle.kcr_history.specs.Tables.{numbered, step_keys, step_keys_after, step_done, fate_of, step_row, steps, exceptions, Tables, seatings, seat_rows, seating_rows, ceremony_of_step}
+use Rattle.kcr_history.specs.Tables.{numbered, step_keys, step_keys_after, step_done, fate_of, step_row, steps, exceptions, Tables, seatings, seat_rows}
+use Rattle.kcr_history.specs.Tables.{seating_rows, ceremony_of_step}
 use Rattle.kcr_history.specs.Views.{is_step_of, is_exception_of}
 use Rattle.kcr_history.proofs.Steps.{took}
 use Rattle.kcr_scene.specs.Signing.{is_done, done_by, stated_by, step_by}
