@@ -122,7 +122,7 @@ module _ (A : History) (h : IsRegister A) (key : List ℕ) (answer : Answer) (c 
   known = met (is_ceremony A c) (Unknown (Things.Ceremony c)) (none_holds (conditions A (Open c at)) f).0
 
   fresh : is_some (opened A c) ≡ false
-  fresh = unmet (is_some (opened A c)) Refusals.State (none_holds (conditions A (Open c at)) f).1.1.0
+  fresh = unmet (is_some (opened A c)) Refusals.State (assumption (none_holds (conditions A (Open c at)) f))
 
   abbrev open_row : CeremonyRow
   open_row = record (ceremony_row A c) { state = States.Open; opened = Some at }

@@ -215,7 +215,7 @@ items-seal A h key c serial codes at answer n =
     (λ c k i j e. ap (within serial) (sym (text_same k c e))) (item_row A) (λ c k. refl)
     ∙ map-same (λ k. cond (list_any (same_text k) codes) (within serial k) (item_row A k)) (item_row (then_act A key (Seal c serial codes at) answer))
     (all_said added_item A)
-    (sealed_row A key c serial codes at answer (unmet (is_some (spot A serial)) Taken met.1.1.0))
+    (sealed_row A key c serial codes at answer (unmet (is_some (spot A serial)) Taken (assumption met)))
 
 -- ITEMS OF A BAG THAT IS CUT
 
@@ -266,7 +266,7 @@ items-cut A key c t at answer n rows p =
     (λ c k i j e. ap (itemed_loose here) (sym (text_same k c e))) (item_row A) (λ c k. refl)
     ∙ map-same-in (λ k. cond (list_any (same_text k) codes) (itemed_loose here k) (item_row A k)) (item_row (then_act A key (Cut c t at) answer)) all
     (λ k i. ap (λ b. cond b (itemed_loose here k) (item_row A k)) (lies-told A t rows p k i)
-    ∙ cut_row A key c t at answer (on_table here (spot A t) (none_holds (conditions A (Cut c t at)) n).1.1.1.1.1.0) k)
+    ∙ cut_row A key c t at answer (on_table here (spot A t) (assumption (none_holds (conditions A (Cut c t at)) n))) k)
 
 -- THE CHANGES
 
@@ -280,7 +280,7 @@ take-leads A h c t at key view answer v k f =
       bags_moved A h t (Table here) n.1.0,
       marks-put A (entry_as key act answer) c at f refl refl,
       new_key A (command_of key act) answer k,
-      items_stay A t (Table here) (stored here (spot A t) n.1.1.1.1.1.1.0) refl (all_said added_item A),
+      items_stay A t (Table here) (stored here (spot A t) (assumption n)) refl (all_said added_item A),
     )
     refl
 
@@ -294,7 +294,7 @@ put-leads A h c t to at key view answer v k f =
       bags_moved A h t (spot_of_store here to) n.1.0,
       marks-put A (entry_as key act answer) c at f refl refl,
       new_key A (command_of key act) answer k,
-      items_stay A t (spot_of_store here to) (on_table here (spot A t) n.1.1.1.1.1.1.1.0) (stored_there here to) (all_said added_item A),
+      items_stay A t (spot_of_store here to) (on_table here (spot A t) (assumption n)) (stored_there here to) (all_said added_item A),
     )
     refl
 
@@ -317,7 +317,7 @@ seal-leads A h c t codes at key view answer v k f =
     (facility-shown A c view.ceremonies.items v.ceremonies)
     ∙ items-changed (packed t codes) tell (with_bag (record { serial = t; spot = Table here }) c at (tables A))
     ∙ rw (
-      bags_sealed A h t (Table here) (unmet (is_some (spot A t)) Taken n.1.1.0),
+      bags_sealed A h t (Table here) (unmet (is_some (spot A t)) Taken (assumption n)),
       marks-put A (entry_as key act answer) c at f refl refl,
       items-seal A h key c t codes at answer f,
       new_key A (command_of key act) answer k,

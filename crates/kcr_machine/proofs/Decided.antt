@@ -147,7 +147,7 @@ leads A h key (Cut c serial at) view seats answer v k f g e = same-tables _ _ (c
 leads A h key (AddItem c item at) view seats answer v k f g e = same-tables _ _ (add_item-leads A h c item at key view answer v k f)
 leads A h key (Sheet c way all at) view seats answer v k f g e =
     let n = none_holds (conditions A (Sheet c way all at)) f in
-    sheet-leads A (sheet-made A h) key c way all at (named_once all n.1.1.1.1.0) view answer v k n.1.1.1.1.1.0
+    sheet-leads A (sheet-made A h) key c way all at (named_once all (assumption n)) view answer v k (assumption n)
 leads A h key (TurnSafe c safe state by at) view seats answer v k f g e = same-tables _ _ (turn-leads A h c safe state by at key view answer v k f)
 leads A h key (Sign c k at) view None answer v q f g e = absurd g
 leads A h key (Sign c k at) view (Some seats) answer v q f g e = same-tables _ _ (sign-leads A h c k at seats key view answer v q f e)

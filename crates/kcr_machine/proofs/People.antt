@@ -244,7 +244,7 @@ withdraw-leads A h key who role day view answer v k =
 pub appoint-leads : (A : History) → IsRegister A → (place : Place) (who : List ℕ) (day : ℕ) → LeadsOn A (Appoint place who day)
 appoint-leads A h place who day key view answer v k f =
     let n = none_holds (conditions A (Appoint place who day)) f in
-    let free = (or_parts (place_held_from_by (appointments A) place day) (person_holds_from_by (appointments A) who day) (unmet _ Held n.1.1.0)).0 in
+    let free = (or_parts (place_held_from_by (appointments A) place day) (person_holds_from_by (appointments A) who day) (unmet _ Held (assumption n))).0 in
     let absent = no_begin place day (appointments A) (orderly A h).1 free in
     rw (put-new same_appointment (new_appointment place who day) (appointments A) absent, new_key A (command_of key (Appoint place who day)) answer k)
 
@@ -252,7 +252,7 @@ pub replace-leads : (A : History) → IsRegister A → (place : Place) (who : Li
 replace-leads A h place who day key view answer v k f =
     let shown = open-order place (appointments A) view.appointments.items (orderly A h).0 v.appointments in
     let n = none_holds (conditions A (Replace place who day)) f in
-    let st = standing (open_row_by (appointments A) place) day (unmet _ Range n.1.0) (unmet _ Vacant n.1.1.1.1.0) in
+    let st = standing (open_row_by (appointments A) place) day (unmet _ Range (assumption n)) (unmet _ Vacant (assumption n)) in
     let o = orderly A h in
     let p : put same_appointment (end_of (open_row_by view.appointments.items place) day (new_appointment place who day)) (appointments A) ≡ map
     (ended place day) (appointments A)

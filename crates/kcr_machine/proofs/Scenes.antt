@@ -125,14 +125,14 @@ IsReady A (Some new) None = (is_open A new.0 ≡ true) × (late A new.0 new.1 �
 IsReady A m o = Unit {0}
 
 pub ready : (A : History) (act : Act) → fault A act ≡ None → IsReady A (marked act) (opened_number act)
-ready A (Sign c k at) f = let n = none_holds (conditions A (Sign c k at)) f in (met (is_open A c) State n.1.1.0, n.1.1.1.0)
-ready A (Except c text pass at) f = let n = none_holds (conditions A (Except c text pass at)) f in (met (is_open A c) State n.1.0, n.1.1.0)
-ready A (AddItem c item at) f = let n = none_holds (conditions A (AddItem c item at)) f in (met (is_open A c) State n.1.1.0, n.1.1.1.0)
-ready A (TurnSafe c safe state by at) f = let n = none_holds (conditions A (TurnSafe c safe state by at)) f in (met (is_open A c) State n.1.1.0, n.1.1.1.0)
-ready A (Seal c serial items at) f = let n = none_holds (conditions A (Seal c serial items at)) f in (met (is_open A c) State n.1.1.1.0, n.1.1.1.1.0)
-ready A (Take c serial at) f = let n = none_holds (conditions A (Take c serial at)) f in (met (is_open A c) State n.1.1.0, n.1.1.1.0)
-ready A (Put c serial to at) f = let n = none_holds (conditions A (Put c serial to at)) f in (met (is_open A c) State n.1.1.1.0, n.1.1.1.1.0)
-ready A (Cut c serial at) f = let n = none_holds (conditions A (Cut c serial at)) f in (met (is_open A c) State n.1.1.0, n.1.1.1.0)
+ready A (Sign c k at) f = let n = none_holds (conditions A (Sign c k at)) f in (met (is_open A c) State (assumption n), assumption n)
+ready A (Except c text pass at) f = let n = none_holds (conditions A (Except c text pass at)) f in (met (is_open A c) State (assumption n), assumption n)
+ready A (AddItem c item at) f = let n = none_holds (conditions A (AddItem c item at)) f in (met (is_open A c) State (assumption n), assumption n)
+ready A (TurnSafe c safe state by at) f = let n = none_holds (conditions A (TurnSafe c safe state by at)) f in (met (is_open A c) State (assumption n), assumption n)
+ready A (Seal c serial items at) f = let n = none_holds (conditions A (Seal c serial items at)) f in (met (is_open A c) State (assumption n), assumption n)
+ready A (Take c serial at) f = let n = none_holds (conditions A (Take c serial at)) f in (met (is_open A c) State (assumption n), assumption n)
+ready A (Put c serial to at) f = let n = none_holds (conditions A (Put c serial to at)) f in (met (is_open A c) State (assumption n), assumption n)
+ready A (Cut c serial at) f = let n = none_holds (conditions A (Cut c serial at)) f in (met (is_open A c) State (assumption n), assumption n)
 ready A act f = tt
 
 pub open-opened : (A : History) (c : ℕ) → is_open A c ≡ true → is_some (opened A c) ≡ true

@@ -268,8 +268,8 @@ made-by A h c way all at a is f s = by_mark (mark A c) refl
 made_after : (A : History) (act : Act) → IsRegister A → fault A act ≡ None → IsSheet (sheet A) → IsSheet (sheet_after act (sheet A))
 made_after A (Sheet c way all at) h f s =
     let n = none_holds (conditions A (Sheet c way all at)) f in
-    made-by A h c way all at (named_once all n.1.1.1.1.0) (met (is_open A c) State n.1.1.0)
-    (no_first (not_later A c at ∷ room_conditions A c way all at) (n.1.1.1.0, n.1.1.1.1.1)) s
+    made-by A h c way all at (named_once all (assumption n)) (met (is_open A c) State (assumption n))
+    (no_first (not_later A c at ∷ room_conditions A c way all at) (assumption n)) s
 made_after A act h f s = s
 
 -- the sheet of a register was made in turn

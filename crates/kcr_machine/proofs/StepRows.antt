@@ -98,7 +98,7 @@ pub pass-there : (A : History) (c : ℕ) (text : List ℕ) (at : ℕ) → fault 
     → is_some (step_at (steps_of A c) (next_step A c)) ≡ true
 pass-there A c text at f =
     there (step_at (steps_of A c) (next_step A c))
-    (unmet (is_none (step_at (steps_of A c) (next_step A c))) (Order (next_step A c)) (none_holds (conditions A (Except c text true at)) f).1.1.1.0)
+    (unmet (is_none (step_at (steps_of A c) (next_step A c))) (Order (next_step A c)) (assumption (none_holds (conditions A (Except c text true at)) f)))
 
 next-there : (A : History) (act : Act) (c : ℕ) → fault A act ≡ None → does_step c act ≡ true → is_some (step_at (steps_of A c) (next_step A c)) ≡ true
 next-there A (Sign d k at) c f e =
