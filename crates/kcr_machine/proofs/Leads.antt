@@ -56,8 +56,8 @@ LeadsOn A act =
 -- the same of an act with those who fill its seats
 abbrev pub SeatsLeadOn : History → Act → Option (List (List ℕ)) → Type 0
 SeatsLeadOn A act people =
-    (key : List ℕ) (view : View) (answer : Answer) → IsViewOf (asks_by key act) (tables A) view → entry_of A key ≡ None → fault A act ≡ None → answer
-    ≡ answer_to A act people
+    (key : List ℕ) (view : View) (answer : Answer) → IsViewOf (asks_by key act) (tables A) view → entry_of A key ≡ None → fault A act ≡ None
+    → answer ≡ answer_to A act people
     → changed_with (all_changes_by view act people) (command_of key act) answer (tables A) ≡ tables (with_command A (command_of key act) answer)
 
 -- the row of a command whose key is new is put in front

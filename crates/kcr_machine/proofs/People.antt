@@ -254,8 +254,8 @@ replace-leads A h place who day key view answer v k f =
     let n = none_holds (conditions A (Replace place who day)) f in
     let st = standing (open_row_by (appointments A) place) day (unmet _ Range (assumption n)) (unmet _ Vacant (assumption n)) in
     let o = orderly A h in
-    let p : put same_appointment (end_of (open_row_by view.appointments.items place) day (new_appointment place who day)) (appointments A) ≡ map
-    (ended place day) (appointments A)
+    let p : put same_appointment (end_of (open_row_by view.appointments.items place) day (new_appointment place who day)) (appointments A)
+    ≡ map (ended place day) (appointments A)
     = rw (shown ∙ st.1) (put-ended place day st.0 (appointments A) o.0 o.1 st.1) in
     let free = closing place day st.0 (appointments A) o.0 st.1 st.2 in
     let fresh = no_begin place day (map (ended place day) (appointments A)) (lasts-ended place day st.0 (appointments A) o.0 o.1 st.1 st.2) free in
@@ -271,7 +271,7 @@ release-leads A h place day key view answer v k f =
     let n = none_holds (conditions A (Release place day)) f in
     let st = standing (open_row_by (appointments A) place) day (unmet _ Range n.0) (unmet _ Vacant n.1.0) in
     let o = orderly A h in
-    let p : put same_appointment (end_of (open_row_by view.appointments.items place) day (nobody place day)) (appointments A) ≡ map (ended place day)
-    (appointments A)
+    let p : put same_appointment (end_of (open_row_by view.appointments.items place) day (nobody place day)) (appointments A)
+    ≡ map (ended place day) (appointments A)
     = rw (shown ∙ st.1) (put-ended place day st.0 (appointments A) o.0 o.1 st.1) in
     rw (p, new_key A (command_of key (Release place day)) answer k)

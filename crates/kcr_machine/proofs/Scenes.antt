@@ -128,7 +128,8 @@ pub ready : (A : History) (act : Act) → fault A act ≡ None → IsReady A (ma
 ready A (Sign c k at) f = let n = none_holds (conditions A (Sign c k at)) f in (met (is_open A c) State (assumption n), assumption n)
 ready A (Except c text pass at) f = let n = none_holds (conditions A (Except c text pass at)) f in (met (is_open A c) State (assumption n), assumption n)
 ready A (AddItem c item at) f = let n = none_holds (conditions A (AddItem c item at)) f in (met (is_open A c) State (assumption n), assumption n)
-ready A (TurnSafe c safe state by at) f = let n = none_holds (conditions A (TurnSafe c safe state by at)) f in (met (is_open A c) State (assumption n), assumption n)
+ready A (TurnSafe c safe state by at) f =
+    let n = none_holds (conditions A (TurnSafe c safe state by at)) f in (met (is_open A c) State (assumption n), assumption n)
 ready A (Seal c serial items at) f = let n = none_holds (conditions A (Seal c serial items at)) f in (met (is_open A c) State (assumption n), assumption n)
 ready A (Take c serial at) f = let n = none_holds (conditions A (Take c serial at)) f in (met (is_open A c) State (assumption n), assumption n)
 ready A (Put c serial to at) f = let n = none_holds (conditions A (Put c serial to at)) f in (met (is_open A c) State (assumption n), assumption n)
