@@ -165,7 +165,8 @@ turn-fault A h c safe state by at key view v =
 
     by_safe : (s : SafeNumber)
         → first_of (no_ceremony A c ∷ no_person A by ∷ not_ready (scene_of A c at false)
-        ∷ when (same_truth (is_safe_open A (facility_of A c) s) state) Refusals.Safe ∷ when (not (Custody.may_turn s keeper)) (Absent (Absentees.Person by)) ∷ [])
+        ∷ when (same_truth (is_safe_open A (facility_of A c) s) state) Refusals.Safe
+        ∷ when (not (Custody.may_turn s keeper)) (Absent (Absentees.Person by)) ∷ [])
         ≡ first_of (no_ceremony A c ∷ no_person A by ∷ not_ready (scene_of A c at false) ∷ wrong s)
     by_safe One = refl
     by_safe Two = refl
