@@ -3,14 +3,10 @@ use Rattle.kcr_laws.proofs.Trials.{answered}
 use Rattle.kcr_laws.proofs.WorkedRows.{rows_on_literals}
 use Rattle.kcr_laws.proofs.worked.bag_into_a_box.Goals as goal
 
-pub returns-clause-sealed : goal.returns-clause-sealed
+pub returns : goal.returns
 unfolding rows_on_literals
-returns-clause-sealed c = answered _ _ [] _ refl
-
-pub returns-clause-boxed : goal.returns-clause-boxed
-unfolding rows_on_literals
-returns-clause-boxed c = answered _ _ [] _ refl
-
-pub returns-clause-unreached : goal.returns-clause-unreached
-unfolding rows_on_literals
-returns-clause-unreached c = answered _ _ [] _ refl
+returns c = record {
+  sealed = answered _ _ [] _ refl;
+  boxed = answered _ _ [] _ refl;
+  unreached = answered _ _ [] _ refl;
+}

@@ -4,10 +4,9 @@ use Rattle.kcr_laws.proofs.Trials.{Seated, answered}
 use Rattle.kcr_laws.proofs.WorkedRows.{rows_on_literals}
 use Rattle.kcr_laws.proofs.worked.first_seatings.Goals as goal
 
-pub returns-clause-one_seat : goal.returns-clause-one_seat
+pub returns : goal.returns
 unfolding rows_on_literals
-returns-clause-one_seat c = answered _ _ (Seated (EA ∷ []) ∷ []) _ refl
-
-pub returns-clause-two_seats : goal.returns-clause-two_seats
-unfolding rows_on_literals
-returns-clause-two_seats c = answered _ _ (Seated (EB ∷ EA ∷ []) ∷ []) _ refl
+returns c = record {
+  one_seat = answered _ _ (Seated (EA ∷ []) ∷ []) _ refl;
+  two_seats = answered _ _ (Seated (EB ∷ EA ∷ []) ∷ []) _ refl;
+}

@@ -4,18 +4,11 @@ use Rattle.kcr_laws.proofs.Trials.{Lacking, answered}
 use Rattle.kcr_laws.proofs.WorkedRows.{rows_on_literals}
 use Rattle.kcr_laws.proofs.worked.least_shortages.Goals as goal
 
-pub returns-clause-first_seat : goal.returns-clause-first_seat
+pub returns : goal.returns
 unfolding rows_on_literals
-returns-clause-first_seat c = answered _ _ (Lacking (0 ∷ []) ∷ []) _ refl
-
-pub returns-clause-second_seat : goal.returns-clause-second_seat
-unfolding rows_on_literals
-returns-clause-second_seat c = answered _ _ (Lacking (1 ∷ []) ∷ []) _ refl
-
-pub returns-clause-not_both : goal.returns-clause-not_both
-unfolding rows_on_literals
-returns-clause-not_both c = λ h. absurd (true≢false (h.least (0 ∷ []) refl))
-
-pub returns-clause-not_the_officer : goal.returns-clause-not_the_officer
-unfolding rows_on_literals
-returns-clause-not_the_officer c = λ h. absurd (true≢false (h.least (0 ∷ []) refl))
+returns c = record {
+  first_seat = answered _ _ (Lacking (0 ∷ []) ∷ []) _ refl;
+  second_seat = answered _ _ (Lacking (1 ∷ []) ∷ []) _ refl;
+  not_both = λ h. absurd (true≢false (h.least (0 ∷ []) refl));
+  not_the_officer = λ h. absurd (true≢false (h.least (0 ∷ []) refl));
+}

@@ -4,10 +4,9 @@ use Rattle.kcr_laws.proofs.Trials.{Seated, answered}
 use Rattle.kcr_laws.proofs.WorkedRows.{rows_on_literals}
 use Rattle.kcr_laws.proofs.worked.three_steps.Goals as goal
 
-pub returns-clause-done : goal.returns-clause-done
+pub returns : goal.returns
 unfolding rows_on_literals
-returns-clause-done c = answered _ _ (Seated (BB ∷ AA ∷ []) ∷ Seated (BB ∷ AA ∷ []) ∷ Seated (BB ∷ AA ∷ []) ∷ []) _ refl
-
-pub returns-clause-behind_the_last : goal.returns-clause-behind_the_last
-unfolding rows_on_literals
-returns-clause-behind_the_last c = answered _ _ [] _ refl
+returns c = record {
+  done = answered _ _ (Seated (BB ∷ AA ∷ []) ∷ Seated (BB ∷ AA ∷ []) ∷ Seated (BB ∷ AA ∷ []) ∷ []) _ refl;
+  behind_the_last = answered _ _ [] _ refl;
+}
