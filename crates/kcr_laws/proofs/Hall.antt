@@ -1,8 +1,9 @@
 -- Of some seats and people either each seat gets a person of its own who fits it, or fewer people fit some of the seats than
 -- those are: the theorem of Philip Hall, by one person after the other.
-use Rattle.std.proofs.Common.{◌≡◌, ℕ, ◌+◌, ◌<◌, ◌≤◌, Bool, true, false, cond, not, ◌||◌, ◌&&◌, ◌==◌, nat_lt, List, [], ◌∷◌, ◌⊎◌, inl, inr, refl, sym, ap, ◌∙◌, subst, arith}
+use Rattle.std.proofs.Common.{◌≡◌, ℕ, ◌+◌, ◌<◌, ◌≤◌, Bool, true, false, cond, not, ◌||◌, ◌&&◌, ◌==◌, nat_lt, List, [], ◌∷◌, ◌⊎◌, inl, inr, refl, ap, arith}
 use Rattle.std.specs.List.{list_any}
-use Rattle.std.proofs.lemmas.Bool.{false≢true, both_ways, and_parts, and_from, and_cases, or_cases, or_left, or_right, not-true, not_from_false, cases_Bool, eqb-true, eq-eqb, ltb-true, ltb-false}
+use Rattle.std.proofs.lemmas.Bool.{false≢true, both_ways, and_parts, or_cases, or_left, or_right, not-true, cases_Bool, false_from_ne_true, eq-eqb, ltb-true, ltb-false}
+use Rattle.std.proofs.lemmas.Bool.Decides.{nat_tests}
 use Rattle.kcr_base.specs.Same.{same_text}
 use Rattle.kcr_room.proofs.Agreement.{same-itself}
 
@@ -37,18 +38,12 @@ some_at test (i ∷ is) h = elim (or_cases (test i) (list_any test is) h) [
   | inr e ↦ let w = some_at test is e in (w.0, or_right (i == w.0) (is_one w.0 is) w.1, w.2)
 ]
 
-some_from : (test : ℕ → Bool) (is : List ℕ) (i : ℕ) → is_one i is ≡ true → test i ≡ true → list_any test is ≡ true
-some_from test [] i h e = absurd (false≢true h)
-some_from test (j ∷ is) i h e = elim (or_cases (j == i) (is_one i is) h) [
-  | inl q ↦ or_left (test j) (list_any test is) (ap test (eqb-true j i q) ∙ e)
-  | inr q ↦ or_right (test j) (list_any test is) (some_from test is i q e)
-]
+pub some_from : (test : ℕ → Bool) (is : List ℕ) (i : ℕ) → is_one i is ≡ true → test i ≡ true → list_any test is ≡ true
+some_from test [] i h e = cc
+some_from test (j ∷ is) i h e = grind (arith, nat_tests, some_from test is i)
 
 bit_parts : (a b : Bool) → bit (a || b) + bit (a && b) ≡ bit a + bit b
-bit_parts true true = refl
-bit_parts true false = refl
-bit_parts false true = refl
-bit_parts false false = refl
+bit_parts a b = grind arith
 
 -- as many are in either and in both as in the one and in the other
 count_parts : (is : List ℕ) (s t : ℕ → Bool) → count is (either s t) + count is (both s t) ≡ count is s + count is t
@@ -56,12 +51,8 @@ count_parts [] s t = refl
 count_parts (i ∷ is) s t = omega (arith, bit_parts (s i) (t i), count_parts is s t)
 
 some_counts : (is : List ℕ) (s : ℕ → Bool) → list_any s is ≡ true → 0 < count is s
-some_counts [] s h = absurd (false≢true h)
-some_counts (i ∷ is) s h = by_test (s i) h (some_counts is s)
-  where
-    by_test : (b : Bool) → (b || list_any s is) ≡ true → (list_any s is ≡ true → 0 < count is s) → 0 < bit b + count is s
-    by_test true g ih = omega arith
-    by_test false g ih = omega (arith, ih g)
+some_counts [] s h = cc
+some_counts (i ∷ is) s h = grind (arith, some_counts is s)
 
 -- each of the people stands once
 abbrev pub stand_once : List (List ℕ) → Bool
@@ -94,39 +85,19 @@ module _ (all : List ℕ) (fits : ℕ → List ℕ → Bool) where
   OneOfTwo people need = ((w : ℕ → List ℕ) × IsAssigned people need w) ⊎ ((s : ℕ → Bool) × IsScarce people need s)
 
   bits_most : (e b s t : Bool) → (e ≡ true → (s || t) ≡ true) → (b ≡ true → s ≡ true) → (b ≡ true → t ≡ true) → bit e + bit b ≤ bit s + bit t
-  bits_most false false s t f g h = omega arith
-  bits_most true false true t f g h = omega arith
-  bits_most true false false true f g h = omega arith
-  bits_most true false false false f g h = absurd (false≢true (f refl))
-  bits_most e true false t f g h = absurd (false≢true (g refl))
-  bits_most e true true false f g h = absurd (false≢true (h refl))
-  bits_most true true true true f g h = omega arith
-  bits_most false true true true f g h = omega arith
+  bits_most e b s t f g h = grind arith
 
   -- who fits a seat of either set fits one of the one or of the other; who fits one of both fits one of each
   takes_most : (s t : ℕ → Bool) (who : List ℕ) → bit (takes (either s t) who) + bit (takes (both s t) who) ≤ bit (takes s who) + bit (takes t who)
-  takes_most s t who = bits_most (takes (either s t) who) (takes (both s t) who) (takes s who) (takes t who) of_either left right
+  takes_most s t who = bits_most (takes (either s t) who) (takes (both s t) who) (takes s who) (takes t who) (split all) (part s (λ i h. (and_parts (s i) (t i) h).0) all) (part t (λ i h. (and_parts (s i) (t i) h).1) all)
     where
-      of_either : takes (either s t) who ≡ true → (takes s who || takes t who) ≡ true
-      of_either h =
-          let w = some_at (λ i. (s i || t i) && fits i who) all h in
-          let p = and_parts (s w.0 || t w.0) (fits w.0 who) w.2 in
-          elim (or_cases (s w.0) (t w.0) p.0) [
-            | inl e ↦ or_left (takes s who) (takes t who) (some_from (λ i. s i && fits i who) all w.0 w.1 (and_from (s w.0) (fits w.0 who) e p.1))
-            | inr e ↦ or_right (takes s who) (takes t who) (some_from (λ i. t i && fits i who) all w.0 w.1 (and_from (t w.0) (fits w.0 who) e p.1))
-          ]
+      split : (is : List ℕ) → list_any (λ i. (s i || t i) && fits i who) is ≡ true → (list_any (λ i. s i && fits i who) is || list_any (λ i. t i && fits i who) is) ≡ true
+      split [] h = h
+      split (i ∷ is) h = grind (arith, split is)
 
-      left : takes (both s t) who ≡ true → takes s who ≡ true
-      left h =
-          let w = some_at (λ i. (s i && t i) && fits i who) all h in
-          let p = and_parts (s w.0 && t w.0) (fits w.0 who) w.2 in
-          some_from (λ i. s i && fits i who) all w.0 w.1 (and_from (s w.0) (fits w.0 who) (and_parts (s w.0) (t w.0) p.0).0 p.1)
-
-      right : takes (both s t) who ≡ true → takes t who ≡ true
-      right h =
-          let w = some_at (λ i. (s i && t i) && fits i who) all h in
-          let p = and_parts (s w.0 && t w.0) (fits w.0 who) w.2 in
-          some_from (λ i. t i && fits i who) all w.0 w.1 (and_from (t w.0) (fits w.0 who) (and_parts (s w.0) (t w.0) p.0).1 p.1)
+      part : (u : ℕ → Bool) → ((i : ℕ) → (s i && t i) ≡ true → u i ≡ true) → (is : List ℕ) → list_any (λ i. (s i && t i) && fits i who) is ≡ true → list_any (λ i. u i && fits i who) is ≡ true
+      part u f [] h = h
+      part u f (i ∷ is) h = grind (arith, part u f is, f i)
 
   takers_most : (s t : ℕ → Bool) (people : List (List ℕ)) → takers (either s t) people + takers (both s t) people ≤ takers s people + takers t people
   takers_most s t [] = omega arith
@@ -141,8 +112,7 @@ module _ (all : List ℕ) (fits : ℕ → List ℕ → Bool) where
   ]
 
   bit_one : (b : Bool) → bit b ≤ 1
-  bit_one true = omega arith
-  bit_one false = omega arith
+  bit_one b = grind arith
 
   -- ONE PERSON MORE
 
@@ -163,35 +133,18 @@ module _ (all : List ℕ) (fits : ℕ → List ℕ → Bool) where
 
   module _ (p : List ℕ) (people : List (List ℕ)) (need : ℕ → Bool) (k : ℕ) (w : ℕ → List ℕ)
       (alone : list_any (same_text p) people ≡ false) (f : fits k p ≡ true) (a : IsAssigned people (without k need) w) where
-    kept : (i : ℕ) → (i == k) ≡ false → need i ≡ true → without k need i ≡ true
-    kept i e n = and_from (need i) (not (i == k)) n (not_from_false (i == k) e)
-
     given_fit : (i : ℕ) → is_one i all ≡ true → need i ≡ true → fits i (given k p w i) ≡ true
-    given_fit i o n = by_seat (i == k) refl
-      where
-        by_seat : (b : Bool) → (i == k) ≡ b → fits i (cond b p (w i)) ≡ true
-        by_seat true e = ap (λ j. fits j p) (eqb-true i k e) ∙ f
-        by_seat false e = a.fit i o (kept i e n)
+    given_fit i o n = grind (arith, nat_tests, a.fit i o)
 
     given_there : (i : ℕ) → is_one i all ≡ true → need i ≡ true → list_any (same_text (given k p w i)) (p ∷ people) ≡ true
-    given_there i o n = by_seat (i == k) refl
-      where
-        by_seat : (b : Bool) → (i == k) ≡ b → list_any (same_text (cond b p (w i))) (p ∷ people) ≡ true
-        by_seat true e = or_left (same_text p p) (list_any (same_text p) people) (same-itself p)
-        by_seat false e = or_right (same_text (w i) p) (list_any (same_text (w i)) people) (a.there i o (kept i e n))
+    given_there i o n = grind (arith, nat_tests, a.there i o, same-itself p)
 
     -- the person has no other seat
     no_other : (j : ℕ) → is_one j all ≡ true → need j ≡ true → (j == k) ≡ false → p ≡ w j → ⊥
-    no_other j o n e q = both_ways (list_any (same_text p) people) alone (subst (λ x. list_any (same_text x) people ≡ true) (sym q) (a.there j o (kept j e n)))
+    no_other j o n e q = grind (arith, a.there j o)
 
     given_apart : (i j : ℕ) → is_one i all ≡ true → is_one j all ≡ true → need i ≡ true → need j ≡ true → given k p w i ≡ given k p w j → i ≡ j
-    given_apart i j o u n m = by_seats (i == k) refl (j == k) refl
-      where
-        by_seats : (b : Bool) → (i == k) ≡ b → (d : Bool) → (j == k) ≡ d → cond b p (w i) ≡ cond d p (w j) → i ≡ j
-        by_seats true e true g q = eqb-true i k e ∙ sym (eqb-true j k g)
-        by_seats true e false g q = absurd (no_other j u m g q)
-        by_seats false e true g q = absurd (no_other i o n e (sym q))
-        by_seats false e false g q = a.apart i j o u (kept i e n) (kept j g m) q
+    given_apart i j o u n m q = grind (arith, nat_tests, a.apart i j o u, no_other i o n, no_other j u m)
 
     give : IsAssigned (p ∷ people) need (given k p w)
     give = record { fit = given_fit; there = given_there; apart = given_apart }
@@ -201,19 +154,15 @@ module _ (all : List ℕ) (fits : ℕ → List ℕ → Bool) where
       → IsClear people need p seen s → OneOfTwo people (without k need) → OneOfTwo (p ∷ people) need ⊎ ((t : ℕ → Bool) × IsClear people need p (k ∷ seen) t)
   clear_one p people need k seen s alone f c (inl a) = inl (inl (given k p a.0, give p people need k a.0 alone f a.1))
   clear_one p people need k seen s alone f c (inr (t, d)) = elim (two_scarce s t people c.scarce.few d.few) [
-    | inl few ↦ inr (both s t, record { scarce = record { part = λ i h. c.scarce.part i (and_parts (s i) (t i) h).0; few = few }; clear = λ i o h. cleared i o (and_parts (s i) (t i) h) })
-    | inr few ↦ inl (inr (either s t, record { part = λ i h. needed i (or_cases (s i) (t i) h); few = omega (arith, few, bit_one (takes (either s t) p)) }))
+    | inl few ↦ inr (both s t, record { scarce = record { part = λ i h. c.scarce.part i (and_parts (s i) (t i) h).0; few = few }; clear = cleared })
+    | inr few ↦ inl (inr (either s t, record { part = needed; few = omega (arith, few, bit_one (takes (either s t) p)) }))
   ]
     where
-      needed : (i : ℕ) → (s i ≡ true) ⊎ (t i ≡ true) → need i ≡ true
-      needed i (inl e) = c.scarce.part i e
-      needed i (inr e) = (and_parts (need i) (not (i == k)) (d.part i e)).0
+      needed : (i : ℕ) → either s t i ≡ true → need i ≡ true
+      needed i h = grind (arith, c.scarce.part i, d.part i)
 
-      cleared : (i : ℕ) → is_one i (k ∷ seen) ≡ true → (s i ≡ true) × (t i ≡ true) → fits i p ≡ false
-      cleared i o h = elim (or_cases (k == i) (is_one i seen) o) [
-        | inl e ↦ absurd (both_ways (i == k) (not-true (i == k) (and_parts (need i) (not (i == k)) (d.part i h.1)).1) (eq-eqb i k (sym (eqb-true k i e))))
-        | inr e ↦ c.clear i e h.0
-      ]
+      cleared : (i : ℕ) → is_one i (k ∷ seen) ≡ true → both s t i ≡ true → fits i p ≡ false
+      cleared i o h = grind (arith, nat_tests, c.clear i, d.part i)
 
   -- so for one seat after the other
   clear_all : (p : List ℕ) (people : List (List ℕ)) (need : ℕ → Bool) (seen : List ℕ) → list_any (same_text p) people ≡ false → ((less : ℕ → Bool) → OneOfTwo people less)
@@ -225,33 +174,22 @@ module _ (all : List ℕ) (fits : ℕ → List ℕ → Bool) where
       by_others (inr d) = inr (d.0, record { scarce = d.1; clear = λ i o h. absurd (false≢true o) })
   clear_all p people need (k ∷ seen) alone hall = by_rest (clear_all p people need seen alone hall)
     where
-      passed : (s : ℕ → Bool) → IsClear people need p seen s → (s k && fits k p) ≡ false → IsClear people need p (k ∷ seen) s
-      passed s c e = record { scarce = c.scarce; clear = λ i o h. by_seat i h (or_cases (k == i) (is_one i seen) o) }
-        where
-          by_seat : (i : ℕ) → s i ≡ true → ((k == i) ≡ true) ⊎ (is_one i seen ≡ true) → fits i p ≡ false
-          by_seat i h (inr o) = c.clear i o h
-          by_seat i h (inl o) = elim (and_cases (s k) (fits k p) e) [
-            | inl g ↦ absurd (both_ways (s k) g (ap s (eqb-true k i o) ∙ h))
-            | inr g ↦ ap (λ j. fits j p) (sym (eqb-true k i o)) ∙ g
-          ]
+      kept : (s : ℕ → Bool) → IsClear people need p seen s → (s k && fits k p) ≡ false → (i : ℕ) → is_one i (k ∷ seen) ≡ true → s i ≡ true → fits i p ≡ false
+      kept s c e i o h = grind (arith, nat_tests, c.clear i)
 
       by_rest : OneOfTwo (p ∷ people) need ⊎ ((s : ℕ → Bool) × IsClear people need p seen s) → OneOfTwo (p ∷ people) need ⊎ ((s : ℕ → Bool) × IsClear people need p (k ∷ seen) s)
       by_rest (inl done) = inl done
       by_rest (inr (s, c)) = elim (cases_Bool (s k && fits k p)) [
         | inl e ↦ clear_one p people need k seen s alone (and_parts (s k) (fits k p) e).1 c (hall (without k need))
-        | inr e ↦ inr (s, passed s c e)
+        | inr e ↦ inr (s, record { scarce = c.scarce; clear = kept s c e })
       ]
 
   -- a scarce set of the others none of whose seats the person fits is scarce still
   still_scarce : (p : List ℕ) (people : List (List ℕ)) (need s : ℕ → Bool) → IsClear people need p all s → IsScarce (p ∷ people) need s
-  still_scarce p people need s c = record { part = c.scarce.part; few = by_test (takes s p) refl }
+  still_scarce p people need s c = record { part = c.scarce.part; few = omega (arith, c.scarce.few, ap bit none) }
     where
-      by_test : (b : Bool) → takes s p ≡ b → bit b + takers s people < count all s
-      by_test false e = omega (arith, c.scarce.few)
-      by_test true e =
-          let w = some_at (λ i. s i && fits i p) all e in
-          let h = and_parts (s w.0) (fits w.0 p) w.2 in
-          absurd (both_ways (fits w.0 p) (c.clear w.0 w.1 h.0) h.1)
+      none : takes s p ≡ false
+      none = false_from_ne_true (takes s p) (λ e. let w = some_at (λ i. s i && fits i p) all e in grind (arith, c.clear w.0, w.1, w.2))
 
   -- the seats of a set can be filled, or are scarce
   pub hall : (people : List (List ℕ)) → stand_once people ≡ true → (need : ℕ → Bool) → OneOfTwo people need

@@ -1,12 +1,10 @@
 -- Seatings and shortages confirmed by trying every list, and commands played one after the other.
-use Rattle.std.proofs.Common.{◌≡◌, ◌≢◌, ℕ, zero, suc, ◌<◌, Bool, true, false, cond, not, ◌&&◌, ◌||◌, nat_lt, ◌==◌, List, [], ◌∷◌, map, length, Option, Some, None, MatchOption, is_none, inl, inr, refl, sym, ap, ◌∙◌, subst, arith}
+use Rattle.std.proofs.Common.{◌≡◌, ◌≢◌, ℕ, zero, suc, ◌<◌, Bool, true, false, cond, not, ◌&&◌, ◌||◌, nat_lt, ◌==◌, List, [], ◌∷◌, map, length, Option, Some, None, MatchOption, is_none, inl, inr, refl, sym, ap, subst, arith}
 use Rattle.std.specs.Prelude.{if◌then◌else◌, IsTrue, option_and_then}
 use Rattle.std.specs.List.{list_any, list_all}
 use Rattle.std.specs.Cmp.Lexicographic.{pointwise}
-use Rattle.std.proofs.lemmas.Bool.{true≢false, and_parts, and_from, ltb-true, ltb-false}
-use Rattle.std.proofs.lemmas.Bool.Decides.{nat_tests}
+use Rattle.std.proofs.lemmas.Bool.{false≢true, and_parts, not-true, eqb-true, ltb-true, cases_lt}
 use Rattle.kcr_base.specs.Same.{same_text}
-use Rattle.kcr_base.specs.Days.{day_of}
 use Rattle.kcr_base.specs.declared.refusal.Refusal.{Refusal}
 use Rattle.kcr_base.specs.declared.refusal.Refusal.TheVariants.{Short}
 use Rattle.kcr_room.proofs.Agreement.{same-is}
@@ -15,9 +13,8 @@ use Rattle.kcr_script.specs.declared.seat.Seat.{Seat}
 use Rattle.kcr_history.specs.declared.commands.Act.{Act}
 use Rattle.kcr_history.specs.declared.commands.Entry.{Entry}
 use Rattle.kcr_history.specs.History.{History, entry_of}
-use Rattle.kcr_history.specs.Ceremonies.{facility_of}
-use Rattle.kcr_history.specs.Room.{sheet, present, is_in}
-use Rattle.kcr_history.specs.Seating.{fits, eligible, is_seating, comes_first, IsFirst, is_short, is_proper_part, IsLeast}
+use Rattle.kcr_history.specs.Room.{sheet, present}
+use Rattle.kcr_history.specs.Seating.{eligible, is_seating, comes_first, IsFirst, is_short, is_proper_part, IsLeast}
 use Rattle.kcr_history.specs.Conditions.{fault}
 use Rattle.kcr_history.specs.Machine.{Outcome, Accepts, Refuses, Sitting, sitting, answer_to, seats, acts, repeats, machine}
 use Rattle.kcr_laws.specs.Examples.{outcome_text, new_command, with_act, AreSteps, AreAnswered}
@@ -36,15 +33,8 @@ every_shorter test xs (suc n) = every test xs n && every_shorter test xs n
 
 -- a test that every member passes, one of them passes
 pub one_of : {X : Type 0} (same : X → X → Bool) → ((a b : X) → same a b ≡ true → a ≡ b) → (y : X) (good : X → Bool) (xs : List X) → list_any (same y) xs ≡ true → list_all good xs ≡ true → good y ≡ true
-one_of same sound y good [] a g = absurd (true≢false (sym a))
-one_of same sound y good (x ∷ xs) a g = by_test (same y x) refl a (one_of same sound y good xs)
-  where
-    parts : (good x ≡ true) × (list_all good xs ≡ true)
-    parts = and_parts (good x) (list_all good xs) g
-
-    by_test : (b : Bool) → same y x ≡ b → (b || list_any (same y) xs) ≡ true → (list_any (same y) xs ≡ true → list_all good xs ≡ true → good y ≡ true) → good y ≡ true
-    by_test true e h ih = ap good (sound y x e) ∙ parts.0
-    by_test false e h ih = ih h parts.1
+one_of same sound y good [] a g = cc
+one_of same sound y good (x ∷ xs) a g = grind (arith, sound y x, one_of same sound y good xs)
 
 -- so does a list of that many members
 every_holds : {X : Type 0} (same : X → X → Bool) → ((a b : X) → same a b ≡ true → a ≡ b) → (xs ys : List X) (n : ℕ) → length ys ≡ n → list_all (λ y. list_any (same y) xs) ys ≡ true
@@ -59,14 +49,12 @@ every_holds same sound xs (y ∷ ys) (suc n) e i test h =
 shorter_holds : {X : Type 0} (same : X → X → Bool) → ((a b : X) → same a b ≡ true → a ≡ b) → (xs ys : List X) (n : ℕ) → length ys < n → list_all (λ y. list_any (same y) xs) ys ≡ true
     → (test : List X → Bool) → every_shorter test xs n ≡ true → test ys ≡ true
 shorter_holds same sound xs ys zero l i test h = absurd (omega arith)
-shorter_holds {X = X} same sound xs ys (suc n) l i test h = by_test (nat_lt (length ys) n) refl (shorter_holds same sound xs ys n)
-  where
-    parts : (every test xs n ≡ true) × (every_shorter test xs n ≡ true)
-    parts = and_parts (every test xs n) (every_shorter test xs n) h
-
-    by_test : (b : Bool) → nat_lt (length ys) n ≡ b → (length ys < n → list_all (λ y. list_any (same y) xs) ys ≡ true → (test : List X → Bool) → every_shorter test xs n ≡ true → test ys ≡ true) → test ys ≡ true
-    by_test true e ih = ih (ltb-true (length ys) n e) i test parts.1
-    by_test false e ih = every_holds same sound xs ys n (omega (arith, ltb-false (length ys) n e)) i test parts.0
+shorter_holds same sound xs ys (suc n) l i test h =
+    let parts = and_parts (every test xs n) (every_shorter test xs n) h in
+    elim (cases_lt (length ys) n) [
+      | inl less ↦ shorter_holds same sound xs ys n less i test parts.1
+      | inr more ↦ every_holds same sound xs ys n (omega (arith, l, more)) i test parts.0
+    ]
 
 -- FIRST SEATINGS
 
@@ -75,8 +63,8 @@ same_people a b = pointwise same_text a b
 
 pub people-are : (a b : List (List ℕ)) → same_people a b ≡ true → a ≡ b
 people-are [] [] h = refl
-people-are [] (y ∷ ys) h = absurd (true≢false (sym h))
-people-are (x ∷ xs) [] h = absurd (true≢false (sym h))
+people-are [] (y ∷ ys) h = absurd (false≢true h)
+people-are (x ∷ xs) [] h = absurd (false≢true h)
 people-are (x ∷ xs) (y ∷ ys) h =
     let p = and_parts (same_text x y) (same_people xs ys) h in
     λ i. same-is x y p.0 i ∷ people-are xs ys p.1 i
@@ -90,17 +78,14 @@ abbrev pub is_first_by_trial : History → ℕ → ℕ → List Seat → List (L
 is_first_by_trial A c t seats people = is_seating A c t seats people && every (is_no_better A c t seats people) (present A c t) (length seats)
 
 -- whoever sits is present
-seated_inside : (A : History) (c t : ℕ) (seats : List Seat) (others : List (List ℕ)) → is_seating A c t seats others ≡ true
+pub seated_inside : (A : History) (c t : ℕ) (seats : List Seat) (others : List (List ℕ)) → is_seating A c t seats others ≡ true
     → (length others ≡ length seats) × (list_all (λ who. list_any (same_text who) (present A c t)) others ≡ true)
 seated_inside A c t [] [] h = (refl, refl)
-seated_inside A c t [] (who ∷ others) h = absurd (true≢false (sym h))
-seated_inside A c t (seat ∷ seats) [] h = absurd (true≢false (sym h))
+seated_inside A c t [] (who ∷ others) h = absurd (false≢true h)
+seated_inside A c t (seat ∷ seats) [] h = absurd (false≢true h)
 seated_inside A c t (seat ∷ seats) (who ∷ others) h =
-    let p = and_parts (eligible A c t seat who && not (list_any (same_text who) others)) (is_seating A c t seats others) h in
-    let q = and_parts (eligible A c t seat who) (not (list_any (same_text who) others)) p.0 in
-    let r = and_parts (is_in A who c t) (fits A (facility_of A c) (day_of t) seat who) q.0 in
-    let more = seated_inside A c t seats others p.1 in
-    (ap suc more.0, and_from (list_any (same_text who) (present A c t)) _ (present_are_in (sheet A) who c t ∙ r.0) more.1)
+    let more = seated_inside A c t seats others (and_parts (eligible A c t seat who && not (list_any (same_text who) others)) (is_seating A c t seats others) h).1 in
+    (ap suc more.0, grind (arith, present_are_in (sheet A) who c t, more.1))
 
 pub first_by_trial : (A : History) (c t : ℕ) (seats : List Seat) (people : List (List ℕ)) → is_first_by_trial A c t seats people ≡ true → IsFirst A c t seats people
 first_by_trial A c t seats people h = record { seating = parts.0; first = better }
@@ -108,16 +93,11 @@ first_by_trial A c t seats people h = record { seating = parts.0; first = better
     parts : (is_seating A c t seats people ≡ true) × (every (is_no_better A c t seats people) (present A c t) (length seats) ≡ true)
     parts = and_parts (is_seating A c t seats people) (every (is_no_better A c t seats people) (present A c t) (length seats)) h
 
-    by_tests : (others : List (List ℕ)) (s m f : Bool) → s ≡ true → same_people others people ≡ m → others ≢ people → (not s || (m || f)) ≡ true → f ≡ true
-    by_tests others false m f e k d g = absurd (true≢false (sym e))
-    by_tests others true true f e k d g = absurd (d (people-are others people k))
-    by_tests others true false f e k d g = g
-
     better : (others : List (List ℕ)) → IsTrue (is_seating A c t seats others) → others ≢ people → IsTrue (comes_first people others)
     better others s d =
         let inside = seated_inside A c t seats others s in
         let passes = every_holds same_text same-is (present A c t) others (length seats) inside.0 inside.1 (is_no_better A c t seats people) parts.1 in
-        by_tests others (is_seating A c t seats others) (same_people others people) (comes_first people others) s refl d passes
+        grind (arith, people-are others people, passes)
 
 -- LEAST SHORTAGES
 
@@ -125,24 +105,17 @@ first_by_trial A c t seats people h = record { seating = parts.0; first = better
 abbrev pub is_least_by_trial : History → ℕ → ℕ → List Seat → List ℕ → Bool
 is_least_by_trial A c t seats positions = is_short A c t seats positions && every_shorter (λ part. not (is_short A c t seats part)) positions (length positions)
 
-not_so : (b : Bool) → not b ≡ true → b ≡ false
-not_so true h = sym h
-not_so false h = refl
-
 pub least_by_trial : (A : History) (c t : ℕ) (seats : List Seat) (positions : List ℕ) → is_least_by_trial A c t seats positions ≡ true → IsLeast A c t seats positions
 least_by_trial A c t seats positions h = record { short = parts.0; least = least }
   where
     parts : (is_short A c t seats positions ≡ true) × (every_shorter (λ part. not (is_short A c t seats part)) positions (length positions) ≡ true)
     parts = and_parts (is_short A c t seats positions) (every_shorter (λ part. not (is_short A c t seats part)) positions (length positions)) h
 
-    number-is : (a b : ℕ) → (b == a) ≡ true → a ≡ b
-    number-is a b e = grind (arith, nat_tests)
-
     least : (part : List ℕ) → IsTrue (is_proper_part part positions) → is_short A c t seats part ≡ false
     least part p =
         let q = and_parts (list_all (λ a. list_any (λ b. b == a) positions) part) (nat_lt (length part) (length positions)) p in
-        not_so (is_short A c t seats part)
-        (shorter_holds (λ a b. b == a) number-is positions part (length positions) (ltb-true (length part) (length positions) q.1) q.0 (λ one. not (is_short A c t seats one)) parts.1)
+        not-true (is_short A c t seats part)
+        (shorter_holds (λ a b. b == a) (λ a b e. sym (eqb-true b a e)) positions part (length positions) (ltb-true (length part) (length positions) q.1) q.0 (λ one. not (is_short A c t seats one)) parts.1)
 
 -- COMMANDS
 
