@@ -1,7 +1,7 @@
 -- Where people can be seated there is a first seating: seat by seat the first person with whom the others can be seated too.
-use Rattle.std.proofs.Common.{◌≡◌, ◌≢◌, ℕ, Bool, true, false, cond, not, ◌||◌, ◌&&◌, List, [], ◌∷◌, ◌⊎◌, inl, inr, refl, sym, ap, ◌∙◌, subst}
+use Rattle.std.proofs.Common.{◌≡◌, ◌≢◌, ℕ, Bool, true, false, cond, not, ◌||◌, ◌&&◌, List, [], ◌∷◌, ◌⊎◌, inl, inr, refl, sym, ap, ◌∙◌, subst, arith}
 use Rattle.std.specs.List.{list_any, list_all}
-use Rattle.std.proofs.lemmas.Bool.{false≢true, both_ways, and_parts, and_from, or_parts, or_from, not-true, not_from_false}
+use Rattle.std.proofs.lemmas.Bool.{false≢true, both_ways, and_parts, and_from}
 use Rattle.kcr_base.specs.Days.{day_of}
 use Rattle.kcr_base.specs.Same.{same_text, is_before}
 use Rattle.kcr_room.specs.Laws.{are_rising}
@@ -27,22 +27,11 @@ begins_in ps (who ∷ people) = list_any (same_text who) ps
 -- people who are free with one more taken are free, and that one is not among them
 one_less : (p : List ℕ) (taken people : List (List ℕ)) → are_free (p ∷ taken) people ≡ true → (are_free taken people ≡ true) × (list_any (same_text p) people ≡ false)
 one_less p taken [] h = (refl, refl)
-one_less p taken (who ∷ people) h =
-    let k = and_parts (not (same_text who p || list_any (same_text who) taken)) (are_free (p ∷ taken) people) h in
-    let n = or_parts (same_text who p) (list_any (same_text who) taken) (not-true (same_text who p || list_any (same_text who) taken) k.0) in
-    let rest = one_less p taken people k.1 in (
-      and_from (not (list_any (same_text who) taken)) (are_free taken people) (not_from_false (list_any (same_text who) taken) n.1) rest.0,
-      or_from (same_text p who) (list_any (same_text p) people) (same-turned p who ∙ n.0) rest.1,
-    )
+one_less p taken (who ∷ people) h = grind (arith, same-turned who p, one_less p taken people)
 
 one_more : (p : List ℕ) (taken people : List (List ℕ)) → are_free taken people ≡ true → list_any (same_text p) people ≡ false → are_free (p ∷ taken) people ≡ true
 one_more p taken [] h n = refl
-one_more p taken (who ∷ people) h n =
-    let k = and_parts (not (list_any (same_text who) taken)) (are_free taken people) h in
-    let m = or_parts (same_text p who) (list_any (same_text p) people) n in
-    and_from (not (same_text who p || list_any (same_text who) taken)) (are_free (p ∷ taken) people)
-    (not_from_false (same_text who p || list_any (same_text who) taken) (or_from (same_text who p) (list_any (same_text who) taken) (same-turned who p ∙ m.0) (not-true (list_any (same_text who) taken) k.0)))
-    (one_more p taken people k.1 m.1)
+one_more p taken (who ∷ people) h n = grind (arith, same-turned who p, one_more p taken people)
 
 module _ (A : History) (c t : ℕ) where
   -- a seating of people who are free
@@ -65,25 +54,10 @@ module _ (A : History) (c t : ℕ) where
     pub rest : is_free_seating seats (who ∷ taken) people ≡ true
 
   led : (seat : Seat) (seats : List Seat) (taken : List (List ℕ)) (who : List ℕ) (people : List (List ℕ)) → is_free_seating (seat ∷ seats) taken (who ∷ people) ≡ true → IsLed seat seats taken who people
-  led seat seats taken who people h =
-      let k = and_parts (is_seating A c t (seat ∷ seats) (who ∷ people)) (are_free taken (who ∷ people)) h in
-      let s = and_parts (eligible A c t seat who && not (list_any (same_text who) people)) (is_seating A c t seats people) k.0 in
-      let e = and_parts (eligible A c t seat who) (not (list_any (same_text who) people)) s.0 in
-      let f = and_parts (not (list_any (same_text who) taken)) (are_free taken people) k.1 in
-      record {
-        fit = e.0;
-        free = not-true (list_any (same_text who) taken) f.0;
-        rest = and_from (is_seating A c t seats people) (are_free (who ∷ taken) people) s.1 (one_more who taken people f.1 (not-true (list_any (same_text who) people) e.1));
-      }
+  led seat seats taken who people h = record { fit = grind arith; free = grind arith; rest = grind (arith, one_more who taken people) }
 
   unled : (seat : Seat) (seats : List Seat) (taken : List (List ℕ)) (who : List ℕ) (people : List (List ℕ)) → IsLed seat seats taken who people → is_free_seating (seat ∷ seats) taken (who ∷ people) ≡ true
-  unled seat seats taken who people l =
-      let k = and_parts (is_seating A c t seats people) (are_free (who ∷ taken) people) l.rest in
-      let n = one_less who taken people k.1 in
-      and_from (is_seating A c t (seat ∷ seats) (who ∷ people)) (are_free taken (who ∷ people))
-      (and_from (eligible A c t seat who && not (list_any (same_text who) people)) (is_seating A c t seats people)
-      (and_from (eligible A c t seat who) (not (list_any (same_text who) people)) l.fit (not_from_false (list_any (same_text who) people) n.1)) k.0)
-      (and_from (not (list_any (same_text who) taken)) (are_free taken people) (not_from_false (list_any (same_text who) taken) l.free) n.0)
+  unled seat seats taken who people l = grind (arith, l.fit, l.free, l.rest, one_less who taken people)
 
   -- of the seatings whose first person is one of p and some who come later, where none has p
   pass_over : (seat : Seat) (seats : List Seat) (taken : List (List ℕ)) (p : List ℕ) (ps : List (List ℕ)) → ((people : List (List ℕ)) → IsLed seat seats taken p people → ⊥)

@@ -1,8 +1,8 @@
 -- Who holds a place from a day on, and since when, by the rows and by the commands.
-use Rattle.std.proofs.Common.{◌≡◌, ℕ, ◌≤◌, Bool, true, false, cond, not, ◌&&◌, nat_le, List, [], ◌∷◌, map, find, Option, Some, None, option_map, is_some, is_none, inl, inr, refl, sym, ap, ◌∙◌, subst}
+use Rattle.std.proofs.Common.{◌≡◌, ℕ, ◌≤◌, Bool, true, false, cond, not, ◌&&◌, nat_le, List, [], ◌∷◌, map, find, Option, Some, None, option_map, is_some, is_none, inl, inr, refl, sym, ap, ◌∙◌, arith}
 use Rattle.std.specs.Prelude.{unwrap_or}
 use Rattle.std.specs.List.{list_any}
-use Rattle.std.proofs.lemmas.Bool.{false≢true, both_ways, and_parts, and_from, or_cases, or_left, or_right, not-true, leb-true, le-leb}
+use Rattle.std.proofs.lemmas.Bool.{false≢true, and_parts, and_from, or_cases, leb-true, le-leb}
 use Rattle.kcr_base.specs.Refuse.{when}
 use Rattle.kcr_base.specs.Rows.{or_else}
 use Rattle.kcr_base.specs.Same.{same_text, same_place, is_this}
@@ -14,14 +14,14 @@ use Rattle.kcr_people.specs.People.{holds, holder_by, lasts_beyond, place_held_f
 use Rattle.kcr_history.specs.declared.commands.Act.{Act}
 use Rattle.kcr_history.specs.declared.commands.Act.TheVariants.{Appoint, Replace, Release}
 use Rattle.kcr_history.specs.History.{History, last_said}
-use Rattle.kcr_history.specs.Tables.{trainings, withdrawals, appointments, appointments_after, ended, end_at}
+use Rattle.kcr_history.specs.Tables.{trainings, withdrawals, appointments, appointments_after, ended}
 use Rattle.kcr_history.specs.Conditions.{not_after_first_day, vacant}
 use Rattle.kcr_history.specs.Machine.{IsRegister}
-use Rattle.kcr_history.proofs.Stacked.{stacked, place-same, place-refl, free-none}
+use Rattle.kcr_history.proofs.Stacked.{stacked, place-same, place-refl}
 use Rattle.kcr_history.proofs.Orderly.{orderly, holder-appointments}
 use Rattle.kcr_history.proofs.Trained.{trained-rows}
 use Rattle.kcr_laws.specs.Conditions.{IsHeldFrom, HoldsFrom, IsTrainedFrom, says_since, held_since, BeginsFrom}
-use Rattle.kcr_laws.proofs.Finds.{some-find}
+use Rattle.kcr_laws.proofs.Finds.{none-below}
 
 -- A PLACE FROM A DAY ON
 
@@ -37,24 +37,14 @@ place_holds A r place day (d, l, h) = (d, l, ap is_some (holder-appointments A r
 
 -- A PERSON FROM A DAY ON
 
+-- a place with a holder on a day is held on it
+some_holder : (rows : List Appointment) (place : Place) (d : ℕ) (who : List ℕ) → is_this who (holder_by rows place d) ≡ true → list_any (holds place d) rows ≡ true
+some_holder [] place d who h = h
+some_holder (row ∷ rows) place d who h = grind (arith, some_holder rows place d who)
+
 -- the place has one holder on the day: who is found by an older row is found by all
 older_holder : (row : Appointment) (rows : List Appointment) (place : Place) (d : ℕ) (who : List ℕ) → stacked (row ∷ rows) ≡ true → is_this who (holder_by rows place d) ≡ true → is_this who (holder_by (row ∷ rows) place d) ≡ true
-older_holder row rows place d who s h = by_test (holds place d row) refl
-  where
-    found : (o : Option Appointment) → find (holds place d) rows ≡ o → is_this who (option_map (λ old. old.who) o) ≡ true → list_any (holds place d) rows ≡ true
-    found None e g = absurd (false≢true g)
-    found (Some old) e g = some-find (holds place d) old rows e
-
-    free : holds place d row ≡ true → list_any (holds place d) rows ≡ false
-    free k =
-        let a = and_parts (same_place row.place place && nat_le row.since d) (lasts_beyond d row) k in
-        let b = and_parts (same_place row.place place) (nat_le row.since d) a.0 in
-        let n = not-true (place_held_from_by rows row.place row.since) (and_parts (not (place_held_from_by rows row.place row.since)) (stacked rows) s).0 in
-        free-none place row.since d rows (leb-true row.since d b.1) (subst (λ p. place_held_from_by rows p row.since ≡ false) (place-same row.place place b.0) n)
-
-    by_test : (b : Bool) → holds place d row ≡ b → is_this who (option_map (λ old. old.who) (cond b (Some row) (find (holds place d) rows))) ≡ true
-    by_test false e = h
-    by_test true e = absurd (both_ways (list_any (holds place d) rows) (free e) (found (find (holds place d) rows) refl h))
+older_holder row rows place d who s h = grind (arith, none-below place d row rows s, some_holder rows place d who h)
 
 -- whoever holds by some row is the holder of its place
 its_holder : (rows : List Appointment) (who : List ℕ) (d : ℕ) → stacked rows ≡ true → holds_some_by rows who d ≡ true → (place : Place) × (is_this who (holder_by rows place d) ≡ true)
@@ -72,17 +62,8 @@ its_holder (row ∷ rows) who d s h = elim (or_cases (same_text row.who who && n
 
 -- the holder of a place holds by some row
 by_some_row : (rows : List Appointment) (place : Place) (d : ℕ) (who : List ℕ) → is_this who (holder_by rows place d) ≡ true → holds_some_by rows who d ≡ true
-by_some_row [] place d who h = absurd (false≢true h)
-by_some_row (row ∷ rows) place d who h = by_test (holds place d row) refl h (by_some_row rows place d who)
-  where
-    by_test : (b : Bool) → holds place d row ≡ b → is_this who (option_map (λ old. old.who) (cond b (Some row) (find (holds place d) rows))) ≡ true
-        → (is_this who (holder_by rows place d) ≡ true → holds_some_by rows who d ≡ true) → holds_some_by (row ∷ rows) who d ≡ true
-    by_test false e g ih = or_right (same_text row.who who && nat_le row.since d && lasts_beyond d row) (holds_some_by rows who d) (ih g)
-    by_test true e g ih =
-        let a = and_parts (same_place row.place place && nat_le row.since d) (lasts_beyond d row) e in
-        let b = and_parts (same_place row.place place) (nat_le row.since d) a.0 in
-        or_left (same_text row.who who && nat_le row.since d && lasts_beyond d row) (holds_some_by rows who d)
-        (and_from (same_text row.who who && nat_le row.since d) (lasts_beyond d row) (and_from (same_text row.who who) (nat_le row.since d) g b.1) a.1)
+by_some_row [] place d who h = h
+by_some_row (row ∷ rows) place d who h = grind (arith, by_some_row rows place d who)
 
 -- the same by the rows
 abbrev pub RowsPut : History → List ℕ → ℕ → Type 0
@@ -105,38 +86,12 @@ since_of o = option_map (λ row. row.since) o
 -- an end of another place leaves the open row's first day as it is
 other_end : (at place : Place) (day : ℕ) (rows : List Appointment) → same_place at place ≡ false → since_of (open_row_by (map (ended at day) rows) place) ≡ since_of (open_row_by rows place)
 other_end at place day [] d = refl
-other_end at place day (row ∷ rows) d = by_tests (same_place row.place place) refl (same_place row.place at) refl row.until refl (other_end at place day rows d)
-  where
-    clash : same_place row.place place ≡ true → same_place row.place at ≡ true → ⊥
-    clash p q =
-        let e : row.place ≡ place = place-same row.place place p in
-        let f : row.place ≡ at = place-same row.place at q in
-        both_ways (same_place at place) d (ap (λ x. same_place x place) (sym f) ∙ ap (λ x. same_place x place) e ∙ place-refl place)
-
-    by_tests : (s : Bool) → same_place row.place place ≡ s → (z : Bool) → same_place row.place at ≡ z → (u : Option ℕ) → row.until ≡ u → since_of (open_row_by (map (ended at day) rows) place) ≡ since_of (open_row_by rows place)
-        → since_of (cond (s && is_none (end_at z u day)) (Some (ended at day row)) (open_row_by (map (ended at day) rows) place)) ≡ since_of (cond (s && is_none u) (Some row) (open_row_by rows place))
-    by_tests false p z q u e ih = ih
-    by_tests true p true q u e ih = absurd (clash p q)
-    by_tests true p false q None e ih = refl
-    by_tests true p false q (Some v) e ih = ih
+other_end at place day (row ∷ rows) d = grind (arith, place-same row.place place, place-same row.place at, place-refl place, other_end at place day rows d)
 
 -- after an end of the place it has no open row
 own_end : (at place : Place) (day : ℕ) (rows : List Appointment) → same_place at place ≡ true → open_row_by (map (ended at day) rows) place ≡ None
 own_end at place day [] d = refl
-own_end at place day (row ∷ rows) d = by_tests (same_place row.place place) refl (same_place row.place at) refl row.until (own_end at place day rows d)
-  where
-    same : same_place row.place place ≡ true → same_place row.place at ≡ true
-    same p =
-        let e : row.place ≡ place = place-same row.place place p in
-        let f : at ≡ place = place-same at place d in
-        ap (λ x. same_place x at) (e ∙ sym f) ∙ place-refl at
-
-    by_tests : (s : Bool) → same_place row.place place ≡ s → (z : Bool) → same_place row.place at ≡ z → (u : Option ℕ) → open_row_by (map (ended at day) rows) place ≡ None
-        → cond (s && is_none (end_at z u day)) (Some (ended at day row)) (open_row_by (map (ended at day) rows) place) ≡ None
-    by_tests false p z q u ih = ih
-    by_tests true p false q u ih = absurd (both_ways (same_place row.place at) q (same p))
-    by_tests true p true q None ih = ih
-    by_tests true p true q (Some v) ih = ih
+own_end at place day (row ∷ rows) d = grind (arith, place-same row.place place, place-same at place, place-refl place, own_end at place day rows d)
 
 -- what is said of the place, or what was said before
 abbrev said_since : Option (Option ℕ) → Option (Option ℕ) → Option ℕ

@@ -1,14 +1,15 @@
 -- Rows added for one ceremony leave the rooms of the others as they are, and its own room before their moment.
-use Rattle.std.proofs.Common.{◌≡◌, ℕ, ◌<◌, ◌≤◌, Bool, true, false, cond, not, ◌||◌, ◌&&◌, ◌==◌, nat_le, nat_lt, List, [], ◌∷◌, ◌++◌, map, filter, Option, Some, None, refl, sym, ap, ◌∙◌, arith}
+use Rattle.std.proofs.Common.{◌≡◌, ℕ, ◌<◌, ◌≤◌, Bool, true, false, ◌||◌, ◌==◌, nat_le, nat_lt, List, [], ◌∷◌, ◌++◌, map, filter, Option, Some, None, refl, sym, ap, ◌∙◌, arith}
 use Rattle.std.specs.List.{list_any, list_all}
-use Rattle.std.proofs.lemmas.Bool.{true≢false, or_parts, and_parts, and_right, not-false, eqb-true, leb-true, leb-false, le-leb, lt-leb, le-ltb, ltb-false}
+use Rattle.std.proofs.lemmas.Bool.{cond_both, true≢false, or_parts, and_parts, and_right, lt-leb, true_from_ne_false}
+use Rattle.std.proofs.lemmas.Bool.Decides.{nat_tests}
 use Rattle.std.proofs.lemmas.List.Elements.{filter-append}
 use Rattle.kcr_base.specs.Same.{same_text, is_before}
 use Rattle.kcr_room.specs.declared.SheetRow.{SheetRow}
 use Rattle.kcr_room.specs.declared.Way.{Way}
 use Rattle.kcr_room.specs.declared.Way.TheVariants as Ways
 use Rattle.kcr_room.specs.Room.{is_enter, enters, later, last_onto, last_row, is_of, last_enters, in_by, last_row_of, present_by}
-use Rattle.kcr_room.specs.Adding.{is_no_turn, is_out_of_turn, is_out_of_turn_by, new_row}
+use Rattle.kcr_room.specs.Adding.{is_out_of_turn, is_out_of_turn_by, new_row}
 use Rattle.kcr_room.specs.Laws.{are_rising}
 use Rattle.kcr_room.proofs.Agreement.{same-is, same-itself, same-turned, listed, last-above}
 use Rattle.kcr_room.proofs.Keeping.{present_are_in}
@@ -26,11 +27,7 @@ none_enters other last (row ∷ rows) l h = none_enters other (later last row) r
 
     by_last : (o : Option SheetRow) → last_enters other o ≡ false → last_enters other (later o row) ≡ false
     by_last None e = parts.0
-    by_last (Some old) e = by_test (nat_lt row.at old.at)
-      where
-        by_test : (b : Bool) → last_enters other (cond b (Some old) (Some row)) ≡ false
-        by_test true = e
-        by_test false = parts.0
+    by_last (Some old) e = cond_both (nat_lt row.at old.at) (Some old) (Some row) (λ o. last_enters other o ≡ false) (λ _. e) (λ _. parts.0)
 
 pub onto_append : (last : Option SheetRow) (rows more : List SheetRow) → last_onto last (rows ++ more) ≡ last_onto (last_onto last rows) more
 onto_append last [] more = refl
@@ -51,43 +48,25 @@ none_of c way at who t (p ∷ people) h =
 -- new rows are of the one ceremony
 none_other : (c other : ℕ) (way : Way) (at : ℕ) (who : List ℕ) (t : ℕ) (people : List (List ℕ)) → (c == other) ≡ false → list_any (enters other) (filter (is_of who t) (map (new_row c way at) people)) ≡ false
 none_other c other way at who t [] h = refl
-none_other c other way at who t (p ∷ people) h = by_test (is_of who t (new_row c way at p)) (none_other c other way at who t people h)
-  where
-    by_test : (b : Bool) → list_any (enters other) (filter (is_of who t) (map (new_row c way at) people)) ≡ false
-        → list_any (enters other) (cond b (new_row c way at p ∷ filter (is_of who t) (map (new_row c way at) people)) (filter (is_of who t) (map (new_row c way at) people))) ≡ false
-    by_test true g = rw (and_right (is_enter way) (c == other) h, g) refl
-    by_test false g = g
+none_other c other way at who t (p ∷ people) h = grind (arith, and_right (is_enter way) (c == other) h, none_other c other way at who t people h)
 
 -- the same rows of a person, where none is later than t
 all_of : (who : List ℕ) (m t : ℕ) (rows : List SheetRow) → m ≤ t → list_any (λ row. nat_lt m row.at) (filter (λ row. same_text row.who who) rows) ≡ false → filter (is_of who t) rows ≡ filter (λ row. same_text row.who who) rows
 all_of who m t [] l h = refl
-all_of who m t (row ∷ rows) l h = by_same (same_text row.who who) h (all_of who m t rows l)
-  where
-    by_same : (b : Bool) → list_any (λ r. nat_lt m r.at) (cond b (row ∷ filter (λ r. same_text r.who who) rows) (filter (λ r. same_text r.who who) rows)) ≡ false
-        → (list_any (λ r. nat_lt m r.at) (filter (λ r. same_text r.who who) rows) ≡ false → filter (is_of who t) rows ≡ filter (λ r. same_text r.who who) rows)
-        → cond (b && nat_le row.at t) (row ∷ filter (is_of who t) rows) (filter (is_of who t) rows) ≡ cond b (row ∷ filter (λ r. same_text r.who who) rows) (filter (λ r. same_text r.who who) rows)
-    by_same false g ih = ih g
-    by_same true g ih =
-        let q = or_parts (nat_lt m row.at) (list_any (λ r. nat_lt m r.at) (filter (λ r. same_text r.who who) rows)) g in
-        rw (le-leb row.at t (omega (arith, ltb-false m row.at q.0)), ih q.1) refl
+all_of who m t (row ∷ rows) l h = grind (arith, nat_tests, all_of who m t rows l)
 
 -- WHOSE TURN IT IS
 
 -- nobody's last row is later than t, where the new rows are not
 pub not_behind : (c : ℕ) (way : Way) (at t : ℕ) (last : Option SheetRow) → is_out_of_turn way c at last ≡ false → nat_le at t ≡ true → list_any (λ row. nat_lt t row.at) (listed last) ≡ false
 not_behind c way at t None h l = refl
-not_behind c way at t (Some row) h l =
-    let q = or_parts (nat_le at row.at) (is_no_turn way c row) h in
-    rw (le-ltb t row.at (omega (arith, leb-true at t l, leb-false at row.at q.0))) refl
+not_behind c way at t (Some row) h l = grind (arith, nat_tests)
 
 -- whoever has a turn for the one ceremony is in no other's room
 elsewhere : (c other : ℕ) (way : Way) (at : ℕ) (last : Option SheetRow) → (c == other) ≡ false → is_out_of_turn way c at last ≡ false → last_enters other last ≡ false
 elsewhere c other way at None d h = refl
-elsewhere c other Ways.Enter at (Some row) d h = rw (or_parts (nat_le at row.at) (is_enter row.way) h).1 refl
-elsewhere c other Ways.Leave at (Some row) d h =
-    let e = not-false (is_enter row.way && row.ceremony == c) (or_parts (nat_le at row.at) (not (is_enter row.way && row.ceremony == c)) h).1 in
-    let f : row.ceremony ≡ c = eqb-true row.ceremony c (and_parts (is_enter row.way) (row.ceremony == c) e).1 in
-    and_right (is_enter row.way) (row.ceremony == other) (ap (λ n. n == other) f ∙ d)
+elsewhere c other Ways.Enter at (Some row) d h = grind arith
+elsewhere c other Ways.Leave at (Some row) d h = grind (arith, nat_tests)
 
 -- where all of a person's rows are at most t, the last of them is the last one at t
 last_at : (rows : List SheetRow) (who : List ℕ) (t : ℕ) → list_any (λ row. nat_lt t row.at) (listed (last_row_of rows who)) ≡ false → last_row (filter (is_of who t) rows) ≡ last_row_of rows who
@@ -128,21 +107,17 @@ in_other rows c way at people who other t turns d = by_moment (nat_le at t) refl
 
 -- LISTS OF PEOPLE IN BYTE ORDER
 
-not_itself : (x : List ℕ) (xs : List (List ℕ)) → list_all (is_before x) xs ≡ true → list_any (same_text x) xs ≡ false
-not_itself x xs h = by_test (list_any (same_text x) xs) refl
-  where
-    by_test : (b : Bool) → list_any (same_text x) xs ≡ b → b ≡ false
-    by_test false e = refl
-    by_test true e =
-        let k = one_of same_text same-is x (is_before x) xs e h in
-        absurd (true≢false (sym k ∙ before-turned x x k))
+-- whoever comes before some others is none of them
+pub not_itself : (x : List ℕ) (xs : List (List ℕ)) → list_all (is_before x) xs ≡ true → list_any (same_text x) xs ≡ false
+not_itself x [] h = refl
+not_itself x (y ∷ xs) h = grind (arith, same-is x y, before-turned x x, not_itself x xs)
 
 -- two rising lists of the same people are one list
 rising_unique : (xs ys : List (List ℕ)) → are_rising xs ≡ true → are_rising ys ≡ true → ((who : List ℕ) → list_any (same_text who) xs ≡ list_any (same_text who) ys) → xs ≡ ys
 rising_unique [] [] r s h = refl
 rising_unique [] (y ∷ ys) r s h = absurd (true≢false (sym (ap (λ b. b || list_any (same_text y) ys) (same-itself y)) ∙ sym (h y)))
 rising_unique (x ∷ xs) [] r s h = absurd (true≢false (sym (ap (λ b. b || list_any (same_text x) xs) (same-itself x)) ∙ h x))
-rising_unique (x ∷ xs) (y ∷ ys) r s h = by_head (same_text x y) refl (rising_unique xs ys p.1 q.1)
+rising_unique (x ∷ xs) (y ∷ ys) r s h = λ i. head i ∷ rising_unique xs ys p.1 q.1 tails i
   where
     p : (list_all (is_before x) xs ≡ true) × (are_rising xs ≡ true)
     p = and_parts (list_all (is_before x) xs) (are_rising xs) r
@@ -150,24 +125,18 @@ rising_unique (x ∷ xs) (y ∷ ys) r s h = by_head (same_text x y) refl (rising
     q : (list_all (is_before y) ys ≡ true) × (are_rising ys ≡ true)
     q = and_parts (list_all (is_before y) ys) (are_rising ys) s
 
-    tails : x ≡ y → (who : List ℕ) → list_any (same_text who) xs ≡ list_any (same_text who) ys
-    tails e who = by_who (same_text who x) refl
-      where
-        by_who : (b : Bool) → same_text who x ≡ b → list_any (same_text who) xs ≡ list_any (same_text who) ys
-        by_who true k =
-            let is : who ≡ x = same-is who x k in
-            ap (λ w. list_any (same_text w) xs) is ∙ not_itself x xs p.0 ∙ sym (ap (λ w. list_any (same_text w) ys) (is ∙ e) ∙ not_itself y ys q.0)
-        by_who false k =
-            sym (ap (λ b. b || list_any (same_text who) xs) k) ∙ h who ∙ ap (λ b. b || list_any (same_text who) ys) (ap (λ z. same_text who z) (sym e) ∙ k)
+    -- else each of the two comes before the other
+    apart : same_text x y ≡ false → ⊥
+    apart e = grind (
+      arith, h x, h y, same-itself x, same-itself y, same-turned x y, p.0, q.0, before-turned x y,
+      one_of same_text same-is x (is_before y) ys, one_of same_text same-is y (is_before x) xs,
+    )
 
-    by_head : (b : Bool) → same_text x y ≡ b → (((who : List ℕ) → list_any (same_text who) xs ≡ list_any (same_text who) ys) → xs ≡ ys) → x ∷ xs ≡ y ∷ ys
-    by_head true e ih = let k = same-is x y e in λ i. k i ∷ ih (tails k) i
-    by_head false e ih =
-        let there : list_any (same_text x) ys ≡ true = sym (ap (λ b. b || list_any (same_text x) ys) e) ∙ sym (h x) ∙ ap (λ b. b || list_any (same_text x) xs) (same-itself x) in
-        let here : list_any (same_text y) xs ≡ true = sym (ap (λ b. b || list_any (same_text y) xs) (sym (same-turned x y) ∙ e)) ∙ h y ∙ ap (λ b. b || list_any (same_text y) ys) (same-itself y) in
-        let first = one_of same_text same-is x (is_before y) ys there q.0 in
-        let second = one_of same_text same-is y (is_before x) xs here p.0 in
-        absurd (true≢false (sym second ∙ before-turned y x first))
+    head : x ≡ y
+    head = same-is x y (true_from_ne_false (same_text x y) apart)
+
+    tails : (who : List ℕ) → list_any (same_text who) xs ≡ list_any (same_text who) ys
+    tails who = grind (arith, h who, head, same-is who x, not_itself x xs p.0, not_itself y ys q.0)
 
 -- rooms in which everybody is alike have the same people
 pub same_room : (a b : List SheetRow) (c t : ℕ) → ((who : List ℕ) → in_by a who c t ≡ in_by b who c t) → present_by a c t ≡ present_by b c t

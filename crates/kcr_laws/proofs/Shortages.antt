@@ -1,19 +1,20 @@
 -- Where nobody can fill the seats of a step there is a least set of them that too few people fit.
-use Rattle.std.proofs.Common.{◌≡◌, ℕ, zero, suc, ◌+◌, ◌<◌, ◌≤◌, Bool, true, false, cond, not, ◌||◌, ◌&&◌, ◌==◌, nat_lt, nat_le, List, [], ◌∷◌, filter, length, ◌⊎◌, inl, inr, refl, sym, ap, ◌∙◌, arith}
+use Rattle.std.proofs.Common.{◌≡◌, ℕ, zero, suc, ◌+◌, ◌<◌, ◌≤◌, Bool, true, false, not, ◌&&◌, nat_lt, List, [], ◌∷◌, filter, length, ◌⊎◌, inl, inr, refl, ap, arith}
 use Rattle.std.specs.List.{list_any, list_all}
-use Rattle.std.proofs.lemmas.Bool.{true≢false, false≢true, and_parts, and_from, and_cases, or_from, not-false, not_from_false, eqb-false, lt-ltb, le-leb}
+use Rattle.std.proofs.lemmas.Bool.{true≢false, and_parts, and_from, and_cases, not-false, not_from_false, lt-ltb}
+use Rattle.std.proofs.lemmas.Bool.Decides.{nat_tests}
 use Rattle.kcr_base.specs.Same.{same_text, is_before}
 use Rattle.kcr_room.specs.Laws.{are_rising}
 use Rattle.kcr_room.proofs.Agreement.{same-is}
 use Rattle.kcr_room.proofs.Lists.{any-filter}
-use Rattle.kcr_room.proofs.Orders.{before-turned}
 use Rattle.kcr_room.proofs.Rising.{present_are_rising}
 use Rattle.kcr_script.specs.declared.seat.Seat.{Seat}
 use Rattle.kcr_history.specs.History.{History}
 use Rattle.kcr_history.specs.Room.{sheet, present}
 use Rattle.kcr_history.specs.Seating.{eligible, is_seating, is_eligible_at, who_fit, rise, is_short, IsLeast}
-use Rattle.kcr_laws.proofs.Hall.{is_one, bit, count, takes, takers, IsAssigned, IsScarce, stand_once, hall}
-use Rattle.kcr_laws.proofs.Trials.{one_of, every, every_shorter, least_by_trial}
+use Rattle.kcr_laws.proofs.Hall.{is_one, count, takers, IsAssigned, IsScarce, stand_once, hall}
+use Rattle.kcr_laws.proofs.Rooms.{not_itself}
+use Rattle.kcr_laws.proofs.Trials.{every, every_shorter, least_by_trial}
 
 -- LEAST SHORTAGES
 
@@ -60,29 +61,15 @@ from low (suc n) = low ∷ from (suc low) n
 
 in_from : (n low i : ℕ) → low ≤ i → i < low + n → is_one i (from low n) ≡ true
 in_from zero low i l m = absurd (omega (arith, l, m))
-in_from (suc n) low i l m = by_first (low == i) refl (in_from n (suc low) i)
-  where
-    by_first : (b : Bool) → (low == i) ≡ b → (suc low ≤ i → i < suc low + n → is_one i (from (suc low) n) ≡ true) → (b || is_one i (from (suc low) n)) ≡ true
-    by_first true e ih = refl
-    by_first false e ih = let ne : low ≡ i → ⊥ = eqb-false low i e in ih (omega (arith, l, ne)) (omega (arith, m))
+in_from (suc n) low i l m = grind (arith, nat_tests, in_from n (suc low) i)
 
 rise_from : (s : ℕ → Bool) (n low first high : ℕ) → first ≤ low → low + n ≤ high → rise first high (filter s (from low n)) ≡ true
 rise_from s zero low first high l m = refl
-rise_from s (suc n) low first high l m = by_test (s low) (rise_from s n (suc low) (suc low) high (omega arith) (omega (arith, m))) (rise_from s n (suc low) first high (omega (arith, l)) (omega (arith, m)))
-  where
-    by_test : (b : Bool) → rise (suc low) high (filter s (from (suc low) n)) ≡ true → rise first high (filter s (from (suc low) n)) ≡ true → rise first high (cond b (low ∷ filter s (from (suc low) n)) (filter s (from (suc low) n))) ≡ true
-    by_test false g h = h
-    by_test true g h =
-        and_from (nat_le first low && nat_lt low high) (rise (suc low) high (filter s (from (suc low) n)))
-        (and_from (nat_le first low) (nat_lt low high) (le-leb first low l) (lt-ltb low high (omega (arith, m)))) g
+rise_from s (suc n) low first high l m = grind (arith, nat_tests, rise_from s n (suc low) (suc low) high, rise_from s n (suc low) first high)
 
 count_filter : (is : List ℕ) (s : ℕ → Bool) → count is s ≡ length (filter s is)
 count_filter [] s = refl
-count_filter (i ∷ is) s = by_test (s i) (count_filter is s)
-  where
-    by_test : (b : Bool) → count is s ≡ length (filter s is) → bit b + count is s ≡ length (cond b (i ∷ filter s is) (filter s is))
-    by_test true ih = omega (arith, ih)
-    by_test false ih = omega (arith, ih)
+count_filter (i ∷ is) s = grind (arith, count_filter is s)
 
 -- those who fit a seat of a set are those who fit one of a list
 abbrev fit_one : (ℕ → List ℕ → Bool) → List ℕ → List ℕ → Bool
@@ -90,14 +77,7 @@ fit_one fits is who = list_any (λ i. fits i who) is
 
 takers_filter : (all : List ℕ) (fits : ℕ → List ℕ → Bool) (s : ℕ → Bool) (people : List (List ℕ)) → takers all fits s people ≡ length (filter (fit_one fits (filter s all)) people)
 takers_filter all fits s [] = refl
-takers_filter all fits s (who ∷ people) = by_test (takes all fits s who) (fit_one fits (filter s all) who) (any-filter s (λ i. fits i who) all) (takers_filter all fits s people)
-  where
-    by_test : (x y : Bool) → y ≡ x → takers all fits s people ≡ length (filter (fit_one fits (filter s all)) people)
-        → bit x + takers all fits s people ≡ length (cond y (who ∷ filter (fit_one fits (filter s all)) people) (filter (fit_one fits (filter s all)) people))
-    by_test true true e ih = omega (arith, ih)
-    by_test false false e ih = omega (arith, ih)
-    by_test true false e ih = absurd (false≢true e)
-    by_test false true e ih = absurd (true≢false e)
+takers_filter all fits s (who ∷ people) = grind (arith, any-filter s (λ i. fits i who) all, takers_filter all fits s people)
 
 -- SEATINGS
 
@@ -108,11 +88,7 @@ list_by (suc n) w = w 0 ∷ list_by n (λ i. w (suc i))
 
 not_among : (x : List ℕ) (n : ℕ) (w : ℕ → List ℕ) → ((i : ℕ) → i < n → x ≡ w i → ⊥) → list_any (same_text x) (list_by n w) ≡ false
 not_among x zero w f = refl
-not_among x (suc n) w f = or_from (same_text x (w 0)) (list_any (same_text x) (list_by n (λ i. w (suc i)))) (by_test (same_text x (w 0)) refl) (not_among x n (λ i. w (suc i)) (λ i l. f (suc i) (omega (arith, l))))
-  where
-    by_test : (b : Bool) → same_text x (w 0) ≡ b → b ≡ false
-    by_test false e = refl
-    by_test true e = absurd (f 0 (omega arith) (same-is x (w 0) e))
+not_among x (suc n) w f = grind (arith, same-is x (w 0), f 0, not_among x n (λ i. w (suc i)) (λ i l. f (suc i) (omega (arith, l))))
 
 seated_by : (A : History) (c t : ℕ) (seats : List Seat) (w : ℕ → List ℕ) → ((i : ℕ) → i < length seats → is_eligible_at A c t seats (w i) i ≡ true)
     → ((i j : ℕ) → i < length seats → j < length seats → w i ≡ w j → i ≡ j) → is_seating A c t seats (list_by (length seats) w) ≡ true
@@ -125,16 +101,6 @@ seated_by A c t (seat ∷ seats) w fit apart =
     (seated_by A c t seats (λ i. w (suc i)) (λ i l. fit (suc i) (omega (arith, l))) (λ i j l m e. let same : suc i ≡ suc j = apart (suc i) (suc j) (omega (arith, l)) (omega (arith, m)) e in omega (arith, same)))
 
 -- ONE OF THE TWO
-
--- whoever comes before some others is none of them
-not_itself : (x : List ℕ) (xs : List (List ℕ)) → list_all (is_before x) xs ≡ true → list_any (same_text x) xs ≡ false
-not_itself x xs h = by_test (list_any (same_text x) xs) refl
-  where
-    by_test : (b : Bool) → list_any (same_text x) xs ≡ b → b ≡ false
-    by_test false e = refl
-    by_test true e =
-        let k = one_of same_text same-is x (is_before x) xs e h in
-        absurd (true≢false (sym k ∙ before-turned x x k))
 
 rising_once : (people : List (List ℕ)) → are_rising people ≡ true → stand_once people ≡ true
 rising_once [] r = refl

@@ -1,10 +1,10 @@
 -- What the rows of a register say of bags and boxes.
-use Rattle.std.proofs.Common.{◌≡◌, ℕ, Bool, true, false, cond, ◌||◌, ◌&&◌, eqb, List, [], ◌∷◌, Option, Some, None, is_some, is_none, refl, subst, ◌∙◌}
+use Rattle.std.proofs.Common.{◌≡◌, ℕ, Bool, true, false, cond, List, [], ◌∷◌, Option, Some, None, is_some, is_none, refl, subst, arith}
 use Rattle.std.specs.List.{list_any, cons_option}
 use Rattle.std.proofs.lemmas.Bool.{true≢false}
 use Rattle.kcr_base.proofs.RefuseLemmas.{none_holds, unmet}
 use Rattle.kcr_base.specs.Rows.{or_else}
-use Rattle.kcr_base.specs.Same.{same_text, same_facility}
+use Rattle.kcr_base.specs.Same.{same_text}
 use Rattle.kcr_base.specs.declared.place.Facility.{Facility}
 use Rattle.kcr_base.specs.declared.refusal.Refusal.TheVariants.{Unknown}
 use Rattle.kcr_base.specs.declared.refusal.Thing.TheVariants as Things
@@ -29,11 +29,7 @@ there (Some x) g = refl
 -- a bag that was there before says no more than that it is there
 pub moved_there : (t s : List ℕ) (new : Spot) (old : Option Spot) (here : Bool) → (same_text t s ≡ true → is_some old ≡ true) → here ≡ is_some old
     → here ≡ is_some (or_else (cond (same_text t s) (Some new) None) old)
-moved_there t s new old here known ih = by_test (same_text t s) refl
-  where
-    by_test : (b : Bool) → same_text t s ≡ b → here ≡ is_some (or_else (cond b (Some new) None) old)
-    by_test true e = ih ∙ known e
-    by_test false e = ih
+moved_there t s new old here known ih = grind (arith, known, ih)
 
 -- the bag of a command is there
 pub bag_known : (A : History) (t s : List ℕ) → no_bag A t ≡ None → same_text t s ≡ true → is_some (spot A s) ≡ true
@@ -44,11 +40,7 @@ is_sealed A s = list_any (λ k. same_text k s) (all_said sealed_serial A)
 
 pub sealed_after : (A : History) (act : Act) (s : List ℕ) → fault A act ≡ None → is_sealed A s ≡ is_some (spot A s)
     → list_any (λ k. same_text k s) (cons_option (sealed_serial act) (all_said sealed_serial A)) ≡ is_some (or_else (moved (facility_of A) s act) (spot A s))
-sealed_after A (Seal c serial codes at) s f ih = by_test (same_text serial s)
-  where
-    by_test : (b : Bool) → (b || is_sealed A s) ≡ is_some (or_else (cond b (Some (Table (facility_of A c))) None) (spot A s))
-    by_test true = refl
-    by_test false = ih
+sealed_after A (Seal c serial codes at) s f ih = grind (arith, ih)
 sealed_after A (Take c t at) s f ih = moved_there t s (Table (facility_of A c)) (spot A s) (is_sealed A s) (bag_known A t s (none_holds (conditions A (Take c t at)) f).1.0) ih
 sealed_after A (Put c t to at) s f ih = moved_there t s (spot_of_store (facility_of A c) to) (spot A s) (is_sealed A s) (bag_known A t s (none_holds (conditions A (Put c t to at)) f).1.0) ih
 sealed_after A (Cut c t at) s f ih = moved_there t s Spent (spot A s) (is_sealed A s) (bag_known A t s (none_holds (conditions A (Cut c t at)) f).1.0) ih
@@ -61,11 +53,7 @@ sealed_somewhere (entry ∷ A) h s = sealed_after A entry.command.act s (took A 
 
 pub box_after : (A : History) (act : Act) (f : Facility) (n : ℕ) → list_any (is_box f n) (boxes A) ≡ is_some (place_of_box A f n)
     → list_any (is_box f n) (cons_option (box_row act) (boxes A)) ≡ is_some (or_else (boxed f n act) (place_of_box A f n))
-box_after A (AddBox facility number place) f n ih = by_test (same_facility facility f && eqb number n)
-  where
-    by_test : (b : Bool) → (b || list_any (is_box f n) (boxes A)) ≡ is_some (or_else (cond b (Some place) None) (place_of_box A f n))
-    by_test true = refl
-    by_test false = ih
+box_after A (AddBox facility number place) f n ih = grind (arith, ih)
 box_after A act f n ih = ih
 
 -- a box is there exactly where it has a place

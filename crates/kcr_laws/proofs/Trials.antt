@@ -159,28 +159,27 @@ some-is a b e = cc
 no-some : {X : Type 0} {Y : Type 0} (x : X) → None ≡ Some x → Y
 no-some x e = absurd (let f : None ≡ Some x = e in cc)
 
+-- a result that depends on a test, or on another result
+if-some : {X : Type 0} (b : Bool) (o : Option X) (x : X) → cond b o None ≡ Some x → (b ≡ true) × (o ≡ Some x)
+if-some true o x e = (refl, e)
+if-some false o x e = no-some x e
+
+then-some : {X Y : Type 0} (f : X → Option Y) (o : Option X) (y : Y) → option_and_then f o ≡ Some y → (x : X) × (o ≡ Some x) × (f x ≡ Some y)
+then-some f None y e = no-some y e
+then-some f (Some x) y e = (x, refl, e)
+
 -- it is a step of the machine
 abbrev IsStep : History → Act → Played → Type 0
 IsStep A act p = machine A (new_command A act) p.outcome p.history
 
 fill_seats : (A : History) (act : Act) (s : Sitting) (fillings : List Filling) (p : Played) → fill A act s fillings ≡ Some p → seats A (new_command A act) s p.outcome p.history
 fill_seats A act s [] p e = no-some p e
-fill_seats A act s (Seated people ∷ fillings) p e = by_trial (is_first_by_trial A s.ceremony s.at s.seats people) refl e
-  where
-    by_trial : (b : Bool) → is_first_by_trial A s.ceremony s.at s.seats people ≡ b
-        → cond b (Some (record { outcome = Accepts (answer_to A act (Some people)); history = with_act A act (Some people); fillings = fillings })) None ≡ Some p
-        → seats A (new_command A act) s p.outcome p.history
-    by_trial false t g = no-some p g
-    by_trial true t g =
-        subst (λ (q : Played). seats A (new_command A act) s q.outcome q.history) (some-is _ p g) (inl (people, first_by_trial A s.ceremony s.at s.seats people t, (refl, refl)))
-fill_seats A act s (Lacking positions ∷ fillings) p e = by_trial (is_least_by_trial A s.ceremony s.at s.seats positions) refl e
-  where
-    by_trial : (b : Bool) → is_least_by_trial A s.ceremony s.at s.seats positions ≡ b
-        → cond b (Some (record { outcome = Refuses (Short (map suc positions)); history = A; fillings = fillings })) None ≡ Some p
-        → seats A (new_command A act) s p.outcome p.history
-    by_trial false t g = no-some p g
-    by_trial true t g =
-        subst (λ (q : Played). seats A (new_command A act) s q.outcome q.history) (some-is _ p g) (inr (positions, least_by_trial A s.ceremony s.at s.seats positions t, (refl, refl)))
+fill_seats A act s (Seated people ∷ fillings) p e =
+    let t = if-some (is_first_by_trial A s.ceremony s.at s.seats people) _ p e in
+    subst (λ (q : Played). seats A (new_command A act) s q.outcome q.history) (some-is _ p t.1) (inl (people, first_by_trial A s.ceremony s.at s.seats people t.0, (refl, refl)))
+fill_seats A act s (Lacking positions ∷ fillings) p e =
+    let t = if-some (is_least_by_trial A s.ceremony s.at s.seats positions) _ p e in
+    subst (λ (q : Played). seats A (new_command A act) s q.outcome q.history) (some-is _ p t.1) (inr (positions, least_by_trial A s.ceremony s.at s.seats positions t.0, (refl, refl)))
 
 seats_if : (A : History) (act : Act) (s : Option Sitting) (fillings : List Filling) (p : Played) → seat_if A act s fillings ≡ Some p
     → MatchOption s ((p.outcome ≡ Accepts (answer_to A act None)) × (p.history ≡ with_act A act None)) (λ q. seats A (new_command A act) q p.outcome p.history)
@@ -207,18 +206,10 @@ plays A (said ∷ rest) fillings =
 
 are_steps : (A : History) (exchanges : List (Act × List ℕ)) (fillings : List Filling) (A' : History) → plays A exchanges fillings ≡ Some A' → AreSteps A exchanges A'
 are_steps A [] fillings A' e = sym (some-is A A' e)
-are_steps A (said ∷ rest) fillings A' e = by_play (play A said.0 fillings) refl e (λ A1 left. are_steps A1 rest left A')
-  where
-    by_text : (p : Played) (b : Bool) → play A said.0 fillings ≡ Some p → same_text (outcome_text p.outcome) said.1 ≡ b → cond b (plays p.history rest p.fillings) None ≡ Some A'
-        → ((A1 : History) (left : List Filling) → plays A1 rest left ≡ Some A' → AreSteps A1 rest A') → AreSteps A (said ∷ rest) A'
-    by_text p false k t g ih = no-some A' g
-    by_text p true k t g ih =
-        (p.outcome, p.history, play_is_step A said.0 fillings p k, same-is (outcome_text p.outcome) said.1 t, ih p.history p.fillings g)
-
-    by_play : (o : Option Played) → play A said.0 fillings ≡ o → option_and_then (λ (p : Played). if same_text (outcome_text p.outcome) said.1 then plays p.history rest p.fillings else None) o ≡ Some A'
-        → ((A1 : History) (left : List Filling) → plays A1 rest left ≡ Some A' → AreSteps A1 rest A') → AreSteps A (said ∷ rest) A'
-    by_play None k g ih = no-some A' g
-    by_play (Some p) k g ih = by_text p (same_text (outcome_text p.outcome) said.1) k refl g ih
+are_steps A (said ∷ rest) fillings A' e =
+    let p = then-some (λ (p : Played). if same_text (outcome_text p.outcome) said.1 then plays p.history rest p.fillings else None) (play A said.0 fillings) A' e in
+    let t = if-some (same_text (outcome_text p.0.outcome) said.1) (plays p.0.history rest p.0.fillings) A' p.2 in
+    (p.0.outcome, p.0.history, play_is_step A said.0 fillings p.0 p.1, same-is (outcome_text p.0.outcome) said.1 t.0, are_steps p.0.history rest p.0.fillings A' t.1)
 
 pub answered : (A : History) (exchanges : List (Act × List ℕ)) (fillings : List Filling) (A' : History) → plays A exchanges fillings ≡ Some A' → AreAnswered A exchanges A'
 answered A exchanges fillings A' e = record { steps = are_steps A exchanges fillings A' e }
