@@ -30,6 +30,9 @@ longer x xs e = omega (arith, ap length e)
 pub same_answer : (a b : Answer) → Accepts a ≡ Accepts b → a ≡ b
 same_answer a b e = cc
 
+pub same_refusal : (r q : Refusal) → Refuses r ≡ Refuses q → r ≡ q
+same_refusal r q e = cc
+
 pub other_outcome : (a : Answer) (r : Refusal) → Accepts a ≡ Refuses r → ⊥
 other_outcome a r e = absurd (let f : Accepts a ≡ Refuses r = e in cc)
 

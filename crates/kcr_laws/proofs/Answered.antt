@@ -17,15 +17,13 @@ use Rattle.kcr_laws.proofs.Shortages.{seating_or_least}
 module _ (A : History) (x : Command) where
   -- the first seating, or a least shortage
   by_seats : (s : Sitting) → (outcome : Outcome) × (A' : History) × seats A x s outcome A'
-  by_seats s = by_people (first_or_none A s.ceremony s.at s.seats)
-    where
-      by_people : ((people : List (List ℕ)) × IsFirst A s.ceremony s.at s.seats people) ⊎ ((others : List (List ℕ)) → is_seating A s.ceremony s.at s.seats others ≡ true → ⊥)
-          → (outcome : Outcome) × (A' : History) × seats A x s outcome A'
-      by_people (inl w) = let answer : Answer = answer_to A x.act (Some w.0) in (Accepts answer, with_command A x answer, inl (w.0, w.1, (refl, refl)))
-      by_people (inr none) = elim (seating_or_least A s.ceremony s.at s.seats) [
-        | inl w ↦ absurd (none w.0 w.1)
-        | inr w ↦ (Refuses (Short (map suc w.0)), A, inr (w.0, w.1, (refl, refl)))
-      ]
+  by_seats s = elim (first_or_none A s.ceremony s.at s.seats) [
+    | inl w ↦ let answer : Answer = answer_to A x.act (Some w.0) in (Accepts answer, with_command A x answer, inl (w.0, w.1, (refl, refl)))
+    | inr none ↦ elim (seating_or_least A s.ceremony s.at s.seats) [
+      | inl w ↦ absurd (none w.0 w.1)
+      | inr w ↦ (Refuses (Short (map suc w.0)), A, inr (w.0, w.1, (refl, refl)))
+    ]
+  ]
 
   by_sitting : (o : Option Sitting) → (outcome : Outcome) × (A' : History) × MatchOption o (accepts A x (answer_to A x.act None) outcome A') (λ s. seats A x s outcome A')
   by_sitting None = let answer : Answer = answer_to A x.act None in (Accepts answer, with_command A x answer, (refl, refl))

@@ -19,3 +19,4 @@ pub mod Places
 pub mod Hall
 pub mod Shortages
 pub mod Answered
+pub mod Refused

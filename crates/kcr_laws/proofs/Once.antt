@@ -1,5 +1,5 @@
 -- No key stands twice in a register.
-use Rattle.std.proofs.Common.{◌≡◌, ℕ, Bool, true, false, cond, not, ◌||◌, List, [], ◌∷◌, map, Some, None, refl}
+use Rattle.std.proofs.Common.{◌≡◌, ℕ, Bool, true, false, cond, not, ◌||◌, List, [], ◌∷◌, map, Some, None, refl, arith}
 use Rattle.std.specs.List.{list_any}
 use Rattle.std.proofs.lemmas.Bool.{and_from}
 use Rattle.std.proofs.lemmas.Cmp.{nat_list_eq_equiv}
@@ -11,11 +11,7 @@ use Rattle.kcr_laws.proofs.Accepted.{accepted}
 
 absent : (A : History) (key : List ℕ) → entry_of A key ≡ None → list_any (same_text key) (map (λ entry. entry.command.key) A) ≡ false
 absent [] key h = refl
-absent (entry ∷ A) key h = rw (nat_list_eq_equiv.symm key entry.command.key) (by_test (absent A key) (same_text entry.command.key key) h)
-  where
-    by_test : (entry_of A key ≡ None → list_any (same_text key) (map (λ entry. entry.command.key) A) ≡ false) → (b : Bool) → cond b (Some entry) (entry_of A key) ≡ None → (b || list_any (same_text key) (map (λ entry. entry.command.key) A)) ≡ false
-    by_test ih true g = absurd (let e : Some entry ≡ None = g in cc)
-    by_test ih false g = ih g
+absent (entry ∷ A) key h = grind (arith, nat_list_eq_equiv.symm key entry.command.key, absent A key)
 
 pub once : (A : History) → IsRegister A → IsOnce A
 once [] h = refl

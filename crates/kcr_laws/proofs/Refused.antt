@@ -1,0 +1,65 @@
+-- Which condition a first refusal is of, and that nobody of a list is refused.
+use Rattle.std.proofs.Common.{◌≡◌, ◌≢◌, ℕ, Bool, true, false, ◌==◌, List, [], ◌∷◌, ◌++◌, Option, Some, None, ap, ◌∙◌, arith}
+use Rattle.std.specs.List.{list_any}
+use Rattle.std.proofs.lemmas.Bool.{false≢true, eqb-false}
+use Rattle.kcr_base.specs.Refuse.{when, first_of}
+use Rattle.kcr_base.specs.Rows.{or_else}
+use Rattle.kcr_base.specs.Same.{same_text}
+use Rattle.kcr_base.specs.declared.refusal.Refusal.{Refusal}
+use Rattle.kcr_base.specs.declared.refusal.Refusal.TheVariants.{Crowd, Lone, Short}
+use Rattle.kcr_room.proofs.Agreement.{same-is}
+use Rattle.kcr_history.specs.Conditions.{first_with}
+
+-- REFUSALS OF OTHER KINDS
+
+-- what a refusal tells: that a room would be too full, that somebody would be alone in it, that people are wanting; or something else
+abbrev pub kind : Refusal → ℕ
+kind Crowd = 1
+kind (Lone t) = 2
+kind (Short positions) = 3
+kind other = 0
+
+-- a condition's refusal is of another kind than this one; each of some conditions' are
+abbrev pub IsOther : Refusal → Option Refusal → Type 0
+IsOther r None = Unit {0}
+IsOther r (Some q) = (kind q == kind r) ≡ false
+
+abbrev pub AreOther : Refusal → List (Option Refusal) → Type 0
+AreOther r [] = Unit {0}
+AreOther r (o ∷ os) = IsOther r o × AreOther r os
+
+pub other_when : (r : Refusal) (b : Bool) (q : Refusal) → (kind q == kind r) ≡ false → IsOther r (when b q)
+other_when r true q e = e
+other_when r false q e = tt
+
+pub other_of_all : {X : Type 0} (r : Refusal) (test : X → Option Refusal) → ((x : X) → IsOther r (test x)) → (xs : List X) → IsOther r (first_with test xs)
+other_of_all r test f [] = tt
+other_of_all r test f (x ∷ xs) = by_first (test x) (f x) (other_of_all r test f xs)
+  where
+    by_first : (o : Option Refusal) → IsOther r o → IsOther r (first_with test xs) → IsOther r (or_else o (first_with test xs))
+    by_first None e rest = rest
+    by_first (Some q) e rest = e
+
+apart : (q r : Refusal) → (kind q == kind r) ≡ false → Some q ≢ Some r
+apart q r e h = let same : q ≡ r = cc in eqb-false (kind q) (kind r) e (ap kind same)
+
+-- conditions of other kinds do not have the refusal
+pub not_of : (r : Refusal) (os : List (Option Refusal)) → AreOther r os → first_of os ≢ Some r
+not_of r [] a h = absurd (let e : None ≡ Some r = h in cc)
+not_of r (None ∷ os) a h = not_of r os a.1 h
+not_of r (Some q ∷ os) a h = apart q r a.0 h
+
+-- a first refusal is that of the one condition of its kind
+pub of_the_one : (r : Refusal) (before : List (Option Refusal)) (o : Option Refusal) (after : List (Option Refusal)) → AreOther r before → AreOther r after
+    → first_of (before ++ (o ∷ after)) ≡ Some r → o ≡ Some r
+of_the_one r [] None after b a h = absurd (not_of r after a h)
+of_the_one r [] (Some q) after b a h = h
+of_the_one r (None ∷ before) o after b a h = of_the_one r before o after b.1 a h
+of_the_one r (Some q ∷ before) o after b a h = absurd (apart q r b.0 h)
+
+-- NOBODY REFUSED
+
+-- where nobody of a list is refused, a member of it is not
+pub none_with : (test : List ℕ → Option Refusal) (people : List (List ℕ)) → first_with test people ≡ None → (p : List ℕ) → list_any (same_text p) people ≡ true → test p ≡ None
+none_with test [] h p m = absurd (false≢true m)
+none_with test (first ∷ people) h p m = grind (arith, same-is p first, none_with test people)
