@@ -1,5 +1,5 @@
 -- The machine has a step for every command.
-use Rattle.std.proofs.Common.{◌≡◌, suc, true, List, ℕ, map, Option, Some, None, MatchOption, ◌⊎◌, inl, inr, refl}
+use Rattle.std.proofs.Common.{suc, map, Option, Some, None, MatchOption, inl, inr, refl}
 use Rattle.std.specs.Prelude.{if◌then◌else◌}
 use Rattle.kcr_base.specs.declared.refusal.Refusal.{Refusal}
 use Rattle.kcr_base.specs.declared.refusal.Refusal.TheVariants.{Key, Short}
@@ -7,7 +7,6 @@ use Rattle.kcr_history.specs.declared.commands.Answer.{Answer}
 use Rattle.kcr_history.specs.declared.commands.Command.{Command}
 use Rattle.kcr_history.specs.declared.commands.Entry.{Entry}
 use Rattle.kcr_history.specs.History.{History, entry_of}
-use Rattle.kcr_history.specs.Seating.{is_seating, IsFirst}
 use Rattle.kcr_history.specs.Texts.{same_command}
 use Rattle.kcr_history.specs.Conditions.{fault}
 use Rattle.kcr_history.specs.Machine.{Outcome, Accepts, Refuses, Sitting, sitting, answer_to, with_command, accepts, seats, acts, repeats, machine}

@@ -1,22 +1,20 @@
 -- When a room would be too full, and when somebody would be alone in it.
-use Rattle.std.proofs.Common.{◌≡◌, ◌≢◌, ℕ, Bool, true, false, ◌==◌, not, nat_lt, nat_le, List, [], ◌∷◌, ◌++◌, Option, Some, None, option_map, refl, sym, ap, ◌∙◌, subst, inl, inr}
+use Rattle.kcr_laws.proofs.Refused.{kind, IsOther, AreOther, other_when, other_of_all, of_the_one}
+use Rattle.std.proofs.Common.{◌≡◌, ℕ, Bool, true, false, ◌==◌, nat_lt, nat_le, List, [], ◌∷◌, Option, Some, None, option_map, refl, ap, inl, inr, arith}
 use Rattle.std.proofs.lemmas.Bool.{both_ways, ltb-true, lt-ltb, eqb-true, eqb-false, eq-eqb, cases_order}
-use Rattle.kcr_base.specs.Refuse.{when, first_of}
-use Rattle.kcr_base.specs.Rows.{or_else}
+use Rattle.kcr_base.specs.Refuse.{when}
 use Rattle.kcr_base.specs.declared.refusal.Refusal.{Refusal}
-use Rattle.kcr_base.specs.declared.refusal.Refusal.TheVariants.{Unknown, State, Late, Turn, Crowd, Lone, Full}
-use Rattle.kcr_base.specs.declared.refusal.Thing.TheVariants as Things
+use Rattle.kcr_base.specs.declared.refusal.Refusal.TheVariants.{Late, Crowd, Lone, Full}
 use Rattle.kcr_room.specs.declared.SheetRow.{SheetRow}
 use Rattle.kcr_room.specs.declared.Way.{Way}
-use Rattle.kcr_room.specs.Adding.{is_out_of_turn_by, turn_refusal}
+use Rattle.kcr_room.specs.Adding.{turn_refusal}
 use Rattle.kcr_room.specs.Moments.{IsFirst, IsEver}
 use Rattle.kcr_room.specs.Room.{crowd_by}
 use Rattle.kcr_room.specs.Stays.{stays_by, first_lone_in_by, is_crowded_in_by}
 use Rattle.kcr_room.proofs.Moments.{first_lone-is_first, first_lone-by_rows, crowded-is_ever, crowded-by_rows}
 use Rattle.kcr_history.specs.declared.commands.Act.TheVariants.{Sheet}
 use Rattle.kcr_history.specs.History.{History}
-use Rattle.kcr_history.specs.Training.{is_person}
-use Rattle.kcr_history.specs.Ceremonies.{is_ceremony, is_open, mark}
+use Rattle.kcr_history.specs.Ceremonies.{mark}
 use Rattle.kcr_history.specs.Room.{sheet, sheet_after}
 use Rattle.kcr_history.specs.Conditions.{fault, is_full, no_ceremony, no_person, not_open, not_later, first_with, is_not_later, named_twice, first_twice, out_of_turn, crowded, lone, is_overfull}
 use Rattle.kcr_laws.specs.Conditions.{IsEverCrowded, IsFirstAlone, IsNeverAlone}
@@ -27,11 +25,12 @@ ever : (rows : List SheetRow) (c : ℕ) → IsEver (λ t. nat_lt 128 (crowd_by r
 ever rows c = crowded-by_rows rows c (is_crowded_in_by (stays_by rows) c) (crowded-is_ever (stays_by rows) c)
 
 pub crowd_told : (rows : List SheetRow) (c : ℕ) → crowded rows c ≡ Some Crowd → IsEverCrowded rows c
-crowd_told rows c h = by_test (is_crowded_in_by (stays_by rows) c) h (ever rows c)
+crowd_told rows c h =
+    let e = rw (told (is_crowded_in_by (stays_by rows) c) h) at (ever rows c) in
+    (e.0, ltb-true 128 (crowd_by rows c e.0) e.1)
   where
-    by_test : (b : Bool) → when b Crowd ≡ Some Crowd → IsEver (λ t. nat_lt 128 (crowd_by rows c t)) b → IsEverCrowded rows c
-    by_test false g e = absurd (let z : None ≡ Some Crowd = g in cc)
-    by_test true g e = (e.0, ltb-true 128 (crowd_by rows c e.0) e.1)
+    told : (b : Bool) → when b Crowd ≡ Some Crowd → b ≡ true
+    told b g = grind arith
 
 pub crowd_holds : (rows : List SheetRow) (c : ℕ) → IsEverCrowded rows c → crowded rows c ≡ Some Crowd
 crowd_holds rows c (t, l) = by_test (is_crowded_in_by (stays_by rows) c) (ever rows c)
@@ -46,20 +45,15 @@ first : (rows : List SheetRow) (c : ℕ) → IsFirst (λ t. crowd_by rows c t ==
 first rows c = first_lone-by_rows rows c (first_lone_in_by (stays_by rows) c) (first_lone-is_first (stays_by rows) c)
 
 moment_told : (o : Option ℕ) (t : ℕ) → option_map Lone o ≡ Some (Lone t) → o ≡ Some t
-moment_told None t h = absurd (let z : None ≡ Some (Lone t) = h in cc)
-moment_told (Some m) t h = (let z : Some (Lone m) ≡ Some (Lone t) = h in cc)
+moment_told o t h = grind arith
 
 none_told : (o : Option ℕ) → option_map Lone o ≡ None → o ≡ None
-none_told None h = refl
-none_told (Some m) h = absurd (let z : Some (Lone m) ≡ None = h in cc)
-
-not_one : (n : ℕ) → (n == 1) ≡ false → n ≢ 1
-not_one n e = eqb-false n 1 e
+none_told o h = grind arith
 
 pub lone_told : (rows : List SheetRow) (c t : ℕ) → lone rows c ≡ Some (Lone t) → IsFirstAlone rows c t
 lone_told rows c t h =
-    let f : IsFirst (λ u. crowd_by rows c u == 1) (Some t) = subst (IsFirst (λ u. crowd_by rows c u == 1)) (moment_told (first_lone_in_by (stays_by rows) c) t h) (first rows c) in
-    (eqb-true (crowd_by rows c t) 1 f.0, λ u l. not_one (crowd_by rows c u) (f.1 u l))
+    let f = rw (moment_told (first_lone_in_by (stays_by rows) c) t h) at (first rows c) in
+    (eqb-true (crowd_by rows c t) 1 f.0, λ u l. eqb-false (crowd_by rows c u) 1 (f.1 u l))
 
 pub lone_holds : (rows : List SheetRow) (c t : ℕ) → IsFirstAlone rows c t → lone rows c ≡ Some (Lone t)
 lone_holds rows c t (one, none) = by_moment (first_lone_in_by (stays_by rows) c) (first rows c)
@@ -73,9 +67,7 @@ lone_holds rows c t (one, none) = by_moment (first_lone_in_by (stays_by rows) c)
     ]
 
 pub never_told : (rows : List SheetRow) (c : ℕ) → lone rows c ≡ None → IsNeverAlone rows c
-never_told rows c h t =
-    let f : IsFirst (λ u. crowd_by rows c u == 1) None = subst (IsFirst (λ u. crowd_by rows c u == 1)) (none_told (first_lone_in_by (stays_by rows) c) h) (first rows c) in
-    not_one (crowd_by rows c t) (f t)
+never_told rows c h t = eqb-false (crowd_by rows c t) 1 ((rw (none_told (first_lone_in_by (stays_by rows) c) h) at (first rows c)) t)
 
 pub never_holds : (rows : List SheetRow) (c : ℕ) → IsNeverAlone rows c → lone rows c ≡ None
 never_holds rows c none = by_moment (first_lone_in_by (stays_by rows) c) (first rows c)
@@ -86,118 +78,45 @@ never_holds rows c none = by_moment (first_lone_in_by (stays_by rows) c) (first 
 
 -- THE FAULT OF A SHEET COMMAND
 
--- a refusal that the first of a list is not is that of the others
-passed : (o : Option Refusal) (os : List (Option Refusal)) (r : Refusal) → o ≢ Some r → first_of (o ∷ os) ≡ Some r → first_of os ≡ Some r
-passed None os r ne h = h
-passed (Some q) os r ne h = absurd (ne h)
+-- the conditions of a sheet command before those of the room, and those behind them
+abbrev before_room : History → ℕ → Way → List (List ℕ) → ℕ → List (Option Refusal) → List (Option Refusal)
+before_room A c way people at rest =
+    no_ceremony A c ∷ first_with (no_person A) people ∷ not_open A c ∷ not_later A c at ∷ named_twice people ∷ first_with (out_of_turn A c way at) people ∷ rest
 
--- no refusal of a list is this one
-abbrev pub NoneIs : Refusal → List (Option Refusal) → Type 0
-NoneIs r [] = Unit {0}
-NoneIs r (o ∷ os) = (o ≢ Some r) × NoneIs r os
+abbrev behind_room : History → ℕ → Way → List SheetRow → List (Option Refusal)
+behind_room A c way rows = when (is_overfull way rows c) Full ∷ when (is_full A) Full ∷ []
 
-pub beyond : (r : Refusal) (before os : List (Option Refusal)) → NoneIs r before → first_of (before ++ os) ≡ Some r → first_of os ≡ Some r
-beyond r [] os ne h = h
-beyond r (o ∷ before) os ne h = beyond r before os ne.1 (passed o (before ++ os) r ne.0 h)
-
--- a refusal that the others do not have is that of the first
-stopped : (o : Option Refusal) (os : List (Option Refusal)) (r : Refusal) → first_of os ≢ Some r → first_of (o ∷ os) ≡ Some r → o ≡ Some r
-stopped None os r ne h = absurd (ne h)
-stopped (Some q) os r ne h = h
-
--- a refusal of another kind
-pub other_kind : (b : Bool) (q r : Refusal) → q ≢ r → when b q ≢ Some r
-other_kind false q r ne h = absurd (let z : None ≡ Some r = h in cc)
-other_kind true q r ne h = ne (let z : Some q ≡ Some r = h in cc)
-
--- refusals of the room: those of the moments at which it would be too full, or somebody alone
-abbrev is_of_room : Refusal → Bool
-is_of_room Crowd = true
-is_of_room (Lone t) = true
-is_of_room r = false
-
-apart : (q r : Refusal) → is_of_room q ≡ false → is_of_room r ≡ true → q ≢ r
-apart q r f g e = both_ways (is_of_room r) (sym (ap is_of_room e) ∙ f) g
-
-other_of_all : {X : Type 0} (test : X → Option Refusal) (r : Refusal) → ((x : X) → test x ≢ Some r) → (xs : List X) → first_with test xs ≢ Some r
-other_of_all test r f [] h = absurd (let z : None ≡ Some r = h in cc)
-other_of_all test r f (x ∷ xs) h = by_first (test x) (f x) h (other_of_all test r f xs)
+-- none of them tells of the room
+others_before : (A : History) (c : ℕ) (way : Way) (people : List (List ℕ)) (at : ℕ) (rest : List (Option Refusal)) (r : Refusal) → (0 == kind r) ≡ false → AreOther r rest
+    → AreOther r (before_room A c way people at rest)
+others_before A c way people at rest r e others =
+    (other_when r _ _ e, (other_of_all r (no_person A) (λ who. other_when r _ _ e) people, (other_when r _ _ e, (not_late (mark A c), (not_twice (first_twice people), (other_of_all r (out_of_turn A c way at) (λ who. other_when r _ _ e) people, others))))))
   where
-    by_first : (o : Option Refusal) → o ≢ Some r → or_else o (first_with test xs) ≡ Some r → first_with test xs ≢ Some r → ⊥
-    by_first None ne g ih = ih g
-    by_first (Some q) ne g ih = ne g
+    not_late : (m : Option ℕ) → IsOther r (is_not_later at m)
+    not_late None = tt
+    not_late (Some m) = other_when r (nat_le at m) (Late m) e
 
-not_later_apart : (at : ℕ) (m : Option ℕ) (r : Refusal) → is_of_room r ≡ true → is_not_later at m ≢ Some r
-not_later_apart at None r g h = absurd (let z : None ≡ Some r = h in cc)
-not_later_apart at (Some m) r g h = other_kind (nat_le at m) (Late m) r (apart (Late m) r refl g) h
+    not_twice : (o : Option (List ℕ)) → IsOther r (turn_refusal o)
+    not_twice None = tt
+    not_twice (Some who) = e
 
-twice_apart : (o : Option (List ℕ)) (r : Refusal) → is_of_room r ≡ true → turn_refusal o ≢ Some r
-twice_apart None r g h = absurd (let z : None ≡ Some r = h in cc)
-twice_apart (Some who) r g h = apart (Turn who) r refl g (let z : Some (Turn who) ≡ Some r = h in cc)
-
--- the conditions of a sheet command before those of the room
-abbrev before_room : History → ℕ → Way → List (List ℕ) → ℕ → List (Option Refusal)
-before_room A c way people at =
-    no_ceremony A c
-    ∷ first_with (no_person A) people
-    ∷ not_open A c
-    ∷ not_later A c at
-    ∷ named_twice people
-    ∷ first_with (out_of_turn A c way at) people
-    ∷ []
-
--- the conditions of the room, and those behind them
-abbrev of_room : History → ℕ → Way → List (List ℕ) → ℕ → List (Option Refusal)
-of_room A c way people at =
-    crowded (sheet_after (Sheet c way people at) (sheet A)) c
-    ∷ lone (sheet_after (Sheet c way people at) (sheet A)) c
-    ∷ when (is_overfull way (sheet_after (Sheet c way people at) (sheet A)) c) Full
-    ∷ when (is_full A) Full
-    ∷ []
-
--- a fault of the room is none of the conditions before
-room_fault : (A : History) (c : ℕ) (way : Way) (people : List (List ℕ)) (at : ℕ) (r : Refusal) → is_of_room r ≡ true → fault A (Sheet c way people at) ≡ Some r → first_of (of_room A c way people at) ≡ Some r
-room_fault A c way people at r g h =
-    beyond r (before_room A c way people at) (of_room A c way people at) (
-      other_kind (not (is_ceremony A c)) (Unknown (Things.Ceremony c)) r (apart (Unknown (Things.Ceremony c)) r refl g),
-      (
-        other_of_all (no_person A) r (λ who. other_kind (not (is_person A who)) (Unknown (Things.Person who)) r (apart (Unknown (Things.Person who)) r refl g)) people,
-        (
-          other_kind (not (is_open A c)) State r (apart State r refl g),
-          (
-            not_later_apart at (mark A c) r g,
-            (
-              twice_apart (first_twice people) r g,
-              (other_of_all (out_of_turn A c way at) r (λ who. other_kind (is_out_of_turn_by (sheet A) c way at who) (Turn who) r (apart (Turn who) r refl g)) people, tt),
-            ),
-          ),
-        ),
-      ),
-    )
-    h
-
-full_apart : (b d : Bool) (r : Refusal) → is_of_room r ≡ true → first_of (when b Full ∷ when d Full ∷ []) ≢ Some r
-full_apart true d r g h = apart Full r refl g (let z : Some Full ≡ Some r = h in cc)
-full_apart false true r g h = apart Full r refl g (let z : Some Full ≡ Some r = h in cc)
-full_apart false false r g h = absurd (let z : None ≡ Some r = h in cc)
-
-not_lone : (o : Option ℕ) → option_map Lone o ≢ Some Crowd
-not_lone None h = absurd (let z : None ≡ Some Crowd = h in cc)
-not_lone (Some m) h = absurd (let z : Some (Lone m) ≡ Some Crowd = h in cc)
+others_behind : (A : History) (c : ℕ) (way : Way) (rows : List SheetRow) (r : Refusal) → (0 == kind r) ≡ false → AreOther r (behind_room A c way rows)
+others_behind A c way rows r e = (other_when r _ _ e, (other_when r _ _ e, tt))
 
 pub crowd_fault : (A : History) (c : ℕ) (way : Way) (people : List (List ℕ)) (at : ℕ) → fault A (Sheet c way people at) ≡ Some Crowd → IsEverCrowded (sheet_after (Sheet c way people at) (sheet A)) c
 crowd_fault A c way people at h =
     let rows = sheet_after (Sheet c way people at) (sheet A) in
     crowd_told rows c
-    (stopped (crowded rows c) (lone rows c ∷ when (is_overfull way rows c) Full ∷ when (is_full A) Full ∷ []) Crowd
-    (λ g. full_apart (is_overfull way rows c) (is_full A) Crowd refl (passed (lone rows c) (when (is_overfull way rows c) Full ∷ when (is_full A) Full ∷ []) Crowd (not_lone (first_lone_in_by (stays_by rows) c)) g))
-    (room_fault A c way people at Crowd refl h))
+    (of_the_one Crowd (before_room A c way people at []) (crowded rows c) (lone rows c ∷ behind_room A c way rows) (others_before A c way people at [] Crowd refl tt)
+    (not_lone (first_lone_in_by (stays_by rows) c), others_behind A c way rows Crowd refl) h)
+  where
+    not_lone : (o : Option ℕ) → IsOther Crowd (option_map Lone o)
+    not_lone None = tt
+    not_lone (Some m) = refl
 
 pub lone_fault : (A : History) (c : ℕ) (way : Way) (people : List (List ℕ)) (at t : ℕ) → fault A (Sheet c way people at) ≡ Some (Lone t) → IsFirstAlone (sheet_after (Sheet c way people at) (sheet A)) c t
 lone_fault A c way people at t h =
     let rows = sheet_after (Sheet c way people at) (sheet A) in
     lone_told rows c t
-    (stopped (lone rows c) (when (is_overfull way rows c) Full ∷ when (is_full A) Full ∷ []) (Lone t) (full_apart (is_overfull way rows c) (is_full A) (Lone t) refl)
-    (passed (crowded rows c) (lone rows c ∷ when (is_overfull way rows c) Full ∷ when (is_full A) Full ∷ []) (Lone t)
-    (other_kind (is_crowded_in_by (stays_by rows) c) Crowd (Lone t) (λ e. absurd (let z : Crowd ≡ Lone t = e in cc)))
-    (room_fault A c way people at (Lone t) refl h)))
+    (of_the_one (Lone t) (before_room A c way people at (crowded rows c ∷ [])) (lone rows c) (behind_room A c way rows)
+    (others_before A c way people at (crowded rows c ∷ []) (Lone t) refl (other_when (Lone t) _ _ refl, tt)) (others_behind A c way rows (Lone t) refl) h)

@@ -1,22 +1,21 @@
 -- Which condition a first refusal is of, and that nobody of a list is refused.
-use Rattle.std.proofs.Common.{◌≡◌, ◌≢◌, ℕ, Bool, true, false, ◌==◌, List, [], ◌∷◌, ◌++◌, Option, Some, None, ap, ◌∙◌, arith}
+use Rattle.std.proofs.Common.{◌≡◌, ◌≢◌, ℕ, Bool, true, false, ◌==◌, List, [], ◌∷◌, ◌++◌, Option, Some, None, ap, arith}
 use Rattle.std.specs.List.{list_any}
 use Rattle.std.proofs.lemmas.Bool.{false≢true, eqb-false}
 use Rattle.kcr_base.specs.Refuse.{when, first_of}
 use Rattle.kcr_base.specs.Rows.{or_else}
 use Rattle.kcr_base.specs.Same.{same_text}
 use Rattle.kcr_base.specs.declared.refusal.Refusal.{Refusal}
-use Rattle.kcr_base.specs.declared.refusal.Refusal.TheVariants.{Crowd, Lone, Short}
+use Rattle.kcr_base.specs.declared.refusal.Refusal.TheVariants.{Crowd, Lone}
 use Rattle.kcr_room.proofs.Agreement.{same-is}
 use Rattle.kcr_history.specs.Conditions.{first_with}
 
 -- REFUSALS OF OTHER KINDS
 
--- what a refusal tells: that a room would be too full, that somebody would be alone in it, that people are wanting; or something else
+-- what a refusal tells: that a room would be too full, that somebody would be alone in it; or something else
 abbrev pub kind : Refusal → ℕ
 kind Crowd = 1
 kind (Lone t) = 2
-kind (Short positions) = 3
 kind other = 0
 
 -- a condition's refusal is of another kind than this one; each of some conditions' are

@@ -1,26 +1,21 @@
 -- A signature is accepted exactly where its step is next and people can be seated.
 use Rattle.std.proofs.lemmas.Bool.Decides.{nat_tests}
-use Rattle.std.proofs.Common.{◌≡◌, ◌≢◌, ℕ, zero, suc, ◌<◌, Bool, true, false, not, ◌&&◌, nat_lt, List, [], ◌∷◌, map, length, Option, Some, None, MatchOption, is_some, is_none, ◌⊎◌, inl, inr, refl, sym, ap, arith, ◌∙◌}
+use Rattle.std.proofs.Common.{◌≡◌, ◌≢◌, ℕ, zero, suc, ◌<◌, true, false, ◌&&◌, List, [], ◌∷◌, map, length, Option, Some, None, is_some, inl, inr, refl, sym, ap, arith, ◌∙◌}
 use Rattle.std.specs.Prelude.{◌==◌, option_map, unwrap_or}
-use Rattle.std.proofs.lemmas.Bool.{true≢false, false≢true, and_parts, and_from, not-false, not_from_true, le-ltb, le-leb, lt-leb, ltb-false, leb-true}
-use Rattle.kcr_base.proofs.RefuseLemmas.{none_holds, unmet}
-use Rattle.kcr_base.specs.Refuse.{when, first_of, NoneHolds}
+use Rattle.std.proofs.lemmas.Bool.{false≢true, and_parts, lt-leb}
+use Rattle.kcr_base.specs.Refuse.{first_of, NoneHolds}
 use Rattle.kcr_base.specs.declared.refusal.Refusal.{Refusal}
-use Rattle.kcr_base.specs.declared.refusal.Refusal.TheVariants.{Unknown, State, Late, Order, Full, Short}
-use Rattle.kcr_base.specs.declared.refusal.Thing.TheVariants as Things
+use Rattle.kcr_base.specs.declared.refusal.Refusal.TheVariants.{Short}
 use Rattle.kcr_history.specs.declared.commands.Act.TheVariants.{Sign}
 use Rattle.kcr_history.specs.declared.commands.Answer.{Answer}
-use Rattle.kcr_history.specs.declared.commands.Command.{Command}
-use Rattle.kcr_history.specs.declared.commands.Entry.{Entry}
 use Rattle.kcr_history.specs.History.{History, entry_of}
 use Rattle.kcr_history.specs.Ceremonies.{Planned, plan_of, is_ceremony, steps_of, step_at, is_open, mark, next_step, is_not_before, next}
-use Rattle.kcr_history.specs.Seating.{is_seating, IsFirst, IsLeast}
+use Rattle.kcr_history.specs.Seating.{IsFirst, IsLeast}
 use Rattle.kcr_history.specs.Tables.{seats_at}
-use Rattle.kcr_history.specs.Conditions.{conditions, fault, is_full, is_late}
-use Rattle.kcr_history.specs.Machine.{Outcome, Accepts, Refuses, Sitting, answer_to, with_command, seats, acts, repeats, machine}
+use Rattle.kcr_history.specs.Conditions.{fault, is_full, is_late}
+use Rattle.kcr_history.specs.Machine.{Outcome, Accepts, Refuses, Sitting, answer_to, with_command, seats, acts, machine}
 use Rattle.kcr_laws.specs.Conditions.{signature, IsAccepted, CanFill, IsShortOf}
 use Rattle.kcr_laws.proofs.Accepted.{same_answer, other_outcome, same_refusal}
-use Rattle.kcr_laws.proofs.Refused.{IsOther, other_when, not_of}
 use Rattle.kcr_laws.proofs.Firsts.{first_or_none}
 use Rattle.kcr_laws.proofs.Shortages.{seating_or_least}
 use Rattle.kcr_laws.proofs.Halves.{one_half}
@@ -110,14 +105,7 @@ first_recorded A key c k at answer A' new h = by_seats (accepted_parts A key c k
 
 -- no condition of a signature tells of want of people
 never_short : (A : History) (c k at : ℕ) (p : List ℕ) → fault A (Sign c k at) ≢ Some (Short p)
-never_short A c k at p =
-    let r = Short p in
-    not_of r (conditions A (Sign c k at))
-    (other_when r _ _ refl, (other_when r _ _ refl, (other_when r _ _ refl, (other_late (mark A c), (other_when r _ _ refl, (other_when r _ _ refl, tt))))))
-  where
-    other_late : (m : Option ℕ) → IsOther (Short p) (is_late at m)
-    other_late None = tt
-    other_late (Some m) = other_when (Short p) (nat_lt at m) (Late m) refl
+never_short A c k at p h = grind arith
 
 -- what a signature that is refused for want of people tells
 short_parts : (A : History) (key : List ℕ) (c k at : ℕ) (p : List ℕ) (A' : History) → entry_of A key ≡ None → machine A (signature key c k at) (Refuses (Short p)) A'
