@@ -1,8 +1,6 @@
 -- What an accepted entry tells: its key was new, nothing refused it, and its answer is the one that the machine gives.
-use Rattle.std.proofs.Common.{◌≡◌, ℕ, Bool, true, cond, List, [], ◌∷◌, length, Option, Some, None, MatchOption, inl, inr, refl, sym, ap, ◌∙◌, arith, subst}
-use Rattle.std.specs.Prelude.{if◌then◌else◌}
+use Rattle.std.proofs.Common.{◌≡◌, ℕ, true, List, [], ◌∷◌, length, Option, Some, None, MatchOption, inl, inr, refl, ap, arith}
 use Rattle.kcr_base.specs.declared.refusal.Refusal.{Refusal}
-use Rattle.kcr_base.specs.declared.refusal.Refusal.TheVariants.{Key}
 use Rattle.kcr_history.specs.declared.commands.Act.{Act}
 use Rattle.kcr_history.specs.declared.commands.Answer.{Answer}
 use Rattle.kcr_history.specs.declared.commands.Command.{Command}
@@ -55,27 +53,31 @@ accepted A entry h =
     let t = by_key A entry (entry_of A entry.command.key) (fault A entry.command.act) h in
     record { new_key = t.0; no_fault = t.1; answered = t.2 }
 
+-- an entry by its parts
+abbrev pub one : List ℕ → Act → Answer → Entry
+one key act answer = record { command = record { key = key; act = act }; answer = answer }
+
+-- what holds of the empty history, and with a further command where it held before, holds of every history
+pub each_history : (P : History → Type 0) → P [] → ((A : History) (key : List ℕ) (act : Act) (answer : Answer) → P A → P (one key act answer ∷ A)) → (A : History) → P A
+each_history P base step [] = base
+each_history P base step (entry ∷ A) = step A entry.command.key entry.command.act entry.answer (each_history P base step A)
+
+-- what an accepted command keeps holds of every register
+pub each_register : (P : History → Type 0) → P [] → ((A : History) (key : List ℕ) (act : Act) (answer : Answer) → IsAccepted A (one key act answer) → P A → P (one key act answer ∷ A))
+    → (A : History) → IsRegister A → P A
+each_register P base step [] h = base
+each_register P base step (entry ∷ A) h = step A entry.command.key entry.command.act entry.answer (accepted A entry h.0) (each_register P base step A h.1)
+
 -- REPEATS
 
 pub repeated : (A : History) (x : Command) (kept : Entry) → entry_of A x.key ≡ Some kept → same_command kept.command.act x.act ≡ true
     → (outcome : Outcome) (A' : History) → machine A x outcome A' → (outcome ≡ Accepts kept.answer) × (A' ≡ A)
-repeated A x kept e s outcome A' h = by_entry (entry_of A x.key) e h
-  where
-    by_entry : (k : Option Entry) → k ≡ Some kept → MatchOption k (acts A x (fault A x.act) outcome A') (λ old. repeats A x old outcome A') → (outcome ≡ Accepts kept.answer) × (A' ≡ A)
-    by_entry None f g = absurd (let z : None ≡ Some kept = f in cc)
-    by_entry (Some old) f g =
-        let same : old ≡ kept = (let z : Some old ≡ Some kept = f in cc) in
-        (g.0 ∙ ap (λ (one : Entry). if same_command one.command.act x.act then Accepts one.answer else Refuses Key) same ∙ ap (λ (b : Bool). cond b (Accepts kept.answer) (Refuses Key)) s, g.1)
+repeated A x kept e s outcome A' h = let g = rw e at h in (rw s at g.0, g.1)
 
 -- STEPS FROM A REGISTER LEAD TO REGISTERS
 
-stays : (A A' : History) → IsRegister A → A' ≡ A → IsRegister A'
-stays A A' r e = subst IsRegister (sym e) r
-
 grows : (A : History) (x : Command) (answer : Answer) (outcome : Outcome) (A' : History) → IsRegister A → machine A x outcome A' → outcome ≡ Accepts answer → A' ≡ with_command A x answer → IsRegister A'
-grows A x answer outcome A' r h o e =
-    let step : machine A x (Accepts answer) (with_command A x answer) = subst (λ (B : History). machine A x (Accepts answer) B) e (subst (λ (z : Outcome). machine A x z A') o h) in
-    subst IsRegister (sym e) (step, r)
+grows A x answer outcome A' r h o e = rw e ((rw e at (rw o at h)), r)
 
 pub step_keeps : (A : History) (x : Command) (outcome : Outcome) (A' : History) → IsRegister A → machine A x outcome A' → IsRegister A'
 step_keeps A x outcome A' r h = by_entry (entry_of A x.key) (fault A x.act) h
@@ -83,15 +85,15 @@ step_keeps A x outcome A' r h = by_entry (entry_of A x.key) (fault A x.act) h
     seated : (s : Option Sitting) → MatchOption s (accepts A x (answer_to A x.act None) outcome A') (λ q. seats A x q outcome A') → IsRegister A'
     seated None g = grows A x (answer_to A x.act None) outcome A' r h g.0 g.1
     seated (Some s) (inl w) = grows A x (answer_to A x.act (Some w.0)) outcome A' r h w.2.0 w.2.1
-    seated (Some s) (inr w) = stays A A' r w.2.1
+    seated (Some s) (inr w) = rw w.2.1 r
 
     by_entry : (k : Option Entry) (f : Option Refusal) → MatchOption k (acts A x f outcome A') (λ old. repeats A x old outcome A') → IsRegister A'
-    by_entry (Some old) f g = stays A A' r g.1
-    by_entry None (Some refusal) g = stays A A' r g.1
+    by_entry (Some old) f g = rw g.1 r
+    by_entry None (Some refusal) g = rw g.1 r
     by_entry None None g = seated (sitting A x.act) g
 
 pub steps_keep : (A : History) (said : List (Act × List ℕ)) (A' : History) → IsRegister A → AreSteps A said A' → IsRegister A'
-steps_keep A [] A' r h = stays A A' r h
+steps_keep A [] A' r h = rw h r
 steps_keep A (one ∷ rest) A' r h = steps_keep h.1 rest A' (step_keeps A (new_command A one.0) h.0 h.1 r h.2) h.4
 
 pub answers_keep : (A A' : History) (said : List (Act × List ℕ)) → IsRegister A → AreAnswered A said A' → IsRegister A'
