@@ -27,10 +27,13 @@ turns A c way at people h p m = unmet _ (Turn p) (none_with (out_of_turn A c way
 
 -- rows that are neither crowded nor lone
 own_room : (rows : List SheetRow) (c : ℕ) → crowded rows c ≡ None → lone rows c ≡ None → (t : ℕ) → IsAllowed (crowd_by rows c t)
-own_room rows c k l t = (never_told rows c l t, elim (cases_lt 128 (crowd_by rows c t)) [
-  | inl more ↦ absurd (let e : None ≡ Some Crowd = sym k ∙ crowd_holds rows c (t, more) in cc)
-  | inr most ↦ most
-])
+own_room rows c k l t = (
+  never_told rows c l t,
+  elim (cases_lt 128 (crowd_by rows c t)) [
+    | inl more ↦ absurd (let e : None ≡ Some Crowd = sym k ∙ crowd_holds rows c (t, more) in cc)
+    | inr most ↦ most
+  ],
+)
 
 abbrev one : List ℕ → Act → Answer → Entry
 one key act answer = record { command = record { key = key; act = act }; answer = answer }

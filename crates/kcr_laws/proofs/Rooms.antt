@@ -128,8 +128,17 @@ rising_unique (x ∷ xs) (y ∷ ys) r s h = λ i. head i ∷ rising_unique xs ys
     -- else each of the two comes before the other
     apart : same_text x y ≡ false → ⊥
     apart e = grind (
-      arith, h x, h y, same-itself x, same-itself y, same-turned x y, p.0, q.0, before-turned x y,
-      one_of same_text same-is x (is_before y) ys, one_of same_text same-is y (is_before x) xs,
+      arith,
+      h x,
+      h y,
+      same-itself x,
+      same-itself y,
+      same-turned x y,
+      p.0,
+      q.0,
+      before-turned x y,
+      one_of same_text same-is x (is_before y) ys,
+      one_of same_text same-is y (is_before x) xs,
     )
 
     head : x ≡ y

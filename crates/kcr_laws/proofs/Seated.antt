@@ -1,22 +1,22 @@
 -- A later command never makes an earlier seating wrong.
-use Rattle.std.proofs.Common.{◌≡◌, ℕ, ◌<◌, ◌≤◌, Bool, true, false, cond, not, ◌||◌, ◌&&◌, ◌==◌, nat_le, max, List, [], ◌∷◌, map, filter, Option, Some, None, MatchOption, option_map, refl, sym, ap, ◌∙◌, subst, arith}
-use Rattle.std.specs.Prelude.{unwrap_or, is_some, is_none}
+use Rattle.kcr_base.specs.declared.place.Place.{Place}
+use Rattle.kcr_base.specs.declared.place.Role.{Role}
+use Rattle.std.proofs.lemmas.Bool.Decides.{nat_tests}
+use Rattle.std.proofs.Common.{◌≡◌, ℕ, ◌<◌, ◌≤◌, Bool, true, false, ◌||◌, ◌&&◌, ◌==◌, nat_le, List, [], ◌∷◌, map, filter, Option, Some, None, MatchOption, option_map, refl, sym, ap, ◌∙◌, arith}
+use Rattle.std.specs.Prelude.{unwrap_or, is_some}
 use Rattle.std.specs.List.{list_any, list_all, filter_map, cons_option}
-use Rattle.std.proofs.lemmas.Bool.{true≢false, and_parts, and_from, not-false, eqb-true, eq-eqb, leb-true, leb-false, le-leb}
+use Rattle.std.proofs.lemmas.Bool.{true≢false, and_parts, and_from, eqb-true, eq-eqb, leb-true, leb-false, le-leb, false≢true, or_left, or_right}
 use Rattle.kcr_base.proofs.RefuseLemmas.{none_holds, unmet}
 use Rattle.kcr_base.specs.Days.{day_of}
 use Rattle.kcr_base.specs.Rows.{or_else}
-use Rattle.kcr_base.specs.Same.{same_text, is_this}
+use Rattle.kcr_base.specs.Same.{is_this}
 use Rattle.kcr_base.specs.declared.place.Facility.{Facility}
 use Rattle.kcr_base.specs.declared.place.Facility.TheVariants.{East}
 use Rattle.kcr_base.specs.declared.place.Role.TheVariants.{Ca, Iw}
 use Rattle.kcr_base.specs.declared.place.Place.TheVariants as Places
-use Rattle.kcr_base.specs.declared.refusal.Refusal.TheVariants.{Unknown, Taken, State, Late}
-use Rattle.kcr_base.specs.declared.refusal.Thing.TheVariants as Things
+use Rattle.kcr_base.specs.declared.refusal.Refusal.TheVariants.{Taken, Late}
 use Rattle.kcr_room.proofs.Lists.{any-same}
 use Rattle.kcr_room.specs.Room.{in_by}
-use Rattle.std.specs.Result.{result_unwrap_or}
-use Rattle.kcr_script.specs.Reading.{script_of}
 use Rattle.kcr_script.specs.declared.seat.Seat.{Seat}
 use Rattle.kcr_script.specs.declared.seat.Seat.TheVariants.{Staff, AnyCo, AnyRksh, Co, Rksh}
 use Rattle.kcr_history.specs.declared.commands.Act.{Act}
@@ -24,23 +24,20 @@ use Rattle.kcr_history.specs.declared.commands.Act.TheVariants.{AddItem, Plan, O
 use Rattle.kcr_history.specs.declared.commands.Answer.{Answer}
 use Rattle.kcr_history.specs.declared.commands.Entry.{Entry}
 use Rattle.kcr_history.specs.History.{History, all_said, greatest, max_with}
-use Rattle.kcr_history.specs.Training.{is_holder}
-use Rattle.kcr_history.specs.Ceremonies.{Planned, planned_as, plan_of, is_ceremony, facility_of, steps_of, opened, closed, is_open, marked, mark, opened_number, all_marks, settled}
+use Rattle.kcr_history.specs.Training.{trained, holder}
+use Rattle.kcr_history.specs.Ceremonies.{Planned, planned_as, plan_of, is_ceremony, facility_of, steps_of, opened, marked, mark, opened_number, all_marks, settled}
 use Rattle.kcr_history.specs.Room.{sheet, is_in}
 use Rattle.kcr_history.specs.Seating.{fits, eligible, is_seating, one_to_seven}
 use Rattle.kcr_history.specs.Tables.{seats_at}
-use Rattle.kcr_history.specs.Conditions.{conditions, fault, no_ceremony, not_open, is_not_later}
+use Rattle.kcr_history.specs.Conditions.{conditions, fault, is_not_later}
 use Rattle.kcr_history.specs.Machine.{sitting, IsRegister}
 use Rattle.kcr_history.specs.Laws.{is_seated, are_seated}
-use Rattle.kcr_laws.proofs.Accepted.{IsAnswerTo, accepted}
+use Rattle.kcr_laws.proofs.Accepted.{IsAnswerTo, accepted, one, each_history}
 use Rattle.kcr_laws.proofs.Stays.{trained_stays, holder_stays}
 use Rattle.kcr_laws.proofs.Rooms.{in_before, in_other}
 use Rattle.kcr_laws.proofs.Alone.{turns}
 
 -- MOMENTS OF THE PAST
-
-abbrev one : List ℕ → Act → Answer → Entry
-one key act answer = record { command = record { key = key; act = act }; answer = answer }
 
 -- there is a greatest moment, and t is not later
 abbrev at_most : ℕ → Option ℕ → Bool
@@ -54,12 +51,12 @@ abbrev moments_of : ℕ → List (ℕ × ℕ) → List ℕ
 moments_of c ms = map (λ m. m.1) (filter (λ m. m.0 == c) ms)
 
 more_at_most : (t m : ℕ) (o : Option ℕ) → at_most t o ≡ true → nat_le t (max_with m o) ≡ true
-more_at_most t m None h = absurd (true≢false (sym h))
-more_at_most t m (Some n) h = le-leb t (max m n) (omega (arith, leb-true t n h))
+more_at_most t m None h = absurd (false≢true h)
+more_at_most t m (Some n) h = grind (arith, nat_tests)
 
-own_at_most : (m : ℕ) (o : Option ℕ) → nat_le m (max_with m o) ≡ true
-own_at_most m None = le-leb m m (omega arith)
-own_at_most m (Some n) = le-leb m (max m n) (omega arith)
+max_at_most : (t m : ℕ) (o : Option ℕ) → nat_le t m ≡ true → nat_le t (max_with m o) ≡ true
+max_at_most t m None h = h
+max_at_most t m (Some n) h = grind (arith, nat_tests)
 
 -- what was not later than the greatest moment still is not, where there may be one more
 older_all : (t : ℕ) (o : Option ℕ) (ns : List ℕ) → at_most t (greatest ns) ≡ true → at_most t (greatest (cons_option o ns)) ≡ true
@@ -68,11 +65,7 @@ older_all t (Some n) ns h = more_at_most t n (greatest ns) h
 
 older_of : (c t : ℕ) (o : Option (ℕ × ℕ)) (ms : List (ℕ × ℕ)) → at_most t (greatest (moments_of c ms)) ≡ true → at_most t (greatest (moments_of c (cons_option o ms))) ≡ true
 older_of c t None ms h = h
-older_of c t (Some m) ms h = by_ceremony (m.0 == c)
-  where
-    by_ceremony : (b : Bool) → at_most t (greatest (moments (cond b (m ∷ filter (λ n. n.0 == c) ms) (filter (λ n. n.0 == c) ms)))) ≡ true
-    by_ceremony true = more_at_most t m.1 (greatest (moments_of c ms)) h
-    by_ceremony false = h
+older_of c t (Some m) ms h = grind (arith, more_at_most t m.1 (greatest (moments_of c ms)), h)
 
 -- the ceremony was opened
 abbrev was_opened : ℕ → List ℕ → Bool
@@ -93,11 +86,7 @@ still_ceremony (Some x) p h = refl
 
 still_opened : (c : ℕ) (o : Option ℕ) (numbers : List ℕ) → was_opened c numbers ≡ true → was_opened c (cons_option o numbers) ≡ true
 still_opened c None numbers h = h
-still_opened c (Some n) numbers h = by_test (n == c)
-  where
-    by_test : (b : Bool) → (b || was_opened c numbers) ≡ true
-    by_test true = refl
-    by_test false = h
+still_opened c (Some n) numbers h = or_right (n == c) (was_opened c numbers) h
 
 still_past : (A : History) (entry : Entry) (o : Option (ℕ × ℕ)) → is_past_if A o ≡ true → is_past_if (entry ∷ A) o ≡ true
 still_past A entry None h = refl
@@ -107,50 +96,31 @@ still_past A entry (Some m) h =
     and_from (is_ceremony (entry ∷ A) m.0) _ (still_ceremony (planned_as m.0 entry.command.act) (plan_of A m.0) p.0)
     (and_from (at_most m.1 (mark (entry ∷ A) m.0)) _ (older_of m.0 m.1 (marked entry.command.act) (all_said marked A) q.0) (still_opened m.0 (opened_number entry.command.act) (all_said opened_number A) q.1))
 
--- a command with a moment is one of a planned ceremony
-known : (A : History) (c : ℕ) → no_ceremony A c ≡ None → is_ceremony A c ≡ true
-known A c h = not-false (is_ceremony A c) (unmet (not (is_ceremony A c)) (Unknown (Things.Ceremony c)) h)
-
-marks_known : (A : History) (act : Act) → fault A act ≡ None → MatchOption (marked act) (Unit {0}) (λ m. is_ceremony A m.0 ≡ true)
-marks_known A (Open c at) f = known A c (none_holds (conditions A (Open c at)) f).0
-marks_known A (Sign c k at) f = known A c (none_holds (conditions A (Sign c k at)) f).0
-marks_known A (Except c text pass at) f = known A c (none_holds (conditions A (Except c text pass at)) f).0
-marks_known A (AddItem c item at) f = known A c (none_holds (conditions A (AddItem c item at)) f).0
-marks_known A (TurnSafe c safe state by at) f = known A c (none_holds (conditions A (TurnSafe c safe state by at)) f).0
-marks_known A (Seal c serial items at) f = known A c (none_holds (conditions A (Seal c serial items at)) f).0
-marks_known A (Take c serial at) f = known A c (none_holds (conditions A (Take c serial at)) f).0
-marks_known A (Put c serial to at) f = known A c (none_holds (conditions A (Put c serial to at)) f).0
-marks_known A (Cut c serial at) f = known A c (none_holds (conditions A (Cut c serial at)) f).0
-marks_known A act f = tt
-
 -- a ceremony that is open was opened
 opened_after : (A : History) (key : List ℕ) (act : Act) (answer : Answer) (c : ℕ) → (is_some (opened A c) ≡ true → was_opened c (all_said opened_number A) ≡ true)
     → is_some (opened (one key act answer ∷ A) c) ≡ true → was_opened c (all_said opened_number (one key act answer ∷ A)) ≡ true
-opened_after A key (Open d at) answer c ih h = by_ceremony (d == c) h
-  where
-    by_ceremony : (b : Bool) → is_some (or_else (cond b (Some at) None) (opened A c)) ≡ true → (b || was_opened c (all_said opened_number A)) ≡ true
-    by_ceremony true g = refl
-    by_ceremony false g = ih g
+opened_after A key (Open d at) answer c ih h = grind (arith, ih)
 opened_after A key act answer c ih h = ih h
 
 opened_there : (A : History) (c : ℕ) → is_some (opened A c) ≡ true → was_opened c (all_said opened_number A) ≡ true
-opened_there [] c h = absurd (true≢false (sym h))
-opened_there (entry ∷ A) c h = opened_after A entry.command.key entry.command.act entry.answer c (opened_there A c) h
+opened_there A c =
+    each_history (λ B. is_some (opened B c) ≡ true → was_opened c (all_said opened_number B) ≡ true) (λ h. absurd (false≢true h)) (λ B key act answer. opened_after B key act answer c) A
 
-open_there : (A : History) (c : ℕ) → not_open A c ≡ None → was_opened c (all_said opened_number A) ≡ true
-open_there A c h = opened_there A c (and_parts (is_some (opened A c)) (is_none (closed A c)) (not-false (is_open A c) (unmet (not (is_open A c)) State h))).0
+-- a command with a moment is one of a ceremony that is planned and was opened
+abbrev IsKnown : History → Act → ℕ × ℕ → Type 0
+IsKnown A act m = (is_ceremony A m.0 ≡ true) × (was_opened m.0 (cons_option (opened_number act) (all_said opened_number A)) ≡ true)
 
-marks_opened : (A : History) (act : Act) → fault A act ≡ None → MatchOption (marked act) (Unit {0}) (λ m. was_opened m.0 (cons_option (opened_number act) (all_said opened_number A)) ≡ true)
-marks_opened A (Open c at) f = ap (λ b. b || was_opened c (all_said opened_number A)) (eq-eqb c c refl)
-marks_opened A (Sign c k at) f = open_there A c (none_holds (conditions A (Sign c k at)) f).1.1.0
-marks_opened A (Except c text pass at) f = open_there A c (none_holds (conditions A (Except c text pass at)) f).1.0
-marks_opened A (AddItem c item at) f = open_there A c (none_holds (conditions A (AddItem c item at)) f).1.1.0
-marks_opened A (TurnSafe c safe state by at) f = open_there A c (none_holds (conditions A (TurnSafe c safe state by at)) f).1.1.0
-marks_opened A (Seal c serial items at) f = open_there A c (none_holds (conditions A (Seal c serial items at)) f).1.1.1.0
-marks_opened A (Take c serial at) f = open_there A c (none_holds (conditions A (Take c serial at)) f).1.1.0
-marks_opened A (Put c serial to at) f = open_there A c (none_holds (conditions A (Put c serial to at)) f).1.1.1.0
-marks_opened A (Cut c serial at) f = open_there A c (none_holds (conditions A (Cut c serial at)) f).1.1.0
-marks_opened A act f = tt
+marks_known : (A : History) (act : Act) → fault A act ≡ None → MatchOption (marked act) (Unit {0}) (IsKnown A act)
+marks_known A (Open c at) f = (grind arith, or_left (c == c) _ (eq-eqb c c refl))
+marks_known A (Sign c k at) f = (grind arith, opened_there A c (grind arith))
+marks_known A (Except c text pass at) f = (grind arith, opened_there A c (grind arith))
+marks_known A (AddItem c item at) f = (grind arith, opened_there A c (grind arith))
+marks_known A (TurnSafe c safe state by at) f = (grind arith, opened_there A c (grind arith))
+marks_known A (Seal c serial items at) f = (grind arith, opened_there A c (grind arith))
+marks_known A (Take c serial at) f = (grind arith, opened_there A c (grind arith))
+marks_known A (Put c serial to at) f = (grind arith, opened_there A c (grind arith))
+marks_known A (Cut c serial at) f = (grind arith, opened_there A c (grind arith))
+marks_known A act f = tt
 
 -- the same, where the history has one command more, and it has this moment
 abbrev is_past_with : History → Act → Option (ℕ × ℕ) → Option (ℕ × ℕ) → Bool
@@ -160,30 +130,24 @@ is_past_with A act o (Some m) =
 
 -- once it is accepted its moment is past
 now_past : (A : History) (entry : Entry) → fault A entry.command.act ≡ None → is_past_if (entry ∷ A) (marked entry.command.act) ≡ true
-now_past A entry f = by_mark (marked entry.command.act) (marks_known A entry.command.act f) (marks_opened A entry.command.act f)
+now_past A entry f = by_mark (marked entry.command.act) (marks_known A entry.command.act f)
   where
-    own : (m : ℕ × ℕ) (b : Bool) → (m.0 == m.0) ≡ b → at_most m.1 (greatest (moments (cond b (m ∷ filter (λ n. n.0 == m.0) (all_said marked A)) (filter (λ n. n.0 == m.0) (all_said marked A))))) ≡ true
-    own m true e = own_at_most m.1 (greatest (moments_of m.0 (all_said marked A)))
-    own m false e = absurd (true≢false (sym (eq-eqb m.0 m.0 refl) ∙ e))
+    own : (m : ℕ × ℕ) → at_most m.1 (greatest (moments_of m.0 (m ∷ all_said marked A))) ≡ true
+    own m = rw (eq-eqb m.0 m.0 refl) (max_at_most m.1 m.1 (greatest (moments_of m.0 (all_said marked A))) (le-leb m.1 m.1 (omega arith)))
 
-    by_mark : (o : Option (ℕ × ℕ)) → MatchOption o (Unit {0}) (λ m. is_ceremony A m.0 ≡ true)
-        → MatchOption o (Unit {0}) (λ m. was_opened m.0 (cons_option (opened_number entry.command.act) (all_said opened_number A)) ≡ true) → is_past_with A entry.command.act o o ≡ true
-    by_mark None k w = refl
-    by_mark (Some m) k w =
-        and_from (is_some (or_else (planned_as m.0 entry.command.act) (plan_of A m.0))) _ (still_ceremony (planned_as m.0 entry.command.act) (plan_of A m.0) k)
-        (and_from (at_most m.1 (greatest (moments_of m.0 (cons_option (Some m) (all_said marked A))))) _ (own m (m.0 == m.0) refl) w)
+    by_mark : (o : Option (ℕ × ℕ)) → MatchOption o (Unit {0}) (IsKnown A entry.command.act) → is_past_with A entry.command.act o o ≡ true
+    by_mark None k = refl
+    by_mark (Some m) k =
+        and_from (is_some (or_else (planned_as m.0 entry.command.act) (plan_of A m.0))) _ (still_ceremony (planned_as m.0 entry.command.act) (plan_of A m.0) k.0)
+        (and_from (at_most m.1 (greatest (moments_of m.0 (cons_option (Some m) (all_said marked A))))) _ (own m) k.1)
 
 -- WHAT A LATER COMMAND LEAVES AS IT IS
 
 -- no ceremony is planned twice
 not_planned : (A : History) (act : Act) (c : ℕ) → fault A act ≡ None → is_ceremony A c ≡ true → planned_as c act ≡ None
-not_planned A (Plan number facility day script) c f k = by_number (number == c) refl
-  where
-    by_number : (b : Bool) → (number == c) ≡ b → cond {A = Option Planned} b (Some (record { facility = facility; day = day; steps = result_unwrap_or (script_of script) [] })) None ≡ None
-    by_number false e = refl
-    by_number true e =
-        let taken : is_ceremony A number ≡ false = unmet (is_ceremony A number) Taken (none_holds (conditions A (Plan number facility day script)) f).0 in
-        absurd (true≢false (sym k ∙ ap (is_ceremony A) (sym (eqb-true number c e)) ∙ taken))
+not_planned A (Plan number facility day script) c f k =
+    let taken : is_ceremony A number ≡ false = unmet (is_ceremony A number) Taken (none_holds (conditions A (Plan number facility day script)) f).0 in
+    grind (arith, nat_tests, ap (is_ceremony A))
 not_planned A act c f k = refl
 
 same_plan : (A : History) (entry : Entry) (c : ℕ) → fault A entry.command.act ≡ None → is_ceremony A c ≡ true → plan_of (entry ∷ A) c ≡ plan_of A c
@@ -213,12 +177,8 @@ one_of_marks A c t [] w k = absurd (true≢false (sym w))
 one_of_marks A c t (n ∷ numbers) w k = by_number (n == c) refl w (one_of_marks A c t numbers)
   where
     first : (o : Option ℕ) (ns : List ℕ) → at_most t o ≡ true → at_most t (greatest (cons_option o ns)) ≡ true
-    first None ns h = absurd (true≢false (sym h))
-    first (Some m) ns h = by_rest (greatest ns)
-      where
-        by_rest : (o : Option ℕ) → nat_le t (max_with m o) ≡ true
-        by_rest None = h
-        by_rest (Some r) = le-leb t (max m r) (omega (arith, leb-true t m h))
+    first None ns h = absurd (false≢true h)
+    first (Some m) ns h = max_at_most t m (greatest ns) h
 
     by_number : (b : Bool) → (n == c) ≡ b → (b || was_opened c numbers) ≡ true → (was_opened c numbers ≡ true → at_most t (mark A c) ≡ true → at_most t (greatest (filter_map (mark A) numbers)) ≡ true)
         → at_most t (greatest (cons_option (mark A n) (filter_map (mark A) numbers))) ≡ true
@@ -230,29 +190,21 @@ settled_at : (A : History) (t : ℕ) (o : Option ℕ) → greatest (all_marks A)
 settled_at A t None e k = absurd (true≢false (sym k))
 settled_at A t (Some m) e k = (day_of m, ap (option_map day_of) e, omega (arith, leb-true t m k))
 
--- whoever fitted a seat then still does
-fits_still : (A : History) (entry : Entry) (facility : Facility) (t : ℕ) (seat : Seat) (who : List ℕ) → fault A entry.command.act ≡ None → (s : ℕ) → settled A ≡ Some s → day_of t ≤ s
-    → fits A facility (day_of t) seat who ≡ true → fits (entry ∷ A) facility (day_of t) seat who ≡ true
-fits_still A entry facility t (Staff role) who f s e l h = trained_stays A entry who role s (day_of t) f e l h
-fits_still A entry facility t AnyCo who f s e l h =
-    any-same (λ n. is_holder (entry ∷ A) (Places.Co facility n) (day_of t) who) (λ n. is_holder A (Places.Co facility n) (day_of t) who) one_to_seven
-    (λ n. ap (is_this who) (holder_stays A entry (Places.Co facility n) s (day_of t) f e l)) ∙ h
-fits_still A entry facility t (Co n) who f s e l h = ap (is_this who) (holder_stays A entry (Places.Co facility n) s (day_of t) f e l) ∙ h
-fits_still A entry facility t AnyRksh who f s e l h =
-    any-same (λ n. is_holder (entry ∷ A) (Places.Rksh n) (day_of t) who) (λ n. is_holder A (Places.Rksh n) (day_of t) who) one_to_seven
-    (λ n. ap (is_this who) (holder_stays A entry (Places.Rksh n) s (day_of t) f e l)) ∙ h
-fits_still A entry facility t (Rksh n) who f s e l h = ap (is_this who) (holder_stays A entry (Places.Rksh n) s (day_of t) f e l) ∙ h
+-- whoever fits a seat in one history does in another where who is trained stays so and places have the same holders
+fits_mono : (A B : History) (facility : Facility) (d : ℕ) → ((who : List ℕ) (role : Role) → trained A who role d ≡ true → trained B who role d ≡ true) → ((place : Place) → holder B place d ≡ holder A place d)
+    → (seat : Seat) (who : List ℕ) → fits A facility d seat who ≡ true → fits B facility d seat who ≡ true
+fits_mono A B facility d train hold (Staff role) who h = train who role h
+fits_mono A B facility d train hold AnyCo who h = any-same _ _ one_to_seven (λ n. ap (is_this who) (hold (Places.Co facility n))) ∙ h
+fits_mono A B facility d train hold (Co n) who h = ap (is_this who) (hold (Places.Co facility n)) ∙ h
+fits_mono A B facility d train hold AnyRksh who h = any-same _ _ one_to_seven (λ n. ap (is_this who) (hold (Places.Rksh n))) ∙ h
+fits_mono A B facility d train hold (Rksh n) who h = ap (is_this who) (hold (Places.Rksh n)) ∙ h
 
 -- a seating in one history is one in another, where whoever is eligible in the one is in the other
 seating_mono : (A B : History) (c t : ℕ) → ((seat : Seat) (who : List ℕ) → eligible A c t seat who ≡ true → eligible B c t seat who ≡ true)
     → (seats : List Seat) (people : List (List ℕ)) → is_seating A c t seats people ≡ true → is_seating B c t seats people ≡ true
-seating_mono A B c t g [] [] h = refl
-seating_mono A B c t g [] (who ∷ people) h = absurd (true≢false (sym h))
-seating_mono A B c t g (seat ∷ seats) [] h = absurd (true≢false (sym h))
-seating_mono A B c t g (seat ∷ seats) (who ∷ people) h =
-    let p = and_parts (eligible A c t seat who && not (list_any (same_text who) people)) (is_seating A c t seats people) h in
-    let q = and_parts (eligible A c t seat who) (not (list_any (same_text who) people)) p.0 in
-    and_from (eligible B c t seat who && not (list_any (same_text who) people)) _ (and_from (eligible B c t seat who) _ (g seat who q.0) q.1) (seating_mono A B c t g seats people p.1)
+seating_mono A B c t g [] people h = h
+seating_mono A B c t g (seat ∷ seats) [] h = absurd (false≢true h)
+seating_mono A B c t g (seat ∷ seats) (who ∷ people) h = grind (arith, g seat who, seating_mono A B c t g seats people)
 
 -- whoever was eligible at a past moment still is
 eligible_still : (A : History) (entry : Entry) (c t : ℕ) → fault A entry.command.act ≡ None → is_past A (c, t) ≡ true → (seat : Seat) (who : List ℕ) → eligible A c t seat who ≡ true → eligible (entry ∷ A) c t seat who ≡ true
@@ -263,7 +215,8 @@ eligible_still A entry c t f past seat who h =
     let s = settled_at A t (greatest (all_marks A)) refl (one_of_marks A c t (all_said opened_number A) q.1 q.0) in
     let facility : facility_of (entry ∷ A) c ≡ facility_of A c = ap (λ o. unwrap_or (option_map (λ (plan : Planned). plan.facility) o) East) (same_plan A entry c f p.0) in
     and_from (is_in (entry ∷ A) who c t) _ (same_in A entry.command.key entry.command.act entry.answer who c t f q.0 ∙ r.0)
-    (ap (λ z. fits (entry ∷ A) z (day_of t) seat who) facility ∙ fits_still A entry (facility_of A c) t seat who f s.0 s.1 s.2 r.1)
+    (ap (λ z. fits (entry ∷ A) z (day_of t) seat who) facility
+    ∙ fits_mono A (entry ∷ A) (facility_of A c) (day_of t) (λ p role. trained_stays A entry p role s.0 (day_of t) f s.1 s.2) (λ place. holder_stays A entry place s.0 (day_of t) f s.1 s.2) seat who r.1)
 
 same_seats : (A : History) (entry : Entry) (c k : ℕ) → fault A entry.command.act ≡ None → is_ceremony A c ≡ true → seats_at (steps_of (entry ∷ A) c) k ≡ seats_at (steps_of A c) k
 same_seats A entry c k f p = ap (λ o. seats_at (unwrap_or (option_map (λ (plan : Planned). plan.steps) o) []) k) (same_plan A entry c f p)
@@ -283,33 +236,20 @@ old_seated A entry act people f past h = refl
 
 -- THE NEW SEATING
 
-new_eligible : (A : History) (entry : Entry) (c t : ℕ) → sheet (entry ∷ A) ≡ sheet A → ((seat : Seat) (who : List ℕ) → fits (entry ∷ A) (facility_of (entry ∷ A) c) (day_of t) seat who ≡ fits A (facility_of A c) (day_of t) seat who)
+-- a command that says nothing of the sheet, of training and of places leaves everybody as eligible as before
+new_eligible : (A : History) (entry : Entry) (c t : ℕ) → sheet (entry ∷ A) ≡ sheet A → facility_of (entry ∷ A) c ≡ facility_of A c
+    → ((who : List ℕ) (role : Role) → trained A who role (day_of t) ≡ true → trained (entry ∷ A) who role (day_of t) ≡ true) → ((place : Place) → holder (entry ∷ A) place (day_of t) ≡ holder A place (day_of t))
     → (seat : Seat) (who : List ℕ) → eligible A c t seat who ≡ true → eligible (entry ∷ A) c t seat who ≡ true
-new_eligible A entry c t s g seat who h =
+new_eligible A entry c t s here train hold seat who h =
     let r = and_parts (is_in A who c t) (fits A (facility_of A c) (day_of t) seat who) h in
-    and_from (is_in (entry ∷ A) who c t) _ (ap (λ rows. in_by rows who c t) s ∙ r.0) (g seat who ∙ r.1)
+    and_from (is_in (entry ∷ A) who c t) _ (ap (λ rows. in_by rows who c t) s ∙ r.0)
+    (ap (λ z. fits (entry ∷ A) z (day_of t) seat who) here ∙ fits_mono A (entry ∷ A) (facility_of A c) (day_of t) train hold seat who r.1)
 
 new_seated : (A : History) (key : List ℕ) (act : Act) (answer : Answer) → IsAnswerTo A act answer (sitting A act) → is_seated (one key act answer ∷ A) (sitting (one key act answer ∷ A) act) answer.seating ≡ true
 new_seated A key (Sign c k at) answer w =
-    subst (λ (z : Answer). is_seated (one key (Sign c k at) answer ∷ A) (sitting (one key (Sign c k at) answer ∷ A) (Sign c k at)) z.seating ≡ true) (sym w.2)
-    (seating_mono A (one key (Sign c k at) answer ∷ A) c at (new_eligible A (one key (Sign c k at) answer) c at refl (λ seat who. same_fits seat who)) (seats_at (steps_of A c) k) w.0 w.1.seating)
-  where
-    same_fits : (seat : Seat) (who : List ℕ) → fits (one key (Sign c k at) answer ∷ A) (facility_of A c) (day_of at) seat who ≡ fits A (facility_of A c) (day_of at) seat who
-    same_fits (Staff role) who = refl
-    same_fits AnyCo who = refl
-    same_fits (Co n) who = refl
-    same_fits AnyRksh who = refl
-    same_fits (Rksh n) who = refl
+    rw w.2 (seating_mono A (one key (Sign c k at) answer ∷ A) c at (new_eligible A (one key (Sign c k at) answer) c at refl refl (λ who role h. h) (λ place. refl)) (seats_at (steps_of A c) k) w.0 w.1.seating)
 new_seated A key (Except c text true at) answer w =
-    subst (λ (z : Answer). is_seated (one key (Except c text true at) answer ∷ A) (sitting (one key (Except c text true at) answer ∷ A) (Except c text true at)) z.seating ≡ true) (sym w.2)
-    (seating_mono A (one key (Except c text true at) answer ∷ A) c at (new_eligible A (one key (Except c text true at) answer) c at refl (λ seat who. same_fits seat who)) (Staff Ca ∷ Staff Iw ∷ []) w.0 w.1.seating)
-  where
-    same_fits : (seat : Seat) (who : List ℕ) → fits (one key (Except c text true at) answer ∷ A) (facility_of A c) (day_of at) seat who ≡ fits A (facility_of A c) (day_of at) seat who
-    same_fits (Staff role) who = refl
-    same_fits AnyCo who = refl
-    same_fits (Co n) who = refl
-    same_fits AnyRksh who = refl
-    same_fits (Rksh n) who = refl
+    rw w.2 (seating_mono A (one key (Except c text true at) answer ∷ A) c at (new_eligible A (one key (Except c text true at) answer) c at refl refl (λ who role h. h) (λ place. refl)) (Staff Ca ∷ Staff Iw ∷ []) w.0 w.1.seating)
 new_seated A key (Except c text false at) answer w = refl
 new_seated A key act answer w = refl
 
