@@ -3,7 +3,7 @@ use Rattle.kcr_laws.proofs.Crowding.{crowd_holds, never_told}
 use Rattle.kcr_laws.proofs.Refused.{none_with}
 use Rattle.std.proofs.Common.{◌≡◌, ℕ, Bool, true, false, ◌==◌, List, [], ◌∷◌, ◌++◌, map, length, Some, None, refl, sym, ap, ◌∙◌, subst, arith, inl, inr}
 use Rattle.std.proofs.lemmas.Bool.{eqb-true, cases_lt}
-use Rattle.kcr_base.proofs.RefuseLemmas.{none_holds, unmet}
+use Rattle.kcr_base.proofs.RefuseLemmas.{unmet}
 use Rattle.kcr_base.specs.declared.refusal.Refusal.TheVariants.{Turn, Crowd}
 use Rattle.kcr_room.specs.declared.SheetRow.{SheetRow}
 use Rattle.kcr_room.specs.declared.Way.{Way}
@@ -16,7 +16,7 @@ use Rattle.kcr_history.specs.declared.commands.Answer.{Answer}
 use Rattle.kcr_history.specs.declared.commands.Entry.{Entry}
 use Rattle.kcr_history.specs.History.{History}
 use Rattle.kcr_history.specs.Room.{sheet}
-use Rattle.kcr_history.specs.Conditions.{conditions, fault, first_with, out_of_turn, crowded, lone}
+use Rattle.kcr_history.specs.Conditions.{fault, first_with, out_of_turn, crowded, lone}
 use Rattle.kcr_history.specs.Machine.{IsRegister}
 use Rattle.kcr_laws.proofs.Accepted.{accepted}
 use Rattle.kcr_laws.proofs.Rooms.{HaveTurns, in_other, same_room}
@@ -43,11 +43,10 @@ room_after A key (Sheet d way people at) answer c t f ih = by_ceremony (d == c) 
   where
     by_ceremony : (b : Bool) → (d == c) ≡ b → IsAllowed (crowd_by (sheet A ++ map (new_row d way at) people) c t)
     by_ceremony true e =
-        let n = none_holds (conditions A (Sheet d way people at)) f in
-        subst (λ z. IsAllowed (crowd_by (sheet A ++ map (new_row d way at) people) z t)) (eqb-true d c e) (own_room (sheet A ++ map (new_row d way at) people) d n.1.1.1.1.1.1.0 n.1.1.1.1.1.1.1.0 t)
+        subst (λ z. IsAllowed (crowd_by (sheet A ++ map (new_row d way at) people) z t)) (eqb-true d c e) (own_room (sheet A ++ map (new_row d way at) people) d (grind arith) (grind arith) t)
     by_ceremony false e =
-        let n = none_holds (conditions A (Sheet d way people at)) f in
-        subst IsAllowed (sym (ap length (same_room (sheet A ++ map (new_row d way at) people) (sheet A) c t (λ who. in_other (sheet A) d way at people who c t (turns A d way at people n.1.1.1.1.1.0) e)))) ih
+        let turn = turns A d way at people (grind arith) in
+        subst IsAllowed (sym (ap length (same_room (sheet A ++ map (new_row d way at) people) (sheet A) c t (λ who. in_other (sheet A) d way at people who c t turn e)))) ih
 room_after A key act answer c t f ih = ih
 
 pub rooms : (A : History) → IsRegister A → (c t : ℕ) → IsAllowed (crowd_by (sheet A) c t)

@@ -1,17 +1,16 @@
 -- Each step of a ceremony is signed or passed once, and in order.
-use Rattle.std.proofs.Common.{◌≡◌, ◌≢◌, ℕ, zero, suc, ◌<◌, Bool, true, false, cond, ◌&&◌, nat_le, List, [], ◌∷◌, filter, length, Option, Some, None, refl, sym, ap, ◌∙◌, arith}
+use Rattle.std.proofs.lemmas.Bool.Decides.{nat_tests}
+use Rattle.std.proofs.Common.{◌≡◌, ◌≢◌, ℕ, suc, Bool, true, false, cond, ◌&&◌, nat_le, List, [], ◌∷◌, filter, length, Option, Some, None, refl, sym, ap, ◌∙◌, arith}
 use Rattle.std.specs.Prelude.{is_some, ◌==◌}
-use Rattle.std.proofs.lemmas.Bool.{both_ways, leb-true, leb-false, le-leb, lt-leb, eqb-true, eq-eqb, and_from, and_right, not-false}
+use Rattle.std.proofs.lemmas.Bool.{both_ways, lt-leb, eqb-true, and_right}
 use Rattle.kcr_base.specs.Rows.{or_else}
-use Rattle.kcr_base.specs.declared.refusal.Refusal.TheVariants.{Order}
-use Rattle.kcr_base.proofs.RefuseLemmas.{none_holds, unmet}
 use Rattle.kcr_history.specs.declared.commands.Act.{Act}
 use Rattle.kcr_history.specs.declared.commands.Act.TheVariants.{Sign, Except}
 use Rattle.kcr_history.specs.declared.commands.Entry.{Entry}
 use Rattle.kcr_history.specs.declared.rows.StepState.TheVariants.{Signed, Passed}
 use Rattle.kcr_history.specs.History.{History}
 use Rattle.kcr_history.specs.Ceremonies.{does_step, steps_done, next_step}
-use Rattle.kcr_history.specs.Conditions.{conditions, fault}
+use Rattle.kcr_history.specs.Conditions.{fault}
 use Rattle.kcr_history.specs.Machine.{answer_to, IsRegister}
 use Rattle.kcr_history.specs.Tables.{step_done, fate_of}
 use Rattle.kcr_history.proofs.Steps.{took}
@@ -21,33 +20,18 @@ one_more true n = suc n
 one_more false n = n
 
 pub count-cons : {X : Type 0} (p : X → Bool) (x : X) (xs : List X) → length (filter p (x ∷ xs)) ≡ one_more (p x) (length (filter p xs))
-count-cons p x xs = by_test (p x)
-  where
-    by_test : (b : Bool) → length (cond b (x ∷ filter p xs) (filter p xs)) ≡ one_more b (length (filter p xs))
-    by_test true = refl
-    by_test false = refl
+count-cons p x xs = grind arith
 
 -- the step that an accepted command does is the next one
 pub next_signed : (A : History) (d k at : ℕ) → fault A (Sign d k at) ≡ None → k ≡ suc (steps_done A d)
-next_signed A d k at f = eqb-true k (suc (steps_done A d)) (not-false (k == next_step A d) (unmet _ (Order (next_step A d)) (none_holds (conditions A (Sign d k at)) f).1.1.1.1.0))
+next_signed A d k at f = grind (arith, nat_tests)
 
 pub same_order : (k n : ℕ) → k ≢ suc n → nat_le k (suc n) ≡ nat_le k n
-same_order k n ne = by_test (nat_le k n) refl
-  where
-    by_test : (b : Bool) → nat_le k n ≡ b → nat_le k (suc n) ≡ nat_le k n
-    by_test true e = le-leb k (suc n) (omega (arith, leb-true k n e)) ∙ sym e
-    by_test false e = lt-leb k (suc n) (above (leb-false k n e)) ∙ sym e
-      where
-        above : n < k → suc n < k
-        above l = omega (arith, l, ne)
+same_order k n ne = grind (arith, nat_tests)
 
 pub advance : {F : Type 0} (n k step : ℕ) (m : Bool) → (step == k) ≡ m → step ≡ suc n → (fate : Option F) (new : F) → is_some fate ≡ (nat_le 1 k && nat_le k n)
     → is_some (or_else (cond m (Some new) None) fate) ≡ (nat_le 1 k && nat_le k (suc n))
-advance n k step true e s fate new ih =
-    let h : step ≡ k = eqb-true step k e in
-    sym (and_from (nat_le 1 k) (nat_le k (suc n)) (le-leb 1 k (omega (arith, h, s))) (le-leb k (suc n) (omega (arith, h, s))))
-advance n k step false e s fate new ih =
-    ih ∙ ap (λ b. nat_le 1 k && b) (sym (same_order k n (λ q. both_ways _ e (eq-eqb step k (s ∙ sym q)))))
+advance n k step m e s fate new ih = grind (arith, nat_tests)
 
 -- by one command; `said` is the step that the answer names
 pub fate_after : (A : History) (act : Act) (said : Option ℕ) (c k : ℕ) → fault A act ≡ None → (people : Option (List (List ℕ))) → said ≡ (answer_to A act people).step
@@ -75,8 +59,7 @@ fate_after A (Except d text false at) said c k f people e ih = rw e (ih ∙ by_c
 fate_after A act said c k f people e ih = ih
 
 pub no_step_done : (k : ℕ) → (nat_le 1 k && nat_le k 0) ≡ false
-no_step_done zero = refl
-no_step_done (suc k) = and_right (nat_le 1 (suc k)) (nat_le (suc k) 0) (lt-leb (suc k) 0 (omega arith))
+no_step_done k = grind (arith, nat_tests)
 
 pub done-after : (A : History) (entry : Entry) (c : ℕ) → steps_done (entry ∷ A) c ≡ one_more (does_step c entry.command.act) (steps_done A c)
 done-after A entry c = count-cons (λ entry. does_step c entry.command.act) entry A

@@ -1,20 +1,16 @@
 -- No key stands twice in a register.
-use Rattle.std.proofs.Common.{◌≡◌, ℕ, false, not, List, [], ◌∷◌, map, None, refl, arith}
+use Rattle.std.proofs.Common.{◌≡◌, ℕ, false, List, [], ◌∷◌, map, None, refl, arith}
 use Rattle.std.specs.List.{list_any}
-use Rattle.std.proofs.lemmas.Bool.{and_from}
 use Rattle.std.proofs.lemmas.Cmp.{nat_list_eq_equiv}
 use Rattle.kcr_base.specs.Same.{same_text}
 use Rattle.kcr_history.specs.History.{History, entry_of}
 use Rattle.kcr_history.specs.Machine.{IsRegister}
 use Rattle.kcr_history.specs.Laws.{IsOnce}
-use Rattle.kcr_laws.proofs.Accepted.{accepted}
+use Rattle.kcr_laws.proofs.Accepted.{each_register}
 
 absent : (A : History) (key : List ℕ) → entry_of A key ≡ None → list_any (same_text key) (map (λ entry. entry.command.key) A) ≡ false
 absent [] key h = refl
 absent (entry ∷ A) key h = grind (arith, nat_list_eq_equiv.symm key entry.command.key, absent A key)
 
 pub once : (A : History) → IsRegister A → IsOnce A
-once [] h = refl
-once (entry ∷ A) h =
-    let fresh = absent A entry.command.key (accepted A entry h.0).new_key in
-    and_from (not (list_any (same_text entry.command.key) (map (λ entry. entry.command.key) A))) _ (rw fresh) (once A h.1)
+once = each_register IsOnce refl (λ A key act answer a ih. grind (arith, absent A key a.new_key, ih))

@@ -1,8 +1,9 @@
 -- Who holds a place from a day on, and since when, by the rows and by the commands.
-use Rattle.std.proofs.Common.{◌≡◌, ℕ, ◌≤◌, Bool, true, false, cond, not, ◌&&◌, nat_le, List, [], ◌∷◌, map, find, Option, Some, None, option_map, is_some, is_none, inl, inr, refl, sym, ap, ◌∙◌, arith}
+use Rattle.std.proofs.lemmas.Bool.Decides.{nat_tests}
+use Rattle.std.proofs.Common.{◌≡◌, ℕ, ◌≤◌, Bool, true, false, cond, not, ◌&&◌, nat_le, List, [], ◌∷◌, map, find, Option, Some, None, option_map, is_some, inl, inr, refl, sym, ap, ◌∙◌, arith}
 use Rattle.std.specs.Prelude.{unwrap_or}
 use Rattle.std.specs.List.{list_any}
-use Rattle.std.proofs.lemmas.Bool.{false≢true, and_parts, and_from, or_cases, leb-true, le-leb}
+use Rattle.std.proofs.lemmas.Bool.{false≢true, and_parts, and_from, or_cases, leb-true}
 use Rattle.kcr_base.specs.Refuse.{when}
 use Rattle.kcr_base.specs.Rows.{or_else}
 use Rattle.kcr_base.specs.Same.{same_text, same_place, is_this}
@@ -99,21 +100,9 @@ said_since now before = unwrap_or (or_else now before) None
 
 since_after : (A : History) (act : Act) (place : Place) → since_of (open_row_by (appointments A) place) ≡ held_since A place
     → since_of (open_row_by (appointments_after act (appointments A)) place) ≡ said_since (says_since place act) (last_said (says_since place) A)
-since_after A (Appoint at who day) place ih = by_place (same_place at place)
-  where
-    by_place : (s : Bool) → since_of (cond (s && true) (Some (record { place = at; who = who; since = day; until = None })) (open_row_by (appointments A) place)) ≡ said_since (cond s (Some (Some day)) None) (last_said (says_since place) A)
-    by_place true = refl
-    by_place false = ih
-since_after A (Replace at who day) place ih = by_place (same_place at place) refl
-  where
-    by_place : (s : Bool) → same_place at place ≡ s → since_of (cond (s && true) (Some (record { place = at; who = who; since = day; until = None })) (open_row_by (map (ended at day) (appointments A)) place)) ≡ said_since (cond s (Some (Some day)) None) (last_said (says_since place) A)
-    by_place true e = refl
-    by_place false e = other_end at place day (appointments A) e ∙ ih
-since_after A (Release at day) place ih = by_place (same_place at place) refl
-  where
-    by_place : (s : Bool) → same_place at place ≡ s → since_of (open_row_by (map (ended at day) (appointments A)) place) ≡ said_since (cond s (Some None) None) (last_said (says_since place) A)
-    by_place true e = ap since_of (own_end at place day (appointments A) e)
-    by_place false e = other_end at place day (appointments A) e ∙ ih
+since_after A (Appoint at who day) place ih = grind (arith, ih)
+since_after A (Replace at who day) place ih = grind (arith, ih, other_end at place day (appointments A))
+since_after A (Release at day) place ih = grind (arith, ih, other_end at place day (appointments A), own_end at place day (appointments A))
 since_after A act place ih = ih
 
 pub since_said : (A : History) (place : Place) → since_of (open_row_by (appointments A) place) ≡ held_since A place
@@ -134,25 +123,13 @@ early_told A place day h = by_row (open_row_by (appointments A) place) h (since_
     by_row (Some row) g s = by_since row.since (nat_le day row.since) refl g (sym s)
 
 pub early_holds : (A : History) (place : Place) (day : ℕ) → BeginsFrom A place day → not_after_first_day A place day ≡ Some Range
-early_holds A place day (since, s, l) = by_row (open_row_by (appointments A) place) (since_said A place ∙ s)
-  where
-    by_row : (o : Option Appointment) → since_of o ≡ Some since → when (begins_too_late o day) Range ≡ Some Range
-    by_row None e = absurd (let z : None ≡ Some since = e in cc)
-    by_row (Some row) e = let same : row.since ≡ since = (let z : Some row.since ≡ Some since = e in cc) in ap (λ b. when b Range) (ap (nat_le day) same ∙ le-leb day since l)
+early_holds A place day (since, s, l) = grind (arith, nat_tests, since_said A place)
 
 pub vacant_told : (A : History) (place : Place) → vacant A place ≡ Some Vacant → held_since A place ≡ None
-vacant_told A place h = by_row (open_row_by (appointments A) place) h (since_said A place)
-  where
-    by_row : (o : Option Appointment) → when (is_none o) Vacant ≡ Some Vacant → since_of o ≡ held_since A place → held_since A place ≡ None
-    by_row None g s = sym s
-    by_row (Some row) g s = absurd (let z : None ≡ Some Vacant = g in cc)
+vacant_told A place h = grind (arith, since_said A place)
 
 pub vacant_holds : (A : History) (place : Place) → held_since A place ≡ None → vacant A place ≡ Some Vacant
-vacant_holds A place e = by_row (open_row_by (appointments A) place) (since_said A place ∙ e)
-  where
-    by_row : (o : Option Appointment) → since_of o ≡ None → when (is_none o) Vacant ≡ Some Vacant
-    by_row None g = refl
-    by_row (Some row) g = absurd (let z : Some row.since ≡ None = g in cc)
+vacant_holds A place e = grind (arith, since_said A place)
 
 -- TRAINED FROM A DAY ON
 

@@ -2,10 +2,10 @@
 use Rattle.kcr_base.specs.declared.place.Place.{Place}
 use Rattle.kcr_base.specs.declared.place.Role.{Role}
 use Rattle.std.proofs.lemmas.Bool.Decides.{nat_tests}
-use Rattle.std.proofs.Common.{◌≡◌, ℕ, ◌<◌, ◌≤◌, Bool, true, false, ◌||◌, ◌&&◌, ◌==◌, nat_le, List, [], ◌∷◌, map, filter, Option, Some, None, MatchOption, option_map, refl, sym, ap, ◌∙◌, arith}
+use Rattle.std.proofs.Common.{◌≡◌, ℕ, ◌<◌, ◌≤◌, Bool, true, false, ◌||◌, ◌&&◌, ◌==◌, nat_le, List, [], ◌∷◌, map, filter, Option, Some, None, MatchOption, option_map, refl, sym, ap, ◌∙◌, arith, inl, inr}
 use Rattle.std.specs.Prelude.{unwrap_or, is_some}
 use Rattle.std.specs.List.{list_any, list_all, filter_map, cons_option}
-use Rattle.std.proofs.lemmas.Bool.{true≢false, and_parts, and_from, eqb-true, eq-eqb, leb-true, leb-false, le-leb, false≢true, or_left, or_right}
+use Rattle.std.proofs.lemmas.Bool.{true≢false, and_parts, and_from, eqb-true, eq-eqb, leb-true, le-leb, false≢true, or_left, or_right, or_cases}
 use Rattle.kcr_base.proofs.RefuseLemmas.{none_holds, unmet}
 use Rattle.kcr_base.specs.Days.{day_of}
 use Rattle.kcr_base.specs.Rows.{or_else}
@@ -14,9 +14,8 @@ use Rattle.kcr_base.specs.declared.place.Facility.{Facility}
 use Rattle.kcr_base.specs.declared.place.Facility.TheVariants.{East}
 use Rattle.kcr_base.specs.declared.place.Role.TheVariants.{Ca, Iw}
 use Rattle.kcr_base.specs.declared.place.Place.TheVariants as Places
-use Rattle.kcr_base.specs.declared.refusal.Refusal.TheVariants.{Taken, Late}
+use Rattle.kcr_base.specs.declared.refusal.Refusal.TheVariants.{Taken}
 use Rattle.kcr_room.proofs.Lists.{any-same}
-use Rattle.kcr_room.specs.Room.{in_by}
 use Rattle.kcr_script.specs.declared.seat.Seat.{Seat}
 use Rattle.kcr_script.specs.declared.seat.Seat.TheVariants.{Staff, AnyCo, AnyRksh, Co, Rksh}
 use Rattle.kcr_history.specs.declared.commands.Act.{Act}
@@ -50,22 +49,19 @@ moments ms = map (λ m. m.1) ms
 abbrev moments_of : ℕ → List (ℕ × ℕ) → List ℕ
 moments_of c ms = map (λ m. m.1) (filter (λ m. m.0 == c) ms)
 
-more_at_most : (t m : ℕ) (o : Option ℕ) → at_most t o ≡ true → nat_le t (max_with m o) ≡ true
-more_at_most t m None h = absurd (false≢true h)
-more_at_most t m (Some n) h = grind (arith, nat_tests)
-
-max_at_most : (t m : ℕ) (o : Option ℕ) → nat_le t m ≡ true → nat_le t (max_with m o) ≡ true
-max_at_most t m None h = h
+-- what is not later than one of some moments is not later than the greatest
+max_at_most : (t m : ℕ) (o : Option ℕ) → (nat_le t m || at_most t o) ≡ true → nat_le t (max_with m o) ≡ true
+max_at_most t m None h = grind arith
 max_at_most t m (Some n) h = grind (arith, nat_tests)
 
--- what was not later than the greatest moment still is not, where there may be one more
-older_all : (t : ℕ) (o : Option ℕ) (ns : List ℕ) → at_most t (greatest ns) ≡ true → at_most t (greatest (cons_option o ns)) ≡ true
-older_all t None ns h = h
-older_all t (Some n) ns h = more_at_most t n (greatest ns) h
+one_at_most : (t : ℕ) (o : Option ℕ) (ns : List ℕ) → (at_most t o || at_most t (greatest ns)) ≡ true → at_most t (greatest (cons_option o ns)) ≡ true
+one_at_most t None ns h = h
+one_at_most t (Some m) ns h = max_at_most t m (greatest ns) h
 
+-- one moment more leaves what was not later than the greatest so
 older_of : (c t : ℕ) (o : Option (ℕ × ℕ)) (ms : List (ℕ × ℕ)) → at_most t (greatest (moments_of c ms)) ≡ true → at_most t (greatest (moments_of c (cons_option o ms))) ≡ true
 older_of c t None ms h = h
-older_of c t (Some m) ms h = grind (arith, more_at_most t m.1 (greatest (moments_of c ms)), h)
+older_of c t (Some m) ms h = grind (arith, max_at_most t m.1 (greatest (moments_of c ms)), h)
 
 -- the ceremony was opened
 abbrev was_opened : ℕ → List ℕ → Bool
@@ -133,7 +129,7 @@ now_past : (A : History) (entry : Entry) → fault A entry.command.act ≡ None 
 now_past A entry f = by_mark (marked entry.command.act) (marks_known A entry.command.act f)
   where
     own : (m : ℕ × ℕ) → at_most m.1 (greatest (moments_of m.0 (m ∷ all_said marked A))) ≡ true
-    own m = rw (eq-eqb m.0 m.0 refl) (max_at_most m.1 m.1 (greatest (moments_of m.0 (all_said marked A))) (le-leb m.1 m.1 (omega arith)))
+    own m = rw (eq-eqb m.0 m.0 refl) (max_at_most m.1 m.1 (greatest (moments_of m.0 (all_said marked A))) (or_left (nat_le m.1 m.1) _ (le-leb m.1 m.1 (omega arith))))
 
     by_mark : (o : Option (ℕ × ℕ)) → MatchOption o (Unit {0}) (IsKnown A entry.command.act) → is_past_with A entry.command.act o o ≡ true
     by_mark None k = refl
@@ -155,35 +151,26 @@ same_plan A entry c f k = ap (λ o. or_else o (plan_of A c)) (not_planned A entr
 
 -- a sheet row of the ceremony is later than its mark
 behind : (at t : ℕ) (o : Option ℕ) → is_not_later at o ≡ None → at_most t o ≡ true → t < at
-behind at t None h k = absurd (true≢false (sym k))
-behind at t (Some m) h k = omega (arith, leb-false at m (unmet (nat_le at m) (Late m) h), leb-true t m k)
+behind at t None h k = absurd (false≢true k)
+behind at t (Some m) h k = grind (arith, nat_tests)
 
 -- everybody was where the sheet says so at a past moment
 same_in : (A : History) (key : List ℕ) (act : Act) (answer : Answer) (who : List ℕ) (c t : ℕ) → fault A act ≡ None → at_most t (mark A c) ≡ true → is_in (one key act answer ∷ A) who c t ≡ is_in A who c t
 same_in A key (Sheet d way people at) answer who c t f k = by_ceremony (d == c) refl
   where
     by_ceremony : (b : Bool) → (d == c) ≡ b → is_in (one key (Sheet d way people at) answer ∷ A) who c t ≡ is_in A who c t
-    by_ceremony true e =
-        let n = none_holds (conditions A (Sheet d way people at)) f in
-        in_before (sheet A) d way at people who c t (behind at t (mark A d) n.1.1.1.0 (ap (λ z. at_most t (mark A z)) (eqb-true d c e) ∙ k))
-    by_ceremony false e =
-        let n = none_holds (conditions A (Sheet d way people at)) f in
-        in_other (sheet A) d way at people who c t (turns A d way at people n.1.1.1.1.1.0) e
+    by_ceremony true e = in_before (sheet A) d way at people who c t (behind at t (mark A d) (grind arith) (ap (λ z. at_most t (mark A z)) (eqb-true d c e) ∙ k))
+    by_ceremony false e = in_other (sheet A) d way at people who c t (turns A d way at people (grind arith)) e
 same_in A key act answer who c t f k = refl
 
 -- a moment that is not later than one of the marks is not later than the greatest
 one_of_marks : (A : History) (c t : ℕ) (numbers : List ℕ) → was_opened c numbers ≡ true → at_most t (mark A c) ≡ true → at_most t (greatest (filter_map (mark A) numbers)) ≡ true
-one_of_marks A c t [] w k = absurd (true≢false (sym w))
-one_of_marks A c t (n ∷ numbers) w k = by_number (n == c) refl w (one_of_marks A c t numbers)
-  where
-    first : (o : Option ℕ) (ns : List ℕ) → at_most t o ≡ true → at_most t (greatest (cons_option o ns)) ≡ true
-    first None ns h = absurd (false≢true h)
-    first (Some m) ns h = max_at_most t m (greatest ns) h
-
-    by_number : (b : Bool) → (n == c) ≡ b → (b || was_opened c numbers) ≡ true → (was_opened c numbers ≡ true → at_most t (mark A c) ≡ true → at_most t (greatest (filter_map (mark A) numbers)) ≡ true)
-        → at_most t (greatest (cons_option (mark A n) (filter_map (mark A) numbers))) ≡ true
-    by_number true e g ih = first (mark A n) (filter_map (mark A) numbers) (ap (λ z. at_most t (mark A z)) (eqb-true n c e) ∙ k)
-    by_number false e g ih = older_all t (mark A n) (filter_map (mark A) numbers) (ih g k)
+one_of_marks A c t [] w k = absurd (false≢true w)
+one_of_marks A c t (n ∷ numbers) w k =
+    one_at_most t (mark A n) (filter_map (mark A) numbers) (elim (or_cases (n == c) (was_opened c numbers) w) [
+      | inl e ↦ or_left (at_most t (mark A n)) _ (ap (λ z. at_most t (mark A z)) (eqb-true n c e) ∙ k)
+      | inr g ↦ or_right (at_most t (mark A n)) _ (one_of_marks A c t numbers g k)
+    ])
 
 -- so its day is not later than the settled one
 settled_at : (A : History) (t : ℕ) (o : Option ℕ) → greatest (all_marks A) ≡ o → at_most t o ≡ true → (s : ℕ) × (settled A ≡ Some s) × (day_of t ≤ s)
@@ -206,17 +193,23 @@ seating_mono A B c t g [] people h = h
 seating_mono A B c t g (seat ∷ seats) [] h = absurd (false≢true h)
 seating_mono A B c t g (seat ∷ seats) (who ∷ people) h = grind (arith, g seat who, seating_mono A B c t g seats people)
 
+-- so whoever is eligible in the one is in the other, where the room and the facility are as before too
+eligible_mono : (A B : History) (c t : ℕ) → ((who : List ℕ) → is_in B who c t ≡ is_in A who c t) → facility_of B c ≡ facility_of A c
+    → ((who : List ℕ) (role : Role) → trained A who role (day_of t) ≡ true → trained B who role (day_of t) ≡ true) → ((place : Place) → holder B place (day_of t) ≡ holder A place (day_of t))
+    → (seat : Seat) (who : List ℕ) → eligible A c t seat who ≡ true → eligible B c t seat who ≡ true
+eligible_mono A B c t room here train hold seat who h =
+    let r = and_parts (is_in A who c t) (fits A (facility_of A c) (day_of t) seat who) h in
+    and_from (is_in B who c t) _ (room who ∙ r.0) (ap (λ z. fits B z (day_of t) seat who) here ∙ fits_mono A B (facility_of A c) (day_of t) train hold seat who r.1)
+
 -- whoever was eligible at a past moment still is
 eligible_still : (A : History) (entry : Entry) (c t : ℕ) → fault A entry.command.act ≡ None → is_past A (c, t) ≡ true → (seat : Seat) (who : List ℕ) → eligible A c t seat who ≡ true → eligible (entry ∷ A) c t seat who ≡ true
-eligible_still A entry c t f past seat who h =
+eligible_still A entry c t f past =
     let p = and_parts (is_ceremony A c) (at_most t (mark A c) && was_opened c (all_said opened_number A)) past in
     let q = and_parts (at_most t (mark A c)) (was_opened c (all_said opened_number A)) p.1 in
-    let r = and_parts (is_in A who c t) (fits A (facility_of A c) (day_of t) seat who) h in
     let s = settled_at A t (greatest (all_marks A)) refl (one_of_marks A c t (all_said opened_number A) q.1 q.0) in
     let facility : facility_of (entry ∷ A) c ≡ facility_of A c = ap (λ o. unwrap_or (option_map (λ (plan : Planned). plan.facility) o) East) (same_plan A entry c f p.0) in
-    and_from (is_in (entry ∷ A) who c t) _ (same_in A entry.command.key entry.command.act entry.answer who c t f q.0 ∙ r.0)
-    (ap (λ z. fits (entry ∷ A) z (day_of t) seat who) facility
-    ∙ fits_mono A (entry ∷ A) (facility_of A c) (day_of t) (λ p role. trained_stays A entry p role s.0 (day_of t) f s.1 s.2) (λ place. holder_stays A entry place s.0 (day_of t) f s.1 s.2) seat who r.1)
+    eligible_mono A (entry ∷ A) c t (λ who. same_in A entry.command.key entry.command.act entry.answer who c t f q.0) facility
+    (λ who role. trained_stays A entry who role s.0 (day_of t) f s.1 s.2) (λ place. holder_stays A entry place s.0 (day_of t) f s.1 s.2)
 
 same_seats : (A : History) (entry : Entry) (c k : ℕ) → fault A entry.command.act ≡ None → is_ceremony A c ≡ true → seats_at (steps_of (entry ∷ A) c) k ≡ seats_at (steps_of A c) k
 same_seats A entry c k f p = ap (λ o. seats_at (unwrap_or (option_map (λ (plan : Planned). plan.steps) o) []) k) (same_plan A entry c f p)
@@ -236,20 +229,14 @@ old_seated A entry act people f past h = refl
 
 -- THE NEW SEATING
 
--- a command that says nothing of the sheet, of training and of places leaves everybody as eligible as before
-new_eligible : (A : History) (entry : Entry) (c t : ℕ) → sheet (entry ∷ A) ≡ sheet A → facility_of (entry ∷ A) c ≡ facility_of A c
-    → ((who : List ℕ) (role : Role) → trained A who role (day_of t) ≡ true → trained (entry ∷ A) who role (day_of t) ≡ true) → ((place : Place) → holder (entry ∷ A) place (day_of t) ≡ holder A place (day_of t))
-    → (seat : Seat) (who : List ℕ) → eligible A c t seat who ≡ true → eligible (entry ∷ A) c t seat who ≡ true
-new_eligible A entry c t s here train hold seat who h =
-    let r = and_parts (is_in A who c t) (fits A (facility_of A c) (day_of t) seat who) h in
-    and_from (is_in (entry ∷ A) who c t) _ (ap (λ rows. in_by rows who c t) s ∙ r.0)
-    (ap (λ z. fits (entry ∷ A) z (day_of t) seat who) here ∙ fits_mono A (entry ∷ A) (facility_of A c) (day_of t) train hold seat who r.1)
-
+-- a signature and an exception leave everybody as eligible as before, so the people of their answer are a seating
 new_seated : (A : History) (key : List ℕ) (act : Act) (answer : Answer) → IsAnswerTo A act answer (sitting A act) → is_seated (one key act answer ∷ A) (sitting (one key act answer ∷ A) act) answer.seating ≡ true
 new_seated A key (Sign c k at) answer w =
-    rw w.2 (seating_mono A (one key (Sign c k at) answer ∷ A) c at (new_eligible A (one key (Sign c k at) answer) c at refl refl (λ who role h. h) (λ place. refl)) (seats_at (steps_of A c) k) w.0 w.1.seating)
+    let B = one key (Sign c k at) answer ∷ A in
+    rw w.2 (seating_mono A B c at (eligible_mono A B c at (λ who. refl) refl (λ who role h. h) (λ place. refl)) (seats_at (steps_of A c) k) w.0 w.1.seating)
 new_seated A key (Except c text true at) answer w =
-    rw w.2 (seating_mono A (one key (Except c text true at) answer ∷ A) c at (new_eligible A (one key (Except c text true at) answer) c at refl refl (λ who role h. h) (λ place. refl)) (Staff Ca ∷ Staff Iw ∷ []) w.0 w.1.seating)
+    let B = one key (Except c text true at) answer ∷ A in
+    rw w.2 (seating_mono A B c at (eligible_mono A B c at (λ who. refl) refl (λ who role h. h) (λ place. refl)) (Staff Ca ∷ Staff Iw ∷ []) w.0 w.1.seating)
 new_seated A key (Except c text false at) answer w = refl
 new_seated A key act answer w = refl
 
@@ -264,16 +251,12 @@ all_seated A entries = list_all (λ entry. is_seated A (sitting A entry.command.
 
 past_still : (A : History) (entry : Entry) (entries : History) → all_past A entries ≡ true → all_past (entry ∷ A) entries ≡ true
 past_still A entry [] h = refl
-past_still A entry (old ∷ entries) h =
-    let p = and_parts (is_past_if A (marked old.command.act)) (all_past A entries) h in
-    and_from (is_past_if (entry ∷ A) (marked old.command.act)) _ (still_past A entry (marked old.command.act) p.0) (past_still A entry entries p.1)
+past_still A entry (old ∷ entries) h = grind (arith, still_past A entry (marked old.command.act), past_still A entry entries)
 
 seated_still : (A : History) (entry : Entry) (entries : History) → fault A entry.command.act ≡ None → all_past A entries ≡ true → all_seated A entries ≡ true → all_seated (entry ∷ A) entries ≡ true
 seated_still A entry [] f p h = refl
 seated_still A entry (old ∷ entries) f p h =
-    let q = and_parts (is_past_if A (marked old.command.act)) (all_past A entries) p in
-    let r = and_parts (is_seated A (sitting A old.command.act) old.answer.seating) (all_seated A entries) h in
-    and_from (is_seated (entry ∷ A) (sitting (entry ∷ A) old.command.act) old.answer.seating) _ (old_seated A entry old.command.act old.answer.seating f q.0 r.0) (seated_still A entry entries f q.1 r.1)
+    grind (arith, old_seated A entry old.command.act old.answer.seating f, seated_still A entry entries f)
 
 pub all_pasts : (A : History) → IsRegister A → all_past A A ≡ true
 all_pasts [] h = refl

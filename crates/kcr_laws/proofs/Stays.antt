@@ -1,14 +1,12 @@
 -- A later command changes neither who held a place on a settled day, nor that somebody was trained on it.
+use Rattle.std.proofs.lemmas.Bool.Decides.{nat_tests}
 use Rattle.std.proofs.Common.{◌≡◌, ℕ, ◌≤◌, Bool, true, false, cond, ◌&&◌, nat_le, List, ◌∷◌, Option, Some, None, refl, ap, arith}
 use Rattle.std.specs.Prelude.{unwrap_or}
-use Rattle.std.proofs.lemmas.Bool.{lt-leb, leb-false, and_right}
-use Rattle.kcr_base.proofs.RefuseLemmas.{none_holds}
+use Rattle.std.proofs.lemmas.Bool.{and_right}
 use Rattle.kcr_base.specs.Rows.{or_else}
 use Rattle.kcr_base.specs.Same.{same_text, same_role, same_place}
-use Rattle.kcr_base.specs.Refuse.{when}
 use Rattle.kcr_base.specs.declared.place.Role.{Role}
 use Rattle.kcr_base.specs.declared.place.Place.{Place}
-use Rattle.kcr_base.specs.declared.refusal.Refusal.TheVariants.{Settled}
 use Rattle.kcr_people.specs.People.{settles}
 use Rattle.kcr_history.specs.declared.commands.Act.{Act}
 use Rattle.kcr_history.specs.declared.commands.Act.TheVariants.{Train, Withdraw, Appoint, Replace, Release}
@@ -16,25 +14,21 @@ use Rattle.kcr_history.specs.declared.commands.Entry.{Entry}
 use Rattle.kcr_history.specs.History.{History, last_said}
 use Rattle.kcr_history.specs.Training.{holder, next_holder, trained, says_of_training}
 use Rattle.kcr_history.specs.Ceremonies.{settled}
-use Rattle.kcr_history.specs.Conditions.{conditions, fault}
+use Rattle.kcr_history.specs.Conditions.{fault}
 
 -- a day that is not refused is later than the settled one
 later : (o : Option ℕ) (s day d : ℕ) → o ≡ Some s → settles o day ≡ None → d ≤ s → nat_le day d ≡ false
-later None s day d e h l = absurd (let f : None ≡ Some s = e in cc)
-later (Some last) s day d e h l = by_test (nat_le day last) refl h
-  where
-    by_test : (b : Bool) → nat_le day last ≡ b → when b (Settled last) ≡ None → nat_le day d ≡ false
-    by_test true f g = absurd (let k : Some (Settled last) ≡ None = g in cc)
-    by_test false f g = let same : last ≡ s = (let k : Some last ≡ Some s = e in cc) in lt-leb day d (omega (arith, leb-false day last f))
+later None s day d e h l = cc
+later (Some last) s day d e h l = grind (arith, nat_tests)
 
 -- such a command says nothing of the place, or of the person, on the day
 silent : (b : Bool) (day d : ℕ) {X : Type 0} (x : X) → nat_le day d ≡ false → cond (b && nat_le day d) (Some x) None ≡ None
 silent b day d x h = ap (λ z. cond z (Some x) None) (and_right b (nat_le day d) h)
 
 no_word : (A : History) (act : Act) (place : Place) (s d : ℕ) → fault A act ≡ None → settled A ≡ Some s → d ≤ s → next_holder place d act ≡ None
-no_word A (Appoint at who day) place s d f e l = silent (same_place at place) day d (Some who) (later (settled A) s day d e (none_holds (conditions A (Appoint at who day)) f).1.1.1.0 l)
-no_word A (Replace at who day) place s d f e l = silent (same_place at place) day d (Some who) (later (settled A) s day d e (none_holds (conditions A (Replace at who day)) f).1.1.1.1.1.0 l)
-no_word A (Release at day) place s d f e l = silent (same_place at place) day d None (later (settled A) s day d e (none_holds (conditions A (Release at day)) f).1.1.0 l)
+no_word A (Appoint at who day) place s d f e l = silent (same_place at place) day d (Some who) (later (settled A) s day d e (grind arith) l)
+no_word A (Replace at who day) place s d f e l = silent (same_place at place) day d (Some who) (later (settled A) s day d e (grind arith) l)
+no_word A (Release at day) place s d f e l = silent (same_place at place) day d None (later (settled A) s day d e (grind arith) l)
 no_word A act place s d f e l = refl
 
 -- who held a place on a settled day still did after any accepted command
@@ -45,13 +39,9 @@ holder_stays A entry place s d f e l =
 -- a command says of a settled day that somebody is trained, or nothing
 says_no_worse : (A : History) (act : Act) (who : List ℕ) (role : Role) (s d : ℕ) → fault A act ≡ None → settled A ≡ Some s → d ≤ s
     → (said : Option Bool) → unwrap_or said false ≡ true → unwrap_or (or_else (says_of_training who role d act) said) false ≡ true
-says_no_worse A (Train p r since until) who role s d f e l said h = by_test (same_text p who && same_role r role && nat_le since d && nat_le d until)
-  where
-    by_test : (b : Bool) → unwrap_or (or_else (cond b (Some true) None) said) false ≡ true
-    by_test true = refl
-    by_test false = h
+says_no_worse A (Train p r since until) who role s d f e l said h = grind arith
 says_no_worse A (Withdraw p r day) who role s d f e l said h =
-    rw (silent (same_text who p && same_role role r) day d false (later (settled A) s day d e (none_holds (conditions A (Withdraw p r day)) f).1.1.0 l)) h
+    rw (silent (same_text who p && same_role role r) day d false (later (settled A) s day d e (grind arith) l)) h
 says_no_worse A act who role s d f e l said h = h
 
 -- who was trained on a settled day still was after any accepted command
