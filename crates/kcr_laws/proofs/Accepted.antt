@@ -63,10 +63,10 @@ each_history P base step [] = base
 each_history P base step (entry ∷ A) = step A entry.command.key entry.command.act entry.answer (each_history P base step A)
 
 -- what an accepted command keeps holds of every register
-pub each_register : (P : History → Type 0) → P [] → ((A : History) (key : List ℕ) (act : Act) (answer : Answer) → IsAccepted A (one key act answer) → P A → P (one key act answer ∷ A))
-    → (A : History) → IsRegister A → P A
+pub each_register : (P : History → Type 0) → P []
+    → ((A : History) (key : List ℕ) (act : Act) (answer : Answer) → IsRegister A → IsAccepted A (one key act answer) → P A → P (one key act answer ∷ A)) → (A : History) → IsRegister A → P A
 each_register P base step [] h = base
-each_register P base step (entry ∷ A) h = step A entry.command.key entry.command.act entry.answer (accepted A entry h.0) (each_register P base step A h.1)
+each_register P base step (entry ∷ A) h = step A entry.command.key entry.command.act entry.answer h.1 (accepted A entry h.0) (each_register P base step A h.1)
 
 -- REPEATS
 

@@ -1,8 +1,9 @@
 -- In every register items are neither lost nor doubled.
-use Rattle.std.proofs.Common.{◌≡◌, ℕ, Bool, true, false, cond, ◌||◌, List, ◌∷◌, Option, Some, None, option_map, inl, inr, refl, sym, ◌∙◌, arith}
+use Rattle.kcr_room.proofs.Lists.{any-same}
+use Rattle.std.proofs.Common.{◌≡◌, ℕ, true, ◌||◌, List, ◌∷◌, Option, Some, None, option_map, refl, sym, ◌∙◌, arith}
 use Rattle.std.specs.Prelude.{is_some}
 use Rattle.std.specs.List.{list_any}
-use Rattle.std.proofs.lemmas.Bool.{true≢false, or_cases, and_from, false≢true, or_right}
+use Rattle.std.proofs.lemmas.Bool.{true≢false, and_from, false≢true, or_right}
 use Rattle.kcr_base.proofs.RefuseLemmas.{none_holds, unmet}
 use Rattle.kcr_base.specs.Rows.{or_else}
 use Rattle.kcr_base.specs.Same.{same_text}
@@ -29,7 +30,7 @@ use Rattle.kcr_history.specs.Machine.{IsRegister}
 use Rattle.kcr_history.specs.Laws.{is_added, is_kept, has_its_box, is_in_place, were_in_place, IsBalanced}
 use Rattle.kcr_laws.proofs.Accepted.{IsAccepted, one, each_history, each_register}
 use Rattle.kcr_laws.proofs.Refused.{none_with}
-use Rattle.kcr_laws.proofs.Stored.{there}
+use Rattle.kcr_laws.proofs.Stored.{there, sealed_somewhere}
 
 still : {X : Type 0} (o p : Option X) → is_some p ≡ true → is_some (or_else o p) ≡ true
 still None p h = h
@@ -37,21 +38,15 @@ still (Some x) p h = refl
 
 -- BAGS
 
--- a bag that was sealed is somewhere
-spotted_after : (A : History) (key : List ℕ) (act : Act) (answer : Answer) (serial : List ℕ) → (list_any (same_text serial) (all_said sealed_serial A) ≡ true → is_some (spot A serial) ≡ true)
-    → list_any (same_text serial) (all_said sealed_serial (one key act answer ∷ A)) ≡ true → is_some (spot (one key act answer ∷ A) serial) ≡ true
-spotted_after A key (Seal c s items at) answer serial ih h = grind (arith, same-turned s serial, ih)
-spotted_after A key act answer serial ih h = still (moved (facility_of A) serial act) (spot A serial) (ih h)
+-- a bag is somewhere exactly where it was sealed
+sealed_is : (A : History) → IsRegister A → (serial : List ℕ) → list_any (same_text serial) (all_said sealed_serial A) ≡ is_some (spot A serial)
+sealed_is A r serial = any-same (same_text serial) (λ k. same_text k serial) (all_said sealed_serial A) (same-turned serial) ∙ sealed_somewhere A r serial
 
-spotted : (A : History) (serial : List ℕ) → list_any (same_text serial) (all_said sealed_serial A) ≡ true → is_some (spot A serial) ≡ true
-spotted A serial =
-    each_history (λ B. list_any (same_text serial) (all_said sealed_serial B) ≡ true → is_some (spot B serial) ≡ true) (λ h. absurd (false≢true h)) (λ B key act answer. spotted_after B key act answer serial) A
-
-sealed_after : (A : History) (key : List ℕ) (act : Act) (answer : Answer) → IsAccepted A (one key act answer) → all_differ (all_said sealed_serial A) ≡ true → all_differ (all_said sealed_serial (one key act answer ∷ A)) ≡ true
-sealed_after A key (Seal c s items at) answer a ih =
+sealed_after : (A : History) (key : List ℕ) (act : Act) (answer : Answer) → IsRegister A → IsAccepted A (one key act answer) → all_differ (all_said sealed_serial A) ≡ true → all_differ (all_said sealed_serial (one key act answer ∷ A)) ≡ true
+sealed_after A key (Seal c s items at) answer r a ih =
     let free = unmet (is_some (spot A s)) Taken (none_holds (conditions A (Seal c s items at)) a.no_fault).1.1.0 in
-    grind (arith, spotted A s, free, ih)
-sealed_after A key act answer a ih = ih
+    grind (arith, sealed_is A r s, free, ih)
+sealed_after A key act answer r a ih = ih
 
 sealed_once : (A : History) → IsRegister A → all_differ (all_said sealed_serial A) ≡ true
 sealed_once = each_register (λ A. all_differ (all_said sealed_serial A) ≡ true) refl sealed_after
@@ -65,13 +60,8 @@ sealed A item = last_said (sealed_in item) A
 abbrev added : History → List ℕ → Option Facility
 added A item = last_told (λ before. added_at (facility_of before) item) A
 
-some_of : {X Y Z : Type 0} (f : X → Z) (g : Y → Z) (o : Option X) (p : Option Y) → is_some (or_else (option_map f o) (option_map g p)) ≡ (is_some o || is_some p)
-some_of f g (Some x) p = refl
-some_of f g None (Some y) = refl
-some_of f g None None = refl
-
 has_rest : (A : History) (item : List ℕ) → is_some (rest A item) ≡ (is_some (sealed A item) || is_some (added A item))
-has_rest A item = some_of (rest_in A) Loose (sealed A item) (added A item)
+has_rest A item = grind arith
 
 added_is_after : (A : History) (key : List ℕ) (act : Act) (answer : Answer) (item : List ℕ) → is_added A item ≡ is_some (added A item) → is_added (one key act answer ∷ A) item ≡ is_some (added (one key act answer ∷ A) item)
 added_is_after A key (AddItem c i at) answer item ih = grind (arith, same-turned item i, ih)
@@ -86,10 +76,7 @@ not_unknown A items item h m = there (rest A item) (unmet _ (Unknown (Things.Ite
 
 -- an item that has a rest was added, where those that were sealed were
 rest_added : (A : History) (item : List ℕ) → (is_some (sealed A item) ≡ true → is_added A item ≡ true) → is_some (rest A item) ≡ true → is_added A item ≡ true
-rest_added A item g h = elim (or_cases (is_some (sealed A item)) (is_some (added A item)) (sym (has_rest A item) ∙ h)) [
-  | inl s ↦ g s
-  | inr a ↦ added_is A item ∙ a
-]
+rest_added A item g h = grind (arith, g, has_rest A item, added_is A item)
 
 -- an item that was sealed was added
 sealed_added_after : (A : History) (key : List ℕ) (act : Act) (answer : Answer) (item : List ℕ) → IsAccepted A (one key act answer) → (is_some (sealed A item) ≡ true → is_added A item ≡ true)
@@ -101,13 +88,13 @@ sealed_added_after A key act answer item a ih h = ih h
 
 sealed_added : (A : History) → IsRegister A → (item : List ℕ) → is_some (sealed A item) ≡ true → is_added A item ≡ true
 sealed_added A h item =
-    each_register (λ B. is_some (sealed B item) ≡ true → is_added B item ≡ true) (λ s. absurd (false≢true s)) (λ B key act answer. sealed_added_after B key act answer item) A h
+    each_register (λ B. is_some (sealed B item) ≡ true → is_added B item ≡ true) (λ s. absurd (false≢true s)) (λ B key act answer r. sealed_added_after B key act answer item) A h
 
-added_after : (A : History) (key : List ℕ) (act : Act) (answer : Answer) → IsAccepted A (one key act answer) → all_differ (all_said added_item A) ≡ true → all_differ (all_said added_item (one key act answer ∷ A)) ≡ true
-added_after A key (AddItem c i at) answer a ih =
+added_after : (A : History) (key : List ℕ) (act : Act) (answer : Answer) → IsRegister A → IsAccepted A (one key act answer) → all_differ (all_said added_item A) ≡ true → all_differ (all_said added_item (one key act answer ∷ A)) ≡ true
+added_after A key (AddItem c i at) answer r a ih =
     let free = unmet (is_some (rest A i)) Taken (none_holds (conditions A (AddItem c i at)) a.no_fault).1.0 in
     grind (arith, has_rest A i, free, added_is A i, ih)
-added_after A key act answer a ih = ih
+added_after A key act answer r a ih = ih
 
 added_once : (A : History) → IsRegister A → all_differ (all_said added_item A) ≡ true
 added_once = each_register (λ A. all_differ (all_said added_item A) ≡ true) refl added_after
@@ -127,17 +114,16 @@ sealed_there A item serial =
 kept_in : (A : History) (serial : List ℕ) → is_some (spot A serial) ≡ true → is_kept A (Some (rest_in A serial)) ≡ true
 kept_in A serial h = grind arith
 
-kept : (A : History) (item : List ℕ) → is_added A item ≡ true → is_kept A (rest A item) ≡ true
-kept A item h = by_seal (sealed A item) refl (added A item) (sym (added_is A item) ∙ h)
+kept : (A : History) → IsRegister A → (item : List ℕ) → is_added A item ≡ true → is_kept A (rest A item) ≡ true
+kept A r item h = by_seal (sealed A item) refl (added A item) (sym (added_is A item) ∙ h)
   where
     by_seal : (s : Option (List ℕ)) → sealed A item ≡ s → (a : Option Facility) → is_some a ≡ true → is_kept A (or_else (option_map (rest_in A) s) (option_map Loose a)) ≡ true
-    by_seal (Some serial) e a k = kept_in A serial (spotted A serial (sealed_there A item serial e))
+    by_seal (Some serial) e a k = kept_in A serial (sym (sealed_is A r serial) ∙ sealed_there A item serial e)
     by_seal None e None k = absurd (true≢false (sym k))
     by_seal None e (Some facility) k = refl
 
 kept_some : (A : History) (o : Option Rest) → is_kept A o ≡ true → is_some o ≡ true
-kept_some A None h = absurd (true≢false (sym h))
-kept_some A (Some r) h = refl
+kept_some A o h = grind arith
 
 -- PLACES OF BAGS
 
@@ -147,7 +133,7 @@ in_place_after A (Cut c serial at) f = grind arith
 in_place_after A act f = refl
 
 in_place : (A : History) → IsRegister A → were_in_place A ≡ true
-in_place = each_register (λ A. were_in_place A ≡ true) refl (λ A key act answer a ih. and_from (is_in_place A act) _ (in_place_after A act a.no_fault) ih)
+in_place = each_register (λ A. were_in_place A ≡ true) refl (λ A key act answer r a ih. and_from (is_in_place A act) _ (in_place_after A act a.no_fault) ih)
 
 box_still : (A : History) (entry : Entry) (o : Option Spot) → has_its_box A o ≡ true → has_its_box (entry ∷ A) o ≡ true
 box_still A entry None h = refl
@@ -156,26 +142,21 @@ box_still A entry (Some (Table facility)) h = refl
 box_still A entry (Some (Equipment facility)) h = refl
 box_still A entry (Some (InBox facility number)) h = still (boxed facility number entry.command.act) (place_of_box A facility number) h
 
-box_if : (A : History) (b : Bool) (s : Spot) → has_its_box A (Some s) ≡ true → has_its_box A (cond b (Some s) None) ≡ true
-box_if A true s h = h
-box_if A false s h = refl
-
 box_moved : (A : History) (act : Act) (serial : List ℕ) → fault A act ≡ None → has_its_box A (moved (facility_of A) serial act) ≡ true
-box_moved A (Seal c s items at) serial f = box_if A (same_text s serial) (Table (facility_of A c)) refl
-box_moved A (Take c s at) serial f = box_if A (same_text s serial) (Table (facility_of A c)) refl
-box_moved A (Cut c s at) serial f = box_if A (same_text s serial) Spent refl
-box_moved A (Put c s SafeOne at) serial f = box_if A (same_text s serial) (Equipment (facility_of A c)) refl
+box_moved A (Seal c s items at) serial f = grind arith
+box_moved A (Take c s at) serial f = grind arith
+box_moved A (Cut c s at) serial f = grind arith
+box_moved A (Put c s SafeOne at) serial f = grind arith
 box_moved A (Put c s (Boxed number) at) serial f = grind (arith, there (place_of_box A (facility_of A c) number))
 box_moved A act serial f = refl
 
 box_of_either : (A : History) (o p : Option Spot) → has_its_box A o ≡ true → has_its_box A p ≡ true → has_its_box A (or_else o p) ≡ true
-box_of_either A None p h k = k
-box_of_either A (Some s) p h k = h
+box_of_either A o p h k = grind arith
 
 boxes_there : (A : History) → IsRegister A → (serial : List ℕ) → has_its_box A (spot A serial) ≡ true
 boxes_there A h serial =
     each_register (λ B. has_its_box B (spot B serial) ≡ true) refl
-    (λ B key act answer a ih.
+    (λ B key act answer r a ih.
     box_still B (one key act answer) (or_else (moved (facility_of B) serial act) (spot B serial))
     (box_of_either B (moved (facility_of B) serial act) (spot B serial) (box_moved B act serial a.no_fault) ih)) A h
 
@@ -183,7 +164,7 @@ pub balanced : (A : History) → IsRegister A → IsBalanced A
 balanced A h =
     record {
       added_once = added_once A h;
-      added_kept = λ item. (kept A item, λ k. rest_added A item (sealed_added A h item) (kept_some A (rest A item) k));
+      added_kept = λ item. (kept A h item, λ k. rest_added A item (sealed_added A h item) (kept_some A (rest A item) k));
       sealed_once = sealed_once A h;
       in_place = in_place A h;
       boxed = boxes_there A h;

@@ -62,19 +62,17 @@ module _ (A : History) (c t : ℕ) where
   -- of the seatings whose first person is one of p and some who come later, where none has p
   pass_over : (seat : Seat) (seats : List Seat) (taken : List (List ℕ)) (p : List ℕ) (ps : List (List ℕ)) → ((people : List (List ℕ)) → IsLed seat seats taken p people → ⊥)
       → Found (seat ∷ seats) taken (begins_in ps) → Found (seat ∷ seats) taken (begins_in (p ∷ ps))
-  pass_over seat seats taken p ps none found = by_found found
+  pass_over seat seats taken p ps none found = elim found [
+    | inl a ↦ inl (a.0, record { seated = a.1.seated; first = λ others s b ne. a.1.first others s (later others s b) ne })
+    | inr nobody ↦ inr (λ others s b. nobody others s (later others s b))
+  ]
     where
       later : (others : List (List ℕ)) → is_free_seating (seat ∷ seats) taken others ≡ true → begins_in (p ∷ ps) others ≡ true → begins_in ps others ≡ true
       later [] s b = b
-      later (who ∷ others) s b = by_first (same_text who p) refl b
+      later (who ∷ others) s b = grind (arith, other)
         where
-          by_first : (x : Bool) → same_text who p ≡ x → (x || list_any (same_text who) ps) ≡ true → list_any (same_text who) ps ≡ true
-          by_first false e g = g
-          by_first true e g = absurd (none others (subst (λ w. IsLed seat seats taken w others) (same-is who p e) (led seat seats taken who others s)))
-
-      by_found : Found (seat ∷ seats) taken (begins_in ps) → Found (seat ∷ seats) taken (begins_in (p ∷ ps))
-      by_found (inl a) = inl (a.0, record { seated = a.1.seated; first = λ others s b ne. a.1.first others s (later others s b) ne })
-      by_found (inr nobody) = inr (λ others s b. nobody others s (later others s b))
+          other : same_text who p ≡ true → ⊥
+          other e = none others (subst (λ w. IsLed seat seats taken w others) (same-is who p e) (led seat seats taken who others s))
 
   -- p, and the first seating of the other seats without p, come before every seating that begins with somebody later
   take_first : (seat : Seat) (seats : List Seat) (taken : List (List ℕ)) (p : List ℕ) (ps people : List (List ℕ)) → list_all (is_before p) ps ≡ true → eligible A c t seat p ≡ true → list_any (same_text p) taken ≡ false
@@ -126,11 +124,10 @@ module _ (A : History) (c t : ℕ) where
       alone : (others : List (List ℕ)) → is_free_seating [] taken others ≡ true → others ≢ [] → ⊥
       alone [] s ne = ne refl
       alone (who ∷ others) s ne = false≢true s
-  find_first (seat ∷ seats) taken = by_found (try seat seats taken (present A c t) (present_are_rising (sheet A) c t) (find_first seats))
-    where
-      by_found : Found (seat ∷ seats) taken (begins_in (present A c t)) → Found (seat ∷ seats) taken (λ others. true)
-      by_found (inl a) = inl (a.0, record { seated = a.1.seated; first = λ others s b ne. a.1.first others s (begins_present seat seats taken others s) ne })
-      by_found (inr nobody) = inr (λ others s b. nobody others s (begins_present seat seats taken others s))
+  find_first (seat ∷ seats) taken = elim (try seat seats taken (present A c t) (present_are_rising (sheet A) c t) (find_first seats)) [
+    | inl a ↦ inl (a.0, record { seated = a.1.seated; first = λ others s b ne. a.1.first others s (begins_present seat seats taken others s) ne })
+    | inr nobody ↦ inr (λ others s b. nobody others s (begins_present seat seats taken others s))
+  ]
 
   none_taken : (people : List (List ℕ)) → are_free [] people ≡ true
   none_taken [] = refl
@@ -141,8 +138,7 @@ module _ (A : History) (c t : ℕ) where
 
   -- there is a first seating, or none at all
   pub first_or_none : (seats : List Seat) → ((people : List (List ℕ)) × IsFirst A c t seats people) ⊎ ((others : List (List ℕ)) → is_seating A c t seats others ≡ true → ⊥)
-  first_or_none seats = by_found (find_first seats [])
-    where
-      by_found : Found seats [] (λ others. true) → ((people : List (List ℕ)) × IsFirst A c t seats people) ⊎ ((others : List (List ℕ)) → is_seating A c t seats others ≡ true → ⊥)
-      by_found (inl a) = inl (a.0, record { seating = (and_parts (is_seating A c t seats a.0) (are_free [] a.0) a.1.seated).0; first = λ others s ne. a.1.first others (free_too seats others s) refl ne })
-      by_found (inr nobody) = inr (λ others s. nobody others (free_too seats others s) refl)
+  first_or_none seats = elim (find_first seats []) [
+    | inl a ↦ inl (a.0, record { seating = (and_parts (is_seating A c t seats a.0) (are_free [] a.0) a.1.seated).0; first = λ others s ne. a.1.first others (free_too seats others s) refl ne })
+    | inr nobody ↦ inr (λ others s. nobody others (free_too seats others s) refl)
+  ]

@@ -167,22 +167,20 @@ module _ (all : List ℕ) (fits : ℕ → List ℕ → Bool) where
   -- so for one seat after the other
   clear_all : (p : List ℕ) (people : List (List ℕ)) (need : ℕ → Bool) (seen : List ℕ) → list_any (same_text p) people ≡ false → ((less : ℕ → Bool) → OneOfTwo people less)
       → OneOfTwo (p ∷ people) need ⊎ ((s : ℕ → Bool) × IsClear people need p seen s)
-  clear_all p people need [] alone hall = by_others (hall need)
-    where
-      by_others : OneOfTwo people need → OneOfTwo (p ∷ people) need ⊎ ((s : ℕ → Bool) × IsClear people need p [] s)
-      by_others (inl a) = inl (inl (a.0, more_there p people need a.0 a.1))
-      by_others (inr d) = inr (d.0, record { scarce = d.1; clear = λ i o h. absurd (false≢true o) })
-  clear_all p people need (k ∷ seen) alone hall = by_rest (clear_all p people need seen alone hall)
+  clear_all p people need [] alone hall = elim (hall need) [
+    | inl (w, a) ↦ inl (inl (w, more_there p people need w a))
+    | inr (s, d) ↦ inr (s, record { scarce = d; clear = λ i o h. absurd (false≢true o) })
+  ]
+  clear_all p people need (k ∷ seen) alone hall = elim (clear_all p people need seen alone hall) [
+    | inl done ↦ inl done
+    | inr (s, c) ↦ elim (cases_Bool (s k && fits k p)) [
+      | inl e ↦ clear_one p people need k seen s alone (and_parts (s k) (fits k p) e).1 c (hall (without k need))
+      | inr e ↦ inr (s, record { scarce = c.scarce; clear = kept s c e })
+    ]
+  ]
     where
       kept : (s : ℕ → Bool) → IsClear people need p seen s → (s k && fits k p) ≡ false → (i : ℕ) → is_one i (k ∷ seen) ≡ true → s i ≡ true → fits i p ≡ false
       kept s c e i o h = grind (arith, nat_tests, c.clear i)
-
-      by_rest : OneOfTwo (p ∷ people) need ⊎ ((s : ℕ → Bool) × IsClear people need p seen s) → OneOfTwo (p ∷ people) need ⊎ ((s : ℕ → Bool) × IsClear people need p (k ∷ seen) s)
-      by_rest (inl done) = inl done
-      by_rest (inr (s, c)) = elim (cases_Bool (s k && fits k p)) [
-        | inl e ↦ clear_one p people need k seen s alone (and_parts (s k) (fits k p) e).1 c (hall (without k need))
-        | inr e ↦ inr (s, record { scarce = c.scarce; clear = kept s c e })
-      ]
 
   -- a scarce set of the others none of whose seats the person fits is scarce still
   still_scarce : (p : List ℕ) (people : List (List ℕ)) (need s : ℕ → Bool) → IsClear people need p all s → IsScarce (p ∷ people) need s
@@ -199,11 +197,9 @@ module _ (all : List ℕ) (fits : ℕ → List ℕ → Bool) where
         let none : (i : ℕ) → is_one i all ≡ true → need i ≡ true → ⊥ = λ i o n. both_ways (list_any need all) e (some_from need all i o n) in
         inl ((λ i. []), record { fit = λ i o n. absurd (none i o n); there = λ i o n. absurd (none i o n); apart = λ i j o u n m q. absurd (none i o n) })
   ]
-  hall (p ∷ people) once need = by_clear (clear_all p people need all (not-true (list_any (same_text p) people) parts.0) (hall people parts.1))
-    where
-      parts : (not (list_any (same_text p) people) ≡ true) × (stand_once people ≡ true)
-      parts = and_parts (not (list_any (same_text p) people)) (stand_once people) once
-
-      by_clear : OneOfTwo (p ∷ people) need ⊎ ((s : ℕ → Bool) × IsClear people need p all s) → OneOfTwo (p ∷ people) need
-      by_clear (inl done) = done
-      by_clear (inr (s, c)) = inr (s, still_scarce p people need s c)
+  hall (p ∷ people) once need =
+      let parts = and_parts (not (list_any (same_text p) people)) (stand_once people) once in
+      elim (clear_all p people need all (not-true (list_any (same_text p) people) parts.0) (hall people parts.1)) [
+        | inl done ↦ done
+        | inr (s, c) ↦ inr (s, still_scarce p people need s c)
+      ]

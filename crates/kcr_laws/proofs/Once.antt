@@ -13,4 +13,4 @@ absent [] key h = refl
 absent (entry ∷ A) key h = grind (arith, nat_list_eq_equiv.symm key entry.command.key, absent A key)
 
 pub once : (A : History) → IsRegister A → IsOnce A
-once = each_register IsOnce refl (λ A key act answer a ih. grind (arith, absent A key a.new_key, ih))
+once = each_register IsOnce refl (λ A key act answer r a ih. grind (arith, absent A key a.new_key, ih))

@@ -1,9 +1,9 @@
 -- Who holds a place from a day on, and since when, by the rows and by the commands.
 use Rattle.std.proofs.lemmas.Bool.Decides.{nat_tests}
-use Rattle.std.proofs.Common.{◌≡◌, ℕ, ◌≤◌, Bool, true, false, cond, not, ◌&&◌, nat_le, List, [], ◌∷◌, map, find, Option, Some, None, option_map, is_some, inl, inr, refl, sym, ap, ◌∙◌, arith}
+use Rattle.std.proofs.Common.{◌≡◌, ℕ, ◌≤◌, true, false, not, ◌&&◌, nat_le, List, [], ◌∷◌, map, Option, Some, None, option_map, is_some, inl, inr, refl, sym, ap, ◌∙◌, arith}
 use Rattle.std.specs.Prelude.{unwrap_or}
 use Rattle.std.specs.List.{list_any}
-use Rattle.std.proofs.lemmas.Bool.{false≢true, and_parts, and_from, or_cases, leb-true}
+use Rattle.std.proofs.lemmas.Bool.{false≢true, and_parts, or_cases}
 use Rattle.kcr_base.specs.Refuse.{when}
 use Rattle.kcr_base.specs.Rows.{or_else}
 use Rattle.kcr_base.specs.Same.{same_text, same_place, is_this}
@@ -51,11 +51,7 @@ older_holder row rows place d who s h = grind (arith, none-below place d row row
 its_holder : (rows : List Appointment) (who : List ℕ) (d : ℕ) → stacked rows ≡ true → holds_some_by rows who d ≡ true → (place : Place) × (is_this who (holder_by rows place d) ≡ true)
 its_holder [] who d s h = absurd (false≢true h)
 its_holder (row ∷ rows) who d s h = elim (or_cases (same_text row.who who && nat_le row.since d && lasts_beyond d row) (holds_some_by rows who d) h) [
-  | inl e ↦
-      let a = and_parts (same_text row.who who && nat_le row.since d) (lasts_beyond d row) e in
-      let b = and_parts (same_text row.who who) (nat_le row.since d) a.0 in
-      let k = and_from (same_place row.place row.place && nat_le row.since d) (lasts_beyond d row) (and_from (same_place row.place row.place) (nat_le row.since d) (place-refl row.place) b.1) a.1 in
-      (row.place, ap (λ x. is_this who (option_map (λ old. old.who) (cond x (Some row) (find (holds row.place d) rows)))) k ∙ b.0)
+  | inl e ↦ (row.place, grind (arith, place-refl row.place))
   | inr e ↦
       let w = its_holder rows who d (and_parts (not (place_held_from_by rows row.place row.since)) (stacked rows) s).1 e in
       (w.0, older_holder row rows w.0 d who s w.1)
@@ -114,13 +110,9 @@ since_said (entry ∷ A) place = since_after A entry.command.act place (since_sa
 pub early_told : (A : History) (place : Place) (day : ℕ) → not_after_first_day A place day ≡ Some Range → BeginsFrom A place day
 early_told A place day h = by_row (open_row_by (appointments A) place) h (since_said A place)
   where
-    by_since : (since : ℕ) (b : Bool) → nat_le day since ≡ b → when b Range ≡ Some Range → held_since A place ≡ Some since → BeginsFrom A place day
-    by_since since false e g s = absurd (let z : None ≡ Some Range = g in cc)
-    by_since since true e g s = (since, s, leb-true day since e)
-
     by_row : (o : Option Appointment) → when (begins_too_late o day) Range ≡ Some Range → since_of o ≡ held_since A place → BeginsFrom A place day
     by_row None g s = absurd (let z : None ≡ Some Range = g in cc)
-    by_row (Some row) g s = by_since row.since (nat_le day row.since) refl g (sym s)
+    by_row (Some row) g s = (row.since, sym s, grind (arith, nat_tests))
 
 pub early_holds : (A : History) (place : Place) (day : ℕ) → BeginsFrom A place day → not_after_first_day A place day ≡ Some Range
 early_holds A place day (since, s, l) = grind (arith, nat_tests, since_said A place)

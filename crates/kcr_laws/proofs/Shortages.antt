@@ -1,7 +1,7 @@
 -- Where nobody can fill the seats of a step there is a least set of them that too few people fit.
 use Rattle.std.proofs.Common.{◌≡◌, ℕ, zero, suc, ◌+◌, ◌<◌, ◌≤◌, Bool, true, false, not, ◌&&◌, nat_lt, List, [], ◌∷◌, filter, length, ◌⊎◌, inl, inr, refl, ap, arith}
 use Rattle.std.specs.List.{list_any, list_all}
-use Rattle.std.proofs.lemmas.Bool.{true≢false, and_parts, and_from, and_cases, not-false, not_from_false, lt-ltb}
+use Rattle.std.proofs.lemmas.Bool.{true≢false, and_parts, and_from, and_cases, not-false, not_from_false, lt-ltb, cases_Bool}
 use Rattle.std.proofs.lemmas.Bool.Decides.{nat_tests}
 use Rattle.kcr_base.specs.Same.{same_text, is_before}
 use Rattle.kcr_room.specs.Laws.{are_rising}
@@ -41,11 +41,12 @@ shorter_fails test xs (suc n) h = elim (and_cases (every test xs n) (every_short
 
 trial : (A : History) (c t : ℕ) (seats : List Seat) (positions : List ℕ) → is_short A c t seats positions ≡ true
     → ((part : List ℕ) → length part < length positions → is_short A c t seats part ≡ true → (least : List ℕ) × IsLeast A c t seats least) → (least : List ℕ) × IsLeast A c t seats least
-trial A c t seats positions h ih = by_trial (every_shorter (λ part. not (is_short A c t seats part)) positions (length positions)) refl
-  where
-    by_trial : (b : Bool) → every_shorter (λ part. not (is_short A c t seats part)) positions (length positions) ≡ b → (least : List ℕ) × IsLeast A c t seats least
-    by_trial true e = (positions, least_by_trial A c t seats positions (and_from (is_short A c t seats positions) (every_shorter (λ part. not (is_short A c t seats part)) positions (length positions)) h e))
-    by_trial false e = let w = shorter_fails (λ part. not (is_short A c t seats part)) positions (length positions) e in ih w.0 w.1 (not-false (is_short A c t seats w.0) w.2)
+trial A c t seats positions h ih =
+    let other = λ (part : List ℕ). not (is_short A c t seats part) in
+    elim (cases_Bool (every_shorter other positions (length positions))) [
+      | inl e ↦ (positions, least_by_trial A c t seats positions (and_from (is_short A c t seats positions) (every_shorter other positions (length positions)) h e))
+      | inr e ↦ let w = shorter_fails other positions (length positions) e in ih w.0 w.1 (not-false (is_short A c t seats w.0) w.2)
+    ]
 
 -- where some positions are short, some are a least shortage
 least_of_short : (fuel : ℕ) (A : History) (c t : ℕ) (seats : List Seat) (positions : List ℕ) → length positions ≤ fuel → is_short A c t seats positions ≡ true → (least : List ℕ) × IsLeast A c t seats least
