@@ -43,10 +43,11 @@ room_after A key (Sheet d way people at) answer c t f ih = by_ceremony (d == c) 
   where
     by_ceremony : (b : Bool) → (d == c) ≡ b → IsAllowed (crowd_by (sheet A ++ map (new_row d way at) people) c t)
     by_ceremony true e =
-        subst (λ z. IsAllowed (crowd_by (sheet A ++ map (new_row d way at) people) z t)) (eqb-true d c e) (own_room (sheet A ++ map (new_row d way at) people) d (grind arith) (grind arith) t)
+        let own = own_room (sheet A ++ map (new_row d way at) people) d (grind arith) (grind arith) t in
+        subst (λ z. IsAllowed (crowd_by (sheet A ++ map (new_row d way at) people) z t)) (eqb-true d c e) own
     by_ceremony false e =
-        let turn = turns A d way at people (grind arith) in
-        subst IsAllowed (sym (ap length (same_room (sheet A ++ map (new_row d way at) people) (sheet A) c t (λ who. in_other (sheet A) d way at people who c t turn e)))) ih
+        let as_before = λ (who : List ℕ). in_other (sheet A) d way at people who c t (turns A d way at people (grind arith)) e in
+        subst IsAllowed (sym (ap length (same_room (sheet A ++ map (new_row d way at) people) (sheet A) c t as_before))) ih
 room_after A key act answer c t f ih = ih
 
 pub rooms : (A : History) → IsRegister A → (c t : ℕ) → IsAllowed (crowd_by (sheet A) c t)

@@ -21,7 +21,7 @@ use Rattle.kcr_laws.specs.Conditions.{IsEverCrowded, IsFirstAlone, IsNeverAlone}
 
 -- MORE THAN 128
 
-ever : (rows : List SheetRow) (c : ℕ) → IsEver (λ t. nat_lt 128 (crowd_by rows c t)) (is_crowded_in_by (stays_by rows) c)
+pub ever : (rows : List SheetRow) (c : ℕ) → IsEver (λ t. nat_lt 128 (crowd_by rows c t)) (is_crowded_in_by (stays_by rows) c)
 ever rows c = crowded-by_rows rows c (is_crowded_in_by (stays_by rows) c) (crowded-is_ever (stays_by rows) c)
 
 pub crowd_told : (rows : List SheetRow) (c : ℕ) → crowded rows c ≡ Some Crowd → IsEverCrowded rows c
@@ -41,7 +41,7 @@ crowd_holds rows c (t, l) = by_test (is_crowded_in_by (stays_by rows) c) (ever r
 
 -- EXACTLY ONE
 
-first : (rows : List SheetRow) (c : ℕ) → IsFirst (λ t. crowd_by rows c t == 1) (first_lone_in_by (stays_by rows) c)
+pub first : (rows : List SheetRow) (c : ℕ) → IsFirst (λ t. crowd_by rows c t == 1) (first_lone_in_by (stays_by rows) c)
 first rows c = first_lone-by_rows rows c (first_lone_in_by (stays_by rows) c) (first_lone-is_first (stays_by rows) c)
 
 moment_told : (o : Option ℕ) (t : ℕ) → option_map Lone o ≡ Some (Lone t) → o ≡ Some t
@@ -90,7 +90,9 @@ behind_room A c way rows = when (is_overfull way rows c) Full ∷ when (is_full 
 others_before : (A : History) (c : ℕ) (way : Way) (people : List (List ℕ)) (at : ℕ) (rest : List (Option Refusal)) (r : Refusal) → (0 == kind r) ≡ false → AreOther r rest
     → AreOther r (before_room A c way people at rest)
 others_before A c way people at rest r e others =
-    (other_when r _ _ e, (other_of_all r (no_person A) (λ who. other_when r _ _ e) people, (other_when r _ _ e, (not_late (mark A c), (not_twice (first_twice people), (other_of_all r (out_of_turn A c way at) (λ who. other_when r _ _ e) people, others))))))
+    let unknown = other_of_all r (no_person A) (λ who. other_when r _ _ e) people in
+    let turn = other_of_all r (out_of_turn A c way at) (λ who. other_when r _ _ e) people in
+    (other_when r _ _ e, (unknown, (other_when r _ _ e, (not_late (mark A c), (not_twice (first_twice people), (turn, others))))))
   where
     not_late : (m : Option ℕ) → IsOther r (is_not_later at m)
     not_late None = tt

@@ -1,7 +1,7 @@
 -- What is found in lists, and who holds a place alone.
 use Rattle.std.proofs.Common.{◌≡◌, ℕ, Bool, true, false, cond, not, ◌&&◌, nat_le, List, [], ◌∷◌, find, Option, Some, None, refl, subst, arith}
 use Rattle.std.specs.List.{list_any, AllByRecursion}
-use Rattle.std.proofs.lemmas.Bool.{both_ways, and_parts, or_parts, leb-true, not-true}
+use Rattle.std.proofs.lemmas.Bool.{both_ways, and_parts, or_parts, leb-true}
 use Rattle.kcr_base.specs.Same.{same_place}
 use Rattle.kcr_base.specs.declared.place.Place.{Place}
 use Rattle.kcr_people.specs.declared.Appointment.{Appointment}
@@ -33,7 +33,7 @@ pub none-below : (place : Place) (day : ℕ) (row : Appointment) (rows : List Ap
 none-below place day row rows s k =
     let a = and_parts (same_place row.place place && nat_le row.since day) (lasts_beyond day row) k in
     let b = and_parts (same_place row.place place) (nat_le row.since day) a.0 in
-    let n = not-true (place_held_from_by rows row.place row.since) (and_parts (not (place_held_from_by rows row.place row.since)) (stacked rows) s).0 in
+    let n : place_held_from_by rows row.place row.since ≡ false = grind arith in
     free-none place row.since day rows (leb-true row.since day b.1) (subst (λ at. place_held_from_by rows at row.since ≡ false) (place-same row.place place b.0) n)
 
 -- a row that holds the place on the day is the only one of the older and it

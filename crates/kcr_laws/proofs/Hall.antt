@@ -89,7 +89,9 @@ module _ (all : List ℕ) (fits : ℕ → List ℕ → Bool) where
 
   -- who fits a seat of either set fits one of the one or of the other; who fits one of both fits one of each
   takes_most : (s t : ℕ → Bool) (who : List ℕ) → bit (takes (either s t) who) + bit (takes (both s t) who) ≤ bit (takes s who) + bit (takes t who)
-  takes_most s t who = bits_most (takes (either s t) who) (takes (both s t) who) (takes s who) (takes t who) (split all) (part s (λ i h. (and_parts (s i) (t i) h).0) all) (part t (λ i h. (and_parts (s i) (t i) h).1) all)
+  takes_most s t who =
+      bits_most (takes (either s t) who) (takes (both s t) who) (takes s who) (takes t who) (split all)
+      (part s (λ i h. (and_parts (s i) (t i) h).0) all) (part t (λ i h. (and_parts (s i) (t i) h).1) all)
     where
       split : (is : List ℕ) → list_any (λ i. (s i || t i) && fits i who) is ≡ true → (list_any (λ i. s i && fits i who) is || list_any (λ i. t i && fits i who) is) ≡ true
       split [] h = h

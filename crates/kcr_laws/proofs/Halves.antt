@@ -1,7 +1,7 @@
 -- Where there is a seating nothing is short: of the two halves of the machine's answer at most one is possible.
 use Rattle.std.proofs.Common.{◌≡◌, ℕ, zero, suc, ◌<◌, ◌≤◌, Bool, true, false, not, ◌&&◌, ◌==◌, nat_le, nat_lt, List, [], ◌∷◌, filter, length, get_or, arith}
 use Rattle.std.specs.List.{list_any}
-use Rattle.std.proofs.lemmas.Bool.{false≢true, both_ways, and_parts, or_right, ltb-true, false_from_ne_true, not-true}
+use Rattle.std.proofs.lemmas.Bool.{false≢true, both_ways, and_parts, or_right, ltb-true, false_from_ne_true}
 use Rattle.std.proofs.lemmas.Bool.Decides.{nat_tests}
 use Rattle.std.proofs.lemmas.List.Folds.{list_any_at}
 use Rattle.kcr_base.specs.Same.{same_text}
@@ -10,9 +10,9 @@ use Rattle.kcr_room.proofs.Keeping.{present_are_in}
 use Rattle.kcr_script.specs.declared.seat.Seat.{Seat}
 use Rattle.kcr_history.specs.History.{History}
 use Rattle.kcr_history.specs.Room.{sheet, present}
-use Rattle.kcr_history.specs.Seating.{eligible, is_seating, is_eligible_at, who_fit, rise, is_short}
+use Rattle.kcr_history.specs.Seating.{is_seating, is_eligible_at, who_fit, rise, is_short}
 use Rattle.kcr_laws.proofs.Hall.{is_one, some_from}
-use Rattle.kcr_laws.proofs.Trials.{seated_inside}
+use Rattle.kcr_laws.proofs.Trials.{seated_inside, rest_seated}
 
 -- AS MANY PEOPLE AS POSITIONS
 
@@ -64,11 +64,13 @@ module _ (A : History) (c t : ℕ) where
   apart (seat ∷ seats) [] h p q l m = absurd (false≢true h)
   apart (seat ∷ seats) (who ∷ people) h p zero l m = absurd (omega (arith, l))
   apart (seat ∷ seats) (who ∷ people) h zero (suc q) l m =
-      let k = and_parts (eligible A c t seat who && not (list_any (same_text who) people)) (is_seating A c t seats people) h in
-      let none = not-true _ (and_parts (eligible A c t seat who) (not (list_any (same_text who) people)) k.0).1 in
-      false_from_ne_true _ (λ e. both_ways _ none (list_any_at (same_text who) people q [] (omega (arith, m, (seated_inside A c t seats people k.1).0)) e))
+      let count = (seated_inside A c t seats people (rest_seated A c t seat seats who people h)).0 in
+      false_from_ne_true _ (λ e. both_ways _ none (list_any_at (same_text who) people q [] (omega (arith, m, count)) e))
+    where
+      none : list_any (same_text who) people ≡ false
+      none = grind arith
   apart (seat ∷ seats) (who ∷ people) h (suc p) (suc q) l m =
-      apart seats people (and_parts (eligible A c t seat who && not (list_any (same_text who) people)) (is_seating A c t seats people) h).1 p q (omega (arith, l)) (omega (arith, m))
+      apart seats people (rest_seated A c t seat seats who people h) p q (omega (arith, l)) (omega (arith, m))
 
   -- whoever sits is present, and eligible for the seat
   sits : (seats : List Seat) (people : List (List ℕ)) → is_seating A c t seats people ≡ true → (p : ℕ) → p < length seats
@@ -77,7 +79,7 @@ module _ (A : History) (c t : ℕ) where
   sits (seat ∷ seats) [] h p l = absurd (false≢true h)
   sits (seat ∷ seats) (who ∷ people) h zero l = grind (arith, present_are_in (sheet A) who c t)
   sits (seat ∷ seats) (who ∷ people) h (suc p) l =
-      sits seats people (and_parts (eligible A c t seat who && not (list_any (same_text who) people)) (is_seating A c t seats people) h).1 p (omega (arith, l))
+      sits seats people (rest_seated A c t seat seats who people h) p (omega (arith, l))
 
   -- where people are seated, no positions are short
   pub one_half : (seats : List Seat) (people : List (List ℕ)) (positions : List ℕ) → is_seating A c t seats people ≡ true → is_short A c t seats positions ≡ true → ⊥

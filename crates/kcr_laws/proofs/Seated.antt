@@ -87,10 +87,10 @@ still_opened c (Some n) numbers h = or_right (n == c) (was_opened c numbers) h
 still_past : (A : History) (entry : Entry) (o : Option (ℕ × ℕ)) → is_past_if A o ≡ true → is_past_if (entry ∷ A) o ≡ true
 still_past A entry None h = refl
 still_past A entry (Some m) h =
-    let p = and_parts (is_ceremony A m.0) (at_most m.1 (mark A m.0) && was_opened m.0 (all_said opened_number A)) h in
-    let q = and_parts (at_most m.1 (mark A m.0)) (was_opened m.0 (all_said opened_number A)) p.1 in
-    and_from (is_ceremony (entry ∷ A) m.0) _ (still_ceremony (planned_as m.0 entry.command.act) (plan_of A m.0) p.0)
-    (and_from (at_most m.1 (mark (entry ∷ A) m.0)) _ (older_of m.0 m.1 (marked entry.command.act) (all_said marked A) q.0) (still_opened m.0 (opened_number entry.command.act) (all_said opened_number A) q.1))
+    let planned = still_ceremony (planned_as m.0 entry.command.act) (plan_of A m.0) in
+    let marked_by = older_of m.0 m.1 (marked entry.command.act) (all_said marked A) in
+    let was = still_opened m.0 (opened_number entry.command.act) (all_said opened_number A) in
+    grind (arith, planned, marked_by, was)
 
 -- a ceremony that is open was opened
 opened_after : (A : History) (key : List ℕ) (act : Act) (answer : Answer) (c : ℕ) → (is_some (opened A c) ≡ true → was_opened c (all_said opened_number A) ≡ true)

@@ -1,9 +1,9 @@
 -- Where nobody can fill the seats of a step there is a least set of them that too few people fit.
-use Rattle.std.proofs.Common.{◌≡◌, ℕ, zero, suc, ◌+◌, ◌<◌, ◌≤◌, Bool, true, false, not, ◌&&◌, nat_lt, List, [], ◌∷◌, filter, length, ◌⊎◌, inl, inr, refl, ap, arith}
+use Rattle.std.proofs.Common.{◌≡◌, ℕ, zero, suc, ◌+◌, ◌<◌, ◌≤◌, Bool, true, false, not, nat_lt, List, [], ◌∷◌, filter, length, ◌⊎◌, inl, inr, refl, ap, arith}
 use Rattle.std.specs.List.{list_any, list_all}
-use Rattle.std.proofs.lemmas.Bool.{true≢false, and_parts, and_from, and_cases, not-false, not_from_false, lt-ltb, cases_Bool}
+use Rattle.std.proofs.lemmas.Bool.{true≢false, and_from, and_cases, not-false, lt-ltb, cases_Bool}
 use Rattle.std.proofs.lemmas.Bool.Decides.{nat_tests}
-use Rattle.kcr_base.specs.Same.{same_text, is_before}
+use Rattle.kcr_base.specs.Same.{same_text}
 use Rattle.kcr_room.specs.Laws.{are_rising}
 use Rattle.kcr_room.proofs.Agreement.{same-is}
 use Rattle.kcr_room.proofs.Lists.{any-filter}
@@ -11,7 +11,7 @@ use Rattle.kcr_room.proofs.Rising.{present_are_rising}
 use Rattle.kcr_script.specs.declared.seat.Seat.{Seat}
 use Rattle.kcr_history.specs.History.{History}
 use Rattle.kcr_history.specs.Room.{sheet, present}
-use Rattle.kcr_history.specs.Seating.{eligible, is_seating, is_eligible_at, who_fit, rise, is_short, IsLeast}
+use Rattle.kcr_history.specs.Seating.{is_seating, is_eligible_at, who_fit, rise, is_short, IsLeast}
 use Rattle.kcr_laws.proofs.Hall.{is_one, count, takers, IsAssigned, IsScarce, stand_once, hall}
 use Rattle.kcr_laws.proofs.Rooms.{not_itself}
 use Rattle.kcr_laws.proofs.Trials.{every, every_shorter, least_by_trial}
@@ -95,19 +95,19 @@ seated_by : (A : History) (c t : ℕ) (seats : List Seat) (w : ℕ → List ℕ)
     → ((i j : ℕ) → i < length seats → j < length seats → w i ≡ w j → i ≡ j) → is_seating A c t seats (list_by (length seats) w) ≡ true
 seated_by A c t [] w fit apart = refl
 seated_by A c t (seat ∷ seats) w fit apart =
-    and_from (eligible A c t seat (w 0) && not (list_any (same_text (w 0)) (list_by (length seats) (λ i. w (suc i))))) (is_seating A c t seats (list_by (length seats) (λ i. w (suc i))))
-    (and_from (eligible A c t seat (w 0)) (not (list_any (same_text (w 0)) (list_by (length seats) (λ i. w (suc i))))) (fit 0 (omega arith))
-    (not_from_false (list_any (same_text (w 0)) (list_by (length seats) (λ i. w (suc i))))
-    (not_among (w 0) (length seats) (λ i. w (suc i)) (λ i l e. let same : 0 ≡ suc i = apart 0 (suc i) (omega arith) (omega (arith, l)) e in omega (arith, same)))))
-    (seated_by A c t seats (λ i. w (suc i)) (λ i l. fit (suc i) (omega (arith, l))) (λ i j l m e. let same : suc i ≡ suc j = apart (suc i) (suc j) (omega (arith, l)) (omega (arith, m)) e in omega (arith, same)))
+    grind (arith, fit 0 (omega arith), alone, seated_by A c t seats (λ i. w (suc i)) (λ i l. fit (suc i) (omega (arith, l))) others)
+  where
+    alone : list_any (same_text (w 0)) (list_by (length seats) (λ i. w (suc i))) ≡ false
+    alone = not_among (w 0) (length seats) (λ i. w (suc i)) (λ i l e. let same : 0 ≡ suc i = apart 0 (suc i) (omega arith) (omega (arith, l)) e in omega (arith, same))
+
+    others : (i j : ℕ) → i < length seats → j < length seats → w (suc i) ≡ w (suc j) → i ≡ j
+    others i j l m e = let same : suc i ≡ suc j = apart (suc i) (suc j) (omega (arith, l)) (omega (arith, m)) e in omega (arith, same)
 
 -- ONE OF THE TWO
 
 rising_once : (people : List (List ℕ)) → are_rising people ≡ true → stand_once people ≡ true
 rising_once [] r = refl
-rising_once (who ∷ people) r =
-    let p = and_parts (list_all (is_before who) people) (are_rising people) r in
-    and_from (not (list_any (same_text who) people)) (stand_once people) (not_from_false (list_any (same_text who) people) (not_itself who people p.0)) (rising_once people p.1)
+rising_once (who ∷ people) r = grind (arith, not_itself who people, rising_once people)
 
 module _ (A : History) (c t : ℕ) (seats : List Seat) where
   abbrev positions_of : List ℕ

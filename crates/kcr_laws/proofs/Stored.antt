@@ -2,7 +2,7 @@
 use Rattle.std.proofs.Common.{◌≡◌, ℕ, Bool, true, false, cond, List, [], ◌∷◌, Option, Some, None, is_some, is_none, refl, subst, arith}
 use Rattle.std.specs.List.{list_any, cons_option}
 use Rattle.std.proofs.lemmas.Bool.{true≢false}
-use Rattle.kcr_base.proofs.RefuseLemmas.{none_holds, unmet}
+use Rattle.kcr_base.proofs.RefuseLemmas.{unmet}
 use Rattle.kcr_base.specs.Rows.{or_else}
 use Rattle.kcr_base.specs.Same.{same_text}
 use Rattle.kcr_base.specs.declared.place.Facility.{Facility}
@@ -18,7 +18,7 @@ use Rattle.kcr_history.specs.History.{History, all_said}
 use Rattle.kcr_history.specs.Ceremonies.{facility_of}
 use Rattle.kcr_history.specs.Custody.{moved, spot, boxed, place_of_box}
 use Rattle.kcr_history.specs.Tables.{sealed_serial, boxes, box_row}
-use Rattle.kcr_history.specs.Conditions.{conditions, fault, no_bag}
+use Rattle.kcr_history.specs.Conditions.{fault, no_bag}
 use Rattle.kcr_history.specs.Machine.{IsRegister}
 use Rattle.kcr_history.proofs.Steps.{took}
 
@@ -41,9 +41,9 @@ is_sealed A s = list_any (λ k. same_text k s) (all_said sealed_serial A)
 pub sealed_after : (A : History) (act : Act) (s : List ℕ) → fault A act ≡ None → is_sealed A s ≡ is_some (spot A s)
     → list_any (λ k. same_text k s) (cons_option (sealed_serial act) (all_said sealed_serial A)) ≡ is_some (or_else (moved (facility_of A) s act) (spot A s))
 sealed_after A (Seal c serial codes at) s f ih = grind (arith, ih)
-sealed_after A (Take c t at) s f ih = moved_there t s (Table (facility_of A c)) (spot A s) (is_sealed A s) (bag_known A t s (none_holds (conditions A (Take c t at)) f).1.0) ih
-sealed_after A (Put c t to at) s f ih = moved_there t s (spot_of_store (facility_of A c) to) (spot A s) (is_sealed A s) (bag_known A t s (none_holds (conditions A (Put c t to at)) f).1.0) ih
-sealed_after A (Cut c t at) s f ih = moved_there t s Spent (spot A s) (is_sealed A s) (bag_known A t s (none_holds (conditions A (Cut c t at)) f).1.0) ih
+sealed_after A (Take c t at) s f ih = moved_there t s (Table (facility_of A c)) (spot A s) (is_sealed A s) (bag_known A t s (grind arith)) ih
+sealed_after A (Put c t to at) s f ih = moved_there t s (spot_of_store (facility_of A c) to) (spot A s) (is_sealed A s) (bag_known A t s (grind arith)) ih
+sealed_after A (Cut c t at) s f ih = moved_there t s Spent (spot A s) (is_sealed A s) (bag_known A t s (grind arith)) ih
 sealed_after A act s f ih = ih
 
 -- a bag is somewhere exactly where it was sealed

@@ -14,7 +14,7 @@ use Rattle.kcr_history.specs.declared.commands.Act.{Act}
 use Rattle.kcr_history.specs.declared.commands.Entry.{Entry}
 use Rattle.kcr_history.specs.History.{History, entry_of}
 use Rattle.kcr_history.specs.Room.{sheet, present}
-use Rattle.kcr_history.specs.Seating.{eligible, is_seating, comes_first, IsFirst, is_short, is_proper_part, IsLeast}
+use Rattle.kcr_history.specs.Seating.{is_seating, comes_first, IsFirst, is_short, is_proper_part, IsLeast}
 use Rattle.kcr_history.specs.Conditions.{fault}
 use Rattle.kcr_history.specs.Machine.{Outcome, Accepts, Refuses, Sitting, sitting, answer_to, seats, acts, repeats, machine}
 use Rattle.kcr_laws.specs.Examples.{outcome_text, new_command, with_act, AreSteps, AreAnswered}
@@ -77,6 +77,11 @@ is_no_better A c t seats people others = not (is_seating A c t seats others) || 
 abbrev pub is_first_by_trial : History → ℕ → ℕ → List Seat → List (List ℕ) → Bool
 is_first_by_trial A c t seats people = is_seating A c t seats people && every (is_no_better A c t seats people) (present A c t) (length seats)
 
+-- the others of a seating are one of the other seats
+pub rest_seated : (A : History) (c t : ℕ) (seat : Seat) (seats : List Seat) (who : List ℕ) (others : List (List ℕ)) → is_seating A c t (seat ∷ seats) (who ∷ others) ≡ true
+    → is_seating A c t seats others ≡ true
+rest_seated A c t seat seats who others h = grind arith
+
 -- whoever sits is present
 pub seated_inside : (A : History) (c t : ℕ) (seats : List Seat) (others : List (List ℕ)) → is_seating A c t seats others ≡ true
     → (length others ≡ length seats) × (list_all (λ who. list_any (same_text who) (present A c t)) others ≡ true)
@@ -84,7 +89,7 @@ seated_inside A c t [] [] h = (refl, refl)
 seated_inside A c t [] (who ∷ others) h = absurd (false≢true h)
 seated_inside A c t (seat ∷ seats) [] h = absurd (false≢true h)
 seated_inside A c t (seat ∷ seats) (who ∷ others) h =
-    let more = seated_inside A c t seats others (and_parts (eligible A c t seat who && not (list_any (same_text who) others)) (is_seating A c t seats others) h).1 in
+    let more = seated_inside A c t seats others (rest_seated A c t seat seats who others h) in
     (ap suc more.0, grind (arith, present_are_in (sheet A) who c t, more.1))
 
 pub first_by_trial : (A : History) (c t : ℕ) (seats : List Seat) (people : List (List ℕ)) → is_first_by_trial A c t seats people ≡ true → IsFirst A c t seats people
