@@ -58,13 +58,15 @@ abbrev pub one : List ℕ → Act → Answer → Entry
 one key act answer = record { command = record { key = key; act = act }; answer = answer }
 
 -- what holds of the empty history, and with a further command where it held before, holds of every history
-pub each_history : (P : History → Type 0) → P [] → ((A : History) (key : List ℕ) (act : Act) (answer : Answer) → P A → P (one key act answer ∷ A)) → (A : History) → P A
+pub each_history : (P : History → Type 0) → P [] → ((A : History) (key : List ℕ) (act : Act) (answer : Answer) → P A → P (one key act answer ∷ A))
+    → (A : History) → P A
 each_history P base step [] = base
 each_history P base step (entry ∷ A) = step A entry.command.key entry.command.act entry.answer (each_history P base step A)
 
 -- what an accepted command keeps holds of every register
 pub each_register : (P : History → Type 0) → P []
-    → ((A : History) (key : List ℕ) (act : Act) (answer : Answer) → IsRegister A → IsAccepted A (one key act answer) → P A → P (one key act answer ∷ A)) → (A : History) → IsRegister A → P A
+    → ((A : History) (key : List ℕ) (act : Act) (answer : Answer) → IsRegister A → IsAccepted A (one key act answer) → P A → P (one key act answer ∷ A))
+    → (A : History) → IsRegister A → P A
 each_register P base step [] h = base
 each_register P base step (entry ∷ A) h = step A entry.command.key entry.command.act entry.answer h.1 (accepted A entry h.0) (each_register P base step A h.1)
 
@@ -76,7 +78,8 @@ repeated A x kept e s outcome A' h = let g = rw e at h in (rw s at g.0, g.1)
 
 -- STEPS FROM A REGISTER LEAD TO REGISTERS
 
-grows : (A : History) (x : Command) (answer : Answer) (outcome : Outcome) (A' : History) → IsRegister A → machine A x outcome A' → outcome ≡ Accepts answer → A' ≡ with_command A x answer → IsRegister A'
+grows : (A : History) (x : Command) (answer : Answer) (outcome : Outcome) (A' : History) → IsRegister A → machine A x outcome A' → outcome ≡ Accepts answer
+    → A' ≡ with_command A x answer → IsRegister A'
 grows A x answer outcome A' r h o e = rw e ((rw e at (rw o at h)), r)
 
 pub step_keeps : (A : History) (x : Command) (outcome : Outcome) (A' : History) → IsRegister A → machine A x outcome A' → IsRegister A'

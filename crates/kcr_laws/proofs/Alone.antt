@@ -22,7 +22,8 @@ use Rattle.kcr_laws.proofs.Accepted.{accepted}
 use Rattle.kcr_laws.proofs.Rooms.{HaveTurns, in_other, same_room}
 
 -- of people of whom none is refused each has the turn
-pub turns : (A : History) (c : ℕ) (way : Way) (at : ℕ) (people : List (List ℕ)) → first_with (out_of_turn A c way at) people ≡ None → HaveTurns (sheet A) c way at people
+pub turns : (A : History) (c : ℕ) (way : Way) (at : ℕ) (people : List (List ℕ)) → first_with (out_of_turn A c way at) people ≡ None
+    → HaveTurns (sheet A) c way at people
 turns A c way at people h p m = unmet _ (Turn p) (none_with (out_of_turn A c way at) people h p m)
 
 -- rows that are neither crowded nor lone
@@ -38,7 +39,8 @@ own_room rows c k l t = (
 abbrev one : List ℕ → Act → Answer → Entry
 one key act answer = record { command = record { key = key; act = act }; answer = answer }
 
-room_after : (A : History) (key : List ℕ) (act : Act) (answer : Answer) (c t : ℕ) → fault A act ≡ None → IsAllowed (crowd_by (sheet A) c t) → IsAllowed (crowd_by (sheet (one key act answer ∷ A)) c t)
+room_after : (A : History) (key : List ℕ) (act : Act) (answer : Answer) (c t : ℕ) → fault A act ≡ None → IsAllowed (crowd_by (sheet A) c t)
+    → IsAllowed (crowd_by (sheet (one key act answer ∷ A)) c t)
 room_after A key (Sheet d way people at) answer c t f ih = by_ceremony (d == c) refl
   where
     by_ceremony : (b : Bool) → (d == c) ≡ b → IsAllowed (crowd_by (sheet A ++ map (new_row d way at) people) c t)

@@ -24,11 +24,13 @@ module _ (A : History) (x : Command) where
     ]
   ]
 
-  by_sitting : (o : Option Sitting) → (outcome : Outcome) × (A' : History) × MatchOption o (accepts A x (answer_to A x.act None) outcome A') (λ s. seats A x s outcome A')
+  by_sitting : (o : Option Sitting)
+      → (outcome : Outcome) × (A' : History) × MatchOption o (accepts A x (answer_to A x.act None) outcome A') (λ s. seats A x s outcome A')
   by_sitting None = let answer : Answer = answer_to A x.act None in (Accepts answer, with_command A x answer, (refl, refl))
   by_sitting (Some s) = by_seats s
 
-  by_entry : (e : Option Entry) (f : Option Refusal) → (outcome : Outcome) × (A' : History) × MatchOption e (acts A x f outcome A') (λ kept. repeats A x kept outcome A')
+  by_entry : (e : Option Entry) (f : Option Refusal)
+      → (outcome : Outcome) × (A' : History) × MatchOption e (acts A x f outcome A') (λ kept. repeats A x kept outcome A')
   by_entry (Some kept) f = (if same_command kept.command.act x.act then Accepts kept.answer else Refuses Key, A, (refl, refl))
   by_entry None (Some refusal) = (Refuses refusal, A, (refl, refl))
   by_entry None None = by_sitting (sitting A x.act)

@@ -42,7 +42,8 @@ still (Some x) p h = refl
 sealed_is : (A : History) → IsRegister A → (serial : List ℕ) → list_any (same_text serial) (all_said sealed_serial A) ≡ is_some (spot A serial)
 sealed_is A r serial = any-same (same_text serial) (λ k. same_text k serial) (all_said sealed_serial A) (same-turned serial) ∙ sealed_somewhere A r serial
 
-sealed_after : (A : History) (key : List ℕ) (act : Act) (answer : Answer) → IsRegister A → IsAccepted A (one key act answer) → all_differ (all_said sealed_serial A) ≡ true → all_differ (all_said sealed_serial (one key act answer ∷ A)) ≡ true
+sealed_after : (A : History) (key : List ℕ) (act : Act) (answer : Answer) → IsRegister A → IsAccepted A (one key act answer)
+    → all_differ (all_said sealed_serial A) ≡ true → all_differ (all_said sealed_serial (one key act answer ∷ A)) ≡ true
 sealed_after A key (Seal c s items at) answer r a ih =
     let free = unmet (is_some (spot A s)) Taken (none_holds (conditions A (Seal c s items at)) a.no_fault).1.1.0 in
     grind (arith, sealed_is A r s, free, ih)
@@ -63,7 +64,8 @@ added A item = last_told (λ before. added_at (facility_of before) item) A
 has_rest : (A : History) (item : List ℕ) → is_some (rest A item) ≡ (is_some (sealed A item) || is_some (added A item))
 has_rest A item = grind arith
 
-added_is_after : (A : History) (key : List ℕ) (act : Act) (answer : Answer) (item : List ℕ) → is_added A item ≡ is_some (added A item) → is_added (one key act answer ∷ A) item ≡ is_some (added (one key act answer ∷ A) item)
+added_is_after : (A : History) (key : List ℕ) (act : Act) (answer : Answer) (item : List ℕ) → is_added A item ≡ is_some (added A item)
+    → is_added (one key act answer ∷ A) item ≡ is_some (added (one key act answer ∷ A) item)
 added_is_after A key (AddItem c i at) answer item ih = grind (arith, same-turned item i, ih)
 added_is_after A key act answer item ih = ih
 
@@ -71,7 +73,8 @@ added_is : (A : History) (item : List ℕ) → is_added A item ≡ is_some (adde
 added_is A item = each_history (λ B. is_added B item ≡ is_some (added B item)) refl (λ B key act answer. added_is_after B key act answer item) A
 
 -- of items none of which is unknown each has a rest
-not_unknown : (A : History) (items : List (List ℕ)) (item : List ℕ) → first_with (no_item A) items ≡ None → list_any (same_text item) items ≡ true → is_some (rest A item) ≡ true
+not_unknown : (A : History) (items : List (List ℕ)) (item : List ℕ) → first_with (no_item A) items ≡ None → list_any (same_text item) items ≡ true
+    → is_some (rest A item) ≡ true
 not_unknown A items item h m = there (rest A item) (unmet _ (Unknown (Things.Item item)) (none_with (no_item A) items h item m))
 
 -- an item that has a rest was added, where those that were sealed were
@@ -79,7 +82,8 @@ rest_added : (A : History) (item : List ℕ) → (is_some (sealed A item) ≡ tr
 rest_added A item g h = grind (arith, g, has_rest A item, added_is A item)
 
 -- an item that was sealed was added
-sealed_added_after : (A : History) (key : List ℕ) (act : Act) (answer : Answer) (item : List ℕ) → IsAccepted A (one key act answer) → (is_some (sealed A item) ≡ true → is_added A item ≡ true)
+sealed_added_after : (A : History) (key : List ℕ) (act : Act) (answer : Answer) (item : List ℕ) → IsAccepted A (one key act answer)
+    → (is_some (sealed A item) ≡ true → is_added A item ≡ true)
     → is_some (sealed (one key act answer ∷ A) item) ≡ true → is_added (one key act answer ∷ A) item ≡ true
 sealed_added_after A key (AddItem c i at) answer item a ih h = or_right (same_text item i) (is_added A item) (ih h)
 sealed_added_after A key (Seal c serial items at) answer item a ih h =
@@ -88,9 +92,11 @@ sealed_added_after A key act answer item a ih h = ih h
 
 sealed_added : (A : History) → IsRegister A → (item : List ℕ) → is_some (sealed A item) ≡ true → is_added A item ≡ true
 sealed_added A h item =
-    each_register (λ B. is_some (sealed B item) ≡ true → is_added B item ≡ true) (λ s. absurd (false≢true s)) (λ B key act answer r. sealed_added_after B key act answer item) A h
+    each_register (λ B. is_some (sealed B item) ≡ true → is_added B item ≡ true) (λ s. absurd (false≢true s))
+    (λ B key act answer r. sealed_added_after B key act answer item) A h
 
-added_after : (A : History) (key : List ℕ) (act : Act) (answer : Answer) → IsRegister A → IsAccepted A (one key act answer) → all_differ (all_said added_item A) ≡ true → all_differ (all_said added_item (one key act answer ∷ A)) ≡ true
+added_after : (A : History) (key : List ℕ) (act : Act) (answer : Answer) → IsRegister A → IsAccepted A (one key act answer)
+    → all_differ (all_said added_item A) ≡ true → all_differ (all_said added_item (one key act answer ∷ A)) ≡ true
 added_after A key (AddItem c i at) answer r a ih =
     let free = unmet (is_some (rest A i)) Taken (none_holds (conditions A (AddItem c i at)) a.no_fault).1.0 in
     grind (arith, has_rest A i, free, added_is A i, ih)
@@ -100,15 +106,16 @@ added_once : (A : History) → IsRegister A → all_differ (all_said added_item 
 added_once = each_register (λ A. all_differ (all_said added_item A) ≡ true) refl added_after
 
 -- the bag in which an item was last sealed was sealed
-sealed_there_after : (A : History) (key : List ℕ) (act : Act) (answer : Answer) (item serial : List ℕ) → (sealed A item ≡ Some serial → list_any (same_text serial) (all_said sealed_serial A) ≡ true)
+sealed_there_after : (A : History) (key : List ℕ) (act : Act) (answer : Answer) (item serial : List ℕ)
+    → (sealed A item ≡ Some serial → list_any (same_text serial) (all_said sealed_serial A) ≡ true)
     → sealed (one key act answer ∷ A) item ≡ Some serial → list_any (same_text serial) (all_said sealed_serial (one key act answer ∷ A)) ≡ true
 sealed_there_after A key (Seal c s items at) answer item serial ih h = grind (arith, same-itself serial, ih)
 sealed_there_after A key act answer item serial ih h = ih h
 
 sealed_there : (A : History) (item serial : List ℕ) → sealed A item ≡ Some serial → list_any (same_text serial) (all_said sealed_serial A) ≡ true
 sealed_there A item serial =
-    each_history (λ B. sealed B item ≡ Some serial → list_any (same_text serial) (all_said sealed_serial B) ≡ true) (λ h. absurd (let z : None ≡ Some serial = h in cc))
-    (λ B key act answer. sealed_there_after B key act answer item serial) A
+    each_history (λ B. sealed B item ≡ Some serial → list_any (same_text serial) (all_said sealed_serial B) ≡ true)
+    (λ h. absurd (let z : None ≡ Some serial = h in cc)) (λ B key act answer. sealed_there_after B key act answer item serial) A
 
 -- an item that was sealed is kept
 kept_in : (A : History) (serial : List ℕ) → is_some (spot A serial) ≡ true → is_kept A (Some (rest_in A serial)) ≡ true
@@ -117,7 +124,8 @@ kept_in A serial h = grind arith
 kept : (A : History) → IsRegister A → (item : List ℕ) → is_added A item ≡ true → is_kept A (rest A item) ≡ true
 kept A r item h = by_seal (sealed A item) refl (added A item) (sym (added_is A item) ∙ h)
   where
-    by_seal : (s : Option (List ℕ)) → sealed A item ≡ s → (a : Option Facility) → is_some a ≡ true → is_kept A (or_else (option_map (rest_in A) s) (option_map Loose a)) ≡ true
+    by_seal : (s : Option (List ℕ)) → sealed A item ≡ s → (a : Option Facility) → is_some a ≡ true
+        → is_kept A (or_else (option_map (rest_in A) s) (option_map Loose a)) ≡ true
     by_seal (Some serial) e a k = kept_in A serial (sym (sealed_is A r serial) ∙ sealed_there A item serial e)
     by_seal None e None k = absurd (true≢false (sym k))
     by_seal None e (Some facility) k = refl

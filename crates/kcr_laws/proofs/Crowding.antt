@@ -87,7 +87,8 @@ abbrev behind_room : History → ℕ → Way → List SheetRow → List (Option 
 behind_room A c way rows = when (is_overfull way rows c) Full ∷ when (is_full A) Full ∷ []
 
 -- none of them tells of the room
-others_before : (A : History) (c : ℕ) (way : Way) (people : List (List ℕ)) (at : ℕ) (rest : List (Option Refusal)) (r : Refusal) → (0 == kind r) ≡ false → AreOther r rest
+others_before : (A : History) (c : ℕ) (way : Way) (people : List (List ℕ)) (at : ℕ) (rest : List (Option Refusal)) (r : Refusal) → (0 == kind r) ≡ false
+    → AreOther r rest
     → AreOther r (before_room A c way people at rest)
 others_before A c way people at rest r e others =
     let unknown = other_of_all r (no_person A) (λ who. other_when r _ _ e) people in
@@ -105,18 +106,20 @@ others_before A c way people at rest r e others =
 others_behind : (A : History) (c : ℕ) (way : Way) (rows : List SheetRow) (r : Refusal) → (0 == kind r) ≡ false → AreOther r (behind_room A c way rows)
 others_behind A c way rows r e = (other_when r _ _ e, (other_when r _ _ e, tt))
 
-pub crowd_fault : (A : History) (c : ℕ) (way : Way) (people : List (List ℕ)) (at : ℕ) → fault A (Sheet c way people at) ≡ Some Crowd → IsEverCrowded (sheet_after (Sheet c way people at) (sheet A)) c
+pub crowd_fault : (A : History) (c : ℕ) (way : Way) (people : List (List ℕ)) (at : ℕ) → fault A (Sheet c way people at) ≡ Some Crowd
+    → IsEverCrowded (sheet_after (Sheet c way people at) (sheet A)) c
 crowd_fault A c way people at h =
     let rows = sheet_after (Sheet c way people at) (sheet A) in
     crowd_told rows c
-    (of_the_one Crowd (before_room A c way people at []) (crowded rows c) (lone rows c ∷ behind_room A c way rows) (others_before A c way people at [] Crowd refl tt)
-    (not_lone (first_lone_in_by (stays_by rows) c), others_behind A c way rows Crowd refl) h)
+    (of_the_one Crowd (before_room A c way people at []) (crowded rows c) (lone rows c ∷ behind_room A c way rows)
+    (others_before A c way people at [] Crowd refl tt) (not_lone (first_lone_in_by (stays_by rows) c), others_behind A c way rows Crowd refl) h)
   where
     not_lone : (o : Option ℕ) → IsOther Crowd (option_map Lone o)
     not_lone None = tt
     not_lone (Some m) = refl
 
-pub lone_fault : (A : History) (c : ℕ) (way : Way) (people : List (List ℕ)) (at t : ℕ) → fault A (Sheet c way people at) ≡ Some (Lone t) → IsFirstAlone (sheet_after (Sheet c way people at) (sheet A)) c t
+pub lone_fault : (A : History) (c : ℕ) (way : Way) (people : List (List ℕ)) (at t : ℕ) → fault A (Sheet c way people at) ≡ Some (Lone t)
+    → IsFirstAlone (sheet_after (Sheet c way people at) (sheet A)) c t
 lone_fault A c way people at t h =
     let rows = sheet_after (Sheet c way people at) (sheet A) in
     lone_told rows c t

@@ -34,7 +34,8 @@ pub advance : {F : Type 0} (n k step : ℕ) (m : Bool) → (step == k) ≡ m →
 advance n k step m e s fate new ih = grind (arith, nat_tests)
 
 -- so a command that does the next step of a ceremony, where m tells whether that is this ceremony
-fate_at : {F : Type 0} (A : History) (d c k step : ℕ) (m : Bool) → m ≡ (d == c) → step ≡ suc (steps_done A d) → (fate : Option F) (new : F) → is_some fate ≡ (nat_le 1 k && nat_le k (steps_done A c))
+fate_at : {F : Type 0} (A : History) (d c k step : ℕ) (m : Bool) → m ≡ (d == c) → step ≡ suc (steps_done A d) → (fate : Option F) (new : F)
+    → is_some fate ≡ (nat_le 1 k && nat_le k (steps_done A c))
     → is_some (or_else (cond (d == c && step == k) (Some new) None) fate) ≡ (nat_le 1 k && nat_le k (one_more m (steps_done A c)))
 fate_at A d c k step m g s fate new ih = rw g (elim (cases_Bool (d == c)) [
   | inl e ↦ rw e (advance (steps_done A c) k step (step == k) refl (s ∙ ap (λ z. suc (steps_done A z)) (eqb-true d c e)) fate new ih)
@@ -42,11 +43,13 @@ fate_at A d c k step m g s fate new ih = rw g (elim (cases_Bool (d == c)) [
 ])
 
 -- by one command; `said` is the step that the answer names
-pub fate_after : (A : History) (act : Act) (said : Option ℕ) (c k : ℕ) → fault A act ≡ None → (people : Option (List (List ℕ))) → said ≡ (answer_to A act people).step
+pub fate_after : (A : History) (act : Act) (said : Option ℕ) (c k : ℕ) → fault A act ≡ None → (people : Option (List (List ℕ)))
+    → said ≡ (answer_to A act people).step
     → is_some (fate_of A c k) ≡ (nat_le 1 k && nat_le k (steps_done A c))
     → is_some (or_else (step_done c k act said) (fate_of A c k)) ≡ (nat_le 1 k && nat_le k (one_more (does_step c act) (steps_done A c)))
 fate_after A (Sign d step at) said c k f people e ih = fate_at A d c k step (d == c) refl (next_signed A d step at f) (fate_of A c k) (Signed, at) ih
-fate_after A (Except d text true at) said c k f people e ih = rw e (fate_at A d c k (next_step A d) (d == c && true) (grind arith) refl (fate_of A c k) (Passed, at) ih)
+fate_after A (Except d text true at) said c k f people e ih =
+    rw e (fate_at A d c k (next_step A d) (d == c && true) (grind arith) refl (fate_of A c k) (Passed, at) ih)
 fate_after A (Except d text false at) said c k f people e ih = rw (e, and_right (d == c) false refl) ih
 fate_after A act said c k f people e ih = ih
 

@@ -25,11 +25,13 @@ begins_in ps [] = false
 begins_in ps (who ∷ people) = list_any (same_text who) ps
 
 -- people who are free with one more taken are free, and that one is not among them
-one_less : (p : List ℕ) (taken people : List (List ℕ)) → are_free (p ∷ taken) people ≡ true → (are_free taken people ≡ true) × (list_any (same_text p) people ≡ false)
+one_less : (p : List ℕ) (taken people : List (List ℕ)) → are_free (p ∷ taken) people ≡ true
+    → (are_free taken people ≡ true) × (list_any (same_text p) people ≡ false)
 one_less p taken [] h = (refl, refl)
 one_less p taken (who ∷ people) h = grind (arith, same-turned who p, one_less p taken people)
 
-one_more : (p : List ℕ) (taken people : List (List ℕ)) → are_free taken people ≡ true → list_any (same_text p) people ≡ false → are_free (p ∷ taken) people ≡ true
+one_more : (p : List ℕ) (taken people : List (List ℕ)) → are_free taken people ≡ true → list_any (same_text p) people ≡ false
+    → are_free (p ∷ taken) people ≡ true
 one_more p taken [] h n = refl
 one_more p taken (who ∷ people) h n = grind (arith, same-turned who p, one_more p taken people)
 
@@ -45,7 +47,8 @@ module _ (A : History) (c t : ℕ) where
 
   -- there is a first one, or there is none
   abbrev Found : List Seat → List (List ℕ) → (List (List ℕ) → Bool) → Type 0
-  Found seats taken test = ((people : List (List ℕ)) × IsFirstOf seats taken test people) ⊎ ((others : List (List ℕ)) → is_free_seating seats taken others ≡ true → test others ≡ true → ⊥)
+  Found seats taken test =
+      ((people : List (List ℕ)) × IsFirstOf seats taken test people) ⊎ ((others : List (List ℕ)) → is_free_seating seats taken others ≡ true → test others ≡ true → ⊥)
 
   -- what a seating of free people tells of its first one and of the others
   record IsLed (seat : Seat) (seats : List Seat) (taken : List (List ℕ)) (who : List ℕ) (people : List (List ℕ)) : Type 0 where
@@ -53,14 +56,17 @@ module _ (A : History) (c t : ℕ) where
     pub free : list_any (same_text who) taken ≡ false
     pub rest : is_free_seating seats (who ∷ taken) people ≡ true
 
-  led : (seat : Seat) (seats : List Seat) (taken : List (List ℕ)) (who : List ℕ) (people : List (List ℕ)) → is_free_seating (seat ∷ seats) taken (who ∷ people) ≡ true → IsLed seat seats taken who people
+  led : (seat : Seat) (seats : List Seat) (taken : List (List ℕ)) (who : List ℕ) (people : List (List ℕ))
+      → is_free_seating (seat ∷ seats) taken (who ∷ people) ≡ true → IsLed seat seats taken who people
   led seat seats taken who people h = record { fit = grind arith; free = grind arith; rest = grind (arith, one_more who taken people) }
 
-  unled : (seat : Seat) (seats : List Seat) (taken : List (List ℕ)) (who : List ℕ) (people : List (List ℕ)) → IsLed seat seats taken who people → is_free_seating (seat ∷ seats) taken (who ∷ people) ≡ true
+  unled : (seat : Seat) (seats : List Seat) (taken : List (List ℕ)) (who : List ℕ) (people : List (List ℕ)) → IsLed seat seats taken who people
+      → is_free_seating (seat ∷ seats) taken (who ∷ people) ≡ true
   unled seat seats taken who people l = grind (arith, l.fit, l.free, l.rest, one_less who taken people)
 
   -- of the seatings whose first person is one of p and some who come later, where none has p
-  pass_over : (seat : Seat) (seats : List Seat) (taken : List (List ℕ)) (p : List ℕ) (ps : List (List ℕ)) → ((people : List (List ℕ)) → IsLed seat seats taken p people → ⊥)
+  pass_over : (seat : Seat) (seats : List Seat) (taken : List (List ℕ)) (p : List ℕ) (ps : List (List ℕ))
+      → ((people : List (List ℕ)) → IsLed seat seats taken p people → ⊥)
       → Found (seat ∷ seats) taken (begins_in ps) → Found (seat ∷ seats) taken (begins_in (p ∷ ps))
   pass_over seat seats taken p ps none found = elim found [
     | inl a ↦ inl (a.0, record { seated = a.1.seated; first = λ others s b ne. a.1.first others s (later others s b) ne })
@@ -75,11 +81,14 @@ module _ (A : History) (c t : ℕ) where
           other e = none others (subst (λ w. IsLed seat seats taken w others) (same-is who p e) (led seat seats taken who others s))
 
   -- p, and the first seating of the other seats without p, come before every seating that begins with somebody later
-  take_first : (seat : Seat) (seats : List Seat) (taken : List (List ℕ)) (p : List ℕ) (ps people : List (List ℕ)) → list_all (is_before p) ps ≡ true → eligible A c t seat p ≡ true → list_any (same_text p) taken ≡ false
+  take_first : (seat : Seat) (seats : List Seat) (taken : List (List ℕ)) (p : List ℕ) (ps people : List (List ℕ)) → list_all (is_before p) ps ≡ true
+      → eligible A c t seat p ≡ true → list_any (same_text p) taken ≡ false
       → IsFirstOf seats (p ∷ taken) (λ others. true) people → IsFirstOf (seat ∷ seats) taken (begins_in (p ∷ ps)) (p ∷ people)
-  take_first seat seats taken p ps people before fit free f = record { seated = unled seat seats taken p people (record { fit = fit; free = free; rest = f.seated }); first = first }
+  take_first seat seats taken p ps people before fit free f =
+      record { seated = unled seat seats taken p people (record { fit = fit; free = free; rest = f.seated }); first = first }
     where
-      first : (others : List (List ℕ)) → is_free_seating (seat ∷ seats) taken others ≡ true → begins_in (p ∷ ps) others ≡ true → others ≢ p ∷ people → comes_first (p ∷ people) others ≡ true
+      first : (others : List (List ℕ)) → is_free_seating (seat ∷ seats) taken others ≡ true → begins_in (p ∷ ps) others ≡ true → others ≢ p ∷ people
+          → comes_first (p ∷ people) others ≡ true
       first [] s b ne = absurd (false≢true b)
       first (who ∷ others) s b ne = by_first (same_text p who) refl
         where
@@ -95,25 +104,29 @@ module _ (A : History) (c t : ℕ) where
               (sym (ap (λ x. x || list_any (same_text who) ps) (same-turned who p ∙ e)) ∙ b) before
 
   -- one person after the other is tried for the first seat
-  try : (seat : Seat) (seats : List Seat) (taken ps : List (List ℕ)) → are_rising ps ≡ true → ((more : List (List ℕ)) → Found seats more (λ others. true)) → Found (seat ∷ seats) taken (begins_in ps)
+  try : (seat : Seat) (seats : List Seat) (taken ps : List (List ℕ)) → are_rising ps ≡ true → ((more : List (List ℕ)) → Found seats more (λ others. true))
+      → Found (seat ∷ seats) taken (begins_in ps)
   try seat seats taken [] r find = inr (λ others s b. nobody others b)
     where
       nobody : (others : List (List ℕ)) → begins_in [] others ≡ true → ⊥
       nobody [] b = false≢true b
       nobody (who ∷ others) b = false≢true b
-  try seat seats taken (p ∷ ps) r find = by_tests (eligible A c t seat p) refl (list_any (same_text p) taken) refl (try seat seats taken ps rest.1 find) (find (p ∷ taken))
+  try seat seats taken (p ∷ ps) r find =
+      by_tests (eligible A c t seat p) refl (list_any (same_text p) taken) refl (try seat seats taken ps rest.1 find) (find (p ∷ taken))
     where
       rest : (list_all (is_before p) ps ≡ true) × (are_rising ps ≡ true)
       rest = and_parts (list_all (is_before p) ps) (are_rising ps) r
 
-      by_tests : (x : Bool) → eligible A c t seat p ≡ x → (y : Bool) → list_any (same_text p) taken ≡ y → Found (seat ∷ seats) taken (begins_in ps) → Found seats (p ∷ taken) (λ others. true) → Found (seat ∷ seats) taken (begins_in (p ∷ ps))
+      by_tests : (x : Bool) → eligible A c t seat p ≡ x → (y : Bool) → list_any (same_text p) taken ≡ y → Found (seat ∷ seats) taken (begins_in ps)
+          → Found seats (p ∷ taken) (λ others. true) → Found (seat ∷ seats) taken (begins_in (p ∷ ps))
       by_tests false e y g later f = pass_over seat seats taken p ps (λ people l. both_ways (eligible A c t seat p) e l.fit) later
       by_tests true e true g later f = pass_over seat seats taken p ps (λ people l. both_ways (list_any (same_text p) taken) l.free g) later
       by_tests true e false g later (inl a) = inl (p ∷ a.0, take_first seat seats taken p ps a.0 rest.0 e g a.1)
       by_tests true e false g later (inr nobody) = pass_over seat seats taken p ps (λ people l. nobody people l.rest refl) later
 
   -- whoever sits on the first seat is present
-  begins_present : (seat : Seat) (seats : List Seat) (taken others : List (List ℕ)) → is_free_seating (seat ∷ seats) taken others ≡ true → begins_in (present A c t) others ≡ true
+  begins_present : (seat : Seat) (seats : List Seat) (taken others : List (List ℕ)) → is_free_seating (seat ∷ seats) taken others ≡ true
+      → begins_in (present A c t) others ≡ true
   begins_present seat seats taken [] s = s
   begins_present seat seats taken (who ∷ others) s =
       present_are_in (sheet A) who c t ∙ (and_parts (is_in A who c t) (fits A (facility_of A c) (day_of t) seat who) (led seat seats taken who others s).fit).0
@@ -137,8 +150,9 @@ module _ (A : History) (c t : ℕ) where
   free_too seats people h = and_from (is_seating A c t seats people) (are_free [] people) h (none_taken people)
 
   -- there is a first seating, or none at all
-  pub first_or_none : (seats : List Seat) → ((people : List (List ℕ)) × IsFirst A c t seats people) ⊎ ((others : List (List ℕ)) → is_seating A c t seats others ≡ true → ⊥)
+  pub first_or_none : (seats : List Seat)
+      → ((people : List (List ℕ)) × IsFirst A c t seats people) ⊎ ((others : List (List ℕ)) → is_seating A c t seats others ≡ true → ⊥)
   first_or_none seats = elim (find_first seats []) [
-    | inl a ↦ inl (a.0, record { seating = (and_parts (is_seating A c t seats a.0) (are_free [] a.0) a.1.seated).0; first = λ others s ne. a.1.first others (free_too seats others s) refl ne })
+    | inl a ↦ inl (a.0, record { seating = grind (arith, a.1.seated); first = λ others s ne. a.1.first others (free_too seats others s) refl ne })
     | inr nobody ↦ inr (λ others s. nobody others (free_too seats others s) refl)
   ]

@@ -52,7 +52,8 @@ alike A x o p B C h k = by_entry (entry_of A x.key) (fault A x.act) h k
     by_sitting (Some s) (inr v) (inl w) = absurd (one_half A s.ceremony s.at s.seats w.0 v.0 w.1.seating v.1.short)
     by_sitting (Some s) (inr v) (inr w) = inr (map suc v.0, map suc w.0, v.2.0, w.2.0)
 
-    by_entry : (e : Option Entry) (r : Option Refusal) → MatchOption e (acts A x r o B) (λ kept. repeats A x kept o B) → MatchOption e (acts A x r p C) (λ kept. repeats A x kept p C) → AreAlike o p B C
+    by_entry : (e : Option Entry) (r : Option Refusal) → MatchOption e (acts A x r o B) (λ kept. repeats A x kept o B)
+        → MatchOption e (acts A x r p C) (λ kept. repeats A x kept p C) → AreAlike o p B C
     by_entry (Some kept) r f g = inl (f.0 ∙ sym g.0, f.1 ∙ sym g.1)
     by_entry None (Some refusal) f g = inl (f.0 ∙ sym g.0, f.1 ∙ sym g.1)
     by_entry None None f g = by_sitting (sitting A x.act) f g

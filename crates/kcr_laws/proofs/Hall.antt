@@ -93,11 +93,13 @@ module _ (all : List ℕ) (fits : ℕ → List ℕ → Bool) where
       bits_most (takes (either s t) who) (takes (both s t) who) (takes s who) (takes t who) (split all)
       (part s (λ i h. (and_parts (s i) (t i) h).0) all) (part t (λ i h. (and_parts (s i) (t i) h).1) all)
     where
-      split : (is : List ℕ) → list_any (λ i. (s i || t i) && fits i who) is ≡ true → (list_any (λ i. s i && fits i who) is || list_any (λ i. t i && fits i who) is) ≡ true
+      split : (is : List ℕ) → list_any (λ i. (s i || t i) && fits i who) is ≡ true
+          → (list_any (λ i. s i && fits i who) is || list_any (λ i. t i && fits i who) is) ≡ true
       split [] h = h
       split (i ∷ is) h = grind (arith, split is)
 
-      part : (u : ℕ → Bool) → ((i : ℕ) → (s i && t i) ≡ true → u i ≡ true) → (is : List ℕ) → list_any (λ i. (s i && t i) && fits i who) is ≡ true → list_any (λ i. u i && fits i who) is ≡ true
+      part : (u : ℕ → Bool) → ((i : ℕ) → (s i && t i) ≡ true → u i ≡ true) → (is : List ℕ) → list_any (λ i. (s i && t i) && fits i who) is ≡ true
+          → list_any (λ i. u i && fits i who) is ≡ true
       part u f [] h = h
       part u f (i ∷ is) h = grind (arith, part u f is, f i)
 
@@ -124,7 +126,8 @@ module _ (all : List ℕ) (fits : ℕ → List ℕ → Bool) where
     pub clear : (i : ℕ) → is_one i seen ≡ true → s i ≡ true → fits i p ≡ false
 
   more_there : (p : List ℕ) (people : List (List ℕ)) (need : ℕ → Bool) (w : ℕ → List ℕ) → IsAssigned people need w → IsAssigned (p ∷ people) need w
-  more_there p people need w a = record { fit = a.fit; there = λ i o n. or_right (same_text (w i) p) (list_any (same_text (w i)) people) (a.there i o n); apart = a.apart }
+  more_there p people need w a =
+      record { fit = a.fit; there = λ i o n. or_right (same_text (w i) p) (list_any (same_text (w i)) people) (a.there i o n); apart = a.apart }
 
   -- the set without a seat, and who sits where once the person has that seat
   abbrev without : ℕ → (ℕ → Bool) → ℕ → Bool
@@ -152,7 +155,8 @@ module _ (all : List ℕ) (fits : ℕ → List ℕ → Bool) where
     give = record { fit = given_fit; there = given_there; apart = given_apart }
 
   -- the seat k, which the person fits, is taken out of the scarce set, or the person gets it, or a set is scarce by two
-  clear_one : (p : List ℕ) (people : List (List ℕ)) (need : ℕ → Bool) (k : ℕ) (seen : List ℕ) (s : ℕ → Bool) → list_any (same_text p) people ≡ false → fits k p ≡ true
+  clear_one : (p : List ℕ) (people : List (List ℕ)) (need : ℕ → Bool) (k : ℕ) (seen : List ℕ) (s : ℕ → Bool) → list_any (same_text p) people ≡ false
+      → fits k p ≡ true
       → IsClear people need p seen s → OneOfTwo people (without k need) → OneOfTwo (p ∷ people) need ⊎ ((t : ℕ → Bool) × IsClear people need p (k ∷ seen) t)
   clear_one p people need k seen s alone f c (inl a) = inl (inl (given k p a.0, give p people need k a.0 alone f a.1))
   clear_one p people need k seen s alone f c (inr (t, d)) = elim (two_scarce s t people c.scarce.few d.few) [
@@ -167,7 +171,8 @@ module _ (all : List ℕ) (fits : ℕ → List ℕ → Bool) where
       cleared i o h = grind (arith, nat_tests, c.clear i, d.part i)
 
   -- so for one seat after the other
-  clear_all : (p : List ℕ) (people : List (List ℕ)) (need : ℕ → Bool) (seen : List ℕ) → list_any (same_text p) people ≡ false → ((less : ℕ → Bool) → OneOfTwo people less)
+  clear_all : (p : List ℕ) (people : List (List ℕ)) (need : ℕ → Bool) (seen : List ℕ) → list_any (same_text p) people ≡ false
+      → ((less : ℕ → Bool) → OneOfTwo people less)
       → OneOfTwo (p ∷ people) need ⊎ ((s : ℕ → Bool) × IsClear people need p seen s)
   clear_all p people need [] alone hall = elim (hall need) [
     | inl (w, a) ↦ inl (inl (w, more_there p people need w a))

@@ -38,16 +38,19 @@ below low high [] r p h = absurd (false≢true h)
 below low high (q ∷ ps) r p h = grind (arith, nat_tests, below (suc q) high ps)
 
 -- where different positions have different people, all of a list, that list is at least as long as the positions
-as_many : (f : ℕ → List ℕ) (low high : ℕ) (ps : List ℕ) (ys : List (List ℕ)) → rise low high ps ≡ true → ((p q : ℕ) → p < q → q < high → same_text (f p) (f q) ≡ false)
+as_many : (f : ℕ → List ℕ) (low high : ℕ) (ps : List ℕ) (ys : List (List ℕ)) → rise low high ps ≡ true
+    → ((p q : ℕ) → p < q → q < high → same_text (f p) (f q) ≡ false)
     → ((p : ℕ) → is_one p ps ≡ true → list_any (same_text (f p)) ys ≡ true) → length ps ≤ length ys
 as_many f low high [] ys r apart there = omega arith
 as_many f low high (p ∷ ps) ys r apart there =
     let k = and_parts (nat_le low p && nat_lt p high) (rise (suc p) high ps) r in
     let here : list_any (same_text (f p)) ys ≡ true = there p (grind (arith, nat_tests)) in
-    let rest = λ (q : ℕ) (o : is_one q ps ≡ true). let b = below (suc p) high ps k.1 q o in still_there (f p) (f q) ys (apart p q b.0 b.1) (there q (or_right (p == q) _ o)) in
+    let bounds = λ (q : ℕ) (o : is_one q ps ≡ true). below (suc p) high ps k.1 q o in
+    let rest = λ (q : ℕ) (o : is_one q ps ≡ true). still_there (f p) (f q) ys (apart p q (bounds q o).0 (bounds q o).1) (there q (or_right (p == q) _ o)) in
     omega (arith, fewer (f p) ys here, as_many f (suc p) high ps (others (f p) ys) k.1 apart rest)
 
-in_filter : (test : List ℕ → Bool) (w : List ℕ) (ys : List (List ℕ)) → list_any (same_text w) ys ≡ true → test w ≡ true → list_any (same_text w) (filter test ys) ≡ true
+in_filter : (test : List ℕ → Bool) (w : List ℕ) (ys : List (List ℕ)) → list_any (same_text w) ys ≡ true → test w ≡ true
+    → list_any (same_text w) (filter test ys) ≡ true
 in_filter test w [] h k = h
 in_filter test w (y ∷ ys) h k = grind (arith, same-is w y, in_filter test w ys)
 
@@ -59,7 +62,8 @@ sitter people p = get_or people p []
 
 module _ (A : History) (c t : ℕ) where
   -- nobody sits twice
-  apart : (seats : List Seat) (people : List (List ℕ)) → is_seating A c t seats people ≡ true → (p q : ℕ) → p < q → q < length seats → same_text (sitter people p) (sitter people q) ≡ false
+  apart : (seats : List Seat) (people : List (List ℕ)) → is_seating A c t seats people ≡ true → (p q : ℕ) → p < q → q < length seats
+      → same_text (sitter people p) (sitter people q) ≡ false
   apart [] people h p q l m = absurd (omega (arith, m))
   apart (seat ∷ seats) [] h p q l m = absurd (false≢true h)
   apart (seat ∷ seats) (who ∷ people) h p zero l m = absurd (omega (arith, l))
@@ -82,7 +86,8 @@ module _ (A : History) (c t : ℕ) where
       sits seats people (rest_seated A c t seat seats who people h) p (omega (arith, l))
 
   -- where people are seated, no positions are short
-  pub one_half : (seats : List Seat) (people : List (List ℕ)) (positions : List ℕ) → is_seating A c t seats people ≡ true → is_short A c t seats positions ≡ true → ⊥
+  pub one_half : (seats : List Seat) (people : List (List ℕ)) (positions : List ℕ) → is_seating A c t seats people ≡ true
+      → is_short A c t seats positions ≡ true → ⊥
   one_half seats people positions h s =
       omega (arith, ltb-true _ _ k.1, as_many (sitter people) 0 (length seats) positions (who_fit A c t seats positions) k.0 (apart seats people h) there)
     where
@@ -92,4 +97,5 @@ module _ (A : History) (c t : ℕ) where
       there : (p : ℕ) → is_one p positions ≡ true → list_any (same_text (sitter people p)) (who_fit A c t seats positions) ≡ true
       there p o =
           let w = sits seats people h p (below 0 (length seats) positions k.0 p o).1 in
-          in_filter (λ who. list_any (is_eligible_at A c t seats who) positions) (sitter people p) (present A c t) w.0 (some_from (is_eligible_at A c t seats (sitter people p)) positions p o w.1)
+          let fit = some_from (is_eligible_at A c t seats (sitter people p)) positions p o w.1 in
+          in_filter (λ who. list_any (is_eligible_at A c t seats who) positions) (sitter people p) (present A c t) w.0 fit

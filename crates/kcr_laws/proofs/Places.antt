@@ -39,16 +39,19 @@ place_holds A r place day (d, l, h) = (d, l, ap is_some (holder-appointments A r
 -- A PERSON FROM A DAY ON
 
 -- a place with a holder on a day is held on it
-some_holder : (rows : List Appointment) (place : Place) (d : ℕ) (who : List ℕ) → is_this who (holder_by rows place d) ≡ true → list_any (holds place d) rows ≡ true
+some_holder : (rows : List Appointment) (place : Place) (d : ℕ) (who : List ℕ) → is_this who (holder_by rows place d) ≡ true
+    → list_any (holds place d) rows ≡ true
 some_holder [] place d who h = h
 some_holder (row ∷ rows) place d who h = grind (arith, some_holder rows place d who)
 
 -- the place has one holder on the day: who is found by an older row is found by all
-older_holder : (row : Appointment) (rows : List Appointment) (place : Place) (d : ℕ) (who : List ℕ) → stacked (row ∷ rows) ≡ true → is_this who (holder_by rows place d) ≡ true → is_this who (holder_by (row ∷ rows) place d) ≡ true
+older_holder : (row : Appointment) (rows : List Appointment) (place : Place) (d : ℕ) (who : List ℕ) → stacked (row ∷ rows) ≡ true
+    → is_this who (holder_by rows place d) ≡ true → is_this who (holder_by (row ∷ rows) place d) ≡ true
 older_holder row rows place d who s h = grind (arith, none-below place d row rows s, some_holder rows place d who h)
 
 -- whoever holds by some row is the holder of its place
-its_holder : (rows : List Appointment) (who : List ℕ) (d : ℕ) → stacked rows ≡ true → holds_some_by rows who d ≡ true → (place : Place) × (is_this who (holder_by rows place d) ≡ true)
+its_holder : (rows : List Appointment) (who : List ℕ) (d : ℕ) → stacked rows ≡ true → holds_some_by rows who d ≡ true
+    → (place : Place) × (is_this who (holder_by rows place d) ≡ true)
 its_holder [] who d s h = absurd (false≢true h)
 its_holder (row ∷ rows) who d s h = elim (or_cases (same_text row.who who && nat_le row.since d && lasts_beyond d row) (holds_some_by rows who d) h) [
   | inl e ↦ (row.place, grind (arith, place-refl row.place))
@@ -81,7 +84,8 @@ abbrev since_of : Option Appointment → Option ℕ
 since_of o = option_map (λ row. row.since) o
 
 -- an end of another place leaves the open row's first day as it is
-other_end : (at place : Place) (day : ℕ) (rows : List Appointment) → same_place at place ≡ false → since_of (open_row_by (map (ended at day) rows) place) ≡ since_of (open_row_by rows place)
+other_end : (at place : Place) (day : ℕ) (rows : List Appointment) → same_place at place ≡ false
+    → since_of (open_row_by (map (ended at day) rows) place) ≡ since_of (open_row_by rows place)
 other_end at place day [] d = refl
 other_end at place day (row ∷ rows) d = grind (arith, place-same row.place place, place-same row.place at, place-refl place, other_end at place day rows d)
 

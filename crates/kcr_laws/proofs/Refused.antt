@@ -59,6 +59,7 @@ of_the_one r (Some q ∷ before) o after b a h = absurd (apart q r b.0 h)
 -- NOBODY REFUSED
 
 -- where nobody of a list is refused, a member of it is not
-pub none_with : (test : List ℕ → Option Refusal) (people : List (List ℕ)) → first_with test people ≡ None → (p : List ℕ) → list_any (same_text p) people ≡ true → test p ≡ None
+pub none_with : (test : List ℕ → Option Refusal) (people : List (List ℕ)) → first_with test people ≡ None → (p : List ℕ) → list_any (same_text p) people ≡ true
+    → test p ≡ None
 none_with test [] h p m = absurd (false≢true m)
 none_with test (first ∷ people) h p m = grind (arith, same-is p first, none_with test people)

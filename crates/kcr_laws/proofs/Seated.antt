@@ -59,7 +59,8 @@ one_at_most t None ns h = h
 one_at_most t (Some m) ns h = max_at_most t m (greatest ns) h
 
 -- one moment more leaves what was not later than the greatest so
-older_of : (c t : ℕ) (o : Option (ℕ × ℕ)) (ms : List (ℕ × ℕ)) → at_most t (greatest (moments_of c ms)) ≡ true → at_most t (greatest (moments_of c (cons_option o ms))) ≡ true
+older_of : (c t : ℕ) (o : Option (ℕ × ℕ)) (ms : List (ℕ × ℕ)) → at_most t (greatest (moments_of c ms)) ≡ true
+    → at_most t (greatest (moments_of c (cons_option o ms))) ≡ true
 older_of c t None ms h = h
 older_of c t (Some m) ms h = grind (arith, max_at_most t m.1 (greatest (moments_of c ms)), h)
 
@@ -93,14 +94,16 @@ still_past A entry (Some m) h =
     grind (arith, planned, marked_by, was)
 
 -- a ceremony that is open was opened
-opened_after : (A : History) (key : List ℕ) (act : Act) (answer : Answer) (c : ℕ) → (is_some (opened A c) ≡ true → was_opened c (all_said opened_number A) ≡ true)
+opened_after : (A : History) (key : List ℕ) (act : Act) (answer : Answer) (c : ℕ)
+    → (is_some (opened A c) ≡ true → was_opened c (all_said opened_number A) ≡ true)
     → is_some (opened (one key act answer ∷ A) c) ≡ true → was_opened c (all_said opened_number (one key act answer ∷ A)) ≡ true
 opened_after A key (Open d at) answer c ih h = grind (arith, ih)
 opened_after A key act answer c ih h = ih h
 
 opened_there : (A : History) (c : ℕ) → is_some (opened A c) ≡ true → was_opened c (all_said opened_number A) ≡ true
 opened_there A c =
-    each_history (λ B. is_some (opened B c) ≡ true → was_opened c (all_said opened_number B) ≡ true) (λ h. absurd (false≢true h)) (λ B key act answer. opened_after B key act answer c) A
+    each_history (λ B. is_some (opened B c) ≡ true → was_opened c (all_said opened_number B) ≡ true) (λ h. absurd (false≢true h))
+    (λ B key act answer. opened_after B key act answer c) A
 
 -- a command with a moment is one of a ceremony that is planned and was opened
 abbrev IsKnown : History → Act → ℕ × ℕ → Type 0
@@ -122,20 +125,22 @@ marks_known A act f = tt
 abbrev is_past_with : History → Act → Option (ℕ × ℕ) → Option (ℕ × ℕ) → Bool
 is_past_with A act o None = true
 is_past_with A act o (Some m) =
-    is_some (or_else (planned_as m.0 act) (plan_of A m.0)) && (at_most m.1 (greatest (moments_of m.0 (cons_option o (all_said marked A)))) && was_opened m.0 (cons_option (opened_number act) (all_said opened_number A)))
+    is_some (or_else (planned_as m.0 act) (plan_of A m.0))
+    && (at_most m.1 (greatest (moments_of m.0 (cons_option o (all_said marked A)))) && was_opened m.0 (cons_option (opened_number act) (all_said opened_number A)))
 
 -- once it is accepted its moment is past
 now_past : (A : History) (entry : Entry) → fault A entry.command.act ≡ None → is_past_if (entry ∷ A) (marked entry.command.act) ≡ true
 now_past A entry f = by_mark (marked entry.command.act) (marks_known A entry.command.act f)
   where
     own : (m : ℕ × ℕ) → at_most m.1 (greatest (moments_of m.0 (m ∷ all_said marked A))) ≡ true
-    own m = rw (eq-eqb m.0 m.0 refl) (max_at_most m.1 m.1 (greatest (moments_of m.0 (all_said marked A))) (or_left (nat_le m.1 m.1) _ (le-leb m.1 m.1 (omega arith))))
+    own m =
+        rw (eq-eqb m.0 m.0 refl) (max_at_most m.1 m.1 (greatest (moments_of m.0 (all_said marked A))) (or_left (nat_le m.1 m.1) _ (le-leb m.1 m.1 (omega arith))))
 
     by_mark : (o : Option (ℕ × ℕ)) → MatchOption o (Unit {0}) (IsKnown A entry.command.act) → is_past_with A entry.command.act o o ≡ true
     by_mark None k = refl
     by_mark (Some m) k =
-        and_from (is_some (or_else (planned_as m.0 entry.command.act) (plan_of A m.0))) _ (still_ceremony (planned_as m.0 entry.command.act) (plan_of A m.0) k.0)
-        (and_from (at_most m.1 (greatest (moments_of m.0 (cons_option (Some m) (all_said marked A))))) _ (own m) k.1)
+        let planned = still_ceremony (planned_as m.0 entry.command.act) (plan_of A m.0) k.0 in
+        and_from _ _ planned (and_from (at_most m.1 (greatest (moments_of m.0 (cons_option (Some m) (all_said marked A))))) _ (own m) k.1)
 
 -- WHAT A LATER COMMAND LEAVES AS IT IS
 
@@ -155,16 +160,20 @@ behind at t None h k = absurd (false≢true k)
 behind at t (Some m) h k = grind (arith, nat_tests)
 
 -- everybody was where the sheet says so at a past moment
-same_in : (A : History) (key : List ℕ) (act : Act) (answer : Answer) (who : List ℕ) (c t : ℕ) → fault A act ≡ None → at_most t (mark A c) ≡ true → is_in (one key act answer ∷ A) who c t ≡ is_in A who c t
+same_in : (A : History) (key : List ℕ) (act : Act) (answer : Answer) (who : List ℕ) (c t : ℕ) → fault A act ≡ None → at_most t (mark A c) ≡ true
+    → is_in (one key act answer ∷ A) who c t ≡ is_in A who c t
 same_in A key (Sheet d way people at) answer who c t f k = by_ceremony (d == c) refl
   where
     by_ceremony : (b : Bool) → (d == c) ≡ b → is_in (one key (Sheet d way people at) answer ∷ A) who c t ≡ is_in A who c t
-    by_ceremony true e = in_before (sheet A) d way at people who c t (behind at t (mark A d) (grind arith) (ap (λ z. at_most t (mark A z)) (eqb-true d c e) ∙ k))
+    by_ceremony true e =
+        let later = behind at t (mark A d) (grind arith) (ap (λ z. at_most t (mark A z)) (eqb-true d c e) ∙ k) in
+        in_before (sheet A) d way at people who c t later
     by_ceremony false e = in_other (sheet A) d way at people who c t (turns A d way at people (grind arith)) e
 same_in A key act answer who c t f k = refl
 
 -- a moment that is not later than one of the marks is not later than the greatest
-one_of_marks : (A : History) (c t : ℕ) (numbers : List ℕ) → was_opened c numbers ≡ true → at_most t (mark A c) ≡ true → at_most t (greatest (filter_map (mark A) numbers)) ≡ true
+one_of_marks : (A : History) (c t : ℕ) (numbers : List ℕ) → was_opened c numbers ≡ true → at_most t (mark A c) ≡ true
+    → at_most t (greatest (filter_map (mark A) numbers)) ≡ true
 one_of_marks A c t [] w k = absurd (false≢true w)
 one_of_marks A c t (n ∷ numbers) w k =
     one_at_most t (mark A n) (filter_map (mark A) numbers) (elim (or_cases (n == c) (was_opened c numbers) w) [
@@ -178,7 +187,8 @@ settled_at A t None e k = absurd (true≢false (sym k))
 settled_at A t (Some m) e k = (day_of m, ap (option_map day_of) e, omega (arith, leb-true t m k))
 
 -- whoever fits a seat in one history does in another where who is trained stays so and places have the same holders
-fits_mono : (A B : History) (facility : Facility) (d : ℕ) → ((who : List ℕ) (role : Role) → trained A who role d ≡ true → trained B who role d ≡ true) → ((place : Place) → holder B place d ≡ holder A place d)
+fits_mono : (A B : History) (facility : Facility) (d : ℕ) → ((who : List ℕ) (role : Role) → trained A who role d ≡ true → trained B who role d ≡ true)
+    → ((place : Place) → holder B place d ≡ holder A place d)
     → (seat : Seat) (who : List ℕ) → fits A facility d seat who ≡ true → fits B facility d seat who ≡ true
 fits_mono A B facility d train hold (Staff role) who h = train who role h
 fits_mono A B facility d train hold AnyCo who h = any-same _ _ one_to_seven (λ n. ap (is_this who) (hold (Places.Co facility n))) ∙ h
@@ -195,23 +205,28 @@ seating_mono A B c t g (seat ∷ seats) (who ∷ people) h = grind (arith, g sea
 
 -- so whoever is eligible in the one is in the other, where the room and the facility are as before too
 eligible_mono : (A B : History) (c t : ℕ) → ((who : List ℕ) → is_in B who c t ≡ is_in A who c t) → facility_of B c ≡ facility_of A c
-    → ((who : List ℕ) (role : Role) → trained A who role (day_of t) ≡ true → trained B who role (day_of t) ≡ true) → ((place : Place) → holder B place (day_of t) ≡ holder A place (day_of t))
+    → ((who : List ℕ) (role : Role) → trained A who role (day_of t) ≡ true → trained B who role (day_of t) ≡ true)
+    → ((place : Place) → holder B place (day_of t) ≡ holder A place (day_of t))
     → (seat : Seat) (who : List ℕ) → eligible A c t seat who ≡ true → eligible B c t seat who ≡ true
 eligible_mono A B c t room here train hold seat who h =
     let r = and_parts (is_in A who c t) (fits A (facility_of A c) (day_of t) seat who) h in
-    and_from (is_in B who c t) _ (room who ∙ r.0) (ap (λ z. fits B z (day_of t) seat who) here ∙ fits_mono A B (facility_of A c) (day_of t) train hold seat who r.1)
+    and_from (is_in B who c t) _ (room who ∙ r.0)
+    (ap (λ z. fits B z (day_of t) seat who) here ∙ fits_mono A B (facility_of A c) (day_of t) train hold seat who r.1)
 
 -- whoever was eligible at a past moment still is
-eligible_still : (A : History) (entry : Entry) (c t : ℕ) → fault A entry.command.act ≡ None → is_past A (c, t) ≡ true → (seat : Seat) (who : List ℕ) → eligible A c t seat who ≡ true → eligible (entry ∷ A) c t seat who ≡ true
+eligible_still : (A : History) (entry : Entry) (c t : ℕ) → fault A entry.command.act ≡ None → is_past A (c, t) ≡ true → (seat : Seat) (who : List ℕ)
+    → eligible A c t seat who ≡ true → eligible (entry ∷ A) c t seat who ≡ true
 eligible_still A entry c t f past =
     let p = and_parts (is_ceremony A c) (at_most t (mark A c) && was_opened c (all_said opened_number A)) past in
     let q = and_parts (at_most t (mark A c)) (was_opened c (all_said opened_number A)) p.1 in
     let s = settled_at A t (greatest (all_marks A)) refl (one_of_marks A c t (all_said opened_number A) q.1 q.0) in
-    let facility : facility_of (entry ∷ A) c ≡ facility_of A c = ap (λ o. unwrap_or (option_map (λ (plan : Planned). plan.facility) o) East) (same_plan A entry c f p.0) in
+    let facility : facility_of (entry ∷ A) c ≡ facility_of A c =
+    ap (λ o. unwrap_or (option_map (λ (plan : Planned). plan.facility) o) East) (same_plan A entry c f p.0) in
     eligible_mono A (entry ∷ A) c t (λ who. same_in A entry.command.key entry.command.act entry.answer who c t f q.0) facility
     (λ who role. trained_stays A entry who role s.0 (day_of t) f s.1 s.2) (λ place. holder_stays A entry place s.0 (day_of t) f s.1 s.2)
 
-same_seats : (A : History) (entry : Entry) (c k : ℕ) → fault A entry.command.act ≡ None → is_ceremony A c ≡ true → seats_at (steps_of (entry ∷ A) c) k ≡ seats_at (steps_of A c) k
+same_seats : (A : History) (entry : Entry) (c k : ℕ) → fault A entry.command.act ≡ None → is_ceremony A c ≡ true
+    → seats_at (steps_of (entry ∷ A) c) k ≡ seats_at (steps_of A c) k
 same_seats A entry c k f p = ap (λ o. seats_at (unwrap_or (option_map (λ (plan : Planned). plan.steps) o) []) k) (same_plan A entry c f p)
 
 -- a seating that was recorded before is one still
@@ -220,7 +235,8 @@ old_seated : (A : History) (entry : Entry) (act : Act) (people : Option (List (L
 old_seated A entry (Sign c k at) None f past h = absurd (true≢false (sym h))
 old_seated A entry (Sign c k at) (Some people) f past h =
     let p = and_parts (is_ceremony A c) (at_most at (mark A c) && was_opened c (all_said opened_number A)) past in
-    seating_mono A (entry ∷ A) c at (eligible_still A entry c at f past) (seats_at (steps_of (entry ∷ A) c) k) people (ap (λ seats. is_seating A c at seats people) (same_seats A entry c k f p.0) ∙ h)
+    seating_mono A (entry ∷ A) c at (eligible_still A entry c at f past) (seats_at (steps_of (entry ∷ A) c) k) people
+    (ap (λ seats. is_seating A c at seats people) (same_seats A entry c k f p.0) ∙ h)
 old_seated A entry (Except c text true at) None f past h = absurd (true≢false (sym h))
 old_seated A entry (Except c text true at) (Some people) f past h =
     seating_mono A (entry ∷ A) c at (eligible_still A entry c at f past) (Staff Ca ∷ Staff Iw ∷ []) people h
@@ -230,7 +246,8 @@ old_seated A entry act people f past h = refl
 -- THE NEW SEATING
 
 -- a signature and an exception leave everybody as eligible as before, so the people of their answer are a seating
-new_seated : (A : History) (key : List ℕ) (act : Act) (answer : Answer) → IsAnswerTo A act answer (sitting A act) → is_seated (one key act answer ∷ A) (sitting (one key act answer ∷ A) act) answer.seating ≡ true
+new_seated : (A : History) (key : List ℕ) (act : Act) (answer : Answer) → IsAnswerTo A act answer (sitting A act)
+    → is_seated (one key act answer ∷ A) (sitting (one key act answer ∷ A) act) answer.seating ≡ true
 new_seated A key (Sign c k at) answer w =
     let B = one key (Sign c k at) answer ∷ A in
     rw w.2 (seating_mono A B c at (eligible_mono A B c at (λ who. refl) refl (λ who role h. h) (λ place. refl)) (seats_at (steps_of A c) k) w.0 w.1.seating)
@@ -253,7 +270,8 @@ past_still : (A : History) (entry : Entry) (entries : History) → all_past A en
 past_still A entry [] h = refl
 past_still A entry (old ∷ entries) h = grind (arith, still_past A entry (marked old.command.act), past_still A entry entries)
 
-seated_still : (A : History) (entry : Entry) (entries : History) → fault A entry.command.act ≡ None → all_past A entries ≡ true → all_seated A entries ≡ true → all_seated (entry ∷ A) entries ≡ true
+seated_still : (A : History) (entry : Entry) (entries : History) → fault A entry.command.act ≡ None → all_past A entries ≡ true → all_seated A entries ≡ true
+    → all_seated (entry ∷ A) entries ≡ true
 seated_still A entry [] f p h = refl
 seated_still A entry (old ∷ entries) f p h =
     grind (arith, old_seated A entry old.command.act old.answer.seating f, seated_still A entry entries f)
@@ -267,5 +285,5 @@ pub seated : (A : History) → IsRegister A → are_seated A ≡ true
 seated [] h = refl
 seated (entry ∷ A) h =
     let a = accepted A entry h.0 in
-    and_from (is_seated (entry ∷ A) (sitting (entry ∷ A) entry.command.act) entry.answer.seating) _ (new_seated A entry.command.key entry.command.act entry.answer a.answered)
-    (seated_still A entry A a.no_fault (all_pasts A h.1) (seated A h.1))
+    and_from (is_seated (entry ∷ A) (sitting (entry ∷ A) entry.command.act) entry.answer.seating) _
+    (new_seated A entry.command.key entry.command.act entry.answer a.answered) (seated_still A entry A a.no_fault (all_pasts A h.1) (seated A h.1))

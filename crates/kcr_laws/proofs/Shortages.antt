@@ -32,7 +32,8 @@ every_fails {X = X} test xs (suc n) h = by_member xs h (λ x. every_fails (λ re
       | inr e ↦ by_member ms e ih
     ]
 
-shorter_fails : {X : Type 0} (test : List X → Bool) (xs : List X) (n : ℕ) → every_shorter test xs n ≡ false → (ys : List X) × (length ys < n) × (test ys ≡ false)
+shorter_fails : {X : Type 0} (test : List X → Bool) (xs : List X) (n : ℕ) → every_shorter test xs n ≡ false
+    → (ys : List X) × (length ys < n) × (test ys ≡ false)
 shorter_fails test xs zero h = absurd (true≢false h)
 shorter_fails test xs (suc n) h = elim (and_cases (every test xs n) (every_shorter test xs n) h) [
   | inl e ↦ let w = every_fails test xs n e in (w.0, omega (arith, w.1), w.2)
@@ -40,16 +41,18 @@ shorter_fails test xs (suc n) h = elim (and_cases (every test xs n) (every_short
 ]
 
 trial : (A : History) (c t : ℕ) (seats : List Seat) (positions : List ℕ) → is_short A c t seats positions ≡ true
-    → ((part : List ℕ) → length part < length positions → is_short A c t seats part ≡ true → (least : List ℕ) × IsLeast A c t seats least) → (least : List ℕ) × IsLeast A c t seats least
+    → ((part : List ℕ) → length part < length positions → is_short A c t seats part ≡ true → (least : List ℕ) × IsLeast A c t seats least)
+    → (least : List ℕ) × IsLeast A c t seats least
 trial A c t seats positions h ih =
     let other = λ (part : List ℕ). not (is_short A c t seats part) in
     elim (cases_Bool (every_shorter other positions (length positions))) [
-      | inl e ↦ (positions, least_by_trial A c t seats positions (and_from (is_short A c t seats positions) (every_shorter other positions (length positions)) h e))
+      | inl e ↦ (positions, least_by_trial A c t seats positions (and_from (is_short A c t seats positions) _ h e))
       | inr e ↦ let w = shorter_fails other positions (length positions) e in ih w.0 w.1 (not-false (is_short A c t seats w.0) w.2)
     ]
 
 -- where some positions are short, some are a least shortage
-least_of_short : (fuel : ℕ) (A : History) (c t : ℕ) (seats : List Seat) (positions : List ℕ) → length positions ≤ fuel → is_short A c t seats positions ≡ true → (least : List ℕ) × IsLeast A c t seats least
+least_of_short : (fuel : ℕ) (A : History) (c t : ℕ) (seats : List Seat) (positions : List ℕ) → length positions ≤ fuel → is_short A c t seats positions ≡ true
+    → (least : List ℕ) × IsLeast A c t seats least
 least_of_short zero A c t seats positions l h = trial A c t seats positions h (λ part m g. absurd (omega (arith, l, m)))
 least_of_short (suc fuel) A c t seats positions l h = trial A c t seats positions h (λ part m g. least_of_short fuel A c t seats part (omega (arith, l, m)) g)
 
@@ -76,7 +79,8 @@ count_filter (i ∷ is) s = grind (arith, count_filter is s)
 abbrev fit_one : (ℕ → List ℕ → Bool) → List ℕ → List ℕ → Bool
 fit_one fits is who = list_any (λ i. fits i who) is
 
-takers_filter : (all : List ℕ) (fits : ℕ → List ℕ → Bool) (s : ℕ → Bool) (people : List (List ℕ)) → takers all fits s people ≡ length (filter (fit_one fits (filter s all)) people)
+takers_filter : (all : List ℕ) (fits : ℕ → List ℕ → Bool) (s : ℕ → Bool) (people : List (List ℕ))
+    → takers all fits s people ≡ length (filter (fit_one fits (filter s all)) people)
 takers_filter all fits s [] = refl
 takers_filter all fits s (who ∷ people) = grind (arith, any-filter s (λ i. fits i who) all, takers_filter all fits s people)
 
@@ -98,7 +102,8 @@ seated_by A c t (seat ∷ seats) w fit apart =
     grind (arith, fit 0 (omega arith), alone, seated_by A c t seats (λ i. w (suc i)) (λ i l. fit (suc i) (omega (arith, l))) others)
   where
     alone : list_any (same_text (w 0)) (list_by (length seats) (λ i. w (suc i))) ≡ false
-    alone = not_among (w 0) (length seats) (λ i. w (suc i)) (λ i l e. let same : 0 ≡ suc i = apart 0 (suc i) (omega arith) (omega (arith, l)) e in omega (arith, same))
+    alone =
+        not_among (w 0) (length seats) (λ i. w (suc i)) (λ i l e. let same : 0 ≡ suc i = apart 0 (suc i) (omega arith) (omega (arith, l)) e in omega (arith, same))
 
     others : (i j : ℕ) → i < length seats → j < length seats → w (suc i) ≡ w (suc j) → i ≡ j
     others i j l m e = let same : suc i ≡ suc j = apart (suc i) (suc j) (omega (arith, l)) (omega (arith, m)) e in omega (arith, same)
@@ -116,10 +121,11 @@ module _ (A : History) (c t : ℕ) (seats : List Seat) where
   abbrev fits_at : ℕ → List ℕ → Bool
   fits_at i who = is_eligible_at A c t seats who i
 
+  in_all : (i : ℕ) → i < length seats → is_one i positions_of ≡ true
+  in_all i l = in_from (length seats) 0 i (omega arith) (omega (arith, l))
+
   seated_so : (w : ℕ → List ℕ) → IsAssigned positions_of fits_at (present A c t) (λ i. true) w → is_seating A c t seats (list_by (length seats) w) ≡ true
-  seated_so w a =
-      seated_by A c t seats w (λ i l. a.fit i (in_from (length seats) 0 i (omega arith) (omega (arith, l))) refl)
-      (λ i j l m e. a.apart i j (in_from (length seats) 0 i (omega arith) (omega (arith, l))) (in_from (length seats) 0 j (omega arith) (omega (arith, m))) refl refl e)
+  seated_so w a = seated_by A c t seats w (λ i l. a.fit i (in_all i l) refl) (λ i j l m e. a.apart i j (in_all i l) (in_all j m) refl refl e)
 
   short_so : (s : ℕ → Bool) → IsScarce positions_of fits_at (present A c t) (λ i. true) s → is_short A c t seats (filter s positions_of) ≡ true
   short_so s d =

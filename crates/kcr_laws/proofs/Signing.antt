@@ -64,20 +64,24 @@ abbrev pub sitting_of : History → ℕ → ℕ → ℕ → Sitting
 sitting_of A c k at = record { ceremony = c; at = at; seats = seats_at (steps_of A c) k }
 
 -- what a signature under a new key tells of which no condition has the refusal
-signed_parts : (A : History) (key : List ℕ) (c k at : ℕ) (outcome : Outcome) (A' : History) → entry_of A key ≡ None → ((r : Refusal) → fault A (Sign c k at) ≡ Some r → outcome ≢ Refuses r)
+signed_parts : (A : History) (key : List ℕ) (c k at : ℕ) (outcome : Outcome) (A' : History) → entry_of A key ≡ None
+    → ((r : Refusal) → fault A (Sign c k at) ≡ Some r → outcome ≢ Refuses r)
     → machine A (signature key c k at) outcome A' → (fault A (Sign c k at) ≡ None) × seats A (signature key c k at) (sitting_of A c k at) outcome A'
 signed_parts A key c k at outcome A' new other h = by_fault (fault A (Sign c k at)) other (rw new at h)
   where
-    by_fault : (f : Option Refusal) → ((r : Refusal) → f ≡ Some r → outcome ≢ Refuses r) → acts A (signature key c k at) f outcome A' → (f ≡ None) × seats A (signature key c k at) (sitting_of A c k at) outcome A'
+    by_fault : (f : Option Refusal) → ((r : Refusal) → f ≡ Some r → outcome ≢ Refuses r) → acts A (signature key c k at) f outcome A'
+        → (f ≡ None) × seats A (signature key c k at) (sitting_of A c k at) outcome A'
     by_fault None n g = (refl, g)
     by_fault (Some r) n g = absurd (n r refl g.0)
 
 -- what an accepted signature tells
-accepted_parts : (A : History) (key : List ℕ) (c k at : ℕ) (answer : Answer) (A' : History) → entry_of A key ≡ None → machine A (signature key c k at) (Accepts answer) A'
+accepted_parts : (A : History) (key : List ℕ) (c k at : ℕ) (answer : Answer) (A' : History) → entry_of A key ≡ None
+    → machine A (signature key c k at) (Accepts answer) A'
     → (fault A (Sign c k at) ≡ None) × seats A (signature key c k at) (sitting_of A c k at) (Accepts answer) A'
 accepted_parts A key c k at answer A' new h = signed_parts A key c k at (Accepts answer) A' new (λ r f. other_outcome answer r) h
 
-pub signed_next : (A : History) (key : List ℕ) (c k at : ℕ) → entry_of A key ≡ None → IsAccepted A (signature key c k at) → (next A c k at ≡ true) × CanFill A c k at
+pub signed_next : (A : History) (key : List ℕ) (c k at : ℕ) → entry_of A key ≡ None → IsAccepted A (signature key c k at)
+    → (next A c k at ≡ true) × CanFill A c k at
 signed_next A key c k at new a =
     let p = accepted_parts A key c k at a.0 (with_command A (signature key c k at) a.0) new a.1 in
     (no_fault_next A c k at p.0, seated p.1)
@@ -86,18 +90,21 @@ signed_next A key c k at new a =
     seated (inl w) = (w.0, w.1.seating)
     seated (inr w) = absurd (other_outcome _ _ w.2.0)
 
-pub next_signed : (A : History) (key : List ℕ) (c k at : ℕ) → entry_of A key ≡ None → length A < 4000000000 → next A c k at ≡ true → CanFill A c k at → IsAccepted A (signature key c k at)
+pub next_signed : (A : History) (key : List ℕ) (c k at : ℕ) → entry_of A key ≡ None → length A < 4000000000 → next A c k at ≡ true → CanFill A c k at
+    → IsAccepted A (signature key c k at)
 next_signed A key c k at new l n (people, seating) = elim (first_or_none A c at (seats_at (steps_of A c) k)) [
   | inl w ↦ (answer_to A (Sign c k at) (Some w.0), rw (new, next_no_fault A c k at (room_left A l) n) (inl (w.0, w.1, (refl, refl))))
   | inr none ↦ absurd (none people seating)
 ]
 
 -- the answer to an accepted signature names the step and the first seating
-pub first_recorded : (A : History) (key : List ℕ) (c k at : ℕ) (answer : Answer) (A' : History) → entry_of A key ≡ None → machine A (signature key c k at) (Accepts answer) A'
+pub first_recorded : (A : History) (key : List ℕ) (c k at : ℕ) (answer : Answer) (A' : History) → entry_of A key ≡ None
+    → machine A (signature key c k at) (Accepts answer) A'
     → (people : List (List ℕ)) × IsFirst A c at (seats_at (steps_of A c) k) people × (answer.seating ≡ Some people)
 first_recorded A key c k at answer A' new h = by_seats (accepted_parts A key c k at answer A' new h).1
   where
-    by_seats : seats A (signature key c k at) (sitting_of A c k at) (Accepts answer) A' → (people : List (List ℕ)) × IsFirst A c at (seats_at (steps_of A c) k) people × (answer.seating ≡ Some people)
+    by_seats : seats A (signature key c k at) (sitting_of A c k at) (Accepts answer) A'
+        → (people : List (List ℕ)) × IsFirst A c at (seats_at (steps_of A c) k) people × (answer.seating ≡ Some people)
     by_seats (inl w) = (w.0, w.1, ap (λ (a : Answer). a.seating) (same_answer _ _ w.2.0))
     by_seats (inr w) = absurd (other_outcome _ _ w.2.0)
 
@@ -108,20 +115,23 @@ never_short : (A : History) (c k at : ℕ) (p : List ℕ) → fault A (Sign c k 
 never_short A c k at p h = grind arith
 
 -- what a signature that is refused for want of people tells
-short_parts : (A : History) (key : List ℕ) (c k at : ℕ) (p : List ℕ) (A' : History) → entry_of A key ≡ None → machine A (signature key c k at) (Refuses (Short p)) A'
+short_parts : (A : History) (key : List ℕ) (c k at : ℕ) (p : List ℕ) (A' : History) → entry_of A key ≡ None
+    → machine A (signature key c k at) (Refuses (Short p)) A'
     → (fault A (Sign c k at) ≡ None) × seats A (signature key c k at) (sitting_of A c k at) (Refuses (Short p)) A'
 short_parts A key c k at p A' new h =
     signed_parts A key c k at (Refuses (Short p)) A' new (λ r f e. never_short A c k at p (f ∙ ap Some (sym (same_refusal (Short p) r e)))) h
 
 -- and which seats it names
-pub short_named : (A : History) (key : List ℕ) (c k at : ℕ) (p : List ℕ) (A' : History) → entry_of A key ≡ None → machine A (signature key c k at) (Refuses (Short p)) A'
+pub short_named : (A : History) (key : List ℕ) (c k at : ℕ) (p : List ℕ) (A' : History) → entry_of A key ≡ None
+    → machine A (signature key c k at) (Refuses (Short p)) A'
     → (positions : List ℕ) × IsLeast A c at (seats_at (steps_of A c) k) positions × (p ≡ map suc positions)
 short_named A key c k at p A' new h = by_seats (short_parts A key c k at p A' new h).1
   where
     short_of : (x y : List ℕ) → Short x ≡ Short y → x ≡ y
     short_of x y e = cc
 
-    by_seats : seats A (signature key c k at) (sitting_of A c k at) (Refuses (Short p)) A' → (positions : List ℕ) × IsLeast A c at (seats_at (steps_of A c) k) positions × (p ≡ map suc positions)
+    by_seats : seats A (signature key c k at) (sitting_of A c k at) (Refuses (Short p)) A'
+        → (positions : List ℕ) × IsLeast A c at (seats_at (steps_of A c) k) positions × (p ≡ map suc positions)
     by_seats (inl w) = absurd (other_outcome _ _ (sym w.2.0))
     by_seats (inr w) = (w.0, w.1, short_of p (map suc w.0) (same_refusal (Short p) (Short (map suc w.0)) w.2.0))
 
@@ -130,7 +140,8 @@ short_next A key c k at new (positions, least, h) =
     let p = short_parts A key c k at (map suc positions) A new h in
     (no_fault_next A c k at p.0, λ f. one_half A c at (seats_at (steps_of A c) k) f.0 positions f.1 least.short)
 
-pub next_short : (A : History) (key : List ℕ) (c k at : ℕ) → entry_of A key ≡ None → length A < 4000000000 → next A c k at ≡ true → (CanFill A c k at → ⊥) → IsShortOf A key c k at
+pub next_short : (A : History) (key : List ℕ) (c k at : ℕ) → entry_of A key ≡ None → length A < 4000000000 → next A c k at ≡ true → (CanFill A c k at → ⊥)
+    → IsShortOf A key c k at
 next_short A key c k at new l n none = elim (seating_or_least A c at (seats_at (steps_of A c) k)) [
   | inl s ↦ absurd (none s)
   | inr (positions, least) ↦ (

@@ -32,7 +32,8 @@ no_word A (Release at day) place s d f e l = silent (same_place at place) day d 
 no_word A act place s d f e l = refl
 
 -- who held a place on a settled day still did after any accepted command
-pub holder_stays : (A : History) (entry : Entry) (place : Place) (s d : ℕ) → fault A entry.command.act ≡ None → settled A ≡ Some s → d ≤ s → holder (entry ∷ A) place d ≡ holder A place d
+pub holder_stays : (A : History) (entry : Entry) (place : Place) (s d : ℕ) → fault A entry.command.act ≡ None → settled A ≡ Some s → d ≤ s
+    → holder (entry ∷ A) place d ≡ holder A place d
 holder_stays A entry place s d f e l =
     ap (λ o. unwrap_or (or_else o (last_said (next_holder place d) A)) None) (no_word A entry.command.act place s d f e l)
 

@@ -32,12 +32,14 @@ every_shorter test xs zero = true
 every_shorter test xs (suc n) = every test xs n && every_shorter test xs n
 
 -- a test that every member passes, one of them passes
-pub one_of : {X : Type 0} (same : X → X → Bool) → ((a b : X) → same a b ≡ true → a ≡ b) → (y : X) (good : X → Bool) (xs : List X) → list_any (same y) xs ≡ true → list_all good xs ≡ true → good y ≡ true
+pub one_of : {X : Type 0} (same : X → X → Bool) → ((a b : X) → same a b ≡ true → a ≡ b) → (y : X) (good : X → Bool) (xs : List X) → list_any (same y) xs ≡ true
+    → list_all good xs ≡ true → good y ≡ true
 one_of same sound y good [] a g = cc
 one_of same sound y good (x ∷ xs) a g = grind (arith, sound y x, one_of same sound y good xs)
 
 -- so does a list of that many members
-every_holds : {X : Type 0} (same : X → X → Bool) → ((a b : X) → same a b ≡ true → a ≡ b) → (xs ys : List X) (n : ℕ) → length ys ≡ n → list_all (λ y. list_any (same y) xs) ys ≡ true
+every_holds : {X : Type 0} (same : X → X → Bool) → ((a b : X) → same a b ≡ true → a ≡ b) → (xs ys : List X) (n : ℕ) → length ys ≡ n
+    → list_all (λ y. list_any (same y) xs) ys ≡ true
     → (test : List X → Bool) → every test xs n ≡ true → test ys ≡ true
 every_holds same sound xs [] zero e i test h = h
 every_holds same sound xs [] (suc n) e i test h = absurd (omega arith)
@@ -46,7 +48,8 @@ every_holds same sound xs (y ∷ ys) (suc n) e i test h =
     let p = and_parts (list_any (same y) xs) (list_all (λ z. list_any (same z) xs) ys) i in
     every_holds same sound xs ys n (omega arith) p.1 (λ rest. test (y ∷ rest)) (one_of same sound y (λ x. every (λ rest. test (x ∷ rest)) xs n) xs p.0 h)
 
-shorter_holds : {X : Type 0} (same : X → X → Bool) → ((a b : X) → same a b ≡ true → a ≡ b) → (xs ys : List X) (n : ℕ) → length ys < n → list_all (λ y. list_any (same y) xs) ys ≡ true
+shorter_holds : {X : Type 0} (same : X → X → Bool) → ((a b : X) → same a b ≡ true → a ≡ b) → (xs ys : List X) (n : ℕ) → length ys < n
+    → list_all (λ y. list_any (same y) xs) ys ≡ true
     → (test : List X → Bool) → every_shorter test xs n ≡ true → test ys ≡ true
 shorter_holds same sound xs ys zero l i test h = absurd (omega arith)
 shorter_holds same sound xs ys (suc n) l i test h =
@@ -78,7 +81,8 @@ abbrev pub is_first_by_trial : History → ℕ → ℕ → List Seat → List (L
 is_first_by_trial A c t seats people = is_seating A c t seats people && every (is_no_better A c t seats people) (present A c t) (length seats)
 
 -- the others of a seating are one of the other seats
-pub rest_seated : (A : History) (c t : ℕ) (seat : Seat) (seats : List Seat) (who : List ℕ) (others : List (List ℕ)) → is_seating A c t (seat ∷ seats) (who ∷ others) ≡ true
+pub rest_seated : (A : History) (c t : ℕ) (seat : Seat) (seats : List Seat) (who : List ℕ) (others : List (List ℕ))
+    → is_seating A c t (seat ∷ seats) (who ∷ others) ≡ true
     → is_seating A c t seats others ≡ true
 rest_seated A c t seat seats who others h = grind arith
 
@@ -92,7 +96,8 @@ seated_inside A c t (seat ∷ seats) (who ∷ others) h =
     let more = seated_inside A c t seats others (rest_seated A c t seat seats who others h) in
     (ap suc more.0, grind (arith, present_are_in (sheet A) who c t, more.1))
 
-pub first_by_trial : (A : History) (c t : ℕ) (seats : List Seat) (people : List (List ℕ)) → is_first_by_trial A c t seats people ≡ true → IsFirst A c t seats people
+pub first_by_trial : (A : History) (c t : ℕ) (seats : List Seat) (people : List (List ℕ)) → is_first_by_trial A c t seats people ≡ true
+    → IsFirst A c t seats people
 first_by_trial A c t seats people h = record { seating = parts.0; first = better }
   where
     parts : (is_seating A c t seats people ≡ true) × (every (is_no_better A c t seats people) (present A c t) (length seats) ≡ true)
@@ -110,7 +115,8 @@ first_by_trial A c t seats people h = record { seating = parts.0; first = better
 abbrev pub is_least_by_trial : History → ℕ → ℕ → List Seat → List ℕ → Bool
 is_least_by_trial A c t seats positions = is_short A c t seats positions && every_shorter (λ part. not (is_short A c t seats part)) positions (length positions)
 
-pub least_by_trial : (A : History) (c t : ℕ) (seats : List Seat) (positions : List ℕ) → is_least_by_trial A c t seats positions ≡ true → IsLeast A c t seats positions
+pub least_by_trial : (A : History) (c t : ℕ) (seats : List Seat) (positions : List ℕ) → is_least_by_trial A c t seats positions ≡ true
+    → IsLeast A c t seats positions
 least_by_trial A c t seats positions h = record { short = parts.0; least = least }
   where
     parts : (is_short A c t seats positions ≡ true) × (every_shorter (λ part. not (is_short A c t seats part)) positions (length positions) ≡ true)
@@ -119,8 +125,9 @@ least_by_trial A c t seats positions h = record { short = parts.0; least = least
     least : (part : List ℕ) → IsTrue (is_proper_part part positions) → is_short A c t seats part ≡ false
     least part p =
         let q = and_parts (list_all (λ a. list_any (λ b. b == a) positions) part) (nat_lt (length part) (length positions)) p in
+        let fewer = ltb-true (length part) (length positions) q.1 in
         not-true (is_short A c t seats part)
-        (shorter_holds (λ a b. b == a) (λ a b e. sym (eqb-true b a e)) positions part (length positions) (ltb-true (length part) (length positions) q.1) q.0 (λ one. not (is_short A c t seats one)) parts.1)
+        (shorter_holds (λ a b. b == a) (λ a b e. sym (eqb-true b a e)) positions part (length positions) fewer q.0 (λ one. not (is_short A c t seats one)) parts.1)
 
 -- COMMANDS
 
@@ -177,21 +184,25 @@ then-some f (Some x) y e = (x, refl, e)
 abbrev IsStep : History → Act → Played → Type 0
 IsStep A act p = machine A (new_command A act) p.outcome p.history
 
-fill_seats : (A : History) (act : Act) (s : Sitting) (fillings : List Filling) (p : Played) → fill A act s fillings ≡ Some p → seats A (new_command A act) s p.outcome p.history
+fill_seats : (A : History) (act : Act) (s : Sitting) (fillings : List Filling) (p : Played) → fill A act s fillings ≡ Some p
+    → seats A (new_command A act) s p.outcome p.history
 fill_seats A act s [] p e = no-some p e
 fill_seats A act s (Seated people ∷ fillings) p e =
     let t = if-some (is_first_by_trial A s.ceremony s.at s.seats people) _ p e in
-    subst (λ (q : Played). seats A (new_command A act) s q.outcome q.history) (some-is _ p t.1) (inl (people, first_by_trial A s.ceremony s.at s.seats people t.0, (refl, refl)))
+    subst (λ (q : Played). seats A (new_command A act) s q.outcome q.history) (some-is _ p t.1)
+    (inl (people, first_by_trial A s.ceremony s.at s.seats people t.0, (refl, refl)))
 fill_seats A act s (Lacking positions ∷ fillings) p e =
     let t = if-some (is_least_by_trial A s.ceremony s.at s.seats positions) _ p e in
-    subst (λ (q : Played). seats A (new_command A act) s q.outcome q.history) (some-is _ p t.1) (inr (positions, least_by_trial A s.ceremony s.at s.seats positions t.0, (refl, refl)))
+    subst (λ (q : Played). seats A (new_command A act) s q.outcome q.history) (some-is _ p t.1)
+    (inr (positions, least_by_trial A s.ceremony s.at s.seats positions t.0, (refl, refl)))
 
 seats_if : (A : History) (act : Act) (s : Option Sitting) (fillings : List Filling) (p : Played) → seat_if A act s fillings ≡ Some p
     → MatchOption s ((p.outcome ≡ Accepts (answer_to A act None)) × (p.history ≡ with_act A act None)) (λ q. seats A (new_command A act) q p.outcome p.history)
 seats_if A act None fillings p e = (sym (ap (λ (q : Played). q.outcome) (some-is _ p e)), sym (ap (λ (q : Played). q.history) (some-is _ p e)))
 seats_if A act (Some s) fillings p e = fill_seats A act s fillings p e
 
-acts_if : (A : History) (act : Act) (f : Option Refusal) (fillings : List Filling) (p : Played) → act_if A act f (sitting A act) fillings ≡ Some p → acts A (new_command A act) f p.outcome p.history
+acts_if : (A : History) (act : Act) (f : Option Refusal) (fillings : List Filling) (p : Played) → act_if A act f (sitting A act) fillings ≡ Some p
+    → acts A (new_command A act) f p.outcome p.history
 acts_if A act (Some refusal) fillings p e = (sym (ap (λ (q : Played). q.outcome) (some-is _ p e)), sym (ap (λ (q : Played). q.history) (some-is _ p e)))
 acts_if A act None fillings p e = seats_if A act (sitting A act) fillings p e
 
@@ -209,12 +220,16 @@ plays A [] fillings = Some A
 plays A (said ∷ rest) fillings =
     option_and_then (λ (p : Played). if same_text (outcome_text p.outcome) said.1 then plays p.history rest p.fillings else None) (play A said.0 fillings)
 
-are_steps : (A : History) (exchanges : List (Act × List ℕ)) (fillings : List Filling) (A' : History) → plays A exchanges fillings ≡ Some A' → AreSteps A exchanges A'
+are_steps : (A : History) (exchanges : List (Act × List ℕ)) (fillings : List Filling) (A' : History) → plays A exchanges fillings ≡ Some A'
+    → AreSteps A exchanges A'
 are_steps A [] fillings A' e = sym (some-is A A' e)
 are_steps A (said ∷ rest) fillings A' e =
-    let p = then-some (λ (p : Played). if same_text (outcome_text p.outcome) said.1 then plays p.history rest p.fillings else None) (play A said.0 fillings) A' e in
+    let further = λ (p : Played). if same_text (outcome_text p.outcome) said.1 then plays p.history rest p.fillings else None in
+    let p = then-some further (play A said.0 fillings) A' e in
     let t = if-some (same_text (outcome_text p.0.outcome) said.1) (plays p.0.history rest p.0.fillings) A' p.2 in
-    (p.0.outcome, p.0.history, play_is_step A said.0 fillings p.0 p.1, same-is (outcome_text p.0.outcome) said.1 t.0, are_steps p.0.history rest p.0.fillings A' t.1)
+    let told = same-is (outcome_text p.0.outcome) said.1 t.0 in
+    (p.0.outcome, p.0.history, play_is_step A said.0 fillings p.0 p.1, told, are_steps p.0.history rest p.0.fillings A' t.1)
 
-pub answered : (A : History) (exchanges : List (Act × List ℕ)) (fillings : List Filling) (A' : History) → plays A exchanges fillings ≡ Some A' → AreAnswered A exchanges A'
+pub answered : (A : History) (exchanges : List (Act × List ℕ)) (fillings : List Filling) (A' : History) → plays A exchanges fillings ≡ Some A'
+    → AreAnswered A exchanges A'
 answered A exchanges fillings A' e = record { steps = are_steps A exchanges fillings A' e }

@@ -20,8 +20,8 @@ returns-clause-appointment c = λ A register place who day. (
   ],
   λ h. elim h [
     | inl e ↦ let w = place_holds A register place day e in
-        or_left (place_held_from_by (appointments A) place day) (person_holds_from_by (appointments A) who day) (c.place_held_from_a_day.ensures.on_no_other (appointments A) place day w.0 w.1 w.2)
+        or_left (place_held_from_by (appointments A) place day) _ (c.place_held_from_a_day.ensures.on_no_other (appointments A) place day w.0 w.1 w.2)
     | inr e ↦ let w = person_holds A register who day e in
-        or_right (place_held_from_by (appointments A) place day) (person_holds_from_by (appointments A) who day) (c.person_holds_from_a_day.ensures.on_no_other (appointments A) who day w.0 w.1 w.2)
+        or_right (place_held_from_by (appointments A) place day) _ (c.person_holds_from_a_day.ensures.on_no_other (appointments A) who day w.0 w.1 w.2)
   ],
 )
