@@ -30,11 +30,7 @@ use Rattle.kcr_history.specs.Machine.{IsRegister}
 use Rattle.kcr_history.specs.Laws.{is_added, is_kept, has_its_box, is_in_place, were_in_place, IsBalanced}
 use Rattle.kcr_laws.proofs.Accepted.{IsAccepted, one, each_history, each_register}
 use Rattle.kcr_laws.proofs.Refused.{none_with}
-use Rattle.kcr_laws.proofs.Stored.{there, sealed_somewhere}
-
-still : {X : Type 0} (o p : Option X) → is_some p ≡ true → is_some (or_else o p) ≡ true
-still None p h = h
-still (Some x) p h = refl
+use Rattle.kcr_laws.proofs.Stored.{there, sealed_somewhere, still}
 
 -- BAGS
 

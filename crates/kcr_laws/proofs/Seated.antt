@@ -34,6 +34,7 @@ use Rattle.kcr_history.specs.Laws.{is_seated, are_seated}
 use Rattle.kcr_laws.proofs.Accepted.{IsAnswerTo, accepted, one, each_history}
 use Rattle.kcr_laws.proofs.Stays.{trained_stays, holder_stays}
 use Rattle.kcr_laws.proofs.Rooms.{in_before, in_other}
+use Rattle.kcr_laws.proofs.Stored.{still}
 use Rattle.kcr_laws.proofs.Alone.{turns}
 
 -- MOMENTS OF THE PAST
@@ -77,10 +78,6 @@ abbrev is_past_if : History → Option (ℕ × ℕ) → Bool
 is_past_if A None = true
 is_past_if A (Some m) = is_past A m
 
-still_ceremony : (o p : Option Planned) → is_some p ≡ true → is_some (or_else o p) ≡ true
-still_ceremony None p h = h
-still_ceremony (Some x) p h = refl
-
 still_opened : (c : ℕ) (o : Option ℕ) (numbers : List ℕ) → was_opened c numbers ≡ true → was_opened c (cons_option o numbers) ≡ true
 still_opened c None numbers h = h
 still_opened c (Some n) numbers h = or_right (n == c) (was_opened c numbers) h
@@ -88,7 +85,7 @@ still_opened c (Some n) numbers h = or_right (n == c) (was_opened c numbers) h
 still_past : (A : History) (entry : Entry) (o : Option (ℕ × ℕ)) → is_past_if A o ≡ true → is_past_if (entry ∷ A) o ≡ true
 still_past A entry None h = refl
 still_past A entry (Some m) h =
-    let planned = still_ceremony (planned_as m.0 entry.command.act) (plan_of A m.0) in
+    let planned = still (planned_as m.0 entry.command.act) (plan_of A m.0) in
     let marked_by = older_of m.0 m.1 (marked entry.command.act) (all_said marked A) in
     let was = still_opened m.0 (opened_number entry.command.act) (all_said opened_number A) in
     grind (arith, planned, marked_by, was)
@@ -134,12 +131,12 @@ now_past A entry f = by_mark (marked entry.command.act) (marks_known A entry.com
   where
     own : (m : ℕ × ℕ) → at_most m.1 (greatest (moments_of m.0 (m ∷ all_said marked A))) ≡ true
     own m =
-        rw (eq-eqb m.0 m.0 refl) (max_at_most m.1 m.1 (greatest (moments_of m.0 (all_said marked A))) (or_left (nat_le m.1 m.1) _ (le-leb m.1 m.1 (omega arith))))
+        rw (eq-eqb m.0 m.0 refl) (max_at_most m.1 m.1 (greatest (moments_of m.0 (all_said marked A))) (or_left _ _ (le-leb m.1 m.1 (omega arith))))
 
     by_mark : (o : Option (ℕ × ℕ)) → MatchOption o (Unit {0}) (IsKnown A entry.command.act) → is_past_with A entry.command.act o o ≡ true
     by_mark None k = refl
     by_mark (Some m) k =
-        let planned = still_ceremony (planned_as m.0 entry.command.act) (plan_of A m.0) k.0 in
+        let planned = still (planned_as m.0 entry.command.act) (plan_of A m.0) k.0 in
         and_from _ _ planned (and_from (at_most m.1 (greatest (moments_of m.0 (cons_option (Some m) (all_said marked A))))) _ (own m) k.1)
 
 -- WHAT A LATER COMMAND LEAVES AS IT IS

@@ -102,11 +102,10 @@ seated_by A c t (seat ∷ seats) w fit apart =
     grind (arith, fit 0 (omega arith), alone, seated_by A c t seats (λ i. w (suc i)) (λ i l. fit (suc i) (omega (arith, l))) others)
   where
     alone : list_any (same_text (w 0)) (list_by (length seats) (λ i. w (suc i))) ≡ false
-    alone =
-        not_among (w 0) (length seats) (λ i. w (suc i)) (λ i l e. let same : 0 ≡ suc i = apart 0 (suc i) (omega arith) (omega (arith, l)) e in omega (arith, same))
+    alone = not_among (w 0) (length seats) (λ i. w (suc i)) (λ i l e. omega (arith, apart 0 (suc i) (omega arith) (omega (arith, l)) e))
 
     others : (i j : ℕ) → i < length seats → j < length seats → w (suc i) ≡ w (suc j) → i ≡ j
-    others i j l m e = let same : suc i ≡ suc j = apart (suc i) (suc j) (omega (arith, l)) (omega (arith, m)) e in omega (arith, same)
+    others i j l m e = omega (arith, apart (suc i) (suc j) (omega (arith, l)) (omega (arith, m)) e)
 
 -- ONE OF THE TWO
 

@@ -26,6 +26,11 @@ pub there : {X : Type 0} (o : Option X) → is_none o ≡ false → is_some o �
 there None g = absurd (true≢false g)
 there (Some x) g = refl
 
+-- what was there is there whatever is said further
+pub still : {X : Type 0} (o p : Option X) → is_some p ≡ true → is_some (or_else o p) ≡ true
+still None p h = h
+still (Some x) p h = refl
+
 -- a bag that was there before says no more than that it is there
 pub moved_there : (t s : List ℕ) (new : Spot) (old : Option Spot) (here : Bool) → (same_text t s ≡ true → is_some old ≡ true) → here ≡ is_some old
     → here ≡ is_some (or_else (cond (same_text t s) (Some new) None) old)

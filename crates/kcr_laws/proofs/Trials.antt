@@ -126,8 +126,9 @@ least_by_trial A c t seats positions h = record { short = parts.0; least = least
     least part p =
         let q = and_parts (list_all (λ a. list_any (λ b. b == a) positions) part) (nat_lt (length part) (length positions)) p in
         let fewer = ltb-true (length part) (length positions) q.1 in
+        let other = λ (one : List ℕ). not (is_short A c t seats one) in
         not-true (is_short A c t seats part)
-        (shorter_holds (λ a b. b == a) (λ a b e. sym (eqb-true b a e)) positions part (length positions) fewer q.0 (λ one. not (is_short A c t seats one)) parts.1)
+        (shorter_holds (λ a b. b == a) (λ a b e. sym (eqb-true b a e)) positions part (length positions) fewer q.0 other parts.1)
 
 -- COMMANDS
 
