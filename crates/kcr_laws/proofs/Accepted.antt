@@ -1,5 +1,5 @@
 -- What an accepted entry tells: its key was new, nothing refused it, and its answer is the one that the machine gives.
-use Rattle.std.proofs.Common.{◌≡◌, ℕ, true, List, [], ◌∷◌, length, Option, Some, None, MatchOption, inl, inr, refl, ap, arith}
+use Rattle.std.proofs.Common.{◌≡◌, ℕ, true, List, [], ◌∷◌, Option, Some, None, MatchOption, inl, inr}
 use Rattle.kcr_base.specs.declared.refusal.Refusal.{Refusal}
 use Rattle.kcr_history.specs.declared.commands.Act.{Act}
 use Rattle.kcr_history.specs.declared.commands.Answer.{Answer}
@@ -10,6 +10,7 @@ use Rattle.kcr_history.specs.Seating.{IsFirst}
 use Rattle.kcr_history.specs.Texts.{same_command}
 use Rattle.kcr_history.specs.Conditions.{fault}
 use Rattle.kcr_history.specs.Machine.{Outcome, Accepts, Refuses, Sitting, sitting, answer_to, with_command, accepts, seats, acts, repeats, machine, IsRegister}
+use Rattle.kcr_history.proofs.Steps.{took}
 use Rattle.kcr_laws.specs.Examples.{AreSteps, AreAnswered, new_command}
 
 -- the answer, and the first seating where seats are needed
@@ -22,9 +23,6 @@ pub record IsAccepted (A : History) (entry : Entry) : Type 0 where
   pub no_fault : fault A entry.command.act ≡ None
   pub answered : IsAnswerTo A entry.command.act entry.answer (sitting A entry.command.act)
 
-longer : {X : Type 0} (x : X) (xs : List X) → x ∷ xs ≡ xs → ⊥
-longer x xs e = omega (arith, ap length e)
-
 pub same_answer : (a b : Answer) → Accepts a ≡ Accepts b → a ≡ b
 same_answer a b e = cc
 
@@ -35,23 +33,17 @@ pub other_outcome : (a : Answer) (r : Refusal) → Accepts a ≡ Refuses r → �
 other_outcome a r e = absurd (let f : Accepts a ≡ Refuses r = e in cc)
 
 by_seats : (A : History) (entry : Entry) (s : Option Sitting)
-    → MatchOption s (accepts A entry.command (answer_to A entry.command.act None) (Accepts entry.answer) (entry ∷ A)) (λ q. seats A entry.command q (Accepts entry.answer) (entry ∷ A))
+    → MatchOption s (accepts A entry.command (answer_to A entry.command.act None) (Accepts entry.answer) (entry ∷ A))
+    (λ q. seats A entry.command q (Accepts entry.answer) (entry ∷ A))
     → IsAnswerTo A entry.command.act entry.answer s
 by_seats A entry None h = same_answer _ _ h.0
 by_seats A entry (Some s) (inl w) = (w.0, w.1, same_answer _ _ w.2.0)
 by_seats A entry (Some s) (inr w) = absurd (other_outcome _ _ w.2.0)
 
-by_key : (A : History) (entry : Entry) (k : Option Entry) (f : Option Refusal)
-    → MatchOption k (acts A entry.command f (Accepts entry.answer) (entry ∷ A)) (λ kept. repeats A entry.command kept (Accepts entry.answer) (entry ∷ A))
-    → (k ≡ None) × (f ≡ None) × IsAnswerTo A entry.command.act entry.answer (sitting A entry.command.act)
-by_key A entry (Some kept) f h = absurd (longer entry A h.1)
-by_key A entry None (Some refusal) h = absurd (longer entry A h.1)
-by_key A entry None None h = (refl, refl, by_seats A entry (sitting A entry.command.act) h)
-
 pub accepted : (A : History) (entry : Entry) → machine A entry.command (Accepts entry.answer) (entry ∷ A) → IsAccepted A entry
 accepted A entry h =
-    let t = by_key A entry (entry_of A entry.command.key) (fault A entry.command.act) h in
-    record { new_key = t.0; no_fault = t.1; answered = t.2 }
+    let t = took A entry h in
+    record { new_key = t.new_key; no_fault = t.no_fault; answered = by_seats A entry (sitting A entry.command.act) (rw (t.new_key, t.no_fault) at h) }
 
 -- an entry by its parts
 abbrev pub one : List ℕ → Act → Answer → Entry

@@ -1,7 +1,5 @@
 -- In every register, at no moment is exactly one person, or more than 128, in a room.
-use Rattle.kcr_laws.proofs.Crowding.{crowd_holds, never_told}
-use Rattle.kcr_laws.proofs.Refused.{none_with}
-use Rattle.std.proofs.Common.{◌≡◌, ℕ, Bool, true, false, ◌==◌, List, [], ◌∷◌, ◌++◌, map, length, Some, None, refl, sym, ap, ◌∙◌, subst, arith, inl, inr}
+use Rattle.std.proofs.Common.{◌≡◌, ℕ, Bool, true, false, ◌==◌, List, ◌∷◌, ◌++◌, map, length, Some, None, refl, sym, ap, ◌∙◌, subst, arith, inl, inr}
 use Rattle.std.proofs.lemmas.Bool.{eqb-true, cases_lt}
 use Rattle.kcr_base.proofs.RefuseLemmas.{unmet}
 use Rattle.kcr_base.specs.declared.refusal.Refusal.TheVariants.{Turn, Crowd}
@@ -13,13 +11,14 @@ use Rattle.kcr_room.specs.Laws.{IsAllowed}
 use Rattle.kcr_history.specs.declared.commands.Act.{Act}
 use Rattle.kcr_history.specs.declared.commands.Act.TheVariants.{Sheet}
 use Rattle.kcr_history.specs.declared.commands.Answer.{Answer}
-use Rattle.kcr_history.specs.declared.commands.Entry.{Entry}
 use Rattle.kcr_history.specs.History.{History}
 use Rattle.kcr_history.specs.Room.{sheet}
 use Rattle.kcr_history.specs.Conditions.{fault, first_with, out_of_turn, crowded, lone}
 use Rattle.kcr_history.specs.Machine.{IsRegister}
-use Rattle.kcr_laws.proofs.Accepted.{accepted}
+use Rattle.kcr_laws.proofs.Accepted.{one, each_register}
 use Rattle.kcr_laws.proofs.Rooms.{HaveTurns, in_other, same_room}
+use Rattle.kcr_laws.proofs.Crowding.{crowd_holds, never_told}
+use Rattle.kcr_laws.proofs.Refused.{none_with}
 
 -- of people of whom none is refused each has the turn
 pub turns : (A : History) (c : ℕ) (way : Way) (at : ℕ) (people : List (List ℕ)) → first_with (out_of_turn A c way at) people ≡ None
@@ -36,9 +35,6 @@ own_room rows c k l t = (
   ],
 )
 
-abbrev one : List ℕ → Act → Answer → Entry
-one key act answer = record { command = record { key = key; act = act }; answer = answer }
-
 room_after : (A : History) (key : List ℕ) (act : Act) (answer : Answer) (c t : ℕ) → fault A act ≡ None → IsAllowed (crowd_by (sheet A) c t)
     → IsAllowed (crowd_by (sheet (one key act answer ∷ A)) c t)
 room_after A key (Sheet d way people at) answer c t f ih = by_ceremony (d == c) refl
@@ -53,5 +49,5 @@ room_after A key (Sheet d way people at) answer c t f ih = by_ceremony (d == c) 
 room_after A key act answer c t f ih = ih
 
 pub rooms : (A : History) → IsRegister A → (c t : ℕ) → IsAllowed (crowd_by (sheet A) c t)
-rooms [] h c t = (λ e. omega (arith, e), omega arith)
-rooms (entry ∷ A) h c t = room_after A entry.command.key entry.command.act entry.answer c t (accepted A entry h.0).no_fault (rooms A h.1 c t)
+rooms A h c t =
+    each_register (λ B. IsAllowed (crowd_by (sheet B) c t)) (λ e. omega (arith, e), omega arith) (λ B key act answer r a. room_after B key act answer c t a.no_fault) A h

@@ -1,5 +1,4 @@
 -- In every register items are neither lost nor doubled.
-use Rattle.kcr_room.proofs.Lists.{any-same}
 use Rattle.std.proofs.Common.{◌≡◌, ℕ, true, ◌||◌, List, ◌∷◌, Option, Some, None, option_map, refl, sym, ◌∙◌, arith}
 use Rattle.std.specs.Prelude.{is_some}
 use Rattle.std.specs.List.{list_any}
@@ -17,6 +16,7 @@ use Rattle.kcr_custody.specs.declared.Spot.TheVariants.{Table, Equipment, InBox,
 use Rattle.kcr_custody.specs.declared.Store.TheVariants.{SafeOne, Boxed}
 use Rattle.kcr_custody.specs.Balance.{all_differ}
 use Rattle.kcr_room.proofs.Agreement.{same-itself, same-turned}
+use Rattle.kcr_room.proofs.Lists.{any-same}
 use Rattle.kcr_history.specs.declared.commands.Act.{Act}
 use Rattle.kcr_history.specs.declared.commands.Act.TheVariants.{AddItem, Seal, Take, Put, Cut}
 use Rattle.kcr_history.specs.declared.commands.Answer.{Answer}

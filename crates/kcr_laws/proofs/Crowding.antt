@@ -1,5 +1,4 @@
 -- When a room would be too full, and when somebody would be alone in it.
-use Rattle.kcr_laws.proofs.Refused.{kind, IsOther, AreOther, other_when, other_of_all, of_the_one}
 use Rattle.std.proofs.Common.{◌≡◌, ℕ, Bool, true, false, ◌==◌, nat_lt, nat_le, List, [], ◌∷◌, Option, Some, None, option_map, refl, ap, inl, inr, arith}
 use Rattle.std.proofs.lemmas.Bool.{both_ways, ltb-true, lt-ltb, eqb-true, eqb-false, eq-eqb, cases_order}
 use Rattle.kcr_base.specs.Refuse.{when}
@@ -18,6 +17,7 @@ use Rattle.kcr_history.specs.Ceremonies.{mark}
 use Rattle.kcr_history.specs.Room.{sheet, sheet_after}
 use Rattle.kcr_history.specs.Conditions.{fault, is_full, no_ceremony, no_person, not_open, not_later, first_with, is_not_later, named_twice, first_twice, out_of_turn, crowded, lone, is_overfull}
 use Rattle.kcr_laws.specs.Conditions.{IsEverCrowded, IsFirstAlone, IsNeverAlone}
+use Rattle.kcr_laws.proofs.Refused.{kind, IsOther, AreOther, other_when, other_of_all, of_the_one}
 
 -- MORE THAN 128
 

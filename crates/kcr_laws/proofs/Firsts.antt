@@ -48,7 +48,8 @@ module _ (A : History) (c t : ℕ) where
   -- there is a first one, or there is none
   abbrev Found : List Seat → List (List ℕ) → (List (List ℕ) → Bool) → Type 0
   Found seats taken test =
-      ((people : List (List ℕ)) × IsFirstOf seats taken test people) ⊎ ((others : List (List ℕ)) → is_free_seating seats taken others ≡ true → test others ≡ true → ⊥)
+      ((people : List (List ℕ)) × IsFirstOf seats taken test people)
+      ⊎ ((others : List (List ℕ)) → is_free_seating seats taken others ≡ true → test others ≡ true → ⊥)
 
   -- what a seating of free people tells of its first one and of the others
   record IsLed (seat : Seat) (seats : List Seat) (taken : List (List ℕ)) (who : List ℕ) (people : List (List ℕ)) : Type 0 where

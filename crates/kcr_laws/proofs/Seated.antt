@@ -1,11 +1,9 @@
 -- A later command never makes an earlier seating wrong.
-use Rattle.kcr_base.specs.declared.place.Place.{Place}
-use Rattle.kcr_base.specs.declared.place.Role.{Role}
-use Rattle.std.proofs.lemmas.Bool.Decides.{nat_tests}
 use Rattle.std.proofs.Common.{◌≡◌, ℕ, ◌<◌, ◌≤◌, Bool, true, false, ◌||◌, ◌&&◌, ◌==◌, nat_le, List, [], ◌∷◌, map, filter, Option, Some, None, MatchOption, option_map, refl, sym, ap, ◌∙◌, arith, inl, inr}
 use Rattle.std.specs.Prelude.{unwrap_or, is_some}
 use Rattle.std.specs.List.{list_any, list_all, filter_map, cons_option}
 use Rattle.std.proofs.lemmas.Bool.{true≢false, and_parts, and_from, eqb-true, eq-eqb, leb-true, le-leb, false≢true, or_left, or_right, or_cases}
+use Rattle.std.proofs.lemmas.Bool.Decides.{nat_tests}
 use Rattle.kcr_base.proofs.RefuseLemmas.{none_holds, unmet}
 use Rattle.kcr_base.specs.Days.{day_of}
 use Rattle.kcr_base.specs.Rows.{or_else}
@@ -15,6 +13,8 @@ use Rattle.kcr_base.specs.declared.place.Facility.TheVariants.{East}
 use Rattle.kcr_base.specs.declared.place.Role.TheVariants.{Ca, Iw}
 use Rattle.kcr_base.specs.declared.place.Place.TheVariants as Places
 use Rattle.kcr_base.specs.declared.refusal.Refusal.TheVariants.{Taken}
+use Rattle.kcr_base.specs.declared.place.Place.{Place}
+use Rattle.kcr_base.specs.declared.place.Role.{Role}
 use Rattle.kcr_room.proofs.Lists.{any-same}
 use Rattle.kcr_script.specs.declared.seat.Seat.{Seat}
 use Rattle.kcr_script.specs.declared.seat.Seat.TheVariants.{Staff, AnyCo, AnyRksh, Co, Rksh}
@@ -123,7 +123,8 @@ abbrev is_past_with : History → Act → Option (ℕ × ℕ) → Option (ℕ ×
 is_past_with A act o None = true
 is_past_with A act o (Some m) =
     is_some (or_else (planned_as m.0 act) (plan_of A m.0))
-    && (at_most m.1 (greatest (moments_of m.0 (cons_option o (all_said marked A)))) && was_opened m.0 (cons_option (opened_number act) (all_said opened_number A)))
+    && (at_most m.1 (greatest (moments_of m.0 (cons_option o (all_said marked A))))
+    && was_opened m.0 (cons_option (opened_number act) (all_said opened_number A)))
 
 -- once it is accepted its moment is past
 now_past : (A : History) (entry : Entry) → fault A entry.command.act ≡ None → is_past_if (entry ∷ A) (marked entry.command.act) ≡ true
