@@ -1,5 +1,5 @@
 -- Each step of a ceremony is signed or passed once, and in order.
-use Rattle.std.proofs.Common.{◌≡◌, ◌≢◌, ℕ, suc, Bool, true, false, cond, ◌&&◌, nat_le, List, [], ◌∷◌, filter, length, Option, Some, None, refl, sym, ap, ◌∙◌, arith, inl, inr}
+use Rattle.std.proofs.Common.{◌≡◌, ℕ, suc, Bool, true, false, cond, ◌&&◌, nat_le, List, [], ◌∷◌, filter, length, Option, Some, None, refl, sym, ap, ◌∙◌, arith, inl, inr}
 use Rattle.std.specs.Prelude.{is_some, ◌==◌}
 use Rattle.std.proofs.lemmas.Bool.{both_ways, lt-leb, eqb-true, and_right, cases_Bool}
 use Rattle.std.proofs.lemmas.Bool.Decides.{nat_tests}
@@ -26,9 +26,7 @@ count-cons p x xs = grind arith
 pub next_signed : (A : History) (d k at : ℕ) → fault A (Sign d k at) ≡ None → k ≡ suc (steps_done A d)
 next_signed A d k at f = grind (arith, nat_tests)
 
-pub same_order : (k n : ℕ) → k ≢ suc n → nat_le k (suc n) ≡ nat_le k n
-same_order k n ne = grind (arith, nat_tests)
-
+-- a command that does the step after the n steps done so far tells of it, and of no other
 pub advance : {F : Type 0} (n k step : ℕ) (m : Bool) → (step == k) ≡ m → step ≡ suc n → (fate : Option F) (new : F) → is_some fate ≡ (nat_le 1 k && nat_le k n)
     → is_some (or_else (cond m (Some new) None) fate) ≡ (nat_le 1 k && nat_le k (suc n))
 advance n k step m e s fate new ih = grind (arith, nat_tests)
