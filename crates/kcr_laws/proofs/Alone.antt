@@ -50,4 +50,5 @@ room_after A key act answer c t f ih = ih
 
 pub rooms : (A : History) → IsRegister A → (c t : ℕ) → IsAllowed (crowd_by (sheet A) c t)
 rooms A h c t =
-    each_register (λ B. IsAllowed (crowd_by (sheet B) c t)) (λ e. omega (arith, e), omega arith) (λ B key act answer r a. room_after B key act answer c t a.no_fault) A h
+    each_register (λ B. IsAllowed (crowd_by (sheet B) c t)) (λ e. omega (arith, e), omega arith)
+    (λ B key act answer r a. room_after B key act answer c t a.no_fault) A h

@@ -1,13 +1,13 @@
 -- In every register items are neither lost nor doubled.
-use Rattle.std.proofs.Common.{◌≡◌, ℕ, true, ◌||◌, List, ◌∷◌, Option, Some, None, option_map, refl, sym, ◌∙◌, arith}
+use Rattle.std.proofs.Common.{◌≡◌, ℕ, true, ◌||◌, List, ◌∷◌, Option, Some, None, option_map, refl, sym, ◌∙◌, arith, false}
 use Rattle.std.specs.Prelude.{is_some}
 use Rattle.std.specs.List.{list_any}
 use Rattle.std.proofs.lemmas.Bool.{true≢false, and_from, false≢true, or_right}
-use Rattle.kcr_base.proofs.RefuseLemmas.{none_holds, unmet}
+use Rattle.kcr_base.proofs.RefuseLemmas.{unmet}
 use Rattle.kcr_base.specs.Rows.{or_else}
 use Rattle.kcr_base.specs.Same.{same_text}
 use Rattle.kcr_base.specs.declared.place.Facility.{Facility}
-use Rattle.kcr_base.specs.declared.refusal.Refusal.TheVariants.{Unknown, Taken}
+use Rattle.kcr_base.specs.declared.refusal.Refusal.TheVariants.{Unknown}
 use Rattle.kcr_base.specs.declared.refusal.Thing.TheVariants as Things
 use Rattle.kcr_custody.specs.declared.Rest.{Rest}
 use Rattle.kcr_custody.specs.declared.Rest.TheVariants.{Loose}
@@ -25,7 +25,7 @@ use Rattle.kcr_history.specs.History.{History, all_said, last_said, last_told}
 use Rattle.kcr_history.specs.Ceremonies.{facility_of}
 use Rattle.kcr_history.specs.Custody.{moved, spot, sealed_in, added_at, rest_in, rest, boxed, place_of_box}
 use Rattle.kcr_history.specs.Tables.{sealed_serial, added_item}
-use Rattle.kcr_history.specs.Conditions.{conditions, fault, no_item, first_with}
+use Rattle.kcr_history.specs.Conditions.{fault, no_item, first_with}
 use Rattle.kcr_history.specs.Machine.{IsRegister}
 use Rattle.kcr_history.specs.Laws.{is_added, is_kept, has_its_box, is_in_place, were_in_place, IsBalanced}
 use Rattle.kcr_laws.proofs.Accepted.{IsAccepted, one, each_history, each_register}
@@ -41,7 +41,8 @@ sealed_is A r serial = any-same (same_text serial) (λ k. same_text k serial) (a
 sealed_after : (A : History) (key : List ℕ) (act : Act) (answer : Answer) → IsRegister A → IsAccepted A (one key act answer)
     → all_differ (all_said sealed_serial A) ≡ true → all_differ (all_said sealed_serial (one key act answer ∷ A)) ≡ true
 sealed_after A key (Seal c s items at) answer r a ih =
-    let free = unmet (is_some (spot A s)) Taken (none_holds (conditions A (Seal c s items at)) a.no_fault).1.1.0 in
+    let f : fault A (Seal c s items at) ≡ None = a.no_fault in
+    let free : is_some (spot A s) ≡ false = grind arith in
     grind (arith, sealed_is A r s, free, ih)
 sealed_after A key act answer r a ih = ih
 
@@ -83,7 +84,9 @@ sealed_added_after : (A : History) (key : List ℕ) (act : Act) (answer : Answer
     → is_some (sealed (one key act answer ∷ A) item) ≡ true → is_added (one key act answer ∷ A) item ≡ true
 sealed_added_after A key (AddItem c i at) answer item a ih h = or_right (same_text item i) (is_added A item) (ih h)
 sealed_added_after A key (Seal c serial items at) answer item a ih h =
-    grind (arith, ih, rest_added A item ih, not_unknown A items item (none_holds (conditions A (Seal c serial items at)) a.no_fault).1.0)
+    let f : fault A (Seal c serial items at) ≡ None = a.no_fault in
+    let known : first_with (no_item A) items ≡ None = grind arith in
+    grind (arith, ih, rest_added A item ih, not_unknown A items item known)
 sealed_added_after A key act answer item a ih h = ih h
 
 sealed_added : (A : History) → IsRegister A → (item : List ℕ) → is_some (sealed A item) ≡ true → is_added A item ≡ true
@@ -94,7 +97,8 @@ sealed_added A h item =
 added_after : (A : History) (key : List ℕ) (act : Act) (answer : Answer) → IsRegister A → IsAccepted A (one key act answer)
     → all_differ (all_said added_item A) ≡ true → all_differ (all_said added_item (one key act answer ∷ A)) ≡ true
 added_after A key (AddItem c i at) answer r a ih =
-    let free = unmet (is_some (rest A i)) Taken (none_holds (conditions A (AddItem c i at)) a.no_fault).1.0 in
+    let f : fault A (AddItem c i at) ≡ None = a.no_fault in
+    let free : is_some (rest A i) ≡ false = grind arith in
     grind (arith, has_rest A i, free, added_is A i, ih)
 added_after A key act answer r a ih = ih
 

@@ -4,7 +4,6 @@ use Rattle.std.specs.Prelude.{unwrap_or, is_some}
 use Rattle.std.specs.List.{list_any, list_all, filter_map, cons_option}
 use Rattle.std.proofs.lemmas.Bool.{true≢false, and_parts, and_from, eqb-true, eq-eqb, leb-true, le-leb, false≢true, or_left, or_right, or_cases}
 use Rattle.std.proofs.lemmas.Bool.Decides.{nat_tests}
-use Rattle.kcr_base.proofs.RefuseLemmas.{none_holds, unmet}
 use Rattle.kcr_base.specs.Days.{day_of}
 use Rattle.kcr_base.specs.Rows.{or_else}
 use Rattle.kcr_base.specs.Same.{is_this}
@@ -12,7 +11,6 @@ use Rattle.kcr_base.specs.declared.place.Facility.{Facility}
 use Rattle.kcr_base.specs.declared.place.Facility.TheVariants.{East}
 use Rattle.kcr_base.specs.declared.place.Role.TheVariants.{Ca, Iw}
 use Rattle.kcr_base.specs.declared.place.Place.TheVariants as Places
-use Rattle.kcr_base.specs.declared.refusal.Refusal.TheVariants.{Taken}
 use Rattle.kcr_base.specs.declared.place.Place.{Place}
 use Rattle.kcr_base.specs.declared.place.Role.{Role}
 use Rattle.kcr_room.proofs.Lists.{any-same}
@@ -28,7 +26,7 @@ use Rattle.kcr_history.specs.Ceremonies.{Planned, planned_as, plan_of, is_ceremo
 use Rattle.kcr_history.specs.Room.{sheet, is_in}
 use Rattle.kcr_history.specs.Seating.{fits, eligible, is_seating, one_to_seven}
 use Rattle.kcr_history.specs.Tables.{seats_at}
-use Rattle.kcr_history.specs.Conditions.{conditions, fault, is_not_later}
+use Rattle.kcr_history.specs.Conditions.{fault, is_not_later}
 use Rattle.kcr_history.specs.Machine.{sitting, IsRegister}
 use Rattle.kcr_history.specs.Laws.{is_seated, are_seated}
 use Rattle.kcr_laws.proofs.Accepted.{IsAnswerTo, accepted, one, each_history}
@@ -145,7 +143,7 @@ now_past A entry f = by_mark (marked entry.command.act) (marks_known A entry.com
 -- no ceremony is planned twice
 not_planned : (A : History) (act : Act) (c : ℕ) → fault A act ≡ None → is_ceremony A c ≡ true → planned_as c act ≡ None
 not_planned A (Plan number facility day script) c f k =
-    let taken : is_ceremony A number ≡ false = unmet (is_ceremony A number) Taken (none_holds (conditions A (Plan number facility day script)) f).0 in
+    let taken : is_ceremony A number ≡ false = grind arith in
     grind (arith, nat_tests, ap (is_ceremony A))
 not_planned A act c f k = refl
 
