@@ -2,6 +2,8 @@
 import os
 import re
 
+from table_layout import laid_out
+
 TABLES_CRATE = "kcr_tables"
 CELLS_CRATE = "kcr_cells"
 
@@ -36,6 +38,8 @@ def without_unused(text):
 def write(path, text, crate=TABLES_CRATE):
     path = os.path.join("crates", crate, path)
     text = without_unused(text)
+    if path.endswith(".antt"):
+        text = laid_out(text)
     os.makedirs(os.path.dirname(path), exist_ok=True)
     with open(path, "w") as f:
         f.write(text if text.endswith("\n") else text + "\n")

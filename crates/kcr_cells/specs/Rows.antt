@@ -49,13 +49,15 @@ abbrev pub item_row : Item → Row
 item_row x = Text x.code ∷ loose_value x.rest ∷ within_value x.rest ∷ []
 
 abbrev pub ceremony_row : CeremonyRow → Row
-ceremony_row x = Int (pos x.number) ∷ Text (facility_text x.facility) ∷ Int (pos x.day) ∷ Int (pos (ceremony_number x.state)) ∷ int_or_null x.opened ∷ int_or_null x.closed ∷ []
+ceremony_row x = Int (pos x.number) ∷ Text (facility_text x.facility) ∷ Int (pos x.day)
+    ∷ Int (pos (ceremony_number x.state)) ∷ int_or_null x.opened ∷ int_or_null x.closed ∷ []
 
 abbrev pub mark_row : MarkRow → Row
 mark_row x = Int (pos x.ceremony) ∷ Int (pos x.at) ∷ []
 
 abbrev pub step_row : StepRow → Row
-step_row x = Int (pos x.ceremony) ∷ Int (pos x.step) ∷ Text x.activity ∷ Text (written x.seats) ∷ Int (pos (step_number x.state)) ∷ int_or_null x.at ∷ []
+step_row x = Int (pos x.ceremony) ∷ Int (pos x.step) ∷ Text x.activity ∷ Text (written x.seats)
+    ∷ Int (pos (step_number x.state)) ∷ int_or_null x.at ∷ []
 
 abbrev pub seating_row : SeatingRow → Row
 seating_row x = Int (pos x.ceremony) ∷ Int (pos x.step) ∷ Int (pos x.seat) ∷ Text x.who ∷ []
@@ -64,7 +66,8 @@ abbrev pub sheet_row : SheetRow → Row
 sheet_row x = Text x.who ∷ Int (pos x.at) ∷ Int (pos x.ceremony) ∷ Int (pos (way_number x.way)) ∷ []
 
 abbrev pub exception_row : ExceptionRow → Row
-exception_row x = Int (pos x.ceremony) ∷ Int (pos x.exception) ∷ Text x.text ∷ Int (pos x.at) ∷ int_or_null x.passed ∷ []
+exception_row x = Int (pos x.ceremony) ∷ Int (pos x.exception) ∷ Text x.text ∷ Int (pos x.at) ∷ int_or_null x.passed
+    ∷ []
 
 abbrev pub version_row : Version → Row
 version_row x = Int (pos x.number) ∷ []

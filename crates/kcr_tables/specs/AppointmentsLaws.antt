@@ -29,7 +29,10 @@ use Rattle.kcr_cells.proofs.StateLemmas.{cast_or_null}
 use Rattle.kcr_cells.specs.Rows.{appointment_row}
 use Rattle.kcr_people.specs.declared.Appointment.{Appointment}
 use Rattle.kcr_tables.specs.Schema.{register_schema}
-use Rattle.kcr_tables.specs.Held.{Tables, Kept, people_place, trainings_place, appointments_place, boxes_place, safes_place, bags_place, items_place, ceremonies_place, marks_place, steps_place, seatings_place, sheet_place, exceptions_place, versions_place, keys_place, stays_place, withdrawals_place}
+use Rattle.kcr_tables.specs.Held.{Tables, Kept, people_place, trainings_place, appointments_place, boxes_place}
+use Rattle.kcr_tables.specs.Held.{safes_place, bags_place, items_place, ceremonies_place, marks_place, steps_place}
+use Rattle.kcr_tables.specs.Held.{seatings_place, sheet_place, exceptions_place, versions_place, keys_place}
+use Rattle.kcr_tables.specs.Held.{stays_place, withdrawals_place}
 use Rattle.kcr_tables.specs.Parts.{text_in, number_in}
 use Rattle.kcr_tables.specs.Statements.{ShowsRows, PutsRow}
 use Rattle.kcr_tables.specs.Table.{Table, IsTable, Finding, IsFinding}
@@ -66,12 +69,15 @@ lists = record { test = []; project = project; order = order; names = names; is 
 abbrev pub appointments_to : Finding (List ℕ) Appointment
 appointments_to = record { is_under = λ place x. same_text (place_text x.place) place; column = 0; find_sql = codes "SELECT place, since, who, until FROM appointments WHERE place = ?1 ORDER BY place, since" }
 
-shows_appointments_to : (place : List ℕ) → ShowsRows appointments_to.find_sql appointments_place (Text place ∷ []) (has_value 0 (Text place))
+shows_appointments_to : (place : List ℕ)
+    → ShowsRows appointments_to.find_sql appointments_place (Text place ∷ []) (has_value 0 (Text place))
 unfolding understood everything
 shows_appointments_to place = record { test = op2 (Compare Eq Binary) (col 1 1) (col 0 0) ∷ []; project = project; order = order; names = names; is = (refl, refl); bare = (refl, refl); shows = λ r. refl; tests = λ r. refl; sorts = λ a b. refl; low = refl }
 
-under_appointments_to : (place : List ℕ) (x : Appointment) → has_value 0 (Text place) (appointment_row x) ≡ same_text (place_text x.place) place
-under_appointments_to place x = value_is (Text (place_text x.place)) (Text place) refl refl ∙ sym (text_ties (place_text x.place) place)
+under_appointments_to : (place : List ℕ) (x : Appointment)
+    → has_value 0 (Text place) (appointment_row x) ≡ same_text (place_text x.place) place
+under_appointments_to place x = value_is (Text (place_text x.place)) (Text place) refl refl
+    ∙ sym (text_ties (place_text x.place) place)
 
 pub appointments_to_laws : IsFinding appointments_to appointments_place Text appointment_row
 appointments_to_laws = record { finds = shows_appointments_to; under = under_appointments_to }
@@ -81,11 +87,13 @@ appointments_to_laws = record { finds = shows_appointments_to; under = under_app
 abbrev pub appointments_of : Finding (List ℕ) Appointment
 appointments_of = record { is_under = λ who x. is_appointment_of (Wanted.Person who) x; column = 2; find_sql = codes "SELECT place, since, who, until FROM appointments WHERE who = ?1 ORDER BY place, since" }
 
-shows_appointments_of : (who : List ℕ) → ShowsRows appointments_of.find_sql appointments_place (Text who ∷ []) (has_value 2 (Text who))
+shows_appointments_of : (who : List ℕ)
+    → ShowsRows appointments_of.find_sql appointments_place (Text who ∷ []) (has_value 2 (Text who))
 unfolding understood everything
 shows_appointments_of who = record { test = op2 (Compare Eq Binary) (col 1 3) (col 0 0) ∷ []; project = project; order = order; names = names; is = (refl, refl); bare = (refl, refl); shows = λ r. refl; tests = λ r. refl; sorts = λ a b. refl; low = refl }
 
-under_appointments_of : (who : List ℕ) (x : Appointment) → has_value 2 (Text who) (appointment_row x) ≡ is_appointment_of (Wanted.Person who) x
+under_appointments_of : (who : List ℕ) (x : Appointment)
+    → has_value 2 (Text who) (appointment_row x) ≡ is_appointment_of (Wanted.Person who) x
 under_appointments_of who x = value_is (Text x.who) (Text who) refl refl ∙ sym (text_ties x.who who)
 
 pub appointments_of_laws : IsFinding appointments_of appointments_place Text appointment_row
@@ -123,8 +131,10 @@ puts = record {
 }
 
 -- the other tables stay where the rows of this one are changed
-pub still : (old new : Trees) (rows : List Appointment) (t : Tables) → IsSound register_schema new → Keeps appointments_place new (map appointment_row rows) → AllByRecursion (λ _. ⊤) rows
-    → ((tree : ℕ) → tree ≢ 4 → IsNoIndex register_schema tree → new tree ≡ old tree) → Kept old t → Kept new (record t { appointments = rows })
+pub still : (old new : Trees) (rows : List Appointment) (t : Tables) → IsSound register_schema new
+    → Keeps appointments_place new (map appointment_row rows) → AllByRecursion (λ _. ⊤) rows
+    → ((tree : ℕ) → tree ≢ 4 → IsNoIndex register_schema tree → new tree ≡ old tree) → Kept old t
+    → Kept new (record t { appointments = rows })
 still old new rows t sound keeps stored others k = record {
   sound = sound;
   people = keeps_still register_schema 4 people_place old new _ others refl refl k.people;

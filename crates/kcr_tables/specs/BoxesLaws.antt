@@ -24,7 +24,10 @@ use Rattle.kcr_base.specs.Facility.{facility_text}
 use Rattle.kcr_cells.specs.Rows.{box_row}
 use Rattle.kcr_custody.specs.declared.BoxRow.{BoxRow}
 use Rattle.kcr_tables.specs.Schema.{register_schema}
-use Rattle.kcr_tables.specs.Held.{Tables, Kept, people_place, trainings_place, appointments_place, boxes_place, safes_place, bags_place, items_place, ceremonies_place, marks_place, steps_place, seatings_place, sheet_place, exceptions_place, versions_place, keys_place, stays_place, withdrawals_place}
+use Rattle.kcr_tables.specs.Held.{Tables, Kept, people_place, trainings_place, appointments_place, boxes_place}
+use Rattle.kcr_tables.specs.Held.{safes_place, bags_place, items_place, ceremonies_place, marks_place, steps_place}
+use Rattle.kcr_tables.specs.Held.{seatings_place, sheet_place, exceptions_place, versions_place, keys_place}
+use Rattle.kcr_tables.specs.Held.{stays_place, withdrawals_place}
 use Rattle.kcr_tables.specs.Parts.{text_in, number_in}
 use Rattle.kcr_tables.specs.Statements.{ShowsRows, PutsRow}
 use Rattle.kcr_tables.specs.Table.{Table, IsTable}
@@ -88,8 +91,10 @@ puts = record {
 }
 
 -- the other tables stay where the rows of this one are changed
-pub still : (old new : Trees) (rows : List BoxRow) (t : Tables) → IsSound register_schema new → Keeps boxes_place new (map box_row rows) → AllByRecursion (λ _. ⊤) rows
-    → ((tree : ℕ) → tree ≢ 6 → IsNoIndex register_schema tree → new tree ≡ old tree) → Kept old t → Kept new (record t { boxes = rows })
+pub still : (old new : Trees) (rows : List BoxRow) (t : Tables) → IsSound register_schema new
+    → Keeps boxes_place new (map box_row rows) → AllByRecursion (λ _. ⊤) rows
+    → ((tree : ℕ) → tree ≢ 6 → IsNoIndex register_schema tree → new tree ≡ old tree) → Kept old t
+    → Kept new (record t { boxes = rows })
 still old new rows t sound keeps stored others k = record {
   sound = sound;
   people = keeps_still register_schema 6 people_place old new _ others refl refl k.people;

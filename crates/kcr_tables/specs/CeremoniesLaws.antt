@@ -28,7 +28,10 @@ use Rattle.kcr_cells.specs.States.{ceremony_number}
 use Rattle.kcr_cells.specs.Rows.{ceremony_row}
 use Rattle.kcr_history.specs.declared.rows.CeremonyRow.{CeremonyRow}
 use Rattle.kcr_tables.specs.Schema.{register_schema}
-use Rattle.kcr_tables.specs.Held.{Tables, Kept, people_place, trainings_place, appointments_place, boxes_place, safes_place, bags_place, items_place, ceremonies_place, marks_place, steps_place, seatings_place, sheet_place, exceptions_place, versions_place, keys_place, stays_place, withdrawals_place}
+use Rattle.kcr_tables.specs.Held.{Tables, Kept, people_place, trainings_place, appointments_place, boxes_place}
+use Rattle.kcr_tables.specs.Held.{safes_place, bags_place, items_place, ceremonies_place, marks_place, steps_place}
+use Rattle.kcr_tables.specs.Held.{seatings_place, sheet_place, exceptions_place, versions_place, keys_place}
+use Rattle.kcr_tables.specs.Held.{stays_place, withdrawals_place}
 use Rattle.kcr_tables.specs.Parts.{text_in, number_in}
 use Rattle.kcr_tables.specs.Statements.{ShowsRows, PutsRow}
 use Rattle.kcr_tables.specs.Table.{Table, IsTable, Finding, IsFinding}
@@ -65,12 +68,15 @@ lists = record { test = []; project = project; order = order; names = names; is 
 abbrev pub ceremony_of : Finding (ℕ) CeremonyRow
 ceremony_of = record { is_under = λ number x. is_of_number number x; column = 0; find_sql = codes "SELECT number, facility, day, state, opened, closed FROM ceremonies WHERE number = ?1 ORDER BY number" }
 
-shows_ceremony_of : (number : ℕ) → ShowsRows ceremony_of.find_sql ceremonies_place (Int (pos number) ∷ []) (has_value 0 (Int (pos number)))
+shows_ceremony_of : (number : ℕ)
+    → ShowsRows ceremony_of.find_sql ceremonies_place (Int (pos number) ∷ []) (has_value 0 (Int (pos number)))
 unfolding understood everything
 shows_ceremony_of number = record { test = op2 (Compare Eq Binary) (col 1 1) (col 0 0) ∷ []; project = project; order = order; names = names; is = (refl, refl); bare = (refl, refl); shows = λ r. refl; tests = λ r. refl; sorts = λ a b. refl; low = refl }
 
-under_ceremony_of : (number : ℕ) (x : CeremonyRow) → has_value 0 (Int (pos number)) (ceremony_row x) ≡ is_of_number number x
-under_ceremony_of number x = value_is (Int (pos x.number)) (Int (pos number)) refl refl ∙ sym (number_ties x.number number)
+under_ceremony_of : (number : ℕ) (x : CeremonyRow)
+    → has_value 0 (Int (pos number)) (ceremony_row x) ≡ is_of_number number x
+under_ceremony_of number x = value_is (Int (pos x.number)) (Int (pos number)) refl refl
+    ∙ sym (number_ties x.number number)
 
 pub ceremony_of_laws : IsFinding ceremony_of ceremonies_place (λ n. Int (pos n)) ceremony_row
 ceremony_of_laws = record { finds = shows_ceremony_of; under = under_ceremony_of }
@@ -85,7 +91,8 @@ unfolding understood everything
 puts = record {
   at = 7;
   name = codes "ceremonies";
-  columns = number (codes "number") ∷ words (codes "facility") ∷ number (codes "day") ∷ number (codes "state") ∷ number_or_null (codes "opened") ∷ number_or_null (codes "closed") ∷ [];
+  columns = number (codes "number") ∷ words (codes "facility") ∷ number (codes "day") ∷ number (codes "state")
+      ∷ number_or_null (codes "opened") ∷ number_or_null (codes "closed") ∷ [];
   others = [];
   terms = lit Null ∷ col 0 0 ∷ col 0 1 ∷ col 0 2 ∷ col 0 3 ∷ col 0 4 ∷ col 0 5 ∷ [];
   test = op2 (Compare Eq Binary) (col 1 0) (col 0 6) ∷ [];
@@ -96,7 +103,8 @@ puts = record {
   fulls = λ a. refl;
   bare = (refl, refl);
   given = λ x. refl;
-  casts = λ x i. cast_int (pos x.number) i ∷ Text (facility_text x.facility) ∷ cast_int (pos x.day) i ∷ cast_int (pos (ceremony_number x.state)) i ∷ cast_or_null x.opened i ∷ cast_or_null x.closed i ∷ [];
+  casts = λ x i. cast_int (pos x.number) i ∷ Text (facility_text x.facility) ∷ cast_int (pos x.day) i
+      ∷ cast_int (pos (ceremony_number x.state)) i ∷ cast_or_null x.opened i ∷ cast_or_null x.closed i ∷ [];
   shown = λ x id. refl;
   filled = λ x. refl;
   tests = λ x entries there r. refl;
@@ -107,8 +115,10 @@ puts = record {
 }
 
 -- the other tables stay where the rows of this one are changed
-pub still : (old new : Trees) (rows : List CeremonyRow) (t : Tables) → IsSound register_schema new → Keeps ceremonies_place new (map ceremony_row rows) → AllByRecursion (λ _. ⊤) rows
-    → ((tree : ℕ) → tree ≢ 15 → IsNoIndex register_schema tree → new tree ≡ old tree) → Kept old t → Kept new (record t { ceremonies = rows })
+pub still : (old new : Trees) (rows : List CeremonyRow) (t : Tables) → IsSound register_schema new
+    → Keeps ceremonies_place new (map ceremony_row rows) → AllByRecursion (λ _. ⊤) rows
+    → ((tree : ℕ) → tree ≢ 15 → IsNoIndex register_schema tree → new tree ≡ old tree) → Kept old t
+    → Kept new (record t { ceremonies = rows })
 still old new rows t sound keeps stored others k = record {
   sound = sound;
   people = keeps_still register_schema 15 people_place old new _ others refl refl k.people;

@@ -1,10 +1,15 @@
 -- What a change makes of the tables.
 use Rattle.std.specs.Prelude.{List, fold}
 use Rattle.kcr_rows.specs.Keyed.{put_in}
-use Rattle.kcr_cells.specs.Rows.{person_row, training_row, appointment_row, box_row, safe_row, bag_row, item_row, ceremony_row, mark_row, step_row, seating_row, sheet_row, exception_row, key_row, stay_row, withdrawal_row}
+use Rattle.kcr_cells.specs.Rows.{person_row, training_row, appointment_row, box_row, safe_row, bag_row, item_row}
+use Rattle.kcr_cells.specs.Rows.{ceremony_row, mark_row, step_row, seating_row, sheet_row, exception_row, key_row}
+use Rattle.kcr_cells.specs.Rows.{stay_row, withdrawal_row}
 use Rattle.kcr_tables.specs.Held.{Tables}
 use Rattle.kcr_history.specs.declared.views.Change.{Change}
-use Rattle.kcr_history.specs.declared.views.Change.TheVariants.{PutPerson, PutTraining, PutAppointment, PutBox, PutSafe, PutBag, PutItem, PutCeremony, PutMark, PutStep, PutSeating, PutSheet, PutException, PutKey, PutStay, PutWithdrawal}
+use Rattle.kcr_history.specs.declared.views.Change.TheVariants.{PutPerson, PutTraining, PutAppointment, PutBox, PutSafe}
+use Rattle.kcr_history.specs.declared.views.Change.TheVariants.{PutBag, PutItem, PutCeremony, PutMark, PutStep}
+use Rattle.kcr_history.specs.declared.views.Change.TheVariants.{PutSeating, PutSheet, PutException, PutKey, PutStay}
+use Rattle.kcr_history.specs.declared.views.Change.TheVariants.{PutWithdrawal}
 
 -- the row is put into its table, under its key
 abbrev pub changed : Change → Tables → Tables

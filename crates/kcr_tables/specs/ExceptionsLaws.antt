@@ -26,7 +26,10 @@ use Rattle.kcr_cells.proofs.StateLemmas.{cast_or_null}
 use Rattle.kcr_cells.specs.Rows.{exception_row}
 use Rattle.kcr_history.specs.declared.rows.ExceptionRow.{ExceptionRow}
 use Rattle.kcr_tables.specs.Schema.{register_schema}
-use Rattle.kcr_tables.specs.Held.{Tables, Kept, people_place, trainings_place, appointments_place, boxes_place, safes_place, bags_place, items_place, ceremonies_place, marks_place, steps_place, seatings_place, sheet_place, exceptions_place, versions_place, keys_place, stays_place, withdrawals_place}
+use Rattle.kcr_tables.specs.Held.{Tables, Kept, people_place, trainings_place, appointments_place, boxes_place}
+use Rattle.kcr_tables.specs.Held.{safes_place, bags_place, items_place, ceremonies_place, marks_place, steps_place}
+use Rattle.kcr_tables.specs.Held.{seatings_place, sheet_place, exceptions_place, versions_place, keys_place}
+use Rattle.kcr_tables.specs.Held.{stays_place, withdrawals_place}
 use Rattle.kcr_tables.specs.Parts.{text_in, number_in}
 use Rattle.kcr_tables.specs.Statements.{ShowsRows, PutsRow}
 use Rattle.kcr_tables.specs.Table.{Table, IsTable, Finding, IsFinding}
@@ -63,12 +66,15 @@ lists = record { test = []; project = project; order = order; names = names; is 
 abbrev pub exceptions_of : Finding (ℕ) ExceptionRow
 exceptions_of = record { is_under = λ ceremony x. is_exception_of ceremony x; column = 0; find_sql = codes "SELECT ceremony, exception, text, at, passed FROM exceptions WHERE ceremony = ?1 ORDER BY ceremony, exception" }
 
-shows_exceptions_of : (ceremony : ℕ) → ShowsRows exceptions_of.find_sql exceptions_place (Int (pos ceremony) ∷ []) (has_value 0 (Int (pos ceremony)))
+shows_exceptions_of : (ceremony : ℕ)
+    → ShowsRows exceptions_of.find_sql exceptions_place (Int (pos ceremony) ∷ []) (has_value 0 (Int (pos ceremony)))
 unfolding understood everything
 shows_exceptions_of ceremony = record { test = op2 (Compare Eq Binary) (col 1 1) (col 0 0) ∷ []; project = project; order = order; names = names; is = (refl, refl); bare = (refl, refl); shows = λ r. refl; tests = λ r. refl; sorts = λ a b. refl; low = refl }
 
-under_exceptions_of : (ceremony : ℕ) (x : ExceptionRow) → has_value 0 (Int (pos ceremony)) (exception_row x) ≡ is_exception_of ceremony x
-under_exceptions_of ceremony x = value_is (Int (pos x.ceremony)) (Int (pos ceremony)) refl refl ∙ sym (number_ties x.ceremony ceremony)
+under_exceptions_of : (ceremony : ℕ) (x : ExceptionRow)
+    → has_value 0 (Int (pos ceremony)) (exception_row x) ≡ is_exception_of ceremony x
+under_exceptions_of ceremony x = value_is (Int (pos x.ceremony)) (Int (pos ceremony)) refl refl
+    ∙ sym (number_ties x.ceremony ceremony)
 
 pub exceptions_of_laws : IsFinding exceptions_of exceptions_place (λ n. Int (pos n)) exception_row
 exceptions_of_laws = record { finds = shows_exceptions_of; under = under_exceptions_of }
@@ -83,7 +89,8 @@ unfolding understood everything
 puts = record {
   at = 12;
   name = codes "exceptions";
-  columns = number (codes "ceremony") ∷ number (codes "exception") ∷ words (codes "text") ∷ number (codes "at") ∷ number_or_null (codes "passed") ∷ [];
+  columns = number (codes "ceremony") ∷ number (codes "exception") ∷ words (codes "text") ∷ number (codes "at")
+      ∷ number_or_null (codes "passed") ∷ [];
   others = [];
   terms = lit Null ∷ col 0 0 ∷ col 0 1 ∷ col 0 2 ∷ col 0 3 ∷ col 0 4 ∷ [];
   test = op2 (Compare Eq Binary) (col 1 0) (col 0 5) ∷ [];
@@ -94,7 +101,8 @@ puts = record {
   fulls = λ a. refl;
   bare = (refl, refl);
   given = λ x. refl;
-  casts = λ x i. cast_int (pos x.ceremony) i ∷ cast_int (pos x.exception) i ∷ Text x.text ∷ cast_int (pos x.at) i ∷ cast_or_null x.passed i ∷ [];
+  casts = λ x i. cast_int (pos x.ceremony) i ∷ cast_int (pos x.exception) i ∷ Text x.text ∷ cast_int (pos x.at) i
+      ∷ cast_or_null x.passed i ∷ [];
   shown = λ x id. refl;
   filled = λ x. refl;
   tests = λ x entries there r. refl;
@@ -105,8 +113,10 @@ puts = record {
 }
 
 -- the other tables stay where the rows of this one are changed
-pub still : (old new : Trees) (rows : List ExceptionRow) (t : Tables) → IsSound register_schema new → Keeps exceptions_place new (map exception_row rows) → AllByRecursion (λ _. ⊤) rows
-    → ((tree : ℕ) → tree ≢ 25 → IsNoIndex register_schema tree → new tree ≡ old tree) → Kept old t → Kept new (record t { exceptions = rows })
+pub still : (old new : Trees) (rows : List ExceptionRow) (t : Tables) → IsSound register_schema new
+    → Keeps exceptions_place new (map exception_row rows) → AllByRecursion (λ _. ⊤) rows
+    → ((tree : ℕ) → tree ≢ 25 → IsNoIndex register_schema tree → new tree ≡ old tree) → Kept old t
+    → Kept new (record t { exceptions = rows })
 still old new rows t sound keeps stored others k = record {
   sound = sound;
   people = keeps_still register_schema 25 people_place old new _ others refl refl k.people;

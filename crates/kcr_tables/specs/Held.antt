@@ -6,7 +6,9 @@ use Rattle.sqlite_catalog.specs.Listing.{IsSound}
 use Rattle.sqlite.specs.Tree.{Trees}
 use Rattle.kcr_tables.specs.Schema.{register_schema}
 use Rattle.kcr_rows.specs.Keyed.{Place, Keeps}
-use Rattle.kcr_cells.specs.Rows.{person_row, training_row, appointment_row, box_row, safe_row, bag_row, item_row, ceremony_row, mark_row, step_row, seating_row, sheet_row, exception_row, version_row, key_row, stay_row, withdrawal_row}
+use Rattle.kcr_cells.specs.Rows.{person_row, training_row, appointment_row, box_row, safe_row, bag_row, item_row}
+use Rattle.kcr_cells.specs.Rows.{ceremony_row, mark_row, step_row, seating_row, sheet_row, exception_row, version_row}
+use Rattle.kcr_cells.specs.Rows.{key_row, stay_row, withdrawal_row}
 use Rattle.kcr_cells.specs.States.{HasBoxNumber, HasSeatsText}
 use Rattle.kcr_people.specs.declared.Person.{Person}
 use Rattle.kcr_people.specs.declared.Training.{Training}

@@ -27,7 +27,10 @@ use Rattle.kcr_cells.proofs.StateLemmas.{cast_loose, cast_within, one_rest, with
 use Rattle.kcr_cells.specs.Rows.{item_row}
 use Rattle.kcr_custody.specs.declared.Item.{Item}
 use Rattle.kcr_tables.specs.Schema.{register_schema}
-use Rattle.kcr_tables.specs.Held.{Tables, Kept, people_place, trainings_place, appointments_place, boxes_place, safes_place, bags_place, items_place, ceremonies_place, marks_place, steps_place, seatings_place, sheet_place, exceptions_place, versions_place, keys_place, stays_place, withdrawals_place}
+use Rattle.kcr_tables.specs.Held.{Tables, Kept, people_place, trainings_place, appointments_place, boxes_place}
+use Rattle.kcr_tables.specs.Held.{safes_place, bags_place, items_place, ceremonies_place, marks_place, steps_place}
+use Rattle.kcr_tables.specs.Held.{seatings_place, sheet_place, exceptions_place, versions_place, keys_place}
+use Rattle.kcr_tables.specs.Held.{stays_place, withdrawals_place}
 use Rattle.kcr_tables.specs.Parts.{text_in}
 use Rattle.kcr_tables.specs.Statements.{ShowsRows, PutsRow}
 use Rattle.kcr_tables.specs.Table.{Table, IsTable, Finding, IsFinding}
@@ -79,11 +82,13 @@ item_of_laws = record { finds = shows_item_of; under = under_item_of }
 abbrev pub items_within : Finding (List ℕ) Item
 items_within = record { is_under = λ serial x. is_item_of (Wanted.Bag serial) x; column = 2; find_sql = codes "SELECT code, facility, serial FROM items WHERE serial = ?1 ORDER BY code" }
 
-shows_items_within : (serial : List ℕ) → ShowsRows items_within.find_sql items_place (Text serial ∷ []) (has_value 2 (Text serial))
+shows_items_within : (serial : List ℕ)
+    → ShowsRows items_within.find_sql items_place (Text serial ∷ []) (has_value 2 (Text serial))
 unfolding understood everything
 shows_items_within serial = record { test = op2 (Compare Eq Binary) (col 1 3) (col 0 0) ∷ []; project = project; order = order; names = names; is = (refl, refl); bare = (refl, refl); shows = λ r. refl; tests = λ r. refl; sorts = λ a b. refl; low = refl }
 
-under_items_within : (serial : List ℕ) (x : Item) → has_value 2 (Text serial) (item_row x) ≡ is_item_of (Wanted.Bag serial) x
+under_items_within : (serial : List ℕ) (x : Item)
+    → has_value 2 (Text serial) (item_row x) ≡ is_item_of (Wanted.Bag serial) x
 under_items_within serial x = within_is x.rest serial
 
 pub items_within_laws : IsFinding items_within items_place Text item_row
@@ -121,8 +126,10 @@ puts = record {
 }
 
 -- the other tables stay where the rows of this one are changed
-pub still : (old new : Trees) (rows : List Item) (t : Tables) → IsSound register_schema new → Keeps items_place new (map item_row rows) → AllByRecursion (λ _. ⊤) rows
-    → ((tree : ℕ) → tree ≢ 12 → IsNoIndex register_schema tree → new tree ≡ old tree) → Kept old t → Kept new (record t { items = rows })
+pub still : (old new : Trees) (rows : List Item) (t : Tables) → IsSound register_schema new
+    → Keeps items_place new (map item_row rows) → AllByRecursion (λ _. ⊤) rows
+    → ((tree : ℕ) → tree ≢ 12 → IsNoIndex register_schema tree → new tree ≡ old tree) → Kept old t
+    → Kept new (record t { items = rows })
 still old new rows t sound keeps stored others k = record {
   sound = sound;
   people = keeps_still register_schema 12 people_place old new _ others refl refl k.people;

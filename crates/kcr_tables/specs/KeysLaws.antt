@@ -22,7 +22,10 @@ use Rattle.kcr_rows.proofs.SameLemmas.{text_ties}
 use Rattle.kcr_cells.specs.Rows.{key_row}
 use Rattle.kcr_history.specs.declared.rows.KeyRow.{KeyRow}
 use Rattle.kcr_tables.specs.Schema.{register_schema}
-use Rattle.kcr_tables.specs.Held.{Tables, Kept, people_place, trainings_place, appointments_place, boxes_place, safes_place, bags_place, items_place, ceremonies_place, marks_place, steps_place, seatings_place, sheet_place, exceptions_place, versions_place, keys_place, stays_place, withdrawals_place}
+use Rattle.kcr_tables.specs.Held.{Tables, Kept, people_place, trainings_place, appointments_place, boxes_place}
+use Rattle.kcr_tables.specs.Held.{safes_place, bags_place, items_place, ceremonies_place, marks_place, steps_place}
+use Rattle.kcr_tables.specs.Held.{seatings_place, sheet_place, exceptions_place, versions_place, keys_place}
+use Rattle.kcr_tables.specs.Held.{stays_place, withdrawals_place}
 use Rattle.kcr_tables.specs.Parts.{text_in, number_in}
 use Rattle.kcr_tables.specs.Statements.{ShowsRows}
 use Rattle.kcr_tables.specs.Table.{Table, IsTable, Finding, IsFinding}
@@ -70,8 +73,10 @@ pub key_row_of_laws : IsFinding key_row_of keys_place Text key_row
 key_row_of_laws = record { finds = shows_key_row_of; under = under_key_row_of }
 
 -- the other tables stay where the rows of this one are changed
-pub still : (old new : Trees) (rows : List KeyRow) (t : Tables) → IsSound register_schema new → Keeps keys_place new (map key_row rows) → AllByRecursion (λ _. ⊤) rows
-    → ((tree : ℕ) → tree ≢ 29 → IsNoIndex register_schema tree → new tree ≡ old tree) → Kept old t → Kept new (record t { keys = rows })
+pub still : (old new : Trees) (rows : List KeyRow) (t : Tables) → IsSound register_schema new
+    → Keeps keys_place new (map key_row rows) → AllByRecursion (λ _. ⊤) rows
+    → ((tree : ℕ) → tree ≢ 29 → IsNoIndex register_schema tree → new tree ≡ old tree) → Kept old t
+    → Kept new (record t { keys = rows })
 still old new rows t sound keeps stored others k = record {
   sound = sound;
   people = keeps_still register_schema 29 people_place old new _ others refl refl k.people;

@@ -24,7 +24,10 @@ use Rattle.kcr_rows.proofs.SameLemmas.{number_ties}
 use Rattle.kcr_cells.specs.Rows.{mark_row}
 use Rattle.kcr_history.specs.declared.rows.MarkRow.{MarkRow}
 use Rattle.kcr_tables.specs.Schema.{register_schema}
-use Rattle.kcr_tables.specs.Held.{Tables, Kept, people_place, trainings_place, appointments_place, boxes_place, safes_place, bags_place, items_place, ceremonies_place, marks_place, steps_place, seatings_place, sheet_place, exceptions_place, versions_place, keys_place, stays_place, withdrawals_place}
+use Rattle.kcr_tables.specs.Held.{Tables, Kept, people_place, trainings_place, appointments_place, boxes_place}
+use Rattle.kcr_tables.specs.Held.{safes_place, bags_place, items_place, ceremonies_place, marks_place, steps_place}
+use Rattle.kcr_tables.specs.Held.{seatings_place, sheet_place, exceptions_place, versions_place, keys_place}
+use Rattle.kcr_tables.specs.Held.{stays_place, withdrawals_place}
 use Rattle.kcr_tables.specs.Parts.{number_in}
 use Rattle.kcr_tables.specs.Statements.{ShowsRows, PutsRow}
 use Rattle.kcr_tables.specs.Table.{Table, IsTable, Finding, IsFinding}
@@ -61,12 +64,14 @@ lists = record { test = []; project = project; order = order; names = names; is 
 abbrev pub mark_of : Finding (ℕ) MarkRow
 mark_of = record { is_under = λ ceremony x. is_mark_of ceremony x; column = 0; find_sql = codes "SELECT ceremony, at FROM marks WHERE ceremony = ?1 ORDER BY ceremony" }
 
-shows_mark_of : (ceremony : ℕ) → ShowsRows mark_of.find_sql marks_place (Int (pos ceremony) ∷ []) (has_value 0 (Int (pos ceremony)))
+shows_mark_of : (ceremony : ℕ)
+    → ShowsRows mark_of.find_sql marks_place (Int (pos ceremony) ∷ []) (has_value 0 (Int (pos ceremony)))
 unfolding understood everything
 shows_mark_of ceremony = record { test = op2 (Compare Eq Binary) (col 1 1) (col 0 0) ∷ []; project = project; order = order; names = names; is = (refl, refl); bare = (refl, refl); shows = λ r. refl; tests = λ r. refl; sorts = λ a b. refl; low = refl }
 
 under_mark_of : (ceremony : ℕ) (x : MarkRow) → has_value 0 (Int (pos ceremony)) (mark_row x) ≡ is_mark_of ceremony x
-under_mark_of ceremony x = value_is (Int (pos x.ceremony)) (Int (pos ceremony)) refl refl ∙ sym (number_ties x.ceremony ceremony)
+under_mark_of ceremony x = value_is (Int (pos x.ceremony)) (Int (pos ceremony)) refl refl
+    ∙ sym (number_ties x.ceremony ceremony)
 
 pub mark_of_laws : IsFinding mark_of marks_place (λ n. Int (pos n)) mark_row
 mark_of_laws = record { finds = shows_mark_of; under = under_mark_of }
@@ -103,8 +108,10 @@ puts = record {
 }
 
 -- the other tables stay where the rows of this one are changed
-pub still : (old new : Trees) (rows : List MarkRow) (t : Tables) → IsSound register_schema new → Keeps marks_place new (map mark_row rows) → AllByRecursion (λ _. ⊤) rows
-    → ((tree : ℕ) → tree ≢ 17 → IsNoIndex register_schema tree → new tree ≡ old tree) → Kept old t → Kept new (record t { marks = rows })
+pub still : (old new : Trees) (rows : List MarkRow) (t : Tables) → IsSound register_schema new
+    → Keeps marks_place new (map mark_row rows) → AllByRecursion (λ _. ⊤) rows
+    → ((tree : ℕ) → tree ≢ 17 → IsNoIndex register_schema tree → new tree ≡ old tree) → Kept old t
+    → Kept new (record t { marks = rows })
 still old new rows t sound keeps stored others k = record {
   sound = sound;
   people = keeps_still register_schema 17 people_place old new _ others refl refl k.people;

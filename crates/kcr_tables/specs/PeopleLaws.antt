@@ -23,7 +23,10 @@ use Rattle.kcr_rows.proofs.SameLemmas.{text_ties}
 use Rattle.kcr_cells.specs.Rows.{person_row}
 use Rattle.kcr_people.specs.declared.Person.{Person}
 use Rattle.kcr_tables.specs.Schema.{register_schema}
-use Rattle.kcr_tables.specs.Held.{Tables, Kept, people_place, trainings_place, appointments_place, boxes_place, safes_place, bags_place, items_place, ceremonies_place, marks_place, steps_place, seatings_place, sheet_place, exceptions_place, versions_place, keys_place, stays_place, withdrawals_place}
+use Rattle.kcr_tables.specs.Held.{Tables, Kept, people_place, trainings_place, appointments_place, boxes_place}
+use Rattle.kcr_tables.specs.Held.{safes_place, bags_place, items_place, ceremonies_place, marks_place, steps_place}
+use Rattle.kcr_tables.specs.Held.{seatings_place, sheet_place, exceptions_place, versions_place, keys_place}
+use Rattle.kcr_tables.specs.Held.{stays_place, withdrawals_place}
 use Rattle.kcr_tables.specs.Parts.{text_in}
 use Rattle.kcr_tables.specs.Statements.{ShowsRows, PutsRow}
 use Rattle.kcr_tables.specs.Table.{Table, IsTable, Finding, IsFinding}
@@ -102,8 +105,10 @@ puts = record {
 }
 
 -- the other tables stay where the rows of this one are changed
-pub still : (old new : Trees) (rows : List Person) (t : Tables) → IsSound register_schema new → Keeps people_place new (map person_row rows) → AllByRecursion (λ _. ⊤) rows
-    → ((tree : ℕ) → tree ≢ 0 → IsNoIndex register_schema tree → new tree ≡ old tree) → Kept old t → Kept new (record t { people = rows })
+pub still : (old new : Trees) (rows : List Person) (t : Tables) → IsSound register_schema new
+    → Keeps people_place new (map person_row rows) → AllByRecursion (λ _. ⊤) rows
+    → ((tree : ℕ) → tree ≢ 0 → IsNoIndex register_schema tree → new tree ≡ old tree) → Kept old t
+    → Kept new (record t { people = rows })
 still old new rows t sound keeps stored others k = record {
   sound = sound;
   people = keeps;

@@ -26,7 +26,10 @@ use Rattle.kcr_rows.specs.Values.{truth_number}
 use Rattle.kcr_cells.specs.Rows.{safe_row}
 use Rattle.kcr_custody.specs.declared.SafeRow.{SafeRow}
 use Rattle.kcr_tables.specs.Schema.{register_schema}
-use Rattle.kcr_tables.specs.Held.{Tables, Kept, people_place, trainings_place, appointments_place, boxes_place, safes_place, bags_place, items_place, ceremonies_place, marks_place, steps_place, seatings_place, sheet_place, exceptions_place, versions_place, keys_place, stays_place, withdrawals_place}
+use Rattle.kcr_tables.specs.Held.{Tables, Kept, people_place, trainings_place, appointments_place, boxes_place}
+use Rattle.kcr_tables.specs.Held.{safes_place, bags_place, items_place, ceremonies_place, marks_place, steps_place}
+use Rattle.kcr_tables.specs.Held.{seatings_place, sheet_place, exceptions_place, versions_place, keys_place}
+use Rattle.kcr_tables.specs.Held.{stays_place, withdrawals_place}
 use Rattle.kcr_tables.specs.Parts.{text_in, number_in}
 use Rattle.kcr_tables.specs.Statements.{ShowsRows, PutsRow}
 use Rattle.kcr_tables.specs.Table.{Table, IsTable}
@@ -79,7 +82,8 @@ puts = record {
   fulls = λ a. refl;
   bare = (refl, refl);
   given = λ x. refl;
-  casts = λ x i. Text (facility_text x.facility) ∷ cast_int (pos (safe_digit x.safe)) i ∷ cast_int (pos (truth_number x.is_open)) i ∷ [];
+  casts = λ x i. Text (facility_text x.facility) ∷ cast_int (pos (safe_digit x.safe)) i
+      ∷ cast_int (pos (truth_number x.is_open)) i ∷ [];
   shown = λ x id. refl;
   filled = λ x. refl;
   tests = λ x entries there r. refl;
@@ -90,8 +94,10 @@ puts = record {
 }
 
 -- the other tables stay where the rows of this one are changed
-pub still : (old new : Trees) (rows : List SafeRow) (t : Tables) → IsSound register_schema new → Keeps safes_place new (map safe_row rows) → AllByRecursion (λ _. ⊤) rows
-    → ((tree : ℕ) → tree ≢ 8 → IsNoIndex register_schema tree → new tree ≡ old tree) → Kept old t → Kept new (record t { safes = rows })
+pub still : (old new : Trees) (rows : List SafeRow) (t : Tables) → IsSound register_schema new
+    → Keeps safes_place new (map safe_row rows) → AllByRecursion (λ _. ⊤) rows
+    → ((tree : ℕ) → tree ≢ 8 → IsNoIndex register_schema tree → new tree ≡ old tree) → Kept old t
+    → Kept new (record t { safes = rows })
 still old new rows t sound keeps stored others k = record {
   sound = sound;
   people = keeps_still register_schema 8 people_place old new _ others refl refl k.people;

@@ -23,7 +23,10 @@ use Rattle.kcr_rows.proofs.SameLemmas.{number_ties}
 use Rattle.kcr_cells.specs.Rows.{seating_row}
 use Rattle.kcr_history.specs.declared.rows.SeatingRow.{SeatingRow}
 use Rattle.kcr_tables.specs.Schema.{register_schema}
-use Rattle.kcr_tables.specs.Held.{Tables, Kept, people_place, trainings_place, appointments_place, boxes_place, safes_place, bags_place, items_place, ceremonies_place, marks_place, steps_place, seatings_place, sheet_place, exceptions_place, versions_place, keys_place, stays_place, withdrawals_place}
+use Rattle.kcr_tables.specs.Held.{Tables, Kept, people_place, trainings_place, appointments_place, boxes_place}
+use Rattle.kcr_tables.specs.Held.{safes_place, bags_place, items_place, ceremonies_place, marks_place, steps_place}
+use Rattle.kcr_tables.specs.Held.{seatings_place, sheet_place, exceptions_place, versions_place, keys_place}
+use Rattle.kcr_tables.specs.Held.{stays_place, withdrawals_place}
 use Rattle.kcr_tables.specs.Parts.{text_in, number_in}
 use Rattle.kcr_tables.specs.Statements.{ShowsRows, PutsRow}
 use Rattle.kcr_tables.specs.Table.{Table, IsTable, Finding, IsFinding}
@@ -60,12 +63,15 @@ lists = record { test = []; project = project; order = order; names = names; is 
 abbrev pub seatings_of : Finding (ℕ) SeatingRow
 seatings_of = record { is_under = λ ceremony x. x.ceremony == ceremony; column = 0; find_sql = codes "SELECT ceremony, step, seat, who FROM seatings WHERE ceremony = ?1 ORDER BY ceremony, step, seat" }
 
-shows_seatings_of : (ceremony : ℕ) → ShowsRows seatings_of.find_sql seatings_place (Int (pos ceremony) ∷ []) (has_value 0 (Int (pos ceremony)))
+shows_seatings_of : (ceremony : ℕ)
+    → ShowsRows seatings_of.find_sql seatings_place (Int (pos ceremony) ∷ []) (has_value 0 (Int (pos ceremony)))
 unfolding understood everything
 shows_seatings_of ceremony = record { test = op2 (Compare Eq Binary) (col 1 1) (col 0 0) ∷ []; project = project; order = order; names = names; is = (refl, refl); bare = (refl, refl); shows = λ r. refl; tests = λ r. refl; sorts = λ a b. refl; low = refl }
 
-under_seatings_of : (ceremony : ℕ) (x : SeatingRow) → has_value 0 (Int (pos ceremony)) (seating_row x) ≡ x.ceremony == ceremony
-under_seatings_of ceremony x = value_is (Int (pos x.ceremony)) (Int (pos ceremony)) refl refl ∙ sym (number_ties x.ceremony ceremony)
+under_seatings_of : (ceremony : ℕ) (x : SeatingRow)
+    → has_value 0 (Int (pos ceremony)) (seating_row x) ≡ x.ceremony == ceremony
+under_seatings_of ceremony x = value_is (Int (pos x.ceremony)) (Int (pos ceremony)) refl refl
+    ∙ sym (number_ties x.ceremony ceremony)
 
 pub seatings_of_laws : IsFinding seatings_of seatings_place (λ n. Int (pos n)) seating_row
 seatings_of_laws = record { finds = shows_seatings_of; under = under_seatings_of }
@@ -102,8 +108,10 @@ puts = record {
 }
 
 -- the other tables stay where the rows of this one are changed
-pub still : (old new : Trees) (rows : List SeatingRow) (t : Tables) → IsSound register_schema new → Keeps seatings_place new (map seating_row rows) → AllByRecursion (λ _. ⊤) rows
-    → ((tree : ℕ) → tree ≢ 21 → IsNoIndex register_schema tree → new tree ≡ old tree) → Kept old t → Kept new (record t { seatings = rows })
+pub still : (old new : Trees) (rows : List SeatingRow) (t : Tables) → IsSound register_schema new
+    → Keeps seatings_place new (map seating_row rows) → AllByRecursion (λ _. ⊤) rows
+    → ((tree : ℕ) → tree ≢ 21 → IsNoIndex register_schema tree → new tree ≡ old tree) → Kept old t
+    → Kept new (record t { seatings = rows })
 still old new rows t sound keeps stored others k = record {
   sound = sound;
   people = keeps_still register_schema 21 people_place old new _ others refl refl k.people;

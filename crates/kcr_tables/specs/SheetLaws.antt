@@ -25,7 +25,10 @@ use Rattle.kcr_cells.specs.States.{way_number}
 use Rattle.kcr_cells.specs.Rows.{sheet_row}
 use Rattle.kcr_room.specs.declared.SheetRow.{SheetRow}
 use Rattle.kcr_tables.specs.Schema.{register_schema}
-use Rattle.kcr_tables.specs.Held.{Tables, Kept, people_place, trainings_place, appointments_place, boxes_place, safes_place, bags_place, items_place, ceremonies_place, marks_place, steps_place, seatings_place, sheet_place, exceptions_place, versions_place, keys_place, stays_place, withdrawals_place}
+use Rattle.kcr_tables.specs.Held.{Tables, Kept, people_place, trainings_place, appointments_place, boxes_place}
+use Rattle.kcr_tables.specs.Held.{safes_place, bags_place, items_place, ceremonies_place, marks_place, steps_place}
+use Rattle.kcr_tables.specs.Held.{seatings_place, sheet_place, exceptions_place, versions_place, keys_place}
+use Rattle.kcr_tables.specs.Held.{stays_place, withdrawals_place}
 use Rattle.kcr_tables.specs.Parts.{text_in, number_in}
 use Rattle.kcr_tables.specs.Statements.{ShowsRows, PutsRow}
 use Rattle.kcr_tables.specs.Table.{Table, IsTable, Finding, IsFinding}
@@ -62,12 +65,14 @@ lists = record { test = []; project = project; order = order; names = names; is 
 abbrev pub sheet_of : Finding (ℕ) SheetRow
 sheet_of = record { is_under = λ ceremony x. x.ceremony == ceremony; column = 2; find_sql = codes "SELECT who, at, ceremony, way FROM sheet WHERE ceremony = ?1 ORDER BY who, at" }
 
-shows_sheet_of : (ceremony : ℕ) → ShowsRows sheet_of.find_sql sheet_place (Int (pos ceremony) ∷ []) (has_value 2 (Int (pos ceremony)))
+shows_sheet_of : (ceremony : ℕ)
+    → ShowsRows sheet_of.find_sql sheet_place (Int (pos ceremony) ∷ []) (has_value 2 (Int (pos ceremony)))
 unfolding understood everything
 shows_sheet_of ceremony = record { test = op2 (Compare Eq Binary) (col 1 3) (col 0 0) ∷ []; project = project; order = order; names = names; is = (refl, refl); bare = (refl, refl); shows = λ r. refl; tests = λ r. refl; sorts = λ a b. refl; low = refl }
 
 under_sheet_of : (ceremony : ℕ) (x : SheetRow) → has_value 2 (Int (pos ceremony)) (sheet_row x) ≡ x.ceremony == ceremony
-under_sheet_of ceremony x = value_is (Int (pos x.ceremony)) (Int (pos ceremony)) refl refl ∙ sym (number_ties x.ceremony ceremony)
+under_sheet_of ceremony x = value_is (Int (pos x.ceremony)) (Int (pos ceremony)) refl refl
+    ∙ sym (number_ties x.ceremony ceremony)
 
 pub sheet_of_laws : IsFinding sheet_of sheet_place (λ n. Int (pos n)) sheet_row
 sheet_of_laws = record { finds = shows_sheet_of; under = under_sheet_of }
@@ -93,7 +98,8 @@ puts = record {
   fulls = λ a. refl;
   bare = (refl, refl);
   given = λ x. refl;
-  casts = λ x i. Text x.who ∷ cast_int (pos x.at) i ∷ cast_int (pos x.ceremony) i ∷ cast_int (pos (way_number x.way)) i ∷ [];
+  casts = λ x i. Text x.who ∷ cast_int (pos x.at) i ∷ cast_int (pos x.ceremony) i ∷ cast_int (pos (way_number x.way)) i
+      ∷ [];
   shown = λ x id. refl;
   filled = λ x. refl;
   tests = λ x entries there r. refl;
@@ -104,8 +110,10 @@ puts = record {
 }
 
 -- the other tables stay where the rows of this one are changed
-pub still : (old new : Trees) (rows : List SheetRow) (t : Tables) → IsSound register_schema new → Keeps sheet_place new (map sheet_row rows) → AllByRecursion (λ _. ⊤) rows
-    → ((tree : ℕ) → tree ≢ 23 → IsNoIndex register_schema tree → new tree ≡ old tree) → Kept old t → Kept new (record t { sheet = rows })
+pub still : (old new : Trees) (rows : List SheetRow) (t : Tables) → IsSound register_schema new
+    → Keeps sheet_place new (map sheet_row rows) → AllByRecursion (λ _. ⊤) rows
+    → ((tree : ℕ) → tree ≢ 23 → IsNoIndex register_schema tree → new tree ≡ old tree) → Kept old t
+    → Kept new (record t { sheet = rows })
 still old new rows t sound keeps stored others k = record {
   sound = sound;
   people = keeps_still register_schema 23 people_place old new _ others refl refl k.people;

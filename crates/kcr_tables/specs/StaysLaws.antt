@@ -26,7 +26,10 @@ use Rattle.kcr_cells.proofs.StateLemmas.{cast_or_null}
 use Rattle.kcr_cells.specs.Rows.{stay_row}
 use Rattle.kcr_room.specs.declared.Stay.{Stay}
 use Rattle.kcr_tables.specs.Schema.{register_schema}
-use Rattle.kcr_tables.specs.Held.{Tables, Kept, people_place, trainings_place, appointments_place, boxes_place, safes_place, bags_place, items_place, ceremonies_place, marks_place, steps_place, seatings_place, sheet_place, exceptions_place, versions_place, keys_place, stays_place, withdrawals_place}
+use Rattle.kcr_tables.specs.Held.{Tables, Kept, people_place, trainings_place, appointments_place, boxes_place}
+use Rattle.kcr_tables.specs.Held.{safes_place, bags_place, items_place, ceremonies_place, marks_place, steps_place}
+use Rattle.kcr_tables.specs.Held.{seatings_place, sheet_place, exceptions_place, versions_place, keys_place}
+use Rattle.kcr_tables.specs.Held.{stays_place, withdrawals_place}
 use Rattle.kcr_tables.specs.Parts.{text_in, number_in}
 use Rattle.kcr_tables.specs.Statements.{ShowsRows, PutsRow}
 use Rattle.kcr_tables.specs.Table.{Table, IsTable, Finding, IsFinding}
@@ -63,12 +66,14 @@ lists = record { test = []; project = project; order = order; names = names; is 
 abbrev pub stays_of : Finding (ℕ) Stay
 stays_of = record { is_under = λ ceremony x. is_stay_of ceremony x; column = 2; find_sql = codes "SELECT who, since, ceremony, until FROM stays WHERE ceremony = ?1 ORDER BY who, since" }
 
-shows_stays_of : (ceremony : ℕ) → ShowsRows stays_of.find_sql stays_place (Int (pos ceremony) ∷ []) (has_value 2 (Int (pos ceremony)))
+shows_stays_of : (ceremony : ℕ)
+    → ShowsRows stays_of.find_sql stays_place (Int (pos ceremony) ∷ []) (has_value 2 (Int (pos ceremony)))
 unfolding understood everything
 shows_stays_of ceremony = record { test = op2 (Compare Eq Binary) (col 1 3) (col 0 0) ∷ []; project = project; order = order; names = names; is = (refl, refl); bare = (refl, refl); shows = λ r. refl; tests = λ r. refl; sorts = λ a b. refl; low = refl }
 
 under_stays_of : (ceremony : ℕ) (x : Stay) → has_value 2 (Int (pos ceremony)) (stay_row x) ≡ is_stay_of ceremony x
-under_stays_of ceremony x = value_is (Int (pos x.ceremony)) (Int (pos ceremony)) refl refl ∙ sym (number_ties x.ceremony ceremony)
+under_stays_of ceremony x = value_is (Int (pos x.ceremony)) (Int (pos ceremony)) refl refl
+    ∙ sym (number_ties x.ceremony ceremony)
 
 pub stays_of_laws : IsFinding stays_of stays_place (λ n. Int (pos n)) stay_row
 stays_of_laws = record { finds = shows_stays_of; under = under_stays_of }
@@ -83,7 +88,8 @@ unfolding understood everything
 puts = record {
   at = 15;
   name = codes "stays";
-  columns = words (codes "who") ∷ number (codes "since") ∷ number (codes "ceremony") ∷ number_or_null (codes "until") ∷ [];
+  columns = words (codes "who") ∷ number (codes "since") ∷ number (codes "ceremony") ∷ number_or_null (codes "until")
+      ∷ [];
   others = (3 ∷ 2 ∷ 1 ∷ []) ∷ [];
   terms = lit Null ∷ col 0 0 ∷ col 0 1 ∷ col 0 2 ∷ col 0 3 ∷ [];
   test = op2 (Compare Eq Binary) (col 1 0) (col 0 4) ∷ [];
@@ -105,8 +111,10 @@ puts = record {
 }
 
 -- the other tables stay where the rows of this one are changed
-pub still : (old new : Trees) (rows : List Stay) (t : Tables) → IsSound register_schema new → Keeps stays_place new (map stay_row rows) → AllByRecursion (λ _. ⊤) rows
-    → ((tree : ℕ) → tree ≢ 32 → IsNoIndex register_schema tree → new tree ≡ old tree) → Kept old t → Kept new (record t { stays = rows })
+pub still : (old new : Trees) (rows : List Stay) (t : Tables) → IsSound register_schema new
+    → Keeps stays_place new (map stay_row rows) → AllByRecursion (λ _. ⊤) rows
+    → ((tree : ℕ) → tree ≢ 32 → IsNoIndex register_schema tree → new tree ≡ old tree) → Kept old t
+    → Kept new (record t { stays = rows })
 still old new rows t sound keeps stored others k = record {
   sound = sound;
   people = keeps_still register_schema 32 people_place old new _ others refl refl k.people;

@@ -28,7 +28,10 @@ use Rattle.kcr_cells.specs.Rows.{step_row}
 use Rattle.kcr_history.specs.declared.rows.StepRow.{StepRow}
 use Rattle.kcr_cells.specs.States.{HasOnlyTheseSeats, HasSeatsText}
 use Rattle.kcr_tables.specs.Schema.{register_schema}
-use Rattle.kcr_tables.specs.Held.{Tables, Kept, people_place, trainings_place, appointments_place, boxes_place, safes_place, bags_place, items_place, ceremonies_place, marks_place, steps_place, seatings_place, sheet_place, exceptions_place, versions_place, keys_place, stays_place, withdrawals_place}
+use Rattle.kcr_tables.specs.Held.{Tables, Kept, people_place, trainings_place, appointments_place, boxes_place}
+use Rattle.kcr_tables.specs.Held.{safes_place, bags_place, items_place, ceremonies_place, marks_place, steps_place}
+use Rattle.kcr_tables.specs.Held.{seatings_place, sheet_place, exceptions_place, versions_place, keys_place}
+use Rattle.kcr_tables.specs.Held.{stays_place, withdrawals_place}
 use Rattle.kcr_tables.specs.Parts.{text_in, number_in}
 use Rattle.kcr_tables.specs.Statements.{ShowsRows, PutsRow}
 use Rattle.kcr_tables.specs.Table.{Table, IsTable, Finding, IsFinding}
@@ -65,12 +68,14 @@ lists = record { test = []; project = project; order = order; names = names; is 
 abbrev pub steps_of : Finding (ℕ) StepRow
 steps_of = record { is_under = λ ceremony x. is_step_of ceremony x; column = 0; find_sql = codes "SELECT ceremony, step, activity, seats, state, at FROM steps WHERE ceremony = ?1 ORDER BY ceremony, step" }
 
-shows_steps_of : (ceremony : ℕ) → ShowsRows steps_of.find_sql steps_place (Int (pos ceremony) ∷ []) (has_value 0 (Int (pos ceremony)))
+shows_steps_of : (ceremony : ℕ)
+    → ShowsRows steps_of.find_sql steps_place (Int (pos ceremony) ∷ []) (has_value 0 (Int (pos ceremony)))
 unfolding understood everything
 shows_steps_of ceremony = record { test = op2 (Compare Eq Binary) (col 1 1) (col 0 0) ∷ []; project = project; order = order; names = names; is = (refl, refl); bare = (refl, refl); shows = λ r. refl; tests = λ r. refl; sorts = λ a b. refl; low = refl }
 
 under_steps_of : (ceremony : ℕ) (x : StepRow) → has_value 0 (Int (pos ceremony)) (step_row x) ≡ is_step_of ceremony x
-under_steps_of ceremony x = value_is (Int (pos x.ceremony)) (Int (pos ceremony)) refl refl ∙ sym (number_ties x.ceremony ceremony)
+under_steps_of ceremony x = value_is (Int (pos x.ceremony)) (Int (pos ceremony)) refl refl
+    ∙ sym (number_ties x.ceremony ceremony)
 
 pub steps_of_laws : IsFinding steps_of steps_place (λ n. Int (pos n)) step_row
 steps_of_laws = record { finds = shows_steps_of; under = under_steps_of }
@@ -85,7 +90,8 @@ unfolding understood everything
 puts = record {
   at = 9;
   name = codes "steps";
-  columns = number (codes "ceremony") ∷ number (codes "step") ∷ words (codes "activity") ∷ words (codes "seats") ∷ number (codes "state") ∷ number_or_null (codes "at") ∷ [];
+  columns = number (codes "ceremony") ∷ number (codes "step") ∷ words (codes "activity") ∷ words (codes "seats")
+      ∷ number (codes "state") ∷ number_or_null (codes "at") ∷ [];
   others = [];
   terms = lit Null ∷ col 0 0 ∷ col 0 1 ∷ col 0 2 ∷ col 0 3 ∷ col 0 4 ∷ col 0 5 ∷ [];
   test = op2 (Compare Eq Binary) (col 1 0) (col 0 6) ∷ [];
@@ -96,7 +102,8 @@ puts = record {
   fulls = λ a. refl;
   bare = (refl, refl);
   given = λ x. refl;
-  casts = λ x i. cast_int (pos x.ceremony) i ∷ cast_int (pos x.step) i ∷ Text x.activity ∷ Text (written x.seats) ∷ cast_int (pos (step_number x.state)) i ∷ cast_or_null x.at i ∷ [];
+  casts = λ x i. cast_int (pos x.ceremony) i ∷ cast_int (pos x.step) i ∷ Text x.activity ∷ Text (written x.seats)
+      ∷ cast_int (pos (step_number x.state)) i ∷ cast_or_null x.at i ∷ [];
   shown = λ x id. refl;
   filled = λ x. refl;
   tests = λ x entries there r. refl;
@@ -107,8 +114,10 @@ puts = record {
 }
 
 -- the other tables stay where the rows of this one are changed
-pub still : (old new : Trees) (rows : List StepRow) (t : Tables) → IsSound register_schema new → Keeps steps_place new (map step_row rows) → AllByRecursion HasSeatsText rows
-    → ((tree : ℕ) → tree ≢ 19 → IsNoIndex register_schema tree → new tree ≡ old tree) → Kept old t → Kept new (record t { steps = rows })
+pub still : (old new : Trees) (rows : List StepRow) (t : Tables) → IsSound register_schema new
+    → Keeps steps_place new (map step_row rows) → AllByRecursion HasSeatsText rows
+    → ((tree : ℕ) → tree ≢ 19 → IsNoIndex register_schema tree → new tree ≡ old tree) → Kept old t
+    → Kept new (record t { steps = rows })
 still old new rows t sound keeps stored others k = record {
   sound = sound;
   people = keeps_still register_schema 19 people_place old new _ others refl refl k.people;

@@ -25,7 +25,10 @@ use Rattle.kcr_base.specs.Role.{role_text}
 use Rattle.kcr_cells.specs.Rows.{training_row}
 use Rattle.kcr_people.specs.declared.Training.{Training}
 use Rattle.kcr_tables.specs.Schema.{register_schema}
-use Rattle.kcr_tables.specs.Held.{Tables, Kept, people_place, trainings_place, appointments_place, boxes_place, safes_place, bags_place, items_place, ceremonies_place, marks_place, steps_place, seatings_place, sheet_place, exceptions_place, versions_place, keys_place, stays_place, withdrawals_place}
+use Rattle.kcr_tables.specs.Held.{Tables, Kept, people_place, trainings_place, appointments_place, boxes_place}
+use Rattle.kcr_tables.specs.Held.{safes_place, bags_place, items_place, ceremonies_place, marks_place, steps_place}
+use Rattle.kcr_tables.specs.Held.{seatings_place, sheet_place, exceptions_place, versions_place, keys_place}
+use Rattle.kcr_tables.specs.Held.{stays_place, withdrawals_place}
 use Rattle.kcr_tables.specs.Parts.{text_in, number_in}
 use Rattle.kcr_tables.specs.Statements.{ShowsRows, PutsRow}
 use Rattle.kcr_tables.specs.Table.{Table, IsTable, Finding, IsFinding}
@@ -34,7 +37,8 @@ abbrev pub project : List Term
 project = col 1 1 ∷ col 1 2 ∷ col 1 3 ∷ col 1 4 ∷ []
 
 abbrev order : List (Term × Key)
-order = (col 1 1, ascending Binary) ∷ (col 1 2, ascending Binary) ∷ (col 1 3, ascending Binary) ∷ (col 1 4, ascending Binary) ∷ []
+order = (col 1 1, ascending Binary) ∷ (col 1 2, ascending Binary) ∷ (col 1 3, ascending Binary)
+    ∷ (col 1 4, ascending Binary) ∷ []
 
 abbrev pub names : List (List ℕ)
 names = codes "who" ∷ codes "role" ∷ codes "since" ∷ codes "until" ∷ []
@@ -62,7 +66,8 @@ lists = record { test = []; project = project; order = order; names = names; is 
 abbrev pub trainings_of : Finding (List ℕ) Training
 trainings_of = record { is_under = λ who x. is_training_of who x; column = 0; find_sql = codes "SELECT who, role, since, until FROM trainings WHERE who = ?1 ORDER BY who, role, since, until" }
 
-shows_trainings_of : (who : List ℕ) → ShowsRows trainings_of.find_sql trainings_place (Text who ∷ []) (has_value 0 (Text who))
+shows_trainings_of : (who : List ℕ)
+    → ShowsRows trainings_of.find_sql trainings_place (Text who ∷ []) (has_value 0 (Text who))
 unfolding understood everything
 shows_trainings_of who = record { test = op2 (Compare Eq Binary) (col 1 1) (col 0 0) ∷ []; project = project; order = order; names = names; is = (refl, refl); bare = (refl, refl); shows = λ r. refl; tests = λ r. refl; sorts = λ a b. refl; low = refl }
 
@@ -104,8 +109,10 @@ puts = record {
 }
 
 -- the other tables stay where the rows of this one are changed
-pub still : (old new : Trees) (rows : List Training) (t : Tables) → IsSound register_schema new → Keeps trainings_place new (map training_row rows) → AllByRecursion (λ _. ⊤) rows
-    → ((tree : ℕ) → tree ≢ 2 → IsNoIndex register_schema tree → new tree ≡ old tree) → Kept old t → Kept new (record t { trainings = rows })
+pub still : (old new : Trees) (rows : List Training) (t : Tables) → IsSound register_schema new
+    → Keeps trainings_place new (map training_row rows) → AllByRecursion (λ _. ⊤) rows
+    → ((tree : ℕ) → tree ≢ 2 → IsNoIndex register_schema tree → new tree ≡ old tree) → Kept old t
+    → Kept new (record t { trainings = rows })
 still old new rows t sound keeps stored others k = record {
   sound = sound;
   people = keeps_still register_schema 2 people_place old new _ others refl refl k.people;

@@ -22,7 +22,10 @@ use Rattle.kcr_rows.proofs.TableLemmas.{keeps_still, each_is}
 use Rattle.kcr_cells.specs.Rows.{version_row}
 use Rattle.kcr_cells.specs.declared.rows.Version.{Version}
 use Rattle.kcr_tables.specs.Schema.{register_schema}
-use Rattle.kcr_tables.specs.Held.{Tables, Kept, people_place, trainings_place, appointments_place, boxes_place, safes_place, bags_place, items_place, ceremonies_place, marks_place, steps_place, seatings_place, sheet_place, exceptions_place, versions_place, keys_place, stays_place, withdrawals_place}
+use Rattle.kcr_tables.specs.Held.{Tables, Kept, people_place, trainings_place, appointments_place, boxes_place}
+use Rattle.kcr_tables.specs.Held.{safes_place, bags_place, items_place, ceremonies_place, marks_place, steps_place}
+use Rattle.kcr_tables.specs.Held.{seatings_place, sheet_place, exceptions_place, versions_place, keys_place}
+use Rattle.kcr_tables.specs.Held.{stays_place, withdrawals_place}
 use Rattle.kcr_tables.specs.First.{first_tables}
 use Rattle.kcr_tables.specs.Parts.{number_in}
 use Rattle.kcr_tables.specs.Statements.{ShowsRows, PutsRow}
@@ -87,8 +90,10 @@ puts = record {
 }
 
 -- the other tables stay where the rows of this one are changed
-pub still : (old new : Trees) (rows : List Version) (t : Tables) → IsSound register_schema new → Keeps versions_place new (map version_row rows) → AllByRecursion (λ _. ⊤) rows
-    → ((tree : ℕ) → tree ≢ 27 → IsNoIndex register_schema tree → new tree ≡ old tree) → Kept old t → Kept new (record t { versions = rows })
+pub still : (old new : Trees) (rows : List Version) (t : Tables) → IsSound register_schema new
+    → Keeps versions_place new (map version_row rows) → AllByRecursion (λ _. ⊤) rows
+    → ((tree : ℕ) → tree ≢ 27 → IsNoIndex register_schema tree → new tree ≡ old tree) → Kept old t
+    → Kept new (record t { versions = rows })
 still old new rows t sound keeps stored others k = record {
   sound = sound;
   people = keeps_still register_schema 27 people_place old new _ others refl refl k.people;
@@ -119,5 +124,6 @@ table_laws = record {
   keeps = λ db t k. k.versions;
   stores = λ db t k. each_is t.versions;
   still = still;
-  stands = λ m t s. subst (λ l. IsPermutation first_tables.versions l) (sym s.versions) (IsPermutation-refl first_tables.versions);
+  stands = λ m t s. subst (λ l. IsPermutation first_tables.versions l) (sym s.versions)
+      (IsPermutation-refl first_tables.versions);
 }

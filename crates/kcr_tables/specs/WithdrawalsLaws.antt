@@ -25,7 +25,10 @@ use Rattle.kcr_base.specs.Role.{role_text}
 use Rattle.kcr_cells.specs.Rows.{withdrawal_row}
 use Rattle.kcr_people.specs.declared.Withdrawal.{Withdrawal}
 use Rattle.kcr_tables.specs.Schema.{register_schema}
-use Rattle.kcr_tables.specs.Held.{Tables, Kept, people_place, trainings_place, appointments_place, boxes_place, safes_place, bags_place, items_place, ceremonies_place, marks_place, steps_place, seatings_place, sheet_place, exceptions_place, versions_place, keys_place, stays_place, withdrawals_place}
+use Rattle.kcr_tables.specs.Held.{Tables, Kept, people_place, trainings_place, appointments_place, boxes_place}
+use Rattle.kcr_tables.specs.Held.{safes_place, bags_place, items_place, ceremonies_place, marks_place, steps_place}
+use Rattle.kcr_tables.specs.Held.{seatings_place, sheet_place, exceptions_place, versions_place, keys_place}
+use Rattle.kcr_tables.specs.Held.{stays_place, withdrawals_place}
 use Rattle.kcr_tables.specs.Parts.{text_in, number_in}
 use Rattle.kcr_tables.specs.Statements.{ShowsRows, PutsRow}
 use Rattle.kcr_tables.specs.Table.{Table, IsTable, Finding, IsFinding}
@@ -34,7 +37,8 @@ abbrev pub project : List Term
 project = col 1 1 ∷ col 1 2 ∷ col 1 3 ∷ col 1 4 ∷ col 1 5 ∷ []
 
 abbrev order : List (Term × Key)
-order = (col 1 1, ascending Binary) ∷ (col 1 2, ascending Binary) ∷ (col 1 3, ascending Binary) ∷ (col 1 4, ascending Binary) ∷ []
+order = (col 1 1, ascending Binary) ∷ (col 1 2, ascending Binary) ∷ (col 1 3, ascending Binary)
+    ∷ (col 1 4, ascending Binary) ∷ []
 
 abbrev pub names : List (List ℕ)
 names = codes "who" ∷ codes "role" ∷ codes "since" ∷ codes "until" ∷ codes "day" ∷ []
@@ -62,11 +66,13 @@ lists = record { test = []; project = project; order = order; names = names; is 
 abbrev pub withdrawals_of : Finding (List ℕ) Withdrawal
 withdrawals_of = record { is_under = λ who x. is_withdrawal_of who x; column = 0; find_sql = codes "SELECT who, role, since, until, day FROM withdrawals WHERE who = ?1 ORDER BY who, role, since, until" }
 
-shows_withdrawals_of : (who : List ℕ) → ShowsRows withdrawals_of.find_sql withdrawals_place (Text who ∷ []) (has_value 0 (Text who))
+shows_withdrawals_of : (who : List ℕ)
+    → ShowsRows withdrawals_of.find_sql withdrawals_place (Text who ∷ []) (has_value 0 (Text who))
 unfolding understood everything
 shows_withdrawals_of who = record { test = op2 (Compare Eq Binary) (col 1 1) (col 0 0) ∷ []; project = project; order = order; names = names; is = (refl, refl); bare = (refl, refl); shows = λ r. refl; tests = λ r. refl; sorts = λ a b. refl; low = refl }
 
-under_withdrawals_of : (who : List ℕ) (x : Withdrawal) → has_value 0 (Text who) (withdrawal_row x) ≡ is_withdrawal_of who x
+under_withdrawals_of : (who : List ℕ) (x : Withdrawal)
+    → has_value 0 (Text who) (withdrawal_row x) ≡ is_withdrawal_of who x
 under_withdrawals_of who x = value_is (Text x.who) (Text who) refl refl ∙ sym (text_ties x.who who)
 
 pub withdrawals_of_laws : IsFinding withdrawals_of withdrawals_place Text withdrawal_row
@@ -82,7 +88,8 @@ unfolding understood everything
 puts = record {
   at = 16;
   name = codes "withdrawals";
-  columns = words (codes "who") ∷ words (codes "role") ∷ number (codes "since") ∷ number (codes "until") ∷ number (codes "day") ∷ [];
+  columns = words (codes "who") ∷ words (codes "role") ∷ number (codes "since") ∷ number (codes "until")
+      ∷ number (codes "day") ∷ [];
   others = [];
   terms = lit Null ∷ col 0 0 ∷ col 0 1 ∷ col 0 2 ∷ col 0 3 ∷ col 0 4 ∷ [];
   test = op2 (Compare Eq Binary) (col 1 0) (col 0 5) ∷ [];
@@ -93,7 +100,8 @@ puts = record {
   fulls = λ a. refl;
   bare = (refl, refl);
   given = λ x. refl;
-  casts = λ x i. Text x.who ∷ Text (role_text x.role) ∷ cast_int (pos x.since) i ∷ cast_int (pos x.until) i ∷ cast_int (pos x.day) i ∷ [];
+  casts = λ x i. Text x.who ∷ Text (role_text x.role) ∷ cast_int (pos x.since) i ∷ cast_int (pos x.until) i
+      ∷ cast_int (pos x.day) i ∷ [];
   shown = λ x id. refl;
   filled = λ x. refl;
   tests = λ x entries there r. refl;
@@ -104,8 +112,10 @@ puts = record {
 }
 
 -- the other tables stay where the rows of this one are changed
-pub still : (old new : Trees) (rows : List Withdrawal) (t : Tables) → IsSound register_schema new → Keeps withdrawals_place new (map withdrawal_row rows) → AllByRecursion (λ _. ⊤) rows
-    → ((tree : ℕ) → tree ≢ 35 → IsNoIndex register_schema tree → new tree ≡ old tree) → Kept old t → Kept new (record t { withdrawals = rows })
+pub still : (old new : Trees) (rows : List Withdrawal) (t : Tables) → IsSound register_schema new
+    → Keeps withdrawals_place new (map withdrawal_row rows) → AllByRecursion (λ _. ⊤) rows
+    → ((tree : ℕ) → tree ≢ 35 → IsNoIndex register_schema tree → new tree ≡ old tree) → Kept old t
+    → Kept new (record t { withdrawals = rows })
 still old new rows t sound keeps stored others k = record {
   sound = sound;
   people = keeps_still register_schema 35 people_place old new _ others refl refl k.people;
