@@ -1,15 +1,16 @@
 -- The rows of a register's sheet tell the same in any order.
-use Rattle.std.proofs.Common.{◌≡◌, ℕ, zero, suc, ◌<◌, ◌≤◌, Bool, true, false, cond, ◌||◌, nat_lt, nat_le, List, [], ◌∷◌, ◌++◌, map, length, Option, Some, None, refl, sym, ap, subst, ◌∙◌, arith, inl, inr}
-use Rattle.std.specs.Prelude.{◌⊎◌, slice_index_or}
-use Rattle.std.specs.List.{Contains, list_any, filter}
+use Rattle.std.proofs.Common.{◌≡◌, ℕ, ◌<◌, ◌≤◌, Bool, true, false, cond, ◌||◌, nat_lt, nat_le, List, [], ◌∷◌, ◌++◌, map, length, Some, None, refl, sym, ap, subst, ◌∙◌, arith, inl, inr}
+use Rattle.std.specs.Prelude.{◌⊎◌}
+use Rattle.std.specs.List.{list_any, filter}
 use Rattle.std.specs.List.Sorted.{IsPermutation}
-use Rattle.std.proofs.lemmas.Bool.{true≢false, ltb-true, ltb-false, leb-false, or_parts, and_parts}
-use Rattle.std.proofs.lemmas.List.Sorted.{Contains-permutation, IsPermutation-sym}
+use Rattle.std.proofs.lemmas.Bool.{true≢false, ltb-true, ltb-false, leb-false, or_parts, or_right, and_parts}
+use Rattle.std.proofs.lemmas.List.Sorted.{IsPermutation-sym}
 use Rattle.kcr_base.proofs.RefuseLemmas.{none_holds}
+use Rattle.kcr_base.proofs.RowsLemmas.{Shuffled, shuffled, nothing, under, flipped, after}
 use Rattle.kcr_base.specs.Same.{same_text}
 use Rattle.kcr_room.specs.declared.SheetRow.{SheetRow}
 use Rattle.kcr_room.specs.declared.Way.{Way}
-use Rattle.kcr_room.specs.Room.{enters, last_onto, last_row, last_enters, is_of, in_by, crowd_by}
+use Rattle.kcr_room.specs.Room.{enters, later, last_onto, last_row, last_enters, is_of, in_by, crowd_by}
 use Rattle.kcr_room.specs.Adding.{is_out_of_turn, is_out_of_turn_by, new_row}
 use Rattle.kcr_room.proofs.Lists.{IsPermutation-filter}
 use Rattle.kcr_room.proofs.Agreement.{same-is, same-itself, same-turned}
@@ -28,21 +29,23 @@ abbrev pub In : {X : Type 0} → X → List X → Type 0
 In x [] = ⊥
 In x (y ∷ ys) = (x ≡ y) ⊎ In x ys
 
-in-contains : {X : Type 0} (x : X) (xs : List X) → In x xs → Contains xs x
-in-contains x [] h = absurd h
-in-contains x (y ∷ ys) (inl e) = (0, omega arith, sym e)
-in-contains x (y ∷ ys) (inr h) = let r = in-contains x ys h in (suc r.0, (let l = r.1 in omega arith), r.2)
+pub turned : {X : Type 0} {xs ys : List X} → Shuffled xs ys → Shuffled ys xs
+turned nothing = nothing
+turned (under x xs ys s) = under x ys xs (turned s)
+turned (flipped x y xs) = flipped y x xs
+turned (after xs ys zs s t) = after zs ys xs (turned t) (turned s)
 
-contains-in : {X : Type 0} (x : X) (xs : List X) → Contains xs x → In x xs
-contains-in x [] h = absurd (let l = h.1 in omega arith)
-contains-in x (y ∷ ys) h = by_index h.0 h.1 h.2 (contains-in x ys)
-  where
-    by_index : (i : ℕ) → i < suc (length ys) → slice_index_or (y ∷ ys) i x ≡ x → (Contains ys x → In x ys) → In x (y ∷ ys)
-    by_index zero l e ih = inl (sym e)
-    by_index (suc i) l e ih = inr (ih (i, omega arith, e))
+pub in-shuffled : {X : Type 0} (x : X) {xs ys : List X} → Shuffled xs ys → In x xs → In x ys
+in-shuffled x nothing h = h
+in-shuffled x (under y xs ys s) (inl e) = inl e
+in-shuffled x (under y xs ys s) (inr h) = inr (in-shuffled x s h)
+in-shuffled x (flipped y z xs) (inl e) = inr (inl e)
+in-shuffled x (flipped y z xs) (inr (inl e)) = inl e
+in-shuffled x (flipped y z xs) (inr (inr h)) = inr (inr h)
+in-shuffled x (after xs ys zs s t) h = in-shuffled x t (in-shuffled x s h)
 
-pub in-order : {X : Type 0} (x : X) (xs ys : List X) → IsPermutation xs ys → In x xs → In x ys
-in-order x xs ys p h = contains-in x ys (Contains-permutation xs ys x p (in-contains x xs h))
+in-order : {X : Type 0} (x : X) (xs ys : List X) → IsPermutation xs ys → In x xs → In x ys
+in-order x xs ys p h = in-shuffled x (shuffled xs ys p) h
 
 in-append : {X : Type 0} (x : X) (xs ys : List X) → In x (xs ++ ys) → In x xs ⊎ In x ys
 in-append x [] ys h = inr h
@@ -77,77 +80,55 @@ to-filter p x (y ∷ ys) (inr g) e = by_test (p y) (to-filter p x ys g e)
 
 -- THE LAST ROW
 
--- m is none earlier than the rows, and is one of them or the one before
-record IsTop (rows : List SheetRow) (last : Option SheetRow) (m : SheetRow) : Type 0 where
-  before : (x : SheetRow) → last ≡ Some x → x.at ≤ m.at
-  above : (x : SheetRow) → In x rows → x.at ≤ m.at
-  one : (last ≡ Some m) ⊎ In m rows
+-- the last of some rows: it is one of them, and none is later
+record Last (rows : List SheetRow) : Type 0 where
+  row : SheetRow
+  is : last_row rows ≡ Some row
+  inside : In row rows
+  top : (x : SheetRow) → In x rows → x.at ≤ row.at
 
-some-same : (x y : SheetRow) → Some x ≡ Some y → x ≡ y
-some-same x y e = cc
-
-top-with : (y m : SheetRow) (ys : List SheetRow) (last : Option SheetRow) (kept : SheetRow) → IsTop ys (Some kept) m → y.at ≤ kept.at → ((x : SheetRow) → last ≡ Some x → x.at ≤ kept.at) → (Some kept ≡ last) ⊎ (kept ≡ y) → IsTop (y ∷ ys) last m
-top-with y m ys last kept t l b from = record { before = λ x e. (let k = t.before kept refl in let n = b x e in omega arith); above = above; one = one t.one from }
+-- of two rows the kept one is before the others
+last-over : (z y kept : SheetRow) (ys : List SheetRow) → later (Some z) y ≡ Some kept → (kept ≡ z) ⊎ (kept ≡ y) → z.at ≤ kept.at → y.at ≤ kept.at → Last (kept ∷ ys) → Last (z ∷ y ∷ ys)
+last-over z y kept ys e from l m last = record { row = last.row; is = ap (λ o. last_onto o ys) e ∙ last.is; inside = inside from last.inside; top = top }
   where
-    above : (x : SheetRow) → (x ≡ y) ⊎ In x ys → x.at ≤ m.at
-    above x (inl e) = let k = t.before kept refl in let same = ap (λ (r : SheetRow). r.at) e in omega arith
-    above x (inr h) = t.above x h
+    inside : (kept ≡ z) ⊎ (kept ≡ y) → (last.row ≡ kept) ⊎ In last.row ys → (last.row ≡ z) ⊎ ((last.row ≡ y) ⊎ In last.row ys)
+    inside from (inr h) = inr (inr h)
+    inside (inl f) (inl g) = inl (g ∙ f)
+    inside (inr f) (inl g) = inr (inl (g ∙ f))
 
-    one : (Some kept ≡ Some m) ⊎ In m ys → (Some kept ≡ last) ⊎ (kept ≡ y) → (last ≡ Some m) ⊎ ((m ≡ y) ⊎ In m ys)
-    one (inr h) from = inr (inr h)
-    one (inl e) (inl f) = inl (sym f ∙ e)
-    one (inl e) (inr f) = inr (inl (sym (some-same kept m e) ∙ f))
+    top : (x : SheetRow) → (x ≡ z) ⊎ ((x ≡ y) ⊎ In x ys) → x.at ≤ last.row.at
+    top x (inl f) = let k = last.top kept (inl refl) in let same = ap (λ (r : SheetRow). r.at) f in omega arith
+    top x (inr (inl f)) = let k = last.top kept (inl refl) in let same = ap (λ (r : SheetRow). r.at) f in omega arith
+    top x (inr (inr h)) = last.top x (inr h)
 
-last-top : (rows : List SheetRow) (last : Option SheetRow) (m : SheetRow) → last_onto last rows ≡ Some m → IsTop rows last m
-last-top [] last m e = record { before = λ x f. (let same = ap (λ (r : SheetRow). r.at) (some-same x m (sym f ∙ e)) in omega arith); above = λ x h. absurd h; one = inl e }
-last-top (y ∷ ys) None m e = top-with y m ys None y (last-top ys (Some y) m e) (omega arith) (λ x f. absurd (let g : None ≡ Some x = f in cc)) (inr refl)
-last-top (y ∷ ys) (Some z) m e = by_test (nat_lt y.at z.at) refl e (λ kept g. last-top ys (Some kept) m g)
+last-of : (z : SheetRow) (ys : List SheetRow) → Last (z ∷ ys)
+last-of z [] = record { row = z; is = refl; inside = inl refl; top = top }
   where
-    by_test : (b : Bool) → nat_lt y.at z.at ≡ b → last_onto (cond b (Some z) (Some y)) ys ≡ Some m → ((kept : SheetRow) → last_onto (Some kept) ys ≡ Some m → IsTop ys (Some kept) m) → IsTop (y ∷ ys) (Some z) m
-    by_test true f g ih =
-        let l = ltb-true y.at z.at f in
-        top-with y m ys (Some z) z (ih z g) (omega arith) (λ x h. (let same = ap (λ (r : SheetRow). r.at) (some-same z x h) in omega arith)) (inl refl)
-    by_test false f g ih =
-        let l = ltb-false y.at z.at f in
-        top-with y m ys (Some z) y (ih y g) (omega arith) (λ x h. (let same = ap (λ (r : SheetRow). r.at) (some-same z x h) in omega arith)) (inr refl)
-
-some-last : (rows : List SheetRow) (z : SheetRow) → (m : SheetRow) × (last_onto (Some z) rows ≡ Some m)
-some-last [] z = (z, refl)
-some-last (y ∷ ys) z = by_test (nat_lt y.at z.at) (some-last ys z) (some-last ys y)
+    top : (x : SheetRow) → (x ≡ z) ⊎ ⊥ → x.at ≤ z.at
+    top x (inl e) = let same = ap (λ (r : SheetRow). r.at) e in omega arith
+    top x (inr h) = absurd h
+last-of z (y ∷ ys) = by_test (nat_lt y.at z.at) refl (last-of z ys) (last-of y ys)
   where
-    by_test : (b : Bool) → (m : SheetRow) × (last_onto (Some z) ys ≡ Some m) → (m : SheetRow) × (last_onto (Some y) ys ≡ Some m) → (m : SheetRow) × (last_onto (cond b (Some z) (Some y)) ys ≡ Some m)
-    by_test true r s = r
-    by_test false r s = s
+    by_test : (b : Bool) → nat_lt y.at z.at ≡ b → Last (z ∷ ys) → Last (y ∷ ys) → Last (z ∷ y ∷ ys)
+    by_test true e old new = let l = ltb-true y.at z.at e in last-over z y z ys (rw e refl) (inl refl) (omega arith) (omega arith) old
+    by_test false e old new = let l = ltb-false y.at z.at e in last-over z y y ys (rw e refl) (inr refl) (omega arith) (omega arith) new
 
--- where there is a row there is a last one
-last-there : (rows : List SheetRow) (x : SheetRow) → In x rows → (m : SheetRow) × (last_row rows ≡ Some m)
+last-there : (rows : List SheetRow) (x : SheetRow) → In x rows → Last rows
 last-there [] x h = absurd h
-last-there (y ∷ ys) x h = some-last ys y
-
-in-last : (rows : List SheetRow) (m : SheetRow) → last_row rows ≡ Some m → In m rows
-in-last rows m e = by_one (last-top rows None m e).one
-  where
-    by_one : (None ≡ Some m) ⊎ In m rows → In m rows
-    by_one (inl f) = absurd (let g : None ≡ Some m = f in cc)
-    by_one (inr h) = h
+last-there (y ∷ ys) x h = last-of y ys
 
 -- the last of rows that are alike where they share a moment tells the same in any order
 last-same : (c : ℕ) (rows shown : List SheetRow) → IsPermutation rows shown → ((r o : SheetRow) → In r rows → In o rows → r.at ≡ o.at → enters c r ≡ enters c o) → last_enters c (last_row rows) ≡ last_enters c (last_row shown)
-last-same c rows shown p alike = by_last (last_row rows) refl (last_row shown) refl
-  where
-    back : (x : SheetRow) → In x shown → In x rows
-    back x h = in-order x shown rows (IsPermutation-sym rows shown p) h
-
-    by_last : (a : Option SheetRow) → last_row rows ≡ a → (b : Option SheetRow) → last_row shown ≡ b → last_enters c a ≡ last_enters c b
-    by_last None e None f = refl
-    by_last (Some m) e (Some n) f =
-        let s = last-top rows None m e in
-        let t = last-top shown None n f in
-        let up = t.above m (in-order m rows shown p (in-last rows m e)) in
-        let down = s.above n (back n (in-last shown n f)) in
-        alike m n (in-last rows m e) (back n (in-last shown n f)) (omega arith)
-    by_last (Some m) e None f = let r = last-there shown m (in-order m rows shown p (in-last rows m e)) in absurd (let g : None ≡ Some r.0 = sym f ∙ r.1 in cc)
-    by_last None e (Some n) f = let r = last-there rows n (back n (in-last shown n f)) in absurd (let g : None ≡ Some r.0 = sym e ∙ r.1 in cc)
+last-same c [] [] p alike = refl
+last-same c [] (y ∷ ys) p alike = absurd (in-order y (y ∷ ys) [] (IsPermutation-sym [] (y ∷ ys) p) (inl refl))
+last-same c (x ∷ xs) [] p alike = absurd (in-order x (x ∷ xs) [] p (inl refl))
+last-same c (x ∷ xs) (y ∷ ys) p alike =
+    let a = last-of x xs in
+    let b = last-of y ys in
+    let back = in-order b.row (y ∷ ys) (x ∷ xs) (IsPermutation-sym (x ∷ xs) (y ∷ ys) p) b.inside in
+    let up = b.top a.row (in-order a.row (x ∷ xs) (y ∷ ys) p a.inside) in
+    let down = a.top b.row back in
+    ap (last_enters c) a.is ∙ alike a.row b.row a.inside back (omega arith) ∙ sym (ap (last_enters c) b.is)
 
 -- ALIKE
 
@@ -174,22 +155,17 @@ same-crowds rows shown p alike c t = ap length (same_room shown rows c t (λ who
 turn-after : (rows : List SheetRow) (c : ℕ) (way : Way) (at : ℕ) (who : List ℕ) → is_out_of_turn_by rows c way at who ≡ false → (r : SheetRow) → In r rows → same_text r.who who ≡ true → r.at < at
 turn-after rows c way at who f r h e =
     let mine = to-filter (λ row. same_text row.who who) r rows h e in
-    let l = last-there (filter (λ row. same_text row.who who) rows) r mine in
-    let top = last-top (filter (λ row. same_text row.who who) rows) None l.0 l.1 in
-    let g : is_out_of_turn way c at (Some l.0) ≡ false = subst (λ o. is_out_of_turn way c at o ≡ false) l.1 f in
-    let early = leb-false at l.0.at (or_parts (nat_le at l.0.at) _ g).0 in
-    let up = top.above r mine in
+    let last = last-there (filter (λ row. same_text row.who who) rows) r mine in
+    let g : is_out_of_turn way c at (Some last.row) ≡ false = subst (λ o. is_out_of_turn way c at o ≡ false) last.is f in
+    let early = leb-false at last.row.at (or_parts (nat_le at last.row.at) _ g).0 in
+    let up = last.top r mine in
     omega arith
 
 -- a new row is of one of the people
 new-of : (c : ℕ) (way : Way) (at : ℕ) (people : List (List ℕ)) (o : SheetRow) → In o (map (new_row c way at) people) → (who : List ℕ) × (list_any (same_text who) people ≡ true) × (o ≡ new_row c way at who)
 new-of c way at [] o h = absurd h
 new-of c way at (who ∷ people) o (inl e) = (who, ap (λ b. b || list_any (same_text who) people) (same-itself who), e)
-new-of c way at (who ∷ people) o (inr h) = let r = new-of c way at people o h in (r.0, more (same_text r.0 who) (list_any (same_text r.0) people) r.1, r.2)
-  where
-    more : (a b : Bool) → b ≡ true → (a || b) ≡ true
-    more true b e = refl
-    more false b e = e
+new-of c way at (who ∷ people) o (inr h) = let r = new-of c way at people o h in (r.0, or_right (same_text r.0 who) (list_any (same_text r.0) people) r.1, r.2)
 
 alike-more : (rows : List SheetRow) (c : ℕ) (way : Way) (at : ℕ) (people : List (List ℕ)) → HaveTurns rows c way at people → AreAlike rows → AreAlike (rows ++ map (new_row c way at) people)
 alike-more rows c way at people turn alike r o h k same e d = by_parts (in-append r rows (map (new_row c way at) people) h) (in-append o rows (map (new_row c way at) people) k)

@@ -1,22 +1,20 @@
 -- Nothing is found in the tables of a register.
-use Rattle.std.proofs.Common.{◌≡◌, ℕ, ◌+◌, ◌<◌, ◌≤◌, Bool, true, false, cond, not, ◌||◌, ◌&&◌, List, [], ◌∷◌, map, Option, Some, None, is_some, refl, sym, ap, subst, ◌∙◌, arith, inl, inr}
-use Rattle.std.specs.Prelude.{unwrap_or, reverse, ◌⊎◌}
+use Rattle.std.proofs.Common.{◌≡◌, ℕ, ◌<◌, ◌≤◌, Bool, true, false, cond, not, ◌||◌, ◌&&◌, List, [], ◌∷◌, map, Option, Some, None, is_some, refl, sym, ap, subst, ◌∙◌, arith, inl, inr}
+use Rattle.std.specs.Prelude.{unwrap_or, reverse}
 use Rattle.std.specs.List.{list_any, count_by}
 use Rattle.std.specs.List.Sorted.{IsPermutation}
-use Rattle.std.proofs.lemmas.Bool.{true≢false, ltb-true, and_parts, or_parts, or_cases, not-true}
-use Rattle.std.proofs.lemmas.List.Sums.{sum_by-cons}
+use Rattle.std.proofs.lemmas.Bool.{true≢false, ltb-true, and_parts, and_from, and_right, or_cases, or_from, or_left, or_right, not-true}
 use Rattle.std.proofs.lemmas.List.Sorted.{list_any-IsPermutation, sum_by-IsPermutation, IsPermutation-trans, IsPermutation-reverse}
 use Rattle.kcr_base.specs.Same.{same_text}
 use Rattle.kcr_room.proofs.Agreement.{same-is, same-itself, same-turned}
-use Rattle.kcr_room.proofs.Lists.{map-map}
+use Rattle.kcr_room.proofs.Lists.{any-same, count-cons, map-map}
 use Rattle.kcr_custody.specs.Balance.{all_differ, holds_items}
 use Rattle.kcr_custody.specs.Custody.{is_box}
 use Rattle.kcr_custody.specs.declared.Bag.{Bag}
-use Rattle.kcr_custody.specs.declared.Item.{Item}
 use Rattle.kcr_custody.specs.declared.Rest.{Rest}
 use Rattle.kcr_custody.specs.declared.Rest.TheVariants.{Loose, Within}
 use Rattle.kcr_custody.specs.declared.Spot.{Spot}
-use Rattle.kcr_custody.specs.declared.Spot.TheVariants.{Table, Equipment, InBox, Spent}
+use Rattle.kcr_custody.specs.declared.Spot.TheVariants.{InBox, Spent}
 use Rattle.kcr_base.specs.declared.place.Facility.TheVariants.{East}
 use Rattle.kcr_history.specs.declared.rows.KeyRow.{KeyRow}
 use Rattle.kcr_history.specs.declared.views.Finding.TheVariants as Findings
@@ -36,23 +34,11 @@ use Rattle.kcr_laws.proofs.Balance.{balanced}
 use Rattle.kcr_laws.proofs.Alone.{rooms}
 use Rattle.kcr_audit.proofs.Alike.{alike, same-crowds}
 use Rattle.kcr_audit.specs.Whole.{tables_of}
-use Rattle.kcr_audit.proofs.Found.{or-left, or-right, none-of}
+use Rattle.kcr_audit.proofs.Found.{any-more, any-map, none-counted}
 use Rattle.kcr_laws.proofs.Stored.{sealed_somewhere, box-there}
 use Rattle.kcr_audit.proofs.Rightly.{no-seating}
 
 -- DOUBLED
-
-count-next : {X : Type 0} (p : X → Bool) (x : X) (xs : List X) → count_by p (x ∷ xs) ≡ cond {A = ℕ} (p x) 1 0 + count_by p xs
-count-next p x xs = sum_by-cons (λ y. cond (p y) 1 0) x xs
-
-none-counted : {X : Type 0} (key : X → List ℕ) (text : List ℕ) (xs : List X) → list_any (same_text text) (map key xs) ≡ false → count_by (λ x. same_text (key x) text) xs ≡ 0
-none-counted key text [] h = refl
-none-counted key text (x ∷ xs) h =
-    let p = or_parts (same_text text (key x)) (list_any (same_text text) (map key xs)) h in
-    let here = none-of (same_text (key x) text) (same-turned (key x) text ∙ p.0) in
-    let rest = none-counted key text xs p.1 in
-    let next = count-next (λ y. same_text (key y) text) x xs in
-    omega arith
 
 -- where all texts differ, at most one row has the text
 differ-once : {X : Type 0} (key : X → List ℕ) (text : List ℕ) (xs : List X) → all_differ (map key xs) ≡ true → count_by (λ x. same_text (key x) text) xs ≤ 1
@@ -62,20 +48,14 @@ differ-once key text (x ∷ xs) h = by_test (same_text (key x) text) refl (diffe
     p : (not (list_any (same_text (key x)) (map key xs)) ≡ true) × (all_differ (map key xs) ≡ true)
     p = and_parts (not (list_any (same_text (key x)) (map key xs))) (all_differ (map key xs)) h
 
+    others : same_text (key x) text ≡ true → list_any (λ y. same_text (key y) text) xs ≡ false
+    others e =
+        any-same (λ y. same_text (key y) text) (λ y. same_text text (key y)) xs (λ y. same-turned (key y) text) ∙ sym (any-map (same_text text) key xs)
+        ∙ subst (λ t. list_any (same_text t) (map key xs) ≡ false) (same-is (key x) text e) (not-true (list_any (same_text (key x)) (map key xs)) p.0)
+
     by_test : (b : Bool) → same_text (key x) text ≡ b → count_by (λ y. same_text (key y) text) xs ≤ 1 → count_by (λ y. same_text (key y) text) (x ∷ xs) ≤ 1
-    by_test true e ih =
-        let none = none-counted key text xs (subst (λ t. list_any (same_text t) (map key xs) ≡ false) (same-is (key x) text e) (not-true (list_any (same_text (key x)) (map key xs)) p.0)) in
-        let next = count-next (λ y. same_text (key y) text) x xs in
-        let one = at-most (same_text (key x) text) in
-        omega arith
-      where
-        at-most : (b : Bool) → cond {A = ℕ} b 1 0 ≤ 1
-        at-most true = omega arith
-        at-most false = omega arith
-    by_test false e ih =
-        let here = none-of (same_text (key x) text) e in
-        let next = count-next (λ y. same_text (key y) text) x xs in
-        omega arith
+    by_test true e ih = let next = count-cons (λ y. same_text (key y) text) x xs true e in let none = none-counted (λ y. same_text (key y) text) xs (others e) in omega arith
+    by_test false e ih = let next = count-cons (λ y. same_text (key y) text) x xs false e in omega arith
 
 not-doubled : {X : Type 0} (key : X → List ℕ) (text : List ℕ) (rows shown : List X) → all_differ (map key rows) ≡ true → IsPermutation rows shown → is_doubled (λ x. same_text (key x) text) shown ≡ true → ⊥
 not-doubled key text rows shown h p d =
@@ -92,58 +72,44 @@ no-key A h view p key t =
 
 -- BAGS
 
-serials-of : (A : History) (serials : List (List ℕ)) → map (λ row. row.serial) (map (bag_row A) serials) ≡ serials
-serials-of A [] = refl
-serials-of A (serial ∷ serials) = ap (λ rest. serial ∷ rest) (serials-of A serials)
-
 -- where none of the texts makes a row that passes, none of the rows does
 none-made : {X : Type 0} (p : X → Bool) (make : List ℕ → X) (texts : List (List ℕ)) → ((text : List ℕ) → list_any (same_text text) texts ≡ true → p (make text) ≡ false) → list_any p (map make texts) ≡ false
 none-made p make [] f = refl
 none-made p make (text ∷ texts) f =
-    both (p (make text)) (list_any p (map make texts)) (f text (or-left (same_text text text) (list_any (same_text text) texts) (same-itself text)))
-    (none-made p make texts (λ other g. f other (or-right (same_text other text) (list_any (same_text other) texts) g)))
-  where
-    both : (a b : Bool) → a ≡ false → b ≡ false → (a || b) ≡ false
-    both a b e g = rw (e, g) refl
+    or_from (p (make text)) (list_any p (map make texts)) (f text (or_left (same_text text text) (list_any (same_text text) texts) (same-itself text)))
+    (none-made p make texts (λ other g. f other (or_right (same_text other text) (list_any (same_text other) texts) g)))
 
 -- a row that is there passes
 one-made : {X : Type 0} (p : X → Bool) (make : List ℕ → X) (text : List ℕ) (texts : List (List ℕ)) → list_any (λ t. same_text t text) texts ≡ true → p (make text) ≡ true → list_any p (map make texts) ≡ true
-one-made p make text [] m f = absurd (true≢false (sym m))
-one-made p make text (first ∷ texts) m f = by_or (or_cases (same_text first text) (list_any (λ t. same_text t text) texts) m) (λ g. one-made p make text texts g f)
-  where
-    by_or : (same_text first text ≡ true) ⊎ (list_any (λ t. same_text t text) texts ≡ true) → (list_any (λ t. same_text t text) texts ≡ true → list_any p (map make texts) ≡ true) → (p (make first) || list_any p (map make texts)) ≡ true
-    by_or (inl e) ih = or-left (p (make first)) (list_any p (map make texts)) (subst (λ t. p (make t) ≡ true) (sym (same-is first text e)) f)
-    by_or (inr e) ih = or-right (p (make first)) (list_any p (map make texts)) (ih e)
+one-made p make text texts m f = any-map p make texts ∙ any-more (λ t. same_text t text) (λ t. p (make t)) texts (λ t e. subst (λ t. p (make t) ≡ true) (sym (same-is t text e)) f) m
 
-and-none : (a b : Bool) → b ≡ false → (a && b) ≡ false
-and-none true b e = e
-and-none false b e = refl
+own-texts : {X : Type 0} (key : X → List ℕ) (make : List ℕ → X) (texts : List (List ℕ)) → ((text : List ℕ) → key (make text) ≡ text) → map key (map make texts) ≡ texts
+own-texts key make [] own = refl
+own-texts key make (text ∷ texts) own = rw (own text, own-texts key make texts own)
+
+-- where one row is made of each text, the texts differ and no row that is made is bad, none is to be told of
+none-wrong : {X : Type 0} (key : X → List ℕ) (make : List ℕ → X) (bad : X → Bool) (texts : List (List ℕ)) (shown : List X) → ((text : List ℕ) → key (make text) ≡ text) → all_differ texts ≡ true
+    → IsPermutation (map make texts) shown → ((text : List ℕ) → list_any (same_text text) texts ≡ true → bad (make text) ≡ false) → (text : List ℕ)
+    → (is_doubled (λ x. same_text (key x) text) shown || list_any (λ x. same_text (key x) text && bad x) shown) ≡ true → ⊥
+none-wrong key make bad texts shown own differ p good text t =
+    elim (or_cases (is_doubled (λ x. same_text (key x) text) shown) (list_any (λ x. same_text (key x) text && bad x) shown) t) [
+      | inl d ↦ not-doubled key text (map make texts) shown (ap all_differ (own-texts key make texts own) ∙ differ) p d
+      | inr w ↦
+          true≢false (sym w ∙ sym (list_any-IsPermutation (λ x. same_text (key x) text && bad x) (map make texts) shown p)
+          ∙ none-made (λ x. same_text (key x) text && bad x) make texts (λ made m. and_right (same_text (key (make made)) text) (bad (make made)) (good made m)))
+    ]
 
 -- a bag of the register is in a box that is there
 boxed-bag : (A : History) (view : View) → IsPermutation (boxes A) view.boxes.items → (o : Option Spot) → has_its_box A o ≡ true → is_unboxed view (unwrap_or o Spent) ≡ false
-boxed-bag A view p None h = refl
-boxed-bag A view p (Some (Table f)) h = refl
-boxed-bag A view p (Some (Equipment f)) h = refl
-boxed-bag A view p (Some Spent) h = refl
 boxed-bag A view p (Some (InBox f n)) h = ap not (sym (list_any-IsPermutation (is_box f n) (boxes A) view.boxes.items p) ∙ box-there A f n ∙ h)
+boxed-bag A view p other h = refl
 
 pub no-bag : (A : History) → IsRegister A → (view : View) → IsPermutation (boxes A) view.boxes.items → IsPermutation (bags A) view.bags.items → (serial : List ℕ) → IsTrueOf view (Findings.Bag serial) → ⊥
-no-bag A h view p q serial t = by_or (or_cases (is_doubled (λ row. same_text row.serial serial) view.bags.items) (list_any is_wrong view.bags.items) t)
-  where
-    is_wrong : Bag → Bool
-    is_wrong row = same_text row.serial serial && is_unboxed view row.spot
-
-    by_or : (is_doubled (λ (row : Bag). same_text row.serial serial) view.bags.items ≡ true) ⊎ (list_any is_wrong view.bags.items ≡ true) → ⊥
-    by_or (inl d) = not-doubled (λ row. row.serial) serial (bags A) view.bags.items (ap all_differ (serials-of A (all_said sealed_serial A)) ∙ (balanced A h).sealed_once) q d
-    by_or (inr w) =
-        true≢false (sym w ∙ sym (list_any-IsPermutation is_wrong (bags A) view.bags.items q)
-        ∙ none-made is_wrong (bag_row A) (all_said sealed_serial A) (λ s m. and-none (same_text s serial) (is_unboxed view (unwrap_or (spot A s) Spent)) (boxed-bag A view p (spot A s) ((balanced A h).boxed s))))
+no-bag A h view p q =
+    none-wrong (λ row. row.serial) (bag_row A) (λ row. is_unboxed view row.spot) (all_said sealed_serial A) view.bags.items (λ s. refl) (balanced A h).sealed_once q
+    (λ s m. boxed-bag A view p (spot A s) ((balanced A h).boxed s))
 
 -- ITEMS
-
-codes-of : (A : History) (codes : List (List ℕ)) → map (λ row. row.code) (map (item_row A) codes) ≡ codes
-codes-of A [] = refl
-codes-of A (code ∷ codes) = ap (λ rest. code ∷ rest) (codes-of A codes)
 
 holding : (o : Option Spot) → holds_items o ≡ true → (is_some o ≡ true) × (holds_items (Some (unwrap_or o Spent)) ≡ true)
 holding None h = absurd (true≢false (sym h))
@@ -154,30 +120,19 @@ bag-there : (A : History) → IsRegister A → (view : View) → IsPermutation (
 bag-there A h view p serial e =
     let held = holding (spot A serial) e in
     sym (list_any-IsPermutation is_there (bags A) view.bags.items p)
-    ∙ one-made is_there (bag_row A) serial (all_said sealed_serial A) (sealed_somewhere A h serial ∙ held.0) (both (same_text serial serial) (holds_items (Some (unwrap_or (spot A serial) Spent))) (same-itself serial) held.1)
+    ∙ one-made is_there (bag_row A) serial (all_said sealed_serial A) (sealed_somewhere A h serial ∙ held.0) (and_from (same_text serial serial) (holds_items (Some (unwrap_or (spot A serial) Spent))) (same-itself serial) held.1)
   where
     is_there : Bag → Bool
     is_there bag = same_text bag.serial serial && holds_items (Some bag.spot)
 
-    both : (a b : Bool) → a ≡ true → b ≡ true → (a && b) ≡ true
-    both a b e g = rw (e, g) refl
-
 kept-item : (A : History) → IsRegister A → (view : View) → IsPermutation (bags A) view.bags.items → (o : Option Rest) → is_kept A o ≡ true → is_lost view (unwrap_or o (Loose East)) ≡ false
-kept-item A h view p None k = refl
-kept-item A h view p (Some (Loose f)) k = refl
 kept-item A h view p (Some (Within serial)) k = ap not (bag-there A h view p serial k)
+kept-item A h view p other k = refl
 
 pub no-item : (A : History) → IsRegister A → (view : View) → IsPermutation (bags A) view.bags.items → IsPermutation (items A) view.items.items → (item : List ℕ) → IsTrueOf view (Findings.Custody item) → ⊥
-no-item A h view p q item t = by_or (or_cases (is_doubled (λ row. same_text row.code item) view.items.items) (list_any is_wrong view.items.items) t)
-  where
-    is_wrong : Item → Bool
-    is_wrong row = same_text row.code item && is_lost view row.rest
-
-    by_or : (is_doubled (λ (row : Item). same_text row.code item) view.items.items ≡ true) ⊎ (list_any is_wrong view.items.items ≡ true) → ⊥
-    by_or (inl d) = not-doubled (λ row. row.code) item (items A) view.items.items (ap all_differ (codes-of A (all_said added_item A)) ∙ (balanced A h).added_once) q d
-    by_or (inr w) =
-        true≢false (sym w ∙ sym (list_any-IsPermutation is_wrong (items A) view.items.items q)
-        ∙ none-made is_wrong (item_row A) (all_said added_item A) (λ i m. and-none (same_text i item) (is_lost view (unwrap_or (rest A i) (Loose East))) (kept-item A h view p (rest A i) (((balanced A h).added_kept i).0 m))))
+no-item A h view p q =
+    none-wrong (λ row. row.code) (item_row A) (λ row. is_lost view row.rest) (all_said added_item A) view.items.items (λ i. refl) (balanced A h).added_once q
+    (λ i m. kept-item A h view p (rest A i) (((balanced A h).added_kept i).0 m))
 
 -- ROOMS
 

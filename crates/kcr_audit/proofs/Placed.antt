@@ -1,26 +1,23 @@
 -- The rows of a step's seats, in whatever order they come, are those people once they are put in order.
-use Rattle.std.proofs.Common.{◌≡◌, ℕ, suc, ◌+◌, ◌<◌, ◌≤◌, Bool, true, false, cond, ◌==◌, ◌&&◌, nat_lt, List, [], ◌∷◌, ◌++◌, map, refl, sym, ap, subst, ◌∙◌, arith, inl, inr, append_assoc}
-use Rattle.std.specs.Prelude.{◌⊎◌}
-use Rattle.std.specs.List.{count_by}
+use Rattle.std.proofs.Common.{◌≡◌, ℕ, suc, ◌<◌, Bool, true, false, cond, ◌&&◌, nat_lt, List, [], ◌∷◌, ◌++◌, map, refl, sym, ap, subst, ◌∙◌, arith, inl, inr}
 use Rattle.std.specs.List.Sorted.{IsPermutation}
-use Rattle.std.proofs.lemmas.Bool.{ltb-true, ltb-false, eqb-true, eq-eqb, ne_eqb}
+use Rattle.std.proofs.lemmas.Bool.{cases_order, ltb-true, ltb-false, lt-ltb, le-ltb, eq-eqb}
 use Rattle.std.proofs.lemmas.List.{append-nil}
-use Rattle.std.proofs.lemmas.List.Sums.{sum_by-cons}
-use Rattle.std.proofs.lemmas.List.Sorted.{sum_by-IsPermutation, IsPermutation-refl, IsPermutation-sym, IsPermutation-trans, IsPermutation-to_front, IsPermutation-append_left}
+use Rattle.std.proofs.lemmas.List.Sorted.{IsPermutation-refl, IsPermutation-sym, IsPermutation-trans, IsPermutation-middle}
+use Rattle.kcr_base.proofs.RowsLemmas.{Shuffled, shuffled, nothing, under, flipped, after}
 use Rattle.kcr_history.specs.declared.rows.SeatingRow.{SeatingRow}
 use Rattle.kcr_history.specs.History.{stacked_on}
 use Rattle.kcr_history.specs.Prints.{put_in_order, in_order}
 use Rattle.kcr_history.specs.Tables.{seat_rows}
 use Rattle.kcr_history.specs.Audit.{are_numbered}
-use Rattle.kcr_audit.proofs.Alike.{In, in-order}
+use Rattle.kcr_audit.proofs.Alike.{In, in-shuffled, turned}
 
 -- STACKED
 
-pub stacked-order : {X : Type 0} (xs ys : List X) → IsPermutation (xs ++ ys) (stacked_on xs ys)
+stacked-order : {X : Type 0} (xs ys : List X) → IsPermutation (xs ++ ys) (stacked_on xs ys)
 stacked-order [] ys = IsPermutation-refl ys
 stacked-order (x ∷ xs) ys =
-    let moved : IsPermutation (xs ++ (x ∷ ys)) (x ∷ xs ++ ys) = subst (λ zs. IsPermutation zs (x ∷ xs ++ ys)) (append_assoc xs (x ∷ []) ys) (IsPermutation-append_left ys (xs ++ (x ∷ [])) (x ∷ xs) (IsPermutation-to_front xs x)) in
-    IsPermutation-trans (x ∷ xs ++ ys) (xs ++ (x ∷ ys)) (stacked_on xs (x ∷ ys)) (IsPermutation-sym (xs ++ (x ∷ ys)) (x ∷ xs ++ ys) moved) (stacked-order xs (x ∷ ys))
+    IsPermutation-trans (x ∷ xs ++ ys) (xs ++ (x ∷ ys)) (stacked_on xs (x ∷ ys)) (IsPermutation-sym (xs ++ (x ∷ ys)) (x ∷ xs ++ ys) (IsPermutation-middle xs x ys)) (stacked-order xs (x ∷ ys))
 
 pub stacked-alone : {X : Type 0} (xs : List X) → IsPermutation xs (stacked_on xs [])
 stacked-alone xs = subst (λ zs. IsPermutation zs (stacked_on xs [])) (append-nil xs) (stacked-order xs [])
@@ -30,135 +27,39 @@ stacked-alone xs = subst (λ zs. IsPermutation zs (stacked_on xs [])) (append-ni
 abbrev pub comes_before : SeatingRow → SeatingRow → Bool
 comes_before a b = nat_lt a.seat b.seat
 
--- each row's seat is before those of all later rows
-abbrev Rises : List SeatingRow → Type 0
-Rises [] = Unit {0}
-Rises (x ∷ xs) = ((y : SeatingRow) → In y xs → x.seat < y.seat) × Rises xs
-
-abbrev at_seat : ℕ → List SeatingRow → ℕ
-at_seat n xs = count_by (λ row. row.seat == n) xs
-
-seat-next : (n : ℕ) (x : SeatingRow) (xs : List SeatingRow) → at_seat n (x ∷ xs) ≡ cond {A = ℕ} (x.seat == n) 1 0 + at_seat n xs
-seat-next n x xs = sum_by-cons (λ row. cond (row.seat == n) 1 0) x xs
-
-is-one : (b : Bool) → b ≡ true → cond {A = ℕ} b 1 0 ≡ 1
-is-one true e = refl
-is-one false e = absurd (let f : false ≡ true = e in cc)
-
-is-none : (b : Bool) → b ≡ false → cond {A = ℕ} b 1 0 ≡ 0
-is-none false e = refl
-is-none true e = absurd (let f : true ≡ false = e in cc)
-
--- the seat of a row that is there is counted
-seat-counted : (y : SeatingRow) (xs : List SeatingRow) → In y xs → 1 ≤ at_seat y.seat xs
-seat-counted y [] m = absurd m
-seat-counted y (x ∷ xs) (inl e) =
-    let next = seat-next y.seat x xs in
-    let here = is-one (x.seat == y.seat) (eq-eqb x.seat y.seat (ap (λ (row : SeatingRow). row.seat) (sym e))) in
-    omega arith
-seat-counted y (x ∷ xs) (inr m) =
-    let next = seat-next y.seat x xs in
-    let rest = seat-counted y xs m in
-    omega arith
-
--- IN ORDER
-
-in-put : (x : SeatingRow) (ys : List SeatingRow) (z : SeatingRow) → In z (put_in_order comes_before x ys) → (z ≡ x) ⊎ In z ys
-in-put x [] z (inl e) = inl e
-in-put x [] z (inr m) = absurd m
-in-put x (y ∷ ys) z m = by_test (comes_before y x) m (in-put x ys z)
+-- two rows of different seats, put in their places in either order
+put-apart : (x y : SeatingRow) (zs : List SeatingRow) → x.seat < y.seat → put_in_order comes_before x (put_in_order comes_before y zs) ≡ put_in_order comes_before y (put_in_order comes_before x zs)
+put-apart x y [] l = rw (le-ltb y.seat x.seat (omega arith), lt-ltb x.seat y.seat l) refl
+put-apart x y (z ∷ zs) l = by_tests (comes_before z x) (comes_before z y) refl refl (put-apart x y zs l)
   where
-    by_test : (b : Bool) → In z (cond b (y ∷ put_in_order comes_before x ys) (x ∷ y ∷ ys)) → (In z (put_in_order comes_before x ys) → (z ≡ x) ⊎ In z ys) → (z ≡ x) ⊎ ((z ≡ y) ⊎ In z ys)
-    by_test true (inl e) ih = inr (inl e)
-    by_test true (inr m) ih = by_part (ih m)
-      where
-        by_part : (z ≡ x) ⊎ In z ys → (z ≡ x) ⊎ ((z ≡ y) ⊎ In z ys)
-        by_part (inl e) = inl e
-        by_part (inr m) = inr (inr m)
-    by_test false m ih = m
+    by_tests : (a b : Bool) → comes_before z x ≡ a → comes_before z y ≡ b → put_in_order comes_before x (put_in_order comes_before y zs) ≡ put_in_order comes_before y (put_in_order comes_before x zs)
+        → put_in_order comes_before x (cond b (z ∷ put_in_order comes_before y zs) (y ∷ z ∷ zs)) ≡ put_in_order comes_before y (cond a (z ∷ put_in_order comes_before x zs) (x ∷ z ∷ zs))
+    by_tests true true e f ih = rw (e, f) (ap (λ rest. z ∷ rest) ih)
+    by_tests false true e f ih = rw (e, f, lt-ltb x.seat y.seat l) refl
+    by_tests false false e f ih = rw (le-ltb y.seat x.seat (omega arith), lt-ltb x.seat y.seat l, f) refl
+    by_tests true false e f ih = absurd (let m = ltb-true z.seat x.seat e in let n = ltb-false z.seat y.seat f in omega arith)
 
-put-in : (x : SeatingRow) (ys : List SeatingRow) (z : SeatingRow) → (z ≡ x) ⊎ In z ys → In z (put_in_order comes_before x ys)
-put-in x [] z m = m
-put-in x (y ∷ ys) z m = by_test (comes_before y x) m (put-in x ys z)
-  where
-    by_test : (b : Bool) → (z ≡ x) ⊎ ((z ≡ y) ⊎ In z ys) → ((z ≡ x) ⊎ In z ys → In z (put_in_order comes_before x ys)) → In z (cond b (y ∷ put_in_order comes_before x ys) (x ∷ y ∷ ys))
-    by_test true (inl e) ih = inr (ih (inl e))
-    by_test true (inr (inl e)) ih = inl e
-    by_test true (inr (inr m)) ih = inr (ih (inr m))
-    by_test false m ih = m
+-- two rows put in their places in either order, where they are one if they have one seat
+put-both : (x y : SeatingRow) (zs : List SeatingRow) → (x.seat ≡ y.seat → x ≡ y)
+    → put_in_order comes_before x (put_in_order comes_before y zs) ≡ put_in_order comes_before y (put_in_order comes_before x zs)
+put-both x y zs same = elim (cases_order x.seat y.seat) [
+  | inl e ↦ ap (λ z. put_in_order comes_before z (put_in_order comes_before y zs)) (same e) ∙ ap (λ z. put_in_order comes_before y (put_in_order comes_before z zs)) (sym (same e))
+  | inr (inl l) ↦ put-apart x y zs l
+  | inr (inr l) ↦ sym (put-apart y x zs l)
+]
 
-in-sorted : (xs : List SeatingRow) (z : SeatingRow) → In z (in_order comes_before xs) → In z xs
-in-sorted [] z m = m
-in-sorted (x ∷ xs) z m = by_part (in-put x (in_order comes_before xs) z m) (in-sorted xs z)
-  where
-    by_part : (z ≡ x) ⊎ In z (in_order comes_before xs) → (In z (in_order comes_before xs) → In z xs) → (z ≡ x) ⊎ In z xs
-    by_part (inl e) ih = inl e
-    by_part (inr m) ih = inr (ih m)
+-- ROWS THAT ARE ONE WHERE THEIR SEAT IS ONE
 
-sorted-in : (xs : List SeatingRow) (z : SeatingRow) → In z xs → In z (in_order comes_before xs)
-sorted-in [] z m = m
-sorted-in (x ∷ xs) z (inl e) = put-in x (in_order comes_before xs) z (inl e)
-sorted-in (x ∷ xs) z (inr m) = put-in x (in_order comes_before xs) z (inr (sorted-in xs z m))
+abbrev OneEach : List SeatingRow → Type 0
+OneEach xs = (r o : SeatingRow) → In r xs → In o xs → r.seat ≡ o.seat → r ≡ o
 
--- a row whose seat no other has is put in its place
-put-rises : (x : SeatingRow) (ys : List SeatingRow) → ((y : SeatingRow) → In y ys → x.seat ≡ y.seat → ⊥) → Rises ys → Rises (put_in_order comes_before x ys)
-put-rises x [] other r = (λ y m. absurd m, tt)
-put-rises x (y ∷ ys) other r = by_test (comes_before y x) refl (put-rises x ys (λ z m. other z (inr m)) r.1)
-  where
-    by_test : (b : Bool) → comes_before y x ≡ b → Rises (put_in_order comes_before x ys) → Rises (cond b (y ∷ put_in_order comes_before x ys) (x ∷ y ∷ ys))
-    by_test true e ih = (λ z m. behind z (in-put x ys z m), ih)
-      where
-        behind : (z : SeatingRow) → (z ≡ x) ⊎ In z ys → y.seat < z.seat
-        behind z (inl q) = let l = ltb-true y.seat x.seat e in let s = ap (λ (row : SeatingRow). row.seat) q in omega arith
-        behind z (inr m) = r.0 z m
-    by_test false e ih = (behind, r)
-      where
-        first : x.seat < y.seat
-        first = let l = ltb-false y.seat x.seat e in let n = other y (inl refl) in omega (arith, l, n)
-
-        behind : (z : SeatingRow) → (z ≡ y) ⊎ In z ys → x.seat < z.seat
-        behind z (inl q) = let l = first in let s = ap (λ (row : SeatingRow). row.seat) q in omega arith
-        behind z (inr m) = let l = first in let n = r.0 z m in omega arith
-
--- rows with a seat each rise once they are in order
-sorted-rises : (xs : List SeatingRow) → ((n : ℕ) → at_seat n xs ≤ 1) → Rises (in_order comes_before xs)
-sorted-rises [] once = tt
-sorted-rises (x ∷ xs) once = put-rises x (in_order comes_before xs) other (sorted-rises xs fewer)
-  where
-    fewer : (n : ℕ) → at_seat n xs ≤ 1
-    fewer n = let next = seat-next n x xs in let few = once n in omega arith
-
-    other : (y : SeatingRow) → In y (in_order comes_before xs) → x.seat ≡ y.seat → ⊥
-    other y m e =
-        let next = seat-next y.seat x xs in
-        let here = is-one (x.seat == y.seat) (eq-eqb x.seat y.seat e) in
-        let there = seat-counted y xs (in-sorted xs y m) in
-        let few = once y.seat in
-        omega arith
-
--- two rising lists with the same rows are one
-rising-same : (xs ys : List SeatingRow) → Rises xs → Rises ys → ((z : SeatingRow) → In z xs → In z ys) → ((z : SeatingRow) → In z ys → In z xs) → xs ≡ ys
-rising-same [] [] r s f g = refl
-rising-same [] (y ∷ ys) r s f g = absurd (g y (inl refl))
-rising-same (x ∷ xs) [] r s f g = absurd (f x (inl refl))
-rising-same (x ∷ xs) (y ∷ ys) r s f g =
-    ap (λ z. z ∷ xs) heads ∙ ap (λ zs. y ∷ zs) (rising-same xs ys r.1 s.1 (λ z m. onward z m (f z (inr m))) (λ z m. back z m (g z (inr m))))
-  where
-    heads : x ≡ y
-    heads = by_parts (f x (inl refl)) (g y (inl refl))
-      where
-        by_parts : (x ≡ y) ⊎ In x ys → (y ≡ x) ⊎ In y xs → x ≡ y
-        by_parts (inl e) q = e
-        by_parts (inr m) (inl e) = sym e
-        by_parts (inr m) (inr n) = absurd (let a = s.0 x m in let b = r.0 y n in omega arith)
-
-    onward : (z : SeatingRow) → In z xs → (z ≡ y) ⊎ In z ys → In z ys
-    onward z m (inr n) = n
-    onward z m (inl e) = absurd (let a = r.0 z m in let b : z.seat ≡ y.seat = ap (λ (row : SeatingRow). row.seat) e in let d : x.seat ≡ y.seat = ap (λ (row : SeatingRow). row.seat) heads in omega arith)
-
-    back : (z : SeatingRow) → In z ys → (z ≡ x) ⊎ In z xs → In z xs
-    back z m (inr n) = n
-    back z m (inl e) = absurd (let a = s.0 z m in let b : z.seat ≡ x.seat = ap (λ (row : SeatingRow). row.seat) e in let d : x.seat ≡ y.seat = ap (λ (row : SeatingRow). row.seat) heads in omega arith)
+-- they come in one order, however they came
+order-same : {xs ys : List SeatingRow} → Shuffled xs ys → OneEach xs → in_order comes_before xs ≡ in_order comes_before ys
+order-same nothing one = refl
+order-same (under x xs ys s) one = ap (put_in_order comes_before x) (order-same s (λ r o m n. one r o (inr m) (inr n)))
+order-same (flipped x y xs) one = put-both x y (in_order comes_before xs) (one x y (inl refl) (inr (inl refl)))
+order-same (after xs ys zs s t) one =
+    order-same s one ∙ order-same t (λ r o m n. one r o (in-shuffled r (turned s) m) (in-shuffled o (turned s) n))
 
 -- THE ROWS OF THE SEATS
 
@@ -167,46 +68,28 @@ seats-above c k i [] y m = absurd m
 seats-above c k i (who ∷ people) y (inl e) = let s : y.seat ≡ suc i = ap (λ (row : SeatingRow). row.seat) e in omega arith
 seats-above c k i (who ∷ people) y (inr m) = let l = seats-above c k (suc i) people y m in omega arith
 
-seats-rise : (c k i : ℕ) (people : List (List ℕ)) → Rises (seat_rows c k i people)
-seats-rise c k i [] = tt
-seats-rise c k i (who ∷ people) = (λ y m. seats-above c k (suc i) people y m, seats-rise c k (suc i) people)
+seats-one : (c k i : ℕ) (people : List (List ℕ)) → OneEach (seat_rows c k i people)
+seats-one c k i [] r o m n e = absurd m
+seats-one c k i (who ∷ people) r o (inl f) (inl g) e = f ∙ sym g
+seats-one c k i (who ∷ people) r o (inl f) (inr n) e = absurd (let l = seats-above c k (suc i) people o n in let s : r.seat ≡ suc i = ap (λ (row : SeatingRow). row.seat) f in omega arith)
+seats-one c k i (who ∷ people) r o (inr m) (inl g) e = absurd (let l = seats-above c k (suc i) people r m in let s : o.seat ≡ suc i = ap (λ (row : SeatingRow). row.seat) g in omega arith)
+seats-one c k i (who ∷ people) r o (inr m) (inr n) e = seats-one c k (suc i) people r o m n e
 
-seats-none : (c k i n : ℕ) (people : List (List ℕ)) → n ≤ i → at_seat n (seat_rows c k i people) ≡ 0
-seats-none c k i n [] l = refl
-seats-none c k i n (who ∷ people) l =
-    let row : SeatingRow = record { ceremony = c; step = k; seat = suc i; who = who } in
-    let next = seat-next n row (seat_rows c k (suc i) people) in
-    let here = is-none (suc i == n) (ne_eqb (suc i) n (λ e. omega (arith, e, l))) in
-    let rest = seats-none c k (suc i) n people (omega arith) in
-    omega arith
-
-seats-once : (c k i n : ℕ) (people : List (List ℕ)) → at_seat n (seat_rows c k i people) ≤ 1
-seats-once c k i n [] = omega arith
-seats-once c k i n (who ∷ people) = by_test (suc i == n) refl (seats-once c k (suc i) n people)
+-- they stay as they are
+seats-stay : (c k i : ℕ) (people : List (List ℕ)) → in_order comes_before (seat_rows c k i people) ≡ seat_rows c k i people
+seats-stay c k i [] = refl
+seats-stay c k i (who ∷ people) = ap (put_in_order comes_before row) (seats-stay c k (suc i) people) ∙ first people
   where
     row : SeatingRow
     row = record { ceremony = c; step = k; seat = suc i; who = who }
 
-    by_test : (b : Bool) → (suc i == n) ≡ b → at_seat n (seat_rows c k (suc i) people) ≤ 1 → at_seat n (row ∷ seat_rows c k (suc i) people) ≤ 1
-    by_test true e ih =
-        let next = seat-next n row (seat_rows c k (suc i) people) in
-        let here = is-one (suc i == n) e in
-        let q = eqb-true (suc i) n e in
-        let rest = seats-none c k (suc i) n people (omega arith) in
-        omega arith
-    by_test false e ih =
-        let next = seat-next n row (seat_rows c k (suc i) people) in
-        let here = is-none (suc i == n) e in
-        omega arith
+    first : (people : List (List ℕ)) → put_in_order comes_before row (seat_rows c k (suc i) people) ≡ row ∷ seat_rows c k (suc i) people
+    first [] = refl
+    first (next ∷ people) = rw (le-ltb (suc (suc i)) (suc i) (omega arith)) refl
 
 -- in order, the rows of the seats are those that they were before
 pub seats-in-order : (c k i : ℕ) (people : List (List ℕ)) (rows : List SeatingRow) → IsPermutation (seat_rows c k i people) rows → in_order comes_before rows ≡ seat_rows c k i people
-seats-in-order c k i people rows p =
-    rising-same (in_order comes_before rows) (seat_rows c k i people)
-    (sorted-rises rows (λ n. (let same = sum_by-IsPermutation (λ row. cond (row.seat == n) 1 0) (seat_rows c k i people) rows p in let few = seats-once c k i n people in omega arith)))
-    (seats-rise c k i people)
-    (λ z m. in-order z rows (seat_rows c k i people) (IsPermutation-sym (seat_rows c k i people) rows p) (in-sorted rows z m))
-    (λ z m. sorted-in rows z (in-order z (seat_rows c k i people) rows p m))
+seats-in-order c k i people rows p = sym (order-same (shuffled (seat_rows c k i people) rows p) (seats-one c k i people)) ∙ seats-stay c k i people
 
 pub people-of-seats : (c k i : ℕ) (people : List (List ℕ)) → map (λ row. row.who) (seat_rows c k i people) ≡ people
 people-of-seats c k i [] = refl
