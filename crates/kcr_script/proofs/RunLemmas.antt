@@ -16,17 +16,10 @@ seat_of_kind n = get_or (Staff Ca ∷ Staff Iw ∷ Staff Sa ∷ Staff Ssc1 ∷ S
 
 seat_of_kind-kind : (s : Seat) → kind s < 9 → seat_of_kind (kind s) ≡ s
 unfolding seat_of_kind
-seat_of_kind-kind (Staff Ca) h = refl
-seat_of_kind-kind (Staff Iw) h = refl
-seat_of_kind-kind (Staff Sa) h = refl
-seat_of_kind-kind (Staff Ssc1) h = refl
-seat_of_kind-kind (Staff Ssc2) h = refl
-seat_of_kind-kind (Staff Rkos) h = refl
-seat_of_kind-kind (Staff Sw) h = refl
-seat_of_kind-kind AnyCo h = refl
-seat_of_kind-kind AnyRksh h = refl
 seat_of_kind-kind (Co n) h = absurd (omega arith)
 seat_of_kind-kind (Rksh n) h = absurd (omega arith)
+seat_of_kind-kind (Staff Ca) h = refl
+seat_of_kind-kind other h = refl
 
 -- seats without a number are the same by their kind
 kind_same : (s t : Seat) → kind s < 9 → kind s ≡ kind t → s ≡ t

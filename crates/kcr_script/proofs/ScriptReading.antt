@@ -1,12 +1,12 @@
 -- A text is the script of the steps that `script_of` gives, or breaks a rule at the row that it gives.
-use Rattle.std.proofs.Common.{◌≡◌, ◌≢◌, ℕ, ◌+◌, inl, inr, ◌⊎◌, Bool, true, false, not, ◌&&◌, List, [], ◌∷◌, length, All, Option, Some, None, Result, Ok, Err, IfOk, IfErr, MatchResult, refl, sym, ap, subst, ◌∙◌, arith}
+use Rattle.std.proofs.Common.{◌≡◌, ℕ, ◌+◌, ◌≤◌, inl, inr, true, not, ◌&&◌, List, [], ◌∷◌, length, All, Option, Some, None, Result, Ok, Err, IfOk, IfErr, MatchResult, refl, sym, ap, ◌∙◌, arith}
 use Rattle.std.specs.Prelude.{◌==◌, nat_lt, nat_le, option_map}
 use Rattle.std.specs.Bool.{Decides}
 use Rattle.std.specs.List.{AllByRecursion, list_all}
 use Rattle.std.specs.Str.{is_utf8}
 use Rattle.std.specs.Fmt.{decimal}
 use Rattle.std.specs.Cmp.Lexicographic.{bytes_decides, pointwise}
-use Rattle.std.proofs.lemmas.Bool.{le-leb, leb-true, le-ltb, lt-ltb, ltb-true, ltb-false, cond_both, and_parts}
+use Rattle.std.proofs.lemmas.Bool.{le-leb, leb-true, le-ltb, lt-ltb, ltb-true, ltb-false, cond_both, and_parts, both_ways, false_from_ne_true}
 use Rattle.std.proofs.lemmas.Bool.Decides.{Decides-and, Decides-not, Decides-eqb, Decides-by_and}
 use Rattle.std.proofs.lemmas.List.Elements.{All-from_recursion}
 use Rattle.std.proofs.lemmas.Slice.Eq.{slice_eq-Decides}
@@ -65,10 +65,6 @@ with_seats activity (Some seats) step e =
     (ap (λ (s : Step). Some s.seats) same, ap (λ (s : Step). s.activity) same)
 
 row_of : (k : ℕ) (row : Fields) (step : Step) → step_of k row ≡ Some step → IsRow k row step
-row_of k [] step e = cc
-row_of k (a ∷ []) step e = cc
-row_of k (a ∷ b ∷ []) step e = cc
-row_of k (a ∷ b ∷ c ∷ d ∷ row) step e = cc
 row_of k (a ∷ b ∷ c ∷ []) step e =
     elim (chosen (same_text a (decimal k) && is_activity b) _ _ (Some step) e) [
       | inr fails ↦ let clash = fails.1 in cc
@@ -83,13 +79,11 @@ row_of k (a ∷ b ∷ c ∷ []) step e =
             seats = seats_stand c step.seats s.0;
           }
     ]
+row_of k other step e = cc
 
-no_step : (k : ℕ) (row : Fields) → ((step : Step) → ¬ (IsRow k row step)) → step_of k row ≡ None
-no_step k row none = by (step_of k row) refl
-  where
-    by : (found : Option Step) → step_of k row ≡ found → found ≡ None
-    by None e = refl
-    by (Some step) e = absurd (none step (row_of k row step e))
+no_step : (k : ℕ) (row : Fields) → ((step : Step) → ¬ (IsRow k row step)) → (found : Option Step) → step_of k row ≡ found → found ≡ None
+no_step k row none None e = refl
+no_step k row none (Some step) e = absurd (none step (row_of k row step e))
 
 -- ---- the rows of steps
 
@@ -103,54 +97,31 @@ fault_read : (k : ℕ) (rows : List Fields) (r : ℕ) → BreaksFrom k rows r �
 fault_read k [] r h = absurd h
 fault_read k (row ∷ rows) r (inl (inl above, at)) = rw (lt-ltb 400 k above) (ap (λ (n : ℕ). Err n) (sym at))
 fault_read k (row ∷ rows) r (inl (inr none, at)) =
-    let this : join_steps k (step_of k row) (steps_from (k + 1) rows) ≡ Err (k + 1) = rw (no_step k row none) refl in
+    let this : join_steps k (step_of k row) (steps_from (k + 1) rows) ≡ Err (k + 1) = rw (no_step k row none (step_of k row) refl) refl in
     cond_both (nat_lt 400 k) (Err (k + 1)) _ (λ (x : Result (List Step) ℕ). x ≡ Err (k + 1)) (λ e. refl) (λ e. this) ∙ ap (λ (n : ℕ). Err n) (sym at)
 fault_read k (row ∷ rows) r (inr (low, step, is, more)) = rw (le-ltb 400 k low, step_read k row step is, fault_read (k + 1) rows r more) refl
 
-joined_ok : (k : ℕ) (found : Option Step) (others : Result (List Step) ℕ) (steps : List Step) → join_steps k found others ≡ Ok steps
-    → (step : Step) × (found ≡ Some step) × ((after : List Step) × (others ≡ Ok after) × (steps ≡ step ∷ after))
-joined_ok k None others steps e = cc
-joined_ok k (Some step) (Err r) steps e = cc
-joined_ok k (Some step) (Ok after) steps e = let same : step ∷ after ≡ steps = cc in (step, refl, (after, refl, sym same))
+-- what is told of the rows: they are those of the steps, or break a rule at the row
+abbrev Told : ℕ → List Fields → Result (List Step) ℕ → Type 0
+Told k rows found = MatchResult found (AreSteps k rows) (BreaksFrom k rows)
 
-joined_err : (k : ℕ) (found : Option Step) (others : Result (List Step) ℕ) (r : ℕ) → join_steps k found others ≡ Err r
-    → ((found ≡ None) × (r ≡ k + 1)) ⊎ ((step : Step) × (found ≡ Some step) × (others ≡ Err r))
-joined_err k None others r e = let same : k + 1 ≡ r = cc in inl (refl, sym same)
-joined_err k (Some step) (Ok after) r e = cc
-joined_err k (Some step) (Err q) r e = inr (step, refl, e)
+told_more : (k : ℕ) (row : Fields) (rows : List Fields) → k ≤ 400 → (found : Option Step) → step_of k row ≡ found → (others : Result (List Step) ℕ) → Told (k + 1) rows others
+    → Told k (row ∷ rows) (join_steps k found others)
+told_more k row rows low None e others h = inl (inr (λ step is. (let clash = sym e ∙ step_read k row step is in cc)), refl)
+told_more k row rows low (Some step) e (Ok steps) h = (low, row_of k row step e, h)
+told_more k row rows low (Some step) e (Err r) h = inr (low, step, row_of k row step e, h)
 
-read_steps_are : (k : ℕ) (rows : List Fields) (steps : List Step) → steps_from k rows ≡ Ok steps → AreSteps k rows steps
-read_steps_are k [] steps e = let none : [] ≡ steps = cc in subst (AreSteps k []) none tt
-read_steps_are k (row ∷ rows) steps e =
-    elim (chosen (nat_lt 400 k) (Err (k + 1)) _ (Ok steps) e) [
-      | inl above ↦ let clash = above.1 in cc
-      | inr low ↦
-          let p = joined_ok k (step_of k row) (steps_from (k + 1) rows) steps low.1 in
-          subst (AreSteps k (row ∷ rows)) (sym p.2.2) (ltb-false 400 k low.0, row_of k row p.0 p.1, read_steps_are (k + 1) rows p.2.0 p.2.1)
-    ]
-
-read_fault_breaks : (k : ℕ) (rows : List Fields) (r : ℕ) → steps_from k rows ≡ Err r → BreaksFrom k rows r
-read_fault_breaks k [] r e = cc
-read_fault_breaks k (row ∷ rows) r e =
-    elim (chosen (nat_lt 400 k) (Err (k + 1)) _ (Err r) e) [
-      | inl above ↦ let at : ◌≡◌ {A = Result (List Step) ℕ} (Err (k + 1)) (Err r) = above.1 in let same : k + 1 ≡ r = cc in inl (inl (ltb-true 400 k above.0), sym same)
-      | inr low ↦ elim (joined_err k (step_of k row) (steps_from (k + 1) rows) r low.1) [
-        | inl none ↦ inl (inr (λ step is. (let e = sym none.0 ∙ step_read k row step is in cc)), none.1)
-        | inr some ↦ inr (ltb-false 400 k low.0, some.0, row_of k row some.0 some.1, read_fault_breaks (k + 1) rows r some.2)
-      ]
-    ]
+told : (k : ℕ) (rows : List Fields) → Told k rows (steps_from k rows)
+told k [] = tt
+told k (row ∷ rows) =
+    cond_both (nat_lt 400 k) (Err (k + 1)) (join_steps k (step_of k row) (steps_from (k + 1) rows)) (Told k (row ∷ rows))
+    (λ e. inl (inl (ltb-true 400 k e), refl))
+    (λ e. told_more k row rows (ltb-false 400 k e) (step_of k row) refl (steps_from (k + 1) rows) (told (k + 1) rows))
 
 -- ---- all rows
 
 is_header : (first : Fields) → Decides (pointwise same_text first header) (first ≡ header)
 is_header first = slice_eq-Decides bytes_decides first header (pointwise same_text first header) refl
-
-no_header : (first : Fields) → first ≢ header → pointwise same_text first header ≡ false
-no_header first ne = by (pointwise same_text first header) refl
-  where
-    by : (b : Bool) → pointwise same_text first header ≡ b → b ≡ false
-    by true e = absurd (ne ((is_header first).0 e))
-    by false e = refl
 
 rows_read : (rows : List Fields) (steps : List Step) → IsScriptRows rows steps → steps_of_rows rows ≡ Ok steps
 rows_read [] steps h = absurd h
@@ -159,37 +130,24 @@ rows_read (first ∷ row ∷ rows) steps h = rw ((is_header first).1 h.0) (steps
 
 row_read : (rows : List Fields) (r : ℕ) → BreaksAt rows r → steps_of_rows rows ≡ Err r
 row_read [] r h = ap (λ (n : ℕ). Err n) (sym h)
-row_read (first ∷ rows) r (inl (ne, at)) = rw (no_header first ne) (ap (λ (n : ℕ). Err n) (sym at))
+row_read (first ∷ rows) r (inl (ne, at)) = rw (false_from_ne_true _ (λ e. ne ((is_header first).0 e))) (ap (λ (n : ℕ). Err n) (sym at))
 row_read (first ∷ rows) r (inr (is, inl (none, at))) = rw ((is_header first).1 is, none) (ap (λ (n : ℕ). Err n) (sym at))
 row_read (first ∷ []) r (inr (is, inr breaks)) = absurd breaks
 row_read (first ∷ row ∷ rows) r (inr (is, inr breaks)) = rw ((is_header first).1 is) (fault_read 1 (row ∷ rows) r breaks)
 
-read_rows_are : (rows : List Fields) (steps : List Step) → steps_of_rows rows ≡ Ok steps → IsScriptRows rows steps
-read_rows_are [] steps e = cc
-read_rows_are (first ∷ rows) steps e =
-    elim (chosen (pointwise same_text first header) (some_steps rows) (Err 1) (Ok steps) e) [
-      | inr fails ↦ let clash = fails.1 in cc
-      | inl holds ↦ by rows ((is_header first).0 holds.0) holds.1
-    ]
+told_rows : (rows : List Fields) → MatchResult (steps_of_rows rows) (IsScriptRows rows) (BreaksAt rows)
+told_rows [] = refl
+told_rows (first ∷ rows) =
+    cond_both (pointwise same_text first header) (some_steps rows) (Err 1) (λ found. MatchResult found (IsScriptRows (first ∷ rows)) (BreaksAt (first ∷ rows)))
+    (λ e. by rows ((is_header first).0 e)) (λ e. inl (λ is. both_ways _ e ((is_header first).1 is), refl))
   where
-    by : (rows : List Fields) → first ≡ header → some_steps rows ≡ Ok steps → IsScriptRows (first ∷ rows) steps
-    by [] is e = cc
-    by (row ∷ rows) is e = (is, omega arith, read_steps_are 1 (row ∷ rows) steps e)
+    under : (rows : List Fields) (found : Result (List Step) ℕ) → first ≡ header → 1 ≤ length rows → Told 1 rows found → MatchResult found (IsScriptRows (first ∷ rows)) (BreaksAt (first ∷ rows))
+    under rows (Ok steps) is some h = (is, some, h)
+    under rows (Err r) is some h = inr (is, inr h)
 
-read_row_breaks : (rows : List Fields) (r : ℕ) → steps_of_rows rows ≡ Err r → BreaksAt rows r
-read_row_breaks [] r e = let same : 1 ≡ r = cc in sym same
-read_row_breaks (first ∷ rows) r e =
-    elim (chosen (pointwise same_text first header) (some_steps rows) (Err 1) (Err r) e) [
-      | inr fails ↦
-          let at : ◌≡◌ {A = Result (List Step) ℕ} (Err 1) (Err r) = fails.1 in
-          let same : 1 ≡ r = cc in
-          inl (λ is. (let clash : true ≡ false = sym ((is_header first).1 is) ∙ fails.0 in cc), sym same)
-      | inl holds ↦ by rows ((is_header first).0 holds.0) holds.1
-    ]
-  where
-    by : (rows : List Fields) → first ≡ header → some_steps rows ≡ Err r → BreaksAt (first ∷ rows) r
-    by [] is e = let same : 2 ≡ r = cc in inr (is, inl (refl, sym same))
-    by (row ∷ rows) is e = inr (is, inr (read_fault_breaks 1 (row ∷ rows) r e))
+    by : (rows : List Fields) → first ≡ header → MatchResult (some_steps rows) (IsScriptRows (first ∷ rows)) (BreaksAt (first ∷ rows))
+    by [] is = inr (is, inl (refl, refl))
+    by (row ∷ rows) is = under (row ∷ rows) (steps_from 1 (row ∷ rows)) is (omega arith) (told 1 (row ∷ rows))
 
 -- ---- a text
 
@@ -204,22 +162,31 @@ unfolding script_of
 break_read text row h = ap steps_of_rows (rows_are text h.0 h.1) ∙ row_read h.0 row h.2
 
 -- what is read is the script, or breaks a rule there
-pub read_is_script : (text : List ℕ) (steps : List Step) → script_of text ≡ Ok steps → IsScript text steps
+told_text : (text : List ℕ) → MatchResult (script_of text) (IsScript text) (BreaksScript text)
 unfolding script_of
-read_is_script text steps e = (records default_config (strip_bom text), rows_there text, read_rows_are (records default_config (strip_bom text)) steps e)
+told_text text = by (steps_of_rows rows) (told_rows rows)
+  where
+    rows : List Fields
+    rows = records default_config (strip_bom text)
+
+    by : (found : Result (List Step) ℕ) → MatchResult found (IsScriptRows rows) (BreaksAt rows) → MatchResult found (IsScript text) (BreaksScript text)
+    by (Ok steps) h = (rows, rows_there text, h)
+    by (Err row) h = (rows, rows_there text, h)
+
+pub read_is_script : (text : List ℕ) (steps : List Step) → script_of text ≡ Ok steps → IsScript text steps
+read_is_script text steps e = rw e at (told_text text)
 
 pub read_breaks : (text : List ℕ) (row : ℕ) → script_of text ≡ Err row → BreaksScript text row
-unfolding script_of
-read_breaks text row e = (records default_config (strip_bom text), rows_there text, read_row_breaks (records default_config (strip_bom text)) row e)
+read_breaks text row e = rw e at (told_text text)
 
 -- ---- the form of what is read
 
-script_rows_have_form : (rows : List Fields) (steps : List Step) → IsScriptRows rows steps → HasSteps steps
-script_rows_have_form [] steps h = absurd h
-script_rows_have_form (first ∷ rows) steps h = has_steps rows steps h.2 h.1
-
 pub script_has_steps : (text : List ℕ) (steps : List Step) → script_of text ≡ Ok steps → HasSteps steps
-script_has_steps text steps e = let s = read_is_script text steps e in script_rows_have_form s.0 steps s.2
+script_has_steps text steps e = by (read_is_script text steps e)
+  where
+    by : IsScript text steps → HasSteps steps
+    by ([], are, h) = absurd h
+    by (first ∷ rows, are, h) = has_steps rows steps h.2 h.1
 
 abbrev pub HasForm : Step → Type 0
 HasForm step = IsLine 500 step.activity × IsSeats step.seats
@@ -230,12 +197,12 @@ each_step k [] (step ∷ steps) h = absurd h
 each_step k (row ∷ rows) [] h = absurd h
 each_step k (row ∷ rows) (step ∷ steps) h = ((h.1.activity, stands_are_seats h.1.seat_text step.seats h.1.seats), each_step (k + 1) rows steps h.2)
 
-each_of_rows : (rows : List Fields) (steps : List Step) → IsScriptRows rows steps → AllByRecursion HasForm steps
-each_of_rows [] steps h = absurd h
-each_of_rows (first ∷ rows) steps h = each_step 1 rows steps h.2
-
 pub steps_have_form : (text : List ℕ) (steps : List Step) → script_of text ≡ Ok steps → All HasForm steps
-steps_have_form text steps e = let s = read_is_script text steps e in All-from_recursion HasForm steps (each_of_rows s.0 steps s.2)
+steps_have_form text steps e = by (read_is_script text steps e)
+  where
+    by : IsScript text steps → All HasForm steps
+    by ([], are, h) = absurd h
+    by (first ∷ rows, are, h) = All-from_recursion HasForm steps (each_step 1 rows steps h.2)
 
 -- ---- what a reader of scripts answers
 

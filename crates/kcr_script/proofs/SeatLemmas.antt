@@ -5,28 +5,24 @@ use Rattle.std.specs.Option.{MatchOption}
 use denote.Ref.{Bor}
 use Rattle.std.proofs.lemmas.List.{length-replicate}
 use Rattle.std.proofs.lemmas.List.Elements.{All-head, All-tail, All-nil, All-append, All-same, All-from_recursion, All-replicate}
-use Rattle.kcr_base.specs.declared.place.Role.TheVariants.{Ca, Iw, Sa, Ssc1, Ssc2, Rkos, Sw}
+use Rattle.kcr_base.specs.declared.place.Role.TheVariants.{Ssc1, Ssc2, Rkos}
 use Rattle.kcr_script.specs.declared.seat.Seat.{Seat}
-use Rattle.kcr_script.specs.declared.seat.Seat.TheVariants.{Staff, AnyCo, AnyRksh, Co, Rksh}
+use Rattle.kcr_script.specs.declared.seat.Seat.TheVariants.{Staff, AnyRksh, Co, Rksh}
 use Rattle.kcr_script.specs.Seat.{seat_text, IsSeat}
-use Rattle.kcr_script.specs.Seats.{Item, IsItem, star_text, item_text, after_semicolon, joined, item_seats, Spells, StandsFor, IsSeats, Leads, IsLast}
+use Rattle.kcr_script.specs.Seats.{Item, IsItem, star_text, item_text, after_semicolon, joined, item_seats, pair_item, Spells, StandsFor, IsSeats, Leads, IsLast}
 
 -- no semicolon
 abbrev pub Plain : ℕ → Type 0
 Plain b = b ≢ 59
 
 seat_plain : (s : Seat) → IsSeat s → AllByRecursion Plain (seat_text s)
-seat_plain (Staff Ca) h = (omega arith, (omega arith, tt))
-seat_plain (Staff Iw) h = (omega arith, (omega arith, tt))
-seat_plain (Staff Sa) h = (omega arith, (omega arith, tt))
 seat_plain (Staff Ssc1) h = (omega arith, (omega arith, (omega arith, (omega arith, tt))))
 seat_plain (Staff Ssc2) h = (omega arith, (omega arith, (omega arith, (omega arith, tt))))
 seat_plain (Staff Rkos) h = (omega arith, (omega arith, (omega arith, (omega arith, tt))))
-seat_plain (Staff Sw) h = (omega arith, (omega arith, tt))
-seat_plain AnyCo h = (omega arith, (omega arith, tt))
 seat_plain AnyRksh h = (omega arith, (omega arith, (omega arith, (omega arith, tt))))
 seat_plain (Co n) h = (omega arith, (omega arith, (omega arith, (omega arith, tt))))
 seat_plain (Rksh n) h = (omega arith, (omega arith, (omega arith, (omega arith, (omega arith, (omega arith, tt))))))
+seat_plain other h = (omega arith, (omega arith, tt))
 
 star_plain : (n : ℕ) → n ≤ 7 → (b : Bool) → AllByRecursion Plain (cond b [] (42 ∷ (48 + n) ∷ []))
 star_plain n h true = tt
@@ -53,6 +49,27 @@ cut_none [] x [] f e = cc
 cut_none [] x (c ∷ b) f e = let h : c ≡ 59 = cc in All-head Plain c b f h
 cut_none (d ∷ a) x [] f e = cc
 cut_none (d ∷ a) x (c ∷ b) f e = let tail : a ++ 59 ∷ x ≡ b = cc in cut_none a x b (All-tail Plain c b f) tail
+
+-- a text of one item, and one of an item before others
+pub spells_one : (item : Item) → IsItem item → Spells (item_text item) (item_seats item)
+spells_one item is = record {
+  first = item;
+  more = [];
+  is_first = is;
+  each_more = tt;
+  text_is = sym (append-nil (item_text item));
+  seats_are = sym (append-nil (item_seats item));
+}
+
+pub spells_more : (item : Item) (rest : List ℕ) (seats : List Seat) → IsItem item → Spells rest seats → Spells (item_text item ++ 59 ∷ rest) (item_seats item ++ seats)
+spells_more item rest seats is h = record {
+  first = item;
+  more = h.first ∷ h.more;
+  is_first = is;
+  each_more = (h.is_first, h.each_more);
+  text_is = ap (λ (t : List ℕ). item_text item ++ 59 ∷ t) h.text_is;
+  seats_are = ap (λ (xs : List Seat). item_seats item ++ xs) h.seats_are;
+}
 
 -- what is known of the first item by its text
 abbrev pub Only : List ℕ → Option (Seat × ℕ) → Type 0
@@ -83,55 +100,25 @@ same_replicate item seat count e =
     let t : ◌≡◌ {A = Seat × ℕ} (item.seat, item.count) (seat, count) = cc in
     ap (λ (p : Seat × ℕ). replicate p.1 p.0) t
 
-pub no_item : (text front rest : List ℕ) → All Plain front → Only front None → text ≡ front ++ 59 ∷ rest → (all : List Seat) → Spells text all → ⊥
-no_item text front rest free only e all h =
-    let r = first_item front rest all free (rw e at h) in
-    let clash = only r.0 r.1 r.2 in
-    cc
+pub step_none : (text front : List ℕ) (rest : Option (Bor (List ℕ))) → All Plain front → MatchOption rest (text ≡ front) (λ r. text ≡ front ++ 59 ∷ r.now) → Only front None
+    → (all : List Seat) → Spells text all → ⊥
+step_none text front None free e only all h = let r = one_item front all free (rw e at h) in let clash = only r.0 r.1 r.2 in cc
+step_none text front (Some rest) free e only all h = let r = first_item front rest.now all free (rw e at h) in let clash = only r.0 r.1 r.2 in cc
 
-pub no_last : (text : List ℕ) → All Plain text → Only text None → (all : List Seat) → Spells text all → ⊥
-no_last text free only all h =
-    let r = one_item text all free h in
-    let clash = only r.0 r.1 r.2 in
-    cc
-
-pub last_item : (text : List ℕ) (seat : Seat) (count : ℕ) → All Plain text → IsItem (record { seat = seat; count = count }) → item_text (record { seat = seat; count = count }) ≡ text → Only text (Some (seat, count)) → IsLast text seat count
-last_item text seat count free is t only = record {
+pub step_some : (text front : List ℕ) (rest : Option (Bor (List ℕ))) (seat : Seat) (count : ℕ) → All Plain front → MatchOption rest (text ≡ front) (λ r. text ≡ front ++ 59 ∷ r.now)
+    → IsItem (pair_item (seat, count)) → item_text (pair_item (seat, count)) ≡ front → Only front (Some (seat, count)) → MatchOption rest (IsLast text seat count) (λ r. Leads text seat count r.now)
+step_some text front None seat count free e is t only = record {
   count_at_most = is.seven;
-  spells = record {
-    first = record { seat = seat; count = count };
-    more = [];
-    is_first = is;
-    each_more = tt;
-    text_is = sym t ∙ sym (append-nil (item_text (record { seat = seat; count = count })));
-    seats_are = sym (append-nil (replicate count seat));
-  };
-  only = λ all h. let r = one_item text all free h in r.3 ∙ same_replicate r.0 seat count (only r.0 r.1 r.2);
+  spells = rw (e, ← t) (spells_one (pair_item (seat, count)) is);
+  only = λ all h. let r = one_item front all free (rw e at h) in r.3 ∙ same_replicate r.0 seat count (only r.0 r.1 r.2);
 }
-
-pub leading_item : (text front rest : List ℕ) (seat : Seat) (count : ℕ) → text ≡ front ++ 59 ∷ rest → All Plain front → IsItem (record { seat = seat; count = count }) → item_text (record { seat = seat; count = count }) ≡ front → Only front (Some (seat, count)) → Leads text seat count rest
-leading_item text front rest seat count e free is t only = record {
+step_some text front (Some rest) seat count free e is t only = record {
   count_at_most = is.seven;
-  shorter = omega (arith, ap length e, length-append front (59 ∷ rest));
-  on = λ seats h. record {
-    first = record { seat = seat; count = count };
-    more = h.first ∷ h.more;
-    is_first = is;
-    each_more = (h.is_first, h.each_more);
-    text_is = e ∙ (λ i. sym t i ++ 59 ∷ h.text_is i);
-    seats_are = ap (λ (xs : List Seat). replicate count seat ++ xs) h.seats_are;
-  };
-  back = λ all h. let r = first_item front rest all free (rw e at h) in
+  shorter = omega (arith, ap length e, length-append front (59 ∷ rest.now));
+  on = λ seats h. rw (e, ← t) (spells_more (pair_item (seat, count)) rest.now seats is h);
+  back = λ all h. let r = first_item front rest.now all free (rw e at h) in
       (r.3.0, r.3.1, r.3.2 ∙ ap (λ (xs : List Seat). xs ++ r.3.0) (same_replicate r.0 seat count (only r.0 r.1 r.2)));
 }
-
-pub step_none : (text front : List ℕ) (rest : Option (Bor (List ℕ))) → All Plain front → MatchOption rest (text ≡ front) (λ r. text ≡ front ++ 59 ∷ r.now) → Only front None → (all : List Seat) → Spells text all → ⊥
-step_none text front None free e only all h = no_last front free only all (rw e at h)
-step_none text front (Some r) free e only all h = no_item text front r.now free only e all h
-
-pub step_some : (text front : List ℕ) (rest : Option (Bor (List ℕ))) (seat : Seat) (count : ℕ) → All Plain front → MatchOption rest (text ≡ front) (λ r. text ≡ front ++ 59 ∷ r.now) → IsItem (record { seat = seat; count = count }) → item_text (record { seat = seat; count = count }) ≡ front → Only front (Some (seat, count)) → MatchOption rest (IsLast text seat count) (λ r. Leads text seat count r.now)
-step_some text front None seat count free e is t only = rw e (last_item front seat count free is t only)
-step_some text front (Some r) seat count free e is t only = leading_item text front r.now seat count e free is t only
 
 pub step_front : (rest : List ℕ) (seat : Seat) (count : ℕ) (more : Option (Bor (List ℕ))) → MatchOption more (IsLast rest seat count) (λ r. Leads rest seat count r.now) → (all : List Seat) → Spells rest all → (tail : List Seat) × (all ≡ replicate count seat ++ tail)
 step_front rest seat count None h all s = ([], h.only all s ∙ sym (append-nil (replicate count seat)))

@@ -7,13 +7,13 @@ use Rattle.std.proofs.lemmas.Option.{cond_some, option_and_then_some}
 use Rattle.std.proofs.lemmas.List.Elements.{All-weaker}
 use Rattle.std.proofs.lemmas.List.Splits.{slice_split_none, slice_split_at, join_with_byte-slice_split, length-slice_split}
 use Rattle.kcr_base.specs.Same.{same_text}
-use Rattle.kcr_base.specs.declared.place.Role.TheVariants.{Ca, Iw, Sa, Ssc1, Ssc2, Rkos, Sw}
+use Rattle.kcr_base.specs.declared.place.Role.TheVariants.{Ca}
 use Rattle.kcr_script.specs.declared.seat.Seat.{Seat}
-use Rattle.kcr_script.specs.declared.seat.Seat.TheVariants.{Staff, AnyCo, AnyRksh, Co, Rksh}
+use Rattle.kcr_script.specs.declared.seat.Seat.TheVariants.{Staff, Co, Rksh}
 use Rattle.kcr_script.specs.Seat.{IsSeat, can_repeat}
 use Rattle.kcr_script.specs.Seats.{Item, IsItem, item_text, item_seats, pair_item, joined, Spells, StandsFor}
 use Rattle.kcr_script.specs.Reading.{one_to_seven, free_seats, repeated, all_items, item_of, between_semicolons, join_items, seats_of_items, at_most_sixteen, seats_of}
-use Rattle.kcr_script.proofs.SeatLemmas.{Plain, item_plain}
+use Rattle.kcr_script.proofs.SeatLemmas.{Plain, item_plain, spells_one, spells_more}
 
 -- ---- the item with a text
 
@@ -33,46 +33,18 @@ one_item seat is = record { seat = is; one = omega arith; seven = omega arith; n
 more_items : (seat : Seat) (count : ℕ) → IsSeat seat → can_repeat seat ≡ true → 1 ≤ count → count ≤ 7 → IsItem (pair_item (seat, count))
 more_items seat count is free low high = record { seat = is; one = low; seven = high; numbered = λ e. (let clash : true ≡ false = sym free ∙ e in cc) }
 
-repeated_items : (seat : Seat) → IsSeat seat → can_repeat seat ≡ true → AllByRecursion IsItem (repeated seat)
-repeated_items seat is free = (
-  by 1 (omega arith) (omega arith),
-  (
-    by 2 (omega arith) (omega arith),
-    (
-      by 3 (omega arith) (omega arith),
-      (
-        by 4 (omega arith) (omega arith),
-        (by 5 (omega arith) (omega arith), (by 6 (omega arith) (omega arith), (by 7 (omega arith) (omega arith), tt))),
-      ),
-    ),
-  ),
-)
+-- what holds of 1 to 7, in a list
+from_seven : (P : ℕ → Type 0) → ((n : ℕ) → 1 ≤ n → n ≤ 7 → P n) → AllByRecursion P one_to_seven
+from_seven P f =
+    (f 1 (omega arith) (omega arith), (f 2 (omega arith) (omega arith), (f 3 (omega arith) (omega arith), (f 4 (omega arith) (omega arith), rest))))
   where
-    by : (count : ℕ) → 1 ≤ count → count ≤ 7 → IsItem (pair_item (seat, count))
-    by count low high = more_items seat count is free low high
+    rest : P 5 × (P 6 × (P 7 × Unit {0}))
+    rest = (f 5 (omega arith) (omega arith), (f 6 (omega arith) (omega arith), (f 7 (omega arith) (omega arith), tt)))
 
 free_items : (seats : List Seat) → AllByRecursion (λ seat. IsSeat seat × (can_repeat seat ≡ true)) seats → AllByRecursion IsItem (flat_map repeated seats)
 free_items [] h = tt
-free_items (seat ∷ seats) h = both_lists IsItem (repeated seat) (flat_map repeated seats) (repeated_items seat h.0.0 h.0.1) (free_items seats h.1)
-
-numbered_items : (seat_at : ℕ → Seat) (numbers : List ℕ) → AllByRecursion (λ n. IsSeat (seat_at n)) numbers → AllByRecursion IsItem (map (λ n. pair_item (seat_at n, 1)) numbers)
-numbered_items seat_at [] h = tt
-numbered_items seat_at (n ∷ numbers) h = (one_item (seat_at n) h.0, numbered_items seat_at numbers h.1)
-
-seven_numbers : AllByRecursion (λ n. (1 ≤ n) × (n ≤ 7)) one_to_seven
-seven_numbers = (
-  (omega arith, omega arith),
-  (
-    (omega arith, omega arith),
-    (
-      (omega arith, omega arith),
-      (
-        (omega arith, omega arith),
-        ((omega arith, omega arith), ((omega arith, omega arith), ((omega arith, omega arith), tt))),
-      ),
-    ),
-  ),
-)
+free_items (seat ∷ seats) h =
+    both_lists IsItem (repeated seat) (flat_map repeated seats) (from_seven (λ n. IsItem (pair_item (seat, n))) (λ n. more_items seat n h.0.0 h.0.1)) (free_items seats h.1)
 
 nine_seats : AllByRecursion (λ seat. IsSeat seat × (can_repeat seat ≡ true)) free_seats
 nine_seats = ((tt, refl), ((tt, refl), ((tt, refl), ((tt, refl), ((tt, refl), ((tt, refl), ((tt, refl), ((tt, refl), ((tt, refl), tt)))))))))
@@ -80,8 +52,11 @@ nine_seats = ((tt, refl), ((tt, refl), ((tt, refl), ((tt, refl), ((tt, refl), ((
 all_are_items : AllByRecursion IsItem all_items
 all_are_items =
     both_lists IsItem (flat_map repeated free_seats ++ map (λ n. pair_item (Co n, 1)) one_to_seven) (map (λ n. pair_item (Rksh n, 1)) one_to_seven)
-    (both_lists IsItem (flat_map repeated free_seats) (map (λ n. pair_item (Co n, 1)) one_to_seven) (free_items free_seats nine_seats) (numbered_items Co one_to_seven seven_numbers))
-    (numbered_items Rksh one_to_seven seven_numbers)
+    (both_lists IsItem (flat_map repeated free_seats) (map (λ n. pair_item (Co n, 1)) one_to_seven) (free_items free_seats nine_seats) (numbered Co (λ n low high. (low, high))))
+    (numbered Rksh (λ n low high. (low, high)))
+  where
+    numbered : (seat_at : ℕ → Seat) → ((n : ℕ) → 1 ≤ n → n ≤ 7 → IsSeat (seat_at n)) → AllByRecursion IsItem (map (λ n. pair_item (seat_at n, 1)) one_to_seven)
+    numbered seat_at is = from_seven (λ n. IsItem (pair_item (seat_at n, 1))) (λ n low high. one_item (seat_at n) (is n low high))
 
 item_found : (text : List ℕ) (item : Item) → item_of text ≡ Some item → IsItem item × (item_text item ≡ text)
 item_found text item e =
@@ -105,21 +80,14 @@ abbrev Again : Seat → ℕ → Type 0
 Again seat count = item_of (item_text (pair_item (seat, count))) ≡ Some (pair_item (seat, count))
 
 again : (seat : Seat) (count : ℕ) → IsItem (pair_item (seat, count)) → Again seat count
-again (Staff Ca) count is = of_seven (Again (Staff Ca)) (refl, (refl, (refl, (refl, (refl, (refl, (refl, tt))))))) count is.one is.seven
-again (Staff Iw) count is = of_seven (Again (Staff Iw)) (refl, (refl, (refl, (refl, (refl, (refl, (refl, tt))))))) count is.one is.seven
-again (Staff Sa) count is = of_seven (Again (Staff Sa)) (refl, (refl, (refl, (refl, (refl, (refl, (refl, tt))))))) count is.one is.seven
-again (Staff Ssc1) count is = of_seven (Again (Staff Ssc1)) (refl, (refl, (refl, (refl, (refl, (refl, (refl, tt))))))) count is.one is.seven
-again (Staff Ssc2) count is = of_seven (Again (Staff Ssc2)) (refl, (refl, (refl, (refl, (refl, (refl, (refl, tt))))))) count is.one is.seven
-again (Staff Rkos) count is = of_seven (Again (Staff Rkos)) (refl, (refl, (refl, (refl, (refl, (refl, (refl, tt))))))) count is.one is.seven
-again (Staff Sw) count is = of_seven (Again (Staff Sw)) (refl, (refl, (refl, (refl, (refl, (refl, (refl, tt))))))) count is.one is.seven
-again AnyCo count is = of_seven (Again AnyCo) (refl, (refl, (refl, (refl, (refl, (refl, (refl, tt))))))) count is.one is.seven
-again AnyRksh count is = of_seven (Again AnyRksh) (refl, (refl, (refl, (refl, (refl, (refl, (refl, tt))))))) count is.one is.seven
 again (Co n) count is =
     let one = of_seven (λ (m : ℕ). Again (Co m) 1) (refl, (refl, (refl, (refl, (refl, (refl, (refl, tt))))))) n is.seat.0 is.seat.1 in
     subst (Again (Co n)) (sym (is.numbered refl)) one
 again (Rksh n) count is =
     let one = of_seven (λ (m : ℕ). Again (Rksh m) 1) (refl, (refl, (refl, (refl, (refl, (refl, (refl, tt))))))) n is.seat.0 is.seat.1 in
     subst (Again (Rksh n)) (sym (is.numbered refl)) one
+again (Staff Ca) count is = of_seven (Again (Staff Ca)) (refl, (refl, (refl, (refl, (refl, (refl, (refl, tt))))))) count is.one is.seven
+again other count is = of_seven (Again other) (refl, (refl, (refl, (refl, (refl, (refl, (refl, tt))))))) count is.one is.seven
 
 pub item_again : (item : Item) → IsItem item → item_of (item_text item) ≡ Some item
 item_again item is = again item.seat item.count is
@@ -147,40 +115,23 @@ spelled text seats h =
     ∙ their_seats (h.first ∷ h.more) (h.is_first, h.each_more)
     ∙ ap (λ (xs : List Seat). Some xs) (sym h.seats_are)
 
-joined_some : (found : Option Item) (others : Option (List Seat)) (seats : List Seat) → join_items found others ≡ Some seats → (item : Item) × (found ≡ Some item) × ((after : List Seat) × (others ≡ Some after) × (seats ≡ item_seats item ++ after))
-joined_some None others seats e = cc
-joined_some (Some item) None seats e = cc
-joined_some (Some item) (Some after) seats e = let same : item_seats item ++ after ≡ seats = cc in (item, refl, (after, refl, sym same))
+one_piece : (text : List ℕ) (found : Option Item) → item_of text ≡ found → IfSome (join_items found (Some [])) (Spells text)
+one_piece text None e = tt
+one_piece text (Some item) e = let f = item_found text item e in rw (← f.1, append-nil (item_seats item)) (spells_one item f.0)
 
-spells_pieces : (text : List ℕ) (texts : List (List ℕ)) (seats : List Seat) → seats_of_items (text ∷ texts) ≡ Some seats → Spells (join_with_byte 59 (text ∷ texts)) seats
-spells_pieces text [] seats e =
-    let p = joined_some (item_of text) (Some []) seats e in
-    let f = item_found text p.0 p.1 in
-    let none : p.2.0 ≡ [] = (let same = p.2.1 in cc) in
-    record {
-      first = p.0;
-      more = [];
-      is_first = f.0;
-      each_more = tt;
-      text_is = sym f.1 ∙ sym (append-nil (item_text p.0));
-      seats_are = p.2.2 ∙ ap (λ (xs : List Seat). item_seats p.0 ++ xs) none;
-    }
-spells_pieces text (next ∷ texts) seats e =
-    let p = joined_some (item_of text) (seats_of_items (next ∷ texts)) seats e in
-    let f = item_found text p.0 p.1 in
-    let h = spells_pieces next texts p.2.0 p.2.1 in
-    record {
-      first = p.0;
-      more = h.first ∷ h.more;
-      is_first = f.0;
-      each_more = (h.is_first, h.each_more);
-      text_is = λ i. sym f.1 i ++ 59 ∷ h.text_is i;
-      seats_are = p.2.2 ∙ ap (λ (xs : List Seat). item_seats p.0 ++ xs) h.seats_are;
-    }
+more_pieces : (text rest : List ℕ) (found : Option Item) → item_of text ≡ found → (others : Option (List Seat)) → IfSome others (Spells rest) → IfSome (join_items found others) (Spells (text ++ 59 ∷ rest))
+more_pieces text rest None e others h = tt
+more_pieces text rest (Some item) e None h = tt
+more_pieces text rest (Some item) e (Some seats) h = let f = item_found text item e in rw (← f.1) (spells_more item rest seats f.0 h)
+
+-- the texts, joined, are made of the items that are found
+spells_pieces : (text : List ℕ) (texts : List (List ℕ)) → IfSome (seats_of_items (text ∷ texts)) (Spells (join_with_byte 59 (text ∷ texts)))
+spells_pieces text [] = one_piece text (item_of text) refl
+spells_pieces text (next ∷ texts) = more_pieces text (join_with_byte 59 (next ∷ texts)) (item_of text) refl (seats_of_items (next ∷ texts)) (spells_pieces next texts)
 
 spells_some : (text : List ℕ) (texts : List (List ℕ)) (seats : List Seat) → between_semicolons text ≡ texts → seats_of_items texts ≡ Some seats → join_with_byte 59 texts ≡ text → Spells text seats
 spells_some text [] seats e h j = absurd (omega (arith, ap length e, length-slice_split (λ b. eqb b 59) text))
-spells_some text (piece ∷ texts) seats e h j = rw (← j) (spells_pieces piece texts seats h)
+spells_some text (piece ∷ texts) seats e h j = rw (← j) (rw h at (spells_pieces piece texts))
 
 -- ---- the seats of a text
 
@@ -198,15 +149,11 @@ seats_stand text seats e =
     let s = spells_some text (between_semicolons text) all refl spelled (join_with_byte-slice_split 59 text) in
     record { spells = rw (← c.1) s; sixteen = rw (← c.1) (leb-true (length all) 16 c.0) }))
 
--- a text that stands for no seats
-pub no_seats_read : (text : List ℕ) → ((seats : List Seat) → StandsFor text seats → ⊥) → seats_of text ≡ None
-no_seats_read text none = by (seats_of text) refl
-  where
-    by : (found : Option (List Seat)) → seats_of text ≡ found → found ≡ None
-    by None e = refl
-    by (Some seats) e = absurd (none seats (seats_stand text seats e))
-
 -- what a reader answers that finds the seats of a text, and only those
 pub seats_are : (text : List ℕ) (found : Option (List Seat)) → IfSome found (StandsFor text) → ((seats : List Seat) → StandsFor text seats → found ≡ Some seats) → found ≡ seats_of text
-seats_are text None is only = sym (no_seats_read text (λ seats h. (let e = only seats h in cc)))
+seats_are text None is only = by (seats_of text) refl
+  where
+    by : (found : Option (List Seat)) → seats_of text ≡ found → None ≡ seats_of text
+    by None e = sym e
+    by (Some seats) e = absurd (let none = only seats (seats_stand text seats e) in cc)
 seats_are text (Some seats) is only = sym (seats_read text seats is)

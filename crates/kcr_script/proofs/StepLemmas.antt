@@ -15,7 +15,6 @@ Reads k row found = (step : Step) → IsRow k row step → found ≡ Some step
 pub faulty_row : (k : ℕ) (row : Fields) (rows rest : List Fields) (found : Option Step) → rest ≡ row ∷ rows → found ≡ None → Reads k row found → BreaksFrom k rest (k + 1)
 faulty_row k row rows rest found e none only =
     let clash : (step : Step) → IsRow k row step → ⊥ = λ step h. (let g = only step h in cc) in
-    let P : List Fields → Type 0 = λ (xs : List Fields). BreaksFrom k xs (k + 1) in
     rw e (inl (inr clash, refl))
 
 pub no_steps : (k : ℕ) (row : Fields) (rows rest : List Fields) (found : Option Step) → rest ≡ row ∷ rows → found ≡ None → Reads k row found → (tail : List Step) → AreSteps k rest tail → ⊥
@@ -48,13 +47,6 @@ push_before done new tail step e = ap (λ (xs : List Step). xs ++ tail) e ∙ ap
 
 pub none_left : (rest : List Fields) (k : ℕ) → rest ≡ [] → AreSteps k rest []
 none_left rest k e = rw e tt
-
-pub last_steps : (rest : List Fields) (k : ℕ) (tail : List Step) → rest ≡ [] → AreSteps k rest tail → tail ≡ []
-last_steps rest k tail e h = by tail (rw e at h)
-  where
-    by : (tail : List Step) → AreSteps k [] tail → tail ≡ []
-    by [] h = refl
-    by (s ∷ steps) h = absurd h
 
 -- ---- a text has one list of rows
 

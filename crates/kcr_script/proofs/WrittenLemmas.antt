@@ -4,9 +4,9 @@ use Rattle.std.specs.List.{flat_map, AllByRecursion}
 use Rattle.std.proofs.lemmas.Bool.Decides.{nat_tests}
 use Rattle.std.proofs.lemmas.Bool.{cases_eq, cases_Bool}
 use Rattle.std.proofs.lemmas.List.Elements.{All-head, All-tail}
-use Rattle.kcr_base.specs.declared.place.Role.TheVariants.{Ca, Iw, Sa, Ssc1, Ssc2, Rkos, Sw}
+use Rattle.kcr_base.specs.declared.place.Role.TheVariants.{Ca}
 use Rattle.kcr_script.specs.declared.seat.Seat.{Seat}
-use Rattle.kcr_script.specs.declared.seat.Seat.TheVariants.{Staff, AnyCo, AnyRksh, Co, Rksh}
+use Rattle.kcr_script.specs.declared.seat.Seat.TheVariants.{Staff}
 use Rattle.kcr_script.specs.Seat.{kind, can_repeat, IsSeat, seat_text}
 use Rattle.kcr_script.specs.Seats.{Item, IsItem, runs, before_runs, groups, item_seats, pair_item, star_text, after_semicolon, appended, all_appended, items_text, written, Spells, StandsFor, IsSeats}
 use Rattle.kcr_script.proofs.RunLemmas.{written_seats}
@@ -24,16 +24,7 @@ appended_after b bytes (item ∷ items) =
 
 seat_front : (s : Seat) (star : List ℕ) → (b : ℕ) × (bytes : List ℕ) × (seat_text s ++ star ≡ b ∷ bytes)
 seat_front (Staff Ca) star = (_, _, refl)
-seat_front (Staff Iw) star = (_, _, refl)
-seat_front (Staff Sa) star = (_, _, refl)
-seat_front (Staff Ssc1) star = (_, _, refl)
-seat_front (Staff Ssc2) star = (_, _, refl)
-seat_front (Staff Rkos) star = (_, _, refl)
-seat_front (Staff Sw) star = (_, _, refl)
-seat_front AnyCo star = (_, _, refl)
-seat_front AnyRksh star = (_, _, refl)
-seat_front (Co n) star = (_, _, refl)
-seat_front (Rksh n) star = (_, _, refl)
+seat_front other star = (_, _, refl)
 
 pub all_appended_is : (items : List Item) → all_appended [] items ≡ items_text items
 all_appended_is [] = refl
