@@ -23,7 +23,8 @@ use Rattle.kcr_history.specs.Tables.{step_done, fate_of, seats_at, seatings, sea
 use Rattle.kcr_history.specs.Conditions.{conditions, fault, no_ceremony}
 use Rattle.kcr_history.specs.Laws.{is_seated}
 use Rattle.kcr_history.specs.Machine.{answer_to, sitting, IsRegister}
-use Rattle.kcr_history.proofs.Steps.{took}
+use Rattle.kcr_history.specs.declared.commands.Entry.{Entry}
+use Rattle.kcr_history.proofs.Steps.{Took, took}
 use Rattle.kcr_laws.proofs.Done.{next_signed, next-undone}
 
 abbrev pub is_of : ℕ → ℕ → SeatingRow → Bool
@@ -33,20 +34,6 @@ is_of c k row = row.ceremony == c && row.step == k
 abbrev pub seats_for : StepState → List Seat → List Seat
 seats_for Passed seats = Staff Ca ∷ Staff Iw ∷ []
 seats_for other seats = seats
-
--- OPTIONS
-
-or-none : {X : Type 0} (a b : Option X) → or_else a b ≡ None → (a ≡ None) × (b ≡ None)
-or-none None b e = (refl, e)
-or-none (Some x) b e = absurd (let f : Some x ≡ None = e in cc)
-
-if-none : {X : Type 0} (b : Bool) (x : X) → cond b (Some x) None ≡ None → b ≡ false
-if-none false x e = refl
-if-none true x e = absurd (let f : Some x ≡ None = e in cc)
-
-if-some : {X : Type 0} (b : Bool) (x y : X) → cond b (Some x) None ≡ Some y → (b ≡ true) × (x ≡ y)
-if-some true x y e = (refl, (let f : Some x ≡ Some y = e in cc))
-if-some false x y e = absurd (let f : None ≡ Some y = e in cc)
 
 -- ROWS
 
@@ -70,128 +57,116 @@ filter-stacked p (x ∷ xs) ys = filter-stacked p xs (x ∷ ys) ∙ by_test (p x
 abbrev filed_by : Act → Answer → List SeatingRow
 filed_by act answer = seating_rows (ceremony_of_step act) answer.step answer.seating
 
--- a command that does not do the step files none of its rows
-unfiled_to : (B : History) (act : Act) (people : Option (List (List ℕ))) (c k : ℕ) → step_done c k act (answer_to B act people).step ≡ None → filter (is_of c k) (filed_by act (answer_to B act people)) ≡ []
-unfiled_to B (Sign d step at) None c k n = refl
-unfiled_to B (Sign d step at) (Some people) c k n = other-rows d step c k 0 people (if-none (d == c && step == k) (Signed, at) n)
-unfiled_to B (Except d text true at) None c k n = refl
-unfiled_to B (Except d text true at) (Some people) c k n = other-rows d (next_step B d) c k 0 people (if-none (d == c && next_step B d == k) (Passed, at) n)
-unfiled_to B (Except d text false at) people c k n = refl
-unfiled_to B act people c k n = refl
-
-unfiled : (B : History) (act : Act) (answer : Answer) (people : Option (List (List ℕ))) → answer ≡ answer_to B act people → (c k : ℕ) → step_done c k act answer.step ≡ None → filter (is_of c k) (filed_by act answer) ≡ []
-unfiled B act answer people e c k n =
-    subst (λ (a : Answer). filter (is_of c k) (filed_by act a) ≡ []) (sym e) (unfiled_to B act people c k (subst (λ (a : Answer). step_done c k act a.step ≡ None) e n))
-
--- of a step that is not done no row is filed
-none-filed : (B : History) → IsRegister B → (c k : ℕ) → fate_of B c k ≡ None → filter (is_of c k) (seatings B) ≡ []
-none-filed [] h c k e = refl
-none-filed (entry ∷ B) h c k e =
-    let t = took B entry h.0 in
-    let n = or-none (step_done c k entry.command.act entry.answer.step) (fate_of B c k) e in
-    filter-stacked (is_of c k) (filed_by entry.command.act entry.answer) (seatings B)
-    ∙ ap (λ rows. stacked_on rows (filter (is_of c k) (seatings B))) (unfiled B entry.command.act entry.answer t.people t.answer c k n.0)
-    ∙ none-filed B h.1 c k n.1
-
--- A STEP THAT IS DONE
-
--- a command does the step: it files the people's rows, they are a seating by A, and the step is the next by B
+-- a command does the step: it files the people's rows, they are a seating by A, and the step is the next of its ceremony by B
 record Does (A B : History) (c k : ℕ) (fate : StepState × ℕ) (rows : List SeatingRow) : Type 0 where
   people : List (List ℕ)
   filed : filter (is_of c k) rows ≡ seat_rows c k 0 people
   seated : is_seating A c fate.1 (seats_for fate.0 (seats_at (steps_of A c) k)) people ≡ true
+  planned : is_ceremony B c ≡ true
   next : k ≡ suc (steps_done B c)
 
-moved : (A B : History) (d s c k : ℕ) (done fate : StepState × ℕ) (rows : List SeatingRow) → (d == c && s == k) ≡ true → done ≡ fate → Does A B d s done rows → Does A B c k fate rows
-moved A B d s c k done fate rows e f does =
-    let p = and_parts (d == c) (s == k) e in
-    subst (λ z. Does A B c k z rows) f (subst (λ z. Does A B c z done rows) (eqb-true s k p.1) (subst (λ z. Does A B z s done rows) (eqb-true d c p.0) does))
+-- what a command files of the step: no row where it does not do it, and the people's rows where it does and they are seated
+abbrev Files : History → History → ℕ → ℕ → List SeatingRow → Type 0 → Option (StepState × ℕ) → Type 0
+Files A B c k rows Seated None = filter (is_of c k) rows ≡ []
+Files A B c k rows Seated (Some fate) = Seated → Does A B c k fate rows
 
-does_to : (A B : History) (act : Act) (people : Option (List (List ℕ))) (c k : ℕ) (fate : StepState × ℕ) → fault B act ≡ None → is_seated A (sitting A act) (answer_to B act people).seating ≡ true
-    → step_done c k act (answer_to B act people).step ≡ Some fate → Does A B c k fate (filed_by act (answer_to B act people))
-does_to A B (Sign d step at) None c k fate f s e = absurd (true≢false (sym s))
-does_to A B (Sign d step at) (Some people) c k fate f s e =
-    let q = if-some (d == c && step == k) (Signed, at) fate e in
-    moved A B d step c k (Signed, at) fate (seat_rows d step 0 people) q.0 q.1
-    (record { people = people; filed = own-rows d step 0 people; seated = s; next = next_signed B d step at f })
-does_to A B (Except d text true at) None c k fate f s e = absurd (true≢false (sym s))
-does_to A B (Except d text true at) (Some people) c k fate f s e =
-    let q = if-some (d == c && next_step B d == k) (Passed, at) fate e in
-    moved A B d (next_step B d) c k (Passed, at) fate (seat_rows d (next_step B d) 0 people) q.0 q.1
-    (record { people = people; filed = own-rows d (next_step B d) 0 people; seated = s; next = refl })
-does_to A B (Except d text false at) people c k fate f s e = absurd (let g : None ≡ Some fate = e in cc)
-does_to A B act people c k fate f s e = absurd (let g : None ≡ Some fate = e in cc)
+is-planned : (B : History) (d : ℕ) → no_ceremony B d ≡ None → is_ceremony B d ≡ true
+is-planned B d n = not-false (is_ceremony B d) (unmet _ (Unknown (Things.Ceremony d)) n)
 
-does_by : (A B : History) (act : Act) (answer : Answer) (people : Option (List (List ℕ))) → answer ≡ answer_to B act people → (c k : ℕ) (fate : StepState × ℕ) → fault B act ≡ None
-    → is_seated A (sitting A act) answer.seating ≡ true → step_done c k act answer.step ≡ Some fate → Does A B c k fate (filed_by act answer)
-does_by A B act answer people q c k fate f s e =
-    subst (λ (a : Answer). Does A B c k fate (filed_by act a)) (sym q)
-    (does_to A B act people c k fate f (subst (λ (a : Answer). is_seated A (sitting A act) a.seating ≡ true) q s) (subst (λ (a : Answer). step_done c k act a.step ≡ Some fate) q e))
+module _ (A B : History) (c k : ℕ) where
+  files_none : (b : Bool) (fate : StepState × ℕ) → Files A B c k [] (false ≡ true) (cond b (Some fate) None)
+  files_none true fate = λ s. absurd (true≢false (sym s))
+  files_none false fate = refl
 
--- the rows of a step that became so are those of people who are a seating by A
-pub record IsFiled (A : History) (c k : ℕ) (fate : StepState × ℕ) (rows : List SeatingRow) : Type 0 where
+  files_rows : (d step : ℕ) (fate : StepState × ℕ) (people : List (List ℕ)) → no_ceremony B d ≡ None → step ≡ suc (steps_done B d)
+      → Files A B c k (seat_rows d step 0 people) (is_seating A d fate.1 (seats_for fate.0 (seats_at (steps_of A d) step)) people ≡ true) (cond (d == c && step == k) (Some fate) None)
+  files_rows d step fate people n next = by_test (d == c && step == k) refl
+    where
+      own : (d ≡ c) → (step ≡ k) → is_seating A d fate.1 (seats_for fate.0 (seats_at (steps_of A d) step)) people ≡ true → Does A B c k fate (seat_rows d step 0 people)
+      own e f s =
+          subst (λ z. Does A B c k fate (seat_rows z step 0 people)) (sym e)
+          (subst (λ z. Does A B c k fate (seat_rows c z 0 people)) (sym f)
+          (record { people = people; filed = own-rows c k 0 people; seated = rw (e, f) at s; planned = rw e at (is-planned B d n); next = rw (e, f) at next }))
+
+      by_test : (b : Bool) → (d == c && step == k) ≡ b
+          → Files A B c k (seat_rows d step 0 people) (is_seating A d fate.1 (seats_for fate.0 (seats_at (steps_of A d) step)) people ≡ true) (cond b (Some fate) None)
+      by_test true e = let p = and_parts (d == c) (step == k) e in own (eqb-true d c p.0) (eqb-true step k p.1)
+      by_test false e = other-rows d step c k 0 people e
+
+  files_to : (act : Act) (people : Option (List (List ℕ))) → fault B act ≡ None
+      → Files A B c k (filed_by act (answer_to B act people)) (is_seated A (sitting A act) (answer_to B act people).seating ≡ true) (step_done c k act (answer_to B act people).step)
+  files_to (Sign d step at) None f = files_none (d == c && step == k) (Signed, at)
+  files_to (Sign d step at) (Some people) f = files_rows d step (Signed, at) people (none_holds (conditions B (Sign d step at)) f).0 (next_signed B d step at f)
+  files_to (Except d text true at) None f = files_none (d == c && next_step B d == k) (Passed, at)
+  files_to (Except d text true at) (Some people) f = files_rows d (next_step B d) (Passed, at) people (none_holds (conditions B (Except d text true at)) f).0 refl
+  files_to act people f = refl
+
+  files : (entry : Entry) → Took B entry
+      → Files A B c k (filed_by entry.command.act entry.answer) (is_seated A (sitting A entry.command.act) entry.answer.seating ≡ true) (step_done c k entry.command.act entry.answer.step)
+  files entry t =
+      let act = entry.command.act in
+      subst (λ (a : Answer). Files A B c k (filed_by act a) (is_seated A (sitting A act) a.seating ≡ true) (step_done c k act a.step)) (sym t.answer) (files_to act t.people t.no_fault)
+
+-- where none is told now or before, none was told before
+or-none : {X : Type 0} (a b : Option X) → or_else a b ≡ None → (a ≡ None) × (b ≡ None)
+or-none None b e = (refl, e)
+or-none (Some x) b e = absurd (let f : Some x ≡ None = e in cc)
+
+-- of a step that is not done no row is filed
+none-filed : (A B : History) → IsRegister B → (c k : ℕ) → fate_of B c k ≡ None → filter (is_of c k) (seatings B) ≡ []
+none-filed A [] h c k e = refl
+none-filed A (entry ∷ B) h c k e =
+    let n = or-none (step_done c k entry.command.act entry.answer.step) (fate_of B c k) e in
+    let mine = filed_by entry.command.act entry.answer in
+    let none : filter (is_of c k) (filed_by entry.command.act entry.answer) ≡ [] = rw n.0 at (files A B c k entry (took B entry h.0)) in
+    filter-stacked (is_of c k) mine (seatings B) ∙ ap (λ rows. stacked_on rows (filter (is_of c k) (seatings B))) none ∙ none-filed A B h.1 c k n.1
+
+-- the rows of a step that became so are those of people who are a seating by A, in a planned ceremony
+pub record IsFiled (A B : History) (c k : ℕ) (fate : StepState × ℕ) : Type 0 where
   pub people : List (List ℕ)
-  pub filed : filter (is_of c k) rows ≡ stacked_on (seat_rows c k 0 people) []
+  pub filed : filter (is_of c k) (seatings B) ≡ stacked_on (seat_rows c k 0 people) []
   pub seated : is_seating A c fate.1 (seats_for fate.0 (seats_at (steps_of A c) k)) people ≡ true
+  pub planned : is_ceremony B c ≡ true
 
-abbrev all_seated : History → History → Bool
-all_seated A entries = list_all (λ entry. is_seated A (sitting A entry.command.act) entry.answer.seating) entries
-
--- each step that is done is so filed, where each recorded seating is one by A
-pub filed : (A B : History) → IsRegister B → list_all (λ entry. is_seated A (sitting A entry.command.act) entry.answer.seating) B ≡ true → (c k : ℕ) (fate : StepState × ℕ) → fate_of B c k ≡ Some fate → IsFiled A c k fate (seatings B)
-filed A [] h s c k fate e = absurd (let f : None ≡ Some fate = e in cc)
-filed A (entry ∷ B) h s c k fate e = by_done (step_done c k entry.command.act entry.answer.step) refl e (filed A B h.1 parts.1 c k fate)
-  where
-    parts : (is_seated A (sitting A entry.command.act) entry.answer.seating ≡ true) × (all_seated A B ≡ true)
-    parts = and_parts (is_seated A (sitting A entry.command.act) entry.answer.seating) (all_seated A B) s
-
-    mine : List SeatingRow
-    mine = filed_by entry.command.act entry.answer
-
-    by_done : (o : Option (StepState × ℕ)) → step_done c k entry.command.act entry.answer.step ≡ o → or_else o (fate_of B c k) ≡ Some fate → (fate_of B c k ≡ Some fate → IsFiled A c k fate (seatings B))
-        → IsFiled A c k fate (stacked_on mine (seatings B))
-    by_done None n g ih =
-        let t = took B entry h.0 in
-        let old = ih g in
-        record {
-          people = old.people;
-          filed = filter-stacked (is_of c k) mine (seatings B) ∙ ap (λ rows. stacked_on rows (filter (is_of c k) (seatings B))) (unfiled B entry.command.act entry.answer t.people t.answer c k n) ∙ old.filed;
-          seated = old.seated;
-        }
-    by_done (Some new) n g ih =
-        let t = took B entry h.0 in
-        let does = does_by A B entry.command.act entry.answer t.people t.answer c k fate t.no_fault parts.0 (n ∙ g) in
-        record {
-          people = does.people;
-          filed =
-              filter-stacked (is_of c k) mine (seatings B)
-              ∙ ap (λ rows. stacked_on rows (filter (is_of c k) (seatings B))) does.filed
-              ∙ ap (λ rows. stacked_on (seat_rows c k 0 does.people) rows) (none-filed B h.1 c k (next-undone B h.1 c k does.next));
-          seated = does.seated;
-        }
-
--- ONLY STEPS OF PLANNED CEREMONIES ARE DONE
-
-planned-by : (B : History) (d c : ℕ) → no_ceremony B d ≡ None → (d == c) ≡ true → is_ceremony B c ≡ true
-planned-by B d c n e = subst (λ z. is_ceremony B z ≡ true) (eqb-true d c e) (not-false (is_ceremony B d) (unmet _ (Unknown (Things.Ceremony d)) n))
-
-does-planned : (B : History) (act : Act) (said : Option ℕ) (c k : ℕ) (fate : StepState × ℕ) → fault B act ≡ None → step_done c k act said ≡ Some fate → is_ceremony B c ≡ true
-does-planned B (Sign d step at) said c k fate f e =
-    planned-by B d c (none_holds (conditions B (Sign d step at)) f).0 (and_parts (d == c) (step == k) (if-some (d == c && step == k) (Signed, at) fate e).0).0
-does-planned B (Except d text pass at) None c k fate f e = absurd (let g : None ≡ Some fate = e in cc)
-does-planned B (Except d text pass at) (Some step) c k fate f e =
-    planned-by B d c (none_holds (conditions B (Except d text pass at)) f).0 (and_parts (d == c) (step == k) (if-some (d == c && step == k) (Passed, at) fate e).0).0
-does-planned B act said c k fate f e = absurd (let g : None ≡ Some fate = e in cc)
-
-pub done-planned : (A : History) → IsRegister A → (c k : ℕ) (fate : StepState × ℕ) → fate_of A c k ≡ Some fate → is_ceremony A c ≡ true
-done-planned [] h c k fate e = absurd (let f : None ≡ Some fate = e in cc)
-done-planned (entry ∷ A) h c k fate e =
-    still (planned_as c entry.command.act) (plan_of A c) (by_done (step_done c k entry.command.act entry.answer.step) refl e (done-planned A h.1 c k fate))
+still-planned : (c : ℕ) (entry : Entry) (B : History) → is_ceremony B c ≡ true → is_ceremony (entry ∷ B) c ≡ true
+still-planned c entry B = still (planned_as c entry.command.act) (plan_of B c)
   where
     still : (o p : Option Planned) → is_some p ≡ true → is_some (or_else o p) ≡ true
     still None p g = g
     still (Some x) p g = refl
 
-    by_done : (o : Option (StepState × ℕ)) → step_done c k entry.command.act entry.answer.step ≡ o → or_else o (fate_of A c k) ≡ Some fate → (fate_of A c k ≡ Some fate → is_ceremony A c ≡ true) → is_ceremony A c ≡ true
-    by_done None n g ih = ih g
-    by_done (Some new) n g ih = does-planned A entry.command.act entry.answer.step c k new (took A entry h.0).no_fault n
+-- each step that is done is so filed, where each recorded seating is one by A
+pub filed : (A B : History) → IsRegister B → list_all (λ entry. is_seated A (sitting A entry.command.act) entry.answer.seating) B ≡ true → (c k : ℕ) (fate : StepState × ℕ) → fate_of B c k ≡ Some fate → IsFiled A B c k fate
+filed A [] h s c k fate e = absurd (let f : None ≡ Some fate = e in cc)
+filed A (entry ∷ B) h s c k fate e =
+    by_done (step_done c k entry.command.act entry.answer.step) (files A B c k entry (took B entry h.0)) e (filed A B h.1 parts.1 c k fate)
+  where
+    mine : List SeatingRow
+    mine = filed_by entry.command.act entry.answer
+
+    all_seated : List Entry → Bool
+    all_seated entries = list_all (λ entry. is_seated A (sitting A entry.command.act) entry.answer.seating) entries
+
+    parts : (is_seated A (sitting A entry.command.act) entry.answer.seating ≡ true) × (all_seated B ≡ true)
+    parts = and_parts (is_seated A (sitting A entry.command.act) entry.answer.seating) (all_seated B) s
+
+    stack : (front back : List SeatingRow) → filter (is_of c k) mine ≡ front → filter (is_of c k) (seatings B) ≡ back → filter (is_of c k) (seatings (entry ∷ B)) ≡ stacked_on front back
+    stack front back p q = filter-stacked (is_of c k) mine (seatings B) ∙ rw (p, q) refl
+
+    by_done : (o : Option (StepState × ℕ)) → Files A B c k mine (is_seated A (sitting A entry.command.act) entry.answer.seating ≡ true) o → or_else o (fate_of B c k) ≡ Some fate
+        → (fate_of B c k ≡ Some fate → IsFiled A B c k fate) → IsFiled A (entry ∷ B) c k fate
+    by_done None none g ih = let old = ih g in record {
+      people = old.people;
+      filed = stack [] (stacked_on (seat_rows c k 0 old.people) []) none old.filed;
+      seated = old.seated;
+      planned = still-planned c entry B old.planned;
+    }
+    by_done (Some new) did g ih =
+        let does = did parts.0 in
+        let same : new ≡ fate = (let k : Some new ≡ Some fate = g in cc) in
+        record {
+          people = does.people;
+          filed = stack (seat_rows c k 0 does.people) [] does.filed (none-filed A B h.1 c k (next-undone B h.1 c k does.next));
+          seated = subst (λ (z : StepState × ℕ). is_seating A c z.1 (seats_for z.0 (seats_at (steps_of A c) k)) does.people ≡ true) same does.seated;
+          planned = still-planned c entry B does.planned;
+        }

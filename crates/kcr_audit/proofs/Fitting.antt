@@ -37,6 +37,7 @@ use Rattle.kcr_history.proofs.Orderly.{orderly, holder-appointments}
 use Rattle.kcr_history.proofs.Trained.{trained-rows}
 use Rattle.kcr_audit.specs.Whole.{tables_of}
 use Rattle.kcr_audit.proofs.Alike.{alike, same-in}
+use Rattle.kcr_audit.proofs.Found.{any-map}
 use Rattle.kcr_laws.proofs.Finds.{some_if, find-all, none-find, some-find, only-holder}
 
 -- in any order
@@ -69,10 +70,6 @@ planned-number : (A : History) (c : ℕ) → list_any (λ k. k == c) (all_said p
 planned-number [] c = refl
 planned-number (entry ∷ A) c = planned_after entry.command.act c (all_said planned_number A) (plan_of A c) (planned-number A c)
 
-number-any : (A : History) (c : ℕ) (numbers : List ℕ) → list_any (λ row. row.number == c) (map (ceremony_row A) numbers) ≡ list_any (λ k. k == c) numbers
-number-any A c [] = refl
-number-any A c (k ∷ numbers) = ap (λ b. k == c || b) (number-any A c numbers)
-
 own-row : (A : History) (c : ℕ) (numbers : List ℕ) → AllByRecursion (λ (row : CeremonyRow). (row.number == c) ≡ true → row ≡ ceremony_row A c) (map (ceremony_row A) numbers)
 own-row A c [] = tt
 own-row A c (k ∷ numbers) = (λ e. ap (ceremony_row A) (eqb-true k c e), own-row A c numbers)
@@ -81,7 +78,7 @@ own-row A c (k ∷ numbers) = (λ e. ap (ceremony_row A) (eqb-true k c e), own-r
 pub ceremony-found : (A : History) (view : View) → IsPermutation (ceremonies A) view.ceremonies.items → (c : ℕ) → is_ceremony A c ≡ true → ceremony_in view c ≡ Some (ceremony_row A c)
 ceremony-found A view p c k =
     find-one (λ row. row.number == c) (ceremony_row A c) (ceremonies A) view.ceremonies.items p (own-row A c (all_said planned_number A))
-    ∙ ap (λ b. some_if b (ceremony_row A c)) (number-any A c (all_said planned_number A) ∙ planned-number A c ∙ k)
+    ∙ ap (λ b. some_if b (ceremony_row A c)) (any-map (λ row. row.number == c) (ceremony_row A) (all_said planned_number A) ∙ planned-number A c ∙ k)
 
 -- who holds a place
 holder-same : (A : History) → IsRegister A → (rows : List Appointment) → IsPermutation (appointments A) rows → (place : Place) (day : ℕ) → holder_by rows place day ≡ holder A place day

@@ -1,15 +1,12 @@
 -- As many people as seats.
-use Rattle.std.proofs.Common.{◌≡◌, ◌≢◌, ℕ, suc, Bool, true, false, not, ◌&&◌, List, [], ◌∷◌, length, refl, ap}
+use Rattle.std.proofs.Common.{◌≡◌, ◌≢◌, ℕ, suc, false, not, ◌&&◌, List, [], ◌∷◌, length, refl, ap}
 use Rattle.std.specs.List.{list_any}
+use Rattle.std.proofs.lemmas.Bool.{and_right}
 use Rattle.kcr_base.specs.Same.{same_text}
 use Rattle.kcr_script.specs.declared.seat.Seat.{Seat}
 use Rattle.kcr_history.specs.declared.rows.CeremonyRow.{CeremonyRow}
 use Rattle.kcr_history.specs.declared.views.View.{View}
 use Rattle.kcr_history.specs.Audit.{eligible_by, is_seating_by}
-
-none-both : (a b : Bool) → b ≡ false → (a && b) ≡ false
-none-both true b e = e
-none-both false b e = refl
 
 -- where there are not as many people as seats, they are no seating
 pub unequal : (view : View) (ceremony : CeremonyRow) (t : ℕ) (seats : List Seat) (people : List (List ℕ)) → length seats ≢ length people → is_seating_by view ceremony t seats people ≡ false
@@ -17,5 +14,5 @@ unequal view ceremony t [] [] h = absurd (h refl)
 unequal view ceremony t [] (who ∷ people) h = refl
 unequal view ceremony t (seat ∷ seats) [] h = refl
 unequal view ceremony t (seat ∷ seats) (who ∷ people) h =
-    none-both (eligible_by view ceremony t seat who && not (list_any (same_text who) people)) (is_seating_by view ceremony t seats people)
+    and_right (eligible_by view ceremony t seat who && not (list_any (same_text who) people)) (is_seating_by view ceremony t seats people)
     (unequal view ceremony t seats people (λ e. h (ap suc e)))

@@ -1,5 +1,5 @@
 -- The recorded people of each step of a register that was signed or passed fill its seats by the rows, in whatever order.
-use Rattle.std.proofs.Common.{◌≡◌, ℕ, Bool, true, false, not, ◌||◌, ◌&&◌, ◌==◌, List, [], ◌∷◌, map, filter, Option, Some, None, option_map, refl, sym, ap, subst, ◌∙◌}
+use Rattle.std.proofs.Common.{◌≡◌, ℕ, Bool, true, false, not, ◌&&◌, ◌==◌, List, [], ◌∷◌, map, filter, Option, Some, None, option_map, refl, sym, ap, subst, ◌∙◌}
 use Rattle.std.specs.Prelude.{unwrap_or}
 use Rattle.std.specs.List.{list_any}
 use Rattle.std.specs.List.Sorted.{IsPermutation}
@@ -12,18 +12,18 @@ use Rattle.kcr_history.specs.declared.rows.StepState.{StepState}
 use Rattle.kcr_history.specs.declared.rows.StepState.TheVariants.{Undone, Signed, Passed}
 use Rattle.kcr_history.specs.declared.views.Finding.TheVariants as Findings
 use Rattle.kcr_history.specs.declared.views.View.{View}
-use Rattle.kcr_history.specs.Audit.{IsTrueOf, is_done, are_numbered, is_well_seated, ceremony_in, is_ill_seated}
+use Rattle.kcr_history.specs.Audit.{IsTrueOf, is_done, are_numbered, is_well_seated, is_seating_by, ceremony_in, is_ill_seated}
 use Rattle.kcr_history.specs.Ceremonies.{steps_of}
 use Rattle.kcr_history.specs.History.{History, stacked_on}
 use Rattle.kcr_history.specs.Prints.{seatings_at, seated_at, seats_filled}
 use Rattle.kcr_history.specs.Seating.{is_seating}
-use Rattle.kcr_history.specs.Tables.{fate_of, seats_at, step_row, step_keys, steps, seat_rows, seatings, tables, SameTables}
+use Rattle.kcr_history.specs.Tables.{fate_of, ceremony_row, seats_at, step_row, step_keys, steps, seat_rows, seatings, tables, SameTables}
 use Rattle.kcr_history.specs.Machine.{IsRegister}
 use Rattle.kcr_laws.proofs.Seated.{seated}
 use Rattle.kcr_audit.specs.Whole.{tables_of}
 use Rattle.kcr_audit.proofs.Placed.{stacked-alone, seats-in-order, people-of-seats, seats-numbered}
 use Rattle.kcr_audit.proofs.Fitting.{ceremony-found, seating-same}
-use Rattle.kcr_audit.proofs.Filed.{is_of, seats_for, filed, done-planned}
+use Rattle.kcr_audit.proofs.Filed.{is_of, seats_for, filed}
 
 -- in whatever order they come, the rows of a step are those of its seats, and its people theirs
 rows-placed : (table shown : List SeatingRow) → IsPermutation table shown → (c k : ℕ) (people : List (List ℕ)) → filter (is_of c k) table ≡ stacked_on (seat_rows c k 0 people) [] → seatings_at shown c k ≡ seat_rows c k 0 people
@@ -31,13 +31,6 @@ rows-placed table shown p c k people e =
     seats-in-order c k 0 people (filter (is_of c k) shown)
     (IsPermutation-trans (seat_rows c k 0 people) (stacked_on (seat_rows c k 0 people) []) (filter (is_of c k) shown) (stacked-alone (seat_rows c k 0 people))
     (subst (λ rows. IsPermutation rows (filter (is_of c k) shown)) e (IsPermutation-filter (is_of c k) table shown p)))
-
-people-placed : (table shown : List SeatingRow) → IsPermutation table shown → (c k : ℕ) (people : List (List ℕ)) → filter (is_of c k) table ≡ stacked_on (seat_rows c k 0 people) [] → seated_at shown c k ≡ people
-people-placed table shown p c k people e = ap (map (λ row. row.who)) (rows-placed table shown p c k people e) ∙ people-of-seats c k 0 people
-
-and-left : (a : Bool) {b : Bool} → a ≡ true → (a && b) ≡ b
-and-left true e = refl
-and-left false e = absurd (true≢false (sym e))
 
 -- the row of a step with what became of it
 abbrev row_with : History → ℕ × ℕ → Option (StepState × ℕ) → StepRow
@@ -49,14 +42,15 @@ module _ (A : History) (h : IsRegister A) (view : View) (same : SameTables (tabl
       → seats_filled (row_with A key (Some (state, at))) ≡ seats_for state (seats_at (steps_of A key.0) key.1)
       → is_well_seated view (row_with A key (Some (state, at))) (ceremony_in view key.0) (Some at) ≡ true
   well key state at e s =
-      let record_of = filed A A h (seated A h) key.0 key.1 (state, at) e in
-      let rows = rows-placed (seatings A) view.seatings.items same.seatings key.0 key.1 record_of.people record_of.filed in
-      ap (λ o. is_well_seated view (row_with A key (Some (state, at))) o (Some at)) (ceremony-found A view same.ceremonies key.0 (done-planned A h key.0 key.1 (state, at) e))
-      ∙ and-left (are_numbered 1 (seatings_at view.seatings.items key.0 key.1)) (ap (are_numbered 1) rows ∙ seats-numbered key.0 key.1 0 record_of.people)
-      ∙ seating-same A h view same key.0 at (seats_filled (row_with A key (Some (state, at)))) (seated_at view.seatings.items key.0 key.1)
+      let as_filed = filed A A h (seated A h) key.0 key.1 (state, at) e in
+      let rows = rows-placed (seatings A) view.seatings.items same.seatings key.0 key.1 as_filed.people as_filed.filed in
+      let row = row_with A key (Some (state, at)) in
+      ap (λ o. is_well_seated view row o (Some at)) (ceremony-found A view same.ceremonies key.0 as_filed.planned)
+      ∙ ap (λ b. b && is_seating_by view (ceremony_row A key.0) at (seats_filled row) (seated_at view.seatings.items key.0 key.1)) (ap (are_numbered 1) rows ∙ seats-numbered key.0 key.1 0 as_filed.people)
+      ∙ seating-same A h view same key.0 at (seats_filled row) (seated_at view.seatings.items key.0 key.1)
       ∙ ap (λ seats. is_seating A key.0 at seats (seated_at view.seatings.items key.0 key.1)) s
-      ∙ ap (is_seating A key.0 at (seats_for state (seats_at (steps_of A key.0) key.1))) (people-placed (seatings A) view.seatings.items same.seatings key.0 key.1 record_of.people record_of.filed)
-      ∙ record_of.seated
+      ∙ ap (is_seating A key.0 at (seats_for state (seats_at (steps_of A key.0) key.1))) (ap (map (λ row. row.who)) rows ∙ people-of-seats key.0 key.1 0 as_filed.people)
+      ∙ as_filed.seated
 
   none-ill : (c s : ℕ) (key : ℕ × ℕ) → is_ill_seated view c s (step_row A key) ≡ false
   none-ill c s key = by_fate (fate_of A key.0 key.1) refl
@@ -75,7 +69,7 @@ module _ (A : History) (h : IsRegister A) (view : View) (same : SameTables (tabl
 
   none-of-steps : (c s : ℕ) (keys : List (ℕ × ℕ)) → list_any (is_ill_seated view c s) (map (step_row A) keys) ≡ false
   none-of-steps c s [] = refl
-  none-of-steps c s (key ∷ keys) = ap (λ b. b || list_any (is_ill_seated view c s) (map (step_row A) keys)) (none-ill c s key) ∙ none-of-steps c s keys
+  none-of-steps c s (key ∷ keys) = rw (none-ill c s key, none-of-steps c s keys) refl
 
   -- no step of a register is ill seated
   pub no-seating : (c s : ℕ) → IsTrueOf view (Findings.Seating c s) → ⊥

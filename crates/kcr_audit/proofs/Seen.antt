@@ -1,5 +1,5 @@
 -- The keys that were seen so far.
-use Rattle.std.proofs.Common.{◌≡◌, ℕ, ◌+◌, ◌<◌, ◌≤◌, Bool, true, false, cond, ◌||◌, List, [], take, length, get_or, refl, sym, ap, subst, ◌∙◌, arith, inl, inr}
+use Rattle.std.proofs.Common.{◌≡◌, ℕ, ◌+◌, ◌<◌, ◌≤◌, Bool, true, false, cond, ◌||◌, List, take, length, get_or, refl, sym, ap, subst, ◌∙◌, arith, inl, inr}
 use Rattle.std.specs.List.{list_any, count_by}
 use Rattle.std.proofs.Math.Bool.{or_comm}
 use Rattle.std.proofs.lemmas.Bool.{true≢false, cases_Bool, lt-ltb, le-ltb}
@@ -23,9 +23,6 @@ has key row = same_text row.key key
 pub record Seen (rows : List KeyRow) (seen : List ℕ → Bool) : Type 0 where
   pub told : (key : List ℕ) → seen key ≡ list_any (has key) rows
   pub once : (key : List ℕ) → count_by (has key) rows ≤ 1
-
-pub seen-none : (seen : List ℕ → Bool) → ((key : List ℕ) → seen key ≡ false) → Seen [] seen
-seen-none seen h = record { told = h; once = λ key. omega arith }
 
 -- at a step of a loop: one row more, of a key that was not seen, or of one that was, which is doubled then
 module _ (rows : List KeyRow) (i : ℕ) (row : KeyRow) (old : List ℕ → Bool) (l : i < length rows) (is : row ≡ get_or rows i row) (s : Seen (take i rows) old) where
