@@ -4,16 +4,10 @@ use Rattle.csv.specs.Records.{field_at}
 
 pub three_are : (f : List (List ℕ)) (a b c : List ℕ) → length f ≡ 3 → Some a ≡ field_at f 0 → Some b ≡ field_at f 1 → Some c ≡ field_at f 2 → f ≡ a ∷ b ∷ c ∷ []
 unfolding field_at
-three_are [] a b c n x y z = absurd (omega arith)
-three_are (p ∷ []) a b c n x y z = absurd (omega arith)
-three_are (p ∷ q ∷ []) a b c n x y z = absurd (omega arith)
 three_are (p ∷ q ∷ r ∷ []) a b c n x y z = cc
-three_are (p ∷ q ∷ r ∷ s ∷ f) a b c n x y z = absurd (omega arith)
+three_are other a b c n x y z = absurd (omega arith)
 
 pub there : (f : List (List ℕ)) → length f ≡ 3 → (field_at f 0 ≢ None) × (field_at f 1 ≢ None) × (field_at f 2 ≢ None)
 unfolding field_at
-there [] n = absurd (omega arith)
-there (p ∷ []) n = absurd (omega arith)
-there (p ∷ q ∷ []) n = absurd (omega arith)
 there (p ∷ q ∷ r ∷ []) n = (λ e. cc, λ e. cc, λ e. cc)
-there (p ∷ q ∷ r ∷ s ∷ f) n = absurd (omega arith)
+there other n = absurd (omega arith)

@@ -5,11 +5,24 @@ use Rattle.std.specs.Option.{MatchOption}
 use denote.Ref.{Bor}
 use Rattle.std.proofs.lemmas.List.{length-replicate}
 use Rattle.std.proofs.lemmas.List.Elements.{All-head, All-tail, All-nil, All-append, All-same, All-from_recursion, All-replicate}
+use Rattle.std.proofs.lemmas.Bool.{both_ways}
 use Rattle.kcr_base.specs.declared.place.Role.TheVariants.{Ssc1, Ssc2, Rkos}
 use Rattle.kcr_script.specs.declared.seat.Seat.{Seat}
 use Rattle.kcr_script.specs.declared.seat.Seat.TheVariants.{Staff, AnyRksh, Co, Rksh}
-use Rattle.kcr_script.specs.Seat.{seat_text, IsSeat}
+use Rattle.kcr_script.specs.Seat.{seat_text, IsSeat, can_repeat}
 use Rattle.kcr_script.specs.Seats.{Item, IsItem, star_text, item_text, after_semicolon, joined, item_seats, pair_item, Spells, StandsFor, IsSeats, Leads, IsLast}
+
+-- ITEMS
+
+pub both_lists : {X : Type 0} (P : X → Type 0) (xs ys : List X) → AllByRecursion P xs → AllByRecursion P ys → AllByRecursion P (xs ++ ys)
+both_lists P [] ys h k = k
+both_lists P (x ∷ xs) ys h k = (h.0, both_lists P xs ys h.1 k)
+
+pub one_item : (seat : Seat) → IsSeat seat → IsItem (pair_item (seat, 1))
+one_item seat is = record { seat = is; one = omega arith; seven = omega arith; numbered = λ e. refl }
+
+pub more_items : (seat : Seat) (count : ℕ) → IsSeat seat → can_repeat seat ≡ true → 1 ≤ count → count ≤ 7 → IsItem (pair_item (seat, count))
+more_items seat count is free low high = record { seat = is; one = low; seven = high; numbered = λ e. absurd (both_ways _ e free) }
 
 -- no semicolon
 abbrev pub Plain : ℕ → Type 0
@@ -76,8 +89,8 @@ abbrev pub Only : List ℕ → Option (Seat × ℕ) → Type 0
 Only front found = (item : Item) → IsItem item → item_text item ≡ front → found ≡ Some (item.seat, item.count)
 
 -- the items of a text without a semicolon are one
-one_item : (text : List ℕ) (all : List Seat) → All Plain text → Spells text all → (item : Item) × IsItem item × (item_text item ≡ text) × (all ≡ item_seats item)
-one_item text all free h = by h.more h.text_is h.seats_are
+whole_item : (text : List ℕ) (all : List Seat) → All Plain text → Spells text all → (item : Item) × IsItem item × (item_text item ≡ text) × (all ≡ item_seats item)
+whole_item text all free h = by h.more h.text_is h.seats_are
   where
     by : (more : List Item) → text ≡ joined h.first more → all ≡ item_seats h.first ++ flat_map item_seats more → (item : Item) × IsItem item × (item_text item ≡ text) × (all ≡ item_seats item)
     by [] t s = (h.first, h.is_first, sym (t ∙ append-nil (item_text h.first)), s ∙ append-nil (item_seats h.first))
@@ -102,7 +115,7 @@ same_replicate item seat count e =
 
 pub step_none : (text front : List ℕ) (rest : Option (Bor (List ℕ))) → All Plain front → MatchOption rest (text ≡ front) (λ r. text ≡ front ++ 59 ∷ r.now) → Only front None
     → (all : List Seat) → Spells text all → ⊥
-step_none text front None free e only all h = let r = one_item front all free (rw e at h) in let clash = only r.0 r.1 r.2 in cc
+step_none text front None free e only all h = let r = whole_item front all free (rw e at h) in let clash = only r.0 r.1 r.2 in cc
 step_none text front (Some rest) free e only all h = let r = first_item front rest.now all free (rw e at h) in let clash = only r.0 r.1 r.2 in cc
 
 pub step_some : (text front : List ℕ) (rest : Option (Bor (List ℕ))) (seat : Seat) (count : ℕ) → All Plain front → MatchOption rest (text ≡ front) (λ r. text ≡ front ++ 59 ∷ r.now)
@@ -110,7 +123,7 @@ pub step_some : (text front : List ℕ) (rest : Option (Bor (List ℕ))) (seat :
 step_some text front None seat count free e is t only = record {
   count_at_most = is.seven;
   spells = rw (e, ← t) (spells_one (pair_item (seat, count)) is);
-  only = λ all h. let r = one_item front all free (rw e at h) in r.3 ∙ same_replicate r.0 seat count (only r.0 r.1 r.2);
+  only = λ all h. let r = whole_item front all free (rw e at h) in r.3 ∙ same_replicate r.0 seat count (only r.0 r.1 r.2);
 }
 step_some text front (Some rest) seat count free e is t only = record {
   count_at_most = is.seven;

@@ -13,7 +13,7 @@ use Rattle.kcr_script.specs.declared.seat.Seat.TheVariants.{Staff, Co, Rksh}
 use Rattle.kcr_script.specs.Seat.{IsSeat, can_repeat}
 use Rattle.kcr_script.specs.Seats.{Item, IsItem, item_text, item_seats, pair_item, joined, Spells, StandsFor}
 use Rattle.kcr_script.specs.Reading.{one_to_seven, free_seats, repeated, all_items, item_of, between_semicolons, join_items, seats_of_items, at_most_sixteen, seats_of}
-use Rattle.kcr_script.proofs.SeatLemmas.{Plain, item_plain, spells_one, spells_more}
+use Rattle.kcr_script.proofs.SeatLemmas.{Plain, item_plain, both_lists, one_item, more_items, spells_one, spells_more}
 
 -- ---- the item with a text
 
@@ -22,16 +22,6 @@ find_says : {X : Type 0} (P : X → Type 0) (test : X → Bool) (xs : List X) �
 find_says P test [] h = tt
 find_says {X} P test (x ∷ xs) h =
     cond_both (test x) (Some x) (find test xs) (λ (o : Option X). IfSome o (λ y. (test y ≡ true) × P y)) (λ e. (e, h.0)) (λ e. find_says P test xs h.1)
-
-both_lists : {X : Type 0} (P : X → Type 0) (xs ys : List X) → AllByRecursion P xs → AllByRecursion P ys → AllByRecursion P (xs ++ ys)
-both_lists P [] ys h k = k
-both_lists P (x ∷ xs) ys h k = (h.0, both_lists P xs ys h.1 k)
-
-one_item : (seat : Seat) → IsSeat seat → IsItem (pair_item (seat, 1))
-one_item seat is = record { seat = is; one = omega arith; seven = omega arith; numbered = λ e. refl }
-
-more_items : (seat : Seat) (count : ℕ) → IsSeat seat → can_repeat seat ≡ true → 1 ≤ count → count ≤ 7 → IsItem (pair_item (seat, count))
-more_items seat count is free low high = record { seat = is; one = low; seven = high; numbered = λ e. (let clash : true ≡ false = sym free ∙ e in cc) }
 
 -- what holds of 1 to 7, in a list
 from_seven : (P : ℕ → Type 0) → ((n : ℕ) → 1 ≤ n → n ≤ 7 → P n) → AllByRecursion P one_to_seven

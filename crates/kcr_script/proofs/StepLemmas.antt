@@ -75,22 +75,14 @@ rows_same cfg s xs (r ∷ rows) (q ∷ others) s₁ s₂ y₁ y₂ h₁ e₁ h�
 pub are_rows_same : (text : List ℕ) (r₁ r₂ : List Fields) → AreRows text r₁ → AreRows text r₂ → r₁ ≡ r₂
 are_rows_same text r₁ r₂ a b = rows_same _ _ _ r₁ r₂ _ _ _ _ a.2 a.3 b.2 b.3
 
-few_steps : (k : ℕ) (rows : List Fields) (steps : List Step) → AreSteps k rows steps → k ≤ 401 → length steps + k ≤ 401
-few_steps k [] [] h low = omega arith
-few_steps k [] (step ∷ steps) h low = absurd h
-few_steps k (row ∷ rows) [] h low = absurd h
+few_steps : (k : ℕ) (rows : List Fields) (steps : List Step) → AreSteps k rows steps → k ≤ 401 → (length steps + k ≤ 401) × (length steps ≡ length rows)
+few_steps k [] [] h low = (omega arith, refl)
 few_steps k (row ∷ rows) (step ∷ steps) h low =
     let next : k + 1 ≤ 401 = omega (arith, h.0) in
-    let rest = few_steps (k + 1) rows steps h.2 next in omega (arith, rest)
-
-some_steps : (k : ℕ) (rows : List Fields) (steps : List Step) → AreSteps k rows steps → 1 ≤ length rows → 1 ≤ length steps
-some_steps k [] steps h low = absurd (omega (arith, low))
-some_steps k (row ∷ rows) [] h low = absurd h
-some_steps k (row ∷ rows) (step ∷ steps) h low = omega arith
+    let rest = few_steps (k + 1) rows steps h.2 next in
+    (omega (arith, rest.0), omega (arith, rest.1))
+few_steps k rows steps h low = absurd h
 
 -- the steps of one row or more are 1 to 400
 pub has_steps : (rows : List Fields) (steps : List Step) → AreSteps 1 rows steps → 1 ≤ length rows → HasSteps steps
-has_steps rows steps h low = record {
-  some_step = some_steps 1 rows steps h low;
-  few = let all = few_steps 1 rows steps h (omega arith) in omega (arith, all);
-}
+has_steps rows steps h low = let all = few_steps 1 rows steps h (omega arith) in record { some_step = omega (arith, low, all.1); few = omega (arith, all.0) }

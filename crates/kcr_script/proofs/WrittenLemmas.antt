@@ -1,15 +1,18 @@
 -- The written text of a list stands for it.
-use Rattle.std.proofs.Common.{◌≡◌, ℕ, zero, suc, ◌/◌, ◌%◌, ◌<◌, ◌≤◌, inl, inr, true, false, true≢false, cond, eqb, nat_lt, ◌&&◌, List, [], ◌∷◌, ◌++◌, length, replicate, All, refl, sym, ap, subst, ◌∙◌, arith, append_assoc, append-nil}
+use Rattle.std.proofs.Common.{◌≡◌, ℕ, zero, suc, ◌+◌, ◌*◌, ◌/◌, ◌%◌, ◌<◌, ◌≤◌, inl, inr, true, false, cond, eqb, nat_lt, ◌&&◌, List, [], ◌∷◌, ◌++◌, length, replicate, All, refl, sym, ap, subst, ◌∙◌, arith, append_assoc, append-nil}
 use Rattle.std.specs.List.{flat_map, AllByRecursion}
 use Rattle.std.proofs.lemmas.Bool.Decides.{nat_tests}
-use Rattle.std.proofs.lemmas.Bool.{cases_eq, cases_Bool}
+use Rattle.std.proofs.lemmas.Bool.{both_ways, cases_eq, cases_Bool}
+use Rattle.std.proofs.lemmas.List.{replicate-append-replicate}
+use Rattle.std.proofs.lemmas.List.Concat.{flat_map-append}
 use Rattle.std.proofs.lemmas.List.Elements.{All-head, All-tail}
 use Rattle.kcr_base.specs.declared.place.Role.TheVariants.{Ca}
 use Rattle.kcr_script.specs.declared.seat.Seat.{Seat}
 use Rattle.kcr_script.specs.declared.seat.Seat.TheVariants.{Staff}
 use Rattle.kcr_script.specs.Seat.{kind, can_repeat, IsSeat, seat_text}
 use Rattle.kcr_script.specs.Seats.{Item, IsItem, runs, before_runs, groups, item_seats, pair_item, star_text, after_semicolon, appended, all_appended, items_text, written, Spells, StandsFor, IsSeats}
-use Rattle.kcr_script.proofs.RunLemmas.{written_seats}
+use Rattle.kcr_script.proofs.RunLemmas.{merged_same}
+use Rattle.kcr_script.proofs.SeatLemmas.{both_lists, one_item, more_items}
 
 -- ---- appending items
 
@@ -40,57 +43,82 @@ record IsRun (run : Item) : Type 0 where
   some : 1 ≤ run.count
   numbered : can_repeat run.seat ≡ false → run.count ≡ 1
 
-by_and : (xs ys : List Item) → AllByRecursion IsItem xs → AllByRecursion IsItem ys → AllByRecursion IsItem (xs ++ ys)
-by_and [] ys p q = q
-by_and (x ∷ xs) ys p q = (p.0, by_and xs ys p.1 q)
+-- runs that are the seats, and items that are
+record AreRuns (rs : List Item) (seats : List Seat) : Type 0 where
+  each : AllByRecursion IsRun rs
+  are : flat_map item_seats rs ≡ seats
 
-sevens_items : (s : Seat) (q : ℕ) → IsItem (pair_item (s, 7)) → AllByRecursion IsItem (replicate q (pair_item (s, 7)))
-sevens_items s zero h = tt
-sevens_items s (suc q) h = (h, sevens_items s q h)
+record AreItems (items : List Item) (seats : List Seat) : Type 0 where
+  each : AllByRecursion IsItem items
+  are : flat_map item_seats items ≡ seats
 
-rest_items : (s : Seat) (r : ℕ) → IsSeat s → can_repeat s ≡ true → r < 7 → AllByRecursion IsItem (cond (eqb r 0) [] (pair_item (s, r) ∷ []))
-rest_items s r seat again small = elim (cases_eq r 0) [
-  | inl e ↦ rw e tt
-  | inr ne ↦ let t : eqb r 0 ≡ false = grind (arith, nat_tests) in rw t (record { seat = seat; one = omega arith; seven = omega arith; numbered = λ e. absurd (true≢false (sym again ∙ e)) }, tt)
-]
+-- the runs of a list
 
-run_items : (run : Item) → IsRun run → AllByRecursion IsItem (groups run)
-run_items run h = elim (cases_Bool (can_repeat run.seat)) [
-  | inl again ↦
-      let seven : IsItem (pair_item (run.seat, 7)) = record { seat = h.seat; one = omega arith; seven = omega arith; numbered = λ e. absurd (true≢false (sym again ∙ e)) } in
-      by_and (replicate (run.count / 7) (pair_item (run.seat, 7))) (cond (eqb (run.count % 7) 0) [] (pair_item (run.seat, run.count % 7) ∷ [])) (sevens_items run.seat (run.count / 7) seven) (rest_items run.seat (run.count % 7) h.seat again (omega arith))
-  | inr single ↦
-      let e : run.count ≡ 1 = h.numbered single in
-      let P : ℕ → Type 0 = λ (n : ℕ). AllByRecursion IsItem (groups (pair_item (run.seat, n))) in
-      subst P (sym e) (record { seat = h.seat; one = omega arith; seven = omega arith; numbered = λ _. refl }, tt)
-]
-
-before_runs_are : (s : Seat) (rs : List Item) → IsSeat s → AllByRecursion IsRun rs → AllByRecursion IsRun (before_runs s rs)
-before_runs_are s [] seat h = (record { seat = seat; some = omega arith; numbered = λ _. refl }, tt)
-before_runs_are s (run ∷ more) seat h = elim (cases_Bool (nat_lt (kind s) 9 && eqb (kind s) (kind run.seat))) [
+before_runs_are : (s : Seat) (rs : List Item) (seats : List Seat) → IsSeat s → AreRuns rs seats → AreRuns (before_runs s rs) (s ∷ seats)
+before_runs_are s [] seats seat h = record { each = (record { seat = seat; some = omega arith; numbered = λ _. refl }, tt); are = ap (λ (xs : List Seat). s ∷ xs) h.are }
+before_runs_are s (run ∷ more) seats seat h = elim (cases_Bool (nat_lt (kind s) 9 && eqb (kind s) (kind run.seat))) [
+  | inr apart ↦ rw apart (record { each = (record { seat = seat; some = omega arith; numbered = λ _. refl }, h.each); are = ap (λ (xs : List Seat). s ∷ xs) h.are })
   | inl joins ↦
       let again : can_repeat s ≡ true = grind (arith, nat_tests) in
-      rw joins (record { seat = seat; some = omega arith; numbered = λ e. absurd (true≢false (sym again ∙ e)) }, h.1)
-  | inr apart ↦ rw apart (record { seat = seat; some = omega arith; numbered = λ _. refl }, h)
+      rw joins (record {
+        each = (record { seat = seat; some = omega arith; numbered = λ e. absurd (both_ways _ e again) }, h.each.1);
+        are = ap (λ (t : Seat). s ∷ (replicate run.count t ++ flat_map item_seats more)) (merged_same s run.seat joins) ∙ ap (λ (xs : List Seat). s ∷ xs) h.are;
+      })
 ]
 
-runs_are : (seats : List Seat) → All IsSeat seats → AllByRecursion IsRun (runs seats)
-runs_are [] h = tt
-runs_are (s ∷ more) h = before_runs_are s (runs more) (All-head IsSeat s more h) (runs_are more (All-tail IsSeat s more h))
+runs_are : (seats : List Seat) → All IsSeat seats → AreRuns (runs seats) seats
+runs_are [] h = record { each = tt; are = refl }
+runs_are (s ∷ more) h = before_runs_are s (runs more) more (All-head IsSeat s more h) (runs_are more (All-tail IsSeat s more h))
 
-runs_items : (rs : List Item) → AllByRecursion IsRun rs → AllByRecursion IsItem (flat_map groups rs)
-runs_items [] h = tt
-runs_items (run ∷ more) h = by_and (groups run) (flat_map groups more) (run_items run h.0) (runs_items more h.1)
+-- the groups of a run
+
+join_items : (xs ys : List Item) (front back : List Seat) → AreItems xs front → AreItems ys back → AreItems (xs ++ ys) (front ++ back)
+join_items xs ys front back p q = record { each = both_lists IsItem xs ys p.each q.each; are = flat_map-append item_seats xs ys ∙ rw (p.are, q.are) refl }
+
+module _ (s : Seat) (seat : IsSeat s) (again : can_repeat s ≡ true) where
+  sevens_are : (q : ℕ) → AreItems (replicate q (pair_item (s, 7))) (replicate (q * 7) s)
+  sevens_are zero = record { each = tt; are = refl }
+  sevens_are (suc q) =
+      let more : suc q * 7 ≡ 7 + q * 7 = omega arith in
+      let rest = sevens_are q in
+      record {
+        each = (more_items s 7 seat again (omega arith) (omega arith), rest.each);
+        are = ap (λ (xs : List Seat). replicate 7 s ++ xs) rest.are ∙ replicate-append-replicate 7 (q * 7) s ∙ ap (λ (k : ℕ). replicate k s) (sym more);
+      }
+
+  rest_are : (r : ℕ) → r < 7 → AreItems (cond (eqb r 0) [] (pair_item (s, r) ∷ [])) (replicate r s)
+  rest_are r small = elim (cases_eq r 0) [
+    | inl e ↦ rw e (record { each = tt; are = refl })
+    | inr ne ↦ let t : eqb r 0 ≡ false = grind (arith, nat_tests) in rw t (record { each = (more_items s r seat again (omega arith) (omega arith), tt); are = append-nil (replicate r s) })
+  ]
+
+groups_are : (run : Item) → IsRun run → AreItems (groups run) (item_seats run)
+groups_are run h = elim (cases_Bool (can_repeat run.seat)) [
+  | inl again ↦
+      let q = run.count / 7 in
+      let r = run.count % 7 in
+      let whole : run.count / 7 * 7 + run.count % 7 ≡ run.count = omega arith in
+      let same : replicate (run.count / 7 * 7) run.seat ++ replicate (run.count % 7) run.seat ≡ item_seats run =
+      replicate-append-replicate (run.count / 7 * 7) (run.count % 7) run.seat ∙ ap (λ (k : ℕ). replicate k run.seat) whole in
+      subst (AreItems (groups run)) same (join_items _ _ _ _ (sevens_are run.seat h.seat again q) (rest_are run.seat h.seat again r (omega arith)))
+  | inr single ↦
+      let P : ℕ → Type 0 = λ (n : ℕ). AreItems (groups (pair_item (run.seat, n))) (replicate n run.seat) in
+      subst P (sym (h.numbered single)) (record { each = (one_item run.seat h.seat, tt); are = refl })
+]
+
+all_groups_are : (rs : List Item) → AllByRecursion IsRun rs → AreItems (flat_map groups rs) (flat_map item_seats rs)
+all_groups_are [] h = record { each = tt; are = refl }
+all_groups_are (run ∷ more) h = join_items (groups run) (flat_map groups more) (item_seats run) (flat_map item_seats more) (groups_are run h.0) (all_groups_are more h.1)
 
 -- ---- the law
 
-spelled : (items : List Item) (seats : List Seat) → AllByRecursion IsItem items → flat_map item_seats items ≡ seats → 1 ≤ length seats → Spells (items_text items) seats
-spelled [] seats h e some = absurd (omega (arith, ap length e))
-spelled (first ∷ more) seats h e some = record { first = first; more = more; is_first = h.0; each_more = h.1; text_is = refl; seats_are = sym e }
+spelled : (items : List Item) (seats : List Seat) → AreItems items seats → 1 ≤ length seats → Spells (items_text items) seats
+spelled [] seats h some = absurd (omega (arith, ap length h.are))
+spelled (first ∷ more) seats h some = record { first = first; more = more; is_first = h.each.0; each_more = h.each.1; text_is = refl; seats_are = sym h.are }
 
 pub written_stands : (seats : List Seat) → IsSeats seats → StandsFor (written seats) seats
 unfolding written
-written_stands seats h = record {
-  spells = spelled (flat_map groups (runs seats)) seats (runs_items (runs seats) (runs_are seats h.each)) (written_seats seats) h.some_seat;
-  sixteen = h.sixteen;
-}
+written_stands seats h =
+    let rs = runs_are seats h.each in
+    let items = all_groups_are (runs seats) rs.each in
+    record { spells = spelled (flat_map groups (runs seats)) seats (record { each = items.each; are = items.are ∙ rs.are }) h.some_seat; sixteen = h.sixteen }
