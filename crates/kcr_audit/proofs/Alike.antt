@@ -1,10 +1,10 @@
 -- The rows of a register's sheet tell the same in any order.
 use Rattle.std.proofs.Common.{◌≡◌, ℕ, ◌<◌, ◌≤◌, Bool, true, false, cond, ◌||◌, nat_lt, nat_le, List, [], ◌∷◌, ◌++◌, map, length, Some, None, refl, sym, ap, subst, ◌∙◌, arith, inl, inr}
-use Rattle.std.specs.Prelude.{◌⊎◌}
+use Rattle.std.specs.Prelude.{◌⊎◌, reverse}
 use Rattle.std.specs.List.{list_any, filter}
 use Rattle.std.specs.List.Sorted.{IsPermutation}
 use Rattle.std.proofs.lemmas.Bool.{true≢false, ltb-true, ltb-false, leb-false, or_parts, or_right, and_parts}
-use Rattle.std.proofs.lemmas.List.Sorted.{IsPermutation-sym}
+use Rattle.std.proofs.lemmas.List.Sorted.{IsPermutation-reverse, IsPermutation-sym, IsPermutation-trans}
 use Rattle.kcr_base.proofs.RefuseLemmas.{none_holds}
 use Rattle.kcr_base.proofs.RowsLemmas.{Shuffled, shuffled, nothing, under, flipped, after}
 use Rattle.kcr_base.specs.Same.{same_text}
@@ -133,10 +133,10 @@ last-same c (x ∷ xs) (y ∷ ys) p alike =
 -- ALIKE
 
 -- two rows of one person at one moment say the same
-abbrev pub AreAlike : List SheetRow → Type 0
+abbrev AreAlike : List SheetRow → Type 0
 AreAlike rows = (r o : SheetRow) → In r rows → In o rows → same_text r.who o.who ≡ true → r.at ≡ o.at → (c : ℕ) → enters c r ≡ enters c o
 
-pub same-in : (rows shown : List SheetRow) → IsPermutation rows shown → AreAlike rows → (who : List ℕ) (c t : ℕ) → in_by rows who c t ≡ in_by shown who c t
+same-in : (rows shown : List SheetRow) → IsPermutation rows shown → AreAlike rows → (who : List ℕ) (c t : ℕ) → in_by rows who c t ≡ in_by shown who c t
 same-in rows shown p alike who c t =
     last-same c (filter (is_of who t) rows) (filter (is_of who t) shown) (IsPermutation-filter (is_of who t) rows shown p)
     (λ r o h k e. (let a = in-filter (is_of who t) r rows h in let b = in-filter (is_of who t) o rows k in alike r o a.0 b.0 (one-person r o a.1 b.1) e c))
@@ -146,10 +146,6 @@ same-in rows shown p alike who c t =
         let a : r.who ≡ who = same-is r.who who (and_parts (same_text r.who who) (nat_le r.at t) f).0 in
         let b : o.who ≡ who = same-is o.who who (and_parts (same_text o.who who) (nat_le o.at t) g).0 in
         subst (λ w. same_text r.who w ≡ true) (a ∙ sym b) (same-itself r.who)
-
--- as many people are in a room by such rows in any order
-pub same-crowds : (rows shown : List SheetRow) → IsPermutation rows shown → AreAlike rows → (c t : ℕ) → crowd_by shown c t ≡ crowd_by rows c t
-same-crowds rows shown p alike c t = ap length (same_room shown rows c t (λ who. sym (same-in rows shown p alike who c t)))
 
 -- who has the turn at a moment has only earlier rows
 turn-after : (rows : List SheetRow) (c : ℕ) (way : Way) (at : ℕ) (who : List ℕ) → is_out_of_turn_by rows c way at who ≡ false → (r : SheetRow) → In r rows → same_text r.who who ≡ true → r.at < at
@@ -190,6 +186,14 @@ alike-after A (Sheet c way people at) f ih = alike-more (sheet A) c way at peopl
 alike-after A act f ih = ih
 
 -- in a register's sheet two rows of one person at one moment say the same
-pub alike : (A : History) → IsRegister A → AreAlike (sheet A)
+alike : (A : History) → IsRegister A → AreAlike (sheet A)
 alike [] h = λ r o g k s e c. absurd g
 alike (entry ∷ A) h = alike-after A entry.command.act (took A entry h.0).no_fault (alike A h.1)
+
+-- by its rows in any order the same people are in a room, and as many
+module _ (A : History) (h : IsRegister A) (shown : List SheetRow) (p : IsPermutation (reverse (sheet A)) shown) where
+  pub shown-in : (who : List ℕ) (c t : ℕ) → in_by (sheet A) who c t ≡ in_by shown who c t
+  shown-in = same-in (sheet A) shown (IsPermutation-trans (sheet A) (reverse (sheet A)) shown (IsPermutation-reverse (sheet A)) p) (alike A h)
+
+  pub shown-crowd : (c t : ℕ) → crowd_by shown c t ≡ crowd_by (sheet A) c t
+  shown-crowd c t = ap length (same_room shown (sheet A) c t (λ who. sym (shown-in who c t)))

@@ -49,16 +49,14 @@ stays-listed c (row ∷ rows) before stays h =
     new : List Stay
     new = cond (is_enter row.way) (stay_from row (next_onto None row before) ∷ []) []
 
-any-contains : (c : ℕ) (rows : List SheetRow) → list_any (of_row c) rows ≡ true → Contains (map (λ row. row.ceremony) rows) c
-any-contains c rows h = Contains-from_any {eq = λ m n. n == m} (λ x y e. sym (eqb-true y x e)) c (map (λ row. row.ceremony) rows) (any-map (λ n. n == c) (λ row. row.ceremony) rows ∙ h)
-
 -- where somebody is in the room the ceremony has a row
 crowd-listed : (rows : List SheetRow) (c t : ℕ) → 1 ≤ crowd_by rows c t → Contains (map (λ row. row.ceremony) rows) c
 crowd-listed rows c t h =
     let e = same-crowd rows c t in
     let held : list_any (holds c t) (stays_by rows) ≡ true = counted-any (holds c t) (stays_by rows) (let k : 1 ≤ crowd_in_by (stays_by rows) c t = omega arith in k) in
     let some : list_any (of_stay c) (stays_by rows) ≡ true = any-more (holds c t) (of_stay c) (stays_by rows) (λ stay g. (and_parts (of_stay c stay) (_) (and_parts _ _ g).0).0) held in
-    any-contains c rows (stays-listed c rows [] [] some)
+    Contains-from_any {eq = λ m n. n == m} (λ x y e. sym (eqb-true y x e)) c (map (λ row. row.ceremony) rows)
+    (any-map (λ n. n == c) (λ row. row.ceremony) rows ∙ stays-listed c rows [] [] some)
 
 -- a test that fails for all ceremonies that have rows fails wherever somebody is in the room
 pub none-listed : (test : List SheetRow → ℕ → ℕ → Bool) (sheet all rows : List SheetRow) (numbers list : List ℕ) (found : Option (ℕ × ℕ)) → all ≡ sheet → rows ≡ sheet → list ≡ numbers → found ≡ None

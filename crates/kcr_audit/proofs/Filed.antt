@@ -135,8 +135,11 @@ still-planned c entry B = still (planned_as c entry.command.act) (plan_of B c)
     still None p g = g
     still (Some x) p g = refl
 
+abbrev all_seated : History → History → Bool
+all_seated A entries = list_all (λ entry. is_seated A (sitting A entry.command.act) entry.answer.seating) entries
+
 -- each step that is done is so filed, where each recorded seating is one by A
-pub filed : (A B : History) → IsRegister B → list_all (λ entry. is_seated A (sitting A entry.command.act) entry.answer.seating) B ≡ true → (c k : ℕ) (fate : StepState × ℕ) → fate_of B c k ≡ Some fate → IsFiled A B c k fate
+pub filed : (A B : History) → IsRegister B → all_seated A B ≡ true → (c k : ℕ) (fate : StepState × ℕ) → fate_of B c k ≡ Some fate → IsFiled A B c k fate
 filed A [] h s c k fate e = absurd (let f : None ≡ Some fate = e in cc)
 filed A (entry ∷ B) h s c k fate e =
     by_done (step_done c k entry.command.act entry.answer.step) (files A B c k entry (took B entry h.0)) e (filed A B h.1 parts.1 c k fate)
@@ -144,11 +147,8 @@ filed A (entry ∷ B) h s c k fate e =
     mine : List SeatingRow
     mine = filed_by entry.command.act entry.answer
 
-    all_seated : List Entry → Bool
-    all_seated entries = list_all (λ entry. is_seated A (sitting A entry.command.act) entry.answer.seating) entries
-
-    parts : (is_seated A (sitting A entry.command.act) entry.answer.seating ≡ true) × (all_seated B ≡ true)
-    parts = and_parts (is_seated A (sitting A entry.command.act) entry.answer.seating) (all_seated B) s
+    parts : (is_seated A (sitting A entry.command.act) entry.answer.seating ≡ true) × (all_seated A B ≡ true)
+    parts = and_parts (is_seated A (sitting A entry.command.act) entry.answer.seating) (all_seated A B) s
 
     stack : (front back : List SeatingRow) → filter (is_of c k) mine ≡ front → filter (is_of c k) (seatings B) ≡ back → filter (is_of c k) (seatings (entry ∷ B)) ≡ stacked_on front back
     stack front back p q = filter-stacked (is_of c k) mine (seatings B) ∙ rw (p, q) refl

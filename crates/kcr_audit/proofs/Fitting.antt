@@ -1,11 +1,11 @@
 -- Who fits a seat by the rows of a register, in whatever order, is who fits it by its history.
-use Rattle.std.proofs.Common.{◌≡◌, ℕ, Bool, true, false, cond, not, ◌||◌, ◌&&◌, ◌==◌, List, [], ◌∷◌, map, find, reverse, Option, Some, None, option_map, refl, sym, ap, ◌∙◌}
+use Rattle.std.proofs.Common.{◌≡◌, ℕ, Bool, true, false, cond, not, ◌||◌, ◌&&◌, ◌==◌, List, [], ◌∷◌, map, find, Option, Some, None, option_map, refl, sym, ap, ◌∙◌}
 use Rattle.std.specs.Prelude.{is_some}
 use Rattle.std.specs.List.{list_any, AllByRecursion, cons_option}
 use Rattle.std.specs.List.Sorted.{IsPermutation}
 use Rattle.std.specs.Result.{result_unwrap_or}
 use Rattle.std.proofs.lemmas.Bool.{eqb-true}
-use Rattle.std.proofs.lemmas.List.Sorted.{list_any-IsPermutation, All-permutation, IsPermutation-reverse, IsPermutation-trans}
+use Rattle.std.proofs.lemmas.List.Sorted.{list_any-IsPermutation, All-permutation}
 use Rattle.std.proofs.lemmas.List.Elements.{All-from_recursion, recursion_from_All}
 use Rattle.kcr_base.specs.Days.{day_of}
 use Rattle.kcr_base.specs.Rows.{or_else}
@@ -27,7 +27,7 @@ use Rattle.kcr_history.specs.Audit.{eligible_by, is_seating_by, ceremony_in}
 use Rattle.kcr_history.specs.Fitting.{is_holder_by, fits_by}
 use Rattle.kcr_history.specs.History.{History, all_said}
 use Rattle.kcr_history.specs.Ceremonies.{Planned, planned_as, plan_of, is_ceremony, facility_of}
-use Rattle.kcr_history.specs.Room.{sheet, is_in}
+use Rattle.kcr_history.specs.Room.{is_in}
 use Rattle.kcr_history.specs.Seating.{fits, eligible, is_seating, one_to_seven}
 use Rattle.kcr_history.specs.Training.{holder, is_holder}
 use Rattle.kcr_history.specs.Tables.{appointments, trainings, withdrawals, ceremonies, ceremony_row, planned_number, tables, SameTables}
@@ -36,7 +36,7 @@ use Rattle.kcr_history.proofs.Stacked.{find-none}
 use Rattle.kcr_history.proofs.Orderly.{orderly, holder-appointments}
 use Rattle.kcr_history.proofs.Trained.{trained-rows}
 use Rattle.kcr_audit.specs.Whole.{tables_of}
-use Rattle.kcr_audit.proofs.Alike.{alike, same-in}
+use Rattle.kcr_audit.proofs.Alike.{shown-in}
 use Rattle.kcr_audit.proofs.Found.{any-map}
 use Rattle.kcr_laws.proofs.Finds.{some_if, find-all, none-find, some-find, only-holder}
 
@@ -105,7 +105,7 @@ module _ (A : History) (h : IsRegister A) (view : View) (same : SameTables (tabl
   eligible-same : (c t : ℕ) (seat : Seat) (who : List ℕ) → eligible_by view (ceremony_row A c) t seat who ≡ eligible A c t seat who
   eligible-same c t seat who =
       ap (λ b. b && fits_by view.trainings.items view.withdrawals.items view.appointments.items (facility_of A c) (day_of t) seat who)
-      (sym (same-in (sheet A) view.sheet.items (IsPermutation-trans (sheet A) (reverse (sheet A)) view.sheet.items (IsPermutation-reverse (sheet A)) same.sheet) (alike A h) who c t))
+      (sym (shown-in A h view.sheet.items same.sheet who c t))
       ∙ ap (λ b. is_in A who c t && b) (fits-same (facility_of A c) (day_of t) seat who)
 
   -- what is a seating by the rows is one by the history

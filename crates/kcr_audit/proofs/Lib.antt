@@ -1,6 +1,5 @@
 pub mod Found
 pub mod Crowds
-pub mod Lengths
 pub mod Seen
 pub mod Alike
 pub mod Passing

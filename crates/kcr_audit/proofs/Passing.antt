@@ -1,10 +1,10 @@
 -- Nothing is found in the tables of a register.
 use Rattle.std.proofs.Common.{◌≡◌, ℕ, ◌<◌, ◌≤◌, Bool, true, false, cond, not, ◌||◌, ◌&&◌, List, [], ◌∷◌, map, Option, Some, None, is_some, refl, sym, ap, subst, ◌∙◌, arith, inl, inr}
-use Rattle.std.specs.Prelude.{unwrap_or, reverse}
+use Rattle.std.specs.Prelude.{unwrap_or}
 use Rattle.std.specs.List.{list_any, count_by}
 use Rattle.std.specs.List.Sorted.{IsPermutation}
 use Rattle.std.proofs.lemmas.Bool.{true≢false, ltb-true, and_parts, and_from, and_right, or_cases, or_from, or_left, or_right, not-true}
-use Rattle.std.proofs.lemmas.List.Sorted.{list_any-IsPermutation, sum_by-IsPermutation, IsPermutation-trans, IsPermutation-reverse}
+use Rattle.std.proofs.lemmas.List.Sorted.{list_any-IsPermutation, sum_by-IsPermutation}
 use Rattle.kcr_base.specs.Same.{same_text}
 use Rattle.kcr_room.proofs.Agreement.{same-is, same-itself, same-turned}
 use Rattle.kcr_room.proofs.Lists.{any-same, count-cons, map-map}
@@ -19,20 +19,18 @@ use Rattle.kcr_base.specs.declared.place.Facility.TheVariants.{East}
 use Rattle.kcr_history.specs.declared.rows.KeyRow.{KeyRow}
 use Rattle.kcr_history.specs.declared.views.Finding.TheVariants as Findings
 use Rattle.kcr_history.specs.declared.views.View.{View}
-use Rattle.kcr_room.specs.declared.SheetRow.{SheetRow}
 use Rattle.kcr_room.specs.Room.{crowd_by}
 use Rattle.kcr_history.specs.declared.views.Finding.{Finding}
-use Rattle.kcr_history.specs.Room.{sheet}
 use Rattle.kcr_history.specs.Audit.{IsTrueOf, is_doubled, is_bag_there, is_lost, is_unboxed}
 use Rattle.kcr_history.specs.History.{History, all_said}
 use Rattle.kcr_history.specs.Custody.{spot, rest}
 use Rattle.kcr_history.specs.Laws.{is_kept, has_its_box}
-use Rattle.kcr_history.specs.Tables.{boxes, bags, bag_row, sealed_serial, items, item_row, added_item, keys, key_row, tables, SameTables}
+use Rattle.kcr_history.specs.Tables.{boxes, bags, bag_row, sealed_serial, item_row, added_item, keys, key_row, tables, SameTables}
 use Rattle.kcr_history.specs.Machine.{IsRegister}
 use Rattle.kcr_laws.proofs.Once.{once}
 use Rattle.kcr_laws.proofs.Balance.{balanced}
 use Rattle.kcr_laws.proofs.Alone.{rooms}
-use Rattle.kcr_audit.proofs.Alike.{alike, same-crowds}
+use Rattle.kcr_audit.proofs.Alike.{shown-crowd}
 use Rattle.kcr_audit.specs.Whole.{tables_of}
 use Rattle.kcr_audit.proofs.Found.{any-more, any-map, none-counted}
 use Rattle.kcr_laws.proofs.Stored.{sealed_somewhere, box-there}
@@ -64,13 +62,7 @@ not-doubled key text rows shown h p d =
     let more = ltb-true 1 (count_by (λ x. same_text (key x) text) shown) d in
     omega arith
 
--- KEYS
-
-pub no-key : (A : History) → IsRegister A → (view : View) → IsPermutation (keys A) view.keys.items → (key : List ℕ) → IsTrueOf view (Findings.Key key) → ⊥
-no-key A h view p key t =
-    not-doubled (λ row. row.key) key (keys A) view.keys.items (ap all_differ (map-map (λ (row : KeyRow). row.key) key_row A) ∙ once A h) p t
-
--- BAGS
+-- ROWS THAT ARE MADE OF TEXTS
 
 -- where none of the texts makes a row that passes, none of the rows does
 none-made : {X : Type 0} (p : X → Bool) (make : List ℕ → X) (texts : List (List ℕ)) → ((text : List ℕ) → list_any (same_text text) texts ≡ true → p (make text) ≡ false) → list_any p (map make texts) ≡ false
@@ -88,8 +80,9 @@ own-texts key make [] own = refl
 own-texts key make (text ∷ texts) own = rw (own text, own-texts key make texts own)
 
 -- where one row is made of each text, the texts differ and no row that is made is bad, none is to be told of
-none-wrong : {X : Type 0} (key : X → List ℕ) (make : List ℕ → X) (bad : X → Bool) (texts : List (List ℕ)) (shown : List X) → ((text : List ℕ) → key (make text) ≡ text) → all_differ texts ≡ true
-    → IsPermutation (map make texts) shown → ((text : List ℕ) → list_any (same_text text) texts ≡ true → bad (make text) ≡ false) → (text : List ℕ)
+none-wrong : {X : Type 0} (key : X → List ℕ) (make : List ℕ → X) (bad : X → Bool) (texts : List (List ℕ)) (shown : List X)
+    → ((text : List ℕ) → key (make text) ≡ text) → all_differ texts ≡ true → IsPermutation (map make texts) shown
+    → ((text : List ℕ) → list_any (same_text text) texts ≡ true → bad (make text) ≡ false) → (text : List ℕ)
     → (is_doubled (λ x. same_text (key x) text) shown || list_any (λ x. same_text (key x) text && bad x) shown) ≡ true → ⊥
 none-wrong key make bad texts shown own differ p good text t =
     elim (or_cases (is_doubled (λ x. same_text (key x) text) shown) (list_any (λ x. same_text (key x) text && bad x) shown) t) [
@@ -99,56 +92,46 @@ none-wrong key make bad texts shown own differ p good text t =
           ∙ none-made (λ x. same_text (key x) text && bad x) make texts (λ made m. and_right (same_text (key (make made)) text) (bad (make made)) (good made m)))
     ]
 
--- a bag of the register is in a box that is there
-boxed-bag : (A : History) (view : View) → IsPermutation (boxes A) view.boxes.items → (o : Option Spot) → has_its_box A o ≡ true → is_unboxed view (unwrap_or o Spent) ≡ false
-boxed-bag A view p (Some (InBox f n)) h = ap not (sym (list_any-IsPermutation (is_box f n) (boxes A) view.boxes.items p) ∙ box-there A f n ∙ h)
-boxed-bag A view p other h = refl
-
-pub no-bag : (A : History) → IsRegister A → (view : View) → IsPermutation (boxes A) view.boxes.items → IsPermutation (bags A) view.bags.items → (serial : List ℕ) → IsTrueOf view (Findings.Bag serial) → ⊥
-no-bag A h view p q =
-    none-wrong (λ row. row.serial) (bag_row A) (λ row. is_unboxed view row.spot) (all_said sealed_serial A) view.bags.items (λ s. refl) (balanced A h).sealed_once q
-    (λ s m. boxed-bag A view p (spot A s) ((balanced A h).boxed s))
-
--- ITEMS
+-- BY THE KIND OF FINDING
 
 holding : (o : Option Spot) → holds_items o ≡ true → (is_some o ≡ true) × (holds_items (Some (unwrap_or o Spent)) ≡ true)
 holding None h = absurd (true≢false (sym h))
 holding (Some s) h = (refl, h)
 
--- a bag of the register that is not spent is there
-bag-there : (A : History) → IsRegister A → (view : View) → IsPermutation (bags A) view.bags.items → (serial : List ℕ) → holds_items (spot A serial) ≡ true → is_bag_there view serial ≡ true
-bag-there A h view p serial e =
-    let held = holding (spot A serial) e in
-    sym (list_any-IsPermutation is_there (bags A) view.bags.items p)
-    ∙ one-made is_there (bag_row A) serial (all_said sealed_serial A) (sealed_somewhere A h serial ∙ held.0) (and_from (same_text serial serial) (holds_items (Some (unwrap_or (spot A serial) Spent))) (same-itself serial) held.1)
-  where
-    is_there : Bag → Bool
-    is_there bag = same_text bag.serial serial && holds_items (Some bag.spot)
+module _ (A : History) (h : IsRegister A) (view : View) (same : SameTables (tables A) (tables_of view)) where
+  -- a bag of the register is in a box that is there
+  boxed-bag : (o : Option Spot) → has_its_box A o ≡ true → is_unboxed view (unwrap_or o Spent) ≡ false
+  boxed-bag (Some (InBox f n)) e = ap not (sym (list_any-IsPermutation (is_box f n) (boxes A) view.boxes.items same.boxes) ∙ box-there A f n ∙ e)
+  boxed-bag other e = refl
 
-kept-item : (A : History) → IsRegister A → (view : View) → IsPermutation (bags A) view.bags.items → (o : Option Rest) → is_kept A o ≡ true → is_lost view (unwrap_or o (Loose East)) ≡ false
-kept-item A h view p (Some (Within serial)) k = ap not (bag-there A h view p serial k)
-kept-item A h view p other k = refl
+  -- a bag of the register that is not spent is there
+  bag-there : (serial : List ℕ) → holds_items (spot A serial) ≡ true → is_bag_there view serial ≡ true
+  bag-there serial e =
+      let held = holding (spot A serial) e in
+      let there = and_from (same_text serial serial) (holds_items (Some (unwrap_or (spot A serial) Spent))) (same-itself serial) held.1 in
+      sym (list_any-IsPermutation is_there (bags A) view.bags.items same.bags)
+      ∙ one-made is_there (bag_row A) serial (all_said sealed_serial A) (sealed_somewhere A h serial ∙ held.0) there
+    where
+      is_there : Bag → Bool
+      is_there bag = same_text bag.serial serial && holds_items (Some bag.spot)
 
-pub no-item : (A : History) → IsRegister A → (view : View) → IsPermutation (bags A) view.bags.items → IsPermutation (items A) view.items.items → (item : List ℕ) → IsTrueOf view (Findings.Custody item) → ⊥
-no-item A h view p q =
-    none-wrong (λ row. row.code) (item_row A) (λ row. is_lost view row.rest) (all_said added_item A) view.items.items (λ i. refl) (balanced A h).added_once q
-    (λ i m. kept-item A h view p (rest A i) (((balanced A h).added_kept i).0 m))
+  kept-item : (o : Option Rest) → is_kept A o ≡ true → is_lost view (unwrap_or o (Loose East)) ≡ false
+  kept-item (Some (Within serial)) k = ap not (bag-there serial k)
+  kept-item other k = refl
 
--- ROOMS
-
-shown-crowd : (A : History) → IsRegister A → (shown : List SheetRow) → IsPermutation (reverse (sheet A)) shown → (c t : ℕ) → crowd_by shown c t ≡ crowd_by (sheet A) c t
-shown-crowd A h shown p c t = same-crowds (sheet A) shown (IsPermutation-trans (sheet A) (reverse (sheet A)) shown (IsPermutation-reverse (sheet A)) p) (alike A h) c t
-
--- ALL
-
-pub passing : (A : History) → IsRegister A → (view : View) → SameTables (tables A) (tables_of view) → (finding : Finding) → IsTrueOf view finding → ⊥
-passing A h view same (Findings.Seating c s) t = no-seating A h view same c s t
-passing A h view same (Findings.Custody item) t = no-item A h view same.bags same.items item t
-passing A h view same (Findings.Bag serial) t = no-bag A h view same.boxes same.bags serial t
-passing A h view same (Findings.Key key) t = no-key A h view same.keys key t
-passing A h view same (Findings.Lone c m) t = (rooms A h c m).0 (sym (shown-crowd A h view.sheet.items same.sheet c m) ∙ t)
-passing A h view same (Findings.Crowd c m) t =
-    let e = shown-crowd A h view.sheet.items same.sheet c m in
-    let few = (rooms A h c m).1 in
-    let many : 128 < crowd_by view.sheet.items c m = t in
-    omega arith
+  pub passing : (finding : Finding) → IsTrueOf view finding → ⊥
+  passing (Findings.Seating c s) t = no-seating A h view same c s t
+  passing (Findings.Custody item) t =
+      none-wrong (λ row. row.code) (item_row A) (λ row. is_lost view row.rest) (all_said added_item A) view.items.items (λ i. refl)
+      (balanced A h).added_once same.items (λ i m. kept-item (rest A i) (((balanced A h).added_kept i).0 m)) item t
+  passing (Findings.Bag serial) t =
+      none-wrong (λ row. row.serial) (bag_row A) (λ row. is_unboxed view row.spot) (all_said sealed_serial A) view.bags.items (λ s. refl)
+      (balanced A h).sealed_once same.bags (λ s m. boxed-bag (spot A s) ((balanced A h).boxed s)) serial t
+  passing (Findings.Key key) t =
+      not-doubled (λ row. row.key) key (keys A) view.keys.items (ap all_differ (map-map (λ (row : KeyRow). row.key) key_row A) ∙ once A h) same.keys t
+  passing (Findings.Lone c m) t = (rooms A h c m).0 (sym (shown-crowd A h view.sheet.items same.sheet c m) ∙ t)
+  passing (Findings.Crowd c m) t =
+      let e = shown-crowd A h view.sheet.items same.sheet c m in
+      let few = (rooms A h c m).1 in
+      let many : 128 < crowd_by view.sheet.items c m = t in
+      omega arith

@@ -1,5 +1,5 @@
 -- The recorded people of each step of a register that was signed or passed fill its seats by the rows, in whatever order.
-use Rattle.std.proofs.Common.{◌≡◌, ℕ, Bool, true, false, not, ◌&&◌, ◌==◌, List, [], ◌∷◌, map, filter, Option, Some, None, option_map, refl, sym, ap, subst, ◌∙◌}
+use Rattle.std.proofs.Common.{◌≡◌, ℕ, Bool, true, false, not, ◌&&◌, ◌==◌, List, [], ◌∷◌, map, filter, Option, Some, None, option_map, refl, sym, ap, ◌∙◌}
 use Rattle.std.specs.Prelude.{unwrap_or}
 use Rattle.std.specs.List.{list_any}
 use Rattle.std.specs.List.Sorted.{IsPermutation}
@@ -9,7 +9,7 @@ use Rattle.kcr_room.proofs.Lists.{IsPermutation-filter}
 use Rattle.kcr_history.specs.declared.rows.SeatingRow.{SeatingRow}
 use Rattle.kcr_history.specs.declared.rows.StepRow.{StepRow}
 use Rattle.kcr_history.specs.declared.rows.StepState.{StepState}
-use Rattle.kcr_history.specs.declared.rows.StepState.TheVariants.{Undone, Signed, Passed}
+use Rattle.kcr_history.specs.declared.rows.StepState.TheVariants.{Undone}
 use Rattle.kcr_history.specs.declared.views.Finding.TheVariants as Findings
 use Rattle.kcr_history.specs.declared.views.View.{View}
 use Rattle.kcr_history.specs.Audit.{IsTrueOf, is_done, are_numbered, is_well_seated, is_seating_by, ceremony_in, is_ill_seated}
@@ -26,11 +26,12 @@ use Rattle.kcr_audit.proofs.Fitting.{ceremony-found, seating-same}
 use Rattle.kcr_audit.proofs.Filed.{is_of, seats_for, filed}
 
 -- in whatever order they come, the rows of a step are those of its seats, and its people theirs
-rows-placed : (table shown : List SeatingRow) → IsPermutation table shown → (c k : ℕ) (people : List (List ℕ)) → filter (is_of c k) table ≡ stacked_on (seat_rows c k 0 people) [] → seatings_at shown c k ≡ seat_rows c k 0 people
+rows-placed : (table shown : List SeatingRow) → IsPermutation table shown → (c k : ℕ) (people : List (List ℕ))
+    → filter (is_of c k) table ≡ stacked_on (seat_rows c k 0 people) [] → seatings_at shown c k ≡ seat_rows c k 0 people
 rows-placed table shown p c k people e =
+    let own = seat_rows c k 0 people in
     seats-in-order c k 0 people (filter (is_of c k) shown)
-    (IsPermutation-trans (seat_rows c k 0 people) (stacked_on (seat_rows c k 0 people) []) (filter (is_of c k) shown) (stacked-alone (seat_rows c k 0 people))
-    (subst (λ rows. IsPermutation rows (filter (is_of c k) shown)) e (IsPermutation-filter (is_of c k) table shown p)))
+    (IsPermutation-trans own (filter (is_of c k) table) (filter (is_of c k) shown) (rw e (stacked-alone own)) (IsPermutation-filter (is_of c k) table shown p))
 
 -- the row of a step with what became of it
 abbrev row_with : History → ℕ × ℕ → Option (StepState × ℕ) → StepRow
@@ -58,14 +59,10 @@ module _ (A : History) (h : IsRegister A) (view : View) (same : SameTables (tabl
       undone : (w : Bool) → (key.0 == c && key.1 == s && false && w) ≡ false
       undone w = ap (λ b. b && w) (and_right (key.0 == c && key.1 == s) false refl)
 
-      filled : (state : StepState) (at : ℕ) → is_well_seated view (row_with A key (Some (state, at))) (ceremony_in view key.0) (Some at) ≡ true → is_ill_seated view c s (row_with A key (Some (state, at))) ≡ false
-      filled state at w = and_right (key.0 == c && key.1 == s && is_done state) _ (ap not w)
-
       by_fate : (o : Option (StepState × ℕ)) → fate_of A key.0 key.1 ≡ o → is_ill_seated view c s (row_with A key o) ≡ false
       by_fate None e = undone _
       by_fate (Some (Undone, at)) e = undone _
-      by_fate (Some (Signed, at)) e = filled Signed at (well key Signed at e refl)
-      by_fate (Some (Passed, at)) e = filled Passed at (well key Passed at e refl)
+      by_fate (Some (state, at)) e = and_right (key.0 == c && key.1 == s && is_done state) _ (ap not (well key state at e refl))
 
   none-of-steps : (c s : ℕ) (keys : List (ℕ × ℕ)) → list_any (is_ill_seated view c s) (map (step_row A) keys) ≡ false
   none-of-steps c s [] = refl
