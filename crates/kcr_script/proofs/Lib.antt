@@ -1,7 +1,6 @@
 pub mod RunLemmas
 pub mod SeatLemmas
 pub mod WrittenLemmas
-pub mod FieldLemmas
 pub mod StepLemmas
 pub mod OnLiterals
 pub mod SeatReading

@@ -12,34 +12,26 @@ use Rattle.kcr_script.specs.Steps.{HasSteps}
 abbrev pub Reads : ℕ → Fields → Option Step → Type 0
 Reads k row found = (step : Step) → IsRow k row step → found ≡ Some step
 
-pub faulty_row : (k : ℕ) (row : Fields) (rows rest : List Fields) (found : Option Step) → rest ≡ row ∷ rows → found ≡ None → Reads k row found → BreaksFrom k rest (k + 1)
-faulty_row k row rows rest found e none only =
-    let clash : (step : Step) → IsRow k row step → ⊥ = λ step h. (let g = only step h in cc) in
-    rw e (inl (inr clash, refl))
+module _ (k : ℕ) (row : Fields) (rows rest : List Fields) (first : rest ≡ row ∷ rows) where
+  -- a row that is not that of its step breaks there
+  pub faulty_row : (found : Option Step) → found ≡ None → Reads k row found → BreaksFrom k rest (k + 1)
+  faulty_row found none only = rw first (inl (inr (λ step h. (let g = only step h in cc)), refl))
 
-pub no_steps : (k : ℕ) (row : Fields) (rows rest : List Fields) (found : Option Step) → rest ≡ row ∷ rows → found ≡ None → Reads k row found → (tail : List Step) → AreSteps k rest tail → ⊥
-no_steps k row rows rest found e none only tail h = by tail (rw e at h)
-  where
-    by : (tail : List Step) → AreSteps k (row ∷ rows) tail → ⊥
-    by [] h = h
-    by (step ∷ steps) h = let g = only step h.1 in cc
+  -- the first of the steps is that of the row
+  pub first_step : (found : Option Step) → Reads k row found → (all : List Step) → AreSteps k rest all
+      → (step : Step) × (found ≡ Some step) × ((tail : List Step) × AreSteps (k + 1) rows tail × (all ≡ step ∷ tail))
+  first_step found only all h = by all (rw first at h)
+    where
+      by : (all : List Step) → AreSteps k (row ∷ rows) all
+          → (step : Step) × (found ≡ Some step) × ((tail : List Step) × AreSteps (k + 1) rows tail × (all ≡ step ∷ tail))
+      by [] h = absurd h
+      by (step ∷ steps) h = (step, only step h.1, (steps, h.2, refl))
 
--- the first of the steps is that of the row
-pub back_row : (k : ℕ) (row : Fields) (rows rest : List Fields) (step : Step) → rest ≡ row ∷ rows → Reads k row (Some step) → (all : List Step) → AreSteps k rest all → (tail : List Step) × AreSteps (k + 1) rows tail × (all ≡ step ∷ tail)
-back_row k row rows rest step e only all h = by all (rw e at h)
-  where
-    by : (all : List Step) → AreSteps k (row ∷ rows) all → (tail : List Step) × AreSteps (k + 1) rows tail × (all ≡ step ∷ tail)
-    by [] h = absurd h
-    by (s ∷ steps) h =
-        let g = only s h.1 in
-        let same : s ≡ step = cc in
-        (steps, h.2, ap (λ (x : Step). x ∷ steps) same)
+  pub on_row : (step : Step) → k ≤ 400 → IsRow k row step → (tail : List Step) → AreSteps (k + 1) rows tail → AreSteps k rest (step ∷ tail)
+  on_row step low is tail h = rw first (low, is, h)
 
-pub on_row : (k : ℕ) (row : Fields) (rows rest : List Fields) (step : Step) → rest ≡ row ∷ rows → k ≤ 400 → IsRow k row step → (tail : List Step) → AreSteps (k + 1) rows tail → AreSteps k rest (step ∷ tail)
-on_row k row rows rest step e low is tail h = rw e (low, is, h)
-
-pub breaks_row : (k : ℕ) (row : Fields) (rows rest : List Fields) (step : Step) → rest ≡ row ∷ rows → k ≤ 400 → IsRow k row step → (r : ℕ) → BreaksFrom (k + 1) rows r → BreaksFrom k rest r
-breaks_row k row rows rest step e low is r h = rw e (inr (low, step, is, h))
+  pub breaks_row : (step : Step) → k ≤ 400 → IsRow k row step → (r : ℕ) → BreaksFrom (k + 1) rows r → BreaksFrom k rest r
+  breaks_row step low is r h = rw first (inr (low, step, is, h))
 
 -- pushed at the end, or put before the rest
 pub push_before : (done new tail : List Step) (step : Step) → new ≡ done ++ step ∷ [] → new ++ tail ≡ done ++ step ∷ tail
@@ -53,7 +45,8 @@ none_left rest k e = rw e tt
 some_read : {A : Type 0} (o : Option A) (p q : A) → o ≡ Some p → o ≡ Some q → p ≡ q
 some_read o p q e f = cc
 
-rows_same : (cfg : Config) (s : State) (xs : List ℕ) (r₁ r₂ : List Fields) (s₁ s₂ : State) (y₁ y₂ : List ℕ) → Reached cfg s xs r₁ s₁ y₁ → next_record cfg s₁ [] [] y₁ ≡ None → Reached cfg s xs r₂ s₂ y₂ → next_record cfg s₂ [] [] y₂ ≡ None → r₁ ≡ r₂
+rows_same : (cfg : Config) (s : State) (xs : List ℕ) (r₁ r₂ : List Fields) (s₁ s₂ : State) (y₁ y₂ : List ℕ) → Reached cfg s xs r₁ s₁ y₁
+    → next_record cfg s₁ [] [] y₁ ≡ None → Reached cfg s xs r₂ s₂ y₂ → next_record cfg s₂ [] [] y₂ ≡ None → r₁ ≡ r₂
 unfolding Reached
 rows_same cfg s xs [] [] s₁ s₂ y₁ y₂ h₁ e₁ h₂ e₂ = refl
 rows_same cfg s xs [] (r ∷ rows) s₁ s₂ y₁ y₂ h₁ e₁ h₂ e₂ =

@@ -43,18 +43,14 @@ record IsRun (run : Item) : Type 0 where
   some : 1 ≤ run.count
   numbered : can_repeat run.seat ≡ false → run.count ≡ 1
 
--- runs that are the seats, and items that are
-record AreRuns (rs : List Item) (seats : List Seat) : Type 0 where
-  each : AllByRecursion IsRun rs
-  are : flat_map item_seats rs ≡ seats
-
-record AreItems (items : List Item) (seats : List Seat) : Type 0 where
-  each : AllByRecursion IsItem items
+-- items of a kind that stand for the seats
+record Are (P : Item → Type 0) (items : List Item) (seats : List Seat) : Type 0 where
+  each : AllByRecursion P items
   are : flat_map item_seats items ≡ seats
 
 -- the runs of a list
 
-before_runs_are : (s : Seat) (rs : List Item) (seats : List Seat) → IsSeat s → AreRuns rs seats → AreRuns (before_runs s rs) (s ∷ seats)
+before_runs_are : (s : Seat) (rs : List Item) (seats : List Seat) → IsSeat s → Are IsRun rs seats → Are IsRun (before_runs s rs) (s ∷ seats)
 before_runs_are s [] seats seat h = record { each = (record { seat = seat; some = omega arith; numbered = λ _. refl }, tt); are = ap (λ (xs : List Seat). s ∷ xs) h.are }
 before_runs_are s (run ∷ more) seats seat h = elim (cases_Bool (nat_lt (kind s) 9 && eqb (kind s) (kind run.seat))) [
   | inr apart ↦ rw apart (record { each = (record { seat = seat; some = omega arith; numbered = λ _. refl }, h.each); are = ap (λ (xs : List Seat). s ∷ xs) h.are })
@@ -66,17 +62,17 @@ before_runs_are s (run ∷ more) seats seat h = elim (cases_Bool (nat_lt (kind s
       })
 ]
 
-runs_are : (seats : List Seat) → All IsSeat seats → AreRuns (runs seats) seats
+runs_are : (seats : List Seat) → All IsSeat seats → Are IsRun (runs seats) seats
 runs_are [] h = record { each = tt; are = refl }
 runs_are (s ∷ more) h = before_runs_are s (runs more) more (All-head IsSeat s more h) (runs_are more (All-tail IsSeat s more h))
 
 -- the groups of a run
 
-join_items : (xs ys : List Item) (front back : List Seat) → AreItems xs front → AreItems ys back → AreItems (xs ++ ys) (front ++ back)
+join_items : (xs ys : List Item) (front back : List Seat) → Are IsItem xs front → Are IsItem ys back → Are IsItem (xs ++ ys) (front ++ back)
 join_items xs ys front back p q = record { each = both_lists IsItem xs ys p.each q.each; are = flat_map-append item_seats xs ys ∙ rw (p.are, q.are) refl }
 
 module _ (s : Seat) (seat : IsSeat s) (again : can_repeat s ≡ true) where
-  sevens_are : (q : ℕ) → AreItems (replicate q (pair_item (s, 7))) (replicate (q * 7) s)
+  sevens_are : (q : ℕ) → Are IsItem (replicate q (pair_item (s, 7))) (replicate (q * 7) s)
   sevens_are zero = record { each = tt; are = refl }
   sevens_are (suc q) =
       let more : suc q * 7 ≡ 7 + q * 7 = omega arith in
@@ -86,13 +82,13 @@ module _ (s : Seat) (seat : IsSeat s) (again : can_repeat s ≡ true) where
         are = ap (λ (xs : List Seat). replicate 7 s ++ xs) rest.are ∙ replicate-append-replicate 7 (q * 7) s ∙ ap (λ (k : ℕ). replicate k s) (sym more);
       }
 
-  rest_are : (r : ℕ) → r < 7 → AreItems (cond (eqb r 0) [] (pair_item (s, r) ∷ [])) (replicate r s)
+  rest_are : (r : ℕ) → r < 7 → Are IsItem (cond (eqb r 0) [] (pair_item (s, r) ∷ [])) (replicate r s)
   rest_are r small = elim (cases_eq r 0) [
     | inl e ↦ rw e (record { each = tt; are = refl })
     | inr ne ↦ let t : eqb r 0 ≡ false = grind (arith, nat_tests) in rw t (record { each = (more_items s r seat again (omega arith) (omega arith), tt); are = append-nil (replicate r s) })
   ]
 
-groups_are : (run : Item) → IsRun run → AreItems (groups run) (item_seats run)
+groups_are : (run : Item) → IsRun run → Are IsItem (groups run) (item_seats run)
 groups_are run h = elim (cases_Bool (can_repeat run.seat)) [
   | inl again ↦
       let q = run.count / 7 in
@@ -100,19 +96,19 @@ groups_are run h = elim (cases_Bool (can_repeat run.seat)) [
       let whole : run.count / 7 * 7 + run.count % 7 ≡ run.count = omega arith in
       let same : replicate (run.count / 7 * 7) run.seat ++ replicate (run.count % 7) run.seat ≡ item_seats run =
       replicate-append-replicate (run.count / 7 * 7) (run.count % 7) run.seat ∙ ap (λ (k : ℕ). replicate k run.seat) whole in
-      subst (AreItems (groups run)) same (join_items _ _ _ _ (sevens_are run.seat h.seat again q) (rest_are run.seat h.seat again r (omega arith)))
+      subst (Are IsItem (groups run)) same (join_items _ _ _ _ (sevens_are run.seat h.seat again q) (rest_are run.seat h.seat again r (omega arith)))
   | inr single ↦
-      let P : ℕ → Type 0 = λ (n : ℕ). AreItems (groups (pair_item (run.seat, n))) (replicate n run.seat) in
+      let P : ℕ → Type 0 = λ (n : ℕ). Are IsItem (groups (pair_item (run.seat, n))) (replicate n run.seat) in
       subst P (sym (h.numbered single)) (record { each = (one_item run.seat h.seat, tt); are = refl })
 ]
 
-all_groups_are : (rs : List Item) → AllByRecursion IsRun rs → AreItems (flat_map groups rs) (flat_map item_seats rs)
+all_groups_are : (rs : List Item) → AllByRecursion IsRun rs → Are IsItem (flat_map groups rs) (flat_map item_seats rs)
 all_groups_are [] h = record { each = tt; are = refl }
 all_groups_are (run ∷ more) h = join_items (groups run) (flat_map groups more) (item_seats run) (flat_map item_seats more) (groups_are run h.0) (all_groups_are more h.1)
 
 -- ---- the law
 
-spelled : (items : List Item) (seats : List Seat) → AreItems items seats → 1 ≤ length seats → Spells (items_text items) seats
+spelled : (items : List Item) (seats : List Seat) → Are IsItem items seats → 1 ≤ length seats → Spells (items_text items) seats
 spelled [] seats h some = absurd (omega (arith, ap length h.are))
 spelled (first ∷ more) seats h some = record { first = first; more = more; is_first = h.each.0; each_more = h.each.1; text_is = refl; seats_are = sym h.are }
 
