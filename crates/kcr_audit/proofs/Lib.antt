@@ -6,4 +6,3 @@ pub mod Passing
 pub mod Placed
 pub mod Fitting
 pub mod Filed
-pub mod Rightly

@@ -34,7 +34,7 @@ use Rattle.kcr_audit.proofs.Alike.{shown-crowd}
 use Rattle.kcr_audit.specs.Whole.{tables_of}
 use Rattle.kcr_audit.proofs.Found.{any-more, any-map, none-counted}
 use Rattle.kcr_laws.proofs.Stored.{sealed_somewhere, box-there}
-use Rattle.kcr_audit.proofs.Rightly.{no-seating}
+use Rattle.kcr_audit.proofs.Filed.{no-seating}
 
 -- DOUBLED
 

@@ -1,4 +1,3 @@
-pub mod RunLemmas
 pub mod SeatLemmas
 pub mod WrittenLemmas
 pub mod StepLemmas

@@ -1,14 +1,13 @@
 -- How a text of items begins.
-use Rattle.std.proofs.Common.{◌≡◌, ◌≢◌, ℕ, ◌+◌, ◌≤◌, Bool, true, false, cond, eqb, List, [], ◌∷◌, ◌++◌, length, replicate, Option, Some, None, refl, sym, ap, ◌∙◌, arith, All, append_assoc, append-nil, length-append}
+use Rattle.std.proofs.Common.{rules, ◌≡◌, ◌≢◌, ℕ, ◌+◌, ◌≤◌, Bool, true, false, cond, eqb, List, [], ◌∷◌, ◌++◌, length, replicate, Option, Some, None, refl, sym, ap, ◌∙◌, arith, All, append_assoc, append-nil, length-append}
 use Rattle.std.specs.List.{flat_map, AllByRecursion}
 use Rattle.std.specs.Option.{MatchOption}
 use denote.Ref.{Bor}
 use Rattle.std.proofs.lemmas.List.{length-replicate}
 use Rattle.std.proofs.lemmas.List.Elements.{All-head, All-tail, All-nil, All-append, All-same, All-from_recursion, All-replicate}
 use Rattle.std.proofs.lemmas.Bool.{both_ways}
-use Rattle.kcr_base.specs.declared.place.Role.TheVariants.{Ssc1, Ssc2, Rkos}
 use Rattle.kcr_script.specs.declared.seat.Seat.{Seat}
-use Rattle.kcr_script.specs.declared.seat.Seat.TheVariants.{Staff, AnyRksh, Co, Rksh}
+use Rattle.kcr_script.specs.declared.seat.Seat.TheVariants.{Staff, Co, Rksh}
 use Rattle.kcr_script.specs.Seat.{seat_text, IsSeat, can_repeat}
 use Rattle.kcr_script.specs.Seats.{Item, IsItem, star_text, item_text, after_semicolon, joined, item_seats, pair_item, Spells, StandsFor, IsSeats, Leads, IsLast}
 
@@ -29,13 +28,10 @@ abbrev pub Plain : ℕ → Type 0
 Plain b = b ≢ 59
 
 seat_plain : (s : Seat) → IsSeat s → AllByRecursion Plain (seat_text s)
-seat_plain (Staff Ssc1) h = (omega arith, (omega arith, (omega arith, (omega arith, tt))))
-seat_plain (Staff Ssc2) h = (omega arith, (omega arith, (omega arith, (omega arith, tt))))
-seat_plain (Staff Rkos) h = (omega arith, (omega arith, (omega arith, (omega arith, tt))))
-seat_plain AnyRksh h = (omega arith, (omega arith, (omega arith, (omega arith, tt))))
 seat_plain (Co n) h = (omega arith, (omega arith, (omega arith, (omega arith, tt))))
 seat_plain (Rksh n) h = (omega arith, (omega arith, (omega arith, (omega arith, (omega arith, (omega arith, tt))))))
-seat_plain other h = (omega arith, (omega arith, tt))
+seat_plain (Staff Ca) h = search (rules, arith)
+seat_plain other h = search (rules, arith)
 
 star_plain : (n : ℕ) → n ≤ 7 → (b : Bool) → AllByRecursion Plain (cond b [] (42 ∷ (48 + n) ∷ []))
 star_plain n h true = tt
@@ -133,7 +129,8 @@ step_some text front (Some rest) seat count free e is t only = record {
       (r.3.0, r.3.1, r.3.2 ∙ ap (λ (xs : List Seat). xs ++ r.3.0) (same_replicate r.0 seat count (only r.0 r.1 r.2)));
 }
 
-pub step_front : (rest : List ℕ) (seat : Seat) (count : ℕ) (more : Option (Bor (List ℕ))) → MatchOption more (IsLast rest seat count) (λ r. Leads rest seat count r.now) → (all : List Seat) → Spells rest all → (tail : List Seat) × (all ≡ replicate count seat ++ tail)
+pub step_front : (rest : List ℕ) (seat : Seat) (count : ℕ) (more : Option (Bor (List ℕ))) → MatchOption more (IsLast rest seat count) (λ r. Leads rest seat count r.now)
+    → (all : List Seat) → Spells rest all → (tail : List Seat) × (all ≡ replicate count seat ++ tail)
 step_front rest seat count None h all s = ([], h.only all s ∙ sym (append-nil (replicate count seat)))
 step_front rest seat count (Some r) h all s = let b = h.back all s in (b.0, b.2)
 
@@ -142,23 +139,24 @@ more_than all done tail back seat count e f =
     omega (arith, ap length e, length-append done tail, ap length f, length-append (replicate count seat) back, length-replicate count seat)
 
 -- the steps of the loop, on the two facts that it keeps
-pub on_step : (text rest after : List ℕ) (done new : List Seat) (seat : Seat) (count : ℕ) → new ≡ done ++ replicate count seat → ((tail : List Seat) → Spells rest tail → Spells text (done ++ tail)) → Leads rest seat count after → (tail : List Seat) → Spells after tail → Spells text (new ++ tail)
-on_step text rest after done new seat count e on leads tail h =
-    let all = on (replicate count seat ++ tail) (leads.on tail h) in
-    let same : new ++ tail ≡ done ++ (replicate count seat ++ tail) = ap (λ (xs : List Seat). xs ++ tail) e ∙ append_assoc done (replicate count seat) tail in
-    rw same all
+module _ (text rest : List ℕ) (done new : List Seat) (seat : Seat) (count : ℕ) (e : new ≡ done ++ replicate count seat) where
+  pub on_step : (after : List ℕ) → ((tail : List Seat) → Spells rest tail → Spells text (done ++ tail)) → Leads rest seat count after
+      → (tail : List Seat) → Spells after tail → Spells text (new ++ tail)
+  on_step after on leads tail h =
+      let all = on (replicate count seat ++ tail) (leads.on tail h) in
+      rw (e, append_assoc done (replicate count seat) tail) all
 
-pub back_step : (text rest after : List ℕ) (done new : List Seat) (seat : Seat) (count : ℕ) → new ≡ done ++ replicate count seat → ((all : List Seat) → Spells text all → (tail : List Seat) × Spells rest tail × (all ≡ done ++ tail)) → Leads rest seat count after → (all : List Seat) → Spells text all → (tail : List Seat) × Spells after tail × (all ≡ new ++ tail)
-back_step text rest after done new seat count e back leads all h =
-    let b = back all h in
-    let l = leads.back b.0 b.1 in
-    let same : done ++ (replicate count seat ++ l.0) ≡ new ++ l.0 = sym (append_assoc done (replicate count seat) l.0) ∙ ap (λ (xs : List Seat). xs ++ l.0) (sym e) in
-    (l.0, l.1, b.2 ∙ ap (λ (xs : List Seat). done ++ xs) l.2 ∙ same)
+  abbrev Back : List ℕ → List Seat → Type 0
+  Back left before = (all : List Seat) → Spells text all → (tail : List Seat) × Spells left tail × (all ≡ before ++ tail)
 
-pub last_step : (text rest : List ℕ) (done new : List Seat) (seat : Seat) (count : ℕ) → new ≡ done ++ replicate count seat → ((all : List Seat) → Spells text all → (tail : List Seat) × Spells rest tail × (all ≡ done ++ tail)) → IsLast rest seat count → (all : List Seat) → Spells text all → new ≡ all
-last_step text rest done new seat count e back last all h =
-    let b = back all h in
-    e ∙ ap (λ (xs : List Seat). done ++ xs) (sym (last.only b.0 b.1)) ∙ sym b.2
+  pub back_step : (after : List ℕ) → Back rest done → Leads rest seat count after → Back after new
+  back_step after back leads all h =
+      let b = back all h in
+      let l = leads.back b.0 b.1 in
+      (l.0, l.1, b.2 ∙ ap (λ (xs : List Seat). done ++ xs) l.2 ∙ rw e (sym (append_assoc done (replicate count seat) l.0)))
+
+  pub last_step : Back rest done → IsLast rest seat count → (all : List Seat) → Spells text all → new ≡ all
+  last_step back last all h = let b = back all h in e ∙ ap (λ (xs : List Seat). done ++ xs) (sym (last.only b.0 b.1)) ∙ sym b.2
 
 -- ---- what a text can stand for
 

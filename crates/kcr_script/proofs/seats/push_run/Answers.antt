@@ -1,6 +1,6 @@
 use Rattle.std.proofs.Common.{◌≡◌, ℕ, List, sym, ap, ◌∙◌, arith, string_bytes, ◌+◌, ◌-◌}
 use Rattle.kcr_script.specs.Seats.{Item, all_appended, groups, pair_item}
-use Rattle.kcr_script.proofs.RunLemmas.{groups_more}
+use Rattle.kcr_script.proofs.WrittenLemmas.{groups_more}
 use Rattle.kcr_script.proofs.seats.push_run.Goals as goal
 
 pub loop-left-preserved : goal.loop-left-preserved

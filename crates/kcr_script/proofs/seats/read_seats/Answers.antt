@@ -22,8 +22,8 @@ loop-seat-preserved c =
     let e = c.in_ok-push_seats.ensures in
     let leads = rw c.in-Some-more.is at c.in-Some.ensures in
     record {
-      on = on_step _ _ _ _ _ _ _ e c.loop-seat.invariant.on leads;
-      back = back_step _ _ _ _ _ _ _ e c.loop-seat.invariant.back leads;
+      on = on_step _ _ _ _ _ _ e _ c.loop-seat.invariant.on leads;
+      back = back_step _ _ _ _ _ _ e _ c.loop-seat.invariant.back leads;
       sixteen = omega (arith, ap length e, length-append c.loop-seat.seats.items (replicate c.in-Some.count c.in-Some.seat), length-replicate c.in-Some.count c.in-Some.seat);
     }
 
