@@ -3,7 +3,7 @@ use Rattle.std.proofs.Common.{◌≡◌, ℕ, ◌<◌, ◌≤◌, Bool, true, fa
 use Rattle.std.specs.Prelude.{◌⊎◌, reverse}
 use Rattle.std.specs.List.{list_any, filter}
 use Rattle.std.specs.List.Sorted.{IsPermutation}
-use Rattle.std.proofs.lemmas.Bool.{true≢false, ltb-true, ltb-false, leb-false, or_parts, or_right, and_parts}
+use Rattle.std.proofs.lemmas.Bool.{both_ways, cond_both, ltb-true, ltb-false, leb-false, or_parts, or_right, and_parts}
 use Rattle.std.proofs.lemmas.List.Sorted.{IsPermutation-reverse, IsPermutation-sym, IsPermutation-trans}
 use Rattle.kcr_base.proofs.RefuseLemmas.{none_holds}
 use Rattle.kcr_base.proofs.RowsLemmas.{Shuffled, shuffled, nothing, under, flipped, after}
@@ -50,11 +50,7 @@ in-order x xs ys p h = in-shuffled x (shuffled xs ys p) h
 in-append : {X : Type 0} (x : X) (xs ys : List X) → In x (xs ++ ys) → In x xs ⊎ In x ys
 in-append x [] ys h = inr h
 in-append x (y ∷ xs) ys (inl e) = inl (inl e)
-in-append x (y ∷ xs) ys (inr h) = by_part (in-append x xs ys h)
-  where
-    by_part : In x xs ⊎ In x ys → ((x ≡ y) ⊎ In x xs) ⊎ In x ys
-    by_part (inl g) = inl (inr g)
-    by_part (inr g) = inr g
+in-append x (y ∷ xs) ys (inr h) = elim (in-append x xs ys h) [ inl g ↦ inl (inr g) | inr g ↦ inr g ]
 
 in-filter : {X : Type 0} (p : X → Bool) (x : X) (xs : List X) → In x (filter p xs) → In x xs × (p x ≡ true)
 in-filter p x [] h = absurd h
@@ -67,16 +63,8 @@ in-filter p x (y ∷ ys) h = by_test (p y) refl h (in-filter p x ys)
 
 to-filter : {X : Type 0} (p : X → Bool) (x : X) (xs : List X) → In x xs → p x ≡ true → In x (filter p xs)
 to-filter p x [] h e = absurd h
-to-filter p x (y ∷ ys) (inl g) e = by_test (p y) (sym (ap p g) ∙ e)
-  where
-    by_test : (b : Bool) → b ≡ true → In x (cond b (y ∷ filter p ys) (filter p ys))
-    by_test true f = inl g
-    by_test false f = absurd (true≢false (sym f))
-to-filter p x (y ∷ ys) (inr g) e = by_test (p y) (to-filter p x ys g e)
-  where
-    by_test : (b : Bool) → In x (filter p ys) → In x (cond b (y ∷ filter p ys) (filter p ys))
-    by_test true f = inr f
-    by_test false f = f
+to-filter p x (y ∷ ys) (inl g) e = cond_both (p y) (y ∷ filter p ys) (filter p ys) (In x) (λ f. inl g) (λ f. absurd (both_ways _ f (sym (ap p g) ∙ e)))
+to-filter p x (y ∷ ys) (inr g) e = let there = to-filter p x ys g e in cond_both (p y) (y ∷ filter p ys) (filter p ys) (In x) (λ f. inr there) (λ f. there)
 
 -- THE LAST ROW
 
@@ -118,7 +106,8 @@ last-there [] x h = absurd h
 last-there (y ∷ ys) x h = last-of y ys
 
 -- the last of rows that are alike where they share a moment tells the same in any order
-last-same : (c : ℕ) (rows shown : List SheetRow) → IsPermutation rows shown → ((r o : SheetRow) → In r rows → In o rows → r.at ≡ o.at → enters c r ≡ enters c o) → last_enters c (last_row rows) ≡ last_enters c (last_row shown)
+last-same : (c : ℕ) (rows shown : List SheetRow) → IsPermutation rows shown
+    → ((r o : SheetRow) → In r rows → In o rows → r.at ≡ o.at → enters c r ≡ enters c o) → last_enters c (last_row rows) ≡ last_enters c (last_row shown)
 last-same c [] [] p alike = refl
 last-same c [] (y ∷ ys) p alike = absurd (in-order y (y ∷ ys) [] (IsPermutation-sym [] (y ∷ ys) p) (inl refl))
 last-same c (x ∷ xs) [] p alike = absurd (in-order x (x ∷ xs) [] p (inl refl))
@@ -148,7 +137,8 @@ same-in rows shown p alike who c t =
         subst (λ w. same_text r.who w ≡ true) (a ∙ sym b) (same-itself r.who)
 
 -- who has the turn at a moment has only earlier rows
-turn-after : (rows : List SheetRow) (c : ℕ) (way : Way) (at : ℕ) (who : List ℕ) → is_out_of_turn_by rows c way at who ≡ false → (r : SheetRow) → In r rows → same_text r.who who ≡ true → r.at < at
+turn-after : (rows : List SheetRow) (c : ℕ) (way : Way) (at : ℕ) (who : List ℕ) → is_out_of_turn_by rows c way at who ≡ false
+    → (r : SheetRow) → In r rows → same_text r.who who ≡ true → r.at < at
 turn-after rows c way at who f r h e =
     let mine = to-filter (λ row. same_text row.who who) r rows h e in
     let last = last-there (filter (λ row. same_text row.who who) rows) r mine in

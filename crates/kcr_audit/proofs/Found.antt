@@ -67,10 +67,10 @@ text-any {X} key bad wrong text xs e f = any-more same (λ x. wrong (key x)) xs 
     same : X → Bool
     same x = same_text (key x) text
 
-    some : list_any (λ x. same_text (key x) text) xs ≡ true
-    some = elim (or_cases (is_doubled (λ x. same_text (key x) text) xs) (list_any (λ x. same_text (key x) text && bad x) xs) e) [
-      | inl h ↦ let two = ltb-true 1 (count_by (λ x. same_text (key x) text) xs) h in counted-any (λ x. same_text (key x) text) xs (omega arith)
-      | inr h ↦ any-more (λ x. same_text (key x) text && bad x) (λ x. same_text (key x) text) xs (λ x g. (and_parts (same_text (key x) text) (bad x) g).0) h
+    some : list_any same xs ≡ true
+    some = elim (or_cases (is_doubled same xs) (list_any (λ x. same x && bad x) xs) e) [
+      | inl h ↦ let two = ltb-true 1 (count_by same xs) h in counted-any same xs (omega arith)
+      | inr h ↦ any-more (λ x. same x && bad x) same xs (λ x g. (and_parts (same x) (bad x) g).0) h
     ]
 
 -- the first row that passes the test, by its finding
