@@ -90,11 +90,12 @@ last-over z y kept ys e from l m last = record { row = last.row; is = ap (λ o. 
     top x (inr (inr h)) = last.top x (inr h)
 
 last-of : (z : SheetRow) (ys : List SheetRow) → Last (z ∷ ys)
-last-of z [] = record { row = z; is = refl; inside = inl refl; top = top }
-  where
-    top : (x : SheetRow) → (x ≡ z) ⊎ ⊥ → x.at ≤ z.at
-    top x (inl e) = let same = ap (λ (r : SheetRow). r.at) e in omega arith
-    top x (inr h) = absurd h
+last-of z [] = record {
+  row = z;
+  is = refl;
+  inside = inl refl;
+  top = λ x h. elim h [ inl e ↦ let same = ap (λ (r : SheetRow). r.at) e in omega arith | inr none ↦ absurd none ];
+}
 last-of z (y ∷ ys) = by_test (nat_lt y.at z.at) refl (last-of z ys) (last-of y ys)
   where
     by_test : (b : Bool) → nat_lt y.at z.at ≡ b → Last (z ∷ ys) → Last (y ∷ ys) → Last (z ∷ y ∷ ys)

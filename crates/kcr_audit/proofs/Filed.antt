@@ -2,7 +2,7 @@
 use Rattle.std.proofs.Common.{◌≡◌, ℕ, suc, Bool, true, false, cond, ◌&&◌, ◌==◌, List, [], ◌∷◌, filter, Option, Some, None, refl, sym, ap, ◌∙◌, subst, not, map, option_map}
 use Rattle.std.specs.Prelude.{is_some, unwrap_or}
 use Rattle.std.specs.List.{list_all, list_any}
-use Rattle.std.proofs.lemmas.Bool.{true≢false, and_parts, eqb-true, eq-eqb, not-false, and_right}
+use Rattle.std.proofs.lemmas.Bool.{cond_both, true≢false, and_parts, eqb-true, eq-eqb, not-false, and_right}
 use Rattle.kcr_base.proofs.RefuseLemmas.{none_holds, unmet}
 use Rattle.kcr_base.specs.Rows.{or_else}
 use Rattle.kcr_base.specs.declared.place.Role.TheVariants.{Ca, Iw}
@@ -69,13 +69,21 @@ filter-stacked p (x ∷ xs) ys = filter-stacked p xs (x ∷ ys) ∙ by_test (p x
 abbrev filed_by : Act → Answer → List SeatingRow
 filed_by act answer = seating_rows (ceremony_of_step act) answer.step answer.seating
 
+-- the people fill the seats of the step by the history, when it became so
+abbrev pub Fill : History → ℕ → ℕ → StepState × ℕ → List (List ℕ) → Type 0
+Fill A c k fate people = is_seating A c fate.1 (seats_for fate.0 (seats_at (steps_of A c) k)) people ≡ true
+
 -- a command does the step: it files the people's rows, they are a seating by A, and the step is the next of its ceremony by B
 record Does (A B : History) (c k : ℕ) (fate : StepState × ℕ) (rows : List SeatingRow) : Type 0 where
   people : List (List ℕ)
   filed : filter (is_of c k) rows ≡ seat_rows c k 0 people
-  seated : is_seating A c fate.1 (seats_for fate.0 (seats_at (steps_of A c) k)) people ≡ true
+  seated : Fill A c k fate people
   planned : is_ceremony B c ≡ true
   next : k ≡ suc (steps_done B c)
+
+-- the answer's people are a seating by A for what the command signs or passes
+abbrev IsSeated : History → Act → Answer → Type 0
+IsSeated A act answer = is_seated A (sitting A act) answer.seating ≡ true
 
 -- what a command files of the step: no row where it does not do it, and the people's rows where it does and they are seated
 abbrev Files : History → History → ℕ → ℕ → List SeatingRow → Type 0 → Option (StepState × ℕ) → Type 0
@@ -87,26 +95,22 @@ is-planned B d n = not-false (is_ceremony B d) (unmet _ (Unknown (Things.Ceremon
 
 module _ (A B : History) (c k : ℕ) where
   files_none : (b : Bool) (fate : StepState × ℕ) → Files A B c k [] (false ≡ true) (cond b (Some fate) None)
-  files_none true fate = λ s. absurd (true≢false (sym s))
-  files_none false fate = refl
+  files_none b fate = cond_both b (Some fate) None (Files A B c k [] (false ≡ true)) (λ e s. absurd (true≢false (sym s))) (λ e. refl)
 
   files_rows : (d step : ℕ) (fate : StepState × ℕ) (people : List (List ℕ)) → no_ceremony B d ≡ None → step ≡ suc (steps_done B d)
-      → Files A B c k (seat_rows d step 0 people) (is_seating A d fate.1 (seats_for fate.0 (seats_at (steps_of A d) step)) people ≡ true) (cond (d == c && step == k) (Some fate) None)
-  files_rows d step fate people n next = by_test (d == c && step == k) refl
+      → Files A B c k (seat_rows d step 0 people) (Fill A d step fate people) (cond (d == c && step == k) (Some fate) None)
+  files_rows d step fate people n next =
+      cond_both (d == c && step == k) (Some fate) None (Files A B c k (seat_rows d step 0 people) (Fill A d step fate people))
+      (λ e. let p = and_parts (d == c) (step == k) e in own (eqb-true d c p.0) (eqb-true step k p.1)) (other-rows d step c k 0 people)
     where
-      own : (d ≡ c) → (step ≡ k) → is_seating A d fate.1 (seats_for fate.0 (seats_at (steps_of A d) step)) people ≡ true → Does A B c k fate (seat_rows d step 0 people)
+      own : (d ≡ c) → (step ≡ k) → Fill A d step fate people → Does A B c k fate (seat_rows d step 0 people)
       own e f s =
           subst (λ z. Does A B c k fate (seat_rows z step 0 people)) (sym e)
           (subst (λ z. Does A B c k fate (seat_rows c z 0 people)) (sym f)
           (record { people = people; filed = own-rows c k 0 people; seated = rw (e, f) at s; planned = rw e at (is-planned B d n); next = rw (e, f) at next }))
 
-      by_test : (b : Bool) → (d == c && step == k) ≡ b
-          → Files A B c k (seat_rows d step 0 people) (is_seating A d fate.1 (seats_for fate.0 (seats_at (steps_of A d) step)) people ≡ true) (cond b (Some fate) None)
-      by_test true e = let p = and_parts (d == c) (step == k) e in own (eqb-true d c p.0) (eqb-true step k p.1)
-      by_test false e = other-rows d step c k 0 people e
-
   files_to : (act : Act) (people : Option (List (List ℕ))) → fault B act ≡ None
-      → Files A B c k (filed_by act (answer_to B act people)) (is_seated A (sitting A act) (answer_to B act people).seating ≡ true) (step_done c k act (answer_to B act people).step)
+      → Files A B c k (filed_by act (answer_to B act people)) (IsSeated A act (answer_to B act people)) (step_done c k act (answer_to B act people).step)
   files_to (Sign d step at) None f = files_none (d == c && step == k) (Signed, at)
   files_to (Sign d step at) (Some people) f = files_rows d step (Signed, at) people (none_holds (conditions B (Sign d step at)) f).0 (next_signed B d step at f)
   files_to (Except d text true at) None f = files_none (d == c && next_step B d == k) (Passed, at)
@@ -114,10 +118,10 @@ module _ (A B : History) (c k : ℕ) where
   files_to act people f = refl
 
   files : (entry : Entry) → Took B entry
-      → Files A B c k (filed_by entry.command.act entry.answer) (is_seated A (sitting A entry.command.act) entry.answer.seating ≡ true) (step_done c k entry.command.act entry.answer.step)
+      → Files A B c k (filed_by entry.command.act entry.answer) (IsSeated A entry.command.act entry.answer) (step_done c k entry.command.act entry.answer.step)
   files entry t =
       let act = entry.command.act in
-      subst (λ (a : Answer). Files A B c k (filed_by act a) (is_seated A (sitting A act) a.seating ≡ true) (step_done c k act a.step)) (sym t.answer) (files_to act t.people t.no_fault)
+      subst (λ (a : Answer). Files A B c k (filed_by act a) (IsSeated A act a) (step_done c k act a.step)) (sym t.answer) (files_to act t.people t.no_fault)
 
 -- where none is told now or before, none was told before
 or-none : {X : Type 0} (a b : Option X) → or_else a b ≡ None → (a ≡ None) × (b ≡ None)
@@ -137,7 +141,7 @@ none-filed A (entry ∷ B) h c k e =
 pub record IsFiled (A B : History) (c k : ℕ) (fate : StepState × ℕ) : Type 0 where
   pub people : List (List ℕ)
   pub filed : filter (is_of c k) (seatings B) ≡ stacked_on (seat_rows c k 0 people) []
-  pub seated : is_seating A c fate.1 (seats_for fate.0 (seats_at (steps_of A c) k)) people ≡ true
+  pub seated : Fill A c k fate people
   pub planned : is_ceremony B c ≡ true
 
 still-planned : (c : ℕ) (entry : Entry) (B : History) → is_ceremony B c ≡ true → is_ceremony (entry ∷ B) c ≡ true
@@ -159,13 +163,13 @@ filed A (entry ∷ B) h s c k fate e =
     mine : List SeatingRow
     mine = filed_by entry.command.act entry.answer
 
-    parts : (is_seated A (sitting A entry.command.act) entry.answer.seating ≡ true) × (all_seated A B ≡ true)
+    parts : IsSeated A entry.command.act entry.answer × (all_seated A B ≡ true)
     parts = and_parts (is_seated A (sitting A entry.command.act) entry.answer.seating) (all_seated A B) s
 
     stack : (front back : List SeatingRow) → filter (is_of c k) mine ≡ front → filter (is_of c k) (seatings B) ≡ back → filter (is_of c k) (seatings (entry ∷ B)) ≡ stacked_on front back
     stack front back p q = filter-stacked (is_of c k) mine (seatings B) ∙ rw (p, q) refl
 
-    by_done : (o : Option (StepState × ℕ)) → Files A B c k mine (is_seated A (sitting A entry.command.act) entry.answer.seating ≡ true) o → or_else o (fate_of B c k) ≡ Some fate
+    by_done : (o : Option (StepState × ℕ)) → Files A B c k mine (IsSeated A entry.command.act entry.answer) o → or_else o (fate_of B c k) ≡ Some fate
         → (fate_of B c k ≡ Some fate → IsFiled A B c k fate) → IsFiled A (entry ∷ B) c k fate
     by_done None none g ih = let old = ih g in record {
       people = old.people;
@@ -179,7 +183,7 @@ filed A (entry ∷ B) h s c k fate e =
         record {
           people = does.people;
           filed = stack (seat_rows c k 0 does.people) [] does.filed (none-filed A B h.1 c k (next-undone B h.1 c k does.next));
-          seated = subst (λ (z : StepState × ℕ). is_seating A c z.1 (seats_for z.0 (seats_at (steps_of A c) k)) does.people ≡ true) same does.seated;
+          seated = subst (λ (z : StepState × ℕ). Fill A c k z does.people) same does.seated;
           planned = still-planned c entry B does.planned;
         }
 

@@ -1,10 +1,9 @@
 -- Who fits a seat by the rows of a register, in whatever order, is who fits it by its history.
-use Rattle.std.proofs.Common.{◌≡◌, ℕ, Bool, true, false, cond, not, ◌||◌, ◌&&◌, ◌==◌, List, [], ◌∷◌, map, find, Option, Some, None, option_map, refl, sym, ap, ◌∙◌}
+use Rattle.std.proofs.Common.{◌≡◌, ℕ, Bool, true, not, ◌&&◌, ◌==◌, List, [], ◌∷◌, map, find, Option, Some, None, option_map, refl, sym, ap, ◌∙◌, inl, inr}
 use Rattle.std.specs.Prelude.{is_some}
 use Rattle.std.specs.List.{list_any, AllByRecursion, cons_option}
 use Rattle.std.specs.List.Sorted.{IsPermutation}
-use Rattle.std.specs.Result.{result_unwrap_or}
-use Rattle.std.proofs.lemmas.Bool.{eqb-true}
+use Rattle.std.proofs.lemmas.Bool.{cases_Bool, eqb-true}
 use Rattle.std.proofs.lemmas.List.Sorted.{list_any-IsPermutation, All-permutation}
 use Rattle.std.proofs.lemmas.List.Elements.{All-from_recursion, recursion_from_All}
 use Rattle.kcr_base.specs.Days.{day_of}
@@ -16,7 +15,6 @@ use Rattle.kcr_base.specs.declared.place.Place.TheVariants as Places
 use Rattle.kcr_people.specs.declared.Appointment.{Appointment}
 use Rattle.kcr_people.specs.People.{holder_by, holds}
 use Rattle.kcr_people.proofs.Orders.{any-same, trained-order}
-use Rattle.kcr_script.specs.Reading.{script_of}
 use Rattle.kcr_script.specs.declared.seat.Seat.{Seat}
 use Rattle.kcr_script.specs.declared.seat.Seat.TheVariants.{Staff, AnyCo, AnyRksh, Co, Rksh}
 use Rattle.kcr_history.specs.declared.commands.Act.{Act}
@@ -41,7 +39,8 @@ use Rattle.kcr_audit.proofs.Found.{any-map}
 use Rattle.kcr_laws.proofs.Finds.{some_if, find-all, none-find, some-find, only-holder}
 
 -- in any order
-find-one : {X : Type 0} (test : X → Bool) (v : X) (table rows : List X) → IsPermutation table rows → AllByRecursion (λ x. test x ≡ true → x ≡ v) table → find test rows ≡ some_if (list_any test table) v
+find-one : {X : Type 0} (test : X → Bool) (v : X) (table rows : List X) → IsPermutation table rows → AllByRecursion (λ x. test x ≡ true → x ≡ v) table
+    → find test rows ≡ some_if (list_any test table) v
 find-one test v table rows p a =
     find-all test v rows (recursion_from_All (λ x. test x ≡ true → x ≡ v) rows (All-permutation (λ x. test x ≡ true → x ≡ v) table rows p (All-from_recursion (λ x. test x ≡ true → x ≡ v) table a)))
     ∙ ap (λ b. some_if b v) (sym (list_any-IsPermutation test table rows p))
@@ -59,11 +58,7 @@ find-same {X = X} test table rows p only = by_row (find test table) refl
 
 planned_after : (act : Act) (c : ℕ) (numbers : List ℕ) (plan : Option Planned) → list_any (λ k. k == c) numbers ≡ is_some plan
     → list_any (λ k. k == c) (cons_option (planned_number act) numbers) ≡ is_some (or_else (planned_as c act) plan)
-planned_after (Plan number facility day script) c numbers plan ih = by_test (number == c) (record { facility = facility; day = day; steps = result_unwrap_or (script_of script) [] })
-  where
-    by_test : (b : Bool) (new : Planned) → (b || list_any (λ k. k == c) numbers) ≡ is_some (or_else (cond b (Some new) None) plan)
-    by_test true new = refl
-    by_test false new = ih
+planned_after (Plan number facility day script) c numbers plan ih = elim (cases_Bool (number == c)) [ inl e ↦ rw e refl | inr e ↦ rw e ih ]
 planned_after act c numbers plan ih = ih
 
 planned-number : (A : History) (c : ℕ) → list_any (λ k. k == c) (all_said planned_number A) ≡ is_ceremony A c

@@ -84,52 +84,71 @@ spells_more item rest seats is h = record {
 abbrev pub Only : List ℕ → Option (Seat × ℕ) → Type 0
 Only front found = (item : Item) → IsItem item → item_text item ≡ front → found ≡ Some (item.seat, item.count)
 
+-- the text is that of an item, of which this holds
+record HasItem (text : List ℕ) (P : Item → Type 0) : Type 0 where
+  item : Item
+  is : IsItem item
+  text_is : item_text item ≡ text
+  holds : P item
+
 -- the items of a text without a semicolon are one
-whole_item : (text : List ℕ) (all : List Seat) → All Plain text → Spells text all → (item : Item) × IsItem item × (item_text item ≡ text) × (all ≡ item_seats item)
+whole_item : (text : List ℕ) (all : List Seat) → All Plain text → Spells text all → HasItem text (λ item. all ≡ item_seats item)
 whole_item text all free h = by h.more h.text_is h.seats_are
   where
-    by : (more : List Item) → text ≡ joined h.first more → all ≡ item_seats h.first ++ flat_map item_seats more → (item : Item) × IsItem item × (item_text item ≡ text) × (all ≡ item_seats item)
-    by [] t s = (h.first, h.is_first, sym (t ∙ append-nil (item_text h.first)), s ∙ append-nil (item_seats h.first))
+    by : (more : List Item) → text ≡ joined h.first more → all ≡ item_seats h.first ++ flat_map item_seats more → HasItem text (λ item. all ≡ item_seats item)
+    by [] t s = record { item = h.first; is = h.is_first; text_is = sym (t ∙ append-nil (item_text h.first)); holds = s ∙ append-nil (item_seats h.first) }
     by (item ∷ more) t s = absurd (cut_none (item_text h.first) (item_text item ++ flat_map after_semicolon more) text free (sym t))
 
 -- the first item of a text with a semicolon, and the rest
-first_item : (front rest : List ℕ) (all : List Seat) → All Plain front → Spells (front ++ 59 ∷ rest) all → (item : Item) × IsItem item × (item_text item ≡ front) × ((seats : List Seat) × Spells rest seats × (all ≡ item_seats item ++ seats))
+abbrev Before : List ℕ → List Seat → Item → Type 0
+Before rest all item = (seats : List Seat) × Spells rest seats × (all ≡ item_seats item ++ seats)
+
+first_item : (front rest : List ℕ) (all : List Seat) → All Plain front → Spells (front ++ 59 ∷ rest) all → HasItem front (Before rest all)
 first_item front rest all free h = by h.more h.each_more h.text_is h.seats_are
   where
-    by : (more : List Item) → AllByRecursion IsItem more → front ++ 59 ∷ rest ≡ joined h.first more → all ≡ item_seats h.first ++ flat_map item_seats more → (item : Item) × IsItem item × (item_text item ≡ front) × ((seats : List Seat) × Spells rest seats × (all ≡ item_seats item ++ seats))
+    by : (more : List Item) → AllByRecursion IsItem more → front ++ 59 ∷ rest ≡ joined h.first more → all ≡ item_seats h.first ++ flat_map item_seats more
+        → HasItem front (Before rest all)
     by [] each t s = absurd (cut_none front rest (item_text h.first) (item_plain h.first h.is_first) (t ∙ append-nil (item_text h.first)))
     by (item ∷ more) each t s =
         let r = cut_same front (item_text h.first) rest (joined item more) free (item_plain h.first h.is_first) t in
-        (h.first, h.is_first, sym r.0, (flat_map item_seats (item ∷ more), record { first = item; more = more; is_first = each.0; each_more = each.1; text_is = r.1; seats_are = refl }, s))
+        let spells : Spells rest (flat_map item_seats (item ∷ more)) = record { first = item; more = more; is_first = each.0; each_more = each.1; text_is = r.1; seats_are = refl } in
+        record { item = h.first; is = h.is_first; text_is = sym r.0; holds = (flat_map item_seats (item ∷ more), spells, s) }
 
 -- ---- what a step of the reader answers
 
-same_replicate : (item : Item) (seat : Seat) (count : ℕ) → ◌≡◌ {A = Option (Seat × ℕ)} (Some (seat, count)) (Some (item.seat, item.count)) → item_seats item ≡ replicate count seat
+same_replicate : (item : Item) (seat : Seat) (count : ℕ) → ◌≡◌ {A = Option (Seat × ℕ)} (Some (seat, count)) (Some (item.seat, item.count))
+    → item_seats item ≡ replicate count seat
 same_replicate item seat count e =
     let t : ◌≡◌ {A = Seat × ℕ} (item.seat, item.count) (seat, count) = cc in
     ap (λ (p : Seat × ℕ). replicate p.1 p.0) t
 
-pub step_none : (text front : List ℕ) (rest : Option (Bor (List ℕ))) → All Plain front → MatchOption rest (text ≡ front) (λ r. text ≡ front ++ 59 ∷ r.now) → Only front None
-    → (all : List Seat) → Spells text all → ⊥
-step_none text front None free e only all h = let r = whole_item front all free (rw e at h) in let clash = only r.0 r.1 r.2 in cc
-step_none text front (Some rest) free e only all h = let r = first_item front rest.now all free (rw e at h) in let clash = only r.0 r.1 r.2 in cc
+-- the text is cut behind its front, where a rest is left
+abbrev IsCut : List ℕ → List ℕ → Option (Bor (List ℕ)) → Type 0
+IsCut text front rest = MatchOption rest (text ≡ front) (λ r. text ≡ front ++ 59 ∷ r.now)
 
-pub step_some : (text front : List ℕ) (rest : Option (Bor (List ℕ))) (seat : Seat) (count : ℕ) → All Plain front → MatchOption rest (text ≡ front) (λ r. text ≡ front ++ 59 ∷ r.now)
-    → IsItem (pair_item (seat, count)) → item_text (pair_item (seat, count)) ≡ front → Only front (Some (seat, count)) → MatchOption rest (IsLast text seat count) (λ r. Leads text seat count r.now)
+abbrev Goes : List ℕ → Seat → ℕ → Option (Bor (List ℕ)) → Type 0
+Goes text seat count rest = MatchOption rest (IsLast text seat count) (λ r. Leads text seat count r.now)
+
+pub step_none : (text front : List ℕ) (rest : Option (Bor (List ℕ))) → All Plain front → IsCut text front rest → Only front None → (all : List Seat) → Spells text all → ⊥
+step_none text front None free e only all h = let r = whole_item front all free (rw e at h) in let clash = only r.item r.is r.text_is in cc
+step_none text front (Some rest) free e only all h = let r = first_item front rest.now all free (rw e at h) in let clash = only r.item r.is r.text_is in cc
+
+pub step_some : (text front : List ℕ) (rest : Option (Bor (List ℕ))) (seat : Seat) (count : ℕ) → All Plain front → IsCut text front rest
+    → IsItem (pair_item (seat, count)) → item_text (pair_item (seat, count)) ≡ front → Only front (Some (seat, count)) → Goes text seat count rest
 step_some text front None seat count free e is t only = record {
   count_at_most = is.seven;
   spells = rw (e, ← t) (spells_one (pair_item (seat, count)) is);
-  only = λ all h. let r = whole_item front all free (rw e at h) in r.3 ∙ same_replicate r.0 seat count (only r.0 r.1 r.2);
+  only = λ all h. let r = whole_item front all free (rw e at h) in r.holds ∙ same_replicate r.item seat count (only r.item r.is r.text_is);
 }
 step_some text front (Some rest) seat count free e is t only = record {
   count_at_most = is.seven;
   shorter = omega (arith, ap length e, length-append front (59 ∷ rest.now));
   on = λ seats h. rw (e, ← t) (spells_more (pair_item (seat, count)) rest.now seats is h);
   back = λ all h. let r = first_item front rest.now all free (rw e at h) in
-      (r.3.0, r.3.1, r.3.2 ∙ ap (λ (xs : List Seat). xs ++ r.3.0) (same_replicate r.0 seat count (only r.0 r.1 r.2)));
+      (r.holds.0, r.holds.1, r.holds.2 ∙ ap (λ (xs : List Seat). xs ++ r.holds.0) (same_replicate r.item seat count (only r.item r.is r.text_is)));
 }
 
-pub step_front : (rest : List ℕ) (seat : Seat) (count : ℕ) (more : Option (Bor (List ℕ))) → MatchOption more (IsLast rest seat count) (λ r. Leads rest seat count r.now)
+pub step_front : (rest : List ℕ) (seat : Seat) (count : ℕ) (more : Option (Bor (List ℕ))) → Goes rest seat count more
     → (all : List Seat) → Spells rest all → (tail : List Seat) × (all ≡ replicate count seat ++ tail)
 step_front rest seat count None h all s = ([], h.only all s ∙ sym (append-nil (replicate count seat)))
 step_front rest seat count (Some r) h all s = let b = h.back all s in (b.0, b.2)

@@ -1,11 +1,7 @@
 -- One more row of a script.
-use Rattle.std.proofs.Common.{◌≡◌, ℕ, ◌+◌, ◌≤◌, inl, inr, List, [], ◌∷◌, ◌++◌, length, Option, Some, None, refl, sym, ap, subst, ◌∙◌, arith, append_assoc}
+use Rattle.std.proofs.Common.{◌≡◌, ℕ, ◌+◌, ◌≤◌, inl, inr, List, [], ◌∷◌, ◌++◌, length, Option, Some, None, refl, ap, ◌∙◌, arith, append_assoc}
 use Rattle.kcr_script.specs.declared.script.Step.{Step}
-use Rattle.csv.specs.Machine.{Read, next_record}
-use Rattle.csv.specs.Reading.{Reached}
-use Rattle.csv.specs.declared.parser.Config.{Config}
-use Rattle.csv.specs.declared.parser.State.{State}
-use Rattle.kcr_script.specs.Script.{Fields, IsRow, AreSteps, BreaksFrom, AreRows}
+use Rattle.kcr_script.specs.Script.{Fields, IsRow, AreSteps, BreaksFrom}
 use Rattle.kcr_script.specs.Steps.{HasSteps}
 
 -- what a reader of a row answers
@@ -39,34 +35,6 @@ push_before done new tail step e = ap (λ (xs : List Step). xs ++ tail) e ∙ ap
 
 pub none_left : (rest : List Fields) (k : ℕ) → rest ≡ [] → AreSteps k rest []
 none_left rest k e = rw e tt
-
--- ---- a text has one list of rows
-
-some_read : {A : Type 0} (o : Option A) (p q : A) → o ≡ Some p → o ≡ Some q → p ≡ q
-some_read o p q e f = cc
-
-rows_same : (cfg : Config) (s : State) (xs : List ℕ) (r₁ r₂ : List Fields) (s₁ s₂ : State) (y₁ y₂ : List ℕ) → Reached cfg s xs r₁ s₁ y₁
-    → next_record cfg s₁ [] [] y₁ ≡ None → Reached cfg s xs r₂ s₂ y₂ → next_record cfg s₂ [] [] y₂ ≡ None → r₁ ≡ r₂
-unfolding Reached
-rows_same cfg s xs [] [] s₁ s₂ y₁ y₂ h₁ e₁ h₂ e₂ = refl
-rows_same cfg s xs [] (r ∷ rows) s₁ s₂ y₁ y₂ h₁ e₁ h₂ e₂ =
-    let none : next_record cfg s [] [] xs ≡ None = rw (h₁.0, h₁.1) e₁ in
-    let some = h₂.1 in
-    cc
-rows_same cfg s xs (r ∷ rows) [] s₁ s₂ y₁ y₂ h₁ e₁ h₂ e₂ =
-    let none : next_record cfg s [] [] xs ≡ None = rw (h₂.0, h₂.1) e₂ in
-    let some = h₁.1 in
-    cc
-rows_same cfg s xs (r ∷ rows) (q ∷ others) s₁ s₂ y₁ y₂ h₁ e₁ h₂ e₂ =
-    let same : h₁.0 ≡ h₂.0 = some_read (next_record cfg s [] [] xs) h₁.0 h₂.0 h₁.1 h₂.1 in
-    let head : r ≡ q = h₁.2 ∙ ap (λ (p : Read). p.0) same ∙ sym h₂.2 in
-    let P : Read → Type 0 = λ (p : Read). Reached cfg p.1 p.2 others s₂ y₂ in
-    let h₂' : Reached cfg h₁.0.1 h₁.0.2 others s₂ y₂ = subst P (sym same) h₂.3 in
-    let tail : rows ≡ others = rows_same cfg h₁.0.1 h₁.0.2 rows others s₁ s₂ y₁ y₂ h₁.3 e₁ h₂' e₂ in
-    λ i. head i ∷ tail i
-
-pub are_rows_same : (text : List ℕ) (r₁ r₂ : List Fields) → AreRows text r₁ → AreRows text r₂ → r₁ ≡ r₂
-are_rows_same text r₁ r₂ a b = rows_same _ _ _ r₁ r₂ _ _ _ _ a.2 a.3 b.2 b.3
 
 few_steps : (k : ℕ) (rows : List Fields) (steps : List Step) → AreSteps k rows steps → k ≤ 401 → (length steps + k ≤ 401) × (length steps ≡ length rows)
 few_steps k [] [] h low = (omega arith, refl)

@@ -1,7 +1,7 @@
 use Rattle.std.proofs.Common.{List, map, sym, ap, subst, ◌∙◌}
 use Rattle.csv.specs.Records.{fields_of}
 use Rattle.kcr_script.specs.Script.{Fields, AreRows, IsScriptRows}
-use Rattle.kcr_script.proofs.StepLemmas.{are_rows_same}
+use Rattle.kcr_script.proofs.RowLemmas.{are_rows_same}
 use Rattle.kcr_script.proofs.ScriptReading.{script_is}
 use Rattle.kcr_script.proofs.steps.read_script.Goals as goal
 
