@@ -149,7 +149,8 @@ turn-after rows c way at who f r h e =
     omega arith
 
 -- a new row is of one of the people
-new-of : (c : ℕ) (way : Way) (at : ℕ) (people : List (List ℕ)) (o : SheetRow) → In o (map (new_row c way at) people) → (who : List ℕ) × (list_any (same_text who) people ≡ true) × (o ≡ new_row c way at who)
+new-of : (c : ℕ) (way : Way) (at : ℕ) (people : List (List ℕ)) (o : SheetRow) → In o (map (new_row c way at) people)
+    → (who : List ℕ) × (list_any (same_text who) people ≡ true) × (o ≡ new_row c way at who)
 new-of c way at [] o h = absurd h
 new-of c way at (who ∷ people) o (inl e) = (who, ap (λ b. b || list_any (same_text who) people) (same-itself who), e)
 new-of c way at (who ∷ people) o (inr h) = let r = new-of c way at people o h in (r.0, or_right (same_text r.0 who) (list_any (same_text r.0) people) r.1, r.2)

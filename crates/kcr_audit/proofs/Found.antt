@@ -2,7 +2,7 @@
 use Rattle.std.proofs.Common.{◌≡◌, ℕ, ◌≤◌, Bool, true, false, cond, ◌||◌, ◌&&◌, ◌==◌, nat_lt, not, List, [], ◌∷◌, map, Option, Some, None, refl, sym, ap, subst, ◌∙◌, arith, option_map, inl, inr}
 use Rattle.std.specs.Prelude.{find}
 use Rattle.std.specs.List.{list_any, count_by}
-use Rattle.std.proofs.lemmas.Bool.{true≢false, and_parts, cases_Bool, or_cases, or_left, or_right, eq-eqb, lt-ltb, ltb-true, ltb-false}
+use Rattle.std.proofs.lemmas.Bool.{true≢false, and_from, and_parts, cases_Bool, or_cases, or_left, or_right, eq-eqb, lt-ltb, ltb-true, ltb-false}
 use Rattle.kcr_base.specs.Same.{same_text}
 use Rattle.kcr_room.proofs.Agreement.{same-is}
 use Rattle.kcr_room.proofs.Lists.{count-cons}
@@ -89,10 +89,6 @@ sought view kind test name xs found ranked true_of any e = subst (IsSought view 
 step-is_ill : (view : View) (row : StepRow) → is_step_wrong view row ≡ true → is_ill_seated view row.ceremony row.step row ≡ true
 step-is_ill view row h = rw (eq-eqb row.ceremony row.ceremony refl, eq-eqb row.step row.step refl) h
 
-last-parts : (a b d : Bool) → ((a && b) && d) ≡ true → (b && d) ≡ true
-last-parts true b d h = h
-last-parts false b d h = absurd (true≢false (sym h))
-
 pub steps : (view : View) (found : Option Finding) → found ≡ option_map (λ row. Findings.Seating row.ceremony row.step) (find (is_step_wrong view) view.steps.items) → IsSought view 0 found
 steps view found e =
     sought view 0 (is_step_wrong view) (λ row. Findings.Seating row.ceremony row.step) view.steps.items found (λ row. refl)
@@ -101,7 +97,8 @@ steps view found e =
     by_kind : (finding : Finding) → rank finding ≡ 0 → IsTrueOf view finding → list_any (is_step_wrong view) view.steps.items ≡ true
     by_kind (Findings.Seating c s) r t =
         any-more (is_ill_seated view c s) (is_step_wrong view) view.steps.items
-        (λ row h. last-parts (row.ceremony == c && row.step == s) (is_done row.state) (not (is_well_seated view row (ceremony_in view row.ceremony) row.at)) h) t
+        (λ row h. (let p = and_parts (row.ceremony == c && row.step == s && is_done row.state) (not (is_well_seated view row (ceremony_in view row.ceremony) row.at)) h in
+        and_from (is_done row.state) (not (is_well_seated view row (ceremony_in view row.ceremony) row.at)) (and_parts (row.ceremony == c && row.step == s) (is_done row.state) p.0).1 p.1)) t
     by_kind other r t = absurd (omega (arith, r))
 
 pub items : (view : View) (found : Option Finding) → found ≡ option_map (λ row. Findings.Custody row.code) (find (λ row. is_item_wrong view row.code) view.items.items) → IsSought view 1 found

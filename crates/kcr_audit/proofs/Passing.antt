@@ -65,14 +65,16 @@ not-doubled key text rows shown h p d =
 -- ROWS THAT ARE MADE OF TEXTS
 
 -- where none of the texts makes a row that passes, none of the rows does
-none-made : {X : Type 0} (p : X → Bool) (make : List ℕ → X) (texts : List (List ℕ)) → ((text : List ℕ) → list_any (same_text text) texts ≡ true → p (make text) ≡ false) → list_any p (map make texts) ≡ false
+none-made : {X : Type 0} (p : X → Bool) (make : List ℕ → X) (texts : List (List ℕ))
+    → ((text : List ℕ) → list_any (same_text text) texts ≡ true → p (make text) ≡ false) → list_any p (map make texts) ≡ false
 none-made p make [] f = refl
 none-made p make (text ∷ texts) f =
     or_from (p (make text)) (list_any p (map make texts)) (f text (or_left (same_text text text) (list_any (same_text text) texts) (same-itself text)))
     (none-made p make texts (λ other g. f other (or_right (same_text other text) (list_any (same_text other) texts) g)))
 
 -- a row that is there passes
-one-made : {X : Type 0} (p : X → Bool) (make : List ℕ → X) (text : List ℕ) (texts : List (List ℕ)) → list_any (λ t. same_text t text) texts ≡ true → p (make text) ≡ true → list_any p (map make texts) ≡ true
+one-made : {X : Type 0} (p : X → Bool) (make : List ℕ → X) (text : List ℕ) (texts : List (List ℕ))
+    → list_any (λ t. same_text t text) texts ≡ true → p (make text) ≡ true → list_any p (map make texts) ≡ true
 one-made p make text texts m f = any-map p make texts ∙ any-more (λ t. same_text t text) (λ t. p (make t)) texts (λ t e. subst (λ t. p (make t) ≡ true) (sym (same-is t text e)) f) m
 
 own-texts : {X : Type 0} (key : X → List ℕ) (make : List ℕ → X) (texts : List (List ℕ)) → ((text : List ℕ) → key (make text) ≡ text) → map key (map make texts) ≡ texts

@@ -7,9 +7,9 @@ use Rattle.std.proofs.lemmas.List.Sorted.{IsPermutation-refl, IsPermutation-sym,
 use Rattle.kcr_base.proofs.RowsLemmas.{Shuffled, shuffled, nothing, under, flipped, after}
 use Rattle.kcr_history.specs.declared.rows.SeatingRow.{SeatingRow}
 use Rattle.kcr_history.specs.History.{stacked_on}
-use Rattle.kcr_history.specs.Prints.{put_in_order, in_order}
 use Rattle.kcr_history.specs.Tables.{seat_rows}
 use Rattle.kcr_history.specs.Audit.{are_numbered}
+use Rattle.kcr_audit.specs.Wrongs.{put_row, rows_in_order}
 use Rattle.kcr_audit.proofs.Alike.{In, in-shuffled, turned}
 
 -- STACKED
@@ -24,16 +24,13 @@ stacked-alone xs = subst (λ zs. IsPermutation zs (stacked_on xs [])) (append-ni
 
 -- BY SEATS
 
-abbrev pub comes_before : SeatingRow → SeatingRow → Bool
-comes_before a b = nat_lt a.seat b.seat
-
 -- two rows of different seats, put in their places in either order
-put-apart : (x y : SeatingRow) (zs : List SeatingRow) → x.seat < y.seat → put_in_order comes_before x (put_in_order comes_before y zs) ≡ put_in_order comes_before y (put_in_order comes_before x zs)
+put-apart : (x y : SeatingRow) (zs : List SeatingRow) → x.seat < y.seat → put_row x (put_row y zs) ≡ put_row y (put_row x zs)
 put-apart x y [] l = rw (le-ltb y.seat x.seat (omega arith), lt-ltb x.seat y.seat l) refl
-put-apart x y (z ∷ zs) l = by_tests (comes_before z x) (comes_before z y) refl refl (put-apart x y zs l)
+put-apart x y (z ∷ zs) l = by_tests (nat_lt z.seat x.seat) (nat_lt z.seat y.seat) refl refl (put-apart x y zs l)
   where
-    by_tests : (a b : Bool) → comes_before z x ≡ a → comes_before z y ≡ b → put_in_order comes_before x (put_in_order comes_before y zs) ≡ put_in_order comes_before y (put_in_order comes_before x zs)
-        → put_in_order comes_before x (cond b (z ∷ put_in_order comes_before y zs) (y ∷ z ∷ zs)) ≡ put_in_order comes_before y (cond a (z ∷ put_in_order comes_before x zs) (x ∷ z ∷ zs))
+    by_tests : (a b : Bool) → nat_lt z.seat x.seat ≡ a → nat_lt z.seat y.seat ≡ b → put_row x (put_row y zs) ≡ put_row y (put_row x zs)
+        → put_row x (cond b (z ∷ put_row y zs) (y ∷ z ∷ zs)) ≡ put_row y (cond a (z ∷ put_row x zs) (x ∷ z ∷ zs))
     by_tests true true e f ih = rw (e, f) (ap (λ rest. z ∷ rest) ih)
     by_tests false true e f ih = rw (e, f, lt-ltb x.seat y.seat l) refl
     by_tests false false e f ih = rw (le-ltb y.seat x.seat (omega arith), lt-ltb x.seat y.seat l, f) refl
@@ -41,9 +38,9 @@ put-apart x y (z ∷ zs) l = by_tests (comes_before z x) (comes_before z y) refl
 
 -- two rows put in their places in either order, where they are one if they have one seat
 put-both : (x y : SeatingRow) (zs : List SeatingRow) → (x.seat ≡ y.seat → x ≡ y)
-    → put_in_order comes_before x (put_in_order comes_before y zs) ≡ put_in_order comes_before y (put_in_order comes_before x zs)
+    → put_row x (put_row y zs) ≡ put_row y (put_row x zs)
 put-both x y zs same = elim (cases_order x.seat y.seat) [
-  | inl e ↦ ap (λ z. put_in_order comes_before z (put_in_order comes_before y zs)) (same e) ∙ ap (λ z. put_in_order comes_before y (put_in_order comes_before z zs)) (sym (same e))
+  | inl e ↦ ap (λ z. put_row z (put_row y zs)) (same e) ∙ ap (λ z. put_row y (put_row z zs)) (sym (same e))
   | inr (inl l) ↦ put-apart x y zs l
   | inr (inr l) ↦ sym (put-apart y x zs l)
 ]
@@ -54,10 +51,10 @@ abbrev OneEach : List SeatingRow → Type 0
 OneEach xs = (r o : SeatingRow) → In r xs → In o xs → r.seat ≡ o.seat → r ≡ o
 
 -- they come in one order, however they came
-order-same : {xs ys : List SeatingRow} → Shuffled xs ys → OneEach xs → in_order comes_before xs ≡ in_order comes_before ys
+order-same : {xs ys : List SeatingRow} → Shuffled xs ys → OneEach xs → rows_in_order xs ≡ rows_in_order ys
 order-same nothing one = refl
-order-same (under x xs ys s) one = ap (put_in_order comes_before x) (order-same s (λ r o m n. one r o (inr m) (inr n)))
-order-same (flipped x y xs) one = put-both x y (in_order comes_before xs) (one x y (inl refl) (inr (inl refl)))
+order-same (under x xs ys s) one = ap (put_row x) (order-same s (λ r o m n. one r o (inr m) (inr n)))
+order-same (flipped x y xs) one = put-both x y (rows_in_order xs) (one x y (inl refl) (inr (inl refl)))
 order-same (after xs ys zs s t) one =
     order-same s one ∙ order-same t (λ r o m n. one r o (in-shuffled r (turned s) m) (in-shuffled o (turned s) n))
 
@@ -76,19 +73,19 @@ seats-one c k i (who ∷ people) r o (inr m) (inl g) e = absurd (let l = seats-a
 seats-one c k i (who ∷ people) r o (inr m) (inr n) e = seats-one c k (suc i) people r o m n e
 
 -- they stay as they are
-seats-stay : (c k i : ℕ) (people : List (List ℕ)) → in_order comes_before (seat_rows c k i people) ≡ seat_rows c k i people
+seats-stay : (c k i : ℕ) (people : List (List ℕ)) → rows_in_order (seat_rows c k i people) ≡ seat_rows c k i people
 seats-stay c k i [] = refl
-seats-stay c k i (who ∷ people) = ap (put_in_order comes_before row) (seats-stay c k (suc i) people) ∙ first people
+seats-stay c k i (who ∷ people) = ap (put_row row) (seats-stay c k (suc i) people) ∙ first people
   where
     row : SeatingRow
     row = record { ceremony = c; step = k; seat = suc i; who = who }
 
-    first : (people : List (List ℕ)) → put_in_order comes_before row (seat_rows c k (suc i) people) ≡ row ∷ seat_rows c k (suc i) people
+    first : (people : List (List ℕ)) → put_row row (seat_rows c k (suc i) people) ≡ row ∷ seat_rows c k (suc i) people
     first [] = refl
     first (next ∷ people) = rw (le-ltb (suc (suc i)) (suc i) (omega arith)) refl
 
 -- in order, the rows of the seats are those that they were before
-pub seats-in-order : (c k i : ℕ) (people : List (List ℕ)) (rows : List SeatingRow) → IsPermutation (seat_rows c k i people) rows → in_order comes_before rows ≡ seat_rows c k i people
+pub seats-in-order : (c k i : ℕ) (people : List (List ℕ)) (rows : List SeatingRow) → IsPermutation (seat_rows c k i people) rows → rows_in_order rows ≡ seat_rows c k i people
 seats-in-order c k i people rows p = sym (order-same (shuffled (seat_rows c k i people) rows p) (seats-one c k i people)) ∙ seats-stay c k i people
 
 pub people-of-seats : (c k i : ℕ) (people : List (List ℕ)) → map (λ row. row.who) (seat_rows c k i people) ≡ people

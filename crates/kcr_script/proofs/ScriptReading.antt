@@ -30,11 +30,10 @@ use Rattle.kcr_script.proofs.RowLemmas.{chosen, rows_there, rows_are}
 
 -- ---- one row
 
-prints : (b : ℕ) → Decides (is_printing b) (IsPrinting b)
-prints b = Decides-and (nat_le 32 b) (not (b == 127)) (leb-true 32 b, le-leb 32 b) (Decides-not (b == 127) (Decides-eqb b 127))
-
 all_print : (text : List ℕ) → Decides (list_all is_printing text) (All IsPrinting text)
-all_print text = Decides-by_and is_printing IsPrinting (list_all is_printing) prints refl (λ b bytes. refl) text
+all_print text =
+    Decides-by_and is_printing IsPrinting (list_all is_printing)
+    (λ b. Decides-and (nat_le 32 b) (not (b == 127)) (leb-true 32 b, le-leb 32 b) (Decides-not (b == 127) (Decides-eqb b 127))) refl (λ b bytes. refl) text
 
 activity_passes : (text : List ℕ) → IsLine 500 text → is_activity text ≡ true
 activity_passes text h = rw (le-leb 1 (length text) h.not_empty, le-leb (length text) 500 h.short, is_utf8-from_IsUtf8 text h.text, (all_print text).1 h.printing) refl

@@ -109,7 +109,8 @@ one_piece : (text : List ℕ) (found : Option Item) → item_of text ≡ found �
 one_piece text None e = tt
 one_piece text (Some item) e = let f = item_found text item e in rw (← f.1, append-nil (item_seats item)) (spells_one item f.0)
 
-more_pieces : (text rest : List ℕ) (found : Option Item) → item_of text ≡ found → (others : Option (List Seat)) → IfSome others (Spells rest) → IfSome (join_items found others) (Spells (text ++ 59 ∷ rest))
+more_pieces : (text rest : List ℕ) (found : Option Item) → item_of text ≡ found
+    → (others : Option (List Seat)) → IfSome others (Spells rest) → IfSome (join_items found others) (Spells (text ++ 59 ∷ rest))
 more_pieces text rest None e others h = tt
 more_pieces text rest (Some item) e None h = tt
 more_pieces text rest (Some item) e (Some seats) h = let f = item_found text item e in rw (← f.1) (spells_more item rest seats f.0 h)
