@@ -1,5 +1,4 @@
 pub mod Listed
-pub mod ReplyTexts
 pub mod Marks
 pub mod Steps
 pub mod Words
@@ -8,4 +7,3 @@ pub mod Orderly
 pub mod Trained
 pub mod Settled
 pub mod Distinct
-pub mod RefusalTexts

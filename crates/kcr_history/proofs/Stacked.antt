@@ -248,7 +248,7 @@ pub find-ended : (at place : Place) (since d : ℕ) (rows : List Appointment) �
 find-ended at place since d [] h = refl
 find-ended at place since d (row ∷ rows) h =
     rw (holds-ended at place since d row h) (elim (holds place d row) as (λ b.
-        option_map (λ row. row.who) (cond b (Some (ended at since row)) (find (holds place d) (map (ended at since) rows))) ≡ option_map (λ row. row.who) (cond b (Some row) (find (holds place d) rows)))
+    option_map (λ row. row.who) (cond b (Some (ended at since row)) (find (holds place d) (map (ended at since) rows))) ≡ option_map (λ row. row.who) (cond b (Some row) (find (holds place d) rows)))
     [ true ↦ refl | false ↦ find-ended at place since d rows h ])
 
 -- a place that is free from a day on has no holder on a later one

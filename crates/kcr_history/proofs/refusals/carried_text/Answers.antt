@@ -1,37 +1,56 @@
-use Rattle.std.proofs.Common.{sym, ap, ◌∙◌}
-use Rattle.kcr_history.specs.Refusals.{refusal_text}
-use Rattle.kcr_history.proofs.RefusalTexts.{ok_same, form, unknown, settled, script, late, order, turn, lone, absent, unfinished, short}
+use Rattle.std.proofs.Common.{◌≡◌, ℕ, List, [], ◌∷◌, ◌++◌, append_assoc, codes, ap, ◌∙◌}
+use Rattle.std.specs.Fmt.{digits, decimal}
+use Rattle.kcr_history.specs.Json.{quoted, member, object}
+use Rattle.kcr_history.proofs.Listed.{carried}
 use Rattle.kcr_history.proofs.refusals.carried_text.Goals as goal
 
+-- the object of a refusal out of turn in its order, with what it carries in the middle
+abbrev with_next : List ℕ → List ℕ
+with_next next = object (member (codes "next") next ∷ member (codes "number") (decimal 23) ∷ member (codes "refusal") (quoted (codes "order")) ∷ [])
+
+order : (text : List ℕ) → codes "{\"next\":" ++ (text ++ codes ",\"number\":23,\"refusal\":\"order\"}") ≡ with_next text
+unfolding digits
+order text = rw (← append_assoc text (codes ",\"number\":23,\"refusal\":\"order\"") (codes "}"))
+
 pub returns-in-Form : goal.returns-in-Form
-returns-in-Form c = ok_same c.around.result _ _ (form c.in-Form.member c.text.result.now c.text.ensures ∙ sym (ap refusal_text c.in-Form.is)) c.around.ensures
+unfolding digits
+returns-in-Form c = carried c.around.result _ _ _ c.in-Form.is (rw c.text.ensures (simp append_assoc)) c.around.ensures
 
 pub returns-in_ok-thing-in-Unknown : goal.returns-in_ok-thing-in-Unknown
-returns-in_ok-thing-in-Unknown c = ok_same c.around-in-Unknown.result _ _ (unknown c.in-Unknown.thing c.as_str.result.now (c.as_str.ensures.value ∙ c.in_ok-thing-in-Unknown.ensures) ∙ sym (ap refusal_text c.in-Unknown.is)) c.around-in-Unknown.ensures
+unfolding digits
+returns-in_ok-thing-in-Unknown c = carried c.around-in-Unknown.result _ _ _ c.in-Unknown.is (rw (c.as_str.ensures.value, c.in_ok-thing-in-Unknown.ensures) (simp append_assoc)) c.around-in-Unknown.ensures
 
 pub returns-in-Settled : goal.returns-in-Settled
-returns-in-Settled c = ok_same c.around-in-Settled.result _ _ (settled c.in-Settled.day c.as_str-in-Settled.result.now (c.as_str-in-Settled.ensures ∙ c.code.ensures) ∙ sym (ap refusal_text c.in-Settled.is)) c.around-in-Settled.ensures
+unfolding digits
+returns-in-Settled c = carried c.around-in-Settled.result _ _ _ c.in-Settled.is (rw (c.as_str-in-Settled.ensures, c.code.ensures) (simp append_assoc)) c.around-in-Settled.ensures
 
 pub returns-in-Script : goal.returns-in-Script
-returns-in-Script c = ok_same c.around-in-Script.result _ _ (script c.in-Script.row c.format.result.now c.format.ensures.text ∙ sym (ap refusal_text c.in-Script.is)) c.around-in-Script.ensures
+unfolding digits
+returns-in-Script c = carried c.around-in-Script.result _ _ _ c.in-Script.is (rw c.format.ensures.text (simp append_assoc)) c.around-in-Script.ensures
 
 pub returns-in-Late : goal.returns-in-Late
-returns-in-Late c = ok_same c.around-in-Late.result _ _ (late c.in-Late.mark c.as_str-in-Late.result.now (c.as_str-in-Late.ensures ∙ c.code-in-Late.ensures) ∙ sym (ap refusal_text c.in-Late.is)) c.around-in-Late.ensures
+unfolding digits
+returns-in-Late c = carried c.around-in-Late.result _ _ _ c.in-Late.is (rw (c.as_str-in-Late.ensures, c.code-in-Late.ensures) (simp append_assoc)) c.around-in-Late.ensures
 
 pub returns-in-Order : goal.returns-in-Order
-returns-in-Order c = ok_same c.around-in-Order.result _ _ (order c.in-Order.next c.format-in-Order.result.now c.format-in-Order.ensures.text ∙ sym (ap refusal_text c.in-Order.is)) c.around-in-Order.ensures
+returns-in-Order c = carried c.around-in-Order.result _ _ _ c.in-Order.is (order _ ∙ ap with_next c.format-in-Order.ensures.text) c.around-in-Order.ensures
 
 pub returns-in-Turn : goal.returns-in-Turn
-returns-in-Turn c = ok_same c.around-in-Turn.result _ _ (turn c.in-Turn.who c.as_str-in-Turn.result.now c.as_str-in-Turn.ensures.value ∙ sym (ap refusal_text c.in-Turn.is)) c.around-in-Turn.ensures
+unfolding digits
+returns-in-Turn c = carried c.around-in-Turn.result _ _ _ c.in-Turn.is (rw c.as_str-in-Turn.ensures.value (simp append_assoc)) c.around-in-Turn.ensures
 
 pub returns-in-Lone : goal.returns-in-Lone
-returns-in-Lone c = ok_same c.around-in-Lone.result _ _ (lone c.in-Lone.moment c.as_str-in-Lone.result.now (c.as_str-in-Lone.ensures ∙ c.code-in-Lone.ensures) ∙ sym (ap refusal_text c.in-Lone.is)) c.around-in-Lone.ensures
+unfolding digits
+returns-in-Lone c = carried c.around-in-Lone.result _ _ _ c.in-Lone.is (rw (c.as_str-in-Lone.ensures, c.code-in-Lone.ensures) (simp append_assoc)) c.around-in-Lone.ensures
 
 pub returns-in-Absent : goal.returns-in-Absent
-returns-in-Absent c = ok_same c.around-in-Absent.result _ _ (absent c.in-Absent.who c.as_str-in-Absent.result.now (c.as_str-in-Absent.ensures ∙ c.text-in-Absent.ensures) ∙ sym (ap refusal_text c.in-Absent.is)) c.around-in-Absent.ensures
+unfolding digits
+returns-in-Absent c = carried c.around-in-Absent.result _ _ _ c.in-Absent.is (rw (c.as_str-in-Absent.ensures, c.text-in-Absent.ensures) (simp append_assoc)) c.around-in-Absent.ensures
 
 pub returns-in-Unfinished : goal.returns-in-Unfinished
-returns-in-Unfinished c = ok_same c.around-in-Unfinished.result _ _ (unfinished c.in-Unfinished.part c.text-in-Unfinished.result.now c.text-in-Unfinished.ensures ∙ sym (ap refusal_text c.in-Unfinished.is)) c.around-in-Unfinished.ensures
+unfolding digits
+returns-in-Unfinished c = carried c.around-in-Unfinished.result _ _ _ c.in-Unfinished.is (rw c.text-in-Unfinished.ensures (simp append_assoc)) c.around-in-Unfinished.ensures
 
 pub returns-in_ok-seats-in-Short : goal.returns-in_ok-seats-in-Short
-returns-in_ok-seats-in-Short c = ok_same c.around-in-Short.result _ _ (short c.in-Short.seats c.as_str-in-Short.result.now (c.as_str-in-Short.ensures.value ∙ c.in_ok-seats-in-Short.ensures) ∙ sym (ap refusal_text c.in-Short.is)) c.around-in-Short.ensures
+unfolding digits
+returns-in_ok-seats-in-Short c = carried c.around-in-Short.result _ _ _ c.in-Short.is (rw (c.as_str-in-Short.ensures.value, c.in_ok-seats-in-Short.ensures) (simp append_assoc)) c.around-in-Short.ensures

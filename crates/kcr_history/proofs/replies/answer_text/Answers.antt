@@ -1,4 +1,4 @@
-use Rattle.kcr_history.proofs.ReplyTexts.{answer}
+use Rattle.kcr_history.proofs.Listed.{answer}
 use Rattle.kcr_history.proofs.replies.answer_text.Goals as goal
 
 pub returns : goal.returns

@@ -1,6 +1,6 @@
 use Rattle.std.proofs.Common.{sym, rules}
 use Rattle.kcr_history.proofs.Listed.{separator_more}
-use Rattle.kcr_history.proofs.ReplyTexts.{quoted_more}
+use Rattle.kcr_history.proofs.Listed.{quoted_more}
 use Rattle.kcr_history.proofs.replies.people_array.Goals as goal
 
 pub loop-who-preserved : goal.loop-who-preserved
