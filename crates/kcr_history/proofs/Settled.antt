@@ -4,8 +4,10 @@ use Rattle.std.specs.Prelude.{unwrap_or}
 use Rattle.std.specs.List.{list_any, list_all, filter_map, cons_option}
 use Rattle.std.specs.List.Sorted.{IsPermutation}
 use Rattle.std.proofs.lemmas.List.Sorted.{list_any-IsPermutation, IsPermutation-map}
-use Rattle.std.proofs.lemmas.Bool.{true≢false, false≢true, and_parts, and_from, leb-true, leb-false, le-leb, lt-leb, eq-eqb}
+use Rattle.std.proofs.lemmas.Bool.{true≢false, false≢true, and_parts, and_from, or_right, leb-true, le-leb, eq-eqb}
+use Rattle.std.proofs.lemmas.Bool.Decides.{nat_tests}
 use Rattle.kcr_base.specs.Days.{day_of}
+use Rattle.kcr_custody.proofs.Puts.{all_mono}
 use Rattle.kcr_history.specs.declared.commands.Act.{Act}
 use Rattle.kcr_history.specs.declared.commands.Act.TheVariants.{Open}
 use Rattle.kcr_history.specs.declared.rows.MarkRow.{MarkRow}
@@ -21,17 +23,7 @@ reaches n None = false
 reaches n (Some m) = nat_le n m
 
 below-max : (n x : ℕ) (rest : Option ℕ) → (nat_le n x || reaches n rest) ≡ reaches n (Some (max_with x rest))
-below-max n x None = or_false (nat_le n x)
-  where
-    or_false : (b : Bool) → (b || false) ≡ b
-    or_false true = refl
-    or_false false = refl
-below-max n x (Some m) = by_test (nat_le n x) refl (nat_le n m) refl
-  where
-    by_test : (b : Bool) → nat_le n x ≡ b → (c : Bool) → nat_le n m ≡ c → (b || c) ≡ nat_le n (max x m)
-    by_test true e c f = let l = leb-true n x e in sym (le-leb n (max x m) (omega arith))
-    by_test false e true f = let l = leb-true n m f in sym (le-leb n (max x m) (omega arith))
-    by_test false e false f = let k = leb-false n x e in let l = leb-false n m f in sym (lt-leb n (max x m) (omega arith))
+below-max n x rest = grind (arith, nat_tests)
 
 reached : (n : ℕ) (xs : List ℕ) → list_any (nat_le n) xs ≡ reaches n (greatest xs)
 reached n [] = refl
@@ -61,26 +53,14 @@ has_mark A ceremony = list_any (λ m. eqb m.0 ceremony) (all_said marked A)
 
 some_mark : (ceremony : ℕ) (ms : List (ℕ × ℕ)) → list_any (λ m. eqb m.0 ceremony) ms ≡ true → is_some (greatest (map (λ m. m.1) (filter (λ m. eqb m.0 ceremony) ms))) ≡ true
 some_mark ceremony [] h = absurd (false≢true h)
-some_mark ceremony (m ∷ ms) h = by_test (eqb m.0 ceremony) h (some_mark ceremony ms)
-  where
-    by_test : (b : Bool) → (b || list_any (λ m. eqb m.0 ceremony) ms) ≡ true → (list_any (λ m. eqb m.0 ceremony) ms ≡ true → is_some (greatest (map (λ m. m.1) (filter (λ m. eqb m.0 ceremony) ms))) ≡ true)
-        → is_some (greatest (map (λ m. m.1) (cond b (m ∷ filter (λ m. eqb m.0 ceremony) ms) (filter (λ m. eqb m.0 ceremony) ms)))) ≡ true
-    by_test true h ih = refl
-    by_test false h ih = ih h
-
-or_right : (a b : Bool) → b ≡ true → (a || b) ≡ true
-or_right true b h = refl
-or_right false b h = h
-
-more_marks : (o : Option (ℕ × ℕ)) (ms : List (ℕ × ℕ)) (ceremony : ℕ) → list_any (λ m. eqb m.0 ceremony) ms ≡ true → list_any (λ m. eqb m.0 ceremony) (cons_option o ms) ≡ true
-more_marks None ms ceremony h = h
-more_marks (Some m) ms ceremony h = or_right (eqb m.0 ceremony) _ h
+some_mark ceremony (m ∷ ms) h =
+    (elim (eqb m.0 ceremony) as (λ b. (b || list_any (λ m. eqb m.0 ceremony) ms) ≡ true
+        → is_some (greatest (map (λ m. m.1) (cond b (m ∷ filter (λ m. eqb m.0 ceremony) ms) (filter (λ m. eqb m.0 ceremony) ms)))) ≡ true)
+    [ true ↦ λ _. refl | false ↦ some_mark ceremony ms ]) h
 
 all_more : (o : Option (ℕ × ℕ)) (ms : List (ℕ × ℕ)) (cs : List ℕ) → list_all (λ c. list_any (λ m. eqb m.0 c) ms) cs ≡ true → list_all (λ c. list_any (λ m. eqb m.0 c) (cons_option o ms)) cs ≡ true
-all_more o ms [] h = refl
-all_more o ms (c ∷ cs) h =
-    let p = and_parts (list_any (λ m. eqb m.0 c) ms) (list_all (λ c. list_any (λ m. eqb m.0 c) ms) cs) h in
-    and_from (list_any (λ m. eqb m.0 c) (cons_option o ms)) _ (more_marks o ms c p.0) (all_more o ms cs p.1)
+all_more None ms cs h = h
+all_more (Some m) ms cs h = all_mono (λ c. list_any (λ m. eqb m.0 c) ms) _ (λ c. or_right (eqb m.0 c) _) cs h
 
 marked_after : (act : Act) (ms : List (ℕ × ℕ)) (cs : List ℕ) → list_all (λ c. list_any (λ m. eqb m.0 c) ms) cs ≡ true
     → list_all (λ c. list_any (λ m. eqb m.0 c) (cons_option (marked act) ms)) (cons_option (opened_number act) cs) ≡ true

@@ -27,7 +27,7 @@ place-refl a = grind (arith, nat_tests)
 
 -- LISTS OF WHICH NO ROW PASSES A TEST
 
-none-weaker : {X : Type 0} (p q : X → Bool) → ((x : X) → p x ≡ false → q x ≡ false) → (xs : List X) → list_any p xs ≡ false → list_any q xs ≡ false
+pub none-weaker : {X : Type 0} (p q : X → Bool) → ((x : X) → p x ≡ false → q x ≡ false) → (xs : List X) → list_any p xs ≡ false → list_any q xs ≡ false
 none-weaker p q one [] h = refl
 none-weaker p q one (x ∷ xs) h = let r = or_parts (p x) (list_any p xs) h in or_from (q x) _ (one x r.0) (none-weaker p q one xs r.1)
 

@@ -10,41 +10,39 @@ use Rattle.kcr_people.specs.declared.Training.{Training}
 use Rattle.kcr_people.specs.People.{is_person_by, ever_trained_by, ever_put_by, same_training}
 use Rattle.kcr_history.specs.declared.commands.Act.{Act}
 use Rattle.kcr_history.specs.declared.commands.Act.TheVariants.{Enter, Train, Withdraw, Appoint, Replace, Release}
-use Rattle.kcr_history.specs.History.{History, some_command, entry_of}
+use Rattle.kcr_history.specs.History.{History, all_said, some_command, entry_of}
 use Rattle.kcr_history.specs.Training.{enters, is_person, trains_person, ever_trained, is_training, puts, ever_put}
 use Rattle.kcr_history.specs.Tables.{people, person_row, trainings, training_row, appointments, appointments_after, ended, keys, key_row}
 use Rattle.kcr_history.specs.Views.{row_of_key}
 
--- a person is entered by the last command, or was there
-is_person_after : (who : List ℕ) (act : Act) (rows : List Person) → is_person_by (cons_option (person_row act) rows) who ≡ (enters who act || is_person_by rows who)
-is_person_after who (Enter p name) rows = refl
-is_person_after who act rows = refl
+-- some row of the commands passes a test where some command says so
+some_row : {X : Type 0} (row_of : Act → Option X) (test : X → Bool) (says : Act → Bool)
+    → ((act : Act) (rows : List X) → list_any test (cons_option (row_of act) rows) ≡ (says act || list_any test rows)) → (A : History) → list_any test (all_said row_of A) ≡ some_command says A
+some_row row_of test says one [] = refl
+some_row row_of test says one (entry ∷ A) = one entry.command.act (all_said row_of A) ∙ ap (λ b. says entry.command.act || b) (some_row row_of test says one A)
 
 pub is_person-people : (A : History) (who : List ℕ) → is_person_by (people A) who ≡ is_person A who
-is_person-people [] who = refl
-is_person-people (entry ∷ A) who =
-    is_person_after who entry.command.act (people A) ∙ ap (λ b. enters who entry.command.act || b) (is_person-people A who)
-
--- the person is trained by the last command, or was so before
-ever_trained_after : (who : List ℕ) (act : Act) (rows : List Training) → ever_trained_by (cons_option (training_row act) rows) who ≡ (trains_person who act || ever_trained_by rows who)
-ever_trained_after who (Train p role since until) rows = refl
-ever_trained_after who act rows = refl
+is_person-people A who = some_row person_row (λ row. same_text row.who who) (enters who) entered A
+  where
+    entered : (act : Act) (rows : List Person) → is_person_by (cons_option (person_row act) rows) who ≡ (enters who act || is_person_by rows who)
+    entered (Enter p name) rows = refl
+    entered act rows = refl
 
 pub ever_trained-trainings : (A : History) (who : List ℕ) → ever_trained_by (trainings A) who ≡ ever_trained A who
-ever_trained-trainings [] who = refl
-ever_trained-trainings (entry ∷ A) who =
-    ever_trained_after who entry.command.act (trainings A) ∙ ap (λ b. trains_person who entry.command.act || b) (ever_trained-trainings A who)
+ever_trained-trainings A who = some_row training_row (λ row. same_text row.who who) (trains_person who) trained A
+  where
+    trained : (act : Act) (rows : List Training) → ever_trained_by (cons_option (training_row act) rows) who ≡ (trains_person who act || ever_trained_by rows who)
+    trained (Train p role since until) rows = refl
+    trained act rows = refl
 
--- the very same training is entered by the last command, or was there
-is_training_after : (row : Training) (act : Act) (rows : List Training)
-    → list_any (same_training row) (cons_option (training_row act) rows) ≡ (is_training row.who row.role row.since row.until act || list_any (same_training row) rows)
-is_training_after row (Train p role since until) rows = refl
-is_training_after row act rows = refl
-
+-- the very same training
 pub is_training-trainings : (A : History) (row : Training) → list_any (same_training row) (trainings A) ≡ some_command (is_training row.who row.role row.since row.until) A
-is_training-trainings [] row = refl
-is_training-trainings (entry ∷ A) row =
-    is_training_after row entry.command.act (trainings A) ∙ ap (λ b. is_training row.who row.role row.since row.until entry.command.act || b) (is_training-trainings A row)
+is_training-trainings A row = some_row training_row (same_training row) (is_training row.who row.role row.since row.until) entered A
+  where
+    entered : (act : Act) (rows : List Training)
+        → list_any (same_training row) (cons_option (training_row act) rows) ≡ (is_training row.who row.role row.since row.until act || list_any (same_training row) rows)
+    entered (Train p role since until) rows = refl
+    entered act rows = refl
 
 -- an end changes no person
 ever_put-ended : (who : List ℕ) (place : Place) (day : ℕ) (rows : List Appointment) → ever_put_by (map (ended place day) rows) who ≡ ever_put_by rows who
