@@ -1,5 +1,5 @@
 -- The settled day by the rows of marks, in any order, is the settled day by history.
-use Rattle.std.proofs.Common.{◌≡◌, ℕ, ◌≤◌, Bool, true, false, cond, ◌||◌, nat_le, eqb, List, [], ◌∷◌, map, filter, Option, Some, None, option_map, is_some, max, refl, sym, ap, ◌∙◌, arith}
+use Rattle.std.proofs.Common.{◌≡◌, ℕ, Bool, true, false, cond, ◌||◌, nat_le, eqb, List, [], ◌∷◌, map, filter, Option, Some, None, option_map, is_some, refl, sym, ap, ◌∙◌, arith}
 use Rattle.std.specs.Prelude.{unwrap_or}
 use Rattle.std.specs.List.{list_any, list_all, filter_map, cons_option}
 use Rattle.std.specs.List.Sorted.{IsPermutation}
@@ -12,7 +12,7 @@ use Rattle.kcr_history.specs.declared.commands.Act.{Act}
 use Rattle.kcr_history.specs.declared.commands.Act.TheVariants.{Open}
 use Rattle.kcr_history.specs.declared.rows.MarkRow.{MarkRow}
 use Rattle.kcr_history.specs.History.{History, all_said, greatest, max_with}
-use Rattle.kcr_history.specs.Ceremonies.{marked, mark, opened_number, all_marks, settled}
+use Rattle.kcr_history.specs.Ceremonies.{marked, mark, opened_number, settled}
 use Rattle.kcr_history.specs.Tables.{marks, mark_row}
 
 -- THE GREATEST OF A LIST IN ANY ORDER
@@ -55,7 +55,7 @@ some_mark : (ceremony : ℕ) (ms : List (ℕ × ℕ)) → list_any (λ m. eqb m.
 some_mark ceremony [] h = absurd (false≢true h)
 some_mark ceremony (m ∷ ms) h =
     (elim (eqb m.0 ceremony) as (λ b. (b || list_any (λ m. eqb m.0 ceremony) ms) ≡ true
-        → is_some (greatest (map (λ m. m.1) (cond b (m ∷ filter (λ m. eqb m.0 ceremony) ms) (filter (λ m. eqb m.0 ceremony) ms)))) ≡ true)
+    → is_some (greatest (map (λ m. m.1) (cond b (m ∷ filter (λ m. eqb m.0 ceremony) ms) (filter (λ m. eqb m.0 ceremony) ms)))) ≡ true)
     [ true ↦ λ _. refl | false ↦ some_mark ceremony ms ]) h
 
 all_more : (o : Option (ℕ × ℕ)) (ms : List (ℕ × ℕ)) (cs : List ℕ) → list_all (λ c. list_any (λ m. eqb m.0 c) ms) cs ≡ true → list_all (λ c. list_any (λ m. eqb m.0 c) (cons_option o ms)) cs ≡ true

@@ -1,5 +1,5 @@
 -- What an accepted entry tells of the history before it.
-use Rattle.std.proofs.Common.{◌≡◌, ℕ, ◌+◌, Bool, true, false, List, [], ◌∷◌, length, Option, Some, None, refl, ap, arith, ◌⊎◌, inl, inr, MatchOption}
+use Rattle.std.proofs.Common.{◌≡◌, ℕ, ◌+◌, true, false, List, ◌∷◌, length, Option, Some, None, refl, ap, arith, inl, inr, MatchOption}
 use Rattle.kcr_base.specs.declared.refusal.Refusal.{Refusal}
 use Rattle.kcr_history.specs.declared.commands.Act.{Act}
 use Rattle.kcr_history.specs.declared.commands.Act.TheVariants.{Sign, Except}
@@ -7,7 +7,7 @@ use Rattle.kcr_history.specs.declared.commands.Answer.{Answer}
 use Rattle.kcr_history.specs.declared.commands.Entry.{Entry}
 use Rattle.kcr_history.specs.History.{History, entry_of}
 use Rattle.kcr_history.specs.Conditions.{fault}
-use Rattle.kcr_history.specs.Machine.{Outcome, Accepts, Refuses, Sitting, sitting, answer_to, acts, repeats, seats, accepts, machine, IsRegister}
+use Rattle.kcr_history.specs.Machine.{Accepts, Sitting, sitting, answer_to, acts, repeats, seats, accepts, machine, IsRegister}
 
 -- the key was new, no condition held, and the answer is the machine's, with the people who were seated where seats were needed
 pub record Took (A : History) (entry : Entry) : Type 0 where

@@ -1,21 +1,20 @@
 -- Training by rows, with the withdrawals that bear on it, is training by history.
-use Rattle.std.proofs.Common.{◌≡◌, ℕ, Bool, true, false, cond, not, ◌||◌, ◌&&◌, nat_le, eqb, subst, List, [], ◌∷◌, map, filter, Option, Some, None, refl, sym, ap, ◌∙◌, arith}
+use Rattle.std.proofs.Common.{◌≡◌, ℕ, Bool, true, false, cond, not, ◌||◌, ◌&&◌, nat_le, subst, List, [], ◌∷◌, filter, Option, Some, None, refl, sym, ◌∙◌, arith}
 use Rattle.std.specs.Prelude.{unwrap_or}
 use Rattle.std.specs.List.{list_any, list_all, cons_option}
 use Rattle.std.proofs.lemmas.Bool.{both_ways, and_left, and_parts, and_from, or_from, or_left, or_right, false_from_ne_true}
 use Rattle.std.proofs.lemmas.List.Folds.{list_all-map}
-use Rattle.std.specs.Cmp.Lexicographic.{bytes_decides}
-use Rattle.kcr_base.specs.Rows.{or_else, put, put_all}
-use Rattle.kcr_base.specs.Same.{same_text, same_role, role_number}
+use Rattle.kcr_base.specs.Rows.{or_else}
+use Rattle.kcr_base.specs.Same.{same_text, same_role}
 use Rattle.kcr_base.specs.declared.place.Role.{Role}
 use Rattle.kcr_base.specs.declared.refusal.Refusal.TheVariants.{Taken}
 use Rattle.kcr_base.proofs.RefuseLemmas.{none_holds, unmet}
 use Rattle.kcr_people.specs.declared.Training.{Training}
 use Rattle.kcr_people.specs.declared.Withdrawal.{Withdrawal}
 use Rattle.kcr_people.specs.Laws.{same_withdrawn}
-use Rattle.kcr_people.specs.People.{is_of, is_withdrawn_by, covers, trains, trained_by, same_training, ends_from, withdrawal_of, withdrawn_rows}
+use Rattle.kcr_people.specs.People.{is_of, is_withdrawn_by, covers, trained_by, same_training, ends_from, withdrawal_of, withdrawn_rows}
 use Rattle.kcr_custody.proofs.Puts.{all_mono, all_put_all}
-use Rattle.kcr_people.proofs.Withdrawn.{trained-after, training_of, is_of-true, is_of-own}
+use Rattle.kcr_people.proofs.Withdrawn.{trained-after, is_of-true, is_of-own}
 use Rattle.kcr_history.specs.declared.commands.Act.{Act}
 use Rattle.kcr_history.specs.declared.commands.Act.TheVariants.{Train, Withdraw}
 use Rattle.kcr_history.specs.History.{History, some_command, last_said}
