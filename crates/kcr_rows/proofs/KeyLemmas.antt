@@ -1,5 +1,5 @@
 -- Which rows of a table have the key of a new row.
-use Rattle.std.proofs.Common.{◌≡◌, inl, inr, Some, ℕ, ℤ, zero, suc, ◌&&◌, not, Bool, true, false, List, [], ◌∷◌, true≢false, Ordering, Less, Equal, Greater, refl, sym, ap, ◌∙◌}
+use Rattle.std.proofs.Common.{◌≡◌, inl, inr, Some, ℕ, ℤ, zero, suc, ◌&&◌, not, Bool, true, false, List, [], ◌∷◌, true≢false, Ordering, Less, Equal, Greater, refl, sym, ap, ◌∙◌, arith}
 use Rattle.std.specs.List.{list_any}
 use Rattle.std.specs.Ordering.{is_eq, is_ne, ordering_then}
 use Rattle.std.proofs.lemmas.Bool.{and_parts, or_parts, not-true}
@@ -26,13 +26,7 @@ full at zero row = true
 full at (suc count) row = not (is_null (column row at)) && full (suc at) count row
 
 truth_is : (b : Bool) → is_true (from_truth (Some b)) ≡ b
-truth_is true = refl
-truth_is false = refl
-
-both : (o p : Ordering) → is_eq (ordering_then o p) ≡ (is_eq o && is_eq p)
-both Less p = refl
-both Equal p = refl
-both Greater p = refl
+truth_is b = grind arith
 
 -- SQL's `=` of two values that are there is a tie
 pub equal_is : (a b : Value) → is_null a ≡ false → is_null b ≡ false → equal Binary a b ≡ is_eq (value_cmp a b)
@@ -46,26 +40,26 @@ agree_is (suc count) at a b f g =
     let fb = and_parts _ _ g in
     let here : equal (first_key plain).collation (column a at) (column b at) ≡ is_eq (value_cmp (column a at) (column b at)) =
     rw first_key-plain (equal_is _ _ (not-true _ fa.0) (not-true _ fb.0)) in
-    rw (here, agree_is count (suc at) a b fa.1 fb.1) (sym (both (value_cmp (column a at) (column b at)) (key_cmp (suc at) (rising count []) a b)))
-
-other_is : (o : Ordering) → is_ne o ≡ not (is_eq o)
-other_is Less = refl
-other_is Equal = refl
-other_is Greater = refl
+    rw (here, agree_is count (suc at) a b fa.1 fb.1) (both (value_cmp (column a at) (column b at)) (key_cmp (suc at) (rising count []) a b))
+  where
+    both : (o p : Ordering) → (is_eq o && is_eq p) ≡ is_eq (ordering_then o p)
+    both o p = grind arith
 
 -- SQL's `<>` of two values that are there is no tie
 pub differ_is : (a b : Value) → is_null a ≡ false → is_null b ≡ false → differ a b ≡ not (is_eq (value_cmp a b))
 unfolding binary
-differ_is a b there here = rw (there, here) (truth_is (is_ne (value_cmp a b)) ∙ other_is (value_cmp a b))
+differ_is a b there here = rw (there, here) (truth_is (is_ne (value_cmp a b)) ∙ other (value_cmp a b))
+  where
+    other : (o : Ordering) → is_ne o ≡ not (is_eq o)
+    other o = grind arith
 
 pub not_any : {X : Type 0} (p : X → Bool) (xs : List X) (x : X) → list_any p xs ≡ false → Has xs x → p x ≡ false
 not_any p [] x none h = absurd h
 not_any p (y ∷ xs) x none (inl same) = ap p same ∙ (or_parts _ _ none).0
 not_any p (y ∷ xs) x none (inr more) = not_any p xs x (or_parts _ _ none).1 more
 
-no_both : (a b : Bool) → (a && b) ≡ false → b ≡ true → a ≡ false
-no_both true b none h = absurd (true≢false (sym h ∙ none))
-no_both false b none h = refl
+alone : (a b : Bool) → (a && b) ≡ false → b ≡ true → a ≡ false
+alone a b none h = grind arith
 
 -- a row that does not clash with the new one has another key
 module _ (keys width : ℕ) (entries : List Row) (id : ℤ) (values : Row)
@@ -81,5 +75,5 @@ module _ (keys width : ℕ) (entries : List Row) (id : ℤ) (values : Row)
       let apart : is_eq (value_cmp (rowid r) (Int id)) ≡ false = not_any (λ x. is_eq (value_cmp (rowid x) (rowid new))) entries r free h in
       let other : differ (rowid r) (Int id) ≡ true = differ_is (rowid r) (Int id) (ap is_null own) refl ∙ ap not apart in
       let new_full : full 1 keys new ≡ true = sym (fulls new) ∙ ap (is_full keys) shown ∙ filled in
-      let keyed : is_eq (key_cmp 1 (rising keys []) r new) ≡ false = sym (agree_is keys 1 r new (sym (fulls r) ∙ whole) new_full) ∙ no_both _ _ none other in
+      let keyed : is_eq (key_cmp 1 (rising keys []) r new) ≡ false = sym (agree_is keys 1 r new (sym (fulls r) ∙ whole) new_full) ∙ alone _ _ none other in
       sym (ap (λ v. is_eq (by_key keys (cells 1 width r) v)) shown) ∙ ap is_eq (compares r new) ∙ keyed

@@ -18,10 +18,8 @@ use Rattle.sqlite_sql.proofs.QueryLemmas.{key_cmp_total}
 use Rattle.sqlite_rules.specs.Lists.{Has}
 use Rattle.sqlite_rules.specs.Edit.{is_taken}
 use Rattle.sqlite_rules.proofs.ListLemmas.{all_has, all_from}
+use Rattle.kcr_rows.proofs.SameLemmas.{key_total}
 use Rattle.kcr_rows.specs.Keyed.{cells, by_key, is_full, Place, Keeps, put}
-
-pub by_key_total : (keys : ℕ) → IsTotalOrder (by_key keys)
-by_key_total keys = on_total _ (key_cmp_total (rising keys []) 0)
 
 module _ (keys : ℕ) (new : Row) where
   abbrev Put : Ordering → Row → List Row → List Row
@@ -31,7 +29,7 @@ module _ (keys : ℕ) (new : Row) where
   is_other row = not (is_eq (by_key keys row new))
 
   total : IsTotalOrder (by_key keys)
-  total = by_key_total keys
+  total = key_total keys
 
   -- what is above the new row has another key
   other_above : (row : Row) → by_key keys new row ≡ Less → is_other row ≡ true

@@ -43,187 +43,66 @@ pub text_ties : (s t : List ℕ) → same_text s t ≡ ties (Text s) (Text t)
 unfolding ties
 text_ties s t = sym (ap is_eq (value_cmp-Text s t) ∙ is_eq-slice_cmp s t)
 
-equal_numbers : (m n : ℕ) → is_eq (int_cmp (pos m) (pos n)) ≡ true → m ≡ n
-equal_numbers m n h = grind (arith, nat_tests)
-
-number_test : (m n : ℕ) → (m == n) ≡ is_eq (value_cmp (Int (pos m)) (Int (pos n)))
-number_test m n =
-    both_ways _ _ (λ h. subst (λ k. is_eq (value_cmp (Int (pos m)) (Int (pos k))) ≡ true) (eqb-true m n h) (ap is_eq (tied_itself value_cmp_total (Int (pos m)))))
-    (λ h. eq-eqb m n (equal_numbers m n (sym (ap is_eq (value_cmp-Int (pos m) (pos n))) ∙ h)))
-
 pub number_ties : (m n : ℕ) → (m == n) ≡ ties (Int (pos m)) (Int (pos n))
 unfolding ties
-number_ties m n = number_test m n
+number_ties m n = rw (value_cmp-Int (pos m) (pos n)) (number m n)
+  where
+    number : (m n : ℕ) → (m == n) ≡ is_eq (int_cmp (pos m) (pos n))
+    number m n = grind (arith, nat_tests)
 
 same_facility_texts : (f g : Facility) → same_facility f g ≡ same_text (facility_text f) (facility_text g)
-same_facility_texts East East = refl
-same_facility_texts East West = refl
-same_facility_texts West East = refl
-same_facility_texts West West = refl
+same_facility_texts f g = grind arith
 
 pub facility_ties : (f g : Facility) → same_facility f g ≡ ties (Text (facility_text f)) (Text (facility_text g))
 facility_ties f g = same_facility_texts f g ∙ text_ties (facility_text f) (facility_text g)
 
 same_role_texts : (q r : Role) → same_role q r ≡ same_text (role_text q) (role_text r)
-same_role_texts Ca Ca = refl
-same_role_texts Ca Iw = refl
-same_role_texts Ca Sa = refl
-same_role_texts Ca Ssc1 = refl
-same_role_texts Ca Ssc2 = refl
-same_role_texts Ca Rkos = refl
-same_role_texts Ca Sw = refl
-same_role_texts Iw Ca = refl
-same_role_texts Iw Iw = refl
-same_role_texts Iw Sa = refl
-same_role_texts Iw Ssc1 = refl
-same_role_texts Iw Ssc2 = refl
-same_role_texts Iw Rkos = refl
-same_role_texts Iw Sw = refl
-same_role_texts Sa Ca = refl
-same_role_texts Sa Iw = refl
-same_role_texts Sa Sa = refl
-same_role_texts Sa Ssc1 = refl
-same_role_texts Sa Ssc2 = refl
-same_role_texts Sa Rkos = refl
-same_role_texts Sa Sw = refl
-same_role_texts Ssc1 Ca = refl
-same_role_texts Ssc1 Iw = refl
-same_role_texts Ssc1 Sa = refl
-same_role_texts Ssc1 Ssc1 = refl
-same_role_texts Ssc1 Ssc2 = refl
-same_role_texts Ssc1 Rkos = refl
-same_role_texts Ssc1 Sw = refl
-same_role_texts Ssc2 Ca = refl
-same_role_texts Ssc2 Iw = refl
-same_role_texts Ssc2 Sa = refl
-same_role_texts Ssc2 Ssc1 = refl
-same_role_texts Ssc2 Ssc2 = refl
-same_role_texts Ssc2 Rkos = refl
-same_role_texts Ssc2 Sw = refl
-same_role_texts Rkos Ca = refl
-same_role_texts Rkos Iw = refl
-same_role_texts Rkos Sa = refl
-same_role_texts Rkos Ssc1 = refl
-same_role_texts Rkos Ssc2 = refl
-same_role_texts Rkos Rkos = refl
-same_role_texts Rkos Sw = refl
-same_role_texts Sw Ca = refl
-same_role_texts Sw Iw = refl
-same_role_texts Sw Sa = refl
-same_role_texts Sw Ssc1 = refl
-same_role_texts Sw Ssc2 = refl
-same_role_texts Sw Rkos = refl
-same_role_texts Sw Sw = refl
+same_role_texts q r = grind arith
 
 pub role_ties : (q r : Role) → same_role q r ≡ ties (Text (role_text q)) (Text (role_text r))
 role_ties q r = same_role_texts q r ∙ text_ties (role_text q) (role_text r)
 
-shifted : (m n : ℕ) → (m == n) ≡ (bytes_eq ((48 + m) ∷ []) ((48 + n) ∷ []))
-shifted m n =
-    both_ways _ _ (λ h. (bytes_eq-Decides ((48 + m) ∷ []) ((48 + n) ∷ [])).1 (ap (λ k. (48 + k) ∷ []) (eqb-true m n h)))
-    (λ h. let is : (48 + m) ∷ [] ≡ (48 + n) ∷ [] = (bytes_eq-Decides ((48 + m) ∷ []) ((48 + n) ∷ [])).0 h in let heads : 48 + m ≡ 48 + n = cc in eq-eqb m n (omega (arith, heads)))
-
 same_place_texts : (p q : Place) → same_place p q ≡ same_text (place_text p) (place_text q)
-same_place_texts (Co East n) (Co East m) = shifted n m
-same_place_texts (Co East n) (Co West m) = refl
-same_place_texts (Co West n) (Co East m) = refl
-same_place_texts (Co West n) (Co West m) = shifted n m
-same_place_texts (Co East n) (Rksh m) = refl
-same_place_texts (Co West n) (Rksh m) = refl
-same_place_texts (Rksh n) (Co East m) = refl
-same_place_texts (Rksh n) (Co West m) = refl
-same_place_texts (Rksh n) (Rksh m) = shifted n m
+same_place_texts p q = grind (arith, nat_tests)
 
 pub place_ties : (p q : Place) → same_place p q ≡ ties (Text (place_text p)) (Text (place_text q))
 place_ties p q = same_place_texts p q ∙ text_ties (place_text p) (place_text q)
 
 -- ---- keys of one to four columns
 
-both : (o p : Ordering) → is_eq (ordering_then o p) ≡ (is_eq o && is_eq p)
-both Less p = refl
-both Equal p = refl
-both Greater p = refl
-
 pub one_column : (a b : Value) (xs ys : Row) → ties a b ≡ is_eq (by_key 1 (a ∷ xs) (b ∷ ys))
 unfolding ties
-one_column a b xs ys = sym (ap is_eq (then-Equal (value_cmp a b)))
+one_column a b xs ys = grind arith
 
 pub two_columns : (a b c d : Value) (xs ys : Row) → (ties a c && ties b d) ≡ is_eq (by_key 2 (a ∷ b ∷ xs) (c ∷ d ∷ ys))
 unfolding ties
-two_columns a b c d xs ys = sym (both (value_cmp a c) _ ∙ ap (λ o. is_eq (value_cmp a c) && is_eq o) (then-Equal (value_cmp b d)))
-
-and_groups : (a b c : Bool) → (a && (b && c)) ≡ ((a && b) && c)
-and_groups true b c = refl
-and_groups false b c = refl
+two_columns a b c d xs ys = grind arith
 
 pub three_columns : (a b c d e f : Value) (xs ys : Row) → ((ties a d && ties b e) && ties c f) ≡ is_eq (by_key 3 (a ∷ b ∷ c ∷ xs) (d ∷ e ∷ f ∷ ys))
 unfolding ties
-three_columns a b c d e f xs ys =
-    sym (both (value_cmp a d) _ ∙ ap (λ x. is_eq (value_cmp a d) && x) (both (value_cmp b e) _ ∙ ap (λ o. is_eq (value_cmp b e) && is_eq o) (then-Equal (value_cmp c f)))
-    ∙ and_groups (is_eq (value_cmp a d)) (is_eq (value_cmp b e)) (is_eq (value_cmp c f)))
+three_columns a b c d e f xs ys = grind arith
 
 pub four_columns : (a b c d e f g h : Value) (xs ys : Row) → (((ties a e && ties b f) && ties c g) && ties d h) ≡ is_eq (by_key 4 (a ∷ b ∷ c ∷ d ∷ xs) (e ∷ f ∷ g ∷ h ∷ ys))
 unfolding ties
-four_columns a b c d e f g h xs ys =
-    sym (both (value_cmp a e) _
-    ∙ ap (λ x. is_eq (value_cmp a e) && x) (both (value_cmp b f) _ ∙ ap (λ x. is_eq (value_cmp b f) && x) (both (value_cmp c g) _ ∙ ap (λ o. is_eq (value_cmp c g) && is_eq o) (then-Equal (value_cmp d h)))
-    ∙ and_groups (is_eq (value_cmp b f)) (is_eq (value_cmp c g)) (is_eq (value_cmp d h)))
-    ∙ and_groups (is_eq (value_cmp a e)) (is_eq (value_cmp b f) && is_eq (value_cmp c g)) (is_eq (value_cmp d h))
-    ∙ ap (λ x. x && is_eq (value_cmp d h)) (and_groups (is_eq (value_cmp a e)) (is_eq (value_cmp b f)) (is_eq (value_cmp c g))))
-
-reversed : (o : Ordering) → is_eq (ordering_reverse o) ≡ is_eq o
-reversed Less = refl
-reversed Equal = refl
-reversed Greater = refl
+four_columns a b c d e f g h xs ys = grind arith
 
 -- the other way round
 pub turned : (keys : ℕ) (a b : Row) → is_eq (by_key keys a b) ≡ is_eq (by_key keys b a)
-turned keys a b = sym (reversed (by_key keys a b)) ∙ sym (ap is_eq ((key_total keys).antisymm b a))
+turned keys a b = reversed (by_key keys a b) (by_key keys b a) ((key_total keys).antisymm a b)
+  where
+    reversed : (o p : Ordering) → o ≡ ordering_reverse p → is_eq o ≡ is_eq p
+    reversed o p e = grind arith
 
 -- ---- texts of one value
 
-same_when : (a b : List ℕ) → a ≡ b → same_text a b ≡ true
-same_when a b = (bytes_eq-Decides a b).1
-
 pub one_facility : (f g : Facility) → facility_text f ≡ facility_text g → f ≡ g
-one_facility f g h = equal_facilities f g (same_facility_texts f g ∙ same_when _ _ h)
-  where
-    equal_facilities : (f g : Facility) → same_facility f g ≡ true → f ≡ g
-    equal_facilities East East h = refl
-    equal_facilities East West h = absurd (true≢false (sym h))
-    equal_facilities West East h = absurd (true≢false (sym h))
-    equal_facilities West West h = refl
-
-role_of : ℕ → Role
-role_of n = if n == 0 then Ca else (if n == 1 then Iw else (if n == 2 then Sa else (if n == 3 then Ssc1 else (if n == 4 then Ssc2 else (if n == 5 then Rkos else Sw)))))
-
-role_is : (r : Role) → role_of (role_number r) ≡ r
-unfolding role_of
-role_is Ca = refl
-role_is Iw = refl
-role_is Sa = refl
-role_is Ssc1 = refl
-role_is Ssc2 = refl
-role_is Rkos = refl
-role_is Sw = refl
+one_facility f g h = grind arith
 
 pub one_role : (q r : Role) → role_text q ≡ role_text r → q ≡ r
-one_role q r h = sym (role_is q) ∙ ap role_of (eqb-true (role_number q) (role_number r) (same_role_texts q r ∙ same_when _ _ h)) ∙ role_is r
+one_role q r h = grind arith
 
 pub one_place : (p q : Place) → place_text p ≡ place_text q → p ≡ q
-one_place p q h = equal_places p q (same_place_texts p q ∙ same_when _ _ h)
-  where
-    equal_places : (p q : Place) → same_place p q ≡ true → p ≡ q
-    equal_places (Co East n) (Co East m) h = ap (Co East) (eqb-true n m h)
-    equal_places (Co East n) (Co West m) h = absurd (true≢false (sym h))
-    equal_places (Co West n) (Co East m) h = absurd (true≢false (sym h))
-    equal_places (Co West n) (Co West m) h = ap (Co West) (eqb-true n m h)
-    equal_places (Co f n) (Rksh m) h = absurd (true≢false (sym h))
-    equal_places (Rksh n) (Co f m) h = absurd (true≢false (sym h))
-    equal_places (Rksh n) (Rksh m) h = ap Rksh (eqb-true n m h)
+one_place p q h = grind arith
 
 pub one_number : (x y : Option ℕ) → int_or_null x ≡ int_or_null y → x ≡ y
-one_number None None h = refl
-one_number None (Some b) h = absurd (cc)
-one_number (Some a) None h = absurd (cc)
-one_number (Some a) (Some b) h = let is : a ≡ b = cc in ap Some is
+one_number x y h = grind arith

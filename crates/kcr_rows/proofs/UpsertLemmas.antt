@@ -54,7 +54,8 @@ use Rattle.sqlite_catalog.specs.Listing.{IsSound}
 use Rattle.kcr_rows.specs.Columns.{keyed}
 use Rattle.kcr_rows.specs.Keyed.{cells, by_key, is_full, Place, Keeps, put}
 use Rattle.kcr_rows.proofs.ReadLemmas.{reading, matched}
-use Rattle.kcr_rows.proofs.PutLemmas.{by_key_total, keeps_put}
+use Rattle.kcr_rows.proofs.PutLemmas.{keeps_put}
+use Rattle.kcr_rows.proofs.SameLemmas.{key_total}
 use Rattle.kcr_rows.proofs.KeyLemmas.{places_from, full, equal_is, agree_is, not_any}
 use Rattle.kcr_rows.proofs.WriteLemmas.{cast_null, cast_int, went, same_value, stored}
 use Rattle.kcr_rows.proofs.TableLemmas.{Changes}
@@ -192,7 +193,7 @@ module _ (keys : ℕ) (values : Row) where
 
   later_apart : (row y : Row) → by_key keys row values ≡ Equal → by_key keys row y ≡ Less → has_key y ≡ false
   later_apart row y tie up =
-      let total = by_key_total keys in
+      let total = key_total keys in
       let above : by_key keys values y ≡ Less = sym (total.congr row values y tie) ∙ up in
       ap is_eq (total.antisymm y values ∙ ap ordering_reverse above)
 
