@@ -7,6 +7,7 @@ use Rattle.std.specs.Ordering.{is_gt, int_cmp, ordering_reverse}
 use Rattle.std.specs.Cmp.{IsTotalOrder}
 use Rattle.std.proofs.lemmas.Cmp.{upto}
 use Rattle.std.proofs.lemmas.Bool.Decides.{nat_tests}
+use Rattle.std.proofs.lemmas.List.{nil_from_length, length-map}
 use Rattle.std.proofs.lemmas.List.Sorted.{IsPermutation-map, IsPermutation-sym, IsPermutation-trans, length_permutation}
 use Rattle.sqlite.specs.declared.types.Value.TheVariants.{Null, Int}
 use Rattle.sqlite.specs.Order.{Row, column, value_cmp}
@@ -26,23 +27,13 @@ use Rattle.sqlite_rules.proofs.ProbeLemmas.{mapped_has}
 use Rattle.sqlite_trees.proofs.ListLemmas.{map-map, filter-map, IsPermutation-filter}
 use Rattle.kcr_rows.specs.Keyed.{cells, Place, Keeps}
 use Rattle.kcr_rows.specs.Greatest.{IsGreatest}
-use Rattle.kcr_rows.proofs.ReadLemmas.{matched, map_same}
+use Rattle.kcr_rows.proofs.ReadLemmas.{asking, kept_cells}
 use Rattle.kcr_rows.proofs.TableLemmas.{same_values, each_is}
 use Rattle.kcr_rows.proofs.PutLemmas.{mapped_from, has_same}
 
 -- the query on one table that shows the row with the greatest number in a column, counted from 0
 abbrev pub greatest : ℕ → List Term → List Term → ℕ → Query
-greatest tree test project at = record {
-  from = inner tree end;
-  filter = test;
-  group = None;
-  project = project;
-  distinct = false;
-  collations = [];
-  order = (col 1 (suc at), record { collation = Binary; descending = true }) ∷ [];
-  limit = lit (Int (pos 1));
-  offset = lit (Int (pos 0));
-}
+greatest tree test project at = asking tree test project ((col 1 (suc at), record { collation = Binary; descending = true }) ∷ []) (pos 1)
 
 abbrev pub with_number : ℕ → Row → Output
 with_number at row = (column row at ∷ [], row)
@@ -50,9 +41,7 @@ with_number at row = (column row at ∷ [], row)
 -- what a sorted list has after its head is not below it
 module _ {X : Type 0} (cmp : X → X → Ordering) (total : IsTotalOrder cmp) where
   turned : (o : Ordering) → is_lt o ≡ false → is_gt (ordering_reverse o) ≡ false
-  turned Less h = h
-  turned Equal h = refl
-  turned Greater h = refl
+  turned o h = grind arith
 
   not_above : (x : X) (ys : List X) → IsSorted cmp (x ∷ ys) → AllByRecursion (λ y. is_gt (cmp x y) ≡ false) ys
   not_above x [] sorted = tt
@@ -65,12 +54,7 @@ number_order : (a b : ℕ) → is_gt (int_cmp (pos b) (pos a)) ≡ false → b �
 number_order a b h = grind (arith, nat_tests)
 
 none_from : {X Y : Type 0} (f : X → Y) (xs : List X) → map f xs ≡ [] → xs ≡ []
-none_from f [] h = refl
-none_from f (x ∷ xs) h = absurd (cc)
-
-length_none : {X : Type 0} (l : List X) → length l ≡ 0 → l ≡ []
-length_none [] h = refl
-length_none (x ∷ l) h = absurd (omega arith)
+none_from f xs h = nil_from_length xs (sym (length-map xs f) ∙ ap length h)
 
 module _ (place : Place) (schema : Schema) (sql : List ℕ) (params : Row) (test project : List Term) (at : ℕ) (names : List (List ℕ)) (passes : Row → Bool)
     (is : (command_of (understood schema sql) ≡ Select (record { lets = []; body = greatest place.tree test project at }) names) × (reads_listing schema sql ≡ false))
@@ -102,7 +86,7 @@ module _ (place : Place) (schema : Schema) (sql : List ℕ) (params : Row) (test
 
   chosen : (ks xs : List X) (ordered : List Output) → IsPermutation (map out (map row_of ks)) ordered → IsSorted (output_cmp q) ordered
       → map row_of xs ≡ take 1 (map (λ (o : Output). o.1) ordered) → IsGreatest number ks xs
-  chosen ks xs [] same sorted shown = inl (none_from row_of ks (none_from out _ (length_none _ (sym (length_permutation _ _ same)))), none_from row_of xs shown)
+  chosen ks xs [] same sorted shown = inl (none_from row_of ks (none_from out _ (nil_from_length _ (sym (length_permutation _ _ same)))), none_from row_of xs shown)
   chosen ks xs (o ∷ os) same sorted shown =
       let there = mapped_from out (map row_of ks) o (has_same _ _ o (IsPermutation-sym _ _ same) (inl refl)) in
       let e = mapped_from row_of ks there.0 there.1 in
@@ -126,16 +110,7 @@ module _ (place : Place) (schema : Schema) (sql : List ℕ) (params : Row) (test
       let a : IsAnswer q (overlay old.now.trees []) params (map row_of xs) = read.answer Null in
       let entries = old.now.trees place.tree in
       let shown = cells 1 place.width in
-      let p = λ (r : Row). list_all (holds (params ∷ r ∷ [])) test in
-      let staged : a.staged ≡ map (λ r. params ∷ r ∷ []) (filter p (overlay old.now.trees [] place.tree)) = a.grouped ∙ matched p (λ r. params ∷ r ∷ []) (overlay old.now.trees [] place.tree) in
-      let over : overlay old.now.trees [] place.tree ≡ entries = rw low in
-      let same_test : filter p entries ≡ filter (λ r. passes (shown r)) entries = λ i. filter (λ r. tests r i) entries in
-      let outs : a.kept ≡ map out (filter passes (map shown entries)) =
-      a.distinct ∙ ap (map (output q)) (staged ∙ ap (λ l. map (λ r. params ∷ r ∷ []) (filter p l)) over ∙ ap (map (λ r. params ∷ r ∷ [])) same_test)
-      ∙ map-map (output q) (λ r. params ∷ r ∷ []) (filter (λ r. passes (shown r)) entries)
-      ∙ map_same _ (λ r. out (shown r)) shows (filter (λ r. passes (shown r)) entries)
-      ∙ sym (map-map out shown (filter (λ r. passes (shown r)) entries))
-      ∙ ap (map out) (sym (filter-map passes shown entries)) in
+      let outs : a.kept ≡ map out (filter passes (map shown entries)) = kept_cells place test project _ (pos 1) params passes out shows tests low old.now.trees (map row_of xs) a in
       let passed : IsPermutation (map row_of (filter (λ y. passes (row_of y)) ys)) (filter passes (map shown entries)) =
       subst (λ l. IsPermutation l (filter passes (map shown entries))) (filter-map passes row_of ys) (IsPermutation-filter passes _ _ keeps.same) in
       let perm : IsPermutation (map out (map row_of (filter (λ y. passes (row_of y)) ys))) a.ordered =

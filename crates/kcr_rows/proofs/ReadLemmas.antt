@@ -1,7 +1,8 @@
 -- A reading of a table gives the rows that the tree keeps.
-use Rattle.std.proofs.Common.{◌≡◌, ℕ, ◌^◌, pos, negsuc, Bool, true, false, cond, List, [], ◌∷◌, ◌++◌, map, filter, flat_map, take, nat_le, None, refl, sym, ap, subst, ◌∙◌, Less}
+use Rattle.std.proofs.Common.{◌≡◌, ℕ, ℤ, ◌^◌, pos, negsuc, Bool, true, false, cond, List, [], ◌∷◌, ◌++◌, map, filter, flat_map, take, nat_le, None, refl, sym, ap, subst, ◌∙◌, Less}
 use Rattle.std.specs.List.{list_all}
 use Rattle.std.specs.List.Sorted.{IsPermutation}
+use Rattle.std.proofs.lemmas.List.{map-id}
 use Rattle.std.proofs.lemmas.List.Sorted.{IsPermutation-map, IsPermutation-trans}
 use Rattle.sqlite.specs.declared.types.Value.TheVariants.{Int}
 use Rattle.sqlite.specs.Order.{Row}
@@ -15,9 +16,9 @@ use Rattle.sqlite_keyed.proofs.SortLemmas.{sorted_unique}
 use Rattle.sqlite.specs.Program.{overlay}
 use Rattle.kcr_rows.specs.Keyed.{cells, by_key, Place, Keeps}
 
--- the query on one table that shows these terms
-abbrev pub reading : ℕ → List Term → List Term → List (Term × Key) → Query
-reading tree test project order = record {
+-- the query on one table that shows these terms, in this order, of at most so many rows, or of all where that is negative
+abbrev pub asking : ℕ → List Term → List Term → List (Term × Key) → ℤ → Query
+asking tree test project order limit = record {
   from = inner tree end;
   filter = test;
   group = None;
@@ -25,9 +26,13 @@ reading tree test project order = record {
   distinct = false;
   collations = [];
   order = order;
-  limit = lit (Int (negsuc 0));
+  limit = lit (Int limit);
   offset = lit (Int (pos 0));
 }
+
+-- the query that shows them of all rows
+abbrev pub reading : ℕ → List Term → List Term → List (Term × Key) → Query
+reading tree test project order = asking tree test project order (negsuc 0)
 
 -- a row with the key by which the answer is sorted
 abbrev pub with_key : ℕ → Row → Output
@@ -40,13 +45,32 @@ matched p f (x ∷ xs) = elim (p x) as (λ b. cond b (f x ∷ []) [] ++ flat_map
   | false ↦ matched p f xs
 ]
 
-map_id : {X : Type 0} (xs : List X) → map (λ x. x) xs ≡ xs
-map_id [] = refl
-map_id (x ∷ xs) = ap (λ l. x ∷ l) (map_id xs)
-
 pub map_same : {X Y : Type 0} (f g : X → Y) → ((x : X) → f x ≡ g x) → (xs : List X) → map f xs ≡ map g xs
 map_same f g same [] = refl
 map_same f g same (x ∷ xs) = λ i. same x i ∷ map_same f g same xs i
+
+-- what a query keeps before it sorts: what it makes of each entry that passes its test
+pub kept_from : (tree : ℕ) (test project : List Term) (order : List (Term × Key)) (limit : ℤ) (params : Row) → nat_le (2 ^ 31) tree ≡ false → (db : Trees) (rows : List Row)
+    → (a : IsAnswer (asking tree test project order limit) (overlay db []) params rows)
+    → a.kept ≡ map (λ r. output (asking tree test project order limit) (params ∷ r ∷ [])) (filter (λ r. list_all (holds (params ∷ r ∷ [])) test) (db tree))
+kept_from tree test project order limit params low db rows a =
+    let p = λ (r : Row). list_all (holds (params ∷ r ∷ [])) test in
+    let over : overlay db [] tree ≡ db tree = rw low in
+    a.distinct ∙ ap (map (output (asking tree test project order limit))) (a.grouped ∙ matched p (λ r. params ∷ r ∷ []) (overlay db [] tree) ∙ ap (λ l. map (λ r. params ∷ r ∷ []) (filter p l)) over)
+    ∙ map-map (output (asking tree test project order limit)) (λ r. params ∷ r ∷ []) (filter p (db tree))
+
+-- the same where the test and what is made of an entry are told of its cells
+pub kept_cells : (place : Place) (test project : List Term) (order : List (Term × Key)) (limit : ℤ) (params : Row) (passes : Row → Bool) (out : Row → Output)
+    → ((r : Row) → output (asking place.tree test project order limit) (params ∷ r ∷ []) ≡ out (cells 1 place.width r))
+    → ((r : Row) → list_all (holds (params ∷ r ∷ [])) test ≡ passes (cells 1 place.width r)) → nat_le (2 ^ 31) place.tree ≡ false → (db : Trees) (rows : List Row)
+    → (a : IsAnswer (asking place.tree test project order limit) (overlay db []) params rows) → a.kept ≡ map out (filter passes (map (cells 1 place.width) (db place.tree)))
+kept_cells place test project order limit params passes out shows tests low db rows a =
+    let shown = cells 1 place.width in
+    kept_from place.tree test project order limit params low db rows a
+    ∙ map_same _ (λ r. out (shown r)) shows _
+    ∙ ap (map (λ r. out (shown r))) (λ i. filter (λ r. tests r i) (db place.tree))
+    ∙ sym (map-map out shown (filter (λ r. passes (shown r)) (db place.tree)))
+    ∙ ap (map out) (sym (filter-map passes shown (db place.tree)))
 
 module _ (place : Place) (test : List Term) (project : List Term) (order : List (Term × Key)) (params : Row) (passes : Row → Bool)
     (shows : (r : Row) → output (reading place.tree test project order) (params ∷ r ∷ []) ≡ with_key place.keys (cells 1 place.width r))
@@ -56,44 +80,26 @@ module _ (place : Place) (test : List Term) (project : List Term) (order : List 
   abbrev q : Query
   q = reading place.tree test project order
 
+  unkeyed : (rows : List Row) → map (λ (o : Output). o.1) (map (with_key place.keys) rows) ≡ rows
+  unkeyed rows = map-map (λ (o : Output). o.1) (with_key place.keys) rows ∙ map-id rows
+
+  outs : (db : Trees) (rows : List Row) → (a : IsAnswer q (overlay db []) params rows) → a.kept ≡ map (with_key place.keys) (filter passes (map (cells 1 place.width) (db place.tree)))
+  outs = kept_cells place test project order (negsuc 0) params passes (with_key place.keys) shows tests low
+
   pub reads_rows : (db : Trees) (rows kept : List Row) → Keeps place db kept → IsAnswer q (overlay db []) params rows → rows ≡ filter passes kept
   reads_rows db rows kept keeps a =
-      let entries = db place.tree in
-      let shown = cells 1 place.width in
-      let p = λ (r : Row). list_all (holds (params ∷ r ∷ [])) test in
-      let staged : a.staged ≡ map (λ r. params ∷ r ∷ []) (filter p (overlay db [] place.tree)) = a.grouped ∙ matched p (λ r. params ∷ r ∷ []) (overlay db [] place.tree) in
-      let over : overlay db [] place.tree ≡ entries = rw low in
-      let same_test : filter p entries ≡ filter (λ r. passes (shown r)) entries = λ i. filter (λ r. tests r i) entries in
-      let outs : a.kept ≡ map (with_key place.keys) (filter passes (map shown entries)) =
-      a.distinct ∙ ap (map (output q)) (staged ∙ ap (λ l. map (λ r. params ∷ r ∷ []) (filter p l)) over ∙ ap (map (λ r. params ∷ r ∷ [])) same_test)
-      ∙ map-map (output q) (λ r. params ∷ r ∷ []) (filter (λ r. passes (shown r)) entries)
-      ∙ map_same _ (λ r. with_key place.keys (shown r)) shows (filter (λ r. passes (shown r)) entries)
-      ∙ sym (map-map (with_key place.keys) shown (filter (λ r. passes (shown r)) entries))
-      ∙ ap (map (with_key place.keys)) (sym (filter-map passes shown entries)) in
       let same = IsPermutation-map (with_key place.keys) _ _ (IsPermutation-filter passes _ _ keeps.same) in
       let strict : IsAscending (λ x y. output_cmp q x y ≡ Less) (map (with_key place.keys) (filter passes kept)) =
       ascending-map (λ x y. output_cmp q x y ≡ Less) (with_key place.keys) (filter passes kept)
       (ascending_weaker _ (λ x y. output_cmp q (with_key place.keys x) (with_key place.keys y) ≡ Less) (λ x y h. sorts x y ∙ h) _ (ascending-filter _ passes kept keeps.rising)) in
       let ordered : a.ordered ≡ map (with_key place.keys) (filter passes kept) =
-      sorted_unique (output_cmp q) (output_cmp_total q) _ _ strict (IsPermutation-trans _ _ _ (subst (IsPermutation (map (with_key place.keys) (filter passes kept))) (sym outs) same) a.same) a.sorted in
-      a.shown ∙ ap (map (λ (o : Output). o.1)) ordered ∙ map-map (λ (o : Output). o.1) (with_key place.keys) (filter passes kept) ∙ map_id (filter passes kept)
+      sorted_unique (output_cmp q) (output_cmp_total q) _ _ strict
+      (IsPermutation-trans _ _ _ (subst (IsPermutation (map (with_key place.keys) (filter passes kept))) (sym (outs db rows a)) same) a.same) a.sorted in
+      a.shown ∙ ap (map (λ (o : Output). o.1)) ordered ∙ unkeyed (filter passes kept)
 
   -- whatever the tree has, the answer is its rows that pass
   pub reads_exact : (db : Trees) (rows : List Row) → IsAnswer q (overlay db []) params rows → IsPermutation (filter passes (map (cells 1 place.width) (db place.tree))) rows
   reads_exact db rows a =
-      let entries = db place.tree in
-      let shown = cells 1 place.width in
-      let p = λ (r : Row). list_all (holds (params ∷ r ∷ [])) test in
-      let staged : a.staged ≡ map (λ r. params ∷ r ∷ []) (filter p (overlay db [] place.tree)) = a.grouped ∙ matched p (λ r. params ∷ r ∷ []) (overlay db [] place.tree) in
-      let over : overlay db [] place.tree ≡ entries = rw low in
-      let same_test : filter p entries ≡ filter (λ r. passes (shown r)) entries = λ i. filter (λ r. tests r i) entries in
-      let outs : a.kept ≡ map (with_key place.keys) (filter passes (map shown entries)) =
-      a.distinct ∙ ap (map (output q)) (staged ∙ ap (λ l. map (λ r. params ∷ r ∷ []) (filter p l)) over ∙ ap (map (λ r. params ∷ r ∷ [])) same_test)
-      ∙ map-map (output q) (λ r. params ∷ r ∷ []) (filter (λ r. passes (shown r)) entries)
-      ∙ map_same _ (λ r. with_key place.keys (shown r)) shows (filter (λ r. passes (shown r)) entries)
-      ∙ sym (map-map (with_key place.keys) shown (filter (λ r. passes (shown r)) entries))
-      ∙ ap (map (with_key place.keys)) (sym (filter-map passes shown entries)) in
       let same : IsPermutation (map (λ (o : Output). o.1) a.kept) (map (λ (o : Output). o.1) a.ordered) = IsPermutation-map (λ (o : Output). o.1) _ _ a.same in
-      let firsts : map (λ (o : Output). o.1) a.kept ≡ filter passes (map shown entries) =
-      ap (map (λ (o : Output). o.1)) outs ∙ map-map (λ (o : Output). o.1) (with_key place.keys) (filter passes (map shown entries)) ∙ map_id (filter passes (map shown entries)) in
+      let firsts = ap (map (λ (o : Output). o.1)) (outs db rows a) ∙ unkeyed (filter passes (map (cells 1 place.width) (db place.tree))) in
       subst (λ l. IsPermutation l rows) firsts (subst (IsPermutation (map (λ (o : Output). o.1) a.kept)) (sym a.shown) same)
