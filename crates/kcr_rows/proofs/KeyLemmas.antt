@@ -1,8 +1,8 @@
 -- Which rows of a table have the key of a new row.
-use Rattle.std.proofs.Common.{◌≡◌, inl, inr, Some, ℕ, ℤ, zero, suc, ◌&&◌, not, Bool, true, false, List, [], ◌∷◌, true≢false, Ordering, Less, Equal, Greater, refl, sym, ap, ◌∙◌, arith}
+use Rattle.std.proofs.Common.{◌≡◌, inl, inr, Some, ℕ, ℤ, zero, suc, ◌&&◌, not, Bool, true, false, List, [], ◌∷◌, Ordering, refl, sym, ap, ap₂, ◌∙◌, ◌||◌, arith}
 use Rattle.std.specs.List.{list_any}
 use Rattle.std.specs.Ordering.{is_eq, is_ne, ordering_then}
-use Rattle.std.proofs.lemmas.Bool.{and_parts, or_parts, not-true}
+use Rattle.std.proofs.lemmas.Bool.{and_parts, and_right, or_parts, not-true}
 use Rattle.sqlite.specs.declared.types.Value.{Value}
 use Rattle.sqlite.specs.declared.types.Value.TheVariants.{Int}
 use Rattle.sqlite.specs.Order.{Row, column, value_cmp}
@@ -15,6 +15,9 @@ use Rattle.sqlite_value.specs.Keys.{plain, first_key, rising}
 use Rattle.sqlite_value.proofs.KeyLemmas.{first_key-plain}
 use Rattle.sqlite_rules.specs.Lists.{Has}
 use Rattle.sqlite_rules.specs.Edit.{id_in, is_taken}
+use Rattle.sqlite.specs.Table.{Table}
+use Rattle.sqlite_schema.specs.declared.schema.Index.{Index}
+use Rattle.sqlite_rules.specs.Keys.{conflicts, shares, aims}
 use Rattle.kcr_rows.specs.Keyed.{cells, by_key, is_full}
 
 abbrev pub places_from : ℕ → ℕ → List ℕ
@@ -67,13 +70,30 @@ module _ (keys width : ℕ) (entries : List Row) (id : ℤ) (values : Row)
     (fulls : (a : Row) → is_full keys (cells 1 width a) ≡ full 1 keys a)
     (shown : cells 1 width (Int id ∷ values) ≡ values)
     (free : is_taken entries (Int id ∷ values) ≡ false) where
+  -- no entry has the rowid of the new one
+  apart : (r : Row) → Has entries r → is_eq (value_cmp (rowid r) (Int id)) ≡ false
+  apart r h = not_any (λ x. is_eq (value_cmp (rowid x) (rowid (Int id ∷ values)))) entries r free h
+
+  -- an entry agrees with it on the columns of the key where it has the key
+  agrees : (r : Row) → is_full keys (cells 1 width r) ≡ true → is_full keys values ≡ true
+      → agree plain (places_from 1 keys) r (places_from 1 keys) (Int id ∷ values) ≡ is_eq (by_key keys (cells 1 width r) values)
+  agrees r whole filled =
+      let new_full : full 1 keys (Int id ∷ values) ≡ true = sym (fulls (Int id ∷ values)) ∙ ap (is_full keys) shown ∙ filled in
+      agree_is keys 1 r (Int id ∷ values) (sym (fulls r) ∙ whole) new_full ∙ ap is_eq (sym (compares r (Int id ∷ values))) ∙ ap (λ v. is_eq (by_key keys (cells 1 width r) v)) shown
+
   pub fresh_key : (r : Row) → Has entries r → rowid r ≡ Int (id_in (rowid r)) → is_full keys (cells 1 width r) ≡ true → is_full keys values ≡ true
       → (agree plain (places_from 1 keys) r (places_from 1 keys) (Int id ∷ values) && differ (rowid r) (rowid (Int id ∷ values))) ≡ false
       → is_eq (by_key keys (cells 1 width r) values) ≡ false
-  fresh_key r h own whole filled none =
-      let new = Int id ∷ values in
-      let apart : is_eq (value_cmp (rowid r) (Int id)) ≡ false = not_any (λ x. is_eq (value_cmp (rowid x) (rowid new))) entries r free h in
-      let other : differ (rowid r) (Int id) ≡ true = differ_is (rowid r) (Int id) (ap is_null own) refl ∙ ap not apart in
-      let new_full : full 1 keys new ≡ true = sym (fulls new) ∙ ap (is_full keys) shown ∙ filled in
-      let keyed : is_eq (key_cmp 1 (rising keys []) r new) ≡ false = sym (agree_is keys 1 r new (sym (fulls r) ∙ whole) new_full) ∙ alone _ _ none other in
-      sym (ap (λ v. is_eq (by_key keys (cells 1 width r) v)) shown) ∙ ap is_eq (compares r new) ∙ keyed
+  fresh_key r h own whole filled none = sym (agrees r whole filled) ∙ alone _ _ none (differ_is (rowid r) (Int id) (ap is_null own) refl ∙ ap not (apart r h))
+
+  -- a row conflicts with it at the key where it has the key
+  pub meets_key : (indexes : List Index) (table : Table)
+      → ((a b : Row) → list_any (shares (Some (places_from 1 keys)) table a b) indexes ≡ (agree plain (places_from 1 keys) b (places_from 1 keys) a || false))
+      → (r : Row) → Has entries r → rowid r ≡ Int (id_in (rowid r)) → is_full keys (cells 1 width r) ≡ true → is_full keys values ≡ true
+      → conflicts (Some (places_from 1 keys)) indexes table (Int id ∷ values) r ≡ is_eq (by_key keys (cells 1 width r) values)
+  meets_key indexes table shared r h own whole filled =
+      let rowids : agree plain (0 ∷ []) r (0 ∷ []) (Int id ∷ values) ≡ false = rw (first_key-plain, equal_is (rowid r) (Int id) (ap is_null own) refl, apart r h) in
+      ap₂ ◌||◌ (and_right (aims (Some (places_from 1 keys)) (0 ∷ [])) _ rowids) (shared (Int id ∷ values) r ∙ or_false _ ∙ agrees r whole filled)
+    where
+      or_false : (b : Bool) → (b || false) ≡ b
+      or_false b = grind arith

@@ -60,6 +60,16 @@ all_at P (y ∷ ys) (suc at) x e all = all_at P ys at x e all.1
 rule_of : (rule : Constraint) (schema : Schema) (db : Trees) (at : ℕ) (table : Table) → slice_get schema.tables at ≡ Some table → Obeyed rule schema db → AllByRecursion (λ row. passes rule schema db table row ≡ true) (db table.tree)
 rule_of rule schema db at table here kept = all_at (λ (t : Table). AllByRecursion (λ row. passes rule schema db t row ≡ true) (db t.tree)) schema.tables at table here kept
 
+-- the entries that a tree keeps have integers as rowids, and no NULL in their keys
+module _ (place : Place) (db : Trees) (rows : List Row) (keeps : Keeps place db rows) (r : Row) (h : Has (db place.tree) r) where
+  pub own_id : rowid r ≡ Int (id_in (rowid r))
+  own_id = int_is (rowid r) (all_has (λ x. IsTrue (is_int (rowid x))) (db place.tree) r keeps.shaped.1 h)
+
+  pub whole : is_full place.keys (cells 1 place.width r) ≡ true
+  whole =
+      all_has (λ x. is_full place.keys (cells 1 place.width x) ≡ true) (db place.tree) r
+      (all_from_map (λ row. is_full place.keys row ≡ true) (cells 1 place.width) (db place.tree) (all-permutation (λ row. is_full place.keys row ≡ true) _ _ keeps.same keeps.full)) h
+
 module _ (place : Place) (schema : Schema) (at : ℕ) (name : List ℕ) (columns : List Column) (others : List (List ℕ))
     (here : slice_get schema.tables at ≡ Some (keyed name place.tree columns (places_from 1 place.keys) others))
     (alone : (olds news : List Row) → works schema Enforced 0 place.tree olds news ≡ [])
@@ -74,13 +84,6 @@ module _ (place : Place) (schema : Schema) (at : ℕ) (name : List ℕ) (columns
     (filled : is_full place.keys values ≡ true) where
   abbrev table : Table
   table = keyed name place.tree columns (places_from 1 place.keys) others
-
-  -- the keys of the entries have no NULL
-  whole : (db : Trees) (rows : List Row) → Keeps place db rows → AllByRecursion (λ row. is_full place.keys (cells 1 place.width row) ≡ true) (db place.tree)
-  whole db rows keeps = all_from_map (λ row. is_full place.keys row ≡ true) (cells 1 place.width) (db place.tree) (all-permutation (λ row. is_full place.keys row ≡ true) _ _ keeps.same keeps.full)
-
-  own_id : (db : Trees) (rows : List Row) → Keeps place db rows → (r : Row) → Has (db place.tree) r → rowid r ≡ Int (id_in (rowid r))
-  own_id db rows keeps r h = int_is (rowid r) (all_has (λ x. IsTrue (is_int (rowid x))) (db place.tree) r keeps.shaped.1 h)
 
   -- ---- INSERT, which is refused where a row has the key, or agrees on other places that are unique
 
@@ -97,8 +100,7 @@ module _ (place : Place) (schema : Schema) (at : ℕ) (name : List ℕ) (columns
         (subst (λ l. Has l entry) (sym p.is) (has_same (entry ∷ entries) (put_row entry entries) entry (put_row_same entry entries p.free) (inl refl))) in
         let clash : clashes plain (places_from 1 place.keys) (new place.tree) entry ≡ false = not-true _ (and_parts _ _ (sym (guarded (new place.tree) entry) ∙ passed)).0 in
         let there = subst (λ l. Has l r) (sym p.is) (has_same (entry ∷ entries) (put_row entry entries) r (put_row_same entry entries p.free) (inr h)) in
-        fresh_key place.keys place.width entries id values compares fulls (shown id) p.free r h (own_id old rows keeps r h)
-        (all_has (λ x. is_full place.keys (cells 1 place.width x) ≡ true) entries r (whole old rows keeps) h) filled
+        fresh_key place.keys place.width entries id values compares fulls (shown id) p.free r h (own_id place old rows keeps r h) (whole place old rows keeps r h) filled
         (not_any (λ other. agree plain (places_from 1 place.keys) other (places_from 1 place.keys) entry && differ (rowid other) (rowid entry)) (new place.tree) r clash there)
 
     insert_keeps : (old new : Trees) → IsInserted schema table old new values → (rows : List Row) → Keeps place old rows → Keeps place new (put place.keys values rows)

@@ -1,9 +1,9 @@
 -- What INSERT .. ON CONFLICT (key) DO UPDATE, which sets each column, does to a table with a key.
-use Rattle.std.proofs.Common.{◌≡◌, ◌≢◌, inl, inr, ℕ, ℤ, suc, ◌/◌, ◌≤◌, ◌^◌, nat_le, ◌&&◌, ◌||◌, not, Bool, true, false, cond, List, [], ◌∷◌, ◌++◌, map, filter, length, slice_get, Option, Some, None, Ok, Ordering, Less, Equal, Greater, IsTrue, refl, sym, ap, ap₂, subst, ◌∙◌, arith}
+use Rattle.std.proofs.Common.{◌≡◌, ◌≢◌, inl, inr, ℕ, ℤ, negsuc, suc, ◌/◌, ◌≤◌, ◌^◌, nat_le, ◌&&◌, ◌||◌, not, Bool, true, false, cond, List, [], ◌∷◌, ◌++◌, map, filter, length, slice_get, Option, Some, None, Ok, Ordering, Less, Equal, refl, sym, ap, subst, ◌∙◌, arith}
 use Rattle.std.specs.List.{list_any, list_all}
 use Rattle.std.specs.Ordering.{is_eq, ordering_reverse}
 use Rattle.std.specs.Cmp.{both_ways}
-use Rattle.std.proofs.lemmas.Bool.{and_parts, and_right, not-true, false_from_ne_true}
+use Rattle.std.proofs.lemmas.Bool.{and_parts, not-true, false_from_ne_true}
 use Rattle.std.specs.List.Sorted.{IsPermutation}
 use Rattle.std.proofs.lemmas.List.Sorted.{length_permutation}
 use Rattle.std.proofs.lemmas.List.{length-map}
@@ -22,26 +22,22 @@ use Rattle.sqlite.specs.Source.TheVariants.{Values}
 use Rattle.sqlite.specs.Command.TheVariants.{InsertOr}
 use Rattle.sqlite.specs.Edit.{Edit, id_in, edit_of, left_by, edited, with_rowid, next_rowid, is_taken, are_fresh, IsNoIndex, taken_by}
 use Rattle.sqlite.specs.Rowids.TheVariants.{Chosen, Given}
-use Rattle.sqlite_trees.specs.View.{is_int}
-use Rattle.sqlite_trees.proofs.ListLemmas.{filter-map, filter_all, filter_none, filter_same, all-permutation, all_from_map, IsPermutation-filter}
+use Rattle.sqlite_trees.proofs.ListLemmas.{filter-map, filter_all, filter_none, filter_same, IsPermutation-filter}
 use Rattle.sqlite_schema.specs.Rules.{equal, agree}
 use Rattle.sqlite_schema.specs.declared.schema.Column.{Column}
-use Rattle.sqlite_schema.specs.declared.schema.Index.{Index}
 use Rattle.sqlite_schema.specs.declared.schema.Keys.TheVariants.{Enforced}
 use Rattle.sqlite_schema.specs.declared.command.Conflict.TheVariants.{Abort}
 use Rattle.sqlite_schema.specs.declared.command.Upsert.{Upsert}
 use Rattle.sqlite_value.specs.Keys.{plain, rising}
-use Rattle.sqlite_value.proofs.KeyLemmas.{first_key-plain}
 use Rattle.sqlite_value.proofs.OrderLemmas.{value_cmp_total}
 use Rattle.sqlite.specs.Collation.TheVariants.{Binary}
 use Rattle.sqlite_rules.specs.declared.error.Refusal.{Refusal}
 use Rattle.sqlite_rules.specs.Lists.{Has}
-use Rattle.sqlite_rules.specs.Keys.{AreConflicts, conflicts, shares, aims}
+use Rattle.sqlite_rules.specs.Keys.{AreConflicts, conflicts, shares}
 use Rattle.sqlite_rules.specs.Edit.{put_all}
 use Rattle.sqlite_rules.specs.Calls.{ids_of}
 use Rattle.sqlite_rules.specs.Action.{works}
 use Rattle.sqlite_rules.proofs.ListLemmas.{all_has, all_from, has_kept}
-use Rattle.sqlite_rules.proofs.TableLemmas.{int_is}
 use Rattle.sqlite_rules.proofs.PlaceLemmas.{tied_same, next_is_free}
 use Rattle.sqlite.specs.Does.{Tally, Does}
 use Rattle.sqlite.specs.Effect.{Database, value_rows}
@@ -53,12 +49,12 @@ use Rattle.sqlite.proofs.Callers.{IsPlain, command_of, statement_of, runs_as, on
 use Rattle.sqlite_catalog.specs.Listing.{IsSound}
 use Rattle.kcr_rows.specs.Columns.{keyed}
 use Rattle.kcr_rows.specs.Keyed.{cells, by_key, is_full, Place, Keeps, put}
-use Rattle.kcr_rows.proofs.ReadLemmas.{reading, matched}
+use Rattle.kcr_rows.proofs.ReadLemmas.{reading, kept_from}
 use Rattle.kcr_rows.proofs.PutLemmas.{keeps_put}
 use Rattle.kcr_rows.proofs.SameLemmas.{key_total}
-use Rattle.kcr_rows.proofs.KeyLemmas.{places_from, full, equal_is, agree_is, not_any}
+use Rattle.kcr_rows.proofs.KeyLemmas.{places_from, full, equal_is, meets_key}
 use Rattle.kcr_rows.proofs.WriteLemmas.{cast_null, cast_int, went, same_value, stored}
-use Rattle.kcr_rows.proofs.TableLemmas.{Changes}
+use Rattle.kcr_rows.proofs.TableLemmas.{Changes, own_id, whole}
 
 -- what the update reads: the parameters, the rowid of the row that is there, and the row that is not put in
 abbrev pub seen : Table → List Row → Row → Row → Row
@@ -183,9 +179,7 @@ at_most (z ∷ []) x y few (inr h) k = absurd h
 at_most (z ∷ w ∷ more) x y few h k = absurd (omega (arith, few))
 
 tie_is : (o : Ordering) → is_eq o ≡ true → o ≡ Equal
-tie_is Less h = absurd (cc)
-tie_is Equal h = refl
-tie_is Greater h = absurd (cc)
+tie_is o h = grind arith
 
 module _ (keys : ℕ) (values : Row) where
   abbrev has_key : Row → Bool
@@ -242,27 +236,6 @@ module _ (place : Place) (db : Trees) (rows : List Row) (keeps : Keeps place db 
       let low : length (filter has entries) ≤ 1 = rw long (few place.keys values rows keeps.rising) in
       at_most (filter has entries) x y low (has_kept has entries x h p) (has_kept has entries y k q)
 
--- which rows conflict with the new one at the key
-module _ (keys width : ℕ) (indexes : List Index) (table : Table) (entries : List Row) (id : ℤ) (values : Row)
-    (shared : (a b : Row) → list_any (shares (Some (places_from 1 keys)) table a b) indexes ≡ (agree plain (places_from 1 keys) b (places_from 1 keys) a || false))
-    (compares : (a b : Row) → by_key keys (cells 1 width a) (cells 1 width b) ≡ key_cmp 1 (rising keys []) a b)
-    (fulls : (a : Row) → is_full keys (cells 1 width a) ≡ full 1 keys a)
-    (shown : cells 1 width (Int id ∷ values) ≡ values)
-    (free : is_taken entries (Int id ∷ values) ≡ false) where
-  or_false : (b : Bool) → (b || false) ≡ b
-  or_false true = refl
-  or_false false = refl
-
-  meets_key : (r : Row) → Has entries r → rowid r ≡ Int (id_in (rowid r)) → is_full keys (cells 1 width r) ≡ true → is_full keys values ≡ true
-      → conflicts (Some (places_from 1 keys)) indexes table (Int id ∷ values) r ≡ is_eq (by_key keys (cells 1 width r) values)
-  meets_key r h own whole filled =
-      let new = Int id ∷ values in
-      let apart : is_eq (value_cmp (rowid r) (Int id)) ≡ false = not_any (λ x. is_eq (value_cmp (rowid x) (rowid new))) entries r free h in
-      let rowids : agree plain (0 ∷ []) r (0 ∷ []) new ≡ false = rw (first_key-plain, equal_is (rowid r) (Int id) (ap is_null own) refl, apart) in
-      let new_full : full 1 keys new ≡ true = sym (fulls new) ∙ ap (is_full keys) shown ∙ filled in
-      let keyed = shared new r ∙ or_false _ ∙ agree_is keys 1 r new (sym (fulls r) ∙ whole) new_full in
-      ap₂ ◌||◌ (and_right (aims (Some (places_from 1 keys)) (0 ∷ [])) _ rowids) (keyed ∙ ap is_eq (sym (compares r new)) ∙ ap (λ v. is_eq (by_key keys (cells 1 width r) v)) shown)
-
 module _ (place : Place) (schema : Schema) (at : ℕ) (name : List ℕ) (columns : List Column) (others : List (List ℕ))
     (here : slice_get schema.tables at ≡ Some (keyed name place.tree columns (places_from 1 place.keys) others))
     (alone : (olds news : List Row) → works schema Enforced 0 place.tree olds news ≡ [])
@@ -286,12 +259,8 @@ module _ (place : Place) (schema : Schema) (at : ℕ) (name : List ℕ) (columns
   abbrev that : Table
   that = keyed name place.tree columns (places_from 1 place.keys) others
 
-  own : (db : Trees) (rows : List Row) → Keeps place db rows → (r : Row) → Has (db place.tree) r → rowid r ≡ Int (id_in (rowid r))
-  own db rows keeps r h = int_is (rowid r) (all_has (λ x. IsTrue (is_int (rowid x))) (db place.tree) r keeps.shaped.1 h)
-
   and_yes : (b : Bool) → (b && true) ≡ b
-  and_yes true = refl
-  and_yes false = refl
+  and_yes b = grind arith
 
   -- the update finds the row and gives it the new values
   found_is : (db : Trees) (rows : List Row) → Keeps place db rows → (there r : Row) → Has (db place.tree) r → rowid there ≡ rowid r → (answer : List Row)
@@ -301,14 +270,11 @@ module _ (place : Place) (schema : Schema) (at : ℕ) (name : List ℕ) (columns
       let q = finding place.tree test sets in
       let params = seen that entries values there in
       let p = λ (x : Row). list_all (holds (params ∷ x ∷ [])) test in
-      let thing = λ (x : Row) (k : Has entries x). ap is_null (own db rows keeps x k) in
+      let thing = λ (x : Row) (k : Has entries x). ap is_null (own_id place db rows keeps x k) in
       let p_is = λ (x : Row) (k : Has entries x). tests entries there x ∙ and_yes _ ∙ ap (equal Binary (rowid x)) id_is ∙ equal_is (rowid x) (rowid r) (thing x k) (thing r h) in
       let one : filter p entries ≡ r ∷ [] =
       only p r entries keeps.shaped.0 h (p_is r h ∙ ap is_eq (tied_itself value_cmp_total (rowid r))) (λ x k yes. tied_same entries x r keeps.shaped.0 k h (tie_is _ (sym (p_is x k) ∙ yes))) in
-      let over : overlay db [] place.tree ≡ entries = rw low in
-      let staged : a.staged ≡ (params ∷ r ∷ []) ∷ [] =
-      a.grouped ∙ matched p (λ x. params ∷ x ∷ []) (overlay db [] place.tree) ∙ ap (λ l. map (λ x. params ∷ x ∷ []) (filter p l)) over ∙ ap (map (λ x. params ∷ x ∷ [])) one in
-      let kept : a.kept ≡ output q (params ∷ r ∷ []) ∷ [] = a.distinct ∙ ap (map (output q)) staged in
+      let kept : a.kept ≡ output q (params ∷ r ∷ []) ∷ [] = kept_from place.tree test sets [] (negsuc 0) params low db answer a ∙ ap (map (λ x. output q (params ∷ x ∷ []))) one in
       let ordered : a.ordered ≡ output q (params ∷ r ∷ []) ∷ [] = one_permutation _ a.ordered (subst (λ l. IsPermutation l a.ordered) kept a.same) in
       a.shown ∙ ap (map (λ (o : Output). o.1)) ordered ∙ ap (λ v. v ∷ []) (gives entries there r)
 
@@ -320,9 +286,8 @@ module _ (place : Place) (schema : Schema) (at : ℕ) (name : List ℕ) (columns
       → conflicts (Some (places_from 1 place.keys)) schema.indexes that (stored (old place.tree) values) r ≡ is_eq (by_key place.keys (cells 1 place.width r) values)
   conflicts_is old rows keeps r h =
       let entries = old place.tree in
-      let whole = all_from_map (λ row. is_full place.keys row ≡ true) (cells 1 place.width) entries (all-permutation (λ row. is_full place.keys row ≡ true) _ _ keeps.same keeps.full) in
-      meets_key place.keys place.width schema.indexes that entries (next_rowid entries) values shared compares fulls (shown_as (next_rowid entries)) (next_is_free Chosen entries values keeps.shaped.0 keeps.shaped.1)
-      r h (own old rows keeps r h) (all_has (λ x. is_full place.keys (cells 1 place.width x) ≡ true) entries r whole h) filled
+      meets_key place.keys place.width entries (next_rowid entries) values compares fulls (shown_as (next_rowid entries)) (next_is_free Chosen entries values keeps.shaped.0 keeps.shaped.1)
+      schema.indexes that shared r h (own_id place old rows keeps r h) (whole place old rows keeps r h) filled
 
   keeps_new : (old new : Trees) → AreConflicts (Some (places_from 1 place.keys)) schema.indexes that (old place.tree) (stored (old place.tree) values) []
       → Goes that place.tree test sets old new values [] → Goal old new
@@ -339,11 +304,11 @@ module _ (place : Place) (schema : Schema) (at : ℕ) (name : List ℕ) (columns
       let s = are.sound there (inl refl) in
       let r = s.0 in
       let id = id_in (rowid r) in
-      let own_id = own old rows keeps r s.1 in
+      let id_is = own_id place old rows keeps r s.1 in
       let has_it = sym (conflicts_is old rows keeps r s.1) ∙ s.2 in
       let answer = found_is old rows keeps there r s.1 (ap rowid s.3) goes.0 goes.1 in
       let edit = λ (found : List Row). rewriting old that found in
-      let cast_is : cast_row that (rowid r ∷ values) ≡ Int id ∷ values = ap (λ v. cast_row that (v ∷ values)) own_id ∙ rw (casts, cast_int id) in
+      let cast_is : cast_row that (rowid r ∷ values) ≡ Int id ∷ values = ap (λ v. cast_row that (v ∷ values)) id_is ∙ rw (casts, cast_int id) in
       let news_is : (edit goes.0).news ≡ (Int id ∷ values) ∷ [] = ap (λ found. (edit found).news) answer ∙ ap (λ x. x ∷ []) cast_is in
       let left_is : left_by old (edit goes.0) ≡ without_rowid id entries = ap (λ found. left_by old (edit found)) answer in
       let fresh : are_fresh (without_rowid id entries) ((Int id ∷ values) ∷ []) ≡ true = subst (λ l. are_fresh l ((Int id ∷ values) ∷ []) ≡ true) left_is (subst (λ l. are_fresh (left_by old (edit goes.0)) l ≡ true) news_is goes.2) in
@@ -351,8 +316,8 @@ module _ (place : Place) (schema : Schema) (at : ℕ) (name : List ℕ) (columns
       let is : new place.tree ≡ put_row (Int id ∷ values) (without_rowid id entries) = goes.3 ∙ ap (put_all (left_by old (edit goes.0))) news_is ∙ ap (put_row (Int id ∷ values)) left_is in
       let at_id = λ (x : Row) (h : Has entries x).
       both_ways (has_rowid id x) (is_eq (by_key place.keys (cells 1 place.width x) values))
-      (λ yes. subst (λ y. is_eq (by_key place.keys (cells 1 place.width y) values) ≡ true) (sym (tied_same entries x r keeps.shaped.0 h s.1 (subst (λ v. value_cmp (rowid x) v ≡ Equal) (sym own_id) (tie_is _ yes)))) has_it)
-      (λ yes. subst (λ y. has_rowid id y ≡ true) (one_row place old rows keeps values r x s.1 h has_it yes) (subst (λ v. is_eq (value_cmp (rowid r) v) ≡ true) own_id (ap is_eq (tied_itself value_cmp_total (rowid r))))) in
+      (λ yes. subst (λ y. is_eq (by_key place.keys (cells 1 place.width y) values) ≡ true) (sym (tied_same entries x r keeps.shaped.0 h s.1 (subst (λ v. value_cmp (rowid x) v ≡ Equal) (sym id_is) (tie_is _ yes)))) has_it)
+      (λ yes. subst (λ y. has_rowid id y ≡ true) (one_row place old rows keeps values r x s.1 h has_it yes) (subst (λ v. is_eq (value_cmp (rowid r) v) ≡ true) id_is (ap is_eq (tied_itself value_cmp_total (rowid r))))) in
       let left : without_rowid id entries ≡ filter (λ x. not (is_eq (by_key place.keys (cells 1 place.width x) values))) entries =
       filter_same _ (λ x. not (is_eq (by_key place.keys (cells 1 place.width x) values))) entries (all_from _ entries (λ x h. ap not (at_id x h))) in
       keeps_put place old (Int id ∷ values) values (without_rowid id entries) keeps.shaped left rows keeps new filled (shown_as id) refl free is
