@@ -12,6 +12,7 @@ use std::alloc::{AllocError, Global};
 /// The JSON text of a refusal that carries nothing, as `{"number":11,"refusal":"key"}`, or None where the refusal
 /// carries something. It takes no memory, so out of memory itself (33), a fault of the device (34) and a broken
 /// register (35) can always be answered.
+#[tactic(auto, using(crate::proofs::Listed::number_text))]
 pub fn fixed_text(refusal: &Refusal) -> Option<&'static str>
     ensures { MatchOption result
         (IsTrue (Refusals.carries refusal.now)) (λ text. text.now ≡ Refusals.refusal_text refusal.now) }
