@@ -29,6 +29,18 @@ standing (Some r) day b n = (r, refl, leb-false day r.since b)
 abbrev pub IsOrderly : List Appointment → Type 0
 IsOrderly rows = (stacked rows ≡ true) × (list_all lasts rows ≡ true)
 
+-- where a place has an open row that began before the day, an end on that day leaves the place free and the rows orderly
+ends : (rows : List Appointment) (place : Place) (day : ℕ) → IsOrderly rows → begins_too_late (open_row_by rows place) day ≡ false → is_none (open_row_by rows place) ≡ false
+    → (place_held_from_by (map (ended place day) rows) place day ≡ false) × IsOrderly (map (ended place day) rows)
+ends rows place day o late none =
+    let open_row = standing (open_row_by rows place) day late none in
+    let r = open_row.0 in
+    (closing place day r rows o.0 open_row.1 open_row.2, (stacked-ended place day rows o.0, lasts-ended place day r rows o.0 o.1 open_row.1 open_row.2))
+
+released : (A : History) (place : Place) (day : ℕ) → fault A (Release place day) ≡ None → IsOrderly (appointments A)
+    → (place_held_from_by (map (ended place day) (appointments A)) place day ≡ false) × IsOrderly (map (ended place day) (appointments A))
+released A place day f o = let n = none_holds (conditions A (Release place day)) f in ends (appointments A) place day o (unmet _ Range n.0) (unmet _ Vacant n.1.0)
+
 orderly_after : (A : History) (act : Act) → fault A act ≡ None → IsOrderly (appointments A) → IsOrderly (appointments_after act (appointments A))
 orderly_after A (Appoint place who day) f o =
     let n = none_holds (conditions A (Appoint place who day)) f in
@@ -36,13 +48,9 @@ orderly_after A (Appoint place who day) f o =
     (rw (free, o.0), o.1)
 orderly_after A (Replace place who day) f o =
     let n = none_holds (conditions A (Replace place who day)) f in
-    let st = standing (open_row_by (appointments A) place) day (unmet _ Range n.1.0) (unmet _ Vacant n.1.1.1.1.0) in
-    let free = closing place day st.0 (appointments A) o.0 st.1 st.2 in
-    (rw (free, stacked-ended place day (appointments A) o.0), lasts-ended place day st.0 (appointments A) o.0 o.1 st.1 st.2)
-orderly_after A (Release place day) f o =
-    let n = none_holds (conditions A (Release place day)) f in
-    let st = standing (open_row_by (appointments A) place) day (unmet _ Range n.0) (unmet _ Vacant n.1.0) in
-    (stacked-ended place day (appointments A) o.0, lasts-ended place day st.0 (appointments A) o.0 o.1 st.1 st.2)
+    let e = ends (appointments A) place day o (unmet _ Range n.1.0) (unmet _ Vacant n.1.1.1.1.0) in
+    (rw (e.0, e.1.0), e.1.1)
+orderly_after A (Release place day) f o = (released A place day f o).1
 orderly_after A act f o = o
 
 -- the appointments of a register are orderly
@@ -81,10 +89,8 @@ holder_after A (Release at since) place d f o ih =
     by_word : (b : Bool) → (same_place at place && nat_le since d) ≡ b
         → holder_by (map (ended at since) (appointments A)) place d ≡ told_holder (cond b (Some None) None) (last_said (next_holder place d) A)
     by_word true e =
-        let n = none_holds (conditions A (Release at since)) f in
-        let st = standing (open_row_by (appointments A) at) since (unmet _ Range n.0) (unmet _ Vacant n.1.0) in
         let q = and_parts (same_place at place) (nat_le since d) e in
-        let free = closing at since st.0 (appointments A) o.0 st.1 st.2 in
+        let free = (released A at since f o).0 in
         let here : place_held_from_by (map (ended at since) (appointments A)) place since ≡ false = subst (λ p. place_held_from_by (map (ended at since) (appointments A)) p since ≡ false) (place-same at place q.0) free in
         rw (find-none (holds place d) (map (ended at since) (appointments A)) (free-none place since d (map (ended at since) (appointments A)) (leb-true since d q.1) here))
     by_word false e = find-ended at place since d (appointments A) e ∙ ih

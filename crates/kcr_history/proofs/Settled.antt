@@ -7,6 +7,7 @@ use Rattle.std.proofs.lemmas.List.Sorted.{list_any-IsPermutation, IsPermutation-
 use Rattle.std.proofs.lemmas.Bool.{true≢false, false≢true, and_parts, and_from, or_right, leb-true, le-leb, eq-eqb}
 use Rattle.std.proofs.lemmas.Bool.Decides.{nat_tests}
 use Rattle.kcr_base.specs.Days.{day_of}
+use Rattle.kcr_base.proofs.RowsLemmas.{Shuffled, nothing, under, flipped, after, shuffled}
 use Rattle.kcr_custody.proofs.Puts.{all_mono}
 use Rattle.kcr_history.specs.declared.commands.Act.{Act}
 use Rattle.kcr_history.specs.declared.commands.Act.TheVariants.{Open}
@@ -17,34 +18,17 @@ use Rattle.kcr_history.specs.Tables.{marks, mark_row}
 
 -- THE GREATEST OF A LIST IN ANY ORDER
 
--- the number is at most the greatest
-abbrev reaches : ℕ → Option ℕ → Bool
-reaches n None = false
-reaches n (Some m) = nat_le n m
-
-below-max : (n x : ℕ) (rest : Option ℕ) → (nat_le n x || reaches n rest) ≡ reaches n (Some (max_with x rest))
-below-max n x rest = grind (arith, nat_tests)
-
-reached : (n : ℕ) (xs : List ℕ) → list_any (nat_le n) xs ≡ reaches n (greatest xs)
-reached n [] = refl
-reached n (x ∷ xs) = ap (λ b. nat_le n x || b) (reached n xs) ∙ below-max n x (greatest xs)
-
-le-refl : (n : ℕ) → nat_le n n ≡ true
-le-refl n = le-leb n n (omega arith)
-
--- numbers that are at least the same numbers are one
-one_greatest : (a b : Option ℕ) → ((n : ℕ) → reaches n a ≡ reaches n b) → a ≡ b
-one_greatest None None h = refl
-one_greatest None (Some m) h = absurd (false≢true (h m ∙ le-refl m))
-one_greatest (Some m) None h = absurd (true≢false (sym (le-refl m) ∙ h m))
-one_greatest (Some m) (Some k) h =
-    let a = leb-true m k (sym (h m) ∙ le-refl m) in
-    let b = leb-true k m (h k ∙ le-refl k) in
-    ap Some (omega (arith, a, b))
+greatest-shuffled : {xs ys : List ℕ} → Shuffled xs ys → greatest ys ≡ greatest xs
+greatest-shuffled nothing = refl
+greatest-shuffled (under x xs ys s) = ap (λ rest. Some (max_with x rest)) (greatest-shuffled s)
+greatest-shuffled (flipped x y xs) = turned (greatest xs)
+  where
+    turned : (rest : Option ℕ) → Some (max_with y (Some (max_with x rest))) ≡ Some (max_with x (Some (max_with y rest)))
+    turned rest = grind arith
+greatest-shuffled (after xs ys zs s t) = greatest-shuffled t ∙ greatest-shuffled s
 
 pub greatest-order : (xs ys : List ℕ) → IsPermutation xs ys → greatest ys ≡ greatest xs
-greatest-order xs ys p =
-    one_greatest (greatest ys) (greatest xs) (λ n. sym (reached n ys) ∙ sym (list_any-IsPermutation (nat_le n) xs ys p) ∙ reached n xs)
+greatest-order xs ys p = greatest-shuffled (shuffled xs ys p)
 
 -- EACH CEREMONY THAT WAS OPENED HAS A MARK
 
