@@ -1,11 +1,14 @@
 -- A row put in its place is the row put anywhere, up to order.
-use Rattle.std.proofs.Common.{◌≡◌, ◌≢◌, ◌||◌, Bool, true, false, cond, ℕ, List, [], ◌∷◌, map, refl, sym, ap, subst, ◌∙◌, true≢false, IsPermutation, Ordering, Less, Equal, Greater}
-use Rattle.std.specs.List.{list_any, AllByRecursion}
+use Rattle.std.proofs.Common.{◌≡◌, ◌≢◌, ◌||◌, Bool, true, false, cond, ℕ, List, [], ◌∷◌, map, refl, sym, ap, subst, ◌∙◌, arith, IsPermutation, Ordering, Less, Equal, Greater}
+use Rattle.std.specs.List.{list_any, All, AllByRecursion}
 use Rattle.std.specs.Ordering.{match_ordering, is_eq, ordering_reverse}
+use Rattle.std.proofs.lemmas.Bool.{cond-false}
+use Rattle.std.proofs.lemmas.List.Elements.{All-from_recursion, All-weaker}
+use Rattle.std.proofs.lemmas.List.Folds.{list_any_none, map_fixed}
 use Rattle.std.proofs.lemmas.List.Sorted.{IsPermutation-cons, IsPermutation-map, IsPermutation-refl, IsPermutation-sym, IsPermutation-trans, IsPermutation-middle, list_any-IsPermutation}
 use Rattle.sqlite.specs.Order.{Row}
 use Rattle.sqlite.specs.Tree.{IsAscending}
-use Rattle.sqlite_trees.proofs.ListLemmas.{all_from_map}
+use Rattle.sqlite_trees.proofs.ListLemmas.{all_from_map, all_weaker}
 use Rattle.kcr_base.specs.Rows.{put}
 use Rattle.kcr_rows.specs.Keyed.{by_key, put_in}
 use Rattle.kcr_rows.proofs.PutLemmas.{put_rising}
@@ -16,14 +19,6 @@ pub from_map : {X : Type 0} (R : Row → Row → Type 0) (f : X → Row) (xs : L
 from_map R f [] up = tt
 from_map R f (x ∷ xs) up = (all_from_map (R (f x)) f xs up.0, from_map R f xs up.1)
 
-or_none : (x y : Bool) → x ≡ false → y ≡ false → (x || y) ≡ false
-or_none x y p q = rw (p, q)
-
-other_key : (o : Ordering) → o ≢ Equal → is_eq o ≡ false
-other_key Less n = refl
-other_key Equal n = absurd (n refl)
-other_key Greater n = refl
-
 module _ {X : Type 0} (keys : ℕ) (row_of : X → Row) (new : X) where
   abbrev cmp : X → X → Ordering
   cmp x y = by_key keys (row_of x) (row_of y)
@@ -32,25 +27,19 @@ module _ {X : Type 0} (keys : ℕ) (row_of : X → Row) (new : X) where
   abbrev pub same : X → X → Bool
   same row old = is_eq (cmp old row)
 
-  no_key-map : (rows : List X) → list_any (same new) rows ≡ false → map (λ old. cond (same new old) new old) rows ≡ rows
-  no_key-map [] h = refl
-  no_key-map (row ∷ rows) h = by_test (same new row) h (no_key-map rows)
-    where
-      by_test : (b : Bool) → (b || list_any (same new) rows) ≡ false → (list_any (same new) rows ≡ false → map (λ old. cond (same new old) new old) rows ≡ rows)
-          → cond b new row ∷ map (λ old. cond (same new old) new old) rows ≡ row ∷ rows
-      by_test true g ih = absurd (true≢false g)
-      by_test false g ih = ap (λ rest. row ∷ rest) (ih g)
-
-  past : (x y : X) → cmp x new ≢ Less → cmp x y ≡ Less → is_eq (cmp y new) ≡ false
-  past x y n less =
+  -- behind a row that is not below the new one no row has its key
+  past : (x : X) → cmp x new ≢ Less → (y : X) → cmp x y ≡ Less → same new y ≡ false
+  past x n y less =
       let total = key_total keys in
       other_key (cmp y new) (λ tie.
       let turned : by_key keys (row_of new) (row_of x) ≡ Greater = sym (total.congr (row_of y) (row_of new) (row_of x) tie) ∙ total.antisymm (row_of y) (row_of x) ∙ ap ordering_reverse less in
       n (total.antisymm (row_of x) (row_of new) ∙ ap ordering_reverse turned))
+    where
+      other_key : (o : Ordering) → o ≢ Equal → is_eq o ≡ false
+      other_key o n = grind arith
 
-  none_behind : (x : X) → cmp x new ≢ Less → (xs : List X) → AllByRecursion (λ y. cmp x y ≡ Less) xs → list_any (same new) xs ≡ false
-  none_behind x n [] a = refl
-  none_behind x n (y ∷ ys) a = or_none (is_eq (cmp y new)) _ (past x y n a.0) (none_behind x n ys a.1)
+  none_behind : (x : X) → cmp x new ≢ Less → (xs : List X) → AllByRecursion (λ y. cmp x y ≡ Less) xs → All (λ y. same new y ≡ false) xs
+  none_behind x n xs a = All-from_recursion _ xs (all_weaker _ (λ y. same new y ≡ false) (past x n) xs a)
 
   pub put-in : (xs : List X) → IsAscending (λ a b. cmp a b ≡ Less) xs → IsPermutation (put same new xs) (put_in keys row_of new xs)
   put-in [] r = IsPermutation-refl (new ∷ [])
@@ -67,10 +56,10 @@ module _ {X : Type 0} (keys : ℕ) (row_of : X → Row) (new : X) where
       by_order Less e ih = less (list_any (same new) xs) ih
       by_order Equal e ih =
           let none = none_behind x (λ l. let f : Equal ≡ Less = sym e ∙ l in cc) xs r.0 in
-          rw (no_key-map xs none) (IsPermutation-refl (new ∷ xs))
+          rw (map_fixed _ xs (All-weaker _ _ (λ y e. cond-false (same new y) new y e) xs none)) (IsPermutation-refl (new ∷ xs))
       by_order Greater e ih =
           let none = none_behind x (λ l. let f : Greater ≡ Less = sym e ∙ l in cc) xs r.0 in
-          rw none (IsPermutation-refl (new ∷ x ∷ xs))
+          rw (list_any_none (same new) xs none) (IsPermutation-refl (new ∷ x ∷ xs))
 
 pub put-order : {X : Type 0} (same : X → X → Bool) (row : X) (xs ys : List X) → IsPermutation xs ys → IsPermutation (put same row xs) (put same row ys)
 put-order same row xs ys p =

@@ -15,6 +15,7 @@ use Rattle.sqlite_trees.proofs.ListLemmas.{filter-map, filter_all, all_weaker, a
 use Rattle.sqlite_rules.specs.Lists.{Has}
 use Rattle.sqlite_rules.specs.Edit.{is_taken}
 use Rattle.sqlite_rules.proofs.ListLemmas.{all_has, all_from}
+use Rattle.sqlite_rules.proofs.ProbeLemmas.{has_mapped}
 use Rattle.kcr_rows.proofs.SameLemmas.{key_total}
 use Rattle.kcr_rows.specs.Keyed.{cells, by_key, is_full, Place, Keeps, put}
 
@@ -69,9 +70,7 @@ put_row_same new (r ∷ rows) free = go (value_cmp (rowid r) (rowid new)) (or_pa
 
 -- a member of a mapped list is what some member is mapped to
 pub mapped_from : {X Y : Type 0} (f : X → Y) (xs : List X) (y : Y) → Has (map f xs) y → (x : X) × Has xs x × (y ≡ f x)
-mapped_from f [] y h = absurd h
-mapped_from f (x ∷ xs) y (inl same) = (x, inl refl, same)
-mapped_from f (x ∷ xs) y (inr later) = let found = mapped_from f xs y later in (found.0, inr found.1, found.2)
+mapped_from = has_mapped
 
 -- the members of a list are those of a permutation of it
 pub has_same : {X : Type 0} (xs ys : List X) (x : X) → IsPermutation xs ys → Has xs x → Has ys x
