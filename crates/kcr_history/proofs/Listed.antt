@@ -1,4 +1,6 @@
 -- Texts with commas between them, one text after the other; the texts of replies and refusals, piece by piece.
+use denote.Shadow.{shadow}
+use denote.Text.{Utf8}
 use Rattle.std.proofs.Common.{◌≡◌, ℕ, zero, suc, ◌+◌, ◌<◌, ◌^◌, List, [], ◌∷◌, ◌++◌, map, take, length, get_or, codes, refl, sym, ap, ◌∙◌, append_assoc, append-nil, add-one, arith}
 use Rattle.std.specs.Prelude.{Result, Ok, Err, IfOk}
 use Rattle.std.specs.Fmt.{decimal}
@@ -39,6 +41,12 @@ joined_more xs i x h e = rw (take_more xs i x h, ← e) (joined-append (take i x
 joined_map_more : {X : Type 0} (f : X → List ℕ) (xs : List X) (i : ℕ) (x : X) → i < length xs → x ≡ get_or xs i x
     → join_with_byte 44 (map f (take (i + 1) xs)) ≡ join_with_byte 44 (map f (take i xs)) ++ separator (take i xs) ++ f x
 joined_map_more f xs i x h e = rw (map_more f xs i x h, ← e, ← separator-map f (take i xs)) (joined-append (map f (take i xs)) (f x))
+
+-- a loop over a list so far: its text, and what stands before the next element
+pub record IsJoined {X : Type 0} (told said before : List ℕ) (xs : List X) : Type 0 where
+  pub text : told ≡ said
+  pub comma : before ≡ separator xs
+  pub utf8 : shadow (Utf8 before)
 
 -- the text of a result
 pub ok_text : {E : Type 0} {T : Type 0} (result : Result T E) (bytes : T → List ℕ) (a b : List ℕ) → a ≡ b → IfOk result (λ text. bytes text ≡ a) → IfOk result (λ text. bytes text ≡ b)

@@ -60,12 +60,10 @@ row_marks : (A : History) (cs : List ℕ) → list_all (has_mark A) cs ≡ true 
 row_marks A [] h = refl
 row_marks A (c ∷ cs) h =
     let p = and_parts (has_mark A c) (list_all (has_mark A) cs) h in
-    by_mark (mark A c) (some_mark c (all_said marked A) p.0) (row_marks A cs p.1)
+    by_mark (mark A c) _ _ (some_mark c (all_said marked A) p.0) (row_marks A cs p.1)
   where
-    by_mark : (o : Option ℕ) → is_some o ≡ true → map (λ row. row.at) (map (mark_row A) cs) ≡ filter_map (mark A) cs
-        → (unwrap_or o 0 ∷ map (λ row. row.at) (map (mark_row A) cs)) ≡ cons_option o (filter_map (mark A) cs)
-    by_mark None e ih = absurd (false≢true e)
-    by_mark (Some m) e ih = ap (λ ms. m ∷ ms) ih
+    by_mark : (o : Option ℕ) (ms ns : List ℕ) → is_some o ≡ true → ms ≡ ns → (unwrap_or o 0 ∷ ms) ≡ cons_option o ns
+    by_mark o ms ns e h = grind arith
 
 pub settled-rows : (A : History) (rows : List MarkRow) → IsPermutation (marks A) rows → option_map day_of (greatest (map (λ row. row.at) rows)) ≡ settled A
 settled-rows A rows p =

@@ -1,5 +1,5 @@
 -- The tests of WHERE on values.
-use Rattle.std.proofs.Common.{◌≡◌, ℕ, ◌&&◌, Bool, true, false, List, filter, refl, sym, ◌∙◌}
+use Rattle.std.proofs.Common.{◌≡◌, ℕ, ◌&&◌, Bool, true, false, List, filter, refl, sym, ◌∙◌, arith}
 use Rattle.sqlite.specs.declared.types.Value.{Value}
 use Rattle.sqlite.specs.declared.types.Value.TheVariants.{Null}
 use Rattle.sqlite.specs.Ops.{is_null, binary}
@@ -17,8 +17,7 @@ abbrev pub has_value : ℕ → Value → Row → Bool
 has_value at v row = equal Binary (column row at) v && true
 
 and_true : (b : Bool) → (b && true) ≡ b
-and_true true = refl
-and_true false = refl
+and_true b = grind arith
 
 -- values that are there are equal where they tie
 pub value_is : (a v : Value) → is_null a ≡ false → is_null v ≡ false → (equal Binary a v && true) ≡ ties a v
