@@ -1,11 +1,10 @@
 -- The settled day by the rows of marks, in any order, is the settled day by history.
-use Rattle.std.proofs.Common.{◌≡◌, ℕ, Bool, true, false, cond, ◌||◌, nat_le, eqb, List, [], ◌∷◌, map, filter, Option, Some, None, option_map, is_some, refl, sym, ap, ◌∙◌, arith}
+use Rattle.std.proofs.Common.{◌≡◌, ℕ, Bool, true, false, cond, ◌||◌, eqb, List, [], ◌∷◌, map, filter, Option, Some, None, option_map, is_some, refl, ap, ◌∙◌, arith}
 use Rattle.std.specs.Prelude.{unwrap_or}
 use Rattle.std.specs.List.{list_any, list_all, filter_map, cons_option}
 use Rattle.std.specs.List.Sorted.{IsPermutation}
-use Rattle.std.proofs.lemmas.List.Sorted.{list_any-IsPermutation, IsPermutation-map}
-use Rattle.std.proofs.lemmas.Bool.{true≢false, false≢true, and_parts, and_from, or_right, leb-true, le-leb, eq-eqb}
-use Rattle.std.proofs.lemmas.Bool.Decides.{nat_tests}
+use Rattle.std.proofs.lemmas.List.Sorted.{IsPermutation-map}
+use Rattle.std.proofs.lemmas.Bool.{false≢true, and_parts, and_from, or_right, eq-eqb}
 use Rattle.kcr_base.specs.Days.{day_of}
 use Rattle.kcr_base.proofs.RowsLemmas.{Shuffled, nothing, under, flipped, after, shuffled}
 use Rattle.kcr_custody.proofs.Puts.{all_mono}
