@@ -74,7 +74,9 @@ regroup : (front n e s t back : List ℕ) → front ++ n ++ e ++ s ++ t ++ back 
 regroup front n e s t back = simp append_assoc
 
 -- an object is its first member, then the others with their commas
-pub answer : (n : List ℕ) (e s t : List (List ℕ)) → codes "{\"accepted\":" ++ n ++ flat_map behind_comma e ++ flat_map behind_comma s ++ flat_map behind_comma t ++ codes "}" ≡ object (member (codes "accepted") n ∷ (e ++ (s ++ t)))
+pub answer : (n : List ℕ) (e s t : List (List ℕ))
+    → codes "{\"accepted\":" ++ n ++ flat_map behind_comma e ++ flat_map behind_comma s ++ flat_map behind_comma t ++ codes "}"
+    ≡ object (member (codes "accepted") n ∷ (e ++ (s ++ t)))
 answer n e s t =
     rw (joined-cons (member (codes "accepted") n) (e ++ (s ++ t)), flat_map-append behind_comma e (s ++ t), flat_map-append behind_comma s t)
     (regroup (codes "{\"accepted\":") n (flat_map behind_comma e) (flat_map behind_comma s) (flat_map behind_comma t) (codes "}"))
@@ -86,12 +88,13 @@ pub number_text : (n : ℕ) → 0 < n → n < 2 ^ 64 → decimal n ≡ map (λ d
 number_text = decimal-digits_of
 
 -- a refusal's text is told of the kind of refusal that it is
-pub carried : {E : Type 0} (result : Result (List ℕ) E) (refusal which : Refusal) (text : List ℕ) → refusal ≡ which → text ≡ refusal_text which
+pub carried : {E : Type 0} (result : Result (List ℕ) E) {refusal which : Refusal} {text : List ℕ} → refusal ≡ which → text ≡ refusal_text which
     → IfOk result (λ told. told ≡ text) → IfOk result (λ told. told ≡ refusal_text refusal)
-carried result refusal which text is e h = ok_text result (λ told. told) text (refusal_text refusal) (e ∙ sym (ap refusal_text is)) h
+carried result {refusal} {which} {text} is e h = ok_text result (λ told. told) text (refusal_text refusal) (e ∙ sym (ap refusal_text is)) h
 
 -- the first position stands alone
-pub first_position : (xs : List ℕ) (i : ℕ) → i ≡ 0 → i < length xs → join_with_byte 44 (map decimal (take (i + 1) xs)) ≡ join_with_byte 44 (map decimal (take i xs)) ++ decimal (get_or xs i 0)
+pub first_position : (xs : List ℕ) (i : ℕ) → i ≡ 0 → i < length xs
+    → join_with_byte 44 (map decimal (take (i + 1) xs)) ≡ join_with_byte 44 (map decimal (take i xs)) ++ decimal (get_or xs i 0)
 first_position [] i e h = absurd (omega arith)
 first_position (x ∷ xs) zero e h = refl
 first_position (x ∷ xs) (suc i) e h = absurd (omega arith)
@@ -102,4 +105,5 @@ pub next_position : (xs : List ℕ) (i : ℕ) → 0 < i → i < length xs
 next_position xs zero p h = absurd (omega arith)
 next_position xs (suc i) p h =
     joined_map_more decimal xs (suc i) (get_or xs (suc i) 0) h (get_or_default xs (suc i) 0 _ h)
-    ∙ ap (λ comma. (join_with_byte 44 (map decimal (take (suc i) xs)) ++ comma) ++ decimal (get_or xs (suc i) 0)) (rw add-one at (separator_more xs i (omega arith)))
+    ∙ ap (λ comma. (join_with_byte 44 (map decimal (take (suc i) xs)) ++ comma) ++ decimal (get_or xs (suc i) 0))
+    (rw add-one at (separator_more xs i (omega arith)))

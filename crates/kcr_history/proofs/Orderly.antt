@@ -1,5 +1,5 @@
 -- The appointments of a register: each begins where the older ones of its place have ended. So the holder by rows is the holder by history.
-use Rattle.std.proofs.Common.{◌≡◌, ℕ, ◌<◌, Bool, true, false, cond, ◌&&◌, nat_le, List, [], ◌∷◌, map, find, Option, Some, None, option_map, is_none, refl, ◌∙◌, subst}
+use Rattle.std.proofs.Common.{◌≡◌, ℕ, ◌<◌, Bool, true, false, cond, ◌&&◌, nat_le, List, [], ◌∷◌, map, find, Option, Some, None, option_map, is_none, refl, ◌∙◌, subst, arith}
 use Rattle.std.specs.Prelude.{unwrap_or}
 use Rattle.std.specs.List.{list_all}
 use Rattle.std.proofs.lemmas.Bool.{true≢false, leb-true, leb-false, and_parts}
@@ -30,7 +30,8 @@ abbrev pub IsOrderly : List Appointment → Type 0
 IsOrderly rows = (stacked rows ≡ true) × (list_all lasts rows ≡ true)
 
 -- where a place has an open row that began before the day, an end on that day leaves the place free and the rows orderly
-ends : (rows : List Appointment) (place : Place) (day : ℕ) → IsOrderly rows → begins_too_late (open_row_by rows place) day ≡ false → is_none (open_row_by rows place) ≡ false
+ends : (rows : List Appointment) (place : Place) (day : ℕ) → IsOrderly rows
+    → begins_too_late (open_row_by rows place) day ≡ false → is_none (open_row_by rows place) ≡ false
     → (place_held_from_by (map (ended place day) rows) place day ≡ false) × IsOrderly (map (ended place day) rows)
 ends rows place day o late none =
     let open_row = standing (open_row_by rows place) day late none in
@@ -39,7 +40,8 @@ ends rows place day o late none =
 
 released : (A : History) (place : Place) (day : ℕ) → fault A (Release place day) ≡ None → IsOrderly (appointments A)
     → (place_held_from_by (map (ended place day) (appointments A)) place day ≡ false) × IsOrderly (map (ended place day) (appointments A))
-released A place day f o = let n = none_holds (conditions A (Release place day)) f in ends (appointments A) place day o (unmet _ Range n.0) (unmet _ Vacant n.1.0)
+released A place day f o =
+    let n = none_holds (conditions A (Release place day)) f in ends (appointments A) place day o (unmet _ Range n.0) (unmet _ Vacant n.1.0)
 
 orderly_after : (A : History) (act : Act) → fault A act ≡ None → IsOrderly (appointments A) → IsOrderly (appointments_after act (appointments A))
 orderly_after A (Appoint place who day) f o =
@@ -67,8 +69,7 @@ told_holder now before = unwrap_or (or_else now before) None
 -- the row of a command that puts somebody in the place, before the older rows
 first-row : (b : Bool) (new : Appointment) (older : Option Appointment) (said : Option (Option (List ℕ))) → option_map (λ row. row.who) older ≡ unwrap_or said None
     → option_map (λ row. row.who) (cond (b && true) (Some new) older) ≡ told_holder (cond b (Some (Some new.who)) None) said
-first-row true new older said h = refl
-first-row false new older said h = h
+first-row b new older said h = grind arith
 
 holder_after : (A : History) (act : Act) (place : Place) (d : ℕ) → fault A act ≡ None → IsOrderly (appointments A)
     → holder_by (appointments A) place d ≡ holder A place d

@@ -43,19 +43,18 @@ unchanged p f one (x ∷ xs) h = let r = or_parts (p x) (list_any p xs) h in λ 
 -- some row passes a test where the first that does is found
 any-find : {X : Type 0} (test : X → Bool) (rows : List X) → list_any test rows ≡ is_some (find test rows)
 any-find test [] = refl
-any-find test (row ∷ rows) = elim (test row) as (λ b. (b || list_any test rows) ≡ is_some (cond b (Some row) (find test rows))) [ true ↦ refl | false ↦ any-find test rows ]
+any-find test (row ∷ rows) =
+    elim (test row) as (λ b. (b || list_any test rows) ≡ is_some (cond b (Some row) (find test rows))) [ true ↦ refl | false ↦ any-find test rows ]
 
 pub find-none : {X : Type 0} (test : X → Bool) (rows : List X) → list_any test rows ≡ false → find test rows ≡ None
 find-none {X = X} test rows h = none (find test rows) (sym (any-find test rows) ∙ h)
   where
     none : (o : Option X) → is_some o ≡ false → o ≡ None
-    none None e = refl
-    none (Some x) e = absurd (true≢false e)
+    none o e = grind arith
 
 -- the first that passes a test is the head, or is in the tail
 find-cases : {X : Type 0} (b : Bool) (x r : X) (rest : Option X) → cond b (Some x) rest ≡ Some r → ((b ≡ true) × (x ≡ r)) ⊎ ((b ≡ false) × (rest ≡ Some r))
-find-cases true x r rest h = inl (refl, let e : Some x ≡ Some r = h in cc)
-find-cases false x r rest h = inr (refl, h)
+find-cases b x r rest h = grind arith
 
 -- ROWS THAT HAVE ENDED
 
@@ -64,11 +63,12 @@ abbrev pub stacked : List Appointment → Bool
 stacked [] = true
 stacked (row ∷ rows) = not (place_held_from_by rows row.place row.since) && stacked rows
 
-older : (row : Appointment) (rows : List Appointment) → stacked (row ∷ rows) ≡ true → (place_held_from_by rows row.place row.since ≡ false) × (stacked rows ≡ true)
+older : (row : Appointment) (rows : List Appointment) → stacked (row ∷ rows) ≡ true → place_held_from_by rows row.place row.since ≡ false × stacked rows ≡ true
 older row rows s = let p = and_parts (not (place_held_from_by rows row.place row.since)) (stacked rows) s in (not-true _ p.0, p.1)
 
 -- rows that have ended by a day have ended by a later one
-pub later_free : (place : Place) (first day : ℕ) (rows : List Appointment) → first ≤ day → place_held_from_by rows place first ≡ false → place_held_from_by (map (ended place day) rows) place day ≡ false
+pub later_free : (place : Place) (first day : ℕ) (rows : List Appointment) → first ≤ day → place_held_from_by rows place first ≡ false
+    → place_held_from_by (map (ended place day) rows) place day ≡ false
 later_free place first day rows l h = any-map (ended place day) _ rows ∙ none-weaker _ _ (λ row. until (same_place row.place place) row.until) rows h
   where
     until : (s : Bool) (u : Option ℕ) → (s && ends_after u first) ≡ false → (s && ends_after (end_at s u day) day) ≡ false
@@ -76,7 +76,8 @@ later_free place first day rows l h = any-map (ended place day) _ rows ∙ none-
 
 -- they get no other end
 past-same : (place : Place) (first day : ℕ) (rows : List Appointment) → place_held_from_by rows place first ≡ false → map (ended place day) rows ≡ rows
-past-same place first day rows h = unchanged _ (ended place day) (λ row e. ap (λ u. record row { until = u }) (until (same_place row.place place) row.until e)) rows h
+past-same place first day rows h =
+    unchanged _ (ended place day) (λ row e. ap (λ u. record row { until = u }) (until (same_place row.place place) row.until e)) rows h
   where
     until : (s : Bool) (u : Option ℕ) → (s && ends_after u first) ≡ false → end_at s u day ≡ u
     until s u e = grind (arith, nat_tests)
@@ -87,7 +88,8 @@ stacked-ended place day [] s = refl
 stacked-ended place day (row ∷ rows) s =
     let o = older row rows s in
     and_from _ (stacked (map (ended place day) rows))
-    (not_from_false _ (any-map (ended place day) _ rows ∙ none-weaker _ _ (λ x. until (same_place x.place row.place) (same_place x.place place) x.until) rows o.0))
+    (not_from_false _ (any-map (ended place day) _ rows
+    ∙ none-weaker _ _ (λ x. until (same_place x.place row.place) (same_place x.place place) x.until) rows o.0))
     (stacked-ended place day rows o.1)
   where
     until : (t s : Bool) (u : Option ℕ) → (t && ends_after u row.since) ≡ false → (t && ends_after (end_at s u day) row.since) ≡ false
@@ -136,7 +138,8 @@ opened place r (row ∷ rows) s h =
     ]
 
 -- after its end the place has no holder
-pub closing : (place : Place) (day : ℕ) (r : Appointment) (rows : List Appointment) → stacked rows ≡ true → open_row_by rows place ≡ Some r → r.since < day → place_held_from_by (map (ended place day) rows) place day ≡ false
+pub closing : (place : Place) (day : ℕ) (r : Appointment) (rows : List Appointment) → stacked rows ≡ true → open_row_by rows place ≡ Some r → r.since < day
+    → place_held_from_by (map (ended place day) rows) place day ≡ false
 closing place day r rows s h l = let it = opened place r rows s h in subst (λ p. place_held_from_by (map (ended p day) rows) p day ≡ false) it.0 (closed it.1)
   where
     now : (s : Bool) (u : Option ℕ) → is_none u ≡ true → (s && ends_after (end_at s u day) day) ≡ false
@@ -146,7 +149,8 @@ closing place day r rows s h l = let it = opened place r rows s h in subst (λ p
     closed (here rows e free) = or_from _ _ (now (same_place r.place r.place) r.until e) (later_free r.place r.since day rows (omega arith) free)
     closed (below row rows apart o) = or_from (same_place row.place r.place && lasts_beyond day (ended r.place day row)) _ (and_left _ _ apart) (closed o)
 
-pub lasts-ended : (place : Place) (day : ℕ) (r : Appointment) (rows : List Appointment) → stacked rows ≡ true → list_all lasts rows ≡ true → open_row_by rows place ≡ Some r → r.since < day → list_all lasts (map (ended place day) rows) ≡ true
+pub lasts-ended : (place : Place) (day : ℕ) (r : Appointment) (rows : List Appointment) → stacked rows ≡ true → list_all lasts rows ≡ true → open_row_by rows place ≡ Some r → r.since < day
+    → list_all lasts (map (ended place day) rows) ≡ true
 lasts-ended place day r rows s t h l = let it = opened place r rows s h in subst (λ p. list_all lasts (map (ended p day) rows) ≡ true) it.0 (still it.1 t)
   where
     longer : (s : Bool) (u : Option ℕ) → ends_after u r.since ≡ true → ends_after (end_at s u day) r.since ≡ true
@@ -183,11 +187,12 @@ put-ended place day r rows s t h = let it = opened place r rows s h in rw (keyed
     replaced (here rows e free) t =
         let head : cond (has_key r) (record r { until = Some day }) r ≡ ended r.place day r =
         rw own (ap (λ u. record r { until = u }) (with_end (same_place r.place r.place) r.until (place-refl r.place) e)) in
-        let rest = unchanged has_key (λ old. cond (has_key old) (record r { until = Some day }) old) (λ old other. rw other refl) rows (no_begin r.place r.since rows (and_parts (lasts r) (list_all lasts rows) t).1 free) in
+        let rest = unchanged has_key (λ old. cond (has_key old) (record r { until = Some day }) old) (λ old other. rw other refl) rows
+        (no_begin r.place r.since rows (and_parts (lasts r) (list_all lasts rows) t).1 free) in
         λ i. head i ∷ (rest ∙ sym (past-same r.place r.since day rows free)) i
     replaced (below row rows apart o) t =
         let head : cond (has_key row) (record r { until = Some day }) row ≡ ended r.place day row =
-        rw (and_left _ (eqb row.since r.since) apart) (ap (λ u. record row { until = u }) (sym (end-other (same_place row.place r.place) row.until day apart))) in
+        rw (and_left _ _ apart) (ap (λ u. record row { until = u }) (sym (end-other (same_place row.place r.place) row.until day apart))) in
         λ i. head i ∷ replaced o (and_parts (lasts row) (list_all lasts rows) t).1 i
 
 -- THE OPEN ROW IN ANOTHER ORDER
@@ -238,17 +243,19 @@ open-order place rows others s p = by_row (open_row_by rows place) refl
 -- an end by a command that says nothing of the place on day d leaves what the row says of it
 holds-ended : (at place : Place) (since d : ℕ) (row : Appointment) → (same_place at place && nat_le since d) ≡ false → holds place d (ended at since row) ≡ holds place d row
 holds-ended at place since d row h =
-    by_places (same_place row.place place) (same_place row.place at) row.until (nat_le row.since d)
-    (λ p q. let here : same_place at place ≡ true = rw (sym (place-same row.place at q) ∙ place-same row.place place p) (place-refl place) in leb-false since d (rw here at h))
+    by_places (same_place row.place place) (same_place row.place at) (nat_le row.since d) row.until
+    (λ p q. let here : same_place at place ≡ true = rw (sym (place-same row.place at q) ∙ place-same row.place place p) (place-refl place) in
+    leb-false since d (rw here at h))
   where
-    by_places : (s t : Bool) (u : Option ℕ) (b : Bool) → (s ≡ true → t ≡ true → d < since) → ((s && b) && ends_after (end_at t u since) d) ≡ ((s && b) && ends_after u d)
-    by_places s t u b f = grind (arith, nat_tests)
+    by_places : (s t b : Bool) (u : Option ℕ) → (s ≡ true → t ≡ true → d < since) → ((s && b) && ends_after (end_at t u since) d) ≡ ((s && b) && ends_after u d)
+    by_places s t b u f = grind (arith, nat_tests)
 
 pub find-ended : (at place : Place) (since d : ℕ) (rows : List Appointment) → (same_place at place && nat_le since d) ≡ false → holder_by (map (ended at since) rows) place d ≡ holder_by rows place d
 find-ended at place since d [] h = refl
 find-ended at place since d (row ∷ rows) h =
     rw (holds-ended at place since d row h) (elim (holds place d row) as (λ b.
-    option_map (λ row. row.who) (cond b (Some (ended at since row)) (find (holds place d) (map (ended at since) rows))) ≡ option_map (λ row. row.who) (cond b (Some row) (find (holds place d) rows)))
+    option_map (λ row. row.who) (cond b (Some (ended at since row)) (find (holds place d) (map (ended at since) rows)))
+    ≡ option_map (λ row. row.who) (cond b (Some row) (find (holds place d) rows)))
     [ true ↦ refl | false ↦ find-ended at place since d rows h ])
 
 -- a place that is free from a day on has no holder on a later one

@@ -49,10 +49,7 @@ took A entry h =
 
 -- each answer has its number
 pub number_of_answer : (A : History) (act : Act) (people : Option (List (List ℕ))) → (answer_to A act people).accepted ≡ length A + 1
-number_of_answer A (Sign ceremony step at) people = refl
-number_of_answer A (Except ceremony text true at) people = refl
-number_of_answer A (Except ceremony text false at) people = refl
-number_of_answer A act people = refl
+number_of_answer A act people = grind arith
 
 -- the number of an entry is how many have been accepted with it
 pub numbers : (A : History) (entry : Entry) → IsRegister (entry ∷ A) → entry.answer.accepted ≡ length (entry ∷ A)

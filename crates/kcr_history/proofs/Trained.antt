@@ -52,7 +52,8 @@ rooted_after (Withdraw who role day) rows withdrawn h =
     let new : list_all (has_its_training rows) (withdrawn_rows rows withdrawn who role day) ≡ true =
     list_all-map (has_its_training rows) (withdrawal_of withdrawn day) (filter (ends_from who role day) rows)
     ∙ all-filter _ (ends_from who role day) rows (each-found (λ x y. is_of x (withdrawal_of withdrawn day y)) own rows) in
-    all_put_all same_withdrawn (has_its_training rows) (withdrawn_rows rows withdrawn who role day) withdrawn new (all_mono (has_its_training rows) _ (λ w g. or_left _ _ g) withdrawn h)
+    all_put_all same_withdrawn (has_its_training rows) (withdrawn_rows rows withdrawn who role day) withdrawn new
+    (all_mono (has_its_training rows) _ (λ w g. or_left _ _ g) withdrawn h)
 rooted_after act rows withdrawn h = h
 
 pub rooted : (A : History) → list_all (has_its_training (trainings A)) (withdrawals A) ≡ true
@@ -63,14 +64,15 @@ rooted (entry ∷ A) = rooted_after entry.command.act (trainings A) (withdrawals
 
 -- two trainings of one withdrawal are the same
 one_training : (new row : Training) (w : Withdrawal) → is_of new w ≡ true → is_of row w ≡ true → same_training new row ≡ true
-one_training new row w a b = subst (λ other. same_training new other ≡ true) (sym (is_of-true new w a) ∙ is_of-true row w b) (is_of-own (withdrawal_of [] 0 new))
+one_training new row w a b = subst (λ x. same_training new x ≡ true) (sym (is_of-true new w a) ∙ is_of-true row w b) (is_of-own (withdrawal_of [] 0 new))
 
 -- of a training that is not there no withdrawal is
 not_withdrawn : (new : Training) (day : ℕ) (rows : List Training) (ws : List Withdrawal) → list_any (same_training new) rows ≡ false → list_all (has_its_training rows) ws ≡ true → is_withdrawn_by ws new day ≡ false
 not_withdrawn new day rows [] n h = refl
 not_withdrawn new day rows (w ∷ ws) n h =
     let p = and_parts (has_its_training rows w) (list_all (has_its_training rows) ws) h in
-    let other = false_from_ne_true _ (λ own. both_ways _ (none-weaker _ (λ row. is_of row w) (λ row e. false_from_ne_true _ (λ its. both_ways _ e (one_training new row w own its))) rows n) p.0) in
+    let other = false_from_ne_true _ (λ own. both_ways _ (none-weaker _ (λ row. is_of row w)
+    (λ row e. false_from_ne_true _ (λ its. both_ways _ e (one_training new row w own its))) rows n) p.0) in
     or_from (is_of new w && nat_le w.day day) _ (and_left _ _ other) (not_withdrawn new day rows ws n p.1)
 
 -- TRAINED

@@ -1,5 +1,5 @@
 -- The words on the rows of a history's tables are the words on the history.
-use Rattle.std.proofs.Common.{◌≡◌, ℕ, Bool, true, false, cond, ◌||◌, List, [], ◌∷◌, map, Option, Some, option_map, refl, ap, ◌∙◌}
+use Rattle.std.proofs.Common.{◌≡◌, ℕ, Bool, true, false, cond, ◌||◌, List, [], ◌∷◌, map, Option, Some, option_map, refl, ap, ◌∙◌, arith}
 use Rattle.std.specs.List.{list_any, cons_option}
 use Rattle.kcr_base.specs.Same.{same_text}
 use Rattle.kcr_base.specs.declared.place.Place.{Place}
@@ -16,7 +16,8 @@ use Rattle.kcr_history.specs.Views.{row_of_key}
 
 -- some row of the commands passes a test where some command says so
 some_row : {X : Type 0} (row_of : Act → Option X) (test : X → Bool) (says : Act → Bool)
-    → ((act : Act) (rows : List X) → list_any test (cons_option (row_of act) rows) ≡ (says act || list_any test rows)) → (A : History) → list_any test (all_said row_of A) ≡ some_command says A
+    → ((act : Act) (rows : List X) → list_any test (cons_option (row_of act) rows) ≡ (says act || list_any test rows))
+    → (A : History) → list_any test (all_said row_of A) ≡ some_command says A
 some_row row_of test says one [] = refl
 some_row row_of test says one (entry ∷ A) = one entry.command.act (all_said row_of A) ∙ ap (λ b. says entry.command.act || b) (some_row row_of test says one A)
 
@@ -24,24 +25,22 @@ pub is_person-people : (A : History) (who : List ℕ) → is_person_by (people A
 is_person-people A who = some_row person_row (λ row. same_text row.who who) (enters who) entered A
   where
     entered : (act : Act) (rows : List Person) → is_person_by (cons_option (person_row act) rows) who ≡ (enters who act || is_person_by rows who)
-    entered (Enter p name) rows = refl
-    entered act rows = refl
+    entered act rows = grind arith
 
 pub ever_trained-trainings : (A : History) (who : List ℕ) → ever_trained_by (trainings A) who ≡ ever_trained A who
-ever_trained-trainings A who = some_row training_row (λ row. same_text row.who who) (trains_person who) trained A
+ever_trained-trainings A who = some_row training_row (λ row. same_text row.who who) (trains_person who) told A
   where
-    trained : (act : Act) (rows : List Training) → ever_trained_by (cons_option (training_row act) rows) who ≡ (trains_person who act || ever_trained_by rows who)
-    trained (Train p role since until) rows = refl
-    trained act rows = refl
+    told : (act : Act) (rows : List Training) → ever_trained_by (cons_option (training_row act) rows) who ≡ (trains_person who act || ever_trained_by rows who)
+    told act rows = grind arith
 
 -- the very same training
 pub is_training-trainings : (A : History) (row : Training) → list_any (same_training row) (trainings A) ≡ some_command (is_training row.who row.role row.since row.until) A
 is_training-trainings A row = some_row training_row (same_training row) (is_training row.who row.role row.since row.until) entered A
   where
     entered : (act : Act) (rows : List Training)
-        → list_any (same_training row) (cons_option (training_row act) rows) ≡ (is_training row.who row.role row.since row.until act || list_any (same_training row) rows)
-    entered (Train p role since until) rows = refl
-    entered act rows = refl
+        → list_any (same_training row) (cons_option (training_row act) rows)
+        ≡ (is_training row.who row.role row.since row.until act || list_any (same_training row) rows)
+    entered act rows = grind arith
 
 -- an end changes no person
 ever_put-ended : (who : List ℕ) (place : Place) (day : ℕ) (rows : List Appointment) → ever_put_by (map (ended place day) rows) who ≡ ever_put_by rows who

@@ -78,15 +78,12 @@ module _ (place : Place) (schema : Schema) (sql : List ℕ) (params : Row) (test
       number_order (number e) (number x) (ap is_gt (sym values) ∙ ap is_gt (sym (compares (row_of e) (row_of x))) ∙ h)
 
   number_same : (x y : X) → out (row_of x) ≡ out (row_of y) → number x ≤ number y
-  number_same x y h =
-      let firsts : column (row_of x) at ∷ [] ≡ column (row_of y) at ∷ [] = ap (λ (p : Output). p.0) h in
-      let cell : column (row_of x) at ≡ column (row_of y) at = cc in
-      let numbers : Int (pos (number x)) ≡ Int (pos (number y)) = sym (numbered x) ∙ cell ∙ numbered y in
-      let same_one : number x ≡ number y = cc in omega (arith, same_one)
+  number_same x y h = let same = ap number (one x y (ap (λ (p : Output). p.1) h)) in omega (arith, same)
 
   chosen : (ks xs : List X) (ordered : List Output) → IsPermutation (map out (map row_of ks)) ordered → IsSorted (output_cmp q) ordered
       → map row_of xs ≡ take 1 (map (λ (o : Output). o.1) ordered) → IsGreatest number ks xs
-  chosen ks xs [] same sorted shown = inl (none_from row_of ks (none_from out _ (nil_from_length _ (sym (length_permutation _ _ same)))), none_from row_of xs shown)
+  chosen ks xs [] same sorted shown =
+      inl (none_from row_of ks (none_from out _ (nil_from_length _ (sym (length_permutation _ _ same)))), none_from row_of xs shown)
   chosen ks xs (o ∷ os) same sorted shown =
       let there = mapped_from out (map row_of ks) o (has_same _ _ o (IsPermutation-sym _ _ same) (inl refl)) in
       let e = mapped_from row_of ks there.0 there.1 in
@@ -110,7 +107,8 @@ module _ (place : Place) (schema : Schema) (sql : List ℕ) (params : Row) (test
       let a : IsAnswer q (overlay old.now.trees []) params (map row_of xs) = read.answer Null in
       let entries = old.now.trees place.tree in
       let shown = cells 1 place.width in
-      let outs : a.kept ≡ map out (filter passes (map shown entries)) = kept_cells place test project _ (pos 1) params passes out shows tests low old.now.trees (map row_of xs) a in
+      let outs : a.kept ≡ map out (filter passes (map shown entries)) =
+      kept_cells place test project _ (pos 1) params passes out shows tests low old.now.trees (map row_of xs) a in
       let passed : IsPermutation (map row_of (filter (λ y. passes (row_of y)) ys)) (filter passes (map shown entries)) =
       subst (λ l. IsPermutation l (filter passes (map shown entries))) (filter-map passes row_of ys) (IsPermutation-filter passes _ _ keeps.same) in
       let perm : IsPermutation (map out (map row_of (filter (λ y. passes (row_of y)) ys))) a.ordered =

@@ -79,7 +79,8 @@ module _ (keys width : ℕ) (entries : List Row) (id : ℤ) (values : Row)
       → agree plain (places_from 1 keys) r (places_from 1 keys) (Int id ∷ values) ≡ is_eq (by_key keys (cells 1 width r) values)
   agrees r whole filled =
       let new_full : full 1 keys (Int id ∷ values) ≡ true = sym (fulls (Int id ∷ values)) ∙ ap (is_full keys) shown ∙ filled in
-      agree_is keys 1 r (Int id ∷ values) (sym (fulls r) ∙ whole) new_full ∙ ap is_eq (sym (compares r (Int id ∷ values))) ∙ ap (λ v. is_eq (by_key keys (cells 1 width r) v)) shown
+      agree_is keys 1 r (Int id ∷ values) (sym (fulls r) ∙ whole) new_full
+      ∙ ap is_eq (sym (compares r (Int id ∷ values))) ∙ ap (λ v. is_eq (by_key keys (cells 1 width r) v)) shown
 
   pub fresh_key : (r : Row) → Has entries r → rowid r ≡ Int (id_in (rowid r)) → is_full keys (cells 1 width r) ≡ true → is_full keys values ≡ true
       → (agree plain (places_from 1 keys) r (places_from 1 keys) (Int id ∷ values) && differ (rowid r) (rowid (Int id ∷ values))) ≡ false
@@ -92,7 +93,8 @@ module _ (keys width : ℕ) (entries : List Row) (id : ℤ) (values : Row)
       → (r : Row) → Has entries r → rowid r ≡ Int (id_in (rowid r)) → is_full keys (cells 1 width r) ≡ true → is_full keys values ≡ true
       → conflicts (Some (places_from 1 keys)) indexes table (Int id ∷ values) r ≡ is_eq (by_key keys (cells 1 width r) values)
   meets_key indexes table shared r h own whole filled =
-      let rowids : agree plain (0 ∷ []) r (0 ∷ []) (Int id ∷ values) ≡ false = rw (first_key-plain, equal_is (rowid r) (Int id) (ap is_null own) refl, apart r h) in
+      let rowids : agree plain (0 ∷ []) r (0 ∷ []) (Int id ∷ values) ≡ false =
+      rw (first_key-plain, equal_is (rowid r) (Int id) (ap is_null own) refl, apart r h) in
       ap₂ ◌||◌ (and_right (aims (Some (places_from 1 keys)) (0 ∷ [])) _ rowids) (shared (Int id ∷ values) r ∙ or_false _ ∙ agrees r whole filled)
     where
       or_false : (b : Bool) → (b || false) ≡ b

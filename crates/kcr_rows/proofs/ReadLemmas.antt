@@ -50,20 +50,23 @@ map_same f g same [] = refl
 map_same f g same (x ∷ xs) = λ i. same x i ∷ map_same f g same xs i
 
 -- what a query keeps before it sorts: what it makes of each entry that passes its test
-pub kept_from : (tree : ℕ) (test project : List Term) (order : List (Term × Key)) (limit : ℤ) (params : Row) → nat_le (2 ^ 31) tree ≡ false → (db : Trees) (rows : List Row)
+pub kept_from : (tree : ℕ) (test project : List Term) (order : List (Term × Key)) (limit : ℤ) (params : Row)
+    → nat_le (2 ^ 31) tree ≡ false → (db : Trees) (rows : List Row)
     → (a : IsAnswer (asking tree test project order limit) (overlay db []) params rows)
     → a.kept ≡ map (λ r. output (asking tree test project order limit) (params ∷ r ∷ [])) (filter (λ r. list_all (holds (params ∷ r ∷ [])) test) (db tree))
 kept_from tree test project order limit params low db rows a =
     let p = λ (r : Row). list_all (holds (params ∷ r ∷ [])) test in
     let over : overlay db [] tree ≡ db tree = rw low in
-    a.distinct ∙ ap (map (output (asking tree test project order limit))) (a.grouped ∙ matched p (λ r. params ∷ r ∷ []) (overlay db [] tree) ∙ ap (λ l. map (λ r. params ∷ r ∷ []) (filter p l)) over)
+    a.distinct
+    ∙ ap (map (output (asking tree test project order limit))) (a.grouped ∙ matched p (λ r. params ∷ r ∷ []) (overlay db [] tree) ∙ ap (λ l. map (λ r. params ∷ r ∷ []) (filter p l)) over)
     ∙ map-map (output (asking tree test project order limit)) (λ r. params ∷ r ∷ []) (filter p (db tree))
 
 -- the same where the test and what is made of an entry are told of its cells
 pub kept_cells : (place : Place) (test project : List Term) (order : List (Term × Key)) (limit : ℤ) (params : Row) (passes : Row → Bool) (out : Row → Output)
     → ((r : Row) → output (asking place.tree test project order limit) (params ∷ r ∷ []) ≡ out (cells 1 place.width r))
-    → ((r : Row) → list_all (holds (params ∷ r ∷ [])) test ≡ passes (cells 1 place.width r)) → nat_le (2 ^ 31) place.tree ≡ false → (db : Trees) (rows : List Row)
-    → (a : IsAnswer (asking place.tree test project order limit) (overlay db []) params rows) → a.kept ≡ map out (filter passes (map (cells 1 place.width) (db place.tree)))
+    → ((r : Row) → list_all (holds (params ∷ r ∷ [])) test ≡ passes (cells 1 place.width r))
+    → nat_le (2 ^ 31) place.tree ≡ false → (db : Trees) (rows : List Row) → (a : IsAnswer (asking place.tree test project order limit) (overlay db []) params rows)
+    → a.kept ≡ map out (filter passes (map (cells 1 place.width) (db place.tree)))
 kept_cells place test project order limit params passes out shows tests low db rows a =
     let shown = cells 1 place.width in
     kept_from place.tree test project order limit params low db rows a
@@ -83,7 +86,8 @@ module _ (place : Place) (test : List Term) (project : List Term) (order : List 
   unkeyed : (rows : List Row) → map (λ (o : Output). o.1) (map (with_key place.keys) rows) ≡ rows
   unkeyed rows = map-map (λ (o : Output). o.1) (with_key place.keys) rows ∙ map-id rows
 
-  outs : (db : Trees) (rows : List Row) → (a : IsAnswer q (overlay db []) params rows) → a.kept ≡ map (with_key place.keys) (filter passes (map (cells 1 place.width) (db place.tree)))
+  outs : (db : Trees) (rows : List Row) → (a : IsAnswer q (overlay db []) params rows)
+      → a.kept ≡ map (with_key place.keys) (filter passes (map (cells 1 place.width) (db place.tree)))
   outs = kept_cells place test project order (negsuc 0) params passes (with_key place.keys) shows tests low
 
   pub reads_rows : (db : Trees) (rows kept : List Row) → Keeps place db kept → IsAnswer q (overlay db []) params rows → rows ≡ filter passes kept

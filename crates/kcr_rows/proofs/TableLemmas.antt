@@ -68,7 +68,8 @@ module _ (place : Place) (db : Trees) (rows : List Row) (keeps : Keeps place db 
   pub whole : is_full place.keys (cells 1 place.width r) ≡ true
   whole =
       all_has (λ x. is_full place.keys (cells 1 place.width x) ≡ true) (db place.tree) r
-      (all_from_map (λ row. is_full place.keys row ≡ true) (cells 1 place.width) (db place.tree) (all-permutation (λ row. is_full place.keys row ≡ true) _ _ keeps.same keeps.full)) h
+      (all_from_map (λ row. is_full place.keys row ≡ true) (cells 1 place.width) (db place.tree)
+      (all-permutation (λ row. is_full place.keys row ≡ true) _ _ keeps.same keeps.full)) h
 
 module _ (place : Place) (schema : Schema) (at : ℕ) (name : List ℕ) (columns : List Column) (others : List (List ℕ))
     (here : slice_get schema.tables at ≡ Some (keyed name place.tree columns (places_from 1 place.keys) others))
@@ -100,7 +101,8 @@ module _ (place : Place) (schema : Schema) (at : ℕ) (name : List ℕ) (columns
         (subst (λ l. Has l entry) (sym p.is) (has_same (entry ∷ entries) (put_row entry entries) entry (put_row_same entry entries p.free) (inl refl))) in
         let clash : clashes plain (places_from 1 place.keys) (new place.tree) entry ≡ false = not-true _ (and_parts _ _ (sym (guarded (new place.tree) entry) ∙ passed)).0 in
         let there = subst (λ l. Has l r) (sym p.is) (has_same (entry ∷ entries) (put_row entry entries) r (put_row_same entry entries p.free) (inr h)) in
-        fresh_key place.keys place.width entries id values compares fulls (shown id) p.free r h (own_id place old rows keeps r h) (whole place old rows keeps r h) filled
+        fresh_key place.keys place.width entries id values compares fulls (shown id) p.free r h
+        (own_id place old rows keeps r h) (whole place old rows keeps r h) filled
         (not_any (λ other. agree plain (places_from 1 place.keys) other (places_from 1 place.keys) entry && differ (rowid other) (rowid entry)) (new place.tree) r clash there)
 
     insert_keeps : (old new : Trees) → IsInserted schema table old new values → (rows : List Row) → Keeps place old rows → Keeps place new (put place.keys values rows)

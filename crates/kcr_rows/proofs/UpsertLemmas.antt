@@ -121,27 +121,19 @@ module _ (schema : Schema) (at : ℕ) (name : List ℕ) (tree : ℕ) (columns : 
       let written = one_step schema Enforced trees all.0 edit (alone (taken_by trees edit) edit.news) all.1 in
       let is : one.trees ≡ all.0 = ap (λ (w : Written). w.trees) (same_value all.2) in
       let free : is_taken (trees tree) (cast_row table (new trees)) ≡ false = not-true _ (and_parts _ _ written.fresh).0 in
-      record {
+      subst (Is trees) (sym is) (record {
         found = [];
         are = are;
-        goes = (
-          subst (λ r. is_taken (trees tree) r ≡ false) (again_is trees) free,
-          ap (λ (t : Trees). t tree) is ∙ written.rows ∙ ap (λ r. put_row r (trees tree)) (again_is trees),
-        );
-        others = λ t other bare. ap (λ (all : Trees). all t) is ∙ written.others t other bare;
-      }
+        goes = (subst (λ r. is_taken (trees tree) r ≡ false) (again_is trees) free, written.rows ∙ ap (λ r. put_row r (trees tree)) (again_is trees));
+        others = written.others;
+      })
   met limit trees one (there ∷ more) are h =
       let asked = went h in
       let all = went asked.2 in
       let edit = rewriting trees table asked.0 in
       let written = one_step schema Enforced trees all.0 edit (alone (taken_by trees edit) edit.news) all.1 in
       let is : one.trees ≡ all.0 = ap (λ (w : Written). w.trees) (same_value all.2) in
-      record {
-        found = there ∷ more;
-        are = are;
-        goes = (asked.0, asked.1.answer Null, written.fresh, ap (λ (t : Trees). t tree) is ∙ written.rows);
-        others = λ t other bare. ap (λ (all : Trees). all t) is ∙ written.others t other bare;
-      }
+      subst (Is trees) (sym is) (record { found = there ∷ more; are = are; goes = (asked.0, asked.1.answer Null, written.fresh, written.rows); others = written.others })
 
   judged : (limit : Option ℕ) (trees : Trees) (one : Written) (verdict : Option Refusal) → Judged (task limit) Abort (clause ∷ []) (new trees) trees verdict (Ok one) → Is trees one.trees
   judged limit trees one None h = met limit trees one h.0 h.1 h.2
@@ -173,9 +165,7 @@ module _ (schema : Schema) (at : ℕ) (name : List ℕ) (tree : ℕ) (columns : 
 
 at_most : {X : Type 0} (xs : List X) (x y : X) → length xs ≤ 1 → Has xs x → Has xs y → x ≡ y
 at_most [] x y few h k = absurd h
-at_most (z ∷ []) x y few (inl h) (inl k) = h ∙ sym k
-at_most (z ∷ []) x y few (inl h) (inr k) = absurd k
-at_most (z ∷ []) x y few (inr h) k = absurd h
+at_most (z ∷ []) x y few h k = grind arith
 at_most (z ∷ w ∷ more) x y few h k = absurd (omega (arith, few))
 
 tie_is : (o : Ordering) → is_eq o ≡ true → o ≡ Equal
@@ -274,7 +264,8 @@ module _ (place : Place) (schema : Schema) (at : ℕ) (name : List ℕ) (columns
       let p_is = λ (x : Row) (k : Has entries x). tests entries there x ∙ and_yes _ ∙ ap (equal Binary (rowid x)) id_is ∙ equal_is (rowid x) (rowid r) (thing x k) (thing r h) in
       let one : filter p entries ≡ r ∷ [] =
       only p r entries keeps.shaped.0 h (p_is r h ∙ ap is_eq (tied_itself value_cmp_total (rowid r))) (λ x k yes. tied_same entries x r keeps.shaped.0 k h (tie_is _ (sym (p_is x k) ∙ yes))) in
-      let kept : a.kept ≡ output q (params ∷ r ∷ []) ∷ [] = kept_from place.tree test sets [] (negsuc 0) params low db answer a ∙ ap (map (λ x. output q (params ∷ x ∷ []))) one in
+      let kept : a.kept ≡ output q (params ∷ r ∷ []) ∷ [] =
+      kept_from place.tree test sets [] (negsuc 0) params low db answer a ∙ ap (map (λ x. output q (params ∷ x ∷ []))) one in
       let ordered : a.ordered ≡ output q (params ∷ r ∷ []) ∷ [] = one_permutation _ a.ordered (subst (λ l. IsPermutation l a.ordered) kept a.same) in
       a.shown ∙ ap (map (λ (o : Output). o.1)) ordered ∙ ap (λ v. v ∷ []) (gives entries there r)
 
@@ -286,8 +277,8 @@ module _ (place : Place) (schema : Schema) (at : ℕ) (name : List ℕ) (columns
       → conflicts (Some (places_from 1 place.keys)) schema.indexes that (stored (old place.tree) values) r ≡ is_eq (by_key place.keys (cells 1 place.width r) values)
   conflicts_is old rows keeps r h =
       let entries = old place.tree in
-      meets_key place.keys place.width entries (next_rowid entries) values compares fulls (shown_as (next_rowid entries)) (next_is_free Chosen entries values keeps.shaped.0 keeps.shaped.1)
-      schema.indexes that shared r h (own_id place old rows keeps r h) (whole place old rows keeps r h) filled
+      meets_key place.keys place.width entries (next_rowid entries) values compares fulls (shown_as (next_rowid entries))
+      (next_is_free Chosen entries values keeps.shaped.0 keeps.shaped.1) schema.indexes that shared r h (own_id place old rows keeps r h) (whole place old rows keeps r h) filled
 
   keeps_new : (old new : Trees) → AreConflicts (Some (places_from 1 place.keys)) schema.indexes that (old place.tree) (stored (old place.tree) values) []
       → Goes that place.tree test sets old new values [] → Goal old new
@@ -316,8 +307,10 @@ module _ (place : Place) (schema : Schema) (at : ℕ) (name : List ℕ) (columns
       let is : new place.tree ≡ put_row (Int id ∷ values) (without_rowid id entries) = goes.3 ∙ ap (put_all (left_by old (edit goes.0))) news_is ∙ ap (put_row (Int id ∷ values)) left_is in
       let at_id = λ (x : Row) (h : Has entries x).
       both_ways (has_rowid id x) (is_eq (by_key place.keys (cells 1 place.width x) values))
-      (λ yes. subst (λ y. is_eq (by_key place.keys (cells 1 place.width y) values) ≡ true) (sym (tied_same entries x r keeps.shaped.0 h s.1 (subst (λ v. value_cmp (rowid x) v ≡ Equal) (sym id_is) (tie_is _ yes)))) has_it)
-      (λ yes. subst (λ y. has_rowid id y ≡ true) (one_row place old rows keeps values r x s.1 h has_it yes) (subst (λ v. is_eq (value_cmp (rowid r) v) ≡ true) id_is (ap is_eq (tied_itself value_cmp_total (rowid r))))) in
+      (λ yes. subst (λ y. is_eq (by_key place.keys (cells 1 place.width y) values) ≡ true)
+      (sym (tied_same entries x r keeps.shaped.0 h s.1 (subst (λ v. value_cmp (rowid x) v ≡ Equal) (sym id_is) (tie_is _ yes)))) has_it)
+      (λ yes. subst (λ y. has_rowid id y ≡ true) (one_row place old rows keeps values r x s.1 h has_it yes)
+      (subst (λ v. is_eq (value_cmp (rowid r) v) ≡ true) id_is (ap is_eq (tied_itself value_cmp_total (rowid r))))) in
       let left : without_rowid id entries ≡ filter (λ x. not (is_eq (by_key place.keys (cells 1 place.width x) values))) entries =
       filter_same _ (λ x. not (is_eq (by_key place.keys (cells 1 place.width x) values))) entries (all_from _ entries (λ x h. ap not (at_id x h))) in
       keeps_put place old (Int id ∷ values) values (without_rowid id entries) keeps.shaped left rows keeps new filled (shown_as id) refl free is
