@@ -8,7 +8,7 @@ use Rattle.kcr_people.specs.declared.Person.{Person}
 use Rattle.kcr_people.specs.declared.Training.{Training}
 use Rattle.kcr_people.specs.People.{is_person_by, ever_trained_by, ever_put_by, same_training}
 use Rattle.kcr_history.specs.declared.commands.Act.{Act}
-use Rattle.kcr_history.specs.declared.commands.Act.TheVariants.{Enter, Train, Appoint, Replace, Release}
+use Rattle.kcr_history.specs.declared.commands.Act.TheVariants.{Appoint, Replace, Release}
 use Rattle.kcr_history.specs.History.{History, all_said, some_command, entry_of}
 use Rattle.kcr_history.specs.Training.{enters, is_person, trains_person, ever_trained, is_training, puts, ever_put}
 use Rattle.kcr_history.specs.Tables.{people, person_row, trainings, training_row, appointments, appointments_after, ended, keys, key_row}
