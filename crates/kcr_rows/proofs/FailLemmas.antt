@@ -5,18 +5,15 @@ use Rattle.sqlite.specs.Clock.{timed}
 use Rattle.sqlite.specs.declared.error.Error.{Error}
 use Rattle.sqlite_schema.specs.declared.command.Returning.{Returning}
 use Rattle.sqlite.specs.Listing.{understood}
-use Rattle.sqlite.specs.State.{State, IsUnchanged, IsRolledBack, KeepsCommit, Fails, IsNotRun, FailsToQuery, FailsToShow, IsTooLate, Shown, ShowsRows}
+use Rattle.sqlite.specs.State.{State, IsUnchanged, KeepsCommit, Fails, IsNotRun, FailsToQuery, FailsToShow, IsTooLate, Shown, ShowsRows}
 use Rattle.sqlite.proofs.Callers.{IsPlain}
 use Rattle.sqlite.specs.Schema.{Schema}
 
 unchanged_keeps : (old new : State) → IsUnchanged old new → KeepsCommit old new
 unchanged_keeps old new u = record { was_open = λ _. u.0.was_open; committed = λ _. u.0.committed_is }
 
-undone_keeps : (old new : State) → IsRolledBack old new → KeepsCommit old new
-undone_keeps old new u = record { was_open = u.was_open; committed = λ live. (u.undone live).1 }
-
 failure_keeps : (old new : State) (big : Type 0) (e : Error) → Fails old new big e → KeepsCommit old new
-failure_keeps old new big e f = undone_keeps old new f.3
+failure_keeps old new big e f = record { was_open = f.3.was_open; committed = λ live. (f.3.undone live).1 }
 
 pub failed_query_keeps : (sql : List ℕ) (params : Row) (old new : State) (e : Error) → FailsToQuery sql params old new e ⊎ IsTooLate sql params old new e → KeepsCommit old new
 unfolding FailsToQuery IsNotRun

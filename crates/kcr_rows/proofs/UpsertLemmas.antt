@@ -190,25 +190,20 @@ module _ (keys : ℕ) (values : Row) where
           rw (filter_none has_key rows (all_from _ rows (λ y h. later_apart row y (tie_is _ is) (all_has _ rows y up.0 h)))) (omega arith)
       go false is more = more
 
+-- no row has a rowid below its own
+apart : (x y : Row) → value_cmp (rowid x) (rowid y) ≡ Less → x ≡ y → ⊥
+apart x y below same = let e = sym (tied_itself value_cmp_total (rowid y)) ∙ subst (λ z. value_cmp (rowid z) (rowid y) ≡ Less) same below in cc
+
 -- the one row that passes a test, of those that rise by their rowids
 module _ (p : Row → Bool) (r : Row) where
   only : (rows : List Row) → IsTable rows → Has rows r → p r ≡ true → ((x : Row) → Has rows x → p x ≡ true → x ≡ r) → filter p rows ≡ r ∷ []
   only [] up h is one = absurd h
   only (y ∷ rows) up (inl same) is one =
       let here : p y ≡ true = ap p (sym same) ∙ is in
-      rw (
-        here,
-        filter_none p rows (all_from _ rows (λ x h. false_from_ne_true _ (λ also.
-            let equal_to : y ≡ x = sym same ∙ sym (one x (inr h) also) in
-            let below = all_has _ rows x up.0 h in
-            let e = sym (tied_itself value_cmp_total (rowid x)) ∙ subst (λ z. value_cmp (rowid z) (rowid x) ≡ Less) equal_to below in cc))),
-      )
-      (ap (λ z. z ∷ []) (sym same))
+      let others = all_from _ rows (λ x h. false_from_ne_true _ (λ also. apart y x (all_has _ rows x up.0 h) (sym same ∙ sym (one x (inr h) also)))) in
+      rw (here, filter_none p rows others) (ap (λ z. z ∷ []) (sym same))
   only (y ∷ rows) up (inr later) is one =
-      let out : p y ≡ false = false_from_ne_true _ (λ also.
-      let equal_to : y ≡ r = one y (inl refl) also in
-      let below = all_has _ rows r up.0 later in
-      let e = sym (tied_itself value_cmp_total (rowid r)) ∙ subst (λ z. value_cmp (rowid z) (rowid r) ≡ Less) equal_to below in cc) in
+      let out : p y ≡ false = false_from_ne_true _ (λ also. apart y r (all_has _ rows r up.0 later) (one y (inl refl) also)) in
       rw out (only rows up.1 later is (λ x h. one x (inr h)))
 
 -- the row that has the key, among the entries that a tree keeps
