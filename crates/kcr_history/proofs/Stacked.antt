@@ -149,8 +149,8 @@ closing place day r rows s h l = let it = opened place r rows s h in subst (λ p
     closed (here rows e free) = or_from _ _ (now (same_place r.place r.place) r.until e) (later_free r.place r.since day rows (omega arith) free)
     closed (below row rows apart o) = or_from (same_place row.place r.place && lasts_beyond day (ended r.place day row)) _ (and_left _ _ apart) (closed o)
 
-pub lasts-ended : (place : Place) (day : ℕ) (r : Appointment) (rows : List Appointment) → stacked rows ≡ true → list_all lasts rows ≡ true → open_row_by rows place ≡ Some r → r.since < day
-    → list_all lasts (map (ended place day) rows) ≡ true
+pub lasts-ended : (place : Place) (day : ℕ) (r : Appointment) (rows : List Appointment) → stacked rows ≡ true → list_all lasts rows ≡ true
+    → open_row_by rows place ≡ Some r → r.since < day → list_all lasts (map (ended place day) rows) ≡ true
 lasts-ended place day r rows s t h l = let it = opened place r rows s h in subst (λ p. list_all lasts (map (ended p day) rows) ≡ true) it.0 (still it.1 t)
   where
     longer : (s : Bool) (u : Option ℕ) → ends_after u r.since ≡ true → ends_after (end_at s u day) r.since ≡ true

@@ -57,15 +57,15 @@ pub kept_from : (tree : ℕ) (test project : List Term) (order : List (Term × K
 kept_from tree test project order limit params low db rows a =
     let p = λ (r : Row). list_all (holds (params ∷ r ∷ [])) test in
     let over : overlay db [] tree ≡ db tree = rw low in
-    a.distinct
-    ∙ ap (map (output (asking tree test project order limit))) (a.grouped ∙ matched p (λ r. params ∷ r ∷ []) (overlay db [] tree) ∙ ap (λ l. map (λ r. params ∷ r ∷ []) (filter p l)) over)
+    a.distinct ∙ ap (map (output (asking tree test project order limit)))
+    (a.grouped ∙ matched p (λ r. params ∷ r ∷ []) (overlay db [] tree) ∙ ap (λ l. map (λ r. params ∷ r ∷ []) (filter p l)) over)
     ∙ map-map (output (asking tree test project order limit)) (λ r. params ∷ r ∷ []) (filter p (db tree))
 
 -- the same where the test and what is made of an entry are told of its cells
 pub kept_cells : (place : Place) (test project : List Term) (order : List (Term × Key)) (limit : ℤ) (params : Row) (passes : Row → Bool) (out : Row → Output)
     → ((r : Row) → output (asking place.tree test project order limit) (params ∷ r ∷ []) ≡ out (cells 1 place.width r))
-    → ((r : Row) → list_all (holds (params ∷ r ∷ [])) test ≡ passes (cells 1 place.width r))
-    → nat_le (2 ^ 31) place.tree ≡ false → (db : Trees) (rows : List Row) → (a : IsAnswer (asking place.tree test project order limit) (overlay db []) params rows)
+    → ((r : Row) → list_all (holds (params ∷ r ∷ [])) test ≡ passes (cells 1 place.width r)) → nat_le (2 ^ 31) place.tree ≡ false
+    → (db : Trees) (rows : List Row) → (a : IsAnswer (asking place.tree test project order limit) (overlay db []) params rows)
     → a.kept ≡ map out (filter passes (map (cells 1 place.width) (db place.tree)))
 kept_cells place test project order limit params passes out shows tests low db rows a =
     let shown = cells 1 place.width in

@@ -133,7 +133,8 @@ module _ (schema : Schema) (at : ℕ) (name : List ℕ) (tree : ℕ) (columns : 
       let edit = rewriting trees table asked.0 in
       let written = one_step schema Enforced trees all.0 edit (alone (taken_by trees edit) edit.news) all.1 in
       let is : one.trees ≡ all.0 = ap (λ (w : Written). w.trees) (same_value all.2) in
-      subst (Is trees) (sym is) (record { found = there ∷ more; are = are; goes = (asked.0, asked.1.answer Null, written.fresh, written.rows); others = written.others })
+      subst (Is trees) (sym is)
+      (record { found = there ∷ more; are = are; goes = (asked.0, asked.1.answer Null, written.fresh, written.rows); others = written.others })
 
   judged : (limit : Option ℕ) (trees : Trees) (one : Written) (verdict : Option Refusal) → Judged (task limit) Abort (clause ∷ []) (new trees) trees verdict (Ok one) → Is trees one.trees
   judged limit trees one None h = met limit trees one h.0 h.1 h.2
@@ -273,7 +274,8 @@ module _ (place : Place) (schema : Schema) (at : ℕ) (name : List ℕ) (columns
   conflicts_is old rows keeps r h =
       let entries = old place.tree in
       meets_key place.keys place.width entries (next_rowid entries) values compares fulls (shown_as (next_rowid entries))
-      (next_is_free Chosen entries values keeps.shaped.0 keeps.shaped.1) schema.indexes that shared r h (own_id place old rows keeps r h) (whole place old rows keeps r h) filled
+      (next_is_free Chosen entries values keeps.shaped.0 keeps.shaped.1) schema.indexes that shared r h
+      (own_id place old rows keeps r h) (whole place old rows keeps r h) filled
 
   keeps_new : (old new : Trees) → AreConflicts (Some (places_from 1 place.keys)) schema.indexes that (old place.tree) (stored (old place.tree) values) []
       → Goes that place.tree test sets old new values [] → Goal old new

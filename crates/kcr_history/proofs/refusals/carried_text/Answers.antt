@@ -18,8 +18,8 @@ returns-in-Form c = let a = c.around in carried a.result c.in-Form.is (rw c.text
 
 pub returns-in_ok-thing-in-Unknown : goal.returns-in_ok-thing-in-Unknown
 unfolding digits
-returns-in_ok-thing-in-Unknown c =
-    let a = c.around-in-Unknown in carried a.result c.in-Unknown.is (rw (c.as_str.ensures.value, c.in_ok-thing-in-Unknown.ensures) (simp append_assoc)) a.ensures
+returns-in_ok-thing-in-Unknown c = let a = c.around-in-Unknown in
+    carried a.result c.in-Unknown.is (rw (c.as_str.ensures.value, c.in_ok-thing-in-Unknown.ensures) (simp append_assoc)) a.ensures
 
 pub returns-in-Settled : goal.returns-in-Settled
 unfolding digits
@@ -58,5 +58,5 @@ returns-in-Unfinished c = let a = c.around-in-Unfinished in carried a.result c.i
 
 pub returns-in_ok-seats-in-Short : goal.returns-in_ok-seats-in-Short
 unfolding digits
-returns-in_ok-seats-in-Short c =
-    let a = c.around-in-Short in carried a.result c.in-Short.is (rw (c.as_str-in-Short.ensures.value, c.in_ok-seats-in-Short.ensures) (simp append_assoc)) a.ensures
+returns-in_ok-seats-in-Short c = let a = c.around-in-Short in
+    carried a.result c.in-Short.is (rw (c.as_str-in-Short.ensures.value, c.in_ok-seats-in-Short.ensures) (simp append_assoc)) a.ensures
