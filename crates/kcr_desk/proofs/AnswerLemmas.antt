@@ -1,18 +1,20 @@
--- What the register answers to one message.
-use Rattle.std.proofs.Common.{◌≡◌, ℕ, List, refl, sym, ap, ◌∙◌, subst, inl, inr}
-use Rattle.std.specs.Prelude.{◌⊎◌, ◌≢◌, ◌↔◌, true, false, Option, Some, None, Result, Ok, Err, MatchOption, MatchResult, IsSome, IsTrue}
+-- What the register answers to one message, from what its calls say.
+use Rattle.std.proofs.Common.{◌≡◌, List, ℕ, refl, sym, ap, ◌∙◌, arith, inl, inr}
+use Rattle.std.specs.Prelude.{◌⊎◌, ◌≢◌, ◌↔◌, true, false, Option, Some, None, Result, Ok, Err, MatchOption, MatchResult, IsSome, IsTrue, unwrap_or}
+use Rattle.sqlite.specs.Held.{state}
+use Rattle.sqlite.specs.State.{HasCleanDisk}
+use Rattle.sqlite.specs.Store.{Ghosts}
+use Rattle.kcr_base.specs.Refusal.{status_of}
 use Rattle.kcr_base.specs.declared.refusal.Refusal.{Refusal}
 use Rattle.kcr_base.specs.declared.refusal.Refusal.TheVariants as Refusals
 use Rattle.kcr_history.specs.History.{History}
-use Rattle.kcr_base.specs.Refusal.{status_of}
-use Rattle.kcr_history.specs.Refusals.{carries, refusal_text}
+use Rattle.kcr_history.specs.Refusals.{carries}
 use Rattle.kcr_history.specs.declared.commands.Command.{Command}
 use Rattle.kcr_history.specs.declared.commands.Reply.{Reply}
-use Rattle.kcr_store.specs.Steps.{Steps}
-use Rattle.kcr_wire.specs.declared.allow.Allow.{Allow}
-use Rattle.kcr_desk.specs.declared.reply.Heading.{Heading}
-use Rattle.kcr_desk.specs.declared.reply.Kind.TheVariants.{Json}
-use Rattle.kcr_desk.specs.Answers.{Standing, allowed, told_text, told_refusal, told_reply, TellsOrMemory, Performs, Inquires, IsRefused}
+use Rattle.kcr_store.specs.Register.{Seen}
+use Rattle.kcr_store.specs.Steps.{Steps, IsNext}
+use Rattle.kcr_desk.specs.Answers.{Standing, standing, told_text, told_refusal, told_reply, TellsOrMemory, Performs, Inquires, IsRefused, Replies}
+use Rattle.kcr_desk.specs.Answers.{Answered, AnswersCommand, AnswersReading}
 use Rattle.kcr_desk.specs.Texts.{Told}
 
 -- a refusal is told, or out of memory in the place of one that carries something
@@ -20,137 +22,120 @@ abbrev pub TellsRefusal : List ℕ → Refusal → Told → Type 0
 TellsRefusal target refusal told =
     (told ≡ told_refusal target refusal) ⊎ (IsTrue (carries refusal) × (told ≡ told_refusal target Refusals.Memory))
 
--- a refusal is told by its heading and its text
-abbrev pub heading_of : Refusal → Option Allow → Heading
-heading_of refusal allow = record { status = status_of refusal; kind = Json; allow = allow }
+-- a fault of the device and a broken register carry nothing
+carries_not : {Value : Type 0} (r q : Refusal) → IsTrue (carries r) → carries q ≡ false → ◌≡◌ {A = Result Value Refusal} (Err r) (Err q) → ⊥
+carries_not r q c n e = let t : carries r ≡ true = c in cc
 
-pub told_as_refusal : (target : List ℕ) (refusal : Refusal) (allow : Option Allow) (heading : Heading) (body : List ℕ)
-    → allow ≡ allowed target refusal → heading ≡ heading_of refusal allow → body ≡ refusal_text refusal
-    → record { heading = heading; body = body } ≡ told_refusal target refusal
-told_as_refusal target refusal allow heading body a h b =
-    let headed : heading ≡ heading_of refusal (allowed target refusal) = h ∙ ap (heading_of refusal) a in
-    λ i. record { heading = headed i; body = b i }
+pub refused_or_memory : {Value : Type 0} (told_by : Result Value Refusal → Told) (target : List ℕ) (told : Told) (r : Refusal)
+    → told_by (Err r) ≡ told_refusal target r → TellsRefusal target r told → TellsOrMemory told_by target (Err r) told
+refused_or_memory told_by target told r as_refusal (inl e) = inl (e ∙ sym as_refusal)
+refused_or_memory told_by target told r as_refusal (inr c) =
+    inr (c.1, carries_not r Refusals.Disk c.0 refl, carries_not r Refusals.Broken c.0 refl)
 
--- what a command's result is told as
-abbrev pub TellsReply : List ℕ → Result Reply Refusal → Told → Type 0
-TellsReply target result told =
-    MatchResult result (λ reply. told ≡ told_text reply.text) (λ refusal. TellsRefusal target refusal told)
+-- a text that is told is no refusal
+pub text_is_not_memory : (target text : List ℕ) (told : Told) → told ≡ told_text text → told ≡ told_refusal target Refusals.Memory → ⊥
+text_is_not_memory target text told e m =
+    let same : 200 ≡ status_of Refusals.Memory = ap (λ t. t.heading.status) (sym e ∙ m) in absurd (omega arith)
 
 not_some : {T : Type 0} (o : Option T) → (IsSome o → ⊥) → o ≡ None
 not_some None h = refl
 not_some (Some x) h = absurd (h refl)
 
-carries_no_disk : (r : Refusal) → IsTrue (carries r) → (r ≡ Refusals.Disk) → ⊥
-carries_no_disk r c e = let f : carries r ≡ carries Refusals.Disk = ap carries e in let t : carries r ≡ true = c in let n : carries Refusals.Disk ≡ false = refl in cc
-
-carries_no_broken : (r : Refusal) → IsTrue (carries r) → (r ≡ Refusals.Broken) → ⊥
-carries_no_broken r c e = let f : carries r ≡ carries Refusals.Broken = ap carries e in let t : carries r ≡ true = c in let n : carries Refusals.Broken ≡ false = refl in cc
-
-step_err : (A A' : History) (x : Command) (r : Refusal) → Steps A x (Err r) A' → A' ≡ A
-step_err A A' x r step = step.0
-
 still : (before after : Standing) → after.accepted ≡ before.accepted → before.torn ≡ None → after.torn ≡ None → after ≡ before
 still before after p q r = λ i. record { accepted = p i; torn = (r ∙ sym q) i }
 
--- a command
-module _ (before after : Standing) (x : Command) (target : List ℕ) (told : Told) where
-  broken_command : (result : Result Reply Refusal) → result ≡ Err Refusals.Broken → after ≡ before
-      → TellsReply target result told → IsRefused before target told after Refusals.Broken
-  broken_command (Ok reply) is same tells = cc
-  broken_command (Err r) is same (inl e) =
-      let same_refusal : r ≡ Refusals.Broken = cc in (e ∙ ap (told_refusal target) same_refusal, same)
-  broken_command (Err r) is same (inr c) =
-      let same_refusal : r ≡ Refusals.Broken = cc in absurd (carries_no_broken r c.0 same_refusal)
+-- A RESULT THAT IS TOLD
 
-  whole_command : (result : Result Reply Refusal) → before.torn ≡ None
-      → Performs before.accepted x result after → TellsReply target result told
-      → IsRefused before target told after Refusals.Memory
-      ⊎ ((r : Result Reply Refusal) × (told ≡ told_reply target r) × Performs before.accepted x r after)
-  whole_command (Ok reply) none does tells = inr (Ok reply, tells, does)
-  whole_command (Err r) none does (inl e) = inr (Err r, e, does)
-  whole_command (Err r) none does (inr c) =
-      let calm : after.torn ≡ None = not_some after.torn (λ broken.
-      let is : ◌≡◌ {A = Result Reply Refusal} (Err r) (Err Refusals.Disk) = does.breaks.0 broken in
-      let same_refusal : r ≡ Refusals.Disk = cc in carries_no_disk r c.0 same_refusal) in
-      inl (c.1, still before after (step_err before.accepted after.accepted x r does.step) none calm)
+module _ {S Value : Type 0} (g : Ghosts S) (before after : Seen S) (target : List ℕ) (told : Told) (told_by : Result Value Refusal → Told)
+    (as_refusal : (r : Refusal) → told_by (Err r) ≡ told_refusal target r) (result : Result Value Refusal) where
+  abbrev ends_clean : Type 0
+  ends_clean = HasCleanDisk (state g after.conn)
 
-  pub took_command : (torn : Option History) → before.torn ≡ torn → (result : Result Reply Refusal)
-      → (IsSome torn → (result ≡ Err Refusals.Broken) × (after ≡ before)) → (torn ≡ None → Performs before.accepted x result after)
-      → TellsReply target result told
-      → IsRefused before target told after Refusals.Memory
-      ⊎ MatchOption torn ((r : Result Reply Refusal) × (told ≡ told_reply target r) × Performs before.accepted x r after)
-      (λ _. IsRefused before target told after Refusals.Broken)
-  took_command None e result broken does tells = whole_command result e (does refl) tells
-  took_command (Some t) e result broken does tells = inr (broken_command result (broken refl).0 (broken refl).1 tells)
+  abbrev wants_memory : Type 0
+  wants_memory = IsRefused (standing before) target told (standing after) Refusals.Memory
+
+  -- a broken register says so. With one that is whole the result does this, or something else where memory is wanting
+  by_torn : (Does : Result Value Refusal → Type 0) (torn : Option History)
+      → (IsSome torn → (result ≡ Err Refusals.Broken) × (after ≡ before)) → (torn ≡ None → Does result)
+      → (torn ≡ None → told ≡ told_refusal target Refusals.Memory → result ≢ Err Refusals.Disk
+      → wants_memory ⊎ ((r : Result Value Refusal) × (told ≡ told_by r) × Does r))
+      → TellsOrMemory told_by target result told
+      → wants_memory ⊎ MatchOption torn ((r : Result Value Refusal) × (told ≡ told_by r) × Does r)
+      (λ _. IsRefused (standing before) target told (standing after) Refusals.Broken)
+  by_torn Does None broken does wanting (inl tells) = inr (result, tells, does refl)
+  by_torn Does None broken does wanting (inr m) = wanting refl m.0 m.1
+  by_torn Does (Some t) broken does wanting (inl tells) =
+      let b = broken refl in inr (tells ∙ ap told_by b.0 ∙ as_refusal Refusals.Broken, ap standing b.1)
+  by_torn Does (Some t) broken does wanting (inr m) = absurd (m.2 (broken refl).0)
+
+  result_answered : (Does : Standing → Standing → Result Value Refusal → Type 0)
+      → (IsSome before.torn → (result ≡ Err Refusals.Broken) × (after ≡ before))
+      → (before.torn ≡ None → IsSome after.torn ↔ (result ≡ Err Refusals.Disk))
+      → (IsTrue before.is_founded → before.torn ≡ None → ends_clean → Does (standing before) (standing after) result)
+      → (told ≡ told_refusal target Refusals.Memory → Does (standing before) (standing after) result → after.accepted ≡ before.accepted)
+      → (ends_clean → HasCleanDisk (state g before.conn)) → after.is_founded ≡ before.is_founded → TellsOrMemory told_by target result told
+      → Answered g before target told after
+      (λ old new. MatchOption old.torn ((r : Result Value Refusal) × (told ≡ told_by r) × Does old new r)
+      (λ _. IsRefused old target told new Refusals.Broken))
+      (λ old new. Replies told_by old target told new)
+  result_answered Does broken breaks does stays clean founded tells = record {
+    founded = founded;
+    clean = clean;
+    reply = by_torn (λ r. IsSome after.torn ↔ (r ≡ Err Refusals.Disk)) before.torn broken breaks
+        (λ none m n. inr (Err Refusals.Memory, m ∙ sym (as_refusal Refusals.Memory), ((λ some. absurd (n ((breaks none).0 some))), (λ is. cc)))) tells;
+    answer = λ is_founded is_clean.
+        by_torn (Does (standing before) (standing after)) before.torn broken (λ none. does is_founded none is_clean)
+        (λ none m n.
+        let calm : after.torn ≡ None = not_some after.torn (λ torn. n ((breaks none).0 torn)) in
+        inl (m, still (standing before) (standing after) (stays m (does is_founded none is_clean)) none calm)) tells;
+  }
+
+  -- what only reads
+  pub reading_answered : (Says : History → Result Value Refusal → Type 0)
+      → (IsSome before.torn → (result ≡ Err Refusals.Broken) × (after ≡ before))
+      → (IsTrue before.is_founded → before.torn ≡ None → ends_clean → Says before.accepted result)
+      → (before.torn ≡ None → IsSome after.torn ↔ (result ≡ Err Refusals.Disk))
+      → after.accepted ≡ before.accepted → (before.torn ≡ None → unwrap_or after.torn after.accepted ≡ before.accepted)
+      → (ends_clean → HasCleanDisk (state g before.conn)) → after.is_founded ≡ before.is_founded → TellsOrMemory told_by target result told
+      → AnswersReading g before target told after told_by Says
+  reading_answered Says broken says breaks same tried =
+      result_answered (λ old new r. Inquires Says old.accepted r new) broken breaks
+      (λ founded none clean. record { says = says founded none clean; same = same; breaks = breaks none; tried = tried none }) (λ m does. same)
+
+-- a command, of which out of memory is told only where it leaves the history
+pub command_answered : {S : Type 0} (g : Ghosts S) (before after : Seen S) (target : List ℕ) (told : Told) (x : Command) (result : Result Reply Refusal)
+    → (IsSome before.torn → (result ≡ Err Refusals.Broken) × (after ≡ before))
+    → (IsTrue before.is_founded → before.torn ≡ None → HasCleanDisk (state g after.conn) → Steps before.accepted x result after.accepted)
+    → (before.torn ≡ None → IsSome after.torn ↔ (result ≡ Err Refusals.Disk))
+    → (IsTrue before.is_founded → before.torn ≡ None → HasCleanDisk (state g after.conn)
+    → IsNext before.accepted x (unwrap_or after.torn after.accepted))
+    → (HasCleanDisk (state g after.conn) → HasCleanDisk (state g before.conn)) → after.is_founded ≡ before.is_founded
+    → (told ≡ told_refusal target Refusals.Memory → Steps before.accepted x result after.accepted → after.accepted ≡ before.accepted)
+    → TellsOrMemory (told_reply target) target result told
+    → AnswersCommand g before target told after x
+command_answered g before after target told x result broken step breaks tried clean founded stays =
+    result_answered g before after target told (told_reply target) (λ r. refl) result (λ old new r. Performs old.accepted x r new) broken breaks
+    (λ f none c. record { step = step f none c; breaks = breaks none; tried = tried f none c }) (λ m does. stays m does.step) clean founded
+
+-- NOTHING WAS ASKED OF THE REGISTER
 
 is_memory : (r : Refusal) → (r ≡ Refusals.Memory) ⊎ (r ≢ Refusals.Memory)
 is_memory Refusals.Memory = inl refl
 is_memory r = inr (λ e. cc)
 
--- what was read is the request, or out of memory
-module _ {Request : Type 0} (before after : Standing) (target : List ℕ) (told : Told) (Takes : Request → Type 0) where
-  pub refused : (expected : Result Request Refusal) (r : Refusal) → (r ≢ Refusals.Memory → expected ≡ Err r) → TellsRefusal target r told
-      → after ≡ before
-      → IsRefused before target told after Refusals.Memory ⊎ MatchResult expected Takes (IsRefused before target told after)
-  refused expected r reads (inr c) same = inl (c.1, same)
-  refused expected r reads (inl e) same = elim (is_memory r) [
-    | inl m ↦ inl (e ∙ ap (told_refusal target) m, same)
-    | inr n ↦ inr (subst (λ t. MatchResult t Takes (IsRefused before target told after)) (sym (reads n)) (e, same))
+module _ {S : Type 0} (g : Ghosts S) (before : Seen S) (target : List ℕ) (told : Told) where
+  pub memory_answered : (Answer Reply : Standing → Standing → Type 0) → told ≡ told_refusal target Refusals.Memory
+      → Answered g before target told before Answer Reply
+  memory_answered Answer Reply tells =
+      record { founded = refl; clean = λ clean. clean; reply = inl (tells, refl); answer = λ founded clean. inl (tells, refl) }
+
+  -- what was read is no request
+  pub refused_answered : {Request : Type 0} (Takes Replies : Standing → Standing → Request → Type 0)
+      (expected : Result Request Refusal) (r : Refusal) → (r ≢ Refusals.Memory → expected ≡ Err r) → TellsRefusal target r told
+      → Answered g before target told before (λ old new. MatchResult expected (Takes old new) (IsRefused old target told new))
+      (λ old new. MatchResult expected (Replies old new) (IsRefused old target told new))
+  refused_answered Takes Replies expected r reads (inr c) = memory_answered _ _ c.1
+  refused_answered Takes Replies expected r reads (inl e) = elim (is_memory r) [
+    | inl m ↦ memory_answered _ _ (e ∙ ap (told_refusal target) m)
+    | inr n ↦ rw (reads n) (record { founded = refl; clean = λ clean. clean; reply = inr (e, refl); answer = λ founded clean. inr (e, refl) })
   ]
-
-  pub taken : (expected : Result Request Refusal) (request : Request) → expected ≡ Ok request
-      → IsRefused before target told after Refusals.Memory ⊎ Takes request
-      → IsRefused before target told after Refusals.Memory ⊎ MatchResult expected Takes (IsRefused before target told after)
-  taken expected request reads (inl m) = inl m
-  taken expected request reads (inr t) = inr (subst (λ t. MatchResult t Takes (IsRefused before target told after)) (sym reads) t)
-
--- WHATEVER THE REGISTER IS
-
-same_error : {Value : Type 0} (r q : Refusal) → ◌≡◌ {A = Result Value Refusal} (Err r) (Err q) → r ≡ q
-same_error r q e = cc
-
-pub reply_or_memory : (target : List ℕ) (told : Told) (result : Result Reply Refusal) → TellsReply target result told
-    → TellsOrMemory (told_reply target) target result told
-reply_or_memory target told (Ok reply) tells = inl tells
-reply_or_memory target told (Err r) (inl e) = inl e
-reply_or_memory target told (Err r) (inr c) =
-    inr (c.1, (λ e. carries_no_disk r c.0 (same_error r Refusals.Disk e)), (λ e. carries_no_broken r c.0 (same_error r Refusals.Broken e)))
-
--- a refusal is told, or out of memory in its place
-pub refused_or_memory : {Value : Type 0} (told_by : Result Value Refusal → Told) (target : List ℕ) (told : Told) (r : Refusal) → told_by (Err r) ≡ told_refusal target r → TellsRefusal target r told
-    → TellsOrMemory told_by target (Err r) told
-refused_or_memory told_by target told r as_refusal (inl e) = inl (e ∙ sym as_refusal)
-refused_or_memory told_by target told r as_refusal (inr c) =
-    inr (c.1, (λ e. carries_no_disk r c.0 (same_error r Refusals.Disk e)), (λ e. carries_no_broken r c.0 (same_error r Refusals.Broken e)))
-
--- what is told of a result, where a broken register says so and a fault of the device alone breaks it
-module _ {Value : Type 0} (told_by : Result Value Refusal → Told) (before after : Standing) (target : List ℕ) (told : Told)
-    (as_refusal : (r : Refusal) → told_by (Err r) ≡ told_refusal target r) where
-  pub replied : (torn : Option History) (result : Result Value Refusal)
-      → (IsSome torn → (result ≡ Err Refusals.Broken) × (after ≡ before)) → (torn ≡ None → IsSome after.torn ↔ (result ≡ Err Refusals.Disk))
-      → TellsOrMemory told_by target result told
-      → IsRefused before target told after Refusals.Memory
-      ⊎ MatchOption torn ((r : Result Value Refusal) × (told ≡ told_by r) × (IsSome after.torn ↔ (r ≡ Err Refusals.Disk)))
-      (λ _. IsRefused before target told after Refusals.Broken)
-  replied None result broken breaks (inl tells) = inr (result, tells, breaks refl)
-  replied None result broken breaks (inr m) =
-      inr (Err Refusals.Memory, m.0 ∙ sym (as_refusal Refusals.Memory), ((λ some. absurd (m.1 ((breaks refl).0 some))), (λ is. cc)))
-  replied (Some t) result broken breaks (inl tells) =
-      inr (tells ∙ ap told_by (broken refl).0 ∙ as_refusal Refusals.Broken, (broken refl).1)
-  replied (Some t) result broken breaks (inr m) = absurd (m.2 (broken refl).0)
-
--- what only reads
-module _ {Value : Type 0} (told_by : Result Value Refusal → Told) (Says : History → Result Value Refusal → Type 0) (before after : Standing) (target : List ℕ) (told : Told)
-    (as_refusal : (r : Refusal) → told_by (Err r) ≡ told_refusal target r) where
-  pub reads : (torn : Option History) → before.torn ≡ torn → (result : Result Value Refusal)
-      → (IsSome torn → (result ≡ Err Refusals.Broken) × (after ≡ before)) → (torn ≡ None → Inquires Says before.accepted result after)
-      → TellsOrMemory told_by target result told
-      → IsRefused before target told after Refusals.Memory
-      ⊎ MatchOption torn ((r : Result Value Refusal) × (told ≡ told_by r) × Inquires Says before.accepted r after)
-      (λ _. IsRefused before target told after Refusals.Broken)
-  reads None e result broken does (inl tells) = inr (result, tells, does refl)
-  reads None e result broken does (inr m) =
-      let calm : after.torn ≡ None = not_some after.torn (λ torn. m.1 ((does refl).breaks.0 torn)) in
-      inl (m.0, still before after (does refl).same e calm)
-  reads (Some t) e result broken does (inl tells) = inr (tells ∙ ap told_by (broken refl).0 ∙ as_refusal Refusals.Broken, (broken refl).1)
-  reads (Some t) e result broken does (inr m) = absurd (m.2 (broken refl).0)

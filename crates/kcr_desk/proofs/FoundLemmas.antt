@@ -10,7 +10,7 @@ use Rattle.kcr_base.specs.declared.refusal.Refusal.{Refusal}
 use Rattle.kcr_base.specs.declared.refusal.Refusal.TheVariants.{Head}
 use Rattle.kcr_desk.specs.Plans.{is_head}
 use Rattle.kcr_desk.specs.Stream.{HasNoHead, IsQuiet, plan_of, IsEnd, quiet, refused, is_quiet, no_head, fails}
-use Rattle.kcr_desk.specs.Heads.{IsWhole, IsHopeless}
+use Rattle.kcr_desk.specs.Heads.{IsHeadAt, IsWhole, IsHopeless}
 use Rattle.kcr_desk.specs.Found.{EndsAs}
 
 -- what is known of the stream: the buffer, and then the bytes that are unread
@@ -24,22 +24,21 @@ at_end buf None p e end = cc
 at_end buf (Some u) p e end =
     let f : buf ++ u ≡ p = cc in sym (append-nil buf) ∙ ap (λ (t : List ℕ). buf ++ t) (sym end) ∙ f
 
+-- a head that stands at the front of each text that begins so stands here
+pub head_here : (buf : List ℕ) (spans : RequestSpans) (h : RequestHead) → IsWhole buf spans h → IsHeadAt buf spans h
+head_here buf spans h whole = subst (λ t. IsHeadAt t spans h) (append-nil buf) (whole.at [])
+
 pub hopeless_ends : (buf : List ℕ) (unread : Option (List ℕ)) → IsHopeless buf → EndsAs (prepend_known buf unread) (refused Head false)
 hopeless_ends buf unread none p e =
     let k = known_split buf unread p e in
-    let P : List ℕ → Type 0 = λ t. IsEnd t (refused Head false) in
-    subst P k.2 (no_head (none.no_head k.0) (none.not_quiet k.0))
+    let P : List ℕ → Type 0 = λ t. IsEnd t (refused Head false) in subst P k.2 (no_head (none.no_head k.0) (none.not_quiet k.0))
 
-pub failed_ends : (buf : List ℕ) (unread : Option (List ℕ)) (spans : RequestSpans) (h : RequestHead) (r : Refusal) (bare : Bool)
-    → IsWhole buf spans h → plan_of h ≡ Err r → bare ≡ is_head (span_bytes buf spans.method)
-    → EndsAs (prepend_known buf unread) (refused r bare)
-failed_ends buf unread spans h r bare whole bad same p e =
+pub failed_ends : (buf : List ℕ) (unread : Option (List ℕ)) (spans : RequestSpans) (h : RequestHead) (r : Refusal)
+    → IsWhole buf spans h → plan_of h ≡ Err r → EndsAs (prepend_known buf unread) (refused r (is_head (span_bytes buf spans.method)))
+failed_ends buf unread spans h r whole bad p e =
     let k = known_split buf unread p e in
-    let P : List ℕ → Type 0 = λ t. IsEnd t (refused r bare) in
-    let method : span_bytes buf spans.method ≡ h.method =
-    ap (λ t. span_bytes t spans.method) (sym (append-nil buf)) ∙ (whole.at []).method in
-    let Q : Bool → Type 0 = λ b. IsEnd (buf ++ k.0) (refused r b) in
-    subst P k.2 (subst Q (sym (same ∙ ap is_head method)) (fails h _ (whole.at k.0).head bad))
+    let P : List ℕ → List ℕ → Type 0 = λ m t. IsEnd t (refused r (is_head m)) in
+    subst (λ m. P m p) (sym (head_here buf spans h whole).method) (subst (P h.method) k.2 (fails h _ (whole.at k.0).head bad))
 
 pub quiet_ends : (buf : List ℕ) (unread : Option (List ℕ)) → IsAtEnd unread → IsQuiet buf → EndsAs (prepend_known buf unread) quiet
 quiet_ends buf unread end q p e =

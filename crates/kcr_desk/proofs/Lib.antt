@@ -10,7 +10,6 @@ pub mod CutLemmas
 pub mod BeginsLemmas
 pub mod PhraseLemmas
 pub mod AnswerLemmas
-pub mod AnsweredLemmas
 pub mod StandingLemmas
 pub mod RegisterLemmas
 pub mod ReportLemmas

@@ -1,12 +1,8 @@
 -- Members between commas.
-use Rattle.std.proofs.Common.{◌≡◌, ℕ, suc, zero, ◌<◌, ◌≢◌, false, cond, List, [], ◌∷◌, length, take, drop, get_or, map, refl, ap, ◌∙◌, arith, eqb, inl, inr}
-use Rattle.std.proofs.lemmas.Bool.{eq-eqb}
-use Rattle.std.proofs.lemmas.Bool.Decides.{eqb_tells}
+use Rattle.std.proofs.Common.{◌≡◌, ℕ, suc, zero, ◌<◌, ◌≢◌, false, cond, List, [], ◌∷◌, length, take, drop, get_or, map, refl, ap, ◌∙◌, arith}
+use Rattle.std.proofs.lemmas.Bool.{eq-eqb, ne_eqb}
 use Rattle.httparse.specs.Grammar.{trim_ows}
 use Rattle.kcr_desk.specs.Members.{cons_first, split_commas, members}
-
-ne_eqb : (a b : ℕ) → (a ≡ b → ⊥) → eqb a b ≡ false
-ne_eqb a b ne = elim (eqb_tells a b) [ inl x ↦ absurd (ne x.1) | inr x ↦ x.0 ]
 
 -- the first piece ends at the first comma
 split_commas_at : (xs : List ℕ) (i : ℕ) → i < length xs → get_or xs i 0 ≡ 44 → ((k : ℕ) → k < i → get_or xs k 0 ≢ 44)

@@ -59,23 +59,24 @@ module _ (before after : Standing) (target : List ℕ) (told : Told) (are : AreR
   refused_keeps : (refusal : Refusal) → IsRefused before target told after refusal → AreRegisters after
   refused_keeps refusal h = subst AreRegisters (sym h.1) are
 
-  command_keeps : (x : Command) → TakesCommand before target told after x → AreRegisters after
-  command_keeps x h = by_torn before.torn h
-    where
-      by_torn : (torn : Option History)
-          → MatchOption torn ((result : Result Reply Refusal) × (told ≡ told_reply target result) × Performs before.accepted x result after)
-          (λ _. IsRefused before target told after Refusals.Broken) → AreRegisters after
-      by_torn None h = (taken_keeps before.accepted x h.0 after.accepted are.0 h.2.step, tried_keeps before.accepted x (unwrap_or after.torn after.accepted) are.0 h.2.tried)
-      by_torn (Some t) h = refused_keeps Refusals.Broken h
+  -- a register that is not broken keeps to registers, and a broken one stays as it was
+  whole_keeps : {Does : Type 0} (torn : Option History) → (Does → AreRegisters after)
+      → MatchOption torn Does (λ _. IsRefused before target told after Refusals.Broken) → AreRegisters after
+  whole_keeps None keeps h = keeps h
+  whole_keeps (Some t) keeps h = refused_keeps Refusals.Broken h
 
-  reading_keeps : {Value : Type 0} (told_by : Result Value Refusal → Told) (Says : History → Result Value Refusal → Type 0) → Reads told_by Says before target told after → AreRegisters after
-  reading_keeps {Value} told_by Says h = by_torn before.torn h
-    where
-      by_torn : (torn : Option History)
-          → MatchOption torn ((result : Result Value Refusal) × (told ≡ told_by result) × Inquires Says before.accepted result after)
-          (λ _. IsRefused before target told after Refusals.Broken) → AreRegisters after
-      by_torn None h = (stays before.accepted after.accepted are.0 h.2.same, stays before.accepted (unwrap_or after.torn after.accepted) are.0 h.2.tried)
-      by_torn (Some t) h = refused_keeps Refusals.Broken h
+  command_keeps : (x : Command) → TakesCommand before target told after x → AreRegisters after
+  command_keeps x = whole_keeps before.torn (λ h. (
+    taken_keeps before.accepted x h.0 after.accepted are.0 h.2.step,
+    tried_keeps before.accepted x (unwrap_or after.torn after.accepted) are.0 h.2.tried,
+  ))
+
+  reading_keeps : {Value : Type 0} (told_by : Result Value Refusal → Told) (Says : History → Result Value Refusal → Type 0)
+      → Reads told_by Says before target told after → AreRegisters after
+  reading_keeps told_by Says = whole_keeps before.torn (λ h. (
+    stays before.accepted after.accepted are.0 h.2.same,
+    stays before.accepted (unwrap_or after.torn after.accepted) are.0 h.2.tried,
+  ))
 
   inquiry_keeps : (inquiry : Inquiry) → TakesInquiry before target told after inquiry → AreRegisters after
   inquiry_keeps (inquiry.Question question) h = reading_keeps _ _ h
@@ -92,15 +93,9 @@ message_keeps : (before : Standing) (asked : Asked) (told : Told) (after : Stand
 message_keeps before asked told after are Post h =
     read_keeps before after asked.target told are (TakesCommand before asked.target told after)
     (command_keeps before after asked.target told are) (command_of Post asked.target asked.body) h
-message_keeps before asked told after are Get h =
+message_keeps before asked told after are method h =
     read_keeps before after asked.target told are (TakesInquiry before asked.target told after)
-    (inquiry_keeps before after asked.target told are) (inquiry_of Get asked.target) h
-message_keeps before asked told after are Head h =
-    read_keeps before after asked.target told are (TakesInquiry before asked.target told after)
-    (inquiry_keeps before after asked.target told are) (inquiry_of Head asked.target) h
-message_keeps before asked told after are Other h =
-    read_keeps before after asked.target told are (TakesInquiry before asked.target told after)
-    (inquiry_keeps before after asked.target told are) (inquiry_of Other asked.target) h
+    (inquiry_keeps before after asked.target told are) (inquiry_of method asked.target) h
 
 answer_keeps : (before : Standing) (asked : Asked) (told : Told) (after : Standing) → AreRegisters before → IsAnswer before asked told after → AreRegisters after
 answer_keeps before asked told after are (inl h) = refused_keeps before after asked.target told are Refusals.Memory h

@@ -1,11 +1,9 @@
 -- The messages so far, and what is left of the stream.
 use Rattle.std.proofs.Common.{◌≡◌, ℕ, ◌+◌, ◌-◌, ◌≤◌, List, [], ◌∷◌, ◌++◌, length, take, drop, refl, sym, ap, ◌∙◌, subst, arith, length-append, length-drop}
-use Rattle.std.specs.Prelude.{Option, Some, Bool, true, false, MatchBool}
+use Rattle.std.specs.Prelude.{⊤, Option, Some, Result, Ok, Err, Bool, true, false, MatchBool, slice_range}
 use Rattle.std.specs.List.{flat_map}
-use Rattle.std.specs.Io.KnownBytes.{Appends}
-use Rattle.std.specs.Prelude.{slice_range}
-use Rattle.std.specs.Io.KnownBytes.{prepend_known}
-use Rattle.std.proofs.lemmas.List.{append-nil, take-append-drop, take-append-le, drop-append-le, length-take-le, drop-drop}
+use Rattle.std.specs.Io.KnownBytes.{Appends, prepend_known}
+use Rattle.std.proofs.lemmas.List.{append-nil, map-append, take-append-drop, take-append-le, drop-append-le, length-take-le, drop-drop}
 use Rattle.std.proofs.lemmas.Grind.{flat_map-append}
 use Rattle.httparse.specs.Spans.{span_bytes}
 use Rattle.httparse.specs.declared.spans.RequestSpans.{RequestSpans}
@@ -17,9 +15,9 @@ use Rattle.kcr_desk.specs.Found.{EndsAs, IsReady, message_of}
 use Rattle.kcr_desk.specs.Texts.{Told, answer_text, continue_text}
 use Rattle.kcr_desk.specs.Run.{Asked, asked_of, Exchange, Run, exchange_text, messages_of, ending_text, Begins, IsServed, IsBroken, nothing}
 use Rattle.kcr_desk.specs.Turn.{BreaksTurn, asked_by}
-use Rattle.kcr_print.specs.Written.{WritesFront}
-use Rattle.kcr_desk.proofs.FoundLemmas.{known_split}
-use Rattle.kcr_print.proofs.WrittenLemmas.{appends_both, front_after}
+use Rattle.kcr_print.specs.Written.{WritesFront, Writes}
+use Rattle.kcr_desk.proofs.FoundLemmas.{known_split, head_here}
+use Rattle.kcr_print.proofs.WrittenLemmas.{appends_both, front_both, writes_then}
 
 -- what holds between two messages
 pub record Serving
@@ -34,24 +32,20 @@ pub record Serving
 
 -- ---- lists of messages
 
-pub front_snoc : (bytes : List ℕ) (ms : List Message) (rest : List ℕ) (m : Message) (after : List ℕ)
-    → IsFront bytes ms rest → IsMessage rest m after → m.plan.closes ≡ false → IsFront bytes (ms ++ m ∷ []) after
-front_snoc bytes [] rest m after e is open' = (after, subst (λ t. IsMessage t m after) (sym e) is, open', refl)
-front_snoc bytes (n ∷ ms) rest m after x is open' = (x.0, x.1, x.2, front_snoc x.0 ms rest m after x.3 is open')
+-- what holds of a rest, and of bytes with a message in front that does not close, holds of the whole
+from_front : (P : List ℕ → List Message → Type 0)
+    → ((bytes : List ℕ) (m : Message) (rest : List ℕ) (ms : List Message) → IsMessage bytes m rest → m.plan.closes ≡ false → P rest ms → P bytes (m ∷ ms))
+    → (bytes : List ℕ) (ms : List Message) (rest : List ℕ) (ns : List Message) → IsFront bytes ms rest → P rest ns → P bytes (ms ++ ns)
+from_front P grows bytes [] rest ns e more = subst (λ t. P t ns) (sym e) more
+from_front P grows bytes (m ∷ ms) rest ns x more = grows bytes m x.0 (ms ++ ns) x.1 x.2 (from_front P grows x.0 ms rest ns x.3 more)
 
-pub cut_from_front : (bytes : List ℕ) (ms : List Message) (rest : List ℕ) (ns : List Message) (e : Ending)
+cut_from_front : (e : Ending) (bytes : List ℕ) (ms : List Message) (rest : List ℕ) (ns : List Message)
     → IsFront bytes ms rest → IsCut rest ns e → IsCut bytes (ms ++ ns) e
-cut_from_front bytes [] rest ns e same cut = subst (λ t. IsCut t ns e) (sym same) cut
-cut_from_front bytes (m ∷ ms) rest ns e x cut =
-    let P : Bool → Type 0 = λ b. MatchBool b ((ms ++ ns ≡ []) × (e ≡ quiet)) (IsCut x.0 (ms ++ ns) e) in
-    (x.0, x.1, subst P (sym x.2) (cut_from_front x.0 ms rest ns e x.3 cut))
+cut_from_front e = from_front (λ b ms. IsCut b ms e) (λ bytes m rest ms is open' more. (rest, is, rw open' more))
 
-pub begins_from_front : (bytes : List ℕ) (ms : List Message) (rest : List ℕ) (ns : List Message) (next : List ℕ)
+begins_from_front : (next bytes : List ℕ) (ms : List Message) (rest : List ℕ) (ns : List Message)
     → IsFront bytes ms rest → Begins rest ns next → Begins bytes (ms ++ ns) next
-begins_from_front bytes [] rest ns next same more = subst (λ t. Begins t ns next) (sym same) more
-begins_from_front bytes (m ∷ ms) rest ns next x more =
-    let P : Bool → Type 0 = λ b. MatchBool b ((ms ++ ns ≡ []) × (next ≡ [])) (Begins x.0 (ms ++ ns) next) in
-    (x.0, x.1, subst P (sym x.2) (begins_from_front x.0 ms rest ns next x.3 more))
+begins_from_front next = from_front (λ b ms. Begins b ms next) (λ bytes m rest ms is open' more. (rest, is, rw open' more))
 
 -- nothing yet, after a message that closes or not
 begins_last : (closes : Bool) (rest : List ℕ) → MatchBool closes ((◌≡◌ {A = List Message} [] []) × (◌≡◌ {A = List ℕ} [] [])) (Begins rest [] [])
@@ -62,14 +56,6 @@ run_snoc : {S : Type 0} (step : S → Asked → Told → S → Type 0) (a : S) (
     → Run step a xs b → step b (asked_of x.message) x.reply c → Run step a (xs ++ x ∷ []) c
 run_snoc step a [] b x c e s = (c, subst (λ t. step t (asked_of x.message) x.reply c) (sym e) s, refl)
 run_snoc step a (y ∷ xs) b x c r s = (r.0, r.1, run_snoc step r.0 xs b x c r.2 s)
-
-messages_snoc : (xs : List Exchange) (x : Exchange) → messages_of (xs ++ x ∷ []) ≡ messages_of xs ++ x.message ∷ []
-messages_snoc [] x = refl
-messages_snoc (y ∷ xs) x = ap (λ t. y.message ∷ t) (messages_snoc xs x)
-
-texts_snoc : (xs : List Exchange) (x : Exchange)
-    → flat_map exchange_text (xs ++ x ∷ []) ≡ flat_map exchange_text xs ++ exchange_text x
-texts_snoc xs x = flat_map-append exchange_text xs (x ∷ []) ∙ ap (λ (t : List ℕ). flat_map exchange_text xs ++ t) (append-nil (exchange_text x))
 
 -- ---- the message that a buffer begins with
 
@@ -98,26 +84,19 @@ message_is buf u spans plan is =
       body = ap length (body_of buf spans.len plan.length) ∙ length-take-le plan.length (drop spans.len buf) room;
     }
 
-method_same : (buf : List ℕ) (spans : RequestSpans) (plan : Plan) (is : IsReady buf spans plan)
-    → span_bytes buf spans.method ≡ is.front.head.method
-method_same buf spans plan is = ap (λ t. span_bytes t spans.method) (sym (append-nil buf)) ∙ (is.front.whole.at []).method
-
-path_same : (buf : List ℕ) (spans : RequestSpans) (plan : Plan) (is : IsReady buf spans plan)
-    → span_bytes buf spans.path ≡ is.front.head.target
-path_same buf spans plan is = ap (λ t. span_bytes t spans.path) (sym (append-nil buf)) ∙ (is.front.whole.at []).path
-
 asked_same : (buf : List ℕ) (spans : RequestSpans) (plan : Plan) (is : IsReady buf spans plan)
     → asked_by buf spans plan ≡ asked_of (message_of buf spans plan is)
-asked_same buf spans plan is = λ i. record {
-  method = method_same buf spans plan is i;
-  target = path_same buf spans plan is i;
-  body = slice_range buf spans.len (spans.len + plan.length);
-}
+asked_same buf spans plan is =
+    let at = head_here buf spans is.front.head is.front.whole in
+    λ i. record { method = at.method i; target = at.path i; body = slice_range buf spans.len (spans.len + plan.length) }
 
 -- ---- a turn
 
-module _ {S : Type 0} (step : S → Asked → Told → S → Type 0) (input left a b : Option (List ℕ)) (before now : S) (n : ℕ)
+module _ {S : Type 0} {step : S → Asked → Told → S → Type 0} {input left a b : Option (List ℕ)} {before now : S} {n : ℕ}
     (so_far : Serving step input left a b before now n) where
+  abbrev messages : List Message
+  messages = messages_of so_far.exchanges
+
   pub ended_served : (e : Ending) (c : Option (List ℕ)) → EndsAs left e → Appends b c (ending_text e)
       → IsServed step input a c before now n
   ended_served e c end written = record {
@@ -125,27 +104,26 @@ module _ {S : Type 0} (step : S → Asked → Told → S → Type 0) (input left
     ending = e;
     cut = λ bytes is.
         let f = so_far.front bytes is in
-        subst (λ t. IsCut bytes t e) (append-nil (messages_of so_far.exchanges))
-        (cut_from_front bytes (messages_of so_far.exchanges) f.0 [] e f.2 (end f.0 f.1));
+        subst (λ t. IsCut bytes t e) (append-nil messages) (cut_from_front e bytes messages f.0 [] f.2 (end f.0 f.1));
     run = so_far.run;
     written = appends_both a b c (flat_map exchange_text so_far.exchanges) (ending_text e) so_far.written written;
     requests = so_far.requests;
   }
 
-  pub turn_broken : (c : Option (List ℕ)) → BreaksTurn left b c → IsBroken step input a c before now
-  turn_broken c breaks = record {
+  pub turn_broken : {c : Option (List ℕ)} → BreaksTurn left b c → IsBroken step input a c before now
+  turn_broken {c} breaks = record {
     exchanges = so_far.exchanges;
     next = breaks.next;
     begins = λ bytes is.
         let f = so_far.front bytes is in
-        subst (λ t. Begins bytes t breaks.next) (append-nil (messages_of so_far.exchanges))
-        (begins_from_front bytes (messages_of so_far.exchanges) f.0 [] breaks.next f.2 (breaks.is_next f.0 f.1));
+        subst (λ t. Begins bytes t breaks.next) (append-nil messages)
+        (begins_from_front breaks.next bytes messages f.0 [] f.2 (breaks.is_next f.0 f.1));
     run = so_far.run;
-    written = subst (λ t. WritesFront a c (flat_map exchange_text so_far.exchanges ++ t)) (append-nil breaks.next)
-        (front_after a b c (flat_map exchange_text so_far.exchanges) breaks.next [] so_far.written breaks.written);
+    written = front_both a b c (flat_map exchange_text so_far.exchanges) breaks.next so_far.written breaks.written;
   }
 
-  module _ (buf : List ℕ) (unread : Option (List ℕ)) (spans : RequestSpans) (plan : Plan) (is : IsReady buf spans plan)
+  -- a message that buf begins with, and that was answered
+  module _ {buf : List ℕ} {spans : RequestSpans} {plan : Plan} (is : IsReady buf spans plan) (unread : Option (List ℕ))
       (stays : Stays left (prepend_known buf unread)) (reply : Told) (after : S)
       (told : step now (asked_by buf spans plan) reply after) (c d : Option (List ℕ))
       (continued : Appends b c (continue_text plan)) where
@@ -155,6 +133,9 @@ module _ {S : Type 0} (step : S → Asked → Told → S → Type 0) (input left
     abbrev exchanges_then : List Exchange
     exchanges_then = so_far.exchanges ++ exchange ∷ []
 
+    abbrev answer : List ℕ
+    answer = answer_text (is_head (asked_by buf spans plan).method) plan.closes reply
+
     run_then : Run step before exchanges_then after
     run_then = run_snoc step before so_far.exchanges now exchange after so_far.run
         (subst (λ t. step now t reply after) (asked_same buf spans plan is) told)
@@ -162,79 +143,65 @@ module _ {S : Type 0} (step : S → Asked → Told → S → Type 0) (input left
     count_then : n + 1 ≡ length exchanges_then
     count_then = simp length-append (let e : n ≡ length so_far.exchanges = so_far.requests in omega arith)
 
-    -- the rest behind the message, where it is known
+    -- what is known of the input: the messages so far, then this one, and the rest behind it
+    abbrev behind : List ℕ → List ℕ
+    behind u = drop (spans.len + plan.length) (buf ++ u)
+
     rest_then : (bytes : List ℕ) → input ≡ Some bytes
-        → (rest : List ℕ) × (u : List ℕ) × (unread ≡ Some u) × (buf ++ u ≡ rest) × IsFront bytes (messages_of so_far.exchanges) rest
+        → (u : List ℕ) × (unread ≡ Some u) × IsFront bytes messages (buf ++ u) × IsMessage (buf ++ u) exchange.message (behind u)
     rest_then bytes known =
         let f = so_far.front bytes known in
         let k = known_split buf unread f.0 (stays f.0 f.1) in
-        (f.0, k.0, k.1, k.2, f.2)
+        (k.0, k.1, subst (IsFront bytes messages) (sym k.2) f.2, message_is buf k.0 spans plan is)
 
-    answered : Appends c d (answer_text (is_head (asked_by buf spans plan).method) plan.closes reply)
-        → Appends a d (flat_map exchange_text exchanges_then)
-    answered written =
-        let same = ap (λ m. answer_text (is_head m) plan.closes reply) (method_same buf spans plan is) in
-        subst (Appends a d) (sym (texts_snoc so_far.exchanges exchange))
-        (appends_both a b d (flat_map exchange_text so_far.exchanges) (exchange_text exchange) so_far.written
-        (appends_both b c d (continue_text plan) _ continued (subst (Appends c d) same written)))
+    answered : {T E : Type 0} (r : Result T E) → Writes r c d answer → Writes r a d (flat_map exchange_text exchanges_then)
+    answered r written =
+        let at = head_here buf spans is.front.head is.front.whole in
+        let texts = flat_map exchange_text so_far.exchanges in
+        let all : texts ++ (continue_text plan ++ answer) ≡ flat_map exchange_text exchanges_then =
+        rw at.method (simp (flat_map-append, append-nil)) in
+        subst (Writes r a d) all
+        (writes_then r a b d texts (continue_text plan ++ answer) so_far.written (writes_then r b c d (continue_text plan) answer continued written))
 
-    pub serving_then : plan.closes ≡ false → Appends c d (answer_text (is_head (asked_by buf spans plan).method) plan.closes reply)
+    pub serving_then : plan.closes ≡ false → Appends c d answer
         → Serving step input (prepend_known (drop (spans.len + plan.length) buf) unread) a d before after (n + 1)
     serving_then open' written = record {
       exchanges = exchanges_then;
       front = λ bytes known.
-          let r = rest_then bytes known in
-          let P : List ℕ → Type 0 = λ t. IsFront bytes (messages_of so_far.exchanges) t in (
-            drop (spans.len + plan.length) (buf ++ r.1),
-            ap (prepend_known (drop (spans.len + plan.length) buf)) r.2
-                ∙ ap Some (sym (drop-append-le (spans.len + plan.length) buf r.1 is.enough)),
-            subst (λ t. IsFront bytes t (drop (spans.len + plan.length) (buf ++ r.1))) (sym (messages_snoc so_far.exchanges exchange))
-                (front_snoc bytes (messages_of so_far.exchanges) (buf ++ r.1) exchange.message _ (subst P (sym r.3) r.4)
-                (message_is buf r.1 spans plan is) open'),
+          let r = rest_then bytes known in (
+            behind r.0,
+            ap (prepend_known (drop (spans.len + plan.length) buf)) r.1
+                ∙ ap Some (sym (drop-append-le (spans.len + plan.length) buf r.0 is.enough)),
+            rw map-append (from_front (λ b ms. IsFront b ms (behind r.0)) (λ bytes m rest ms is closes more. (rest, is, closes, more))
+                bytes messages (buf ++ r.0) (exchange.message ∷ []) r.2 (behind r.0, r.3, open', refl)),
           );
       run = run_then;
-      written = answered written;
+      written = answered {T = ⊤} {E = ⊤} (Ok tt) written;
       requests = count_then;
     }
 
-    pub closed_served : plan.closes ≡ true → Appends c d (answer_text (is_head (asked_by buf spans plan).method) plan.closes reply)
-        → IsServed step input a d before after (n + 1)
+    pub closed_served : plan.closes ≡ true → Appends c d answer → IsServed step input a d before after (n + 1)
     closed_served closed written = record {
       exchanges = exchanges_then;
       ending = quiet;
       cut = λ bytes known.
           let r = rest_then bytes known in
-          let P : List ℕ → Type 0 = λ t. IsFront bytes (messages_of so_far.exchanges) t in
-          let Q : Bool → Type 0 = λ v. MatchBool v ((◌≡◌ {A = List Message} [] []) × (quiet ≡ quiet)) (IsCut (drop (spans.len + plan.length) (buf ++ r.1)) [] quiet) in
-          subst (λ t. IsCut bytes t quiet) (sym (messages_snoc so_far.exchanges exchange))
-          (cut_from_front bytes (messages_of so_far.exchanges) (buf ++ r.1) (exchange.message ∷ []) quiet (subst P (sym r.3) r.4)
-          (drop (spans.len + plan.length) (buf ++ r.1), message_is buf r.1 spans plan is, subst Q (sym closed) (refl, refl)));
+          let P : Bool → Type 0 = λ v. MatchBool v ((◌≡◌ {A = List Message} [] []) × (quiet ≡ quiet)) (IsCut (behind r.0) [] quiet) in
+          rw map-append (cut_from_front quiet bytes messages (buf ++ r.0) (exchange.message ∷ []) r.2
+          (behind r.0, r.3, subst P (sym closed) (refl, refl)));
       run = run_then;
-      written = subst (Appends a d) (sym (append-nil _)) (answered written);
+      written = rw append-nil (answered {T = ⊤} {E = ⊤} (Ok tt) written);
       requests = count_then;
     }
 
-    pub answer_broken : WritesFront c d (answer_text (is_head (asked_by buf spans plan).method) plan.closes reply)
-        → IsBroken step input a d before after
+    pub answer_broken : WritesFront c d answer → IsBroken step input a d before after
     answer_broken front = record {
       exchanges = exchanges_then;
       next = [];
       begins = λ bytes known.
           let r = rest_then bytes known in
-          let P : List ℕ → Type 0 = λ t. IsFront bytes (messages_of so_far.exchanges) t in
-          let after : List ℕ = drop (spans.len + plan.length) (buf ++ r.1) in
-          subst (λ t. Begins bytes t []) (sym (messages_snoc so_far.exchanges exchange))
-          (begins_from_front bytes (messages_of so_far.exchanges) (buf ++ r.1) (exchange.message ∷ []) [] (subst P (sym r.3) r.4)
-          (after, message_is buf r.1 spans plan is, begins_last plan.closes after));
+          rw map-append (begins_from_front [] bytes messages (buf ++ r.0) (exchange.message ∷ []) r.2
+          (behind r.0, r.3, begins_last plan.closes (behind r.0)));
       run = run_then;
-      written =
-          let same = ap (λ m. answer_text (is_head m) plan.closes reply) (method_same buf spans plan is) in
-          let answer = answer_text (is_head is.front.head.method) plan.closes reply in
-          let texts = flat_map exchange_text so_far.exchanges in
-          let whole : texts ++ ((continue_text plan ++ (answer ++ [])) ++ []) ≡ flat_map exchange_text exchanges_then ++ [] =
-          ap (λ (t : List ℕ). texts ++ t) (append-nil _ ∙ ap (λ (t : List ℕ). continue_text plan ++ t) (append-nil answer))
-          ∙ sym (texts_snoc so_far.exchanges exchange) ∙ sym (append-nil _) in
-          subst (WritesFront a d) whole
-          (front_after a b d texts (continue_text plan ++ (answer ++ [])) [] so_far.written
-          (front_after b c d (continue_text plan) answer [] continued (subst (WritesFront c d) same front)));
+      written = rw append-nil (answered {T = ⊤} {E = ⊤} (Err tt) front);
     }

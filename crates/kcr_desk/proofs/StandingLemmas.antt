@@ -8,83 +8,53 @@ use Rattle.kcr_store.specs.Register.{Seen}
 use Rattle.kcr_desk.specs.declared.fault.DeskFault.{DeskFault}
 use Rattle.kcr_desk.specs.declared.stream.Served.{Served}
 use Rattle.kcr_desk.specs.Answers.{standing, Answers, IsAnswer, IsReply}
-use Rattle.kcr_desk.specs.Run.{Exchange, Run, IsServed, IsBroken}
+use Rattle.kcr_desk.specs.Run.{Asked, Exchange, Run, IsServed, IsBroken}
+use Rattle.kcr_desk.specs.Texts.{Told}
 
 module _ {S : Type 0} (g : Ghosts S) where
   abbrev is_clean : Seen S → Type 0
   is_clean register = HasCleanDisk (state g register.conn)
 
-  run_clean : (before : Seen S) (xs : List Exchange) (after : Seen S) → Run (Answers g) before xs after → is_clean after → is_clean before
-  run_clean before [] after run clean = subst is_clean (sym run) clean
-  run_clean before (x ∷ xs) after run clean = run.1.clean (run_clean run.0 xs after run.2 clean)
+  pub run_clean : (before after : Seen S) (xs : List Exchange) → Run (Answers g) before xs after → is_clean after → is_clean before
+  run_clean before after [] run clean = subst is_clean (sym run) clean
+  run_clean before after (x ∷ xs) run clean = run.1.clean (run_clean run.0 after xs run.2 clean)
 
-  run_founded : (before : Seen S) (xs : List Exchange) (after : Seen S) → Run (Answers g) before xs after → after.is_founded ≡ before.is_founded
-  run_founded before [] after run = ap (λ register. register.is_founded) (sym run)
-  run_founded before (x ∷ xs) after run = run_founded run.0 xs after run.2 ∙ run.1.founded
+  pub run_founded : (before after : Seen S) (xs : List Exchange) → Run (Answers g) before xs after → after.is_founded ≡ before.is_founded
+  run_founded before after [] run = ap (λ register. register.is_founded) (sym run)
+  run_founded before after (x ∷ xs) run = run_founded run.0 after xs run.2 ∙ run.1.founded
 
-  run_replies : (before : Seen S) (xs : List Exchange) (after : Seen S) → Run (Answers g) before xs after
-      → Run IsReply (standing before) xs (standing after)
-  run_replies before [] after run = ap standing run
-  run_replies before (x ∷ xs) after run = (standing run.0, run.1.reply, run_replies run.0 xs after run.2)
+  pub run_replies : (before after : Seen S) (xs : List Exchange) → Run (Answers g) before xs after → Run IsReply (standing before) xs (standing after)
+  run_replies before after [] run = ap standing run
+  run_replies before after (x ∷ xs) run = (standing run.0, run.1.reply, run_replies run.0 after xs run.2)
 
-  run_standing : (before : Seen S) (xs : List Exchange) (after : Seen S) → Run (Answers g) before xs after
-      → IsTrue before.is_founded → is_clean after → Run IsAnswer (standing before) xs (standing after)
-  run_standing before [] after run founded clean = ap standing run
-  run_standing before (x ∷ xs) after run founded clean =
-      let next = run.0 in
-      let there : is_clean next = run_clean next xs after run.2 clean in
-      (standing next, run.1.answer founded there, run_standing next xs after run.2 (run.1.founded ∙ founded) clean)
+  pub run_answers : (before after : Seen S) → IsTrue before.is_founded → is_clean after → (xs : List Exchange) → Run (Answers g) before xs after
+      → Run IsAnswer (standing before) xs (standing after)
+  run_answers before after founded clean [] run = ap standing run
+  run_answers before after founded clean (x ∷ xs) run = (
+    standing run.0,
+    run.1.answer founded (run_clean run.0 after xs run.2 clean),
+    run_answers run.0 after (run.1.founded ∙ founded) clean xs run.2,
+  )
 
-  pub served_standing : (input a b : Option (List ℕ)) (before after : Seen S) (count : ℕ) → IsServed (Answers g) input a b before after count
-      → IsTrue before.is_founded → is_clean after → IsServed IsAnswer input a b (standing before) (standing after) count
-  served_standing input a b before after count served founded clean = record {
-    exchanges = served.exchanges;
-    ending = served.ending;
-    cut = served.cut;
-    run = run_standing before served.exchanges after served.run founded clean;
-    written = served.written;
-    requests = served.requests;
+-- a stream that was served by these steps was so by others, where these lead as those do
+module _ {S R : Type 0} {step : S → Asked → Told → S → Type 0} {other : R → Asked → Told → R → Type 0} {input a b : Option (List ℕ)}
+    {before after : S} {first last : R} (leads : (xs : List Exchange) → Run step before xs after → Run other first xs last) where
+  pub served_by : {count : ℕ} → IsServed step input a b before after count → IsServed other input a b first last count
+  served_by s = record {
+    exchanges = s.exchanges;
+    ending = s.ending;
+    cut = s.cut;
+    run = leads s.exchanges s.run;
+    written = s.written;
+    requests = s.requests;
   }
 
-  pub broken_standing : (input a b : Option (List ℕ)) (before after : Seen S) → IsBroken (Answers g) input a b before after
-      → IsTrue before.is_founded → is_clean after → IsBroken IsAnswer input a b (standing before) (standing after)
-  broken_standing input a b before after broken founded clean = record {
-    exchanges = broken.exchanges;
-    next = broken.next;
-    begins = broken.begins;
-    run = run_standing before broken.exchanges after broken.run founded clean;
-    written = broken.written;
-  }
+  pub broken_by : IsBroken step input a b before after → IsBroken other input a b first last
+  broken_by s = record { exchanges = s.exchanges; next = s.next; begins = s.begins; run = leads s.exchanges s.run; written = s.written }
 
-  pub served_replies : (input a b : Option (List ℕ)) (before after : Seen S) (count : ℕ) → IsServed (Answers g) input a b before after count
-      → IsServed IsReply input a b (standing before) (standing after) count
-  served_replies input a b before after count served = record {
-    exchanges = served.exchanges;
-    ending = served.ending;
-    cut = served.cut;
-    run = run_replies before served.exchanges after served.run;
-    written = served.written;
-    requests = served.requests;
-  }
-
-  pub broken_replies : (input a b : Option (List ℕ)) (before after : Seen S) → IsBroken (Answers g) input a b before after
-      → IsBroken IsReply input a b (standing before) (standing after)
-  broken_replies input a b before after broken = record {
-    exchanges = broken.exchanges;
-    next = broken.next;
-    begins = broken.begins;
-    run = run_replies before broken.exchanges after broken.run;
-    written = broken.written;
-  }
-
-  -- what stays of a register, after a stream that was served whole or in part
-  module _ (input a b : Option (List ℕ)) (before after : Seen S) where
-    pub stream_founded : (result : Result Served DeskFault) → IfOk result (λ served. IsServed (Answers g) input a b before after served.requests)
-        → OnErr result (IsBroken (Answers g) input a b before after) → after.is_founded ≡ before.is_founded
-    stream_founded (Ok served) is broken = run_founded before is.exchanges after is.run
-    stream_founded (Err fault) is broken = run_founded before broken.exchanges after broken.run
-
-    pub stream_clean : (result : Result Served DeskFault) → IfOk result (λ served. IsServed (Answers g) input a b before after served.requests)
-        → OnErr result (IsBroken (Answers g) input a b before after) → is_clean after → is_clean before
-    stream_clean (Ok served) is broken clean = run_clean before is.exchanges after is.run clean
-    stream_clean (Err fault) is broken clean = run_clean before broken.exchanges after broken.run clean
+-- the run of a stream that was served whole or in part
+pub ran : {S : Type 0} (step : S → Asked → Told → S → Type 0) (input a b : Option (List ℕ)) (before after : S) (result : Result Served DeskFault)
+    → IfOk result (λ served. IsServed step input a b before after served.requests) → OnErr result (IsBroken step input a b before after)
+    → (xs : List Exchange) × Run step before xs after
+ran step input a b before after (Ok served) is broken = (is.exchanges, is.run)
+ran step input a b before after (Err fault) is broken = (broken.exchanges, broken.run)

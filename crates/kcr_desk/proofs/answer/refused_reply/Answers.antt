@@ -1,16 +1,11 @@
 use Rattle.std.proofs.Common.{inl, inr}
-use Rattle.kcr_desk.proofs.AnswerLemmas.{told_as_refusal}
 use Rattle.kcr_desk.proofs.answer.refused_reply.Goals as goal
 
 pub returns-in-Some : goal.returns-in-Some
-returns-in-Some c =
-    inl (told_as_refusal c.args.target.now c.args.refusal.now c.allowed.result c.refusal_heading-heading.result c.in-Some.text.now
-    c.allowed.ensures c.refusal_heading-heading.ensures c.in-Some.ensures)
+returns-in-Some c = inl (cc (c.allowed.ensures, c.refusal_heading-heading.ensures, c.in-Some.ensures))
 
 pub returns-in-Ok : goal.returns-in-Ok
-returns-in-Ok c =
-    inl (told_as_refusal c.args.target.now c.args.refusal.now c.allowed.result c.refusal_heading-heading.result c.in-Ok.text
-    c.allowed.ensures c.refusal_heading-heading.ensures c.in-Ok.ensures)
+returns-in-Ok c = inl (cc (c.allowed.ensures, c.refusal_heading-heading.ensures, c.in-Ok.ensures))
 
 pub returns-in-Err : goal.returns-in-Err
 returns-in-Err c = inr (c.in_default.ensures, c.memory_reply.ensures c.args.target.now)

@@ -7,22 +7,19 @@ use Rattle.kcr_desk.proofs.stream.serve_stream.Goals as goal
 pub returns-in_err-next_turn-clause-broken : goal.returns-in_err-next_turn-clause-broken
 returns-in_err-next_turn-clause-broken g c =
     let p = err_from_is_err_and c.from_residual.result c.from_residual.ensures.1 in
-    rw p.1 (turn_broken g.G.Responder.step (g.R.Read.remaining c.args.reader.now.inner) _ _ _ _ _ _
-    c.messages.invariant.serving (g.W.Write.contents c.next_turn.new.writer.inner) c.in_err-next_turn.ensures.breaks)
+    rw p.1 (turn_broken c.messages.invariant.serving c.in_err-next_turn.ensures.breaks)
 
 pub returns-in-Ended-clause-served : goal.returns-in-Ended-clause-served
 returns-in-Ended-clause-served g c =
     let turn = rw c.in-Ended.is at c.in_ok-next_turn.ensures.turn in
-    ended_served g.G.Responder.step (g.R.Read.remaining c.args.reader.now.inner) _ _ _ _ _ _
-    c.messages.invariant.serving turn.0 (g.W.Write.contents c.next_turn.new.writer.inner) turn.1 turn.2
+    ended_served c.messages.invariant.serving turn.0 (g.W.Write.contents c.next_turn.new.writer.inner) turn.1 turn.2
 
 pub returns-in_err-answer_front-in-Message-clause-broken : goal.returns-in_err-answer_front-in-Message-clause-broken
 returns-in_err-answer_front-in-Message-clause-broken g c =
     let p = err_from_is_err_and c.from_residual-in_err-answer_front-in-Message.result c.from_residual-in_err-answer_front-in-Message.ensures.1 in
     let turn = rw c.in-Message.is at c.in_ok-next_turn.ensures.turn in
     let told = c.in_err-answer_front-in-Message.ensures.answered in
-    rw p.1 (answer_broken g.G.Responder.step (g.R.Read.remaining c.args.reader.now.inner) _ _ _ _ _ _ c.messages.invariant.serving
-    c.next_turn.new.intake.buffer.items (g.R.Read.remaining c.next_turn.new.reader.inner) c.in-Message.spans c.in-Message.plan turn.0
+    rw p.1 (answer_broken c.messages.invariant.serving turn.0 (g.R.Read.remaining c.next_turn.new.reader.inner)
     c.in_ok-next_turn.ensures.kept told.0 c.answer_front.new.responder told.1
     (g.W.Write.contents c.next_turn.new.writer.inner) (g.W.Write.contents c.answer_front.new.writer.inner) turn.1 told.2)
 
@@ -30,8 +27,7 @@ pub returns-then-plan-clause-served : goal.returns-then-plan-clause-served
 returns-then-plan-clause-served g c =
     let turn = rw c.in-Message.is at c.in_ok-next_turn.ensures.turn in
     let told = c.in_ok-answer_front-in-Message.ensures.answered in
-    closed_served g.G.Responder.step (g.R.Read.remaining c.args.reader.now.inner) _ _ _ _ _ _ c.messages.invariant.serving
-    c.next_turn.new.intake.buffer.items (g.R.Read.remaining c.next_turn.new.reader.inner) c.in-Message.spans c.in-Message.plan turn.0
+    closed_served c.messages.invariant.serving turn.0 (g.R.Read.remaining c.next_turn.new.reader.inner)
     c.in_ok-next_turn.ensures.kept told.0 c.answer_front.new.responder told.1
     (g.W.Write.contents c.next_turn.new.writer.inner) (g.W.Write.contents c.answer_front.new.writer.inner) turn.1 c.if-plan.true told.2
 
@@ -39,16 +35,12 @@ pub messages-preserved : goal.messages-preserved
 messages-preserved g c =
     let turn = rw c.in-Message.is at c.in_ok-next_turn.ensures.turn in
     let told = c.in_ok-answer_front-in-Message.ensures.answered in
-    let left = λ (t : List ℕ). prepend_known t (g.R.Read.remaining c.next_turn.new.reader.inner) in
-    let there = serving_then g.G.Responder.step (g.R.Read.remaining c.args.reader.now.inner) _ _ _ _ _ _ c.messages.invariant.serving
-    c.next_turn.new.intake.buffer.items (g.R.Read.remaining c.next_turn.new.reader.inner) c.in-Message.spans c.in-Message.plan turn.0
+    let there = serving_then c.messages.invariant.serving turn.0 (g.R.Read.remaining c.next_turn.new.reader.inner)
     c.in_ok-next_turn.ensures.kept told.0 c.answer_front.new.responder told.1
     (g.W.Write.contents c.next_turn.new.writer.inner) (g.W.Write.contents c.answer_front.new.writer.inner) turn.1 c.if-plan.false told.2 in
     let some : 0 < c.in-Message.spans.len = turn.0.front.whole.some in
     record {
-      serving = subst (λ t. Serving g.G.Responder.step (g.R.Read.remaining c.args.reader.now.inner) (left t)
-          (g.W.Write.contents c.args.writer.now.inner) (g.W.Write.contents c.answer_front.new.writer.inner)
-          c.args.responder.now c.answer_front.new.responder (c.messages.requests + 1)) (sym c.drop_front.ensures.items) there;
+      serving = rw c.drop_front.ensures.items there;
       room =
           let a : vec_len c.next_turn.new.intake.buffer + 4096 * c.messages.intake.reads ≤ vec_len c.messages.intake.buffer + 4096 * c.next_turn.new.intake.reads = c.in_ok-next_turn.ensures.room in
           let b : c.messages.requests + vec_len c.messages.intake.buffer ≤ 4096 * c.messages.intake.reads = c.messages.invariant.room in

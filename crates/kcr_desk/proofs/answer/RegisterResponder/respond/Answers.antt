@@ -1,5 +1,5 @@
 use Rattle.kcr_desk.specs.Told.{told}
-use Rattle.kcr_desk.proofs.AnsweredLemmas.{memory_answered}
+use Rattle.kcr_desk.proofs.AnswerLemmas.{memory_answered}
 use Rattle.kcr_desk.proofs.answer.RegisterResponder.respond.Goals as goal
 
 pub returns-in-None : goal.returns-in-None

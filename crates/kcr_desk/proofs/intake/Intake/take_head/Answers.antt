@@ -10,11 +10,12 @@ use Rattle.kcr_desk.proofs.intake.Intake.take_head.Goals as goal
 pub returns-in-Whole-default-Err-clause-found : goal.returns-in-Whole-default-Err-clause-found
 returns-in-Whole-default-Err-clause-found g c =
     let spans = c.in-Whole-default-Err.spans in
+    let refusal = c.in-Whole-default-Err.refusal in
+    let buf = c.head.self.buffer.items in
     let w = rw c.in-Whole-default-Err.field-1-is at c.in-Whole-default-Err.ensures in
-    failed_ends c.head.self.buffer.items (g.R.Read.remaining c.head.reader.inner) spans w.0 c.in-Whole-default-Err.refusal c.is_head_method-bare.result
-    (subst (λ t. IsWhole t spans w.0) c.deref.ensures.value w.1)
-    w.2
-    (c.is_head_method-bare.ensures ∙ ap is_head (c.of.ensures ∙ ap (λ t. span_bytes t spans.method) c.deref-in-Whole-default-Err.ensures.value))
+    let bare : c.is_head_method-bare.result ≡ is_head (span_bytes buf spans.method) =
+    cc (c.is_head_method-bare.ensures, c.of.ensures, c.deref-in-Whole-default-Err.ensures.value) in
+    rw bare (failed_ends buf (g.R.Read.remaining c.head.reader.inner) spans w.0 refusal (subst (λ t. IsWhole t spans w.0) c.deref.ensures.value w.1) w.2)
 
 pub returns-in-Nothing-clause-found : goal.returns-in-Nothing-clause-found
 returns-in-Nothing-clause-found g c =
