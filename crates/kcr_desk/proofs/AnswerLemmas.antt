@@ -1,6 +1,6 @@
 -- What the register answers to one message, from what its calls say.
 use Rattle.std.proofs.Common.{◌≡◌, List, ℕ, refl, sym, ap, ◌∙◌, arith, inl, inr}
-use Rattle.std.specs.Prelude.{◌⊎◌, ◌≢◌, ◌↔◌, true, false, Option, Some, None, Result, Ok, Err, MatchOption, MatchResult, IsSome, IsTrue, unwrap_or}
+use Rattle.std.specs.Prelude.{◌⊎◌, ◌≢◌, ◌↔◌, true, false, Option, Some, None, Result, Err, MatchOption, MatchResult, IsSome, IsTrue, unwrap_or}
 use Rattle.sqlite.specs.Held.{state}
 use Rattle.sqlite.specs.State.{HasCleanDisk}
 use Rattle.sqlite.specs.Store.{Ghosts}
@@ -9,12 +9,8 @@ use Rattle.kcr_base.specs.declared.refusal.Refusal.{Refusal}
 use Rattle.kcr_base.specs.declared.refusal.Refusal.TheVariants as Refusals
 use Rattle.kcr_history.specs.History.{History}
 use Rattle.kcr_history.specs.Refusals.{carries}
-use Rattle.kcr_history.specs.declared.commands.Command.{Command}
-use Rattle.kcr_history.specs.declared.commands.Reply.{Reply}
 use Rattle.kcr_store.specs.Register.{Seen}
-use Rattle.kcr_store.specs.Steps.{Steps, IsNext}
-use Rattle.kcr_desk.specs.Answers.{Standing, standing, told_text, told_refusal, told_reply, TellsOrMemory, Performs, Inquires, IsRefused, Replies}
-use Rattle.kcr_desk.specs.Answers.{Answered, AnswersCommand, AnswersReading}
+use Rattle.kcr_desk.specs.Answers.{Standing, standing, told_text, told_refusal, TellsOrMemory, Inquires, IsRefused, Replies, Answered, AnswersReading}
 use Rattle.kcr_desk.specs.Texts.{Told}
 
 -- a refusal is told, or out of memory in the place of one that carries something
@@ -68,7 +64,8 @@ module _ {S Value : Type 0} (g : Ghosts S) (before after : Seen S) (target : Lis
       let b = broken refl in inr (tells ∙ ap told_by b.0 ∙ as_refusal Refusals.Broken, ap standing b.1)
   by_torn Does (Some t) broken does wanting (inr m) = absurd (m.2 (broken refl).0)
 
-  result_answered : (Does : Standing → Standing → Result Value Refusal → Type 0)
+  -- what is done of the result, where out of memory is told in its place only if the history stays
+  pub result_answered : (Does : Standing → Standing → Result Value Refusal → Type 0)
       → (IsSome before.torn → (result ≡ Err Refusals.Broken) × (after ≡ before))
       → (before.torn ≡ None → IsSome after.torn ↔ (result ≡ Err Refusals.Disk))
       → (IsTrue before.is_founded → before.torn ≡ None → ends_clean → Does (standing before) (standing after) result)
@@ -101,21 +98,6 @@ module _ {S Value : Type 0} (g : Ghosts S) (before after : Seen S) (target : Lis
   reading_answered Says broken says breaks same tried =
       result_answered (λ old new r. Inquires Says old.accepted r new) broken breaks
       (λ founded none clean. record { says = says founded none clean; same = same; breaks = breaks none; tried = tried none }) (λ m does. same)
-
--- a command, of which out of memory is told only where it leaves the history
-pub command_answered : {S : Type 0} (g : Ghosts S) (before after : Seen S) (target : List ℕ) (told : Told) (x : Command) (result : Result Reply Refusal)
-    → (IsSome before.torn → (result ≡ Err Refusals.Broken) × (after ≡ before))
-    → (IsTrue before.is_founded → before.torn ≡ None → HasCleanDisk (state g after.conn) → Steps before.accepted x result after.accepted)
-    → (before.torn ≡ None → IsSome after.torn ↔ (result ≡ Err Refusals.Disk))
-    → (IsTrue before.is_founded → before.torn ≡ None → HasCleanDisk (state g after.conn)
-    → IsNext before.accepted x (unwrap_or after.torn after.accepted))
-    → (HasCleanDisk (state g after.conn) → HasCleanDisk (state g before.conn)) → after.is_founded ≡ before.is_founded
-    → (told ≡ told_refusal target Refusals.Memory → Steps before.accepted x result after.accepted → after.accepted ≡ before.accepted)
-    → TellsOrMemory (told_reply target) target result told
-    → AnswersCommand g before target told after x
-command_answered g before after target told x result broken step breaks tried clean founded stays =
-    result_answered g before after target told (told_reply target) (λ r. refl) result (λ old new r. Performs old.accepted x r new) broken breaks
-    (λ f none c. record { step = step f none c; breaks = breaks none; tried = tried f none c }) (λ m does. stays m does.step) clean founded
 
 -- NOTHING WAS ASKED OF THE REGISTER
 

@@ -1,16 +1,15 @@
 -- What was written after a fault is a beginning of what the whole input asks for.
 use Rattle.std.proofs.Common.{◌≡◌, ℕ, List, [], ◌∷◌, ◌++◌, refl, sym, ap, ◌∙◌, subst, append_assoc, inl, inr}
-use Rattle.std.specs.Prelude.{Bool, true, false, MatchBool, Ok, Err}
+use Rattle.std.specs.Prelude.{true, MatchBool, Ok}
 use Rattle.std.specs.List.{flat_map}
 use Rattle.std.proofs.lemmas.List.{append-nil}
 use Rattle.httparse.specs.Grammar.{RequestHead}
 use Rattle.kcr_desk.specs.declared.head.Plan.{Plan}
 use Rattle.kcr_base.specs.declared.refusal.Refusal.TheVariants.{Cut}
 use Rattle.kcr_desk.specs.Plans.{is_head}
-use Rattle.kcr_desk.specs.Stream.{Ending, quiet, refused, cut_off, HasHead, IsMessage, IsEnd, is_quiet, no_head, fails, is_cut, IsCut, plan_of}
+use Rattle.kcr_desk.specs.Stream.{Ending, quiet, refused, cut_off, IsCut, plan_of}
 use Rattle.kcr_desk.specs.Texts.{answer_text, continue_text, told_of}
 use Rattle.kcr_desk.specs.Run.{Exchange, exchange_text, messages_of, ending_text, output, Begins, IsNext, nothing, continues, ends}
-use Rattle.kcr_desk.proofs.HeadLemmas.{head_not_quiet}
 use Rattle.kcr_desk.proofs.CutLemmas.{match_both, EndsBy, end_by, same_plan, message_unique, message_not_end, end_unique}
 
 -- front begins text

@@ -1,14 +1,11 @@
 -- A stream is cut in one way only.
-use Rattle.std.proofs.Common.{◌≡◌, ℕ, ◌+◌, ◌<◌, List, [], ◌∷◌, ◌++◌, length, take, drop, refl, sym, ap, ◌∙◌, subst, arith, length-append, ◌⊎◌, inl, inr}
+use Rattle.std.proofs.Common.{◌≡◌, ℕ, ◌<◌, List, [], ◌∷◌, ◌++◌, length, take, drop, refl, sym, ap, ◌∙◌, subst, arith, length-append, ◌⊎◌, inl, inr}
 use Rattle.std.specs.Prelude.{Bool, true, false, MatchBool, Ok, Err}
 use Rattle.std.proofs.Math.Seq.{take-append_seam, drop-append_seam}
 use Rattle.httparse.specs.Grammar.{RequestHead}
 use Rattle.httparse.proofs.GrammarLemmas.{request_unique}
-use Rattle.kcr_desk.specs.declared.head.Plan.{Plan}
-use Rattle.kcr_base.specs.declared.refusal.Refusal.{Refusal}
-use Rattle.kcr_base.specs.declared.refusal.Refusal.TheVariants.{Head}
 use Rattle.kcr_desk.specs.Plans.{is_head}
-use Rattle.kcr_desk.specs.Stream.{HasHead, HasNoHead, IsQuiet, plan_of, Message, IsMessage, IsEnd, Ending, quiet, refused, cut_off, is_quiet, no_head, fails, is_cut, IsCut}
+use Rattle.kcr_desk.specs.Stream.{HasHead, plan_of, Message, IsMessage, IsEnd, Ending, quiet, refused, cut_off, is_quiet, no_head, fails, is_cut, IsCut}
 use Rattle.kcr_desk.proofs.HeadLemmas.{head_not_quiet}
 
 same_front : (a b x y : List ℕ) → length a ≡ length b → a ++ x ≡ b ++ y → (a ≡ b) × (x ≡ y)

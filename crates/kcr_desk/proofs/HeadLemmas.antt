@@ -76,11 +76,8 @@ short_front bytes n h rest reads le =
     let e : n ≡ length (print_request h) + d = omega arith in
     (reads.0, ap (λ m. take m bytes) e ∙ ap (take (length (print_request h) + d)) reads.1 ∙ take-append-add (print_request h) rest d)
 
-pub none_in_front : (buf : List ℕ) → HasNoRequest (take 8192 buf) → 8192 ≤ length buf → (more : List ℕ) → HasNoHead (buf ++ more)
-none_in_front buf none long more h rest has =
-    let e : take 8192 (buf ++ more) ≡ take 8192 buf = take-append-le 8192 buf more long in
-    let P : List ℕ → Type 0 = λ t. ReadsRequest t h (take (8192 - length (print_request h)) rest) in
-    none h _ (subst P e (short_front (buf ++ more) 8192 h rest has.reads has.short))
+pub none_is_no_head : (buf : List ℕ) → HasNoRequest (take 8192 buf) → HasNoHead buf
+none_is_no_head buf none h rest has = none h _ (short_front buf 8192 h rest has.reads has.short)
 
 quiet_alone : (buf more : List ℕ) → 8192 ≤ length buf → IsQuiet (buf ++ more) → IsQuiet buf
 quiet_alone buf more long quiet =
@@ -91,12 +88,9 @@ quiet_alone buf more long quiet =
 
 pub full_hopeless : (buf : List ℕ) → HasNoRequest (take 8192 buf) → 8192 ≤ length buf → ¬ (IsQuiet buf) → IsHopeless buf
 full_hopeless buf none long loud = record {
-  no_head = none_in_front buf none long;
+  no_head = λ more. none_is_no_head (buf ++ more) (rw (take-append-le 8192 buf more long) none);
   not_quiet = λ more quiet. loud (quiet_alone buf more long quiet);
 }
-
-pub none_is_no_head : (buf : List ℕ) → HasNoRequest (take 8192 buf) → HasNoHead buf
-none_is_no_head buf none h rest has = none h _ (short_front buf 8192 h rest has.reads has.short)
 
 -- ---- a whole head
 

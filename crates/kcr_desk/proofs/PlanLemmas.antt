@@ -1,10 +1,8 @@
 -- The tests on a head, one after the other.
-use Rattle.std.proofs.Common.{◌≡◌, ℕ, ◌<◌, ◌≤◌, List, min, refl, arith, inl, inr}
-use Rattle.std.specs.Prelude.{Bool, true, not, nat_lt, Option, Some, None, Result, Err, codes, if◌then◌else◌}
+use Rattle.std.proofs.Common.{◌≡◌, ℕ, ◌<◌, List, min, refl, arith, inl, inr}
+use Rattle.std.specs.Prelude.{Bool, not, Option, Some, None, Err, codes, if◌then◌else◌}
 use Rattle.std.proofs.lemmas.Bool.{lt-ltb, cases_lt}
-use Rattle.kcr_base.specs.declared.refusal.Refusal.{Refusal}
 use Rattle.kcr_base.specs.declared.refusal.Refusal.TheVariants.{Host}
-use Rattle.kcr_desk.specs.declared.head.Plan.{Plan}
 use Rattle.kcr_desk.specs.Members.{some_has_member}
 use Rattle.kcr_desk.specs.Plans.{planned, measured, is_hosted, values_of, length_in, bounded_length, is_empty}
 

@@ -1,6 +1,6 @@
 -- Whole empty lines: the test decides, and no head begins so.
 use Rattle.std.proofs.Common.{◌≡◌, ℕ, Bool, true, false, not, cond, ◌&&◌, List, [], ◌∷◌, ◌++◌, refl, sym, ap, ◌∙◌, eqb}
-use Rattle.std.proofs.lemmas.Bool.{eqb-true}
+use Rattle.std.proofs.lemmas.Bool.{eqb-true, and_parts}
 use Rattle.std.specs.List.{list_all}
 use Rattle.std.proofs.lemmas.List.Folds.{list_all-append}
 use Rattle.httparse.specs.Grammar.{LineEnd, crlf, lf, print_blank}
@@ -49,14 +49,10 @@ stops_fails : (bytes : List ℕ) → Stops is_newline bytes → list_all is_newl
 stops_fails [] s e = s
 stops_fails (b ∷ bytes) s e = cc
 
-split_true : (a b : Bool) → (a && b) ≡ true → b ≡ true
-split_true true b e = e
-split_true false b e = cc
-
 -- no empty lines and then a byte of another kind are empty lines alone
 pub blank_not_more : (ends blank : List LineEnd) (rest : List ℕ) → Stops is_newline rest
     → print_blank ends ≡ print_blank blank ++ rest → ⊥
 blank_not_more ends blank rest s e =
     stops_fails rest s
-    (split_true (list_all is_newline (print_blank blank)) (list_all is_newline rest)
-    (sym (list_all-append is_newline (print_blank blank) rest) ∙ ap (list_all is_newline) (sym e) ∙ newlines ends))
+    (and_parts (list_all is_newline (print_blank blank)) (list_all is_newline rest)
+    (sym (list_all-append is_newline (print_blank blank) rest) ∙ ap (list_all is_newline) (sym e) ∙ newlines ends)).1

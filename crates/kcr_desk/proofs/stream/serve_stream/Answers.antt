@@ -1,7 +1,6 @@
-use Rattle.std.proofs.Common.{◌≡◌, ◌+◌, ◌*◌, ◌<◌, ◌≤◌, ◌∙◌, List, ℕ, sym, subst, arith, vec_len}
-use Rattle.std.specs.Io.KnownBytes.{prepend_known}
+use Rattle.std.proofs.Common.{◌<◌, ◌∙◌, arith}
 use Rattle.std.proofs.lemmas.Result.{err_from_is_err_and}
-use Rattle.kcr_desk.proofs.ServeLemmas.{Serving, ended_served, turn_broken, serving_then, closed_served, answer_broken}
+use Rattle.kcr_desk.proofs.ServeLemmas.{ended_served, turn_broken, serving_then, closed_served, answer_broken}
 use Rattle.kcr_desk.proofs.stream.serve_stream.Goals as goal
 
 pub returns-in_err-next_turn-clause-broken : goal.returns-in_err-next_turn-clause-broken
@@ -41,17 +40,8 @@ messages-preserved g c =
     let some : 0 < c.in-Message.spans.len = turn.0.front.whole.some in
     record {
       serving = rw c.drop_front.ensures.items there;
-      room =
-          let a : vec_len c.next_turn.new.intake.buffer + 4096 * c.messages.intake.reads ≤ vec_len c.messages.intake.buffer + 4096 * c.next_turn.new.intake.reads = c.in_ok-next_turn.ensures.room in
-          let b : c.messages.requests + vec_len c.messages.intake.buffer ≤ 4096 * c.messages.intake.reads = c.messages.invariant.room in
-          let d : vec_len c.drop_front.new.self.buffer + (c.in-Message.spans.len + c.in-Message.plan.length) ≡ vec_len c.next_turn.new.intake.buffer = c.drop_front.ensures.len in
-          let e : c.drop_front.new.self.reads ≡ c.next_turn.new.intake.reads = c.drop_front.ensures.reads in
-          rw e (omega arith);
+      room = rw c.drop_front.ensures.reads (omega (arith, c.in_ok-next_turn.ensures.room, c.messages.invariant.room, c.drop_front.ensures.len));
       calm_reader = c.in_ok-next_turn.ensures.calm.0 ∙ c.messages.invariant.calm_reader;
       calm_writer = c.in_ok-answer_front-in-Message.ensures.calm ∙ c.in_ok-next_turn.ensures.calm.1 ∙ c.messages.invariant.calm_writer;
-      counted =
-          let a : c.next_turn.new.reader.given.count + c.messages.intake.reads ≡ c.messages.reader.given.count + c.next_turn.new.intake.reads = c.next_turn.ensures.counted in
-          let b : c.messages.reader.given.count ≡ c.args.reader.now.given.count + c.messages.intake.reads = c.messages.invariant.counted in
-          let e : c.drop_front.new.self.reads ≡ c.next_turn.new.intake.reads = c.drop_front.ensures.reads in
-          rw e (omega arith);
+      counted = rw c.drop_front.ensures.reads (omega (arith, c.next_turn.ensures.counted, c.messages.invariant.counted));
     }

@@ -1,10 +1,10 @@
-use Rattle.std.proofs.Common.{◌≡◌, ap, sym, ◌∙◌, subst}
+use Rattle.std.proofs.Common.{◌≡◌, sym, ◌∙◌, subst}
 use Rattle.std.specs.Prelude.{true, false}
 use Rattle.httparse.specs.Spans.{span_bytes}
 use Rattle.kcr_desk.specs.Plans.{is_head}
 use Rattle.kcr_desk.specs.Heads.{IsWhole, IsHopeless}
-use Rattle.kcr_desk.specs.Stream.{HasNoHead, IsQuiet}
-use Rattle.kcr_desk.proofs.FoundLemmas.{hopeless_ends, failed_ends, quiet_ends, loud_ends}
+use Rattle.kcr_desk.specs.Stream.{HasNoHead, IsQuiet, is_quiet, no_head}
+use Rattle.kcr_desk.proofs.FoundLemmas.{ends_all, ends_here, failed_ends}
 use Rattle.kcr_desk.proofs.intake.Intake.take_head.Goals as goal
 
 pub returns-in-Whole-default-Err-clause-found : goal.returns-in-Whole-default-Err-clause-found
@@ -19,18 +19,19 @@ returns-in-Whole-default-Err-clause-found g c =
 
 pub returns-in-Nothing-clause-found : goal.returns-in-Nothing-clause-found
 returns-in-Nothing-clause-found g c =
-    hopeless_ends c.head.self.buffer.items (g.R.Read.remaining c.head.reader.inner) (subst IsHopeless c.deref.ensures.value c.in-Nothing.ensures)
+    let none = subst IsHopeless c.deref.ensures.value c.in-Nothing.ensures in
+    ends_all c.head.self.buffer.items _ _ (λ u. no_head (none.no_head u) (none.not_quiet u))
 
 pub returns-then-is_quiet-clause-found : goal.returns-then-is_quiet-clause-found
 returns-then-is_quiet-clause-found g c =
-    quiet_ends c.fill.new.self.buffer.items (g.R.Read.remaining c.fill.new.reader.inner) (c.in_ok-fill.ensures.ended c.if-not-branch.true).2
-    (subst IsQuiet c.deref-then-not-branch.ensures.value (c.is_quiet.ensures.0 c.if-is_quiet.true))
+    ends_here c.fill.new.self.buffer.items _ _ (c.in_ok-fill.ensures.ended c.if-not-branch.true).2
+    (is_quiet (subst IsQuiet c.deref-then-not-branch.ensures.value (c.is_quiet.ensures.0 c.if-is_quiet.true)))
 
 pub returns-then-not-branch-clause-found : goal.returns-then-not-branch-clause-found
 returns-then-not-branch-clause-found g c =
     let ended = c.in_ok-fill.ensures.ended c.if-not-branch.true in
-    loud_ends c.fill.new.self.buffer.items (g.R.Read.remaining c.fill.new.reader.inner) ended.2
-    (subst HasNoHead (c.deref.ensures.value ∙ sym ended.1) c.in-More.ensures)
+    ends_here c.fill.new.self.buffer.items _ _ ended.2
+    (no_head (subst HasNoHead (c.deref.ensures.value ∙ sym ended.1) c.in-More.ensures)
     (λ q.
     let yes : c.is_quiet.result ≡ true = c.is_quiet.ensures.1 (subst IsQuiet (sym c.deref-then-not-branch.ensures.value) q) in
-    let no : c.is_quiet.result ≡ false = c.if-is_quiet.false in cc)
+    let no : c.is_quiet.result ≡ false = c.if-is_quiet.false in cc))
