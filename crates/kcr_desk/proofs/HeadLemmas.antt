@@ -1,11 +1,13 @@
 -- What a try to read a head shows of all bytes that begin alike.
-use Rattle.std.proofs.Common.{◌≡◌, ℕ, ◌+◌, ◌-◌, ◌<◌, ◌≤◌, List, [], ◌∷◌, ◌++◌, length, take, drop, refl, sym, ap, ◌∙◌, subst, arith, append_assoc, length-append, length-drop}
+use Rattle.std.proofs.Common.{◌≡◌, ℕ, ◌+◌, ◌-◌, ◌<◌, ◌≤◌, List, [], ◌∷◌, ◌++◌, length, take, drop, refl, sym, ap, ◌∙◌, subst, arith}
+use Rattle.std.proofs.Common.{append_assoc, length-append, length-drop}
 use Rattle.std.specs.Prelude.{codes, IsTrue}
 use Rattle.std.proofs.lemmas.List.{append-nil, take-append-le, drop-append-le, nil_from_length, length-map, length-take}
 use Rattle.std.proofs.lemmas.List.Elements.{All-nil, All-cons}
 use Rattle.std.proofs.Math.Seq.{take-append-add}
-use Rattle.httparse.specs.Grammar.{LineEnd, lf, print_blank, RequestHead, print_request, ReadsRequest, IsRequestHead, HasNoRequest, IsField, is_token_byte, is_uri_byte}
-use Rattle.httparse.specs.Spans.{RequestOverflows, span_bytes, name_and_value, header_bytes, IsRequestAt, IsRequestWithin}
+use Rattle.httparse.specs.Grammar.{LineEnd, lf, print_blank, RequestHead, print_request, ReadsRequest, IsRequestHead, HasNoRequest}
+use Rattle.httparse.specs.Grammar.{IsField, is_token_byte, is_uri_byte}
+use Rattle.httparse.specs.Spans.{RequestOverflows, span_bytes, name_and_value, header_bytes, IsRequestAt, IsRequestWithin, IsWithin}
 use Rattle.httparse.specs.declared.spans.RequestSpans.{RequestSpans}
 use Rattle.httparse.specs.declared.spans.HeaderSpan.{HeaderSpan}
 use Rattle.httparse.specs.declared.spans.Span.{Span}
@@ -51,18 +53,18 @@ is_small ends = record {
 small_reads : (ends : List LineEnd) → ReadsRequest (print_blank ends ++ small_text) (small ends) []
 small_reads ends = (is_small ends, sym (print_request-append (small ends) []))
 
+more_behind : (front buf rest more : List ℕ) → buf ≡ front ++ rest → buf ++ more ≡ front ++ (rest ++ more)
+more_behind front buf rest more e = ap (λ (t : List ℕ). t ++ more) e ∙ simp append_assoc
+
 pub overflow_hopeless : (front buf : List ℕ) (rest : List ℕ) → buf ≡ front ++ rest → RequestOverflows 64 front → IsHopeless buf
 overflow_hopeless front buf rest e over = record {
   no_head = λ more h after has.
-      let many : 64 < length h.fields = over (rest ++ more) h after
-      (let P : List ℕ → Type 0 = λ t. ReadsRequest t h after in
-      subst P (ap (λ (t : List ℕ). t ++ more) e ∙ (simp append_assoc)) has.reads) in
+      let many : 64 < length h.fields = over (rest ++ more) h after (rw (more_behind front buf rest more e) at has.reads) in
       let few : length h.fields ≤ 64 = has.few in absurd (omega arith);
   not_quiet = λ more quiet.
-      let many : 64 < 0 = over (rest ++ (more ++ small_text)) (small quiet.ends) []
-      (let P : List ℕ → Type 0 = λ t. ReadsRequest t (small quiet.ends) [] in
-      subst P (ap (λ (t : List ℕ). t ++ small_text) (sym quiet.is ∙ ap (λ (t : List ℕ). t ++ more) e) ∙ simp append_assoc)
-      (small_reads quiet.ends)) in
+      let P : List ℕ → Type 0 = λ t. ReadsRequest t (small quiet.ends) [] in
+      let whole = ap (λ (t : List ℕ). t ++ small_text) (sym quiet.is ∙ more_behind front buf rest more e) ∙ simp append_assoc in
+      let many : 64 < 0 = over (rest ++ (more ++ small_text)) (small quiet.ends) [] (subst P whole (small_reads quiet.ends)) in
       absurd (omega arith);
 }
 
@@ -94,8 +96,13 @@ full_hopeless buf none long loud = record {
 
 -- ---- a whole head
 
-span_more : (buf more : List ℕ) (s : Span) → s.start ≤ s.end → s.end ≤ length buf → span_bytes (buf ++ more) s ≡ span_bytes buf s
-span_more buf more s ordered within =
+pub within_more : {n m : ℕ} (s : Span) → n ≤ m → IsWithin n s → IsWithin m s
+within_more {n} s le within = (within.0, let e : s.end ≤ n = within.1 in omega arith)
+
+span_more : (buf more : List ℕ) (s : Span) → IsWithin (length buf) s → span_bytes (buf ++ more) s ≡ span_bytes buf s
+span_more buf more s within =
+    let ordered : s.start ≤ s.end = within.0 in
+    let fits : s.end ≤ length buf = within.1 in
     let le : s.start ≤ length buf = omega arith in
     let room : s.end - s.start ≤ length (drop s.start buf) = simp length-drop (omega arith) in
     ap (take (s.end - s.start)) (drop-append-le s.start buf more le) ∙ take-append-le (s.end - s.start) (drop s.start buf) more room
@@ -116,24 +123,24 @@ whole_head front buf rest headers spans h e short room within at =
     let same : length (take spans.headers headers) ≡ length h.fields =
     sym (length-map (take spans.headers headers) (header_bytes front)) ∙ ap length at.fields ∙ length-map h.fields name_and_value in
     omega (arith, same, length-take spans.headers headers, room) in
-    let size : length (print_request h) ≤ 8192 = let l : spans.len ≡ length (print_request h) = at.len in omega arith in
+    let is_len : spans.len ≡ length (print_request h) = at.len in
+    let inside : (s : Span) → IsWithin spans.len s → IsWithin (length front) s = λ s w. within_more s len w in
     record {
       at = λ more.
-          let split : buf ++ more ≡ front ++ (rest ++ more) = ap (λ (t : List ℕ). t ++ more) e ∙ simp append_assoc in
+          let split = more_behind front buf rest more e in
           let reads : ReadsRequest (front ++ (rest ++ more)) h (drop spans.len (front ++ (rest ++ more))) =
           subst (ReadsRequest (front ++ (rest ++ more)) h) (sym (drop-append-le spans.len front (rest ++ more) len))
           (ReadsRequest-append front h (drop spans.len front) (rest ++ more) at.reads) in
           let P : List ℕ → Type 0 = λ t. ReadsRequest t h (drop spans.len t) in
           record {
-            head = record { reads = subst P (sym split) reads; short = size; few = count };
+            head = record { reads = subst P (sym split) reads; short = omega arith; few = count };
             method = ap (λ t. span_bytes t spans.method) split
-                ∙ span_more front (rest ++ more) spans.method within.method.0 (let a : spans.method.end ≤ spans.len = within.method.1 in omega arith) ∙ at.method;
-            path = ap (λ t. span_bytes t spans.path) split
-                ∙ span_more front (rest ++ more) spans.path within.path.0 (let a : spans.path.end ≤ spans.len = within.path.1 in omega arith) ∙ at.path;
+                ∙ span_more front (rest ++ more) spans.method (inside spans.method within.method) ∙ at.method;
+            path = ap (λ t. span_bytes t spans.path) split ∙ span_more front (rest ++ more) spans.path (inside spans.path within.path) ∙ at.path;
           };
       len = omega arith;
-      some = let p : 0 < length (print_request h) = request_some h at.reads.0 in let l : spans.len ≡ length (print_request h) = at.len in omega arith;
+      some = let p : 0 < length (print_request h) = request_some h at.reads.0 in omega arith;
       short = omega arith;
-      method = (within.method.0, let a : spans.method.end ≤ spans.len = within.method.1 in omega arith);
-      path = (within.path.0, let a : spans.path.end ≤ spans.len = within.path.1 in omega arith);
+      method = within_more spans.method longer (inside spans.method within.method);
+      path = within_more spans.path longer (inside spans.path within.path);
     }

@@ -16,6 +16,7 @@ use Rattle.kcr_desk.specs.Run.{ending_text, IsNext, nothing, continues, ends}
 use Rattle.kcr_desk.specs.Turn.{BreaksTurn}
 use Rattle.kcr_print.specs.Written.{WritesFront}
 use Rattle.kcr_desk.proofs.FoundLemmas.{known_split, ends_here, head_here}
+use Rattle.kcr_desk.proofs.HeadLemmas.{within_more}
 use Rattle.kcr_print.proofs.WrittenLemmas.{appends_nothing}
 
 pub breaks_at_once : (left a : Option (List ℕ)) → BreaksTurn left a a
@@ -53,8 +54,8 @@ plan_more {buf} {new} {spans} {plan} more has e =
       len = let l : spans.len ≤ length buf = w.len in omega arith;
       some = w.some;
       short = w.short;
-      method = (w.method.0, let m : spans.method.end ≤ length buf = w.method.1 in omega arith);
-      path = (w.path.0, let m : spans.path.end ≤ length buf = w.path.1 in omega arith);
+      method = within_more spans.method longer w.method;
+      path = within_more spans.path longer w.path;
     } in
     subst (λ t. HasPlan t spans plan) (sym e) (record { head = has.head; whole = whole; planned = has.planned; fits = has.fits })
 

@@ -6,7 +6,8 @@ use Rattle.kcr_desk.proofs.members.MembersIterator.next.Goals.{After-trim, After
 use Rattle.kcr_desk.proofs.members.MembersIterator.next.Goals as goal
 
 -- the element ends at the first comma
-at_comma : (c : After-trim) → members_left c.args.self.now ≡ c.trim.result.now ∷ members (take (length c.in_ok-rest.rest.now - (c.in-Some.comma + 1)) (drop (c.in-Some.comma + 1) c.in_ok-rest.rest.now))
+at_comma : (c : After-trim) → members_left c.args.self.now
+    ≡ c.trim.result.now ∷ members (take (length c.in_ok-rest.rest.now - (c.in-Some.comma + 1)) (drop (c.in-Some.comma + 1) c.in_ok-rest.rest.now))
 at_comma c =
     let rest = c.in_ok-rest.rest.now in
     let at = c.in-Some.comma in
