@@ -48,7 +48,7 @@ message_not_end b m r e x end' = by_end e (end_by b m.head (m.body ++ r) e x.hea
   where
     by_end : (e : Ending) → EndsBy m.head (m.body ++ r) e → ⊥
     by_end quiet n = n
-    by_end (refused bad bare) n = let p = x.plan in cc (n.0, x.plan)
+    by_end (refused bad bare) n = cc (n.0, x.plan)
     by_end (cut_off plan bare) n =
         let same : m.plan ≡ plan = cc (n.0, x.plan) in
         let long : length m.body ≡ plan.length = x.body ∙ ap (λ t. t.length) same in

@@ -1,5 +1,4 @@
 pub mod MembersLemmas
-pub mod NamedLemmas
 pub mod PlanLemmas
 pub mod QuietLemmas
 pub mod HeadLemmas

@@ -12,7 +12,7 @@ bounded_alike : (minor : ℕ) (coded closing expecting : Bool) (n : Option ℕ)
 bounded_alike minor coded closing expecting None = refl
 bounded_alike minor coded closing expecting (Some n) = elim (cases_lt 131072 n) [
   | inl over ↦
-    let m : 131072 < min n 131073 = omega arith in rw (lt-ltb 131072 n over, lt-ltb 131072 (min n 131073) m) refl
+      let m : 131072 < min n 131073 = omega arith in rw (lt-ltb 131072 n over, lt-ltb 131072 (min n 131073) m) refl
   | inr under ↦ let same : min n 131073 ≡ n = omega arith in rw same refl
 ]
 
@@ -25,4 +25,4 @@ pub planned_bounded : (minor : ℕ) (fields : List (List ℕ × List ℕ))
     (some_has_member (codes "100-continue") (values_of (codes "expect") fields))
     (bounded_length (length_in (values_of (codes "content-length") fields))))
 unfolding planned
-planned_bounded minor fields = rw bounded_alike refl
+planned_bounded minor fields = rw (bounded_alike minor (not (is_empty (values_of (codes "transfer-encoding") fields)))) refl

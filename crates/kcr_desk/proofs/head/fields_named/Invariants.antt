@@ -1,8 +1,21 @@
-use Rattle.std.proofs.Common.{◌≡◌, ◌++◌, map, drop}
-use Rattle.httparse.specs.Spans.{header_bytes}
+use Rattle.std.proofs.Common.{◌≡◌, ◌++◌, ℕ, List, [], ◌∷◌, length, map, drop}
+use Rattle.std.specs.Prelude.{⊤}
+use Rattle.httparse.specs.Spans.{header_bytes, span_bytes, IsWithin}
 use Rattle.kcr_desk.specs.Plans.{values_of}
-use Rattle.kcr_desk.proofs.NamedLemmas.{seen, IsSeen}
+use Rattle.kcr_desk.specs.declared.head.Named.{Named}
+use Rattle.kcr_desk.specs.declared.head.Named.TheVariants.{Absent, One, Many}
 use Rattle.kcr_desk.proofs.head.fields_named.Given as goal
+
+-- the values that were found so far
+abbrev pub seen : List ℕ → Named → List (List ℕ)
+seen buf Absent = []
+seen buf (One s) = span_bytes buf s ∷ []
+seen buf Many = []
+
+abbrev pub IsSeen : List ℕ → Named → Type 0
+IsSeen buf Absent = ⊤
+IsSeen buf (One s) = IsWithin (length buf) s
+IsSeen buf Many = ⊥
 
 abbrev pub invariant-loop-header : goal.invariant-loop-header
 invariant-loop-header l = record {

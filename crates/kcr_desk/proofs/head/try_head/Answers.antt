@@ -36,11 +36,9 @@ returns-else-buf-lt-MAX_HEAD c =
     full_hopeless c.args.buf.now
     (subst HasNoRequest c.front_of-front.ensures (rw c.in-Ok-Partial.field-0-is at c.in-Ok-Partial.ensures.partial))
     (omega arith)
-    (λ quiet.
-    let yes : c.is_quiet.result ≡ true = c.is_quiet.ensures.1 quiet in
-    let no : c.is_quiet.result ≡ false = c.if-buf-lt-MAX_HEAD.false.0 in cc)
+    (λ quiet. cc (c.is_quiet.ensures.1 quiet, c.if-buf-lt-MAX_HEAD.false.0))
 
 pub returns-in-Err : goal.returns-in-Err
 returns-in-Err c =
     overflow_hopeless (take 8192 c.args.buf.now) c.args.buf.now (drop 8192 c.args.buf.now) (sym (take-append-drop 8192 c.args.buf.now))
-    (let P : List ℕ → Type 0 = RequestOverflows 64 in subst P c.front_of-front.ensures c.in-Err.ensures.no_room)
+    (rw (← c.front_of-front.ensures) c.in-Err.ensures.no_room)

@@ -32,6 +32,4 @@ returns-then-not-branch-clause-found g c =
     let ended = c.in_ok-fill.ensures.ended c.if-not-branch.true in
     ends_here c.fill.new.self.buffer.items _ _ ended.2
     (no_head (subst HasNoHead (c.deref.ensures.value ∙ sym ended.1) c.in-More.ensures)
-    (λ q.
-    let yes : c.is_quiet.result ≡ true = c.is_quiet.ensures.1 (subst IsQuiet (sym c.deref-then-not-branch.ensures.value) q) in
-    let no : c.is_quiet.result ≡ false = c.if-is_quiet.false in cc))
+    (λ q. cc (c.is_quiet.ensures.1 (subst IsQuiet (sym c.deref-then-not-branch.ensures.value) q), c.if-is_quiet.false)))
