@@ -25,4 +25,4 @@ pub planned_bounded : (minor : ℕ) (fields : List (List ℕ × List ℕ))
     (some_has_member (codes "100-continue") (values_of (codes "expect") fields))
     (bounded_length (length_in (values_of (codes "content-length") fields))))
 unfolding planned
-planned_bounded minor fields = rw (bounded_alike minor (not (is_empty (values_of (codes "transfer-encoding") fields)))) refl
+planned_bounded minor fields = rw bounded_alike refl

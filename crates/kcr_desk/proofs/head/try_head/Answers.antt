@@ -1,8 +1,8 @@
 use Rattle.std.proofs.Common.{◌≡◌, ◌≤◌, ℕ, List, sym, ap, ◌∙◌, subst, length, take, drop, map, arith}
-use Rattle.std.specs.Prelude.{true, false, ◌++◌}
+use Rattle.std.specs.Prelude.{◌++◌}
 use Rattle.std.proofs.lemmas.List.{take-append-drop, length-take}
 use Rattle.httparse.specs.Grammar.{HasNoRequest}
-use Rattle.httparse.specs.Spans.{RequestOverflows, IsRequestWithin, IsRequestOf, name_and_value}
+use Rattle.httparse.specs.Spans.{IsRequestWithin, IsRequestOf, name_and_value}
 use Rattle.kcr_desk.specs.Plans.{planned}
 use Rattle.kcr_desk.proofs.HeadLemmas.{whole_head, overflow_hopeless, full_hopeless, none_is_no_head}
 use Rattle.kcr_desk.proofs.head.try_head.Goals as goal

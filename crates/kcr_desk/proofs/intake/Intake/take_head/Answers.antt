@@ -1,5 +1,4 @@
 use Rattle.std.proofs.Common.{◌≡◌, sym, ◌∙◌, subst}
-use Rattle.std.specs.Prelude.{true, false}
 use Rattle.httparse.specs.Spans.{span_bytes}
 use Rattle.kcr_desk.specs.Plans.{is_head}
 use Rattle.kcr_desk.specs.Heads.{IsWhole, IsHopeless}
