@@ -3,6 +3,7 @@ pub mod Counting
 pub mod First
 pub mod HallLemmas
 pub mod Least
+pub mod Moves
 pub mod PeopleBits
 pub mod SearchLemmas
 pub mod TableLemmas

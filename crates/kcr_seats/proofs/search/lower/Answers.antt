@@ -1,11 +1,7 @@
-use Rattle.std.proofs.Common.{◌≡◌, ◌<◌, ◌≤◌, ◌+◌, ◌*◌, ◌∙◌, ap, sym, length, arith, get_or, true, false}
-use Rattle.std.proofs.Common.{inl, inr}
-use Rattle.kcr_seats.proofs.Counting.{same_or_not}
-use Rattle.kcr_seats.specs.Search.{search_steps, lower_steps}
-use Rattle.kcr_seats.proofs.SearchLemmas.{below_from}
+use Rattle.std.proofs.Common.{◌≡◌, ◌≢◌, ◌+◌, ◌≤◌, ◌∙◌, ap, sym, arith, get_or, true, false}
 use Rattle.kcr_seats.proofs.Turns.{in_lower}
 use Rattle.kcr_seats.proofs.search.lower.Goals as goal
-use Rattle.kcr_seats.specs.Table.{fits_of, seats_of, people_of}
+use Rattle.kcr_seats.specs.Table.{fits_of}
 use Rattle.kcr_seats.proofs.search.lower.Goals.{else-contains-via-then-contains+in_ok-try_person+else-branch, else-contains-via-else-contains}
 
 pub loop-person-preserved : goal.loop-person-preserved
@@ -15,42 +11,34 @@ loop-person-preserved g c = elim c.else-contains.branch [
       record {
         cost = omega arith;
         same = ap (λ x. x.items) w.seating-is ∙ z.same ∙ c.loop-person.invariant.same;
-        reached = λ v s same.
+        reached = λ v s same. (
             let low : c.loop-person.person ≤ get_or v c.args.seat 0 = c.loop-person.invariant.reached v s same in
-            elim (same_or_not (get_or v c.args.seat 0) c.loop-person.person) [
-              | inl e ↦ absurd (z.none v s (λ k h. same k h ∙ sym (ap (λ x. get_or x k 0) c.loop-person.invariant.same)) e)
-              | inr ne ↦ omega arith
-            ];
+            let other : get_or v c.args.seat 0 ≢ c.loop-person.person =
+            z.none v s (λ k h. same k h ∙ sym (ap (λ x. get_or x k 0) c.loop-person.invariant.same)) in
+            omega arith);
       }
   | else-contains-via-else-contains w ↦ record {
     cost = omega arith;
     same = ap (λ x. x.items) w.seating-is ∙ c.loop-person.invariant.same;
-    reached = λ v s same.
+    reached = λ v s same. (
         let low : c.loop-person.person ≤ get_or v c.args.seat 0 = c.loop-person.invariant.reached v s same in
-        elim (same_or_not (get_or v c.args.seat 0) c.loop-person.person) [
-          | inl e ↦
-              let yes : fits_of c.args.table.now c.args.seat c.loop-person.person ≡ true = rw e at (s.fitting c.args.seat c.requires.seat) in
-              let not_so : false ≡ fits_of c.args.table.now c.args.seat c.loop-person.person = w.if-contains.ensures ∙ c.row-fitting.ensures.each c.loop-person.person in
-              absurd (cc)
-          | inr ne ↦ omega arith
-        ];
+        let other : get_or v c.args.seat 0 ≢ c.loop-person.person = λ e.
+        let yes : fits_of c.args.table.now c.args.seat c.loop-person.person ≡ true = rw e at (s.fitting c.args.seat c.requires.seat) in
+        let not_so : false ≡ fits_of c.args.table.now c.args.seat c.loop-person.person =
+        w.if-contains.ensures ∙ c.row-fitting.ensures.each c.loop-person.person in
+        absurd (cc) in
+        omega arith);
   }
 ]
 
 pub returns-in_err-try_person-clause-cost : goal.returns-in_err-try_person-clause-cost
 returns-in_err-try_person-clause-cost g c =
-    let here : c.index-person-end.result.now < people_of c.args.table.now = below_from c.args.seating.now.items c.args.seat c.index-person-end.result.now (people_of c.args.table.now) (let n : length c.args.seating.now.items ≡ seats_of c.args.table.now = c.requires.seating.each_seat in omega arith) c.index-person-end.ensures (c.requires.seating.in_range c.args.seat c.requires.seat) in
-    let turns : (c.loop-person.person + 1) * (1 + seats_of c.args.table.now + search_steps (seats_of c.args.table.now) (people_of c.args.table.now)) ≤ lower_steps (seats_of c.args.table.now) (people_of c.args.table.now) = in_lower (seats_of c.args.table.now) (people_of c.args.table.now) (c.loop-person.person + 1) (omega arith) in
-    omega arith
+    omega (arith, in_lower c.requires.seating c.requires.seat (c.loop-person.person + 1) c.index-person-end.ensures (omega arith))
 
 pub returns-then-branch-clause-cost : goal.returns-then-branch-clause-cost
 returns-then-branch-clause-cost g c =
-    let here : c.index-person-end.result.now < people_of c.args.table.now = below_from c.args.seating.now.items c.args.seat c.index-person-end.result.now (people_of c.args.table.now) (let n : length c.args.seating.now.items ≡ seats_of c.args.table.now = c.requires.seating.each_seat in omega arith) c.index-person-end.ensures (c.requires.seating.in_range c.args.seat c.requires.seat) in
-    let turns : (c.loop-person.person + 1) * (1 + seats_of c.args.table.now + search_steps (seats_of c.args.table.now) (people_of c.args.table.now)) ≤ lower_steps (seats_of c.args.table.now) (people_of c.args.table.now) = in_lower (seats_of c.args.table.now) (people_of c.args.table.now) (c.loop-person.person + 1) (omega arith) in
-    omega arith
+    omega (arith, in_lower c.requires.seating c.requires.seat (c.loop-person.person + 1) c.index-person-end.ensures (omega arith))
 
 pub returns-clause-cost : goal.returns-clause-cost
 returns-clause-cost g c =
-    let here : c.index-person-end.result.now < people_of c.args.table.now = below_from c.args.seating.now.items c.args.seat c.index-person-end.result.now (people_of c.args.table.now) (let n : length c.args.seating.now.items ≡ seats_of c.args.table.now = c.requires.seating.each_seat in omega arith) c.index-person-end.ensures (c.requires.seating.in_range c.args.seat c.requires.seat) in
-    let turns : (c.loop-person.person) * (1 + seats_of c.args.table.now + search_steps (seats_of c.args.table.now) (people_of c.args.table.now)) ≤ lower_steps (seats_of c.args.table.now) (people_of c.args.table.now) = in_lower (seats_of c.args.table.now) (people_of c.args.table.now) (c.loop-person.person) (omega arith) in
-    omega arith
+    omega (arith, in_lower c.requires.seating c.requires.seat c.loop-person.person c.index-person-end.ensures (omega arith))

@@ -1,21 +1,20 @@
-use Rattle.std.proofs.Common.{◌≡◌, false, get_or, ◌<◌, ◌≤◌, ◌+◌, ◌*◌, arith, length, ap}
+use Rattle.std.proofs.Common.{◌≡◌, ◌+◌, ◌≤◌, false, get_or, arith, length, ap}
 use Rattle.std.proofs.lemmas.Grind.{common_steps}
+use Rattle.std.proofs.Math.Nat.{mul-le-mul_right}
 use Rattle.kcr_seats.proofs.SearchLemmas.{order_short, root_reached, root_marked, not_root, row_start, row_closed, row_more, row_less}
-use Rattle.kcr_seats.proofs.Turns.{in_row, after_rows}
+use Rattle.kcr_seats.proofs.Turns.{in_row}
 use Rattle.kcr_seats.proofs.search.reach.Goals as goal
-use Rattle.kcr_seats.specs.People.{contains}
-use Rattle.kcr_seats.specs.Table.{fits_of, people_of}
-use Rattle.kcr_seats.proofs.search.reach.Goals.{then-not-index+then-contains+in_ok-put, else-not-index, else-not-index-via-then-not-index+else-contains, else-not-index-via-else-not-index}
+use Rattle.kcr_seats.specs.Table.{fits_of}
+use Rattle.kcr_seats.proofs.search.reach.Goals.{then-not-index+then-contains+in_ok-put, else-not-index}
+use Rattle.kcr_seats.proofs.search.reach.Goals.{else-not-index-via-then-not-index+else-contains, else-not-index-via-else-not-index}
 
 pub queue-smaller : goal.queue-smaller
-queue-smaller g c =
-    let short : length c.row.reached.order.items ≤ length c.args.seating.now = order_short (fits_of c.args.table.now) c.args.root c.args.fixed c.args.seating.now c.row.reached.order.items c.row.reached.from.items c.row.invariant.row.reached in
-    omega arith
+queue-smaller g c = omega (arith, order_short c.row.invariant.row.reached)
 
 pub queue-init : goal.queue-init
 queue-init g c = record {
-  reached = root_reached (fits_of c.args.table.now) c.args.root c.args.fixed c.args.seating.now c.in_ok-reached.reached.order.items c.in_ok-reached.reached.from.items c.in_ok-reached.reached.marked.items c.in_ok-reached.ensures c.requires.root c.requires.fixed;
-  marks = root_marked c.args.root c.args.seating.now c.in_ok-reached.reached.order.items c.in_ok-reached.reached.from.items c.in_ok-reached.reached.marked.items c.in_ok-reached.ensures c.requires.root;
+  reached = root_reached c.in_ok-reached.ensures c.requires.root (fits_of c.args.table.now) c.args.fixed c.requires.fixed;
+  marks = root_marked c.in_ok-reached.ensures c.requires.root;
   closed = λ i j l. absurd (omega arith);
   inside = omega arith;
   cost = omega arith;
@@ -23,22 +22,20 @@ queue-init g c = record {
 
 pub row-init : goal.row-init
 row-init g c = record {
-  row = row_start (fits_of c.args.table.now) c.args.root c.args.fixed c.queue.next c.index-seat.result.now c.args.seating.now c.queue.reached.order.items c.queue.reached.from.items c.queue.reached.marked.items c.queue.invariant.reached c.queue.invariant.marks c.queue.invariant.closed (omega arith) (grind (arith, common_steps));
+  row = row_start c.queue.next c.index-seat.result.now c.queue.invariant.reached c.queue.invariant.marks c.queue.invariant.closed
+      (omega arith) (grind (arith, common_steps));
   cost = omega arith;
 }
 
 pub row-preserved : goal.row-preserved
 row-preserved g c =
-    let told : contains c.row-fitting.result (get_or c.args.seating.now c.row.other 0) ≡ fits_of c.args.table.now c.index-seat.result.now (get_or c.args.seating.now c.row.other 0) = c.row-fitting.ensures.each (get_or c.args.seating.now c.row.other 0) in
+    let told = c.row-fitting.ensures.each (get_or c.args.seating.now c.row.other 0) in
     record {
       cost = omega arith;
       row = elim c.if-not-index.branch [
-        | then-not-index+then-contains+in_ok-put w ↦
-            row_more (fits_of c.args.table.now) c.args.root c.args.fixed c.queue.next c.row.other c.index-seat.result.now c.args.seating.now c.row.reached.order.items c.row.reached.from.items c.if-not-index.reached.order.items c.if-not-index.reached.from.items c.row.reached.marked.items c.if-not-index.reached.marked.items
-            c.row.invariant.row (omega arith) (omega arith) (grind (arith, common_steps)) (cc (told, w.if-contains.ensures)) (cc (w.in_ok-put.ensures.order_is)) (cc (w.in_ok-put.ensures.from_is)) (cc (w.in_ok-put.ensures.marked_is))
-        | else-not-index w ↦
-            row_less (fits_of c.args.table.now) c.args.root c.args.fixed c.queue.next c.row.other c.index-seat.result.now c.args.seating.now c.row.reached.order.items c.row.reached.from.items c.if-not-index.reached.order.items c.if-not-index.reached.from.items c.row.reached.marked.items c.if-not-index.reached.marked.items
-            c.row.invariant.row
+        | then-not-index+then-contains+in_ok-put w ↦ row_more c.row.invariant.row (omega arith) (omega arith) (grind (arith, common_steps))
+            (cc (told, w.if-contains.ensures)) (cc (w.in_ok-put.ensures.order_is)) (cc (w.in_ok-put.ensures.from_is)) (cc (w.in_ok-put.ensures.marked_is))
+        | else-not-index w ↦ row_less c.row.invariant.row
             (λ h. elim w.else-not-index.branch [
               | else-not-index-via-then-not-index+else-contains v ↦ absurd (cc (told, v.if-contains.ensures))
               | else-not-index-via-else-not-index v ↦ grind (arith, common_steps)
@@ -51,42 +48,38 @@ pub queue-preserved : goal.queue-preserved
 queue-preserved g c = record {
   reached = c.row.invariant.row.reached;
   marks = c.row.invariant.row.marks;
-  closed = row_closed (fits_of c.args.table.now) c.args.root c.args.fixed c.queue.next c.row.other c.index-seat.result.now c.args.seating.now c.row.reached.order.items c.row.reached.from.items c.row.reached.marked.items c.row.invariant.row (omega arith);
-  inside = (let h : c.queue.next < length c.row.reached.order.items = c.row.invariant.row.inside in omega arith);
-  cost = (let e : c.row.other ≤ length c.args.seating.now = c.row.auto.other-end (omega arith) in omega arith);
+  closed = row_closed c.row.invariant.row (omega arith);
+  inside = omega (arith, c.row.invariant.row.inside);
+  cost = omega (arith, c.row.auto.other-end (omega arith));
 }
 
 pub returns-in_err-put-clause-cost : goal.returns-in_err-put-clause-cost
 returns-in_err-put-clause-cost g c =
-    let short : length c.row.reached.order.items ≤ length c.args.seating.now = order_short (fits_of c.args.table.now) c.args.root c.args.fixed c.args.seating.now c.row.reached.order.items c.row.reached.from.items c.row.invariant.row.reached in
-    let inside : c.queue.next < length c.row.reached.order.items = c.row.invariant.row.inside in
-    let turns : c.queue.next * (1 + length c.args.seating.now) + 1 + c.row.other + 1 ≤ length c.args.seating.now * (1 + length c.args.seating.now) = in_row (length c.args.seating.now) c.queue.next c.row.other (omega arith) (omega arith) in
-    omega arith
+    let short = order_short c.row.invariant.row.reached in
+    let inside = c.row.invariant.row.inside in
+    omega (arith, in_row (length c.args.seating.now) c.queue.next c.row.other (omega (arith, short, inside)) (omega arith))
 
 pub returns-clause-cost : goal.returns-clause-cost
 returns-clause-cost g c =
-    let short : length c.queue.reached.order.items ≤ length c.args.seating.now = order_short (fits_of c.args.table.now) c.args.root c.args.fixed c.args.seating.now c.queue.reached.order.items c.queue.reached.from.items c.queue.invariant.reached in
-    let turns : c.queue.next * (1 + length c.args.seating.now) ≤ length c.args.seating.now * (1 + length c.args.seating.now) = after_rows (length c.args.seating.now) c.queue.next (omega arith) in
-    omega arith
+    let inside : c.queue.next ≤ length c.args.seating.now = omega (arith, order_short c.queue.invariant.reached) in
+    omega (arith, mul-le-mul_right (1 + length c.args.seating.now) inside)
 
 pub row-fitting-requires : goal.row-fitting-requires
 row-fitting-requires g c =
-    let high : get_or c.queue.reached.order.items c.queue.next 0 < length c.args.seating.now = c.queue.invariant.reached.high c.queue.next (omega arith) in
     let here : c.index-seat.result.now ≡ get_or c.queue.reached.order.items c.queue.next 0 = grind (arith, common_steps) in
-    omega arith
+    omega (arith, c.queue.invariant.reached.high c.queue.next (omega arith))
 
 pub index-requires : goal.index-requires
-index-requires g c = let table : length c.row.reached.marked.items ≡ length c.args.seating.now = c.row.invariant.row.marks.table in omega arith
+index-requires g c = omega (arith, c.row.invariant.row.marks.table)
 
 pub contains-requires : goal.contains-requires
 contains-requires g c =
     let unmarked : get_or c.row.reached.marked.items c.row.other false ≡ false = grind (arith, common_steps) in
-    let seated : get_or c.args.seating.now c.row.other 0 < people_of c.args.table.now = c.requires.seated.in_range c.row.other (omega arith)
-    (not_root (fits_of c.args.table.now) c.args.root c.args.fixed c.row.other c.args.seating.now c.row.reached.order.items c.row.reached.from.items c.row.reached.marked.items c.row.invariant.row.reached c.row.invariant.row.marks unmarked) in
-    omega arith
+    omega (arith, c.requires.seated.in_range c.row.other (omega arith)
+        (not_root c.row.invariant.row.reached c.row.other c.row.invariant.row.marks unmarked))
 
 pub put-requires : goal.put-requires
-put-requires g c = let table : length c.row.reached.marked.items ≡ length c.args.seating.now = c.row.invariant.row.marks.table in omega arith
+put-requires g c = omega (arith, c.row.invariant.row.marks.table)
 
 pub returns-clause-reached : goal.returns-clause-reached
 returns-clause-reached g c = c.queue.invariant.reached
