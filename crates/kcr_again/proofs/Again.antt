@@ -3,35 +3,26 @@ use Rattle.std.proofs.Common.{◌≡◌, ℕ, false, eqb, List, ◌∷◌, ◌++
 use Rattle.std.specs.Option.{option_map_or, option_and_then}
 use Rattle.std.specs.Fmt.{decimal}
 use Rattle.std.proofs.lemmas.List.Elements.{All-cons}
-use Rattle.kcr_base.specs.Day.{day_text}
-use Rattle.kcr_base.specs.Facility.{facility_text}
 use Rattle.kcr_base.specs.Initials.{IsInitials}
-use Rattle.kcr_base.specs.Moment.{moment_text}
 use Rattle.kcr_base.specs.Number.{IsNumber}
 use Rattle.kcr_base.specs.Place.{IsPlace, place_text}
-use Rattle.kcr_base.specs.Role.{role_text}
 use Rattle.kcr_base.specs.Serial.{IsSerial}
 use Rattle.kcr_base.specs.declared.place.Place.{Place}
 use Rattle.kcr_custody.specs.declared.SafeNumber.{SafeNumber}
-use Rattle.kcr_room.specs.Room.{way_text}
 use Rattle.kcr_history.specs.declared.commands.Act.{Act}
 use Rattle.kcr_history.specs.declared.commands.Act.TheVariants.{Enter, Train, Withdraw, Appoint, Replace, Release, AddBox, AddItem, Plan, Open, Close, Sheet}
 use Rattle.kcr_history.specs.declared.commands.Act.TheVariants.{Sign, Except, TurnSafe, Seal, Take, Put, Cut}
-use Rattle.kcr_history.specs.Texts.{command_text, at_person, at_place, at_ceremony, at_bag, at_step, at_safe, safe_text, store_text, truth_text, listed}
+use Rattle.kcr_history.specs.Texts.{command_text, at_person, at_place, at_ceremony, at_bag, at_step, at_safe, safe_text}
 use Rattle.kcr_again.specs.Acts.{IsAct}
 use Rattle.kcr_again.specs.Told.{of_collection, of_person, of_place, of_bag, of_ceremony, of_step, of_safe, of_part, in_ceremony, on_ceremony, in_collection}
 use Rattle.kcr_again.specs.Told.{of_path, after_slash, act_of}
+use Rattle.kcr_again.proofs.Acts.{entry, training, withdrawal, appointment, replacement, release, new_box, new_item, plan, opening, closing, sheet}
+use Rattle.kcr_again.proofs.Acts.{exception, signature, turning, sealing, taking, putting, cutting}
 use Rattle.kcr_again.proofs.Cutting.{Lacks, lacks-literal, IsWord, word, cut-again, cut-none}
-use Rattle.kcr_again.proofs.Readers.{Reads, OnLine, InPath, lacks-below, one-again, two-again, three-again, four-again}
-use Rattle.kcr_again.proofs.Formed.{days, moments, ceremonies, boxes, steps, roles, facilities, ways, safes, places-read, initials, serials, items, names}
-use Rattle.kcr_again.proofs.Formed.{remarks, scripts, truths, stores, people, item_lists, roles-line, facilities-line, ways-line, truths-line, places-line}
-use Rattle.kcr_again.proofs.Formed.{stores-line, days-line, initials-line, serials-line, remarks-line, numbers-line, steps-line, people-line, items-line}
+use Rattle.kcr_again.proofs.Readers.{Reads, InPath, Tells, no-feed}
+use Rattle.kcr_again.proofs.Formed.{ceremonies, steps, safes, places-read, initials, serials, places-line, initials-line, serials-line, numbers-line, steps-line}
 use Rattle.kcr_again.proofs.Formed.{initials-path, serials-path, numbers-path, steps-path, places-path, safes-line}
-use Rattle.kcr_again.proofs.Paths.{lines-two, lines-three, lines-four, piece, lacks-slash}
-
--- a value on a line has no line feed
-no-feed : {V : Type 0} {IsValue : V → Type 0} {text_of : V → List ℕ} → OnLine IsValue text_of → (v : V) → IsValue v → Lacks 10 (text_of v)
-no-feed {V} {IsValue} {text_of} line v is = lacks-below 10 32 (text_of v) (omega arith) (line.printing v is)
+use Rattle.kcr_again.proofs.Paths.{piece, lacks-slash}
 
 by-path : (path values : List ℕ) → Lacks 10 path → act_of (47 ∷ path ++ 10 ∷ values) ≡ of_path path values
 unfolding act_of
@@ -121,80 +112,49 @@ safe-again ceremony safe values is =
     thing-again ceremony (codes "safes") (safe_text safe) values is (word (codes "safes") refl refl) (no-feed safes-line safe tt)
     ∙ ap (option_and_then (λ safe. of_safe ceremony safe values)) (safes.again safe tt)
 
+-- an act whose path leads to its reader is read again
+told-again : {A : Type 0} {IsA : A → Type 0} {make : A → Act} {path : List ℕ} {read : List ℕ → Option Act} → Tells IsA make path read
+    → (a : A) → IsA a → ((values : List ℕ) → act_of (path ++ 10 ∷ values) ≡ read values) → act_of (command_text (make a)) ≡ Some (make a)
+told-again tells a is leads = ap act_of (tells.told a) ∙ leads (tells.lines a) ∙ tells.again a is
+
 pub act-again : (act : Act) → IsAct act → act_of (command_text act) ≡ Some act
 unfolding of_collection of_person of_place of_bag of_ceremony of_step of_safe
-act-again (Enter who name) is =
-    ap act_of (lines-two (codes "/people") who name)
-    ∙ by-name (codes "people") (who ++ 10 ∷ name) (word (codes "people") refl refl)
-    ∙ two-again Enter initials names initials-line who name is.0 is.1
-act-again (Train who role since until) is =
-    ap act_of (lines-three (at_person who (codes "roles")) (role_text role) (day_text since) (day_text until))
-    ∙ person-again who (codes "roles") (role_text role ++ 10 ∷ (day_text since ++ 10 ∷ day_text until)) is.0 (lacks-literal 10 (codes "roles") refl)
-    ∙ three-again (Train who) roles days days roles-line days-line role since until tt is.1 is.2
-act-again (Withdraw who role day) is =
-    ap act_of (lines-two (at_person who (codes "withdrawals")) (role_text role) (day_text day))
-    ∙ person-again who (codes "withdrawals") (role_text role ++ 10 ∷ day_text day) is.0 (lacks-literal 10 (codes "withdrawals") refl)
-    ∙ two-again (Withdraw who) roles days roles-line role day tt is.1
-act-again (Appoint place who day) is =
-    ap act_of (lines-three (codes "/custodians") (place_text place) who (day_text day))
-    ∙ by-name (codes "custodians") (place_text place ++ 10 ∷ (who ++ 10 ∷ day_text day)) (word (codes "custodians") refl refl)
-    ∙ three-again Appoint places-read initials days places-line initials-line place who day is.0 is.1 is.2
-act-again (Replace place who day) is =
-    ap act_of (lines-two (at_place (place_text place) (codes "replacement")) who (day_text day))
-    ∙ place-again place (codes "replacement") (who ++ 10 ∷ day_text day) is.0 (lacks-literal 10 (codes "replacement") refl)
-    ∙ two-again (Replace place) initials days initials-line who day is.1 is.2
-act-again (Release place day) is =
-    place-again place (codes "release") (day_text day) is.0 (lacks-literal 10 (codes "release") refl)
-    ∙ one-again (Release place) days day is.1
-act-again (AddBox facility number place) is =
-    ap act_of (lines-three (codes "/boxes") (facility_text facility) (decimal number) (place_text place))
-    ∙ by-name (codes "boxes") (facility_text facility ++ 10 ∷ (decimal number ++ 10 ∷ place_text place)) (word (codes "boxes") refl refl)
-    ∙ three-again AddBox facilities boxes places-read facilities-line numbers-line facility number place tt is.0 is.1
-act-again (AddItem ceremony item at) is =
-    ap act_of (lines-three (codes "/items") (decimal ceremony) item (moment_text at))
-    ∙ by-name (codes "items") (decimal ceremony ++ 10 ∷ (item ++ 10 ∷ moment_text at)) (word (codes "items") refl refl)
-    ∙ three-again AddItem ceremonies items moments numbers-line serials-line ceremony item at is.0 is.1 is.2
-act-again (Plan number facility day script) is =
-    ap act_of (lines-four (codes "/ceremonies") (decimal number) (facility_text facility) (day_text day) script)
-    ∙ by-name (codes "ceremonies") (decimal number ++ 10 ∷ (facility_text facility ++ 10 ∷ (day_text day ++ 10 ∷ script)))
-    (word (codes "ceremonies") refl refl)
-    ∙ four-again Plan ceremonies facilities days scripts numbers-line facilities-line days-line number facility day script is.0 tt is.1 is.2
-act-again (Open ceremony at) is =
-    itself-again ceremony (codes "opening") (moment_text at) is.0 (word (codes "opening") refl refl)
-    ∙ one-again (Open ceremony) moments at is.1
-act-again (Close ceremony at) is =
-    itself-again ceremony (codes "closing") (moment_text at) is.0 (word (codes "closing") refl refl)
-    ∙ one-again (Close ceremony) moments at is.1
-act-again (Sheet ceremony way who at) is =
-    ap act_of (lines-three (at_ceremony ceremony (codes "sheet")) (way_text way) (listed who) (moment_text at))
-    ∙ itself-again ceremony (codes "sheet") (way_text way ++ 10 ∷ (listed who ++ 10 ∷ moment_text at)) is.0 (word (codes "sheet") refl refl)
-    ∙ three-again (Sheet ceremony) ways people moments ways-line people-line way who at tt is.1 is.2
-act-again (Sign ceremony step at) is =
-    step-again ceremony step (moment_text at) is.0 is.1
-    ∙ one-again (Sign ceremony step) moments at is.2
-act-again (Except ceremony text pass at) is =
-    ap act_of (lines-three (at_ceremony ceremony (codes "exceptions")) text (truth_text pass) (moment_text at))
-    ∙ itself-again ceremony (codes "exceptions") (text ++ 10 ∷ (truth_text pass ++ 10 ∷ moment_text at)) is.0
-    (word (codes "exceptions") refl refl)
-    ∙ three-again (Except ceremony) remarks truths moments remarks-line truths-line text pass at is.1 tt is.2
-act-again (TurnSafe ceremony safe state by at) is =
-    ap act_of (lines-three (at_safe ceremony safe) (truth_text state) by (moment_text at))
-    ∙ safe-again ceremony safe (truth_text state ++ 10 ∷ (by ++ 10 ∷ moment_text at)) is.0
-    ∙ three-again (TurnSafe ceremony safe) truths initials moments truths-line initials-line state by at tt is.1 is.2
-act-again (Seal ceremony serial codes_in at) is =
-    ap act_of (lines-two (at_bag ceremony serial (codes "seal")) (listed codes_in) (moment_text at))
-    ∙ bag-again ceremony serial (codes "seal") (listed codes_in ++ 10 ∷ moment_text at) is.0 is.1 (lacks-literal 10 (codes "seal") refl)
-    ∙ two-again (Seal ceremony serial) item_lists moments items-line codes_in at is.2 is.3
-act-again (Take ceremony serial at) is =
-    bag-again ceremony serial (codes "take") (moment_text at) is.0 is.1 (lacks-literal 10 (codes "take") refl)
-    ∙ one-again (Take ceremony serial) moments at is.2
-act-again (Put ceremony serial to at) is =
-    ap act_of (lines-two (at_bag ceremony serial (codes "put")) (store_text to) (moment_text at))
-    ∙ bag-again ceremony serial (codes "put") (store_text to ++ 10 ∷ moment_text at) is.0 is.1 (lacks-literal 10 (codes "put") refl)
-    ∙ two-again (Put ceremony serial) stores moments stores-line to at is.2 is.3
-act-again (Cut ceremony serial at) is =
-    bag-again ceremony serial (codes "cut") (moment_text at) is.0 is.1 (lacks-literal 10 (codes "cut") refl)
-    ∙ one-again (Cut ceremony serial) moments at is.2
+act-again (Enter who name) is = told-again entry (who, name) is (λ values. by-name (codes "people") values (word (codes "people") refl refl))
+act-again (Train who role since until) is = told-again (training who) (role, since, until) (tt, is.1, is.2)
+    (λ values. person-again who (codes "roles") values is.0 (lacks-literal 10 (codes "roles") refl))
+act-again (Withdraw who role day) is = told-again (withdrawal who) (role, day) (tt, is.1)
+    (λ values. person-again who (codes "withdrawals") values is.0 (lacks-literal 10 (codes "withdrawals") refl))
+act-again (Appoint place who day) is = told-again appointment (place, who, day) is
+    (λ values. by-name (codes "custodians") values (word (codes "custodians") refl refl))
+act-again (Replace place who day) is = told-again (replacement place) (who, day) (is.1, is.2)
+    (λ values. place-again place (codes "replacement") values is.0 (lacks-literal 10 (codes "replacement") refl))
+act-again (Release place day) is = told-again (release place) day is.1
+    (λ values. place-again place (codes "release") values is.0 (lacks-literal 10 (codes "release") refl))
+act-again (AddBox facility number place) is = told-again new_box (facility, number, place) (tt, is.0, is.1)
+    (λ values. by-name (codes "boxes") values (word (codes "boxes") refl refl))
+act-again (AddItem ceremony item at) is = told-again new_item (ceremony, item, at) is
+    (λ values. by-name (codes "items") values (word (codes "items") refl refl))
+act-again (Plan number facility day script) is = told-again plan (number, facility, day, script) (is.0, tt, is.1, is.2)
+    (λ values. by-name (codes "ceremonies") values (word (codes "ceremonies") refl refl))
+act-again (Open ceremony at) is = told-again (opening ceremony) at is.1
+    (λ values. itself-again ceremony (codes "opening") values is.0 (word (codes "opening") refl refl))
+act-again (Close ceremony at) is = told-again (closing ceremony) at is.1
+    (λ values. itself-again ceremony (codes "closing") values is.0 (word (codes "closing") refl refl))
+act-again (Sheet ceremony way who at) is = told-again (sheet ceremony) (way, who, at) (tt, is.1, is.2)
+    (λ values. itself-again ceremony (codes "sheet") values is.0 (word (codes "sheet") refl refl))
+act-again (Sign ceremony step at) is = told-again (signature ceremony step) at is.2 (λ values. step-again ceremony step values is.0 is.1)
+act-again (Except ceremony text pass at) is = told-again (exception ceremony) (text, pass, at) (is.1, tt, is.2)
+    (λ values. itself-again ceremony (codes "exceptions") values is.0 (word (codes "exceptions") refl refl))
+act-again (TurnSafe ceremony safe state by at) is = told-again (turning ceremony safe) (state, by, at) (tt, is.1, is.2)
+    (λ values. safe-again ceremony safe values is.0)
+act-again (Seal ceremony serial held at) is = told-again (sealing ceremony serial) (held, at) (is.2, is.3)
+    (λ values. bag-again ceremony serial (codes "seal") values is.0 is.1 (lacks-literal 10 (codes "seal") refl))
+act-again (Take ceremony serial at) is = told-again (taking ceremony serial) at is.2
+    (λ values. bag-again ceremony serial (codes "take") values is.0 is.1 (lacks-literal 10 (codes "take") refl))
+act-again (Put ceremony serial to at) is = told-again (putting ceremony serial) (to, at) (is.2, is.3)
+    (λ values. bag-again ceremony serial (codes "put") values is.0 is.1 (lacks-literal 10 (codes "put") refl))
+act-again (Cut ceremony serial at) is = told-again (cutting ceremony serial) at is.2
+    (λ values. bag-again ceremony serial (codes "cut") values is.0 is.1 (lacks-literal 10 (codes "cut") refl))
 
 pub texts-tell : (a b : Act) → IsAct a → IsAct b → command_text a ≡ command_text b → a ≡ b
 texts-tell a b is_a is_b e =

@@ -1,3 +1,4 @@
+pub mod Acts
 pub mod Again
 pub mod Cutting
 pub mod Dates
