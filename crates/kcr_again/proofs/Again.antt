@@ -1,5 +1,5 @@
 -- An act is read again from its text.
-use Rattle.std.proofs.Common.{◌≡◌, ℕ, false, eqb, List, ◌∷◌, ◌++◌, codes, Option, Some, refl, sym, ap, ◌∙◌, append_assoc, arith}
+use Rattle.std.proofs.Common.{◌≡◌, ℕ, false, eqb, List, ◌∷◌, ◌++◌, codes, Option, Some, refl, sym, ap, ◌∙◌, append_assoc}
 use Rattle.std.specs.Option.{option_map_or, option_and_then}
 use Rattle.std.specs.Fmt.{decimal}
 use Rattle.std.proofs.lemmas.List.Elements.{All-cons}

@@ -1,6 +1,6 @@
 -- Days and moments with one text are one.
 use Rattle.std.proofs.Common.{◌≡◌, ℕ, ◌+◌, ◌/◌, ◌%◌, ◌≤◌, List, [], ◌∷◌, ◌++◌, get_or, refl, sym, ap, subst, ◌∙◌, arith, pos}
-use Rattle.std.proofs.lemmas.List.Elements.{All-from_recursion, All-append}
+use Rattle.std.proofs.lemmas.List.Elements.{All-from_recursion}
 use Rattle.kcr_base.specs.Day.{IsDay, IsDayOf, date_text, day_text}
 use Rattle.kcr_base.specs.Moment.{IsMoment, clock_text, moment_text}
 use Rattle.kcr_base.proofs.DayLemmas.{date_of_number, parts_of_day, moment_parts, day_of_moment}
@@ -50,31 +50,5 @@ moment-same s t is_s is_t e =
 
 pub day-printing : (n : ℕ) → AtLeast 32 (day_text n)
 unfolding day_text
-day-printing n = All-from_recursion (λ b. 32 ≤ b) (day_text n) (
-  omega arith,
-  (
-    omega arith,
-    (
-      omega arith,
-      (omega arith, (omega arith, (omega arith, (omega arith, (omega arith, (omega arith, (omega arith, tt))))))),
-    ),
-  ),
-)
-
-pub moment-printing : (t : ℕ) → AtLeast 32 (moment_text t)
-unfolding moment_text
-moment-printing t =
-    let clock = 84 ∷ clock_text (t % 86400) in
-    All-append (λ b. 32 ≤ b) (day_text (t / 86400) ++ clock) (90 ∷ [])
-    (All-append (λ b. 32 ≤ b) (day_text (t / 86400)) clock (day-printing (t / 86400))
-    (All-from_recursion (λ b. 32 ≤ b) clock (
-      omega arith,
-      (
-        omega arith,
-        (
-          omega arith,
-          (omega arith, (omega arith, (omega arith, (omega arith, (omega arith, (omega arith, tt)))))),
-        ),
-      ),
-    )))
-    (All-from_recursion (λ b. 32 ≤ b) (90 ∷ []) (omega arith, tt))
+day-printing n = All-from_recursion (λ b. 32 ≤ b) (day_text n) (omega arith, (omega arith, (omega arith, (omega arith, (omega arith,
+    (omega arith, (omega arith, (omega arith, (omega arith, (omega arith, tt))))))))))

@@ -1,5 +1,5 @@
 -- The readers of the forms read the texts of their values and no others.
-use Rattle.std.proofs.Common.{◌≡◌, ℕ, ◌+◌, ◌-◌, ◌*◌, ◌^◌, ◌≤◌, ◌<◌, ◌⊎◌, Bool, true, false, not, ◌&&◌, eqb, nat_le, List, [], ◌∷◌}
+use Rattle.std.proofs.Common.{◌≡◌, ℕ, ◌+◌, ◌-◌, ◌*◌, ◌^◌, ◌≤◌, ◌<◌, ◌⊎◌, Bool, true, false, not, ◌&&◌, eqb, nat_le, List, [], ◌∷◌, suc}
 use Rattle.std.proofs.Common.{◌++◌, length, get_or, codes, Option, Some, None, refl, sym, ap, subst, ◌∙◌, arith, All}
 use Rattle.std.specs.Option.{option_map, option_and_then}
 use Rattle.std.specs.Bool.{⊤}
@@ -23,6 +23,7 @@ use Rattle.kcr_base.specs.Line.{IsPrinting, IsLine}
 use Rattle.kcr_base.specs.Lists.{IsListed, are_apart}
 use Rattle.kcr_base.specs.Moment.{IsMoment, moment_text}
 use Rattle.kcr_base.specs.Number.{IsNumber}
+use Rattle.kcr_base.specs.Reads.{Found, Only}
 use Rattle.kcr_base.specs.Place.{IsPlace, place_text}
 use Rattle.kcr_base.specs.Role.{role_text}
 use Rattle.kcr_base.specs.Serial.{IsDigit, IsSerial}
@@ -42,9 +43,10 @@ use Rattle.kcr_room.specs.Room.{way_text}
 use Rattle.kcr_history.specs.Texts.{safe_text, store_text, truth_text, listed}
 use Rattle.kcr_forms.specs.Forms.{by_text, number_by_text, initials_of, serial_of, item_of, name_of, remark_of, is_initials, is_serial, is_line, day_of}
 use Rattle.kcr_forms.specs.Forms.{moment_of, ceremony_of, box_of, step_of, role_of, facility_of, way_of, safe_of, places, place_of, store_of, listed_to}
-use Rattle.kcr_forms.specs.Forms.{is_within}
+use Rattle.kcr_forms.specs.Forms.{if_form, is_within}
 use Rattle.kcr_forms.proofs.FormLemmas.{initials-read, serial-read, item-read, name-read, remark-read, listed-new}
-use Rattle.kcr_forms.proofs.ValueLemmas.{day-read, moment-read, ceremony-read, box-read, step-read, place-read}
+use Rattle.kcr_forms.proofs.TextLemmas.{number-read}
+use Rattle.kcr_forms.proofs.ValueLemmas.{day-read, moment-read, place-read}
 use Rattle.kcr_again.specs.Acts.{ArePeople, AreItems, IsStore}
 use Rattle.kcr_again.specs.Told.{script_of, truth_of, each_of, between_commas, people_of, items_of}
 use Rattle.kcr_again.proofs.Cutting.{Lacks, lacks-literal}
@@ -54,61 +56,59 @@ use Rattle.kcr_again.proofs.Scripts.{script-some}
 
 -- ---- values that are found by their texts
 
-find-says : {X : Type 0} (test : X → Bool) (xs : List X) (v : X) → find test xs ≡ Some v → test v ≡ true
-find-says test [] v e = cc
-find-says {X} test (x ∷ xs) v e = by_test (test x) refl (find-says test xs v)
+-- what is found passes the test, and is in the list
+find-at : {X : Type 0} (test : X → Bool) (xs : List X) (v : X) → find test xs ≡ Some v
+    → (test v ≡ true) × ((i : ℕ) × (i < length xs) × (get_or xs i v ≡ v))
+find-at test [] v e = cc
+find-at {X} test (x ∷ xs) v e = by (test x) refl (find-at test xs v)
   where
-    by_test : (b : Bool) → test x ≡ b → (find test xs ≡ Some v → test v ≡ true) → test v ≡ true
-    by_test true t rest = let first : Some x ≡ Some v = rw t at e in let same : x ≡ v = cc in rw (← same) t
-    by_test false t rest = rest (rw t at e)
+    by : (b : Bool) → test x ≡ b → (find test xs ≡ Some v → (test v ≡ true) × ((i : ℕ) × (i < length xs) × (get_or xs i v ≡ v)))
+        → (test v ≡ true) × ((i : ℕ) × (i < length (x ∷ xs)) × (get_or (x ∷ xs) i v ≡ v))
+    by true t rest = let first : Some x ≡ Some v = rw t at e in let same : x ≡ v = cc in (rw (← same) t, (0, omega arith, same))
+    by false t rest = let r = rest (rw t at e) in (r.0, (suc r.1.0, omega (arith, r.1.1), r.1.2))
 
-by_text-found : {V : Type 0} (text_of : V → List ℕ) (values : List V) (text : List ℕ) (v : V) → by_text text_of values text ≡ Some v → text_of v ≡ text
-by_text-found text_of values text v e = equal_texts (text_of v) text (sym (find-says (λ w. same_text (text_of w) text) values v e))
+by_texts : {V : Type 0} {IsValue : V → Type 0} (text_of : V → List ℕ) (values : List V)
+    → ((v : V) → IsValue v → by_text text_of values (text_of v) ≡ Some v) → Reads IsValue text_of (by_text text_of values)
+by_texts text_of values again = record {
+  found = λ text v e. equal_texts (text_of v) text (sym (find-at (λ w. same_text (text_of w) text) values v e).0);
+  again = again;
+}
 
-number-found : (text_of : ℕ → List ℕ) (first last : ℕ) (text : List ℕ) (v : ℕ) → number_by_text text_of first last text ≡ Some v → text_of v ≡ text
+number_texts : {IsValue : ℕ → Type 0} (text_of : ℕ → List ℕ) (first last : ℕ)
+    → ((v : ℕ) → IsValue v → number_by_text text_of first last (text_of v) ≡ Some v) → Reads IsValue text_of (number_by_text text_of first last)
 unfolding number_by_text
-number-found text_of first last text v e = by_text-found text_of (range_with_len first (last + 1 - first)) text v e
+number_texts text_of first last again = by_texts text_of (range_with_len first (last + 1 - first)) again
+
+-- a reader of the values reads each again, where no two have one text
+again-by : {V : Type 0} {IsValue : V → Type 0} {text_of : V → List ℕ} {read : List ℕ → Option V}
+    → ((bytes : List ℕ) (r : Option V) → Found IsValue text_of bytes r → Only IsValue text_of bytes r → r ≡ read bytes)
+    → ((v w : V) → IsValue v → IsValue w → text_of v ≡ text_of w → v ≡ w) → (v : V) → IsValue v → read (text_of v) ≡ Some v
+again-by {text_of = text_of} reads same v is = sym (reads (text_of v) (Some v) (is, refl) (λ w is_w e. ap Some (same v w is is_w (sym e))))
 
 pub days : Reads IsDay day_text day_of
 unfolding day_of
-days = record {
-  found = λ text v e. number-found day_text 10957 47481 text v e;
-  again = λ v is. sym (day-read (day_text v) (Some v) (is, refl) (λ w is_w e. ap Some (day-same v w is is_w (sym e))));
-}
+days = number_texts day_text 10957 47481 (again-by day-read day-same)
 
 pub moments : Reads IsMoment moment_text moment_of
 unfolding moment_of
-moments = record {
-  found = λ text v e. number-found moment_text (10957 * 86400) (47481 * 86400 + 86399) text v e;
-  again = λ v is. sym (moment-read (moment_text v) (Some v) (is, refl) (λ w is_w e. ap Some (moment-same v w is is_w (sym e))));
-}
+moments = number_texts moment_text (10957 * 86400) (47481 * 86400 + 86399) (again-by moment-read moment-same)
 
-number-same : (limit m n : ℕ) → limit < 10000 → IsNumber limit m → IsNumber limit n → decimal m ≡ decimal n → m ≡ n
-number-same limit m n few is_m is_n e = decimal_injective m n (omega (arith, few, is_m.until)) (omega (arith, few, is_n.until)) e
+decimals : (limit : ℕ) → limit < 10000 → Reads (IsNumber limit) decimal (number_by_text decimal 1 limit)
+decimals limit few = number_texts decimal 1 limit (again-by
+    (λ bytes r. number-read (IsNumber limit) decimal 1 limit bytes r (λ n low high. record { from = low; until = high }) (λ n is. (is.from, is.until)))
+    (λ m n is_m is_n e. decimal_injective m n (omega (arith, few, is_m.until)) (omega (arith, few, is_n.until)) e))
 
 pub ceremonies : Reads (IsNumber 9999) decimal ceremony_of
 unfolding ceremony_of
-ceremonies = record {
-  found = λ text v e. number-found decimal 1 9999 text v e;
-  again = λ v is. sym (ceremony-read (decimal v) (Some v) (record { number = is; text = refl })
-      (λ w h. ap Some (number-same 9999 v w (omega arith) is h.number (sym h.text))));
-}
+ceremonies = decimals 9999 (omega arith)
 
 pub boxes : Reads (IsNumber 9999) decimal box_of
 unfolding box_of
-boxes = record {
-  found = λ text v e. number-found decimal 1 9999 text v e;
-  again = λ v is. sym (box-read (decimal v) (Some v) (record { number = is; text = refl })
-      (λ w h. ap Some (number-same 9999 v w (omega arith) is h.number (sym h.text))));
-}
+boxes = decimals 9999 (omega arith)
 
 pub steps : Reads (IsNumber 400) decimal step_of
 unfolding step_of
-steps = record {
-  found = λ text v e. number-found decimal 1 400 text v e;
-  again = λ v is. sym (step-read (decimal v) (Some v) (record { number = is; text = refl })
-      (λ w h. ap Some (number-same 400 v w (omega arith) is h.number (sym h.text))));
-}
+steps = decimals 400 (omega arith)
 
 role-again : (v : Role) → role_of (role_text v) ≡ Some v
 unfolding role_of
@@ -122,103 +122,78 @@ role-again Sw = refl
 
 pub roles : Reads (λ _. ⊤) role_text role_of
 unfolding role_of
-roles = record { found = λ text v e. by_text-found role_text (Ca ∷ Iw ∷ Sa ∷ Ssc1 ∷ Ssc2 ∷ Rkos ∷ Sw ∷ []) text v e; again = λ v _. role-again v }
-
-facility-again : (v : Facility) → facility_of (facility_text v) ≡ Some v
-unfolding facility_of
-facility-again East = refl
-facility-again West = refl
+roles = by_texts role_text (Ca ∷ Iw ∷ Sa ∷ Ssc1 ∷ Ssc2 ∷ Rkos ∷ Sw ∷ []) (λ v _. role-again v)
 
 pub facilities : Reads (λ _. ⊤) facility_text facility_of
 unfolding facility_of
-facilities = record { found = λ text v e. by_text-found facility_text (East ∷ West ∷ []) text v e; again = λ v _. facility-again v }
-
-way-again : (v : Way) → way_of (way_text v) ≡ Some v
-unfolding way_of
-way-again Enter = refl
-way-again Leave = refl
+facilities = by_texts facility_text (East ∷ West ∷ []) (λ v _. again v)
+  where
+    again : (v : Facility) → facility_of (facility_text v) ≡ Some v
+    again East = refl
+    again West = refl
 
 pub ways : Reads (λ _. ⊤) way_text way_of
 unfolding way_of
-ways = record { found = λ text v e. by_text-found way_text (Enter ∷ Leave ∷ []) text v e; again = λ v _. way-again v }
-
-safe-again : (v : SafeNumber) → safe_of (safe_text v) ≡ Some v
-unfolding safe_of
-safe-again One = refl
-safe-again Two = refl
+ways = by_texts way_text (Enter ∷ Leave ∷ []) (λ v _. again v)
+  where
+    again : (v : Way) → way_of (way_text v) ≡ Some v
+    again Enter = refl
+    again Leave = refl
 
 pub safes : Reads (λ _. ⊤) safe_text safe_of
 unfolding safe_of
-safes = record { found = λ text v e. by_text-found safe_text (One ∷ Two ∷ []) text v e; again = λ v _. safe-again v }
+safes = by_texts safe_text (One ∷ Two ∷ []) (λ v _. again v)
+  where
+    again : (v : SafeNumber) → safe_of (safe_text v) ≡ Some v
+    again One = refl
+    again Two = refl
 
--- texts that differ at a byte
-differ : (i a b : ℕ) (s t : List ℕ) {P : Type 0} → s ≡ t → get_or s i 0 ≡ a → get_or t i 0 ≡ b → (a ≡ b → ⊥) → P
-differ i a b s t e at_s at_t apart = absurd (apart (sym at_s ∙ ap (λ (x : List ℕ). get_or x i 0) e ∙ at_t))
-
-number-at : (i m n : ℕ) (s t : List ℕ) → s ≡ t → get_or s i 0 ≡ 48 + m → get_or t i 0 ≡ 48 + n → m ≡ n
-number-at i m n s t e at_s at_t = omega (arith, sym at_s ∙ ap (λ (x : List ℕ). get_or x i 0) e ∙ at_t)
+-- equal texts have equal bytes
+byte : (i : ℕ) {s t : List ℕ} → s ≡ t → get_or s i 0 ≡ get_or t i 0
+byte i e = ap (λ (text : List ℕ). get_or text i 0) e
 
 place-same : (v w : Place) → place_text v ≡ place_text w → v ≡ w
-place-same (Co East n) (Co East m) e = ap (Co East) (number-at 8 n m _ _ e refl refl)
-place-same (Co East n) (Co West m) e = differ 3 69 87 _ _ e refl refl (λ x. omega (arith, x))
-place-same (Co East n) (Rksh m) e = differ 0 67 82 _ _ e refl refl (λ x. omega (arith, x))
-place-same (Co West n) (Co East m) e = differ 3 87 69 _ _ e refl refl (λ x. omega (arith, x))
-place-same (Co West n) (Co West m) e = ap (Co West) (number-at 8 n m _ _ e refl refl)
-place-same (Co West n) (Rksh m) e = differ 0 67 82 _ _ e refl refl (λ x. omega (arith, x))
-place-same (Rksh n) (Co East m) e = differ 0 82 67 _ _ e refl refl (λ x. omega (arith, x))
-place-same (Rksh n) (Co West m) e = differ 0 82 67 _ _ e refl refl (λ x. omega (arith, x))
-place-same (Rksh n) (Rksh m) e = ap Rksh (number-at 5 n m _ _ e refl refl)
+place-same (Co East n) (Co East m) e = let last : 48 + n ≡ 48 + m = byte 8 e in let same : n ≡ m = omega arith in ap (Co East) same
+place-same (Co West n) (Co West m) e = let last : 48 + n ≡ 48 + m = byte 8 e in let same : n ≡ m = omega arith in ap (Co West) same
+place-same (Rksh n) (Rksh m) e = let last : 48 + n ≡ 48 + m = byte 5 e in let same : n ≡ m = omega arith in ap Rksh same
+place-same (Co East n) (Co West m) e = let apart : 69 ≡ 87 = byte 3 e in absurd (omega (arith, apart))
+place-same (Co West n) (Co East m) e = let apart : 87 ≡ 69 = byte 3 e in absurd (omega (arith, apart))
+place-same (Co facility n) (Rksh m) e = let apart : 67 ≡ 82 = byte 0 e in absurd (omega (arith, apart))
+place-same (Rksh n) (Co facility m) e = let apart : 82 ≡ 67 = byte 0 e in absurd (omega (arith, apart))
 
 pub places-read : Reads IsPlace place_text place_of
 unfolding place_of
-places-read = record {
-  found = λ text v e. by_text-found place_text places text v e;
-  again = λ v is. sym (place-read (place_text v) (Some v) (is, refl) (λ w is_w e. ap Some (place-same v w (sym e))));
-}
+places-read = by_texts place_text places (again-by place-read (λ v w _ _. place-same v w))
 
 -- ---- texts that are their own value
 
+if_forms : {IsValue : List ℕ → Type 0} (test : List ℕ → Bool) → ((v : List ℕ) → IsValue v → if_form (test v) v ≡ Some v)
+    → Reads IsValue (λ text. text) (λ text. if_form (test text) text)
+if_forms test again = record { found = λ text v e. sym (cond_some (test text) text v e).1; again = again }
+
 pub initials : Reads IsInitials (λ text. text) initials_of
 unfolding initials_of
-initials = record {
-  found = λ text v e. sym (cond_some (is_initials text) text v e).1;
-  again = λ v is. sym (initials-read (Some v) v (is, refl));
-}
+initials = if_forms is_initials (λ v is. sym (initials-read (Some v) v (is, refl)))
 
 pub serials : Reads IsSerial (λ text. text) serial_of
 unfolding serial_of
-serials = record {
-  found = λ text v e. sym (cond_some (is_serial text) text v e).1;
-  again = λ v is. sym (serial-read (Some v) v (is, refl));
-}
+serials = if_forms is_serial (λ v is. sym (serial-read (Some v) v (is, refl)))
 
 pub items : Reads IsSerial (λ text. text) item_of
 unfolding item_of
-items = record {
-  found = λ text v e. sym (cond_some (is_serial text) text v e).1;
-  again = λ v is. sym (item-read (Some v) v (is, refl));
-}
+items = if_forms is_serial (λ v is. sym (item-read (Some v) v (is, refl)))
 
 pub names : Reads (IsLine 120) (λ text. text) name_of
 unfolding name_of
-names = record {
-  found = λ text v e. sym (cond_some (is_line 120 text) text v e).1;
-  again = λ v is. sym (name-read (Some v) v (is, refl));
-}
+names = if_forms (is_line 120) (λ v is. sym (name-read (Some v) v (is, refl)))
 
 pub remarks : Reads (IsLine 1000) (λ text. text) remark_of
 unfolding remark_of
-remarks = record {
-  found = λ text v e. sym (cond_some (is_line 1000 text) text v e).1;
-  again = λ v is. sym (remark-read (Some v) v (is, refl));
-}
+remarks = if_forms (is_line 1000) (λ v is. sym (remark-read (Some v) v (is, refl)))
 
 pub scripts : Reads IsUtf8 (λ text. text) script_of
 unfolding script_of
-scripts = record {
-  found = λ text v e. sym (cond_some (is_utf8 text) text v e).1;
-  again = λ v is. script-some v is;
-}
+scripts = if_forms is_utf8 script-some
 
 truth-again : (v : Bool) → truth_of (truth_text v) ≡ Some v
 unfolding truth_of
