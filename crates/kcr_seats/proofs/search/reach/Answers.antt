@@ -64,28 +64,11 @@ returns-clause-cost g c =
     let inside : c.queue.next ≤ length c.args.seating.now = omega (arith, order_short c.queue.invariant.reached) in
     omega (arith, mul-le-mul_right (1 + length c.args.seating.now) inside)
 
-pub row-fitting-requires : goal.row-fitting-requires
-row-fitting-requires g c =
-    let here : c.index-seat.result.now ≡ get_or c.queue.reached.order.items c.queue.next 0 = grind (arith, common_steps) in
-    omega (arith, c.queue.invariant.reached.high c.queue.next (omega arith))
-
-pub index-requires : goal.index-requires
-index-requires g c = omega (arith, c.row.invariant.row.marks.table)
-
 pub contains-requires : goal.contains-requires
 contains-requires g c =
     let unmarked : get_or c.row.reached.marked.items c.row.other false ≡ false = grind (arith, common_steps) in
     omega (arith, c.requires.seated.in_range c.row.other (omega arith)
         (not_root c.row.invariant.row.reached c.row.other c.row.invariant.row.marks unmarked))
-
-pub put-requires : goal.put-requires
-put-requires g c = omega (arith, c.row.invariant.row.marks.table)
-
-pub returns-clause-reached : goal.returns-clause-reached
-returns-clause-reached g c = c.queue.invariant.reached
-
-pub returns-clause-marked : goal.returns-clause-marked
-returns-clause-marked g c = c.queue.invariant.marks
 
 pub returns-clause-closed : goal.returns-clause-closed
 returns-clause-closed g c = λ i j l. c.queue.invariant.closed i j (omega arith)
