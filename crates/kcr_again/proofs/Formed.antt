@@ -1,6 +1,6 @@
 -- The readers of the forms read the texts of their values and no others.
-use Rattle.std.proofs.Common.{◌≡◌, ℕ, ◌+◌, ◌-◌, ◌*◌, ◌^◌, ◌≤◌, ◌<◌, ◌⊎◌, Bool, true, false, not, ◌&&◌, eqb, nat_le, List, [], ◌∷◌, suc}
-use Rattle.std.proofs.Common.{◌++◌, length, get_or, codes, Option, Some, None, refl, sym, ap, subst, ◌∙◌, arith, All}
+use Rattle.std.proofs.Common.{◌≡◌, ℕ, ◌+◌, ◌-◌, ◌*◌, ◌≤◌, ◌<◌, ◌⊎◌, Bool, true, false, not, ◌&&◌, eqb, nat_le, List, [], ◌∷◌, suc}
+use Rattle.std.proofs.Common.{length, get_or, codes, Option, Some, refl, sym, ap, subst, ◌∙◌, arith, All}
 use Rattle.std.specs.Option.{option_map, option_and_then}
 use Rattle.std.specs.Bool.{⊤}
 use Rattle.std.specs.Fmt.{decimal}
@@ -11,7 +11,7 @@ use Rattle.std.specs.Str.{is_utf8, IsUtf8}
 use Rattle.std.specs.Cmp.Lexicographic.{same_text as equal_texts}
 use Rattle.std.proofs.lemmas.Bool.{leb-true}
 use Rattle.std.proofs.lemmas.Fmt.{decimal_injective, decimal-digits_of, decimal_is_IsNumeral}
-use Rattle.std.proofs.lemmas.List.Elements.{All-nil, All-weaker, All-map, All-append, All-head, All-tail, All-from_recursion}
+use Rattle.std.proofs.lemmas.List.Elements.{All-get_or, All-nil, All-weaker, All-map, All-append, All-head, All-tail, All-from_recursion}
 use Rattle.std.proofs.lemmas.List.Sums.{AllPass-from_list_all}
 use Rattle.std.proofs.lemmas.List.Splits.{slice_split_none, slice_split_at, join_with_byte-slice_split}
 use Rattle.std.proofs.lemmas.Option.{cond_some, option_and_then_some}
@@ -51,7 +51,7 @@ use Rattle.kcr_again.specs.Acts.{ArePeople, AreItems, IsStore}
 use Rattle.kcr_again.specs.Told.{script_of, truth_of, each_of, between_commas, people_of, items_of}
 use Rattle.kcr_again.proofs.Cutting.{Lacks, lacks-literal}
 use Rattle.kcr_again.proofs.Dates.{day-same, moment-same, day-printing}
-use Rattle.kcr_again.proofs.Readers.{option_map_some, Reads, OnLine, InPath, AtLeast, lacks-below, at_least-less}
+use Rattle.kcr_again.proofs.Readers.{named, nothing, option_map_some, Reads, OnLine, InPath, AtLeast, lacks-below, at_least-less}
 use Rattle.kcr_again.proofs.Scripts.{script-some}
 
 -- ---- values that are found by their texts
@@ -195,37 +195,26 @@ pub scripts : Reads IsUtf8 (λ text. text) script_of
 unfolding script_of
 scripts = if_forms is_utf8 script-some
 
-truth-again : (v : Bool) → truth_of (truth_text v) ≡ Some v
-unfolding truth_of
-truth-again true = refl
-truth-again false = refl
-
-truth-found : (text : List ℕ) (v : Bool) → truth_of text ≡ Some v → truth_text v ≡ text
-unfolding truth_of
-truth-found text v e = by (same_text text (codes "true")) refl (same_text text (codes "false")) refl
-  where
-    by : (a : Bool) → same_text text (codes "true") ≡ a → (b : Bool) → same_text text (codes "false") ≡ b → truth_text v ≡ text
-    by true is b other =
-        let found : Some true ≡ Some v = rw is at e in
-        let same : true ≡ v = cc in
-        ap truth_text (sym same) ∙ sym (equal_texts text (codes "true") (sym is))
-    by false is true other =
-        let found : Some false ≡ Some v = rw (is, other) at e in
-        let same : false ≡ v = cc in
-        ap truth_text (sym same) ∙ sym (equal_texts text (codes "false") (sym other))
-    by false is false other = let bad : ◌≡◌ {A = Option Bool} None (Some v) = rw (is, other) at e in cc
+-- the value that a word chooses has that word for its text
+chosen : {V : Type 0} (text_of : V → List ℕ) (x : V) {v : V} {text : List ℕ} → text ≡ text_of x → Some x ≡ Some v → text_of v ≡ text
+chosen text_of x {v} is some = let same : x ≡ v = cc in ap text_of (sym same) ∙ sym is
 
 pub truths : Reads (λ _. ⊤) truth_text truth_of
-truths = record { found = truth-found; again = λ v _. truth-again v }
+unfolding truth_of
+truths = record {
+  found = λ text v e. named text (codes "true") e (chosen truth_text true) (λ e. named text (codes "false") e (chosen truth_text false) nothing);
+  again = λ v _. again v;
+}
+  where
+    again : (v : Bool) → truth_of (truth_text v) ≡ Some v
+    again true = refl
+    again false = refl
 
 -- ---- where a bag is put
 
-digits-at_least : (n : ℕ) → 0 < n → n < 2 ^ 64 → AtLeast 48 (decimal n)
-digits-at_least n low high =
-    rw (decimal-digits_of n low high) (All-map (λ b. 48 ≤ b) (λ d. 48 + d) (digits_of 10 n) (λ i d h. omega arith))
-
 number-at_least : (limit n : ℕ) → limit < 10000 → IsNumber limit n → AtLeast 48 (decimal n)
-number-at_least limit n few is = digits-at_least n (omega (arith, is.from)) (omega (arith, few, is.until))
+number-at_least limit n few is = rw (decimal-digits_of n (omega (arith, is.from)) (omega (arith, few, is.until)))
+    (All-map (λ b. 48 ≤ b) (λ d. 48 + d) (digits_of 10 n) (λ i d h. omega arith))
 
 store-again : (v : Store) → IsStore v → store_of (store_text v) ≡ Some v
 unfolding store_of
@@ -239,19 +228,13 @@ store-again (Boxed n) is = by (same_text (decimal n) (codes "safe1")) refl
         absurd (omega (arith, letter.0))
     by false e = rw (e, boxes.again n is) refl
 
-store-found : (text : List ℕ) (v : Store) → store_of text ≡ Some v → store_text v ≡ text
-unfolding store_of
-store-found text v e = by (same_text text (codes "safe1")) refl
-  where
-    by : (b : Bool) → same_text text (codes "safe1") ≡ b → store_text v ≡ text
-    by true is =
-        let found : Some SafeOne ≡ Some v = rw is at e in
-        let same : SafeOne ≡ v = cc in
-        ap store_text (sym same) ∙ sym (equal_texts text (codes "safe1") (sym is))
-    by false is = option_map_some Boxed (box_of text) v (rw is at e) (λ n found same. ap store_text (sym same) ∙ boxes.found text n found)
-
 pub stores : Reads IsStore store_text store_of
-stores = record { found = store-found; again = store-again }
+unfolding store_of
+stores = record {
+  found = λ text v e. named text (codes "safe1") e (chosen store_text SafeOne) (λ e.
+      option_map_some Boxed (box_of text) v e (λ n found same. ap store_text (sym same) ∙ boxes.found text n found));
+  again = store-again;
+}
 
 -- ---- lists
 
@@ -323,35 +306,20 @@ literal : (low : ℕ) (text : List ℕ) → list_all (λ b. nat_le low b) text �
 literal low text test = All-weaker (λ b. nat_le low b ≡ true) (λ b. low ≤ b) (λ b h. leb-true low b h) text
     (AllPass-from_list_all (λ b. nat_le low b) text test)
 
-role-printing : (v : Role) → AtLeast 32 (role_text v)
-role-printing Ca = literal 32 (codes "CA") refl
-role-printing Iw = literal 32 (codes "IW") refl
-role-printing Sa = literal 32 (codes "SA") refl
-role-printing Ssc1 = literal 32 (codes "SSC1") refl
-role-printing Ssc2 = literal 32 (codes "SSC2") refl
-role-printing Rkos = literal 32 (codes "RKOS") refl
-role-printing Sw = literal 32 (codes "SW") refl
+-- the texts of listed values are printing where a test of the list says so, and have no slash
+module _ {V : Type 0} {IsValue : V → Type 0} (text_of : V → List ℕ) (values : List V) (reads : Reads IsValue text_of (by_text text_of values)) where
+  tested : (test : ℕ → Bool) → list_all (λ v. list_all test (text_of v)) values ≡ true → (v : V) → IsValue v → list_all test (text_of v) ≡ true
+  tested test all v is =
+      let at = (find-at (λ w. same_text (text_of w) (text_of v)) values v (reads.again v is)).1 in
+      let passes = All-get_or (λ w. list_all test (text_of w) ≡ true) values at.0 v at.1
+      (AllPass-from_list_all (λ w. list_all test (text_of w)) values all) in
+      rw at.2 at passes
 
-facility-printing : (v : Facility) → AtLeast 32 (facility_text v)
-facility-printing East = literal 32 (codes "EAST") refl
-facility-printing West = literal 32 (codes "WEST") refl
+  texts-line : list_all (λ v. list_all (λ b. nat_le 32 b) (text_of v)) values ≡ true → OnLine IsValue text_of
+  texts-line all = record { printing = λ v is. literal 32 (text_of v) (tested (λ b. nat_le 32 b) all v is) }
 
-way-printing : (v : Way) → AtLeast 32 (way_text v)
-way-printing Enter = literal 32 (codes "in") refl
-way-printing Leave = literal 32 (codes "out") refl
-
-truth-printing : (v : Bool) → AtLeast 32 (truth_text v)
-truth-printing true = literal 32 (codes "true") refl
-truth-printing false = literal 32 (codes "false") refl
-
-place-end : (front : List ℕ) (n : ℕ) → list_all (λ b. nat_le 32 b) front ≡ true → AtLeast 32 (front ++ (48 + n) ∷ [])
-place-end front n test = All-append (λ b. 32 ≤ b) front ((48 + n) ∷ []) (literal 32 front test)
-    (All-from_recursion (λ b. 32 ≤ b) ((48 + n) ∷ []) (omega arith, tt))
-
-place-printing : (v : Place) → AtLeast 32 (place_text v)
-place-printing (Co East n) = place-end (codes "CO-EAST-") n refl
-place-printing (Co West n) = place-end (codes "CO-WEST-") n refl
-place-printing (Rksh n) = place-end (codes "RKSH-") n refl
+  texts-path : list_all (λ v. list_all (λ b. not (eqb b 47)) (text_of v)) values ≡ true → InPath IsValue text_of
+  texts-path all = record { no_slash = λ v is. lacks-literal 47 (text_of v) (tested (λ b. not (eqb b 47)) all v is) }
 
 store-printing : (v : Store) → IsStore v → AtLeast 32 (store_text v)
 store-printing SafeOne is = literal 32 (codes "safe1") refl
@@ -366,26 +334,35 @@ join-at_least low (code ∷ next ∷ more) le each =
     (join-at_least low (next ∷ more) le (All-tail (λ c. AtLeast low c) code (next ∷ more) each)))
 
 pub roles-line : OnLine (λ _. ⊤) role_text
-roles-line = record { printing = λ v _. role-printing v }
+unfolding role_of
+roles-line = texts-line role_text (Ca ∷ Iw ∷ Sa ∷ Ssc1 ∷ Ssc2 ∷ Rkos ∷ Sw ∷ []) roles refl
 
 pub facilities-line : OnLine (λ _. ⊤) facility_text
-facilities-line = record { printing = λ v _. facility-printing v }
+unfolding facility_of
+facilities-line = texts-line facility_text (East ∷ West ∷ []) facilities refl
 
 pub ways-line : OnLine (λ _. ⊤) way_text
-ways-line = record { printing = λ v _. way-printing v }
-
-safe-printing : (v : SafeNumber) → AtLeast 32 (safe_text v)
-safe-printing One = literal 32 (codes "1") refl
-safe-printing Two = literal 32 (codes "2") refl
+unfolding way_of
+ways-line = texts-line way_text (Enter ∷ Leave ∷ []) ways refl
 
 pub safes-line : OnLine (λ _. ⊤) safe_text
-safes-line = record { printing = λ v _. safe-printing v }
+unfolding safe_of
+safes-line = texts-line safe_text (One ∷ Two ∷ []) safes refl
 
 pub truths-line : OnLine (λ _. ⊤) truth_text
-truths-line = record { printing = λ v _. truth-printing v }
+truths-line = record { printing = λ v _. printing v }
+  where
+    printing : (v : Bool) → AtLeast 32 (truth_text v)
+    printing true = literal 32 (codes "true") refl
+    printing false = literal 32 (codes "false") refl
 
 pub places-line : OnLine IsPlace place_text
-places-line = record { printing = λ v _. place-printing v }
+unfolding place_of
+places-line = texts-line place_text places places-read refl
+
+pub places-path : InPath IsPlace place_text
+unfolding place_of
+places-path = texts-path place_text places places-read refl
 
 pub stores-line : OnLine IsStore store_text
 stores-line = record { printing = store-printing }
@@ -418,11 +395,6 @@ items-line = record {
   printing = λ v are. join-at_least 32 v (omega arith) (All-weaker IsSerial (λ code. AtLeast 32 code) (λ code is. serials-line.printing code is) v are.each);
 }
 
-no-slash : (front : List ℕ) (n : ℕ) → list_all (λ b. not (eqb b 47)) front ≡ true → Lacks 47 (front ++ (48 + n) ∷ [])
-no-slash front n test =
-    All-append (λ b. eqb b 47 ≡ false) front ((48 + n) ∷ []) (lacks-literal 47 front test)
-    (lacks-below 47 48 ((48 + n) ∷ []) (omega arith) (All-from_recursion (λ b. 48 ≤ b) ((48 + n) ∷ []) (omega arith, tt)))
-
 pub initials-path : InPath IsInitials (λ text. text)
 initials-path = record { no_slash = λ v is. lacks-below 47 65 v (omega arith) (initials-at_least v is) }
 
@@ -434,11 +406,3 @@ numbers-path = record { no_slash = λ v is. lacks-below 47 48 (decimal v) (omega
 
 pub steps-path : InPath (IsNumber 400) decimal
 steps-path = record { no_slash = λ v is. lacks-below 47 48 (decimal v) (omega arith) (number-at_least 400 v (omega arith) is) }
-
-place-path : (v : Place) → Lacks 47 (place_text v)
-place-path (Co East n) = no-slash (codes "CO-EAST-") n refl
-place-path (Co West n) = no-slash (codes "CO-WEST-") n refl
-place-path (Rksh n) = no-slash (codes "RKSH-") n refl
-
-pub places-path : InPath IsPlace place_text
-places-path = record { no_slash = λ v _. place-path v }

@@ -1,11 +1,9 @@
 -- The act that a text tells has that text.
-use Rattle.std.proofs.Common.{◌≡◌, ℕ, Bool, true, false, eqb, List, [], ◌∷◌, ◌++◌, codes, Option, Some, None, if◌then◌else◌, refl, sym, ap, ◌∙◌, append_assoc}
+use Rattle.std.proofs.Common.{◌≡◌, ℕ, Bool, true, false, eqb, List, [], ◌∷◌, ◌++◌, codes, Option, Some, None, refl, sym, ap, ◌∙◌, append_assoc}
 use Rattle.std.specs.Option.{IfSome, option_and_then}
 use Rattle.std.specs.Fmt.{decimal}
-use Rattle.std.specs.Cmp.Lexicographic.{same_text as equal_texts}
 use Rattle.std.proofs.lemmas.Bool.{eqb-true}
 use Rattle.std.proofs.lemmas.Option.{option_and_then_some}
-use Rattle.kcr_base.specs.Same.{same_text}
 use Rattle.kcr_base.specs.Place.{place_text}
 use Rattle.kcr_base.specs.declared.place.Place.{Place}
 use Rattle.kcr_forms.specs.Forms.{safe_of}
@@ -17,25 +15,13 @@ use Rattle.kcr_again.specs.Told.{in_ceremony, on_ceremony, in_collection, of_pat
 use Rattle.kcr_again.proofs.Acts.{entry, training, withdrawal, appointment, replacement, release, new_box, new_item, plan, opening, closing, sheet}
 use Rattle.kcr_again.proofs.Acts.{exception, signature, turning, sealing, taking, putting, cutting}
 use Rattle.kcr_again.proofs.Cutting.{cut-found}
-use Rattle.kcr_again.proofs.Readers.{Reads}
+use Rattle.kcr_again.proofs.Readers.{Reads, named, nothing}
 use Rattle.kcr_again.proofs.Formed.{ceremonies, steps, safes, places-read, initials, serials}
 use Rattle.kcr_again.proofs.Paths.{piece}
 
 -- the act's text is the path, and the values on the lines after it
 abbrev Has : List ℕ → List ℕ → Act → Type 0
 Has path values act = command_text act ≡ path ++ 10 ∷ values
-
--- what a name chooses
-named : {P : Type 0} {x y : Option Act} {act : Act} (name word : List ℕ) → (if same_text name word then x else y) ≡ Some act
-    → (name ≡ word → x ≡ Some act → P) → (y ≡ Some act → P) → P
-named {P} {x} {y} {act} name word e chosen other = by (same_text name word) refl
-  where
-    by : (b : Bool) → same_text name word ≡ b → P
-    by true is = chosen (equal_texts name word (sym is)) (rw is at e)
-    by false is = other (rw is at e)
-
-nothing : {P : Type 0} {act : Act} → ◌≡◌ {A = Option Act} None (Some act) → P
-nothing e = cc
 
 -- what stands before a slash, and after it
 part-found : {V : Type 0} {IsValue : V → Type 0} {text_of : V → List ℕ} {read : List ℕ → Option V} {P : Type 0} → Reads IsValue text_of read

@@ -1,5 +1,8 @@
 -- Readers of values, and the acts that are made of the values that they read.
-use Rattle.std.proofs.Common.{◌≡◌, ℕ, ◌≤◌, ◌<◌, false, eqb, List, ◌∷◌, ◌++◌, Option, Some, None, refl, sym, ap, ◌∙◌, append_assoc, arith, All}
+use Rattle.std.proofs.Common.{◌≡◌, ℕ, ◌≤◌, ◌<◌, Bool, true, false, if◌then◌else◌, eqb, List, ◌∷◌, ◌++◌, Option, Some, None, refl, sym, ap, ◌∙◌}
+use Rattle.std.proofs.Common.{append_assoc, arith, All}
+use Rattle.std.specs.Cmp.Lexicographic.{same_text as equal_texts}
+use Rattle.kcr_base.specs.Same.{same_text}
 use Rattle.std.specs.Option.{option_map}
 use Rattle.std.proofs.lemmas.Bool.{ne_eqb}
 use Rattle.std.proofs.lemmas.List.Elements.{All-weaker}
@@ -40,8 +43,20 @@ at_least-less low less text le least = All-weaker (λ b. low ≤ b) (λ b. less 
 -- ---- one value
 
 pub option_map_some : {A B P : Type 0} (f : A → B) (o : Option A) (y : B) → option_map f o ≡ Some y → ((x : A) → o ≡ Some x → f x ≡ y → P) → P
-option_map_some f None y e then = cc
-option_map_some f (Some x) y e then = then x refl (let same : f x ≡ y = cc in same)
+option_map_some f None y e next = cc
+option_map_some f (Some x) y e next = next x refl (let same : f x ≡ y = cc in same)
+
+-- what a word chooses
+pub named : {V P : Type 0} {x y : Option V} {v : V} (name word : List ℕ) → (if same_text name word then x else y) ≡ Some v
+    → (name ≡ word → x ≡ Some v → P) → (y ≡ Some v → P) → P
+named {V} {P} {x} {y} {v} name word e chosen other = by (same_text name word) refl
+  where
+    by : (b : Bool) → same_text name word ≡ b → P
+    by true is = chosen (equal_texts name word (sym is)) (rw is at e)
+    by false is = other (rw is at e)
+
+pub nothing : {V P : Type 0} {v : V} → ◌≡◌ {A = Option V} None (Some v) → P
+nothing e = cc
 
 -- the act that a reader makes of the lines after a path is the one with that text
 pub record Tells {A : Type 0} (IsA : A → Type 0) (make : A → Act) (path : List ℕ) (read : List ℕ → Option Act) : Type 0 where
