@@ -48,10 +48,12 @@ pub replacement : (place : Place) → Tells (λ (p : List ℕ × ℕ). IsInitial
     (at_place (place_text place) (codes "replacement")) (of_two (Replace place) initials_of day_of)
 replacement place = two initials initials-line days (Replace place) (at_place (place_text place) (codes "replacement")) (λ a b. refl)
 
-pub release : (place : Place) → Tells IsDay (Release place) (at_place (place_text place) (codes "release")) (λ values. option_map (Release place) (day_of values))
+pub release : (place : Place) → Tells IsDay (Release place) (at_place (place_text place) (codes "release"))
+    (λ values. option_map (Release place) (day_of values))
 release place = one days (Release place) (at_place (place_text place) (codes "release")) (λ a. refl)
 
-pub new_box : Tells (λ (p : Facility × ℕ × Place). ⊤ × IsNumber 9999 p.1 × IsPlace p.2) (λ p. AddBox p.0 p.1 p.2) (codes "/boxes") (of_three AddBox facility_of box_of place_of)
+pub new_box : Tells (λ (p : Facility × ℕ × Place). ⊤ × IsNumber 9999 p.1 × IsPlace p.2) (λ p. AddBox p.0 p.1 p.2) (codes "/boxes")
+    (of_three AddBox facility_of box_of place_of)
 new_box = three facilities facilities-line boxes numbers-line places-read AddBox (codes "/boxes") (λ a b c. refl)
 
 pub new_item : Tells (λ (p : ℕ × List ℕ × ℕ). IsNumber 9999 p.0 × IsSerial p.1 × IsMoment p.2) (λ p. AddItem p.0 p.1 p.2) (codes "/items")
@@ -73,14 +75,16 @@ module _ (ceremony : ℕ) where
       (of_three (Sheet ceremony) way_of people_of moment_of)
   sheet = three ways ways-line people people-line moments (Sheet ceremony) (at_ceremony ceremony (codes "sheet")) (λ a b c. refl)
 
-  pub exception : Tells (λ (p : List ℕ × Bool × ℕ). IsLine 1000 p.0 × ⊤ × IsMoment p.2) (λ p. Except ceremony p.0 p.1 p.2) (at_ceremony ceremony (codes "exceptions"))
+  pub exception : Tells (λ (p : List ℕ × Bool × ℕ). IsLine 1000 p.0 × ⊤ × IsMoment p.2) (λ p. Except ceremony p.0 p.1 p.2)
+      (at_ceremony ceremony (codes "exceptions"))
       (of_three (Except ceremony) remark_of truth_of moment_of)
   exception = three remarks remarks-line truths truths-line moments (Except ceremony) (at_ceremony ceremony (codes "exceptions")) (λ a b c. refl)
 
   pub signature : (step : ℕ) → Tells IsMoment (Sign ceremony step) (at_step ceremony step) (λ values. option_map (Sign ceremony step) (moment_of values))
   signature step = one moments (Sign ceremony step) (at_step ceremony step) (λ a. refl)
 
-  pub turning : (safe : SafeNumber) → Tells (λ (p : Bool × List ℕ × ℕ). ⊤ × IsInitials p.1 × IsMoment p.2) (λ p. TurnSafe ceremony safe p.0 p.1 p.2) (at_safe ceremony safe)
+  pub turning : (safe : SafeNumber) → Tells (λ (p : Bool × List ℕ × ℕ). ⊤ × IsInitials p.1 × IsMoment p.2) (λ p. TurnSafe ceremony safe p.0 p.1 p.2)
+      (at_safe ceremony safe)
       (of_three (TurnSafe ceremony safe) truth_of initials_of moment_of)
   turning safe = three truths truths-line initials initials-line moments (TurnSafe ceremony safe) (at_safe ceremony safe) (λ a b c. refl)
 

@@ -50,5 +50,19 @@ moment-same s t is_s is_t e =
 
 pub day-printing : (n : ℕ) → AtLeast 32 (day_text n)
 unfolding day_text
-day-printing n = All-from_recursion (λ b. 32 ≤ b) (day_text n) (omega arith, (omega arith, (omega arith, (omega arith, (omega arith,
-    (omega arith, (omega arith, (omega arith, (omega arith, (omega arith, tt))))))))))
+day-printing n = All-from_recursion (λ b. 32 ≤ b) (day_text n) (
+  omega arith,
+  (
+    omega arith,
+    (
+      omega arith,
+      (
+        omega arith,
+        (
+          omega arith,
+          (omega arith, (omega arith, (omega arith, (omega arith, (omega arith, tt))))),
+        ),
+      ),
+    ),
+  ),
+)

@@ -135,8 +135,10 @@ module _ {A : Type 0} {IsA : A → Type 0} {text_a : A → List ℕ} {read_a : L
                 ap command_text (sym same) ∙ whole x y z
                 ∙ (λ j. path ++ 10 ∷ (a.found line.0 x x-is j ++ 10 ∷ (b.found line.1 y y-is j ++ 10 ∷ c.found line.2 z z-is j)))
                 ∙ ap (λ (t : List ℕ). path ++ 10 ∷ t) (sym (three-lines-found values line cut))))));
-            again = λ p is. rw (cut-again 10 (text_a p.0) (text_b p.1 ++ 10 ∷ text_c p.2) (no-feed line_a p.0 is.0),
-                cut-again 10 (text_b p.1) (text_c p.2) (no-feed line_b p.1 is.1), a.again p.0 is.0, b.again p.1 is.1, c.again p.2 is.2) refl;
+            again = λ p is.
+                let first = cut-again 10 (text_a p.0) (text_b p.1 ++ 10 ∷ text_c p.2) (no-feed line_a p.0 is.0) in
+                let second = cut-again 10 (text_b p.1) (text_c p.2) (no-feed line_b p.1 is.1) in
+                rw (first, second, a.again p.0 is.0, b.again p.1 is.1, c.again p.2 is.2) refl;
           }
 
       pub four : {D : Type 0} {IsD : D → Type 0} {text_d : D → List ℕ} {read_d : List ℕ → Option D} → OnLine IsC text_c → Reads IsD text_d read_d
@@ -163,8 +165,9 @@ module _ {A : Type 0} {IsA : A → Type 0} {text_a : A → List ℕ} {read_a : L
                 ap command_text (sym same) ∙ whole x y z w
                 ∙ (λ j. path ++ 10 ∷ (a.found line.0 x x-is j ++ 10 ∷ (b.found line.1 y y-is j ++ 10 ∷ (c.found line.2 z z-is j ++ 10 ∷ d.found line.3 w w-is j))))
                 ∙ ap (λ (t : List ℕ). path ++ 10 ∷ t) (sym (four-lines-found values line cut)))))));
-            again = λ p is. rw (cut-again 10 (text_a p.0) (text_b p.1 ++ 10 ∷ (text_c p.2 ++ 10 ∷ text_d p.3)) (no-feed line_a p.0 is.0),
-                cut-again 10 (text_b p.1) (text_c p.2 ++ 10 ∷ text_d p.3) (no-feed line_b p.1 is.1),
-                cut-again 10 (text_c p.2) (text_d p.3) (no-feed line_c p.2 is.2),
-                a.again p.0 is.0, b.again p.1 is.1, c.again p.2 is.2, d.again p.3 is.3) refl;
+            again = λ p is.
+                let first = cut-again 10 (text_a p.0) (text_b p.1 ++ 10 ∷ (text_c p.2 ++ 10 ∷ text_d p.3)) (no-feed line_a p.0 is.0) in
+                let second = cut-again 10 (text_b p.1) (text_c p.2 ++ 10 ∷ text_d p.3) (no-feed line_b p.1 is.1) in
+                let third = cut-again 10 (text_c p.2) (text_d p.3) (no-feed line_c p.2 is.2) in
+                rw (first, second, third, a.again p.0 is.0, b.again p.1 is.1, c.again p.2 is.2, d.again p.3 is.3) refl;
           }

@@ -42,9 +42,9 @@ enclosed {fits} {seats} {people} {root} {fixed} {w} {from} {v} (o ∷ os) long y
     ] in
     let j = later (λ k. k) o os k.0 (λ z. k.2.0 (z ∙ r.starts)) (m.only k.0 k.1 (k.2.2 after)) in
     (j.0, j.1, ap (λ n. get_or w n 0) j.2 ∙ k.2.1)) in
-    absurd (omega (arith, outnumbered (o ∷ os) os (λ k. get_or v k 0) (λ k. get_or w k 0) people
-    (λ i h. y.in_range (seat i) (low i h)) comes
-    (λ i j h k e. r.distinct i j h k (y.distinct (seat i) (seat j) (low i h) (low j k) e))))
+    let no_more = outnumbered (o ∷ os) os (λ k. get_or v k 0) (λ k. get_or w k 0) people (λ i h. y.in_range (seat i) (low i h)) comes
+    (λ i j h k e. r.distinct i j h k (y.distinct (seat i) (seat j) (low i h) (low j k) e)) in
+    absurd (omega (arith, no_more))
 
 -- the later seats are too many
 pub refused_stuck : {fits : ℕ → ℕ → Bool} {seats people seat person root : ℕ} {w new : List ℕ} {marked : List Bool}

@@ -58,7 +58,7 @@ record Closure (fits : ℕ → ℕ → Bool) (root : ℕ) (w : List ℕ) : Type 
 -- a further seat is reached, and the search goes on with it, or there is none
 closure_step : {fits : ℕ → ℕ → Bool} {root : ℕ} {w order from : List ℕ} {marked : List Bool} → IsReached fits root 0 w order from → IsMarked w order marked
     → ((order' from' : List ℕ) (marked' : List Bool) → IsReached fits root 0 w order' from' → IsMarked w order' marked'
-        → length order' ≡ length order + 1 → Closure fits root w)
+    → length order' ≡ length order + 1 → Closure fits root w)
     → Closure fits root w
 closure_step {fits} {root} {w} {order} {from} {marked} r m go_on =
     let seated = λ (i j : ℕ). fits (get_or order i 0) (get_or w j 0) in
@@ -68,7 +68,11 @@ closure_step {fits} {root} {w} {order} {from} {marked} r m go_on =
           go_on (order ++ a.1 ∷ []) (from ++ a.0 ∷ []) (set marked a.1 true)
           (reached_more r a.0 a.1 m a.3 (omega arith) b.0 a.2 b.1) (marked_more a.1 m a.3) (simp length-append)
       | inr none ↦ record {
-        order = order; from = from; marked = marked; reached = r; marks = m;
+        order = order;
+        from = from;
+        marked = marked;
+        reached = r;
+        marks = m;
         closed = λ i j h f k e. unless_no (get_or marked j false) (seated i j) (none i j h k) e;
       }
     ]
@@ -110,7 +114,15 @@ listed_same {marked} {n} l not_so = record {
 }
 
 list_of : (marked : List Bool) (n : ℕ) → (s : List ℕ) × IsListed marked n s
-list_of marked zero = ([], record { rising = λ i h. absurd (omega arith); low = λ i h. absurd (omega arith); only = λ i h. absurd (omega arith); all = λ j h. absurd (omega arith) })
+list_of marked zero = (
+  [],
+  record {
+    rising = λ i h. absurd (omega arith);
+    low = λ i h. absurd (omega arith);
+    only = λ i h. absurd (omega arith);
+    all = λ j h. absurd (omega arith);
+  },
+)
 list_of marked (suc n) = let r = list_of marked n in elim (true_or_false (get_or marked n false)) [
   | inl passes ↦ (r.0 ++ n ∷ [], listed_more r.1 passes)
   | inr not_so ↦ (r.0, listed_same r.1 not_so)
@@ -189,7 +201,15 @@ module _ (fits : ℕ → ℕ → Bool) (seats people n : ℕ) (w : List ℕ) (y 
 
 up_to : (fits : ℕ → ℕ → Bool) (seats people n : ℕ) → n ≤ seats
     → ((w : List ℕ) × IsSeating fits n people w) ⊎ ((s : List ℕ) × IsShort fits seats people s)
-up_to fits seats people zero h = inl ([], record { each_seat = refl; in_range = λ k l. absurd (omega arith); fitting = λ k l. absurd (omega arith); distinct = λ j k l. absurd (omega arith) })
+up_to fits seats people zero h = inl (
+  [],
+  record {
+    each_seat = refl;
+    in_range = λ k l. absurd (omega arith);
+    fitting = λ k l. absurd (omega arith);
+    distinct = λ j k l. absurd (omega arith);
+  },
+)
 up_to fits seats people (suc n) h = elim (up_to fits seats people n (omega arith)) [
   | inl a ↦ rw (← add-one) (one_more fits seats people n a.0 a.1 (omega arith))
   | inr s ↦ inr s

@@ -33,6 +33,7 @@ all_seated {fits} {people} {root} {w} seats long past y = record {
   where
     within : (k : ℕ) → k < seats → k < length w
     within k l = omega arith
+
     other : (k : ℕ) → k < seats → k ≢ root
     other k l e = absurd (omega arith)
 
@@ -58,6 +59,7 @@ given {fits} {people} {root} {w} new seat person y known fit others = record {
   where
     within : (k : ℕ) → k < length (set w seat person) → k < length w
     within k l = rw length-set at l
+
     at : (k : ℕ) → k < length (set w seat person)
         → ((k ≡ seat) × (get_or (set w seat person) k 0 ≡ person)) ⊎ ((k ≢ seat) × (get_or (set w seat person) k 0 ≡ get_or w k 0))
     at k l = set_at w seat person 0 k (rw length-set at l)

@@ -67,8 +67,8 @@ returns-clause-cost g c =
 pub contains-requires : goal.contains-requires
 contains-requires g c =
     let unmarked : get_or c.row.reached.marked.items c.row.other false ≡ false = grind (arith, common_steps) in
-    omega (arith, c.requires.seated.in_range c.row.other (omega arith)
-        (not_root c.row.invariant.row.reached c.row.other c.row.invariant.row.marks unmarked))
+    let other = not_root c.row.invariant.row.reached c.row.other c.row.invariant.row.marks unmarked in
+    omega (arith, c.requires.seated.in_range c.row.other (omega arith) other)
 
 pub returns-clause-closed : goal.returns-clause-closed
 returns-clause-closed g c = λ i j l. c.queue.invariant.closed i j (omega arith)

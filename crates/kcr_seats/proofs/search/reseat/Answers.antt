@@ -34,8 +34,9 @@ returns-clause-cost g c =
     (let ok = c.args.seating.now.ok in omega arith) (rw c.deref.ensures.value at (order_short c.in_ok-reached.ensures.reached)) in
     let inside : c.in-Some.index < length c.deref-3.result.now = c.in-Some.ensures.index in
     let shifted : c.shift.turns + c.shift.index ≤ c.free_person.new.turns + c.in-Some.index = c.shift.invariant.cost in
-    omega (arith, rw (← c.deref.ensures.value) at all, order_short c.in_ok-reached.ensures.reached, ap length c.deref-2.ensures.value,
-        ap length c.deref-3.ensures.value, ap length c.deref.ensures.value)
+    let spent = rw (← c.deref.ensures.value) at all in
+    let short = order_short c.in_ok-reached.ensures.reached in
+    omega (arith, spent, short, ap length c.deref-2.ensures.value, ap length c.deref-3.ensures.value, ap length c.deref.ensures.value)
 
 pub returns-clause-tried : goal.returns-clause-tried
 returns-clause-tried g c =

@@ -21,15 +21,15 @@ pub returns-in_err-listed-clause-cost : goal.returns-in_err-listed-clause-cost
 returns-in_err-listed-clause-cost g c =
     let told = rw c.in-Stuck.is at c.in_ok-marked.ensures.tried in
     let long = simp length-append at (ap length c.in_ok-push.ensures.items) in
-    omega (arith, in_turn (seats_of c.args.table.now) (people_of c.args.table.now) c.loop-root.root (omega arith), told.1.marks.table, long,
-        c.loop-root.invariant.seating.each_seat, ap length c.deref.ensures.value)
+    let turn = in_turn (seats_of c.args.table.now) (people_of c.args.table.now) c.loop-root.root (omega arith) in
+    omega (arith, turn, told.1.marks.table, long, c.loop-root.invariant.seating.each_seat, ap length c.deref.ensures.value)
 
 pub returns-in-Stuck-clause-cost : goal.returns-in-Stuck-clause-cost
 returns-in-Stuck-clause-cost g c =
     let told = rw c.in-Stuck.is at c.in_ok-marked.ensures.tried in
     let long = simp length-append at (ap length c.in_ok-push.ensures.items) in
-    omega (arith, in_turn (seats_of c.args.table.now) (people_of c.args.table.now) c.loop-root.root (omega arith), told.1.marks.table, long,
-        c.loop-root.invariant.seating.each_seat, ap length c.deref.ensures.value)
+    let turn = in_turn (seats_of c.args.table.now) (people_of c.args.table.now) c.loop-root.root (omega arith) in
+    omega (arith, turn, told.1.marks.table, long, c.loop-root.invariant.seating.each_seat, ap length c.deref.ensures.value)
 
 pub returns-in_err-improve-clause-cost : goal.returns-in_err-improve-clause-cost
 returns-in_err-improve-clause-cost g c = omega (arith, in_improve (seats_of c.args.table.now) (people_of c.args.table.now) c.loop-root.root (omega arith))
