@@ -1,5 +1,5 @@
 -- An act is read again from its text.
-use Rattle.std.proofs.Common.{◌≡◌, ℕ, false, eqb, List, ◌∷◌, ◌++◌, codes, Option, Some, refl, sym, ap, ◌∙◌, append_assoc}
+use Rattle.std.proofs.Common.{◌≡◌, ℕ, false, eqb, List, ◌∷◌, ◌++◌, codes, Option, Some, refl, sym, ap, ◌∙◌, append_assoc, arith}
 use Rattle.std.specs.Option.{option_map_or, option_and_then}
 use Rattle.std.specs.Fmt.{decimal}
 use Rattle.std.proofs.lemmas.List.Elements.{All-cons}
@@ -20,8 +20,8 @@ use Rattle.kcr_again.proofs.Acts.{entry, training, withdrawal, appointment, repl
 use Rattle.kcr_again.proofs.Acts.{exception, signature, turning, sealing, taking, putting, cutting}
 use Rattle.kcr_again.proofs.Cutting.{Lacks, lacks-literal, IsWord, word, cut-again, cut-none}
 use Rattle.kcr_again.proofs.Readers.{Reads, InPath, Tells, no-feed}
-use Rattle.kcr_again.proofs.Formed.{ceremonies, steps, safes, places-read, initials, serials, places-line, initials-line, serials-line, numbers-line, steps-line}
-use Rattle.kcr_again.proofs.Formed.{initials-path, serials-path, numbers-path, steps-path, places-path, safes-line}
+use Rattle.kcr_again.proofs.Formed.{ceremonies, steps, safes, places-read, initials, serials}
+use Rattle.kcr_again.proofs.Formed.{initials-path, serials-path, decimals-path, places-path}
 use Rattle.kcr_again.proofs.Paths.{piece, lacks-slash}
 
 by-path : (path values : List ℕ) → Lacks 10 path → act_of (47 ∷ path ++ 10 ∷ values) ≡ of_path path values
@@ -51,8 +51,8 @@ unfolding in_collection
 person-again who what values is lacks =
     ap (λ (path : List ℕ). act_of (path ++ 10 ∷ values)) (piece (codes "/people/") who what)
     ∙ by-names (codes "people") (who ++ 47 ∷ what) values (word (codes "people") refl refl)
-    (lacks-slash 10 who what refl (no-feed initials-line who is) lacks)
-    ∙ part-again initials initials-path (λ who what. of_person who what values) who what is
+    (lacks-slash 10 who what refl (no-feed initials who is) lacks)
+    ∙ part-again initials.reads initials-path (λ who what. of_person who what values) who what is
 
 place-again : (place : Place) (what values : List ℕ) → IsPlace place → Lacks 10 what
     → act_of (at_place (place_text place) what ++ 10 ∷ values) ≡ of_place place what values
@@ -60,8 +60,8 @@ unfolding in_collection
 place-again place what values is lacks =
     ap (λ (path : List ℕ). act_of (path ++ 10 ∷ values)) (piece (codes "/custodians/") (place_text place) what)
     ∙ by-names (codes "custodians") (place_text place ++ 47 ∷ what) values (word (codes "custodians") refl refl)
-    (lacks-slash 10 (place_text place) what refl (no-feed places-line place is) lacks)
-    ∙ part-again places-read places-path (λ place what. of_place place what values) place what is
+    (lacks-slash 10 (place_text place) what refl (no-feed places-read place is) lacks)
+    ∙ part-again places-read.reads places-path (λ place what. of_place place what values) place what is
 
 on-ceremony : (ceremony : ℕ) (path values : List ℕ) → IsNumber 9999 ceremony → Lacks 10 path
     → act_of (at_ceremony ceremony path ++ 10 ∷ values) ≡ on_ceremony ceremony path values
@@ -69,8 +69,8 @@ unfolding in_collection
 on-ceremony ceremony path values is lacks =
     ap (λ (path : List ℕ). act_of (path ++ 10 ∷ values)) (piece (codes "/ceremonies/") (decimal ceremony) path)
     ∙ by-names (codes "ceremonies") (decimal ceremony ++ 47 ∷ path) values (word (codes "ceremonies") refl refl)
-    (lacks-slash 10 (decimal ceremony) path refl (no-feed numbers-line ceremony is) lacks)
-    ∙ part-again ceremonies numbers-path (λ ceremony what. on_ceremony ceremony what values) ceremony path is
+    (lacks-slash 10 (decimal ceremony) path refl (no-feed ceremonies ceremony is) lacks)
+    ∙ part-again ceremonies.reads (decimals-path 9999 (omega arith)) (λ ceremony what. on_ceremony ceremony what values) ceremony path is
 
 itself-again : (ceremony : ℕ) (what values : List ℕ) → IsNumber 9999 ceremony → IsWord what
     → act_of (at_ceremony ceremony what ++ 10 ∷ values) ≡ of_ceremony ceremony what values
@@ -93,8 +93,8 @@ unfolding in_ceremony
 bag-again ceremony serial what values is is_serial lacks =
     ap (λ (path : List ℕ). act_of (at_ceremony ceremony path ++ 10 ∷ values)) (piece (codes "bags/") serial what)
     ∙ thing-again ceremony (codes "bags") (serial ++ 47 ∷ what) values is (word (codes "bags") refl refl)
-    (lacks-slash 10 serial what refl (no-feed serials-line serial is_serial) lacks)
-    ∙ part-again serials serials-path (λ serial what. of_bag ceremony serial what values) serial what is_serial
+    (lacks-slash 10 serial what refl (no-feed serials serial is_serial) lacks)
+    ∙ part-again serials.reads serials-path (λ serial what. of_bag ceremony serial what values) serial what is_serial
 
 step-again : (ceremony step : ℕ) (values : List ℕ) → IsNumber 9999 ceremony → IsNumber 400 step
     → act_of (at_step ceremony step ++ 10 ∷ values) ≡ of_step ceremony step (codes "signature") values
@@ -102,15 +102,15 @@ unfolding in_ceremony
 step-again ceremony step values is is_step =
     ap (λ (path : List ℕ). act_of (at_ceremony ceremony path ++ 10 ∷ values)) (append_assoc (codes "steps/") (decimal step) (codes "/signature"))
     ∙ thing-again ceremony (codes "steps") (decimal step ++ 47 ∷ codes "signature") values is (word (codes "steps") refl refl)
-    (lacks-slash 10 (decimal step) (codes "signature") refl (no-feed steps-line step is_step) (lacks-literal 10 (codes "signature") refl))
-    ∙ part-again steps steps-path (λ step what. of_step ceremony step what values) step (codes "signature") is_step
+    (lacks-slash 10 (decimal step) (codes "signature") refl (no-feed steps step is_step) (lacks-literal 10 (codes "signature") refl))
+    ∙ part-again steps.reads (decimals-path 400 (omega arith)) (λ step what. of_step ceremony step what values) step (codes "signature") is_step
 
 safe-again : (ceremony : ℕ) (safe : SafeNumber) (values : List ℕ) → IsNumber 9999 ceremony
     → act_of (at_safe ceremony safe ++ 10 ∷ values) ≡ of_safe ceremony safe values
 unfolding in_ceremony
 safe-again ceremony safe values is =
-    thing-again ceremony (codes "safes") (safe_text safe) values is (word (codes "safes") refl refl) (no-feed safes-line safe tt)
-    ∙ ap (option_and_then (λ safe. of_safe ceremony safe values)) (safes.again safe tt)
+    thing-again ceremony (codes "safes") (safe_text safe) values is (word (codes "safes") refl refl) (no-feed safes safe tt)
+    ∙ ap (option_and_then (λ safe. of_safe ceremony safe values)) (safes.reads.again safe tt)
 
 -- an act whose path leads to its reader is read again
 told-again : {A : Type 0} {IsA : A → Type 0} {make : A → Act} {path : List ℕ} {read : List ℕ → Option Act} → Tells IsA make path read

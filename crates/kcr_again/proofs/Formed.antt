@@ -51,8 +51,24 @@ use Rattle.kcr_again.specs.Acts.{ArePeople, AreItems, IsStore}
 use Rattle.kcr_again.specs.Told.{script_of, truth_of, each_of, between_commas, people_of, items_of}
 use Rattle.kcr_again.proofs.Cutting.{Lacks, lacks-literal}
 use Rattle.kcr_again.proofs.Dates.{day-same, moment-same, day-printing}
-use Rattle.kcr_again.proofs.Readers.{named, nothing, option_map_some, Reads, OnLine, InPath, AtLeast, lacks-below, at_least-less}
+use Rattle.kcr_again.proofs.Readers.{named, nothing, option_map_some, Reads, Value, InPath, AtLeast, lacks-below, at_least-less}
 use Rattle.kcr_again.proofs.Scripts.{script-some}
+
+-- ---- the bytes of texts
+
+literal : (low : ℕ) (text : List ℕ) → list_all (λ b. nat_le low b) text ≡ true → AtLeast low text
+literal low text test = All-weaker (λ b. nat_le low b ≡ true) (λ b. low ≤ b) (λ b h. leb-true low b h) text
+    (AllPass-from_list_all (λ b. nat_le low b) text test)
+
+initials-at_least : (text : List ℕ) → IsInitials text → AtLeast 65 text
+initials-at_least text is = All-weaker IsCapital (λ b. 65 ≤ b) (λ b h. h.0) text is.capitals
+
+serial-at_least : (text : List ℕ) → IsSerial text → AtLeast 48 text
+serial-at_least text is = All-weaker (λ b. IsCapital b ⊎ IsDigit b) (λ b. 48 ≤ b) (λ b h. grind arith) text is.each
+
+number-at_least : (limit n : ℕ) → limit < 10000 → IsNumber limit n → AtLeast 48 (decimal n)
+number-at_least limit n few is = rw (decimal-digits_of n (omega (arith, is.from)) (omega (arith, few, is.until)))
+    (All-map (λ b. 48 ≤ b) (λ d. 48 + d) (digits_of 10 n) (λ i d h. omega arith))
 
 -- ---- values that are found by their texts
 
@@ -85,28 +101,46 @@ again-by : {V : Type 0} {IsValue : V → Type 0} {text_of : V → List ℕ} {rea
     → ((v w : V) → IsValue v → IsValue w → text_of v ≡ text_of w → v ≡ w) → (v : V) → IsValue v → read (text_of v) ≡ Some v
 again-by {text_of = text_of} reads same v is = sym (reads (text_of v) (Some v) (is, refl) (λ w is_w e. ap Some (same v w is is_w (sym e))))
 
-pub days : Reads IsDay day_text day_of
+-- the texts of listed values are printing where a test of the list says so, and have no slash
+module _ {V : Type 0} {IsValue : V → Type 0} (text_of : V → List ℕ) (values : List V) (reads : Reads IsValue text_of (by_text text_of values)) where
+  tested : (test : ℕ → Bool) → list_all (λ v. list_all test (text_of v)) values ≡ true → (v : V) → IsValue v → list_all test (text_of v) ≡ true
+  tested test all v is =
+      let at = (find-at (λ w. same_text (text_of w) (text_of v)) values v (reads.again v is)).1 in
+      let passes = All-get_or (λ w. list_all test (text_of w) ≡ true) values at.0 v at.1
+      (AllPass-from_list_all (λ w. list_all test (text_of w)) values all) in
+      rw at.2 at passes
+
+  texts-value : list_all (λ v. list_all (λ b. nat_le 32 b) (text_of v)) values ≡ true → Value IsValue text_of (by_text text_of values)
+  texts-value all = record { reads = reads; printing = λ v is. literal 32 (text_of v) (tested (λ b. nat_le 32 b) all v is) }
+
+  texts-path : list_all (λ v. list_all (λ b. not (eqb b 47)) (text_of v)) values ≡ true → InPath IsValue text_of
+  texts-path all = record { no_slash = λ v is. lacks-literal 47 (text_of v) (tested (λ b. not (eqb b 47)) all v is) }
+
+pub days : Value IsDay day_text day_of
 unfolding day_of
-days = number_texts day_text 10957 47481 (again-by day-read day-same)
+days = record { reads = number_texts day_text 10957 47481 (again-by day-read day-same); printing = λ v _. day-printing v }
 
 pub moments : Reads IsMoment moment_text moment_of
 unfolding moment_of
 moments = number_texts moment_text (10957 * 86400) (47481 * 86400 + 86399) (again-by moment-read moment-same)
 
-decimals : (limit : ℕ) → limit < 10000 → Reads (IsNumber limit) decimal (number_by_text decimal 1 limit)
-decimals limit few = number_texts decimal 1 limit (again-by
-    (λ bytes r. number-read (IsNumber limit) decimal 1 limit bytes r (λ n low high. record { from = low; until = high }) (λ n is. (is.from, is.until)))
-    (λ m n is_m is_n e. decimal_injective m n (omega (arith, few, is_m.until)) (omega (arith, few, is_n.until)) e))
+decimals : (limit : ℕ) → limit < 10000 → Value (IsNumber limit) decimal (number_by_text decimal 1 limit)
+decimals limit few = record {
+  reads = number_texts decimal 1 limit (again-by
+      (λ bytes r. number-read (IsNumber limit) decimal 1 limit bytes r (λ n low high. record { from = low; until = high }) (λ n is. (is.from, is.until)))
+      (λ m n is_m is_n e. decimal_injective m n (omega (arith, few, is_m.until)) (omega (arith, few, is_n.until)) e));
+  printing = λ v is. at_least-less 48 32 (decimal v) (omega arith) (number-at_least limit v few is);
+}
 
-pub ceremonies : Reads (IsNumber 9999) decimal ceremony_of
+pub ceremonies : Value (IsNumber 9999) decimal ceremony_of
 unfolding ceremony_of
 ceremonies = decimals 9999 (omega arith)
 
-pub boxes : Reads (IsNumber 9999) decimal box_of
+pub boxes : Value (IsNumber 9999) decimal box_of
 unfolding box_of
 boxes = decimals 9999 (omega arith)
 
-pub steps : Reads (IsNumber 400) decimal step_of
+pub steps : Value (IsNumber 400) decimal step_of
 unfolding step_of
 steps = decimals 400 (omega arith)
 
@@ -120,29 +154,31 @@ role-again Ssc2 = refl
 role-again Rkos = refl
 role-again Sw = refl
 
-pub roles : Reads (λ _. ⊤) role_text role_of
+pub roles : Value (λ _. ⊤) role_text role_of
 unfolding role_of
-roles = by_texts role_text (Ca ∷ Iw ∷ Sa ∷ Ssc1 ∷ Ssc2 ∷ Rkos ∷ Sw ∷ []) (λ v _. role-again v)
+roles =
+    let all = Ca ∷ Iw ∷ Sa ∷ Ssc1 ∷ Ssc2 ∷ Rkos ∷ Sw ∷ [] in
+    texts-value role_text all (by_texts role_text all (λ v _. role-again v)) refl
 
-pub facilities : Reads (λ _. ⊤) facility_text facility_of
+pub facilities : Value (λ _. ⊤) facility_text facility_of
 unfolding facility_of
-facilities = by_texts facility_text (East ∷ West ∷ []) (λ v _. again v)
+facilities = texts-value facility_text (East ∷ West ∷ []) (by_texts facility_text (East ∷ West ∷ []) (λ v _. again v)) refl
   where
     again : (v : Facility) → facility_of (facility_text v) ≡ Some v
     again East = refl
     again West = refl
 
-pub ways : Reads (λ _. ⊤) way_text way_of
+pub ways : Value (λ _. ⊤) way_text way_of
 unfolding way_of
-ways = by_texts way_text (Enter ∷ Leave ∷ []) (λ v _. again v)
+ways = texts-value way_text (Enter ∷ Leave ∷ []) (by_texts way_text (Enter ∷ Leave ∷ []) (λ v _. again v)) refl
   where
     again : (v : Way) → way_of (way_text v) ≡ Some v
     again Enter = refl
     again Leave = refl
 
-pub safes : Reads (λ _. ⊤) safe_text safe_of
+pub safes : Value (λ _. ⊤) safe_text safe_of
 unfolding safe_of
-safes = by_texts safe_text (One ∷ Two ∷ []) (λ v _. again v)
+safes = texts-value safe_text (One ∷ Two ∷ []) (by_texts safe_text (One ∷ Two ∷ []) (λ v _. again v)) refl
   where
     again : (v : SafeNumber) → safe_of (safe_text v) ≡ Some v
     again One = refl
@@ -161,9 +197,13 @@ place-same (Co West n) (Co East m) e = let apart : 87 ≡ 69 = byte 3 e in absur
 place-same (Co facility n) (Rksh m) e = let apart : 67 ≡ 82 = byte 0 e in absurd (omega (arith, apart))
 place-same (Rksh n) (Co facility m) e = let apart : 82 ≡ 67 = byte 0 e in absurd (omega (arith, apart))
 
-pub places-read : Reads IsPlace place_text place_of
+pub places-read : Value IsPlace place_text place_of
 unfolding place_of
-places-read = by_texts place_text places (again-by place-read (λ v w _ _. place-same v w))
+places-read = texts-value place_text places (by_texts place_text places (again-by place-read (λ v w _ _. place-same v w))) refl
+
+pub places-path : InPath IsPlace place_text
+unfolding place_of
+places-path = texts-path place_text places places-read.reads refl
 
 -- ---- texts that are their own value
 
@@ -171,25 +211,37 @@ if_forms : {IsValue : List ℕ → Type 0} (test : List ℕ → Bool) → ((v : 
     → Reads IsValue (λ text. text) (λ text. if_form (test text) text)
 if_forms test again = record { found = λ text v e. sym (cond_some (test text) text v e).1; again = again }
 
-pub initials : Reads IsInitials (λ text. text) initials_of
+pub initials : Value IsInitials (λ text. text) initials_of
 unfolding initials_of
-initials = if_forms is_initials (λ v is. sym (initials-read (Some v) v (is, refl)))
+initials = record {
+  reads = if_forms is_initials (λ v is. sym (initials-read (Some v) v (is, refl)));
+  printing = λ v is. at_least-less 65 32 v (omega arith) (initials-at_least v is);
+}
 
-pub serials : Reads IsSerial (λ text. text) serial_of
+pub serials : Value IsSerial (λ text. text) serial_of
 unfolding serial_of
-serials = if_forms is_serial (λ v is. sym (serial-read (Some v) v (is, refl)))
+serials = record {
+  reads = if_forms is_serial (λ v is. sym (serial-read (Some v) v (is, refl)));
+  printing = λ v is. at_least-less 48 32 v (omega arith) (serial-at_least v is);
+}
 
-pub items : Reads IsSerial (λ text. text) item_of
+pub items : Value IsSerial (λ text. text) item_of
 unfolding item_of
-items = if_forms is_serial (λ v is. sym (item-read (Some v) v (is, refl)))
+items = record {
+  reads = if_forms is_serial (λ v is. sym (item-read (Some v) v (is, refl)));
+  printing = λ v is. at_least-less 48 32 v (omega arith) (serial-at_least v is);
+}
 
 pub names : Reads (IsLine 120) (λ text. text) name_of
 unfolding name_of
 names = if_forms (is_line 120) (λ v is. sym (name-read (Some v) v (is, refl)))
 
-pub remarks : Reads (IsLine 1000) (λ text. text) remark_of
+pub remarks : Value (IsLine 1000) (λ text. text) remark_of
 unfolding remark_of
-remarks = if_forms (is_line 1000) (λ v is. sym (remark-read (Some v) v (is, refl)))
+remarks = record {
+  reads = if_forms (is_line 1000) (λ v is. sym (remark-read (Some v) v (is, refl)));
+  printing = λ v is. All-weaker IsPrinting (λ b. 32 ≤ b) (λ b h. h.0) v is.printing;
+}
 
 pub scripts : Reads IsUtf8 (λ text. text) script_of
 unfolding script_of
@@ -199,22 +251,25 @@ scripts = if_forms is_utf8 script-some
 chosen : {V : Type 0} (text_of : V → List ℕ) (x : V) {v : V} {text : List ℕ} → text ≡ text_of x → Some x ≡ Some v → text_of v ≡ text
 chosen text_of x {v} is some = let same : x ≡ v = cc in ap text_of (sym same) ∙ sym is
 
-pub truths : Reads (λ _. ⊤) truth_text truth_of
+pub truths : Value (λ _. ⊤) truth_text truth_of
 unfolding truth_of
 truths = record {
-  found = λ text v e. named text (codes "true") e (chosen truth_text true) (λ e. named text (codes "false") e (chosen truth_text false) nothing);
-  again = λ v _. again v;
+  reads = record {
+    found = λ text v e. named text (codes "true") e (chosen truth_text true) (λ e. named text (codes "false") e (chosen truth_text false) nothing);
+    again = λ v _. again v;
+  };
+  printing = λ v _. printing v;
 }
   where
     again : (v : Bool) → truth_of (truth_text v) ≡ Some v
     again true = refl
     again false = refl
 
--- ---- where a bag is put
+    printing : (v : Bool) → AtLeast 32 (truth_text v)
+    printing true = literal 32 (codes "true") refl
+    printing false = literal 32 (codes "false") refl
 
-number-at_least : (limit n : ℕ) → limit < 10000 → IsNumber limit n → AtLeast 48 (decimal n)
-number-at_least limit n few is = rw (decimal-digits_of n (omega (arith, is.from)) (omega (arith, few, is.until)))
-    (All-map (λ b. 48 ≤ b) (λ d. 48 + d) (digits_of 10 n) (λ i d h. omega arith))
+-- ---- where a bag is put
 
 store-again : (v : Store) → IsStore v → store_of (store_text v) ≡ Some v
 unfolding store_of
@@ -226,14 +281,21 @@ store-again (Boxed n) is = by (same_text (decimal n) (codes "safe1")) refl
         let digits = (decimal_is_IsNumeral n (omega (arith, is.until))).0.1 in
         let letter : AllDigits 10 (codes "safe1") = subst (AllDigits 10) (equal_texts (decimal n) (codes "safe1") (sym e)) digits in
         absurd (omega (arith, letter.0))
-    by false e = rw (e, boxes.again n is) refl
+    by false e = rw (e, boxes.reads.again n is) refl
 
-pub stores : Reads IsStore store_text store_of
+store-printing : (v : Store) → IsStore v → AtLeast 32 (store_text v)
+store-printing SafeOne is = literal 32 (codes "safe1") refl
+store-printing (Boxed n) is = at_least-less 48 32 (decimal n) (omega arith) (number-at_least 9999 n (omega arith) is)
+
+pub stores : Value IsStore store_text store_of
 unfolding store_of
 stores = record {
-  found = λ text v e. named text (codes "safe1") e (chosen store_text SafeOne) (λ e.
-      option_map_some Boxed (box_of text) v e (λ n found same. ap store_text (sym same) ∙ boxes.found text n found));
-  again = store-again;
+  reads = record {
+    found = λ text v e. named text (codes "safe1") e (chosen store_text SafeOne) (λ e.
+        option_map_some Boxed (box_of text) v e (λ n found same. ap store_text (sym same) ∙ boxes.reads.found text n found));
+    again = store-again;
+  };
+  printing = store-printing;
 }
 
 -- ---- lists
@@ -279,52 +341,6 @@ codes-again limit IsValue read reads lacks list is each =
     ∙ ap (option_and_then (listed_to limit)) (each-again IsValue read reads list each)
     ∙ sym (listed-new limit list (Some list) (is, refl))
 
-initials-at_least : (text : List ℕ) → IsInitials text → AtLeast 65 text
-initials-at_least text is = All-weaker IsCapital (λ b. 65 ≤ b) (λ b h. h.0) text is.capitals
-
-serial-at_least : (text : List ℕ) → IsSerial text → AtLeast 48 text
-serial-at_least text is = All-weaker (λ b. IsCapital b ⊎ IsDigit b) (λ b. 48 ≤ b) (λ b h. grind arith) text is.each
-
-pub people : Reads ArePeople listed people_of
-unfolding people_of
-people = record {
-  found = λ text v e. codes-found 32 IsInitials initials_of initials text v e;
-  again = λ v are. codes-again 32 IsInitials initials_of initials
-      (λ code is. lacks-below 44 65 code (omega arith) (initials-at_least code is)) v are.listed are.each;
-}
-
-pub item_lists : Reads AreItems listed items_of
-unfolding items_of
-item_lists = record {
-  found = λ text v e. codes-found 64 IsSerial item_of items text v e;
-  again = λ v are. codes-again 64 IsSerial item_of items (λ code is. lacks-below 44 48 code (omega arith) (serial-at_least code is)) v are.listed are.each;
-}
-
--- ---- texts on lines, and in paths
-
-literal : (low : ℕ) (text : List ℕ) → list_all (λ b. nat_le low b) text ≡ true → AtLeast low text
-literal low text test = All-weaker (λ b. nat_le low b ≡ true) (λ b. low ≤ b) (λ b h. leb-true low b h) text
-    (AllPass-from_list_all (λ b. nat_le low b) text test)
-
--- the texts of listed values are printing where a test of the list says so, and have no slash
-module _ {V : Type 0} {IsValue : V → Type 0} (text_of : V → List ℕ) (values : List V) (reads : Reads IsValue text_of (by_text text_of values)) where
-  tested : (test : ℕ → Bool) → list_all (λ v. list_all test (text_of v)) values ≡ true → (v : V) → IsValue v → list_all test (text_of v) ≡ true
-  tested test all v is =
-      let at = (find-at (λ w. same_text (text_of w) (text_of v)) values v (reads.again v is)).1 in
-      let passes = All-get_or (λ w. list_all test (text_of w) ≡ true) values at.0 v at.1
-      (AllPass-from_list_all (λ w. list_all test (text_of w)) values all) in
-      rw at.2 at passes
-
-  texts-line : list_all (λ v. list_all (λ b. nat_le 32 b) (text_of v)) values ≡ true → OnLine IsValue text_of
-  texts-line all = record { printing = λ v is. literal 32 (text_of v) (tested (λ b. nat_le 32 b) all v is) }
-
-  texts-path : list_all (λ v. list_all (λ b. not (eqb b 47)) (text_of v)) values ≡ true → InPath IsValue text_of
-  texts-path all = record { no_slash = λ v is. lacks-literal 47 (text_of v) (tested (λ b. not (eqb b 47)) all v is) }
-
-store-printing : (v : Store) → IsStore v → AtLeast 32 (store_text v)
-store-printing SafeOne is = literal 32 (codes "safe1") refl
-store-printing (Boxed n) is = at_least-less 48 32 (decimal n) (omega arith) (number-at_least 9999 n (omega arith) is)
-
 join-at_least : (low : ℕ) (list : List (List ℕ)) → low ≤ 44 → All (λ code. AtLeast low code) list → AtLeast low (listed list)
 join-at_least low [] le each = All-nil (λ b. low ≤ b)
 join-at_least low (code ∷ []) le each = All-head (λ c. AtLeast low c) code [] each
@@ -333,67 +349,29 @@ join-at_least low (code ∷ next ∷ more) le each =
     (All-append (λ b. low ≤ b) (44 ∷ []) (listed (next ∷ more)) (All-from_recursion (λ b. low ≤ b) (44 ∷ []) (le, tt))
     (join-at_least low (next ∷ more) le (All-tail (λ c. AtLeast low c) code (next ∷ more) each)))
 
-pub roles-line : OnLine (λ _. ⊤) role_text
-unfolding role_of
-roles-line = texts-line role_text (Ca ∷ Iw ∷ Sa ∷ Ssc1 ∷ Ssc2 ∷ Rkos ∷ Sw ∷ []) roles refl
-
-pub facilities-line : OnLine (λ _. ⊤) facility_text
-unfolding facility_of
-facilities-line = texts-line facility_text (East ∷ West ∷ []) facilities refl
-
-pub ways-line : OnLine (λ _. ⊤) way_text
-unfolding way_of
-ways-line = texts-line way_text (Enter ∷ Leave ∷ []) ways refl
-
-pub safes-line : OnLine (λ _. ⊤) safe_text
-unfolding safe_of
-safes-line = texts-line safe_text (One ∷ Two ∷ []) safes refl
-
-pub truths-line : OnLine (λ _. ⊤) truth_text
-truths-line = record { printing = λ v _. printing v }
-  where
-    printing : (v : Bool) → AtLeast 32 (truth_text v)
-    printing true = literal 32 (codes "true") refl
-    printing false = literal 32 (codes "false") refl
-
-pub places-line : OnLine IsPlace place_text
-unfolding place_of
-places-line = texts-line place_text places places-read refl
-
-pub places-path : InPath IsPlace place_text
-unfolding place_of
-places-path = texts-path place_text places places-read refl
-
-pub stores-line : OnLine IsStore store_text
-stores-line = record { printing = store-printing }
-
-pub days-line : OnLine IsDay day_text
-days-line = record { printing = λ v _. day-printing v }
-
-pub initials-line : OnLine IsInitials (λ text. text)
-initials-line = record { printing = λ v is. at_least-less 65 32 v (omega arith) (initials-at_least v is) }
-
-pub serials-line : OnLine IsSerial (λ text. text)
-serials-line = record { printing = λ v is. at_least-less 48 32 v (omega arith) (serial-at_least v is) }
-
-pub remarks-line : OnLine (IsLine 1000) (λ text. text)
-remarks-line = record { printing = λ v is. All-weaker IsPrinting (λ b. 32 ≤ b) (λ b h. h.0) v is.printing }
-
-pub numbers-line : OnLine (IsNumber 9999) decimal
-numbers-line = record { printing = λ v is. at_least-less 48 32 (decimal v) (omega arith) (number-at_least 9999 v (omega arith) is) }
-
-pub steps-line : OnLine (IsNumber 400) decimal
-steps-line = record { printing = λ v is. at_least-less 48 32 (decimal v) (omega arith) (number-at_least 400 v (omega arith) is) }
-
-pub people-line : OnLine ArePeople listed
-people-line = record {
-  printing = λ v are. join-at_least 32 v (omega arith) (All-weaker IsInitials (λ code. AtLeast 32 code) (λ code is. initials-line.printing code is) v are.each);
+pub people : Value ArePeople listed people_of
+unfolding people_of
+people = record {
+  reads = record {
+    found = λ text v e. codes-found 32 IsInitials initials_of initials.reads text v e;
+    again = λ v are. codes-again 32 IsInitials initials_of initials.reads
+        (λ code is. lacks-below 44 65 code (omega arith) (initials-at_least code is)) v are.listed are.each;
+  };
+  printing = λ v are. join-at_least 32 v (omega arith) (All-weaker IsInitials (λ code. AtLeast 32 code) initials.printing v are.each);
 }
 
-pub items-line : OnLine AreItems listed
-items-line = record {
-  printing = λ v are. join-at_least 32 v (omega arith) (All-weaker IsSerial (λ code. AtLeast 32 code) (λ code is. serials-line.printing code is) v are.each);
+pub item_lists : Value AreItems listed items_of
+unfolding items_of
+item_lists = record {
+  reads = record {
+    found = λ text v e. codes-found 64 IsSerial item_of items.reads text v e;
+    again = λ v are. codes-again 64 IsSerial item_of items.reads
+        (λ code is. lacks-below 44 48 code (omega arith) (serial-at_least code is)) v are.listed are.each;
+  };
+  printing = λ v are. join-at_least 32 v (omega arith) (All-weaker IsSerial (λ code. AtLeast 32 code) items.printing v are.each);
 }
+
+-- ---- texts in paths
 
 pub initials-path : InPath IsInitials (λ text. text)
 initials-path = record { no_slash = λ v is. lacks-below 47 65 v (omega arith) (initials-at_least v is) }
@@ -401,8 +379,5 @@ initials-path = record { no_slash = λ v is. lacks-below 47 65 v (omega arith) (
 pub serials-path : InPath IsSerial (λ text. text)
 serials-path = record { no_slash = λ v is. lacks-below 47 48 v (omega arith) (serial-at_least v is) }
 
-pub numbers-path : InPath (IsNumber 9999) decimal
-numbers-path = record { no_slash = λ v is. lacks-below 47 48 (decimal v) (omega arith) (number-at_least 9999 v (omega arith) is) }
-
-pub steps-path : InPath (IsNumber 400) decimal
-steps-path = record { no_slash = λ v is. lacks-below 47 48 (decimal v) (omega arith) (number-at_least 400 v (omega arith) is) }
+pub decimals-path : (limit : ℕ) → limit < 10000 → InPath (IsNumber limit) decimal
+decimals-path limit few = record { no_slash = λ v is. lacks-below 47 48 (decimal v) (omega arith) (number-at_least limit v few is) }

@@ -84,13 +84,13 @@ thing-found : (ceremony : ℕ) (kind path values : List ℕ) (act : Act) → in_
 unfolding in_ceremony of_safe
 thing-found ceremony kind path values act e =
     named kind (codes "bags") e (λ is made.
-    part-found serials (λ serial what. of_bag ceremony serial what values) path act made (λ serial what at told.
+    part-found serials.reads (λ serial what. of_bag ceremony serial what values) path act made (λ serial what at told.
     rw (is, at, ← piece (codes "bags/") serial what) (bag-found ceremony serial what values act told))) (λ e.
     named kind (codes "steps") e (λ is made.
-    part-found steps (λ step what. of_step ceremony step what values) path act made (λ step what at told.
+    part-found steps.reads (λ step what. of_step ceremony step what values) path act made (λ step what at told.
     rw (is, at) (step-found ceremony step what values act told))) (λ e.
     named kind (codes "safes") e (λ is made. option_and_then_some (λ safe. of_safe ceremony safe values) (safe_of path) act made (λ safe at told.
-    rw (is, ← safes.found path safe at) ((turning ceremony safe).found values act told))) nothing))
+    rw (is, ← safes.reads.found path safe at) ((turning ceremony safe).found values act told))) nothing))
 
 ceremony-path : (ceremony : ℕ) (path values : List ℕ) (act : Act) → on_ceremony ceremony path values ≡ Some act
     → Has (at_ceremony ceremony path) values act
@@ -109,13 +109,13 @@ in_collection-found : (name path values : List ℕ) (act : Act) → in_collectio
 unfolding in_collection
 in_collection-found name path values act e =
     named name (codes "people") e (λ is made.
-    part-found initials (λ who what. of_person who what values) path act made (λ who what at told.
+    part-found initials.reads (λ who what. of_person who what values) path act made (λ who what at told.
     rw (is, at) (on_piece (codes "/people/") who what values act (person-found who what values act told)))) (λ e.
     named name (codes "custodians") e (λ is made.
-    part-found places-read (λ place what. of_place place what values) path act made (λ place what at told.
+    part-found places-read.reads (λ place what. of_place place what values) path act made (λ place what at told.
     rw (is, at) (on_piece (codes "/custodians/") (place_text place) what values act (place-found place what values act told)))) (λ e.
     named name (codes "ceremonies") e (λ is made.
-    part-found ceremonies (λ ceremony what. on_ceremony ceremony what values) path act made (λ ceremony what at told.
+    part-found ceremonies.reads (λ ceremony what. on_ceremony ceremony what values) path act made (λ ceremony what at told.
     rw (is, at) (on_piece (codes "/ceremonies/") (decimal ceremony) what values act (ceremony-path ceremony what values act told)))) nothing))
 
 path-found : (path values : List ℕ) (act : Act) → of_path path values ≡ Some act → Has (47 ∷ path) values act

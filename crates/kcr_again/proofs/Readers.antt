@@ -21,8 +21,9 @@ pub record Reads {V : Type 0} (IsValue : V → Type 0) (text_of : V → List ℕ
 abbrev pub AtLeast : ℕ → List ℕ → Type 0
 AtLeast low text = All (λ b. low ≤ b) text
 
--- the texts of the values have no control character, so that each stands on a line
-pub record OnLine {V : Type 0} (IsValue : V → Type 0) (text_of : V → List ℕ) : Type 0 where
+-- the same where the texts have no control character, so that each stands on a line
+pub record Value {V : Type 0} (IsValue : V → Type 0) (text_of : V → List ℕ) (read : List ℕ → Option V) : Type 0 where
+  pub reads : Reads IsValue text_of read
   pub printing : (v : V) → IsValue v → AtLeast 32 (text_of v)
 
 -- the texts of the values have no slash either, so that each is a piece of a path
@@ -34,8 +35,9 @@ lacks-below byte low text lt least = All-weaker (λ b. low ≤ b) (λ b. eqb b b
     (λ b h. ne_eqb b byte (λ e. absurd (omega (arith, lt, h, e)))) text least
 
 -- a value on a line has no line feed
-pub no-feed : {V : Type 0} {IsValue : V → Type 0} {text_of : V → List ℕ} → OnLine IsValue text_of → (v : V) → IsValue v → Lacks 10 (text_of v)
-no-feed {V} {IsValue} {text_of} line v is = lacks-below 10 32 (text_of v) (omega arith) (line.printing v is)
+pub no-feed : {V : Type 0} {IsValue : V → Type 0} {text_of : V → List ℕ} {read : List ℕ → Option V} → Value IsValue text_of read
+    → (v : V) → IsValue v → Lacks 10 (text_of v)
+no-feed {text_of = text_of} value v is = lacks-below 10 32 (text_of v) (omega arith) (value.printing v is)
 
 pub at_least-less : (low less : ℕ) (text : List ℕ) → less ≤ low → AtLeast low text → AtLeast less text
 at_least-less low less text le least = All-weaker (λ b. low ≤ b) (λ b. less ≤ b) (λ b h. omega (arith, le, h)) text least
@@ -94,80 +96,84 @@ module _ {A : Type 0} {IsA : A → Type 0} {text_a : A → List ℕ} {read_a : L
     again = λ x is. rw (a.again x is) refl;
   }
 
-  module _ {B : Type 0} {IsB : B → Type 0} {text_b : B → List ℕ} {read_b : List ℕ → Option B} (line_a : OnLine IsA text_a) (b : Reads IsB text_b read_b) where
-    pub two : (make : A → B → Act) (path : List ℕ) → ((x : A) (y : B) → command_text (make x y) ≡ path ++ 10 ∷ text_a x ++ 10 ∷ text_b y)
-        → Tells (λ (p : A × B). IsA p.0 × IsB p.1) (λ p. make p.0 p.1) path (of_two make read_a read_b)
-    unfolding of_two
-    two make path told =
-        let text : A → B → List ℕ = λ (x : A) (y : B). text_a x ++ 10 ∷ text_b y in
-        let whole : (x : A) (y : B) → command_text (make x y) ≡ path ++ 10 ∷ text x y =
-        λ (x : A) (y : B). told x y ∙ append_assoc path (10 ∷ text_a x) (10 ∷ text_b y) in
+module _ {A : Type 0} {IsA : A → Type 0} {text_a : A → List ℕ} {read_a : List ℕ → Option A} (a : Value IsA text_a read_a) where
+  pub two : {B : Type 0} {IsB : B → Type 0} {text_b : B → List ℕ} {read_b : List ℕ → Option B} → Reads IsB text_b read_b
+      → (make : A → B → Act) (path : List ℕ) → ((x : A) (y : B) → command_text (make x y) ≡ path ++ 10 ∷ text_a x ++ 10 ∷ text_b y)
+      → Tells (λ (p : A × B). IsA p.0 × IsB p.1) (λ p. make p.0 p.1) path (of_two make read_a read_b)
+  unfolding of_two
+  two {B} {IsB} {text_b} {read_b} b make path told =
+      let text : A → B → List ℕ = λ (x : A) (y : B). text_a x ++ 10 ∷ text_b y in
+      let whole : (x : A) (y : B) → command_text (make x y) ≡ path ++ 10 ∷ text x y =
+      λ (x : A) (y : B). told x y ∙ append_assoc path (10 ∷ text_a x) (10 ∷ text_b y) in
+      record {
+        lines = λ p. text p.0 p.1;
+        told = λ p. whole p.0 p.1;
+        found = λ values act e.
+            option_and_then_some (λ line. made_of_two make (read_a line.0) (read_b line.1)) (two_lines values) act e (λ line cut all.
+            option_and_then_some (λ x. option_map (make x) (read_b line.1)) (read_a line.0) act all (λ x x-is rest.
+            option_map_some (make x) (read_b line.1) act rest (λ y y-is same.
+            ap command_text (sym same) ∙ whole x y ∙ (λ j. path ++ 10 ∷ (a.reads.found line.0 x x-is j ++ 10 ∷ b.found line.1 y y-is j))
+            ∙ ap (λ (t : List ℕ). path ++ 10 ∷ t) (sym (cut-found 10 values line cut)))));
+        again = λ p is. rw (cut-again 10 (text_a p.0) (text_b p.1) (no-feed a p.0 is.0), a.reads.again p.0 is.0, b.again p.1 is.1) refl;
+      }
+
+  module _ {B : Type 0} {IsB : B → Type 0} {text_b : B → List ℕ} {read_b : List ℕ → Option B} (b : Value IsB text_b read_b) where
+    pub three : {C : Type 0} {IsC : C → Type 0} {text_c : C → List ℕ} {read_c : List ℕ → Option C} → Reads IsC text_c read_c
+        → (make : A → B → C → Act) (path : List ℕ)
+        → ((x : A) (y : B) (z : C) → command_text (make x y z) ≡ path ++ 10 ∷ text_a x ++ 10 ∷ text_b y ++ 10 ∷ text_c z)
+        → Tells (λ (p : A × B × C). IsA p.0 × IsB p.1 × IsC p.2) (λ p. make p.0 p.1 p.2) path (of_three make read_a read_b read_c)
+    unfolding of_three three_lines
+    three {C} {IsC} {text_c} {read_c} c make path told =
+        let text : A → B → C → List ℕ = λ (x : A) (y : B) (z : C). text_a x ++ 10 ∷ (text_b y ++ 10 ∷ text_c z) in
+        let whole : (x : A) (y : B) (z : C) → command_text (make x y z) ≡ path ++ 10 ∷ text x y z =
+        λ (x : A) (y : B) (z : C). told x y z ∙ append_assoc (path ++ 10 ∷ text_a x) (10 ∷ text_b y) (10 ∷ text_c z)
+        ∙ append_assoc path (10 ∷ text_a x) (10 ∷ (text_b y ++ 10 ∷ text_c z)) in
         record {
-          lines = λ p. text p.0 p.1;
-          told = λ p. whole p.0 p.1;
+          lines = λ p. text p.0 p.1 p.2;
+          told = λ p. whole p.0 p.1 p.2;
           found = λ values act e.
-              option_and_then_some (λ line. made_of_two make (read_a line.0) (read_b line.1)) (two_lines values) act e (λ line cut all.
-              option_and_then_some (λ x. option_map (make x) (read_b line.1)) (read_a line.0) act all (λ x x-is rest.
-              option_map_some (make x) (read_b line.1) act rest (λ y y-is same.
-              ap command_text (sym same) ∙ whole x y ∙ (λ j. path ++ 10 ∷ (a.found line.0 x x-is j ++ 10 ∷ b.found line.1 y y-is j))
-              ∙ ap (λ (t : List ℕ). path ++ 10 ∷ t) (sym (cut-found 10 values line cut)))));
-          again = λ p is. rw (cut-again 10 (text_a p.0) (text_b p.1) (no-feed line_a p.0 is.0), a.again p.0 is.0, b.again p.1 is.1) refl;
+              option_and_then_some (λ line. made_of_three make (read_a line.0) (read_b line.1) (read_c line.2)) (three_lines values) act e (λ line cut all.
+              option_and_then_some (λ x. made_of_two (make x) (read_b line.1) (read_c line.2)) (read_a line.0) act all (λ x x-is rest.
+              option_and_then_some (λ y. option_map (make x y) (read_c line.2)) (read_b line.1) act rest (λ y y-is last.
+              option_map_some (make x y) (read_c line.2) act last (λ z z-is same.
+              ap command_text (sym same) ∙ whole x y z
+              ∙ (λ j. path ++ 10 ∷ (a.reads.found line.0 x x-is j ++ 10 ∷ (b.reads.found line.1 y y-is j ++ 10 ∷ c.found line.2 z z-is j)))
+              ∙ ap (λ (t : List ℕ). path ++ 10 ∷ t) (sym (three-lines-found values line cut))))));
+          again = λ p is.
+              let first = cut-again 10 (text_a p.0) (text_b p.1 ++ 10 ∷ text_c p.2) (no-feed a p.0 is.0) in
+              let second = cut-again 10 (text_b p.1) (text_c p.2) (no-feed b p.1 is.1) in
+              rw (first, second, a.reads.again p.0 is.0, b.reads.again p.1 is.1, c.again p.2 is.2) refl;
         }
 
-    module _ {C : Type 0} {IsC : C → Type 0} {text_c : C → List ℕ} {read_c : List ℕ → Option C} (line_b : OnLine IsB text_b) (c : Reads IsC text_c read_c) where
-      pub three : (make : A → B → C → Act) (path : List ℕ)
-          → ((x : A) (y : B) (z : C) → command_text (make x y z) ≡ path ++ 10 ∷ text_a x ++ 10 ∷ text_b y ++ 10 ∷ text_c z)
-          → Tells (λ (p : A × B × C). IsA p.0 × IsB p.1 × IsC p.2) (λ p. make p.0 p.1 p.2) path (of_three make read_a read_b read_c)
-      unfolding of_three three_lines
-      three make path told =
-          let text : A → B → C → List ℕ = λ (x : A) (y : B) (z : C). text_a x ++ 10 ∷ (text_b y ++ 10 ∷ text_c z) in
-          let whole : (x : A) (y : B) (z : C) → command_text (make x y z) ≡ path ++ 10 ∷ text x y z =
-          λ (x : A) (y : B) (z : C). told x y z ∙ append_assoc (path ++ 10 ∷ text_a x) (10 ∷ text_b y) (10 ∷ text_c z)
-          ∙ append_assoc path (10 ∷ text_a x) (10 ∷ (text_b y ++ 10 ∷ text_c z)) in
-          record {
-            lines = λ p. text p.0 p.1 p.2;
-            told = λ p. whole p.0 p.1 p.2;
-            found = λ values act e.
-                option_and_then_some (λ line. made_of_three make (read_a line.0) (read_b line.1) (read_c line.2)) (three_lines values) act e (λ line cut all.
-                option_and_then_some (λ x. made_of_two (make x) (read_b line.1) (read_c line.2)) (read_a line.0) act all (λ x x-is rest.
-                option_and_then_some (λ y. option_map (make x y) (read_c line.2)) (read_b line.1) act rest (λ y y-is last.
-                option_map_some (make x y) (read_c line.2) act last (λ z z-is same.
-                ap command_text (sym same) ∙ whole x y z
-                ∙ (λ j. path ++ 10 ∷ (a.found line.0 x x-is j ++ 10 ∷ (b.found line.1 y y-is j ++ 10 ∷ c.found line.2 z z-is j)))
-                ∙ ap (λ (t : List ℕ). path ++ 10 ∷ t) (sym (three-lines-found values line cut))))));
-            again = λ p is.
-                let first = cut-again 10 (text_a p.0) (text_b p.1 ++ 10 ∷ text_c p.2) (no-feed line_a p.0 is.0) in
-                let second = cut-again 10 (text_b p.1) (text_c p.2) (no-feed line_b p.1 is.1) in
-                rw (first, second, a.again p.0 is.0, b.again p.1 is.1, c.again p.2 is.2) refl;
-          }
-
-      pub four : {D : Type 0} {IsD : D → Type 0} {text_d : D → List ℕ} {read_d : List ℕ → Option D} → OnLine IsC text_c → Reads IsD text_d read_d
-          → (make : A → B → C → D → Act) (path : List ℕ)
-          → ((x : A) (y : B) (z : C) (w : D) → command_text (make x y z w) ≡ path ++ 10 ∷ text_a x ++ 10 ∷ text_b y ++ 10 ∷ text_c z ++ 10 ∷ text_d w)
-          → Tells (λ (p : A × B × C × D). IsA p.0 × IsB p.1 × IsC p.2 × IsD p.3) (λ p. make p.0 p.1 p.2 p.3) path (of_four make read_a read_b read_c read_d)
-      unfolding of_four four_lines three_lines
-      four {D} {IsD} {text_d} {read_d} line_c d make path told =
-          let text : A → B → C → D → List ℕ = λ (x : A) (y : B) (z : C) (w : D). text_a x ++ 10 ∷ (text_b y ++ 10 ∷ (text_c z ++ 10 ∷ text_d w)) in
-          let whole : (x : A) (y : B) (z : C) (w : D) → command_text (make x y z w) ≡ path ++ 10 ∷ text x y z w =
-          λ (x : A) (y : B) (z : C) (w : D). told x y z w ∙ append_assoc (path ++ 10 ∷ text_a x ++ 10 ∷ text_b y) (10 ∷ text_c z) (10 ∷ text_d w)
-          ∙ append_assoc (path ++ 10 ∷ text_a x) (10 ∷ text_b y) (10 ∷ (text_c z ++ 10 ∷ text_d w))
-          ∙ append_assoc path (10 ∷ text_a x) (10 ∷ (text_b y ++ 10 ∷ (text_c z ++ 10 ∷ text_d w))) in
-          record {
-            lines = λ p. text p.0 p.1 p.2 p.3;
-            told = λ p. whole p.0 p.1 p.2 p.3;
-            found = λ values act e.
-                option_and_then_some (λ line. made_of_four make (read_a line.0) (read_b line.1) (read_c line.2) (read_d line.3)) (four_lines values) act e
-                (λ line cut all.
-                option_and_then_some (λ x. made_of_three (make x) (read_b line.1) (read_c line.2) (read_d line.3)) (read_a line.0) act all (λ x x-is rest.
-                option_and_then_some (λ y. made_of_two (make x y) (read_c line.2) (read_d line.3)) (read_b line.1) act rest (λ y y-is more.
-                option_and_then_some (λ z. option_map (make x y z) (read_d line.3)) (read_c line.2) act more (λ z z-is last.
-                option_map_some (make x y z) (read_d line.3) act last (λ w w-is same.
-                ap command_text (sym same) ∙ whole x y z w
-                ∙ (λ j. path ++ 10 ∷ (a.found line.0 x x-is j ++ 10 ∷ (b.found line.1 y y-is j ++ 10 ∷ (c.found line.2 z z-is j ++ 10 ∷ d.found line.3 w w-is j))))
-                ∙ ap (λ (t : List ℕ). path ++ 10 ∷ t) (sym (four-lines-found values line cut)))))));
-            again = λ p is.
-                let first = cut-again 10 (text_a p.0) (text_b p.1 ++ 10 ∷ (text_c p.2 ++ 10 ∷ text_d p.3)) (no-feed line_a p.0 is.0) in
-                let second = cut-again 10 (text_b p.1) (text_c p.2 ++ 10 ∷ text_d p.3) (no-feed line_b p.1 is.1) in
-                let third = cut-again 10 (text_c p.2) (text_d p.3) (no-feed line_c p.2 is.2) in
-                rw (first, second, third, a.again p.0 is.0, b.again p.1 is.1, c.again p.2 is.2, d.again p.3 is.3) refl;
-          }
+    pub four : {C : Type 0} {IsC : C → Type 0} {text_c : C → List ℕ} {read_c : List ℕ → Option C}
+        {D : Type 0} {IsD : D → Type 0} {text_d : D → List ℕ} {read_d : List ℕ → Option D} → Value IsC text_c read_c → Reads IsD text_d read_d
+        → (make : A → B → C → D → Act) (path : List ℕ)
+        → ((x : A) (y : B) (z : C) (w : D) → command_text (make x y z w) ≡ path ++ 10 ∷ text_a x ++ 10 ∷ text_b y ++ 10 ∷ text_c z ++ 10 ∷ text_d w)
+        → Tells (λ (p : A × B × C × D). IsA p.0 × IsB p.1 × IsC p.2 × IsD p.3) (λ p. make p.0 p.1 p.2 p.3) path (of_four make read_a read_b read_c read_d)
+    unfolding of_four four_lines three_lines
+    four {C} {IsC} {text_c} {read_c} {D} {IsD} {text_d} {read_d} c d make path told =
+        let text : A → B → C → D → List ℕ = λ (x : A) (y : B) (z : C) (w : D). text_a x ++ 10 ∷ (text_b y ++ 10 ∷ (text_c z ++ 10 ∷ text_d w)) in
+        let whole : (x : A) (y : B) (z : C) (w : D) → command_text (make x y z w) ≡ path ++ 10 ∷ text x y z w =
+        λ (x : A) (y : B) (z : C) (w : D). told x y z w ∙ append_assoc (path ++ 10 ∷ text_a x ++ 10 ∷ text_b y) (10 ∷ text_c z) (10 ∷ text_d w)
+        ∙ append_assoc (path ++ 10 ∷ text_a x) (10 ∷ text_b y) (10 ∷ (text_c z ++ 10 ∷ text_d w))
+        ∙ append_assoc path (10 ∷ text_a x) (10 ∷ (text_b y ++ 10 ∷ (text_c z ++ 10 ∷ text_d w))) in
+        record {
+          lines = λ p. text p.0 p.1 p.2 p.3;
+          told = λ p. whole p.0 p.1 p.2 p.3;
+          found = λ values act e.
+              option_and_then_some (λ line. made_of_four make (read_a line.0) (read_b line.1) (read_c line.2) (read_d line.3)) (four_lines values) act e
+              (λ line cut all.
+              option_and_then_some (λ x. made_of_three (make x) (read_b line.1) (read_c line.2) (read_d line.3)) (read_a line.0) act all (λ x x-is rest.
+              option_and_then_some (λ y. made_of_two (make x y) (read_c line.2) (read_d line.3)) (read_b line.1) act rest (λ y y-is more.
+              option_and_then_some (λ z. option_map (make x y z) (read_d line.3)) (read_c line.2) act more (λ z z-is last.
+              option_map_some (make x y z) (read_d line.3) act last (λ w w-is same.
+              ap command_text (sym same) ∙ whole x y z w
+              ∙ (λ j. path ++ 10 ∷ (a.reads.found line.0 x x-is j
+              ++ 10 ∷ (b.reads.found line.1 y y-is j ++ 10 ∷ (c.reads.found line.2 z z-is j ++ 10 ∷ d.found line.3 w w-is j))))
+              ∙ ap (λ (t : List ℕ). path ++ 10 ∷ t) (sym (four-lines-found values line cut)))))));
+          again = λ p is.
+              let first = cut-again 10 (text_a p.0) (text_b p.1 ++ 10 ∷ (text_c p.2 ++ 10 ∷ text_d p.3)) (no-feed a p.0 is.0) in
+              let second = cut-again 10 (text_b p.1) (text_c p.2 ++ 10 ∷ text_d p.3) (no-feed b p.1 is.1) in
+              let third = cut-again 10 (text_c p.2) (text_d p.3) (no-feed c p.2 is.2) in
+              rw (first, second, third, a.reads.again p.0 is.0, b.reads.again p.1 is.1, c.reads.again p.2 is.2, d.again p.3 is.3) refl;
+        }

@@ -6,4 +6,6 @@ use Rattle.kcr_seats.proofs.people.People.contains.Goals as goal
 
 pub returns : goal.returns
 unfolding contains
-returns c = grind (arith, tests, one_shl c.args.person 128 c.requires, and_pow c.args.self.mask c.args.person, pow_pos c.args.person, bit_at-lt c.args.self.mask c.args.person)
+returns c =
+    let bit = bit_at-lt c.args.self.mask c.args.person in
+    grind (arith, tests, one_shl c.args.person 128 c.requires, and_pow c.args.self.mask c.args.person, pow_pos c.args.person, bit)

@@ -5,7 +5,8 @@ use Rattle.kcr_seats.proofs.people.People.first_outside.Goals as goal
 
 pub returns-then-left-eq0-clause-none : goal.returns-then-left-eq0-clause-none
 unfolding contains
-returns-then-left-eq0-clause-none c = λ person h. eq-eqb _ 1 (in_neither c.args.self.mask c.args.others.mask person (omega arith) (omega arith) c.if-left-eq0.true (one_from _ h))
+returns-then-left-eq0-clause-none c = λ person h.
+    eq-eqb _ 1 (in_neither c.args.self.mask c.args.others.mask person (omega arith) (omega arith) c.if-left-eq0.true (one_from _ h))
 
 pub returns-clause-inside : goal.returns-clause-inside
 unfolding contains
