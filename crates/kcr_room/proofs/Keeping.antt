@@ -1,6 +1,7 @@
 -- What holds of every sheet that requests have made.
-use Rattle.std.proofs.Common.{◌≡◌, ℕ, Bool, true, false, cond, not, ◌||◌, ◌&&◌, nat_le, List, [], ◌∷◌, ◌++◌, map, Option, Some, None, refl, sym, ap, ◌∙◌, subst, append-nil, append_assoc}
+use Rattle.std.proofs.Common.{◌≡◌, ℕ, Bool, true, false, cond, not, ◌||◌, ◌&&◌, nat_le, List, [], ◌∷◌, ◌++◌, map, Option, Some, None, refl, sym, ap, ◌∙◌, subst, arith, append-nil, append_assoc}
 use Rattle.std.specs.List.{list_any, filter, find}
+use Rattle.std.proofs.lemmas.Bool.Decides.{nat_tests}
 use Rattle.std.proofs.lemmas.Bool.{both_ways, ltb-false, eq-eqb, and_parts, and_from, or_parts, not-true, not_from_false}
 use Rattle.std.proofs.Math.Bool.{and-true, and-false, or-false, or-true}
 use Rattle.std.proofs.lemmas.List.Elements.{filter-append}
@@ -14,7 +15,7 @@ use Rattle.kcr_room.specs.declared.Stay.{Stay}
 use Rattle.kcr_room.specs.Moments.{IsFirst, IsEver}
 use Rattle.kcr_room.specs.Room.{enters, last_row, last_enters, last_row_of, is_of, in_force, ascending_onto, put_person}
 use Rattle.kcr_room.specs.Stays.{crowd_in_by, is_lone_in_by, is_crowd_in_by, first_lone_in_by, is_crowded_in_by, stays_by}
-use Rattle.kcr_room.specs.Adding.{turn_refusal, lone_refusal, later_refusal, sheet_refusal, after, is_out_of_turn, is_out_of_turn_by, is_out_of_turn_in, new_row}
+use Rattle.kcr_room.specs.Adding.{turn_refusal, lone_refusal, later_refusal, sheet_refusal, after, is_out_of_turn, is_out_of_turn_by, is_out_of_turn_in, new_row, rows_refusal}
 use Rattle.kcr_base.specs.Lists.{are_apart}
 use Rattle.kcr_room.specs.Laws.{IsAllowed, in_turn_onto, RowsKeep, StaysKeep, TurnsKeep, PresentAreIn}
 use Rattle.kcr_room.proofs.Lists.{any-filter, any-same}
@@ -22,20 +23,7 @@ use Rattle.kcr_room.proofs.Agreement.{same-crowd, same-turned, listed, of_person
 use Rattle.kcr_room.proofs.Moments.{first_lone-is_first, crowded-is_ever}
 
 pub and-assoc : (a b c : Bool) → ((a && b) && c) ≡ (a && (b && c))
-and-assoc true b c = refl
-and-assoc false b c = refl
-
-and-comm : (a b : Bool) → (a && b) ≡ (b && a)
-and-comm true b = sym (and-true b)
-and-comm false b = sym (and-false b)
-
-or-swap : (a b c : Bool) → (a || (b || c)) ≡ (b || (a || c))
-or-swap true b c = sym (or-true b)
-or-swap false b c = refl
-
-or-turn : (a b c : Bool) → ((a || b) || c) ≡ (b || (a || c))
-or-turn true b c = sym (or-true b)
-or-turn false b c = refl
+and-assoc a b c = grind (arith, nat_tests)
 
 -- where no crowd and nobody alone is found, each moment is allowed
 allowed : (stays : List Stay) (c : ℕ) (last : Option Refusal) → first_of (when (is_crowded_in_by stays c) Crowd ∷ lone_refusal (first_lone_in_by stays c) ∷ last ∷ []) ≡ None → (t : ℕ) → IsAllowed (crowd_in_by stays c t)
@@ -57,11 +45,15 @@ stays_keep stays c mark full way people at h =
     allowed (after stays c way people at) c _
     (third (when (nat_le at mark) (Late mark)) (turn_refusal (find (is_out_of_turn_in stays c way at) people)) (later_refusal (after stays c way people at) c full way) h).1
 
+-- rows that are not refused: everybody has the turn, and nothing is against the sheet that they make
+pub taken : (rows : List SheetRow) (c mark : ℕ) (full : Bool) (way : Way) (people : List (List ℕ)) (at : ℕ) → rows_refusal rows c mark full way people at ≡ None
+    → (turn_refusal (find (is_out_of_turn_by rows c way at) people) ≡ None) × (sheet_refusal (stays_by (rows ++ map (new_row c way at) people)) c full way ≡ None)
+taken rows c mark full way people at h = third (when (nat_le at mark) (Late mark)) _ _ h
+
 pub rows_keep : RowsKeep
 rows_keep rows c mark full way people at h t =
     let all : List SheetRow = rows ++ map (new_row c way at) people in
-    let k = (third (when (nat_le at mark) (Late mark)) (turn_refusal (find (is_out_of_turn_by rows c way at) people)) (sheet_refusal (stays_by all) c full way) h).1 in
-    subst IsAllowed (same-crowd all c t) (allowed (stays_by all) c _ k t)
+    subst IsAllowed (same-crowd all c t) (allowed (stays_by all) c _ (taken rows c mark full way people at h).1 t)
 
 -- nobody's turn is missed where no first such person is found
 pub none-found : (p : List ℕ → Bool) (who : List ℕ) (rest : List (List ℕ)) → turn_refusal (find p (who ∷ rest)) ≡ None → (p who ≡ false) × (turn_refusal (find p rest) ≡ None)
@@ -105,25 +97,17 @@ turns-more rows c way at (who ∷ rest) a h =
 
 pub turns_keep : TurnsKeep
 turns_keep rows c mark full way people at apart h s =
-    let k = (third (when (nat_le at mark) (Late mark)) (turn_refusal (find (is_out_of_turn_by rows c way at) people)) (sheet_refusal (stays_by (rows ++ map (new_row c way at) people)) c full way) h).0 in
     in_turn-append [] rows (map (new_row c way at) people)
-    ∙ and_from (in_turn_onto [] rows) (in_turn_onto rows (map (new_row c way at) people)) s (turns-more rows c way at people apart k)
+    ∙ and_from (in_turn_onto [] rows) (in_turn_onto rows (map (new_row c way at) people)) s (turns-more rows c way at people apart (taken rows c mark full way people at h).0)
 
 -- a test finds in a list put in order what it finds in the list
-any-put : (p : List ℕ → Bool) (who : List ℕ) (people : List (List ℕ)) → list_any p (put_person who people) ≡ (p who || list_any p people)
+pub any-put : (p : List ℕ → Bool) (who : List ℕ) (people : List (List ℕ)) → list_any p (put_person who people) ≡ (p who || list_any p people)
 any-put p who [] = refl
-any-put p who (other ∷ rest) = by_order (is_before other who) (any-put p who rest)
-  where
-    by_order : (b : Bool) → list_any p (put_person who rest) ≡ (p who || list_any p rest) → list_any p (cond b (other ∷ put_person who rest) (who ∷ other ∷ rest)) ≡ (p who || (p other || list_any p rest))
-    by_order true ih = ap (λ b. p other || b) ih ∙ or-swap (p other) (p who) (list_any p rest)
-    by_order false ih = refl
+any-put p who (other ∷ rest) = grind (arith, nat_tests, any-put p who rest)
 
 any-ascending : (p : List ℕ → Bool) (people done : List (List ℕ)) → list_any p (ascending_onto done people) ≡ (list_any p done || list_any p people)
 any-ascending p [] done = sym (or-false (list_any p done))
-any-ascending p (who ∷ rest) done =
-    any-ascending p rest (put_person who done)
-    ∙ ap (λ b. b || list_any p rest) (any-put p who done)
-    ∙ or-turn (p who) (list_any p done) (list_any p rest)
+any-ascending p (who ∷ rest) done = grind (arith, nat_tests, any-ascending p rest (put_person who done), any-put p who done)
 
 any-map : (p : List ℕ → Bool) (rows : List SheetRow) → list_any p (map (λ row. row.who) rows) ≡ list_any (λ row. p row.who) rows
 any-map p [] = refl
@@ -138,7 +122,10 @@ present_are_in rows who c t =
     any-ascending (same_text who) (map (λ row. row.who) (filter (enters c) (in_force t rows))) []
     ∙ any-map (same_text who) (filter (enters c) (in_force t rows))
     ∙ any-filter (enters c) (λ row. same_text who row.who) (in_force t rows)
-    ∙ any-same (λ row. enters c row && same_text who row.who) (λ row. same_text row.who who && enters c row) (in_force t rows) (λ row. ap (λ b. enters c row && b) (same-turned who row.who) ∙ and-comm (enters c row) (same_text row.who who))
+    ∙ any-same (λ row. enters c row && same_text who row.who) (λ row. same_text row.who who && enters c row) (in_force t rows) turned
     ∙ sym (any-filter (of_person who) (enters c) (in_force t rows))
     ∙ ap (list_any (enters c)) (force-last who t rows [] None refl)
     ∙ any-listed c (last_row (filter (is_of who t) rows))
+  where
+    turned : (row : SheetRow) → (enters c row && same_text who row.who) ≡ (same_text row.who who && enters c row)
+    turned row = grind (arith, nat_tests, same-turned who row.who)

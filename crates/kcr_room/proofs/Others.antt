@@ -17,7 +17,7 @@ use Rattle.kcr_room.specs.Stays.{lasts_at, holds, crowd_in_by, stays_by}
 use Rattle.kcr_room.specs.Adding.{is_open, is_inside_of, is_among, new_stay, closed, turn_refusal, sheet_refusal, is_no_turn, is_out_of_turn, is_out_of_turn_by, new_row}
 use Rattle.kcr_room.specs.Laws.{OthersKeep}
 use Rattle.kcr_room.proofs.Agreement.{same-crowd, same-is, same-itself}
-use Rattle.kcr_room.proofs.Keeping.{third, none-found}
+use Rattle.kcr_room.proofs.Keeping.{taken, none-found}
 use Rattle.kcr_room.proofs.Sheets.{tells-sheet, stays-append, added, added-onto}
 
 no-new : (c other t at : ℕ) (people : List (List ℕ)) → (c == other) ≡ false → filter (holds other t) (map (new_stay c at) people) ≡ []
@@ -66,7 +66,7 @@ in-no-other c other at (Some row) d h =
 pub others_keep : OthersKeep
 others_keep rows s c mark full way people at a h other t d =
     let all : List SheetRow = rows ++ map (new_row c way at) people in
-    let k = (third (when (nat_le at mark) (Late mark)) (turn_refusal (find (is_out_of_turn_by rows c way at) people)) (sheet_refusal (stays_by all) c full way) h).0 in
+    let k = (taken rows c mark full way people at h).0 in
     sym (same-crowd all other t)
     ∙ ap (λ stays. crowd_in_by stays other t) (stays-append rows (map (new_row c way at) people) [] [] ∙ added-onto c way at people rows (stays_by rows) (tells-sheet rows s) a k)
     ∙ by_way way k
