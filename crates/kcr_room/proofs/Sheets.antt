@@ -1,7 +1,7 @@
 -- Of a sheet whose rows came in their turn, rows and stays are added alike.
 use Rattle.std.proofs.Common.{◌≡◌, ℕ, Bool, true, false, cond, not, ◌||◌, ◌&&◌, ◌==◌, nat_le, nat_lt, List, [], ◌∷◌, ◌++◌, map, Option, Some, None, refl, sym, ap, ◌∙◌, arith, subst, append-nil, append_assoc}
 use Rattle.std.specs.List.{list_any, filter, find}
-use Rattle.std.proofs.lemmas.Bool.{eq-eqb, leb-false, le-leb, le-ltb, and_parts, or_parts, or_from, not-true, not-false}
+use Rattle.std.proofs.lemmas.Bool.{true≢false, eq-eqb, leb-false, le-leb, le-ltb, and_parts, or_parts, or_from, not-true, not-false}
 use Rattle.std.proofs.lemmas.Bool.Decides.{nat_tests}
 use Rattle.std.proofs.lemmas.List.Elements.{filter-append}
 use Rattle.std.proofs.lemmas.List.Folds.{list_any-append}
@@ -20,22 +20,14 @@ use Rattle.kcr_room.proofs.Lists.{any-filter}
 use Rattle.kcr_room.proofs.Agreement.{same-is, same-itself, same-turned, listed, of_person, last-above}
 use Rattle.kcr_room.proofs.Keeping.{last-other, none-found, turn-others, and-assoc}
 
--- a moment before the last end is the end
-sooner-end : (at u : ℕ) → nat_le at u ≡ false → cond (nat_lt at u) at u ≡ u
-sooner-end at u h = grind (arith, nat_tests)
-
 -- an `in` in its turn cuts nothing
 cut-enter-one : (row : SheetRow) (stay : Stay) → reaches row.who row.at stay ≡ false → is_inside row.who stay ≡ false → cut row stay ≡ stay
-cut-enter-one row stay r i = by_same (same_text stay.who row.who) stay.until r i
+cut-enter-one row stay r i = ap (λ until. record stay { until = until }) (ended stay.until r i)
   where
-    ended : (until : Option ℕ) → (nat_le row.at stay.since || ends_from row.at until) ≡ false → is_open until ≡ false → (b : Bool) → cond b (Some (sooner row.at until)) until ≡ until
-    ended None r i b = absurd (let k : true ≡ false = i in cc)
-    ended (Some u) r i true = ap (λ x. Some x) (sooner-end row.at u (or_parts (nat_le row.at stay.since) (nat_le row.at u) r).1)
-    ended (Some u) r i false = refl
-
-    by_same : (s : Bool) (until : Option ℕ) → (s && (nat_le row.at stay.since || ends_from row.at until)) ≡ false → (s && is_open until) ≡ false → record stay { until = cond (s && nat_le stay.since row.at) (Some (sooner row.at until)) until } ≡ record stay { until = until }
-    by_same false until r i = refl
-    by_same true until r i = ap (λ x. record stay { until = x }) (ended until r i (nat_le stay.since row.at))
+    ended : (until : Option ℕ) → (same_text stay.who row.who && (nat_le row.at stay.since || ends_from row.at until)) ≡ false → (same_text stay.who row.who && is_open until) ≡ false
+        → cond (same_text stay.who row.who && nat_le stay.since row.at) (Some (sooner row.at until)) until ≡ until
+    ended None r i = grind (arith, nat_tests, i)
+    ended (Some u) r i = grind (arith, nat_tests, r)
 
 cut-enter : (row : SheetRow) (stays : List Stay) → list_any (reaches row.who row.at) stays ≡ false → list_any (is_inside row.who) stays ≡ false → map (cut row) stays ≡ stays
 cut-enter row [] r i = refl
@@ -46,18 +38,12 @@ cut-enter row (stay ∷ stays) r i =
 
 -- an `out` in its turn ends the person's open stay
 cut-leave-one : (row : SheetRow) (stay : Stay) → reaches row.who row.at stay ≡ false → cut row stay ≡ closed (row.who ∷ []) row.at stay
-cut-leave-one row stay r = by_same (same_text stay.who row.who) stay.until r
+cut-leave-one row stay r = ap (λ until. record stay { until = until }) (ended stay.until r)
   where
-    ended : (until : Option ℕ) → (nat_le row.at stay.since || ends_from row.at until) ≡ false → cond (nat_le stay.since row.at) (Some (sooner row.at until)) until ≡ cond (is_open until) (Some row.at) until
-    ended None r = let k : nat_le stay.since row.at ≡ true = le-leb stay.since row.at (omega (arith, leb-false row.at stay.since (or_parts (nat_le row.at stay.since) false r).0)) in rw k refl
-    ended (Some u) r =
-        let p = or_parts (nat_le row.at stay.since) (nat_le row.at u) r in
-        let k : nat_le stay.since row.at ≡ true = le-leb stay.since row.at (omega (arith, leb-false row.at stay.since p.0)) in
-        rw k (ap (λ x. Some x) (sooner-end row.at u p.1))
-
-    by_same : (s : Bool) (until : Option ℕ) → (s && (nat_le row.at stay.since || ends_from row.at until)) ≡ false → record stay { until = cond (s && nat_le stay.since row.at) (Some (sooner row.at until)) until } ≡ record stay { until = cond ((s || false) && is_open until) (Some row.at) until }
-    by_same false until r = refl
-    by_same true until r = ap (λ x. record stay { until = x }) (ended until r)
+    ended : (until : Option ℕ) → (same_text stay.who row.who && (nat_le row.at stay.since || ends_from row.at until)) ≡ false
+        → cond (same_text stay.who row.who && nat_le stay.since row.at) (Some (sooner row.at until)) until ≡ cond ((same_text stay.who row.who || false) && is_open until) (Some row.at) until
+    ended None r = grind (arith, nat_tests, r)
+    ended (Some u) r = grind (arith, nat_tests, r)
 
 cut-leave : (row : SheetRow) (stays : List Stay) → list_any (reaches row.who row.at) stays ≡ false → map (cut row) stays ≡ map (closed (row.who ∷ []) row.at) stays
 cut-leave row [] r = refl
@@ -68,9 +54,7 @@ cut-leave row (stay ∷ stays) r =
 -- where no row before is ahead there is no next one
 no-next : (row : SheetRow) (before : List SheetRow) (found : Option ℕ) → list_any (is_ahead row) before ≡ false → next_onto found row before ≡ found
 no-next row [] found h = refl
-no-next row (other ∷ before) found h =
-    let d = or_parts (is_ahead row other) (list_any (is_ahead row) before) h in
-    rw d.0 (no-next row before found d.1)
+no-next row (other ∷ before) found h = let d = or_parts (is_ahead row other) (list_any (is_ahead row) before) h in rw d.0 (no-next row before found d.1)
 
 -- by the last row: not earlier than a moment; in some room
 abbrev pub last_reaches : ℕ → Option SheetRow → Bool
@@ -89,16 +73,10 @@ pub record Tells (who : List ℕ) (last : Option SheetRow) (stays : List Stay) :
 
 -- so it is a person's turn by the stays where it is by the rows
 pub same-turn : (who : List ℕ) (last : Option SheetRow) (stays : List Stay) → Tells who last stays → (c : ℕ) (way : Way) (at : ℕ) → is_out_of_turn_in stays c way at who ≡ is_out_of_turn way c at last
-same-turn who last stays tells c Enter at = rw (tells.moments at, tells.inside) (by_last last)
-  where
-    by_last : (last : Option SheetRow) → (last_reaches at last || last_inside last) ≡ is_out_of_turn Enter c at last
-    by_last None = refl
-    by_last (Some row) = refl
-same-turn who last stays tells c Leave at = rw (tells.moments at, tells.inside_of c) (by_last last)
-  where
-    by_last : (last : Option SheetRow) → (last_reaches at last || not (last_enters c last)) ≡ is_out_of_turn Leave c at last
-    by_last None = refl
-    by_last (Some row) = refl
+same-turn who None stays tells c Enter at = rw (tells.moments at, tells.inside)
+same-turn who None stays tells c Leave at = rw (tells.moments at, tells.inside_of c)
+same-turn who (Some row) stays tells c Enter at = rw (tells.moments at, tells.inside)
+same-turn who (Some row) stays tells c Leave at = rw (tells.moments at, tells.inside_of c)
 
 -- where it is the person's turn the last row is earlier
 pub earlier-last : (way : Way) (c at : ℕ) (last : Option SheetRow) → is_out_of_turn way c at last ≡ false → last_reaches at last ≡ false
@@ -113,88 +91,70 @@ no-ahead row before h =
   where
     by_last : (last : Option SheetRow) → last_reaches row.at last ≡ false → list_any (λ other. nat_lt row.at other.at) (listed last) ≡ false
     by_last None h = refl
-    by_last (Some other) h = let l = leb-false row.at other.at h in rw (le-ltb row.at other.at (omega arith)) refl
+    by_last (Some other) h = grind (arith, nat_tests, h)
 
--- the stays with a further `in` in its turn
-next-enter : (before : List SheetRow) (stays : List Stay) (row : SheetRow) → Tells row.who (last_row_of before row.who) stays → row.way ≡ Enter → is_out_of_turn_by before row.ceremony row.way row.at row.who ≡ false → stays_next before stays row ≡ stays ++ (new_stay row.ceremony row.at row.who ∷ [])
-next-enter before stays row tells w h =
-    let t : is_out_of_turn_in stays row.ceremony Enter row.at row.who ≡ false = same-turn row.who (last_row_of before row.who) stays tells row.ceremony Enter row.at ∙ ap (λ way. is_out_of_turn way row.ceremony row.at (last_row_of before row.who)) (sym w) ∙ h in
+-- all stays with the rows of a request
+abbrev pub added : ℕ → Way → ℕ → List (List ℕ) → List Stay → List Stay
+added c Enter at people stays = stays ++ map (new_stay c at) people
+added c Leave at people stays = map (closed people at) stays
+
+-- the stays with a further row in its turn
+next-added : (before : List SheetRow) (stays : List Stay) (row : SheetRow) → Tells row.who (last_row_of before row.who) stays
+    → is_out_of_turn_by before row.ceremony row.way row.at row.who ≡ false → (way : Way) → row.way ≡ way → stays_next before stays row ≡ added row.ceremony way row.at (row.who ∷ []) stays
+next-added before stays row tells h Enter w =
+    let last = last_row_of before row.who in
+    let t : is_out_of_turn_in stays row.ceremony Enter row.at row.who ≡ false =
+        same-turn row.who last stays tells row.ceremony Enter row.at ∙ ap (λ way. is_out_of_turn way row.ceremony row.at last) (sym w) ∙ h in
     let d = or_parts (list_any (reaches row.who row.at) stays) (list_any (is_inside row.who) stays) t in
-    let n = no-next row before None (no-ahead row before (earlier-last row.way row.ceremony row.at (last_row_of before row.who) h)) in
-    ap (λ xs. xs ++ cond (is_enter row.way) (stay_from row (next_onto None row before) ∷ []) []) (cut-enter row stays d.0 d.1)
-    ∙ ap (λ b. stays ++ cond b (stay_from row (next_onto None row before) ∷ []) []) (ap is_enter w)
-    ∙ ap (λ until. stays ++ (stay_from row until ∷ [])) n
-
--- the stays with a further `out` in its turn
-next-leave : (before : List SheetRow) (stays : List Stay) (row : SheetRow) → Tells row.who (last_row_of before row.who) stays → row.way ≡ Leave → is_out_of_turn_by before row.ceremony row.way row.at row.who ≡ false → stays_next before stays row ≡ map (closed (row.who ∷ []) row.at) stays
-next-leave before stays row tells w h =
+    rw (cut-enter row stays d.0 d.1, no-next row before None (no-ahead row before (earlier-last row.way row.ceremony row.at last h)), w)
+next-added before stays row tells h Leave w =
     let r : list_any (reaches row.who row.at) stays ≡ false = tells.moments row.at ∙ earlier-last row.way row.ceremony row.at (last_row_of before row.who) h in
-    ap (λ xs. xs ++ cond (is_enter row.way) (stay_from row (next_onto None row before) ∷ []) []) (cut-leave row stays r)
-    ∙ ap (λ b. map (closed (row.who ∷ []) row.at) stays ++ cond b (stay_from row (next_onto None row before) ∷ []) []) (ap is_enter w)
-    ∙ append-nil (map (closed (row.who ∷ []) row.at) stays)
+    rw (cut-leave row stays r, w) (append-nil (map (closed (row.who ∷ []) row.at) stays))
 
 -- closing somebody else's stays changes no test of this person's
 closed-other : (who other : List ℕ) (at : ℕ) (test : Stay → Bool) (f : ℕ → ℕ → Option ℕ → Bool) → ((stay : Stay) → test stay ≡ (same_text stay.who who && f stay.ceremony stay.since stay.until)) → same_text other who ≡ false → (stays : List Stay) → list_any test (map (closed (other ∷ []) at) stays) ≡ list_any test stays
 closed-other who other at test f shape h [] = refl
 closed-other who other at test f shape h (stay ∷ stays) =
-    ap (λ b. b || list_any test (map (closed (other ∷ []) at) stays)) (shape (closed (other ∷ []) at stay) ∙ by_same (same_text stay.who who) refl ∙ sym (shape stay))
-    ∙ ap (λ b. test stay || b) (closed-other who other at test f shape h stays)
+    grind (arith, nat_tests, shape (closed (other ∷ []) at stay), shape stay, apart, closed-other who other at test f shape h stays)
   where
-    by_same : (s : Bool) → same_text stay.who who ≡ s → (same_text stay.who who && f stay.ceremony stay.since (cond ((same_text stay.who other || false) && is_open stay.until) (Some at) stay.until)) ≡ (same_text stay.who who && f stay.ceremony stay.since stay.until)
-    by_same false e = rw e refl
-    by_same true e =
-        let k : same_text stay.who other ≡ false = ap (λ w. same_text w other) (same-is stay.who who e) ∙ same-turned who other ∙ h in
-        rw k refl
-
-or-assoc : (a b c : Bool) → ((a || b) || c) ≡ (a || (b || c))
-or-assoc true b c = refl
-or-assoc false b c = refl
-
-ended : (a b r i : Bool) → ((a || b) || (r || (i && b))) ≡ (((a || false) || r) || b)
-ended true b r i = refl
-ended false true r i = sym (or-true r)
-ended false false r i = ap (λ x. r || x) (and-false i)
+    apart : same_text stay.who who ≡ true → same_text stay.who other ≡ false
+    apart e = ap (λ w. same_text w other) (same-is stay.who who e) ∙ same-turned who other ∙ h
 
 -- closing a person's open stays: what they reach then, and that nobody is inside
 closed-reaches : (who : List ℕ) (at t : ℕ) (stays : List Stay) → list_any (reaches who t) (map (closed (who ∷ []) at) stays) ≡ (list_any (reaches who t) stays || (list_any (is_inside who) stays && nat_le t at))
 closed-reaches who at t [] = refl
-closed-reaches who at t (stay ∷ stays) =
-    ap (λ b. reaches who t (closed (who ∷ []) at stay) || b) (closed-reaches who at t stays)
-    ∙ by_same (same_text stay.who who) stay.until (nat_le t stay.since) (list_any (reaches who t) stays) (list_any (is_inside who) stays)
+closed-reaches who at t (stay ∷ stays) = by_until stay.until (closed-reaches who at t stays)
   where
-    by_same : (s : Bool) (until : Option ℕ) (a r i : Bool) → ((s && (a || ends_from t (cond ((s || false) && is_open until) (Some at) until))) || (r || (i && nat_le t at))) ≡ (((s && (a || ends_from t until)) || r) || (((s && is_open until) || i) && nat_le t at))
-    by_same false until a r i = refl
-    by_same true None a r i = ended a (nat_le t at) r i
-    by_same true (Some u) a r i = sym (or-assoc (a || nat_le t u) r (i && nat_le t at))
+    by_until : (until : Option ℕ) → list_any (reaches who t) (map (closed (who ∷ []) at) stays) ≡ (list_any (reaches who t) stays || (list_any (is_inside who) stays && nat_le t at))
+        → ((same_text stay.who who && (nat_le t stay.since || ends_from t (cond ((same_text stay.who who || false) && is_open until) (Some at) until))) || list_any (reaches who t) (map (closed (who ∷ []) at) stays))
+        ≡ (((same_text stay.who who && (nat_le t stay.since || ends_from t until)) || list_any (reaches who t) stays) || (((same_text stay.who who && is_open until) || list_any (is_inside who) stays) && nat_le t at))
+    by_until None ih = grind (arith, nat_tests, ih)
+    by_until (Some u) ih = grind (arith, nat_tests, ih)
 
 closed-inside : (who : List ℕ) (at : ℕ) (stays : List Stay) → list_any (is_inside who) (map (closed (who ∷ []) at) stays) ≡ false
 closed-inside who at [] = refl
-closed-inside who at (stay ∷ stays) = or_from _ _ (by_same (same_text stay.who who) stay.until) (closed-inside who at stays)
+closed-inside who at (stay ∷ stays) = or_from _ _ (by_until stay.until) (closed-inside who at stays)
   where
-    by_same : (s : Bool) (until : Option ℕ) → (s && is_open (cond ((s || false) && is_open until) (Some at) until)) ≡ false
-    by_same false until = refl
-    by_same true None = refl
-    by_same true (Some u) = refl
-
-closed-inside_of : (who : List ℕ) (at c : ℕ) (stays : List Stay) → list_any (is_inside_of c who) (map (closed (who ∷ []) at) stays) ≡ false
-closed-inside_of who at c [] = refl
-closed-inside_of who at c (stay ∷ stays) = or_from _ _ (by_same (same_text stay.who who) stay.until) (closed-inside_of who at c stays)
-  where
-    by_same : (s : Bool) (until : Option ℕ) → ((s && is_open (cond ((s || false) && is_open until) (Some at) until)) && stay.ceremony == c) ≡ false
-    by_same false until = refl
-    by_same true None = refl
-    by_same true (Some u) = refl
-
-under : (at l m : ℕ) → nat_le at l ≡ false → (nat_le m l || nat_le m at) ≡ nat_le m at
-under at l m h = grind (arith, nat_tests)
+    by_until : (until : Option ℕ) → (same_text stay.who who && is_open (cond ((same_text stay.who who || false) && is_open until) (Some at) until)) ≡ false
+    by_until None = grind (arith, nat_tests)
+    by_until (Some u) = grind (arith, nat_tests)
 
 reach-under : (at m : ℕ) (last : Option SheetRow) → last_reaches at last ≡ false → (last_reaches m last || nat_le m at) ≡ nat_le m at
 reach-under at m None h = refl
-reach-under at m (Some row) h = under at row.at m h
+reach-under at m (Some row) h = grind (arith, nat_tests, h)
 
 not-later : (row : SheetRow) (last : Option SheetRow) → last_reaches row.at last ≡ false → later last row ≡ Some row
 not-later row None h = refl
-not-later row (Some other) h = let l = leb-false row.at other.at h in rw (le-ltb row.at other.at (omega arith)) refl
+not-later row (Some other) h = grind (arith, nat_tests, h)
+
+-- who is in the ceremony's room is in some room
+enters-inside : (c : ℕ) (last : Option SheetRow) → (last_enters c last && not (last_inside last)) ≡ false
+enters-inside c None = refl
+enters-inside c (Some row) = grind (arith, nat_tests)
+
+inside-some : (c : ℕ) (who : List ℕ) (stays : List Stay) → list_any (is_inside who) stays ≡ false → list_any (is_inside_of c who) stays ≡ false
+inside-some c who [] h = refl
+inside-some c who (stay ∷ stays) h = grind (arith, nat_tests, h, inside-some c who stays)
 
 last-snoc : (last : Option SheetRow) (rows : List SheetRow) (row : SheetRow) → last_onto last (rows ++ (row ∷ [])) ≡ later (last_onto last rows) row
 last-snoc last [] row = refl
@@ -212,88 +172,63 @@ last-own before row h =
 tells-own : (before : List SheetRow) (stays : List Stay) (row : SheetRow) → Tells row.who (last_row_of before row.who) stays → is_out_of_turn_by before row.ceremony row.way row.at row.who ≡ false → Tells row.who (Some row) (stays_next before stays row)
 tells-own before stays row tells h = by_way row.way refl
   where
-    early : last_reaches row.at (last_row_of before row.who) ≡ false
-    early = earlier-last row.way row.ceremony row.at (last_row_of before row.who) h
+    under : (at : ℕ) → (last_reaches at (last_row_of before row.who) || nat_le at row.at) ≡ nat_le at row.at
+    under at = reach-under row.at at (last_row_of before row.who) (earlier-last row.way row.ceremony row.at (last_row_of before row.who) h)
+
+    one_more : (test : Stay → Bool) → row.way ≡ Enter → list_any test (stays_next before stays row) ≡ (list_any test stays || list_any test (new_stay row.ceremony row.at row.who ∷ []))
+    one_more test w = ap (list_any test) (next-added before stays row tells h Enter w) ∙ list_any-append test stays (new_stay row.ceremony row.at row.who ∷ [])
+
+    turn : (way : Way) → row.way ≡ way → is_out_of_turn way row.ceremony row.at (last_row_of before row.who) ≡ false
+    turn way w = ap (λ way. is_out_of_turn way row.ceremony row.at (last_row_of before row.who)) (sym w) ∙ h
 
     by_way : (way : Way) → row.way ≡ way → Tells row.who (Some row) (stays_next before stays row)
     by_way Enter w =
-        let all = next-enter before stays row tells w h in
-        let new : Stay = new_stay row.ceremony row.at row.who in
-        let t : is_out_of_turn_in stays row.ceremony Enter row.at row.who ≡ false = same-turn row.who (last_row_of before row.who) stays tells row.ceremony Enter row.at ∙ ap (λ way. is_out_of_turn way row.ceremony row.at (last_row_of before row.who)) (sym w) ∙ h in
-        let out = (or_parts (list_any (reaches row.who row.at) stays) (list_any (is_inside row.who) stays) t).1 in
+        let out : last_inside (last_row_of before row.who) ≡ false = outside (last_row_of before row.who) (turn Enter w) in
         record {
-          moments = λ at.
-              ap (list_any (reaches row.who at)) all
-              ∙ list_any-append (reaches row.who at) stays (new ∷ [])
-              ∙ ap (λ b. list_any (reaches row.who at) stays || ((b && (nat_le at row.at || false)) || false)) (same-itself row.who)
-              ∙ ap (λ b. b || ((nat_le at row.at || false) || false)) (tells.moments at)
-              ∙ ap (λ b. last_reaches at (last_row_of before row.who) || b) (or-false (nat_le at row.at || false) ∙ or-false (nat_le at row.at))
-              ∙ reach-under row.at at (last_row_of before row.who) early;
-          inside =
-              ap (list_any (is_inside row.who)) all
-              ∙ list_any-append (is_inside row.who) stays (new ∷ [])
-              ∙ ap (λ b. list_any (is_inside row.who) stays || ((b && true) || false)) (same-itself row.who)
-              ∙ or-true (list_any (is_inside row.who) stays)
-              ∙ sym (ap is_enter w);
+          moments = λ at. one_more (reaches row.who at) w ∙ grind (arith, nat_tests, tells.moments at, same-itself row.who, under at);
+          inside = one_more (is_inside row.who) w ∙ grind (arith, nat_tests, same-itself row.who, ap is_enter w);
+          inside_of = λ c. one_more (is_inside_of c row.who) w
+              ∙ grind (arith, nat_tests, tells.inside_of c, enters-inside c (last_row_of before row.who), out, same-itself row.who, ap is_enter w);
+        }
+      where
+        outside : (last : Option SheetRow) → is_out_of_turn Enter row.ceremony row.at last ≡ false → last_inside last ≡ false
+        outside None h = refl
+        outside (Some other) h = grind (arith, nat_tests, h)
+    by_way Leave w =
+        let all = next-added before stays row tells h Leave w in
+        let came : last_inside (last_row_of before row.who) ≡ true = inside (last_row_of before row.who) (turn Leave w) in
+        let gone = closed-inside row.who row.at stays in
+        record {
+          moments = λ at. ap (list_any (reaches row.who at)) all ∙ closed-reaches row.who row.at at stays ∙ grind (arith, nat_tests, tells.moments at, tells.inside, came, under at);
+          inside = ap (list_any (is_inside row.who)) all ∙ gone ∙ sym (ap is_enter w);
           inside_of = λ c.
               ap (list_any (is_inside_of c row.who)) all
-              ∙ list_any-append (is_inside_of c row.who) stays (new ∷ [])
-              ∙ ap (λ b. list_any (is_inside_of c row.who) stays || (((b && true) && row.ceremony == c) || false)) (same-itself row.who)
-              ∙ ap (λ b. b || ((row.ceremony == c) || false)) (tells.inside_of c ∙ outside c (last_row_of before row.who) (sym tells.inside ∙ out))
-              ∙ or-false (row.ceremony == c)
+              ∙ inside-some c row.who (map (closed (row.who ∷ []) row.at) stays) gone
               ∙ ap (λ b. b && row.ceremony == c) (sym (ap is_enter w));
         }
       where
-        outside : (c : ℕ) (last : Option SheetRow) → last_inside last ≡ false → last_enters c last ≡ false
-        outside c None h = refl
-        outside c (Some other) h = rw h refl
-    by_way Leave w =
-        let all = next-leave before stays row tells w h in
-        let t : is_out_of_turn_in stays row.ceremony Leave row.at row.who ≡ false = same-turn row.who (last_row_of before row.who) stays tells row.ceremony Leave row.at ∙ ap (λ way. is_out_of_turn way row.ceremony row.at (last_row_of before row.who)) (sym w) ∙ h in
-        let p = or_parts (list_any (reaches row.who row.at) stays) (not (list_any (is_inside_of row.ceremony row.who) stays)) t in
-        let inside : list_any (is_inside row.who) stays ≡ true = tells.inside ∙ came (last_row_of before row.who) (sym (tells.inside_of row.ceremony) ∙ not-false (list_any (is_inside_of row.ceremony row.who) stays) p.1) in
-        record {
-          moments = λ at.
-              ap (list_any (reaches row.who at)) all
-              ∙ closed-reaches row.who row.at at stays
-              ∙ ap (λ b. list_any (reaches row.who at) stays || (b && nat_le at row.at)) inside
-              ∙ ap (λ b. b || nat_le at row.at) (tells.moments at)
-              ∙ reach-under row.at at (last_row_of before row.who) early;
-          inside = ap (list_any (is_inside row.who)) all ∙ closed-inside row.who row.at stays ∙ sym (ap is_enter w);
-          inside_of = λ c. ap (list_any (is_inside_of c row.who)) all ∙ closed-inside_of row.who row.at c stays ∙ ap (λ b. b && row.ceremony == c) (sym (ap is_enter w));
-        }
-      where
-        came : (last : Option SheetRow) → last_enters row.ceremony last ≡ true → last_inside last ≡ true
-        came None h = absurd (let k : false ≡ true = h in cc)
-        came (Some other) h = (and_parts (is_enter other.way) (other.ceremony == row.ceremony) h).0
+        inside : (last : Option SheetRow) → is_out_of_turn Leave row.ceremony row.at last ≡ false → last_inside last ≡ true
+        inside None h = absurd (true≢false h)
+        inside (Some other) h = grind (arith, nat_tests, h)
 
 -- what the stays tell of somebody else
 tells-other : (before : List SheetRow) (stays : List Stay) (row : SheetRow) (who : List ℕ) → same_text row.who who ≡ false → Tells row.who (last_row_of before row.who) stays → is_out_of_turn_by before row.ceremony row.way row.at row.who ≡ false → Tells who (last_row_of before who) stays → Tells who (last_row_of before who) (stays_next before stays row)
-tells-other before stays row who d own h tells = by_way row.way refl
+tells-other before stays row who d own h tells = record {
+  moments = λ at. kept (reaches who at) (λ c since until. nat_le at since || ends_from at until) (λ stay. refl) ∙ tells.moments at;
+  inside = kept (is_inside who) (λ c since until. is_open until) (λ stay. refl) ∙ tells.inside;
+  inside_of = λ c.
+      kept (is_inside_of c who) (λ d since until. is_open until && d == c) (λ stay. and-assoc (same_text stay.who who) (is_open stay.until) (stay.ceremony == c)) ∙ tells.inside_of c;
+}
   where
-    new : Stay
-    new = new_stay row.ceremony row.at row.who
-
-    kept : (test : Stay → Bool) (x : Bool) → row.way ≡ Enter → test (new_stay row.ceremony row.at row.who) ≡ (same_text row.who who && x) → list_any test (stays_next before stays row) ≡ list_any test stays
-    kept test x w e =
-        ap (list_any test) (next-enter before stays row own w h)
-        ∙ list_any-append test stays (new_stay row.ceremony row.at row.who ∷ [])
-        ∙ ap (λ b. list_any test stays || (b || false)) (e ∙ ap (λ b. b && x) d)
-        ∙ or-false (list_any test stays)
-
-    by_way : (way : Way) → row.way ≡ way → Tells who (last_row_of before who) (stays_next before stays row)
-    by_way Enter w = record {
-      moments = λ at. kept (reaches who at) (nat_le at row.at || false) w refl ∙ tells.moments at;
-      inside = kept (is_inside who) true w refl ∙ tells.inside;
-      inside_of = λ c. kept (is_inside_of c who) (row.ceremony == c) w (ap (λ b. (b && true) && row.ceremony == c) d ∙ sym (ap (λ b. b && row.ceremony == c) d)) ∙ tells.inside_of c;
-    }
-    by_way Leave w =
-        let all = next-leave before stays row own w h in
-        record {
-          moments = λ at. ap (list_any (reaches who at)) all ∙ closed-other who row.who row.at (reaches who at) (λ c since until. nat_le at since || ends_from at until) (λ stay. refl) d stays ∙ tells.moments at;
-          inside = ap (list_any (is_inside who)) all ∙ closed-other who row.who row.at (is_inside who) (λ c since until. is_open until) (λ stay. refl) d stays ∙ tells.inside;
-          inside_of = λ c. ap (list_any (is_inside_of c who)) all ∙ closed-other who row.who row.at (is_inside_of c who) (λ d since until. is_open until && d == c) (λ stay. and-assoc (same_text stay.who who) (is_open stay.until) (stay.ceremony == c)) d stays ∙ tells.inside_of c;
-        }
+    kept : (test : Stay → Bool) (f : ℕ → ℕ → Option ℕ → Bool) → ((stay : Stay) → test stay ≡ (same_text stay.who who && f stay.ceremony stay.since stay.until))
+        → list_any test (stays_next before stays row) ≡ list_any test stays
+    kept test f shape = by_way row.way refl
+      where
+        by_way : (way : Way) → row.way ≡ way → list_any test (stays_next before stays row) ≡ list_any test stays
+        by_way Enter w =
+            let new : Stay = new_stay row.ceremony row.at row.who in
+            ap (list_any test) (next-added before stays row own h Enter w) ∙ list_any-append test stays (new ∷ []) ∙ grind (arith, nat_tests, shape new, d)
+        by_way Leave w = ap (list_any test) (next-added before stays row own h Leave w) ∙ closed-other who row.who row.at test f shape d stays
 
 tells-next : (before : List SheetRow) (stays : List Stay) (row : SheetRow) → ((who : List ℕ) → Tells who (last_row_of before who) stays) → is_out_of_turn_by before row.ceremony row.way row.at row.who ≡ false → (who : List ℕ) → Tells who (last_row_of (before ++ (row ∷ [])) who) (stays_next before stays row)
 tells-next before stays row tells h who = by_same (same_text row.who who) refl
@@ -326,11 +261,6 @@ stays-append (row ∷ rows) more before stays =
     stays-append rows more (before ++ (row ∷ [])) (stays_next before stays row)
     ∙ ap (λ all. stays_onto all (stays_onto (before ++ (row ∷ [])) (stays_next before stays row) rows) more) (append_assoc before (row ∷ []) rows)
 
--- all stays with the rows of a request
-abbrev pub added : ℕ → Way → ℕ → List (List ℕ) → List Stay → List Stay
-added c Enter at people stays = stays ++ map (new_stay c at) people
-added c Leave at people stays = map (closed people at) stays
-
 closed-none : (at : ℕ) (stays : List Stay) → map (closed [] at) stays ≡ stays
 closed-none at [] = refl
 closed-none at (stay ∷ stays) = ap (λ rest. stay ∷ rest) (closed-none at stays)
@@ -338,48 +268,41 @@ closed-none at (stay ∷ stays) = ap (λ rest. stay ∷ rest) (closed-none at st
 closed-more : (who : List ℕ) (rest : List (List ℕ)) (at : ℕ) (stays : List Stay) → map (closed rest at) (map (closed (who ∷ []) at) stays) ≡ map (closed (who ∷ rest) at) stays
 closed-more who rest at [] = refl
 closed-more who rest at (stay ∷ stays) =
-    ap (λ until. record stay { until = until } ∷ map (closed rest at) (map (closed (who ∷ []) at) stays)) (by_tests (same_text stay.who who) (is_among rest stay.who) stay.until)
+    ap (λ until. record stay { until = until } ∷ map (closed rest at) (map (closed (who ∷ []) at) stays)) (by_until (same_text stay.who who) (is_among rest stay.who) stay.until)
     ∙ ap (λ more. closed (who ∷ rest) at stay ∷ more) (closed-more who rest at stays)
   where
-    by_tests : (a m : Bool) (until : Option ℕ) → cond (m && is_open (cond ((a || false) && is_open until) (Some at) until)) (Some at) (cond ((a || false) && is_open until) (Some at) until) ≡ cond ((a || m) && is_open until) (Some at) until
-    by_tests true true None = refl
-    by_tests true false None = refl
-    by_tests false true None = refl
-    by_tests false false None = refl
-    by_tests true true (Some u) = refl
-    by_tests true false (Some u) = refl
-    by_tests false true (Some u) = refl
-    by_tests false false (Some u) = refl
+    by_until : (a m : Bool) (until : Option ℕ)
+        → cond (m && is_open (cond ((a || false) && is_open until) (Some at) until)) (Some at) (cond ((a || false) && is_open until) (Some at) until) ≡ cond ((a || m) && is_open until) (Some at) until
+    by_until a m None = grind (arith, nat_tests)
+    by_until a m (Some u) = grind (arith, nat_tests)
 
-pub added-onto : (c : ℕ) (way : Way) (at : ℕ) (people : List (List ℕ)) (before : List SheetRow) (stays : List Stay) → ((who : List ℕ) → Tells who (last_row_of before who) stays) → are_apart people ≡ true → turn_refusal (find (is_out_of_turn_by before c way at) people) ≡ None → stays_onto before stays (map (new_row c way at) people) ≡ added c way at people stays
-added-onto c Enter at [] before stays tells a h = sym (append-nil stays)
-added-onto c Leave at [] before stays tells a h = sym (closed-none at stays)
-added-onto c Enter at (who ∷ rest) before stays tells a h =
+added-none : (c : ℕ) (way : Way) (at : ℕ) (stays : List Stay) → added c way at [] stays ≡ stays
+added-none c Enter at stays = append-nil stays
+added-none c Leave at stays = closed-none at stays
+
+added-more : (c : ℕ) (way : Way) (at : ℕ) (who : List ℕ) (rest : List (List ℕ)) (stays : List Stay) → added c way at rest (added c way at (who ∷ []) stays) ≡ added c way at (who ∷ rest) stays
+added-more c Enter at who rest stays = append_assoc stays (new_stay c at who ∷ []) (map (new_stay c at) rest)
+added-more c Leave at who rest stays = closed-more who rest at stays
+
+pub added-onto : (c : ℕ) (way : Way) (at : ℕ) (people : List (List ℕ)) (before : List SheetRow) (stays : List Stay) → ((who : List ℕ) → Tells who (last_row_of before who) stays)
+    → are_apart people ≡ true → turn_refusal (find (is_out_of_turn_by before c way at) people) ≡ None → stays_onto before stays (map (new_row c way at) people) ≡ added c way at people stays
+added-onto c way at [] before stays tells a h = sym (added-none c way at stays)
+added-onto c way at (who ∷ rest) before stays tells a h =
     let d = and_parts (not (list_any (same_text who) rest)) (are_apart rest) a in
-    let n = none-found (is_out_of_turn_by before c Enter at) who rest h in
-    let row : SheetRow = new_row c Enter at who in
-    added-onto c Enter at rest (before ++ (row ∷ [])) (stays_next before stays row) (tells-next before stays row tells n.0) d.1 (turn-others before c Enter at who rest (not-true (list_any (same_text who) rest) d.0) n.1)
-    ∙ ap (λ xs. xs ++ map (new_stay c at) rest) (next-enter before stays row (tells who) refl n.0)
-    ∙ append_assoc stays (new_stay c at who ∷ []) (map (new_stay c at) rest)
-added-onto c Leave at (who ∷ rest) before stays tells a h =
-    let d = and_parts (not (list_any (same_text who) rest)) (are_apart rest) a in
-    let n = none-found (is_out_of_turn_by before c Leave at) who rest h in
-    let row : SheetRow = new_row c Leave at who in
-    added-onto c Leave at rest (before ++ (row ∷ [])) (stays_next before stays row) (tells-next before stays row tells n.0) d.1 (turn-others before c Leave at who rest (not-true (list_any (same_text who) rest) d.0) n.1)
-    ∙ ap (map (closed rest at)) (next-leave before stays row (tells who) refl n.0)
-    ∙ closed-more who rest at stays
+    let n = none-found (is_out_of_turn_by before c way at) who rest h in
+    let row : SheetRow = new_row c way at who in
+    let turns = turn-others before c way at who rest (not-true (list_any (same_text who) rest) d.0) n.1 in
+    added-onto c way at rest (before ++ (row ∷ [])) (stays_next before stays row) (tells-next before stays row tells n.0) d.1 turns
+    ∙ ap (added c way at rest) (next-added before stays row (tells who) n.0 way refl)
+    ∙ added-more c way at who rest stays
 
 filter-new : (c at : ℕ) (people : List (List ℕ)) → filter (of_ceremony c) (map (new_stay c at) people) ≡ map (new_stay c at) people
 filter-new c at [] = refl
-filter-new c at (who ∷ rest) = rw (eq-eqb c c refl) (ap (λ more. new_stay c at who ∷ more) (filter-new c at rest))
+filter-new c at (who ∷ rest) = grind (arith, nat_tests, filter-new c at rest)
 
 filter-closed : (c at : ℕ) (people : List (List ℕ)) (stays : List Stay) → filter (of_ceremony c) (map (closed people at) stays) ≡ map (closed people at) (filter (of_ceremony c) stays)
 filter-closed c at people [] = refl
-filter-closed c at people (stay ∷ stays) = by_test (stay.ceremony == c) (filter-closed c at people stays)
-  where
-    by_test : (b : Bool) → filter (of_ceremony c) (map (closed people at) stays) ≡ map (closed people at) (filter (of_ceremony c) stays) → cond b (closed people at stay ∷ filter (of_ceremony c) (map (closed people at) stays)) (filter (of_ceremony c) (map (closed people at) stays)) ≡ map (closed people at) (cond b (stay ∷ filter (of_ceremony c) stays) (filter (of_ceremony c) stays))
-    by_test true ih = ap (λ more. closed people at stay ∷ more) ih
-    by_test false ih = ih
+filter-closed c at people (stay ∷ stays) = grind (arith, nat_tests, filter-closed c at people stays)
 
 -- rows added to a sheet in their turn give the ceremony's stays as they are changed
 pub same-added : (rows : List SheetRow) → IsSheet rows → (c : ℕ) (way : Way) (at : ℕ) (people : List (List ℕ)) → are_apart people ≡ true → turn_refusal (find (is_out_of_turn_by rows c way at) people) ≡ None → filter (of_ceremony c) (stays_by (rows ++ map (new_row c way at) people)) ≡ after (stays_by rows) c way people at
