@@ -29,28 +29,25 @@ abbrev Untied : ℕ → SheetRow → ℕ → List SheetRow → Type 0
 Untied i row place [] = Unit {0}
 Untied i row place (other ∷ rows) = ((same_text other.who row.who && (row.at == other.at && nat_lt i place)) ≡ false) × Untied i row (suc place) rows
 
-drop-tie : (s l x : Bool) → (s && x) ≡ false → (s && (l || x)) ≡ (s && l)
-drop-tie false l x h = refl
-drop-tie true true x h = refl
-drop-tie true false x h = h
-
-untied-until : (i : ℕ) (row : SheetRow) (place : ℕ) (rows : List SheetRow) (found : Option ℕ) → Untied i row place rows → until_in found (step_at i row) (steps_from place rows) ≡ next_onto found row rows
+untied-until : (i : ℕ) (row : SheetRow) (place : ℕ) (rows : List SheetRow) (found : Option ℕ) → Untied i row place rows
+    → until_in found (step_at i row) (steps_from place rows) ≡ next_onto found row rows
 untied-until i row place [] found u = refl
 untied-until i row place (other ∷ rows) found u =
-    ap (λ b. until_in (cond b (Some (sooner other.at found)) found) (step_at i row) (steps_from (suc place) rows)) (drop-tie (same_text other.who row.who) (nat_lt row.at other.at) (row.at == other.at && nat_lt i place) u.0)
+    ap (λ b. until_in (cond b (Some (sooner other.at found)) found) (step_at i row) (steps_from (suc place) rows)) tied
     ∙ untied-until i row (suc place) rows (cond (is_ahead row other) (Some (sooner other.at found)) found) u.1
-
-tie-none : (s : Bool) (m n : ℕ) (x : Bool) → (s && n == m) ≡ false → (s && (m == n && x)) ≡ false
-tie-none false m n x h = refl
-tie-none true m n x h = grind (arith, nat_tests)
+  where
+    tied : (same_text other.who row.who && (nat_lt row.at other.at || (row.at == other.at && nat_lt i place))) ≡ is_ahead row other
+    tied = grind (arith, nat_tests, u.0)
 
 untied-back : (i : ℕ) (row : SheetRow) (place : ℕ) (rows : List SheetRow) → AllByRecursion (λ other. (same_text other.who row.who && other.at == row.at) ≡ false) rows → Untied i row place rows
 untied-back i row place [] a = tt
-untied-back i row place (other ∷ rows) a = (tie-none (same_text other.who row.who) row.at other.at (nat_lt i place) a.0, untied-back i row (suc place) rows a.1)
+untied-back i row place (other ∷ rows) a = (tied, untied-back i row (suc place) rows a.1)
+  where
+    tied : (same_text other.who row.who && (row.at == other.at && nat_lt i place)) ≡ false
+    tied = grind (arith, nat_tests, a.0)
 
 tie-before : (s : Bool) (m n i place : ℕ) → place ≤ i → (s && (m == n && nat_lt i place)) ≡ false
-tie-before false m n i place h = refl
-tie-before true m n i place h = grind (arith, nat_tests)
+tie-before s m n i place h = grind (arith, nat_tests)
 
 untied-at : (i : ℕ) (row : SheetRow) (place : ℕ) (front back : List SheetRow) → place + length front ≡ i → AllByRecursion (λ other. (same_text other.who row.who && other.at == row.at) ≡ false) back → Untied i row place (front ++ (row ∷ back))
 untied-at i row place [] back e a = (tie-before (same_text row.who row.who) row.at row.at i place (omega arith), untied-back i row (suc place) back a)
@@ -120,41 +117,21 @@ rows-crowded xs ys p h c ever other f g = ever-unique (λ t. nat_lt 128 (crowd_b
 
 -- A SHEET'S ROWS
 
-later-reaches : (m r o : ℕ) → cond (nat_lt r o) (nat_le m o) (nat_le m r) ≡ (nat_le m o || nat_le m r)
-later-reaches m r o = grind (arith, nat_tests)
-
-or-assoc : (a b c : Bool) → ((a || b) || c) ≡ (a || (b || c))
-or-assoc true b c = refl
-or-assoc false b c = refl
-
 -- a list of rows has one not earlier than m exactly where its last is
 reached : (m : ℕ) (rows : List SheetRow) (last : Option SheetRow) → last_reaches m (last_onto last rows) ≡ (last_reaches m last || list_any (λ row. nat_le m row.at) rows)
 reached m [] last = sym (or-false (last_reaches m last))
-reached m (row ∷ rows) last = reached m rows (later last row) ∙ by_last last
+reached m (row ∷ rows) None = reached m rows (Some row)
+reached m (row ∷ rows) (Some other) = reached m rows (later (Some other) row) ∙ both (nat_lt row.at other.at) refl
   where
-    by_last : (last : Option SheetRow) → (last_reaches m (later last row) || list_any (λ row. nat_le m row.at) rows) ≡ (last_reaches m last || (nat_le m row.at || list_any (λ row. nat_le m row.at) rows))
-    by_last None = refl
-    by_last (Some other) =
-        ap (λ b. b || list_any (λ row. nat_le m row.at) rows) (by_order (nat_lt row.at other.at) ∙ later-reaches m row.at other.at)
-        ∙ or-assoc (nat_le m other.at) (nat_le m row.at) (list_any (λ row. nat_le m row.at) rows)
-      where
-        by_order : (b : Bool) → last_reaches m (cond b (Some other) (Some row)) ≡ cond b (nat_le m other.at) (nat_le m row.at)
-        by_order true = refl
-        by_order false = refl
+    both : (b : Bool) → nat_lt row.at other.at ≡ b → (last_reaches m (cond b (Some other) (Some row)) || list_any (λ row. nat_le m row.at) rows) ≡ (nat_le m other.at || (nat_le m row.at || list_any (λ row. nat_le m row.at) rows))
+    both true e = grind (arith, nat_tests, e)
+    both false e = grind (arith, nat_tests, e)
 
 uncounted : (who : List ℕ) (t : ℕ) (rows : List SheetRow) → list_any (λ row. same_text row.who who && nat_le t row.at) rows ≡ false → count_by (λ row. same_text row.who who && row.at == t) rows ≡ 0
 uncounted who t [] h = refl
 uncounted who t (row ∷ rows) h =
-    let d = or_parts (same_text row.who who && nat_le t row.at) (list_any (λ row. same_text row.who who && nat_le t row.at) rows) h in
-    let k = count-cons (λ row. same_text row.who who && row.at == t) row rows false (apart (same_text row.who who) d.0) in
-    omega (arith, k, uncounted who t rows d.1)
-  where
-    other-moment : (m n : ℕ) → nat_le m n ≡ false → (n == m) ≡ false
-    other-moment m n h = grind (arith, nat_tests)
-
-    apart : (s : Bool) → (s && nat_le t row.at) ≡ false → (s && row.at == t) ≡ false
-    apart false h = refl
-    apart true h = other-moment t row.at h
+    let k = count-cons (λ row. same_text row.who who && row.at == t) row rows (same_text row.who who && row.at == t) refl in
+    grind (arith, nat_tests, h, k, uncounted who t rows)
 
 share-next : (before : List SheetRow) (row : SheetRow) → ShareNoMoment before → is_out_of_turn_by before row.ceremony row.way row.at row.who ≡ false → ShareNoMoment (before ++ (row ∷ []))
 share-next before row h turn who t = by_row (same_text row.who who && row.at == t) refl

@@ -12,7 +12,7 @@ use Rattle.kcr_room.specs.declared.stays.Step.{Step}
 use Rattle.kcr_room.specs.Room.{is_enter, is_ahead}
 use Rattle.kcr_room.specs.Stays.{lasts_at, sooner, cut, next_onto, stay_from, stays_next, stays_onto, stays_by}
 use Rattle.kcr_room.specs.Ends.{steps_from, steps_by, follows, IsEnd, stays_with}
-use Rattle.kcr_room.proofs.Agreement.{same-turned, lasts-sooner, next-step}
+use Rattle.kcr_room.proofs.Agreement.{same-turned, lasts-sooner}
 
 -- a row at a place
 abbrev pub step_at : ℕ → SheetRow → Step
@@ -29,21 +29,13 @@ end-unique None None f = refl
 end-unique None (Some b) f = absurd (both_ways (nat_lt b b) (le-ltb b b (omega arith)) (sym (f b)))
 end-unique (Some a) None f = absurd (both_ways (nat_lt a a) (le-ltb a a (omega arith)) (f a))
 end-unique (Some a) (Some b) f =
-    elim (cases_order a b) [
-      | inl e ↦ ap (λ x. Some x) e
-      | inr d ↦ elim d [
-        | inl l ↦ absurd (both_ways (nat_lt a a) (le-ltb a a (omega arith)) (f a ∙ lt-ltb a b l))
-        | inr l ↦ absurd (both_ways (nat_lt b b) (le-ltb b b (omega arith)) (sym (f b) ∙ lt-ltb b a l))
-      ]
-    ]
+    let e : a ≡ b = grind (arith, nat_tests, f a, f b) in ap (λ x. Some x) e
 
 pub until-lasts : (t : ℕ) (step : Step) (steps : List Step) (found : Option ℕ) → lasts_at t (until_in found step steps) ≡ (lasts_at t found && not (list_any (λ other. follows step other && nat_le other.at t) steps))
 until-lasts t step [] found = sym (and-true (lasts_at t found))
-until-lasts t step (other ∷ steps) found = until-lasts t step steps (cond (follows step other) (Some (sooner other.at found)) found) ∙ by_test (follows step other)
-  where
-    by_test : (b : Bool) → (lasts_at t (cond b (Some (sooner other.at found)) found) && not (list_any (λ other. follows step other && nat_le other.at t) steps)) ≡ (lasts_at t found && not ((b && nat_le other.at t) || list_any (λ other. follows step other && nat_le other.at t) steps))
-    by_test true = rw (lasts-sooner t other.at found) (next-step t other.at (lasts_at t found) (list_any (λ other. follows step other && nat_le other.at t) steps))
-    by_test false = refl
+until-lasts t step (other ∷ steps) found =
+    let ih = until-lasts t step steps (cond (follows step other) (Some (sooner other.at found)) found) in
+    grind (arith, nat_tests, ih, lasts-sooner t other.at found)
 
 -- the end is the moment of the next step
 pub end-is : (steps : List Step) (step : Step) (until : Option ℕ) → IsEnd steps step until → until ≡ until_in None step steps

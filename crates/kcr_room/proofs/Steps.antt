@@ -46,63 +46,42 @@ not-before a b h = by_tests (nat_lt a.at b.at) (a.at == b.at) (nat_lt a.place b.
     by_tests false true false h = refl
     by_tests false false z h = refl
 
--- of sorted steps none behind a step stands before it
+-- of sorted steps none stands before one ahead of it
+in_order : (all : List Step) → AreSorted all → (i j : ℕ) (d : Step) → i ≤ j → j < length all → before (get_or all j d) (get_or all i d) ≡ false
+in_order all sorted i j d h k = not-before (get_or all j d) (get_or all i d) (sorted_far (λ a b. is_lt (step_cmp a b)) ranked all sorted i j d h k)
+
+-- so none behind a step stands before it
 behind : (front back : List Step) (step : Step) → AreSorted (front ++ (step ∷ back)) → AllByRecursion (λ other. before other step ≡ false) back
-behind front back step sorted = recursion_from_All (λ other. before other step ≡ false) back at_place
-  where
-    at_place : (i : ℕ) (d : Step) → i < length back → before (get_or back i d) step ≡ false
-    at_place i d h =
-        let all : List Step = front ++ (step ∷ back) in
-        let own : get_or all (length front + 0) d ≡ step = get_or-append-add front (step ∷ back) 0 d in
-        let its : get_or all (length front + suc i) d ≡ get_or back i d = get_or-append-add front (step ∷ back) (suc i) d in
-        let far = sorted_far (λ a b. is_lt (step_cmp a b)) ranked all sorted (length front + 0) (length front + suc i) d (omega arith) (omega (arith, length-append front (step ∷ back))) in
-        not-before (get_or back i d) step
-        (subst (λ other. is_lt (step_cmp (get_or back i d) other) ≡ false) own (subst (λ other. is_lt (step_cmp other (get_or all (length front + 0) d)) ≡ false) its far))
+behind front back step sorted = recursion_from_All (λ other. before other step ≡ false) back (λ i d h.
+    rw (get_or-append-add front (step ∷ back) 0 d, get_or-append-add front (step ∷ back) (suc i) d)
+    at (in_order (front ++ (step ∷ back)) sorted (length front + 0) (length front + suc i) d (omega arith) (omega (arith, h, length-append front (step ∷ back)))))
 
 -- and it stands before none ahead of it
 ahead : (front back : List Step) (step : Step) → AreSorted (front ++ (step ∷ back)) → AllByRecursion (λ other. before step other ≡ false) front
-ahead front back step sorted = recursion_from_All (λ other. before step other ≡ false) front at_place
-  where
-    at_place : (i : ℕ) (d : Step) → i < length front → before step (get_or front i d) ≡ false
-    at_place i d h =
-        let all : List Step = front ++ (step ∷ back) in
-        let own : get_or all (length front + 0) d ≡ step = get_or-append-add front (step ∷ back) 0 d in
-        let its : get_or all i d ≡ get_or front i d = get_or_append_left front (step ∷ back) d i h in
-        let far = sorted_far (λ a b. is_lt (step_cmp a b)) ranked all sorted i (length front + 0) d (omega arith) (omega (arith, length-append front (step ∷ back))) in
-        not-before step (get_or front i d)
-        (subst (λ other. is_lt (step_cmp step other) ≡ false) its (subst (λ other. is_lt (step_cmp other (get_or all i d)) ≡ false) own far))
+ahead front back step sorted = recursion_from_All (λ other. before step other ≡ false) front (λ i d h.
+    rw (get_or-append-add front (step ∷ back) 0 d, get_or_append_left front (step ∷ back) d i h)
+    at (in_order (front ++ (step ∷ back)) sorted i (length front + 0) d (omega (arith, h)) (omega (arith, length-append front (step ∷ back)))))
 
 -- PLACES
 
 places-above : (i place : ℕ) (rows : List SheetRow) → i < place → count_by (λ step. step.place == i) (steps_from place rows) ≡ 0
 places-above i place [] h = refl
 places-above i place (row ∷ rows) h =
-    let e : (place == i) ≡ false = grind (arith, nat_tests) in
-    let k = count-cons (λ step. step.place == i) (record { at = row.at; place = place; who = row.who }) (steps_from (suc place) rows) false e in
-    omega (arith, k, places-above i (suc place) rows (omega arith))
+    let k = count-cons (λ step. step.place == i) (record { at = row.at; place = place; who = row.who }) (steps_from (suc place) rows) (place == i) refl in
+    grind (arith, nat_tests, k, places-above i (suc place) rows)
 
 -- no place stands twice
 places-once : (i place : ℕ) (rows : List SheetRow) → count_by (λ step. step.place == i) (steps_from place rows) ≤ 1
 places-once i place [] = omega arith
-places-once i place (row ∷ rows) = by_test (place == i) refl (places-once i (suc place) rows)
-  where
-    by_test : (b : Bool) → (place == i) ≡ b → count_by (λ step. step.place == i) (steps_from (suc place) rows) ≤ 1 → count_by (λ step. step.place == i) (steps_from place (row ∷ rows)) ≤ 1
-    by_test true f ih =
-        let n = places-above i (suc place) rows (omega (arith, eqb-true place i f)) in
-        let k = count-cons (λ step. step.place == i) (record { at = row.at; place = place; who = row.who }) (steps_from (suc place) rows) true f in
-        omega (arith, n, k)
-    by_test false f ih =
-        let k = count-cons (λ step. step.place == i) (record { at = row.at; place = place; who = row.who }) (steps_from (suc place) rows) false f in
-        omega (arith, ih, k)
+places-once i place (row ∷ rows) =
+    let k = count-cons (λ step. step.place == i) (record { at = row.at; place = place; who = row.who }) (steps_from (suc place) rows) (place == i) refl in
+    grind (arith, nat_tests, k, places-once i (suc place) rows, places-above i (suc place) rows)
 
 -- of steps with each place once none behind a step has its place
 apart : (front back : List Step) (step : Step) → count_by (λ other. other.place == step.place) (front ++ (step ∷ back)) ≤ 1 → AllByRecursion (λ other. (other.place == step.place) ≡ false) back
 apart front back step h = none-behind (λ other. other.place == step.place) front back step (eq-eqb step.place step.place refl) h
 
 -- THE STEP THAT COMES NEXT
-
-later : (m n p q : ℕ) → (nat_lt n m || (n == m && nat_lt q p)) ≡ false → (q == p) ≡ false → (nat_lt m n || (m == n && nat_lt p q)) ≡ true
-later m n p q h k = grind (arith, nat_tests)
 
 -- of the person's steps one at t or before
 abbrev pub is_next_by : List Step → List ℕ → ℕ → Bool
@@ -111,30 +90,19 @@ is_next_by steps who t = list_any (λ other. same_text other.who who && nat_le o
 followed-back : (step : Step) (t : ℕ) (back : List Step) → AllByRecursion (λ other. before other step ≡ false) back → AllByRecursion (λ other. (other.place == step.place) ≡ false) back
     → list_any (λ other. follows step other && nat_le other.at t) back ≡ is_next_by back step.who t
 followed-back step t [] a b = refl
-followed-back step t (other ∷ back) a b =
-    ap (λ x. ((same_text other.who step.who && x) && nat_le other.at t) || list_any (λ other. follows step other && nat_le other.at t) back) (later step.at other.at step.place other.place a.0 b.0)
-    ∙ ap (λ x. (x && nat_le other.at t) || list_any (λ other. follows step other && nat_le other.at t) back) (and-true (same_text other.who step.who))
-    ∙ ap (λ x. (same_text other.who step.who && nat_le other.at t) || x) (followed-back step t back a.1 b.1)
+followed-back step t (other ∷ back) a b = grind (arith, nat_tests, a.0, b.0, followed-back step t back a.1 b.1)
 
 followed-front : (step : Step) (t : ℕ) (front : List Step) → AllByRecursion (λ other. before step other ≡ false) front → list_any (λ other. follows step other && nat_le other.at t) front ≡ false
 followed-front step t [] a = refl
-followed-front step t (other ∷ front) a =
-    ap (λ x. ((same_text other.who step.who && x) && nat_le other.at t) || list_any (λ other. follows step other && nat_le other.at t) front) a.0
-    ∙ ap (λ x. (x && nat_le other.at t) || list_any (λ other. follows step other && nat_le other.at t) front) (and-false (same_text other.who step.who))
-    ∙ followed-front step t front a.1
-
-not-itself : (m p : ℕ) → (nat_lt m m || (m == m && nat_lt p p)) ≡ false
-not-itself m p = grind (arith, nat_tests)
+followed-front step t (other ∷ front) a = grind (arith, nat_tests, a.0, followed-front step t front a.1)
 
 -- the steps that follow are those of the person that stand behind
 followed : (front back : List Step) (step : Step) (t : ℕ) → AreSorted (front ++ (step ∷ back)) → count_by (λ other. other.place == step.place) (front ++ (step ∷ back)) ≤ 1
     → list_any (λ other. follows step other && nat_le other.at t) (front ++ (step ∷ back)) ≡ is_next_by back step.who t
 followed front back step t sorted once =
-    list_any-append (λ other. follows step other && nat_le other.at t) front (step ∷ back)
-    ∙ ap (λ x. x || list_any (λ other. follows step other && nat_le other.at t) (step ∷ back)) (followed-front step t front (ahead front back step sorted))
-    ∙ ap (λ x. ((same_text step.who step.who && x) && nat_le step.at t) || list_any (λ other. follows step other && nat_le other.at t) back) (not-itself step.at step.place)
-    ∙ ap (λ x. (x && nat_le step.at t) || list_any (λ other. follows step other && nat_le other.at t) back) (and-false (same_text step.who step.who))
-    ∙ followed-back step t back (behind front back step sorted) (apart front back step once)
+    let none = followed-front step t front (ahead front back step sorted) in
+    let same = followed-back step t back (behind front back step sorted) (apart front back step once) in
+    list_any-append (λ other. follows step other && nat_le other.at t) front (step ∷ back) ∙ grind (arith, nat_tests, none, same)
 
 -- GONE THROUGH FROM THE LAST ONE BACK
 
@@ -155,33 +123,13 @@ told-init rows all next ends none many =
       many = many;
     }
 
--- a step that is not later than the others is the next of its person
-nearer : (m t : ℕ) (rest : Bool) → (nat_le m t ≡ false → rest ≡ false) → nat_lt t m ≡ not (nat_le m t || rest)
-nearer m t rest h = by_test (nat_le m t) refl
-  where
-    by_test : (b : Bool) → nat_le m t ≡ b → nat_lt t m ≡ not (nat_le m t || rest)
-    by_test true e = rw e (le-ltb t m (leb-true m t e))
-    by_test false e = rw (e, h e) (lt-ltb t m (leb-false m t e))
-
-not-sooner : (m n p q : ℕ) → (nat_lt n m || (n == m && nat_lt q p)) ≡ false → m ≤ n
-not-sooner m n p q h = grind (arith, nat_tests)
-
 none-next : (step : Step) (t : ℕ) (who : List ℕ) (back : List Step) → AllByRecursion (λ other. before other step ≡ false) back → nat_le step.at t ≡ false → is_next_by back who t ≡ false
 none-next step t who [] a h = refl
-none-next step t who (other ∷ back) a h =
-    let l = not-sooner step.at other.at step.place other.place a.0 in
-    let k : nat_le other.at t ≡ false = lt-leb other.at t (omega (arith, leb-false step.at t h, l)) in
-    ap (λ b. (same_text other.who who && b) || is_next_by back who t) k
-    ∙ ap (λ b. b || is_next_by back who t) (and-false (same_text other.who who))
-    ∙ none-next step t who back a.1 h
+none-next step t who (other ∷ back) a h = grind (arith, nat_tests, a.0, h, none-next step t who back a.1)
 
 soon-more : (step : Step) (back : List Step) (found : Option ℕ) (who : List ℕ) (t : ℕ) → AllByRecursion (λ other. before other step ≡ false) back → lasts_at t found ≡ not (is_next_by back who t)
     → lasts_at t (cond (same_text step.who who) (Some step.at) found) ≡ not (is_next_by (step ∷ back) who t)
-soon-more step back found who t a h = by_same (same_text step.who who)
-  where
-    by_same : (b : Bool) → lasts_at t (cond b (Some step.at) found) ≡ not ((b && nat_le step.at t) || is_next_by back who t)
-    by_same true = nearer step.at t (is_next_by back who t) (none-next step t who back a)
-    by_same false = h
+soon-more step back found who t a h = grind (arith, nat_tests, h, none-next step t who back a)
 
 -- an end that is written at another place changes none of these
 kept : (all : List Step) (ends : List (Option ℕ)) (place : ℕ) (until : Option ℕ) (steps : List Step) → AllByRecursion (λ other. (other.place == place) ≡ false) steps
