@@ -1,7 +1,9 @@
 -- Every act keeps balance.
-use Rattle.std.proofs.Common.{◌≡◌, ℕ, Bool, true, false, cond, not, ◌||◌, ◌&&◌, List, [], ◌∷◌, map, filter, find, Option, Some, None, option_map, is_some, is_none, refl, sym, ap, ◌∙◌, subst}
+use Rattle.std.proofs.Common.{◌≡◌, ℕ, Bool, true, false, cond, not, ◌||◌, ◌&&◌, List, [], ◌∷◌, map, filter, find, Option, Some, None, option_map, is_some, is_none, refl, sym, ap, ◌∙◌, arith}
 use Rattle.std.specs.List.{list_any, list_all}
-use Rattle.std.proofs.lemmas.Bool.{true≢false, false≢true, and_parts, and_from}
+use Rattle.std.proofs.lemmas.Bool.Decides.{nat_tests}
+use Rattle.std.proofs.lemmas.Bool.{true≢false, or_parts, and_from}
+use Rattle.kcr_base.proofs.RefuseLemmas.{none_holds, unmet}
 use Rattle.kcr_base.specs.Same.{same_text, same_place}
 use Rattle.kcr_base.specs.Refuse.{when, first_of}
 use Rattle.kcr_base.specs.declared.place.Facility.{Facility}
@@ -22,51 +24,22 @@ use Rattle.kcr_custody.specs.declared.Store.TheVariants.{SafeOne, Boxed}
 use Rattle.kcr_custody.specs.Custody.{is_box, place_of_box_by, spot_by, rest_by, spot_of_store, is_within, lies_in, loose, within, loosened, packed, no_ceremony, not_ready, no_item, no_box, box_of_store, add_box_conditions, add_box_refusal, put_conditions, put_refusal, seal_conditions, seal_refusal}
 use Rattle.kcr_base.specs.Rows.{put, put_all}
 use Rattle.kcr_custody.specs.Balance.{same_box, same_bag, same_item, all_differ, holds_items, is_kept, has_its_box, IsBalanced}
-use Rattle.kcr_custody.proofs.Puts.{text_refl, text_flip, or_true, all_mono, all_put_kept, all_put_all, any_key, keys_stay, keys_stay_all, found_any, differ_put, differ_put_all, find_put}
-
--- no refusal of the list holds
-abbrev pub NoneHolds : List (Option Refusal) → Type 0
-NoneHolds [] = Unit {0}
-NoneHolds (o ∷ os) = (o ≡ None) × NoneHolds os
-
-pub none_holds : (os : List (Option Refusal)) → first_of os ≡ None → NoneHolds os
-none_holds [] h = tt
-none_holds (Some r ∷ os) h = absurd (let e : Some r ≡ None = h in cc)
-none_holds (None ∷ os) h = (refl, none_holds os h)
-
-pub unmet : (b : Bool) (r : Refusal) → when b r ≡ None → b ≡ false
-unmet true r h = absurd (let e : Some r ≡ None = h in cc)
-unmet false r h = refl
-
-pub or_parts : (x y : Bool) → (x || y) ≡ false → (x ≡ false) × (y ≡ false)
-or_parts true y h = absurd (true≢false h)
-or_parts false y h = (refl, h)
+use Rattle.kcr_custody.proofs.Puts.{text_refl, text_flip, all_mono, all_put_kept, all_put_all, any_key, keys_stay, keys_stay_all, found_any, differ_put, differ_put_all, find_put}
 
 all_both : {X : Type 0} (P Q R : X → Bool) → ((x : X) → P x ≡ true → Q x ≡ true → R x ≡ true) → (xs : List X) → list_all P xs ≡ true → list_all Q xs ≡ true → list_all R xs ≡ true
 all_both P Q R f [] g h = refl
-all_both P Q R f (x ∷ xs) g h =
-    let p = and_parts (P x) (list_all P xs) g in
-    let q = and_parts (Q x) (list_all Q xs) h in
-    and_from (R x) (list_all R xs) (f x p.0 q.0) (all_both P Q R f xs p.1 q.1)
+all_both P Q R f (x ∷ xs) g h = grind (arith, nat_tests, g, h, f x, all_both P Q R f xs)
 
 -- BAGS
 
 -- where the bags are after a row is put
 pub spot_put : (bag : Bag) (bags : List Bag) (s : List ℕ) → spot_by (put same_bag bag bags) s ≡ cond (same_text bag.serial s) (Some bag.spot) (spot_by bags s)
-spot_put bag bags s = ap (option_map (λ row. row.spot)) (find_put (λ row. row.serial) bag bags s) ∙ by_test (same_text bag.serial s)
-  where
-    by_test : (b : Bool) → option_map (λ row. row.spot) (cond b (Some bag) (find (λ row. same_text row.serial s) bags)) ≡ cond b (Some bag.spot) (spot_by bags s)
-    by_test true = refl
-    by_test false = refl
+spot_put bag bags s = grind (arith, nat_tests, find_put (λ row. row.serial) bag bags s)
 
 -- what was kept is kept after a bag is moved
 kept_put : (bag : Bag) (bags : List Bag) → holds_items (Some bag.spot) ≡ true → (r : Rest) → is_kept bags r ≡ true → is_kept (put same_bag bag bags) r ≡ true
 kept_put bag bags u (Loose f) h = refl
-kept_put bag bags u (Within s) h = rw (spot_put bag bags s) (by_test (same_text bag.serial s))
-  where
-    by_test : (b : Bool) → holds_items (cond b (Some bag.spot) (spot_by bags s)) ≡ true
-    by_test true = u
-    by_test false = h
+kept_put bag bags u (Within s) h = grind (arith, nat_tests, u, h, spot_put bag bags s)
 
 -- and after another bag is cut
 kept_spent : (serial : List ℕ) (bags : List Bag) (r : Rest) → is_kept bags r ≡ true → is_within serial r ≡ false → is_kept (put same_bag (record { serial = serial; spot = Spent }) bags) r ≡ true
@@ -118,11 +91,7 @@ add_box_keeps boxes bags items is_full row h n =
     one (Table f) g = refl
     one (Equipment f) g = refl
     one Spent g = refl
-    one (InBox f k) g = by_test (is_box f k row)
-      where
-        by_test : (b : Bool) → is_some (option_map (λ r. r.place) (cond b (Some row) (find (is_box f k) boxes))) ≡ true
-        by_test true = refl
-        by_test false = g
+    one (InBox f k) g = grind (arith, nat_tests, g)
 
 -- ITEMS
 
@@ -166,24 +135,14 @@ loose_kept bags facility (row ∷ rows) = loose_kept bags facility rows
 all_loosened : (serial : List ℕ) (facility : Facility) (items : List Item)
     → list_all (λ old. not (lies_in serial old) || list_any (λ c. same_item c old) (loosened items serial facility)) items ≡ true
 all_loosened serial facility [] = refl
-all_loosened serial facility (row ∷ rows) = by_test (lies_in serial row) refl (all_loosened serial facility rows)
+all_loosened serial facility (row ∷ rows) =
+    let more = all_mono (λ old. not (lies_in serial old) || list_any (λ c. same_item c old) (loosened rows serial facility))
+        (λ old. not (lies_in serial old) || (same_text old.code row.code || list_any (λ c. same_item c old) (loosened rows serial facility))) weaker rows in
+    grind (arith, nat_tests, text_refl row.code, all_loosened serial facility rows, more)
   where
-    weaker : (x y z : Bool) → (x || y) ≡ true → (x || (z || y)) ≡ true
-    weaker true y z g = refl
-    weaker false y true g = refl
-    weaker false y false g = g
-
-    by_test : (b : Bool) → lies_in serial row ≡ b
-        → list_all (λ old. not (lies_in serial old) || list_any (λ c. same_item c old) (loosened rows serial facility)) rows ≡ true
-        → list_all (λ old. not (lies_in serial old) || list_any (λ c. same_item c old) (map (loose facility) (cond b (row ∷ filter (lies_in serial) rows) (filter (lies_in serial) rows)))) (row ∷ rows) ≡ true
-    by_test true e ih =
-        and_from (not (lies_in serial row) || (same_text row.code row.code || list_any (λ c. same_item c row) (loosened rows serial facility))) _
-        (or_true (not (lies_in serial row)) (rw (text_refl row.code)))
-        (all_mono (λ old. not (lies_in serial old) || list_any (λ c. same_item c old) (loosened rows serial facility))
-        (λ old. not (lies_in serial old) || (same_text old.code row.code || list_any (λ c. same_item c old) (loosened rows serial facility)))
-        (λ old g. weaker (not (lies_in serial old)) (list_any (λ c. same_item c old) (loosened rows serial facility)) (same_text old.code row.code) g) rows ih)
-    by_test false e ih =
-        and_from (not (lies_in serial row) || list_any (λ c. same_item c row) (loosened rows serial facility)) _ (rw e) ih
+    weaker : (old : Item) → (not (lies_in serial old) || list_any (λ c. same_item c old) (loosened rows serial facility)) ≡ true
+        → (not (lies_in serial old) || (same_text old.code row.code || list_any (λ c. same_item c old) (loosened rows serial facility))) ≡ true
+    weaker old g = grind (arith, nat_tests, g)
 
 pub cut_keeps : (facility : Facility) (boxes : List BoxRow) (bags : List Bag) (items : List Item) (serial : List ℕ)
     → IsBalanced boxes bags items
@@ -196,15 +155,13 @@ cut_keeps facility boxes bags items serial h =
       kept = all_put_all same_item (λ row. is_kept (put same_bag bag bags) row.rest) (loosened items serial facility) items
           (loose_kept (put same_bag bag bags) facility (filter (lies_in serial) items))
           (all_both (λ row. is_kept bags row.rest) (λ old. not (lies_in serial old) || list_any (λ c. same_item c old) (loosened items serial facility))
-          (λ row. is_kept (put same_bag bag bags) row.rest || list_any (λ c. same_item c row) (loosened items serial facility))
-          (λ row k g. one row k (is_within serial row.rest) refl g) items h.kept (all_loosened serial facility items));
+          (λ row. is_kept (put same_bag bag bags) row.rest || list_any (λ c. same_item c row) (loosened items serial facility)) one items h.kept (all_loosened serial facility items));
       boxed = all_put_kept same_bag (λ row. has_its_box boxes row.spot) bag bags refl h.boxed;
     }
   where
-    one : (row : Item) → is_kept bags row.rest ≡ true → (b : Bool) → is_within serial row.rest ≡ b → (not b || list_any (λ c. same_item c row) (loosened items serial facility)) ≡ true
+    one : (row : Item) → is_kept bags row.rest ≡ true → (not (lies_in serial row) || list_any (λ c. same_item c row) (loosened items serial facility)) ≡ true
         → (is_kept (put same_bag (record { serial = serial; spot = Spent }) bags) row.rest || list_any (λ c. same_item c row) (loosened items serial facility)) ≡ true
-    one row k true e g = or_true (is_kept (put same_bag (record { serial = serial; spot = Spent }) bags) row.rest) g
-    one row k false e g = rw (kept_spent serial bags row.rest k e)
+    one row k g = grind (arith, nat_tests, g, kept_spent serial bags row.rest k)
 
 -- NO ITEM IS LOST
 
@@ -213,15 +170,9 @@ is_there items c = list_any (same_text c.code) (map (λ row. row.code) items)
 
 packed_there : (items : List Item) (serial : List ℕ) (codes : List (List ℕ)) → no_item items codes ≡ None → list_all (is_there items) (packed serial codes) ≡ true
 packed_there items serial [] h = refl
-packed_there items serial (code ∷ codes) h = by_test (is_none (rest_by items code)) refl h (packed_there items serial codes)
-  where
-    by_test : (b : Bool) → is_none (rest_by items code) ≡ b
-        → option_map (λ k. Unknown (Things.Item k)) (cond b (Some code) (find (λ k. is_none (rest_by items k)) codes)) ≡ None
-        → (no_item items codes ≡ None → list_all (is_there items) (packed serial codes) ≡ true)
-        → list_all (is_there items) (packed serial (code ∷ codes)) ≡ true
-    by_test true e g ih = absurd (let q : Some (Unknown (Things.Item code)) ≡ None = g in cc)
-    by_test false e g ih =
-        and_from (is_there items (within serial code)) (list_all (is_there items) (packed serial codes)) (found_any (λ row. row.code) (λ row. row.rest) code items e) (ih g)
+packed_there items serial (code ∷ codes) h =
+    let found : is_none (rest_by items code) ≡ false → is_there items (within serial code) ≡ true = found_any (λ row. row.code) (λ row. row.rest) code items in
+    grind (arith, nat_tests, h, found, packed_there items serial codes)
 
 -- the items of a seal are the items that there were
 pub seal_stays : (scene : Scene) (bags : List Bag) (items : List Item) (serial : List ℕ) (codes : List (List ℕ)) → seal_refusal scene bags items serial codes ≡ None
@@ -232,13 +183,11 @@ seal_stays scene bags items serial codes n =
 loosened_there : (serial : List ℕ) (facility : Facility) (items : List Item) → list_all (is_there items) (loosened items serial facility) ≡ true
 loosened_there serial facility [] = refl
 loosened_there serial facility (row ∷ rows) =
-    by_test (lies_in serial row)
-    (all_mono (is_there rows) (is_there (row ∷ rows)) (λ c g. or_true (same_text c.code row.code) g) (loosened rows serial facility) (loosened_there serial facility rows))
+    let more = all_mono (is_there rows) (is_there (row ∷ rows)) weaker (loosened rows serial facility) (loosened_there serial facility rows) in
+    grind (arith, nat_tests, more, text_refl row.code)
   where
-    by_test : (b : Bool) → list_all (is_there (row ∷ rows)) (loosened rows serial facility) ≡ true
-        → list_all (is_there (row ∷ rows)) (map (loose facility) (cond b (row ∷ filter (lies_in serial) rows) (filter (lies_in serial) rows))) ≡ true
-    by_test true ih = and_from (is_there (row ∷ rows) (loose facility row)) (list_all (is_there (row ∷ rows)) (loosened rows serial facility)) (rw (text_refl row.code)) ih
-    by_test false ih = ih
+    weaker : (c : Item) → is_there rows c ≡ true → is_there (row ∷ rows) c ≡ true
+    weaker c g = grind (arith, nat_tests, g)
 
 -- the items after a cut are the items that there were
 pub cut_stays : (serial : List ℕ) (facility : Facility) (items : List Item)
