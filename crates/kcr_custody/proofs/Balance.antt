@@ -1,13 +1,11 @@
 -- Every act keeps balance.
-use Rattle.std.proofs.Common.{◌≡◌, ℕ, Bool, true, false, cond, not, ◌||◌, ◌&&◌, List, [], ◌∷◌, map, filter, find, Option, Some, None, option_map, is_some, is_none, refl, sym, ap, ◌∙◌, arith}
+use Rattle.std.proofs.Common.{◌≡◌, ℕ, Bool, true, false, cond, not, ◌||◌, List, [], ◌∷◌, map, filter, Option, Some, None, is_some, is_none, refl, arith}
 use Rattle.std.specs.List.{list_any, list_all}
 use Rattle.std.proofs.lemmas.Bool.Decides.{nat_tests}
 use Rattle.std.proofs.lemmas.Bool.{true≢false, or_parts, and_from}
 use Rattle.kcr_base.proofs.RefuseLemmas.{none_holds, unmet}
 use Rattle.kcr_base.specs.Same.{same_text, same_place}
-use Rattle.kcr_base.specs.Refuse.{when, first_of}
 use Rattle.kcr_base.specs.declared.place.Facility.{Facility}
-use Rattle.kcr_base.specs.declared.refusal.Refusal.{Refusal}
 use Rattle.kcr_base.specs.declared.refusal.Refusal.TheVariants.{Unknown, Taken}
 use Rattle.kcr_base.specs.declared.refusal.Thing.TheVariants as Things
 use Rattle.kcr_custody.specs.declared.Scene.{Scene}
@@ -21,10 +19,10 @@ use Rattle.kcr_custody.specs.declared.Bag.{Bag}
 use Rattle.kcr_custody.specs.declared.Item.{Item}
 use Rattle.kcr_custody.specs.declared.Store.{Store}
 use Rattle.kcr_custody.specs.declared.Store.TheVariants.{SafeOne, Boxed}
-use Rattle.kcr_custody.specs.Custody.{is_box, place_of_box_by, spot_by, rest_by, spot_of_store, is_within, lies_in, loose, within, loosened, packed, no_ceremony, not_ready, no_item, no_box, box_of_store, add_box_conditions, add_box_refusal, put_conditions, put_refusal, seal_conditions, seal_refusal}
+use Rattle.kcr_custody.specs.Custody.{is_box, place_of_box_by, spot_by, rest_by, spot_of_store, is_within, lies_in, loose, within, loosened, packed, no_item, add_box_conditions, add_box_refusal, put_conditions, put_refusal, seal_conditions, seal_refusal}
 use Rattle.kcr_base.specs.Rows.{put, put_all}
-use Rattle.kcr_custody.specs.Balance.{same_box, same_bag, same_item, all_differ, holds_items, is_kept, has_its_box, IsBalanced}
-use Rattle.kcr_custody.proofs.Puts.{text_refl, text_flip, all_mono, all_put_kept, all_put_all, any_key, keys_stay, keys_stay_all, found_any, differ_put, differ_put_all, find_put}
+use Rattle.kcr_custody.specs.Balance.{same_box, same_bag, same_item, holds_items, is_kept, has_its_box, IsBalanced}
+use Rattle.kcr_custody.proofs.Puts.{text_refl, text_flip, all_mono, all_put_kept, all_put_all, keys_stay_all, found_any, differ_put, differ_put_all, find_put}
 
 all_both : {X : Type 0} (P Q R : X → Bool) → ((x : X) → P x ≡ true → Q x ≡ true → R x ≡ true) → (xs : List X) → list_all P xs ≡ true → list_all Q xs ≡ true → list_all R xs ≡ true
 all_both P Q R f [] g h = refl

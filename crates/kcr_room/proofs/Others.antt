@@ -1,21 +1,18 @@
 -- Rows added for one ceremony leave the rooms of the others as they are.
-use Rattle.std.proofs.Common.{◌≡◌, ℕ, suc, Bool, true, false, cond, ◌||◌, ◌&&◌, ◌==◌, nat_le, List, [], ◌∷◌, ◌++◌, map, length, Option, Some, None, refl, sym, ap, ◌∙◌, arith, subst, append-nil}
+use Rattle.std.proofs.Common.{◌≡◌, ℕ, Bool, true, false, cond, ◌&&◌, ◌==◌, nat_le, List, [], ◌∷◌, ◌++◌, map, length, Option, Some, None, refl, sym, ap, ◌∙◌, arith, append-nil}
 use Rattle.std.specs.List.{list_any, filter, find}
 use Rattle.std.proofs.lemmas.Bool.Decides.{nat_tests}
-use Rattle.std.proofs.lemmas.Bool.{and_parts, or_parts, eqb-true, not-false}
-use Rattle.std.proofs.Math.Bool.{and-false}
+use Rattle.std.proofs.lemmas.Bool.{or_parts}
 use Rattle.std.proofs.lemmas.List.Sums.{length-filter}
 use Rattle.std.proofs.lemmas.List.Elements.{filter-append}
 use Rattle.kcr_base.specs.Same.{same_text}
-use Rattle.kcr_base.specs.Refuse.{when}
-use Rattle.kcr_base.specs.declared.refusal.Refusal.TheVariants.{Late}
 use Rattle.kcr_room.specs.declared.Way.{Way}
 use Rattle.kcr_room.specs.declared.Way.TheVariants.{Enter, Leave}
 use Rattle.kcr_room.specs.declared.SheetRow.{SheetRow}
 use Rattle.kcr_room.specs.declared.Stay.{Stay}
-use Rattle.kcr_room.specs.Room.{is_enter, last_enters, last_row_of}
+use Rattle.kcr_room.specs.Room.{last_enters, last_row_of}
 use Rattle.kcr_room.specs.Stays.{lasts_at, holds, crowd_in_by, stays_by}
-use Rattle.kcr_room.specs.Adding.{is_open, is_inside_of, is_among, new_stay, closed, turn_refusal, sheet_refusal, is_no_turn, is_out_of_turn, is_out_of_turn_by, new_row}
+use Rattle.kcr_room.specs.Adding.{is_open, is_inside_of, is_among, new_stay, closed, turn_refusal, is_out_of_turn, is_out_of_turn_by, new_row}
 use Rattle.kcr_room.specs.Laws.{OthersKeep}
 use Rattle.kcr_room.proofs.Agreement.{same-crowd, same-is, same-itself}
 use Rattle.kcr_room.proofs.Keeping.{taken, none-found}
