@@ -18,7 +18,7 @@ use Rattle.kcr_room.specs.Stays.{sooner, next_onto, stay_from, stays_by}
 use Rattle.kcr_room.specs.Ends.{steps_from, steps_by}
 use Rattle.kcr_room.specs.Laws.{in_turn_onto, IsSheet, ShareNoMoment}
 use Rattle.kcr_room.proofs.Lists.{any-filter, map-same, count-cons, none-behind, IsPermutation-filter}
-use Rattle.kcr_room.proofs.Agreement.{same-is, same-itself, of_person, next-lasts, same-present, same-crowd}
+use Rattle.kcr_room.proofs.Agreement.{begun, same-is, same-itself, of_person, next-lasts, same-present, same-crowd}
 use Rattle.kcr_room.proofs.Ends.{step_at, until_in, end-unique, told_from, stays-told}
 use Rattle.kcr_room.proofs.Refusals.{first-unique, ever-unique}
 use Rattle.kcr_room.proofs.Orders.{crowd-order, present-order}
@@ -67,11 +67,14 @@ plain all rows = map (λ row. stay_from row (next_onto None row all)) (filter (�
 plain-from : (front back : List SheetRow) → ShareNoMoment (front ++ back) → told_from (steps_by (front ++ back)) (length front) back ≡ plain (front ++ back) back
 plain-from front [] h = refl
 plain-from front (row ∷ back) h =
-    ap (λ until. cond (is_enter row.way) (stay_from row until ∷ []) [] ++ told_from (steps_by (front ++ (row ∷ back))) (suc (length front)) back) (next-told front back row h)
-    ∙ ap (λ rest. cond (is_enter row.way) (stay_from row (next_onto None row (front ++ (row ∷ back))) ∷ []) [] ++ rest) (rest (front ++ (row ∷ [])) (append_assoc front (row ∷ []) back) (omega (arith, length-append front (row ∷ []))) (plain-from (front ++ (row ∷ [])) back))
+    let all : List SheetRow = front ++ (row ∷ back) in
+    let more : List SheetRow = front ++ (row ∷ []) in
+    ap (λ until. begun row until ++ told_from (steps_by all) (suc (length front)) back) (next-told front back row h)
+    ∙ ap (λ rest. begun row (next_onto None row all) ++ rest) (rest more (append_assoc front (row ∷ []) back) (omega (arith, length-append front (row ∷ []))) (plain-from more back))
     ∙ by_way (is_enter row.way)
   where
-    rest : (more : List SheetRow) → more ++ back ≡ front ++ (row ∷ back) → length more ≡ suc (length front) → (ShareNoMoment (more ++ back) → told_from (steps_by (more ++ back)) (length more) back ≡ plain (more ++ back) back)
+    rest : (more : List SheetRow) → more ++ back ≡ front ++ (row ∷ back) → length more ≡ suc (length front)
+        → (ShareNoMoment (more ++ back) → told_from (steps_by (more ++ back)) (length more) back ≡ plain (more ++ back) back)
         → told_from (steps_by (front ++ (row ∷ back))) (suc (length front)) back ≡ plain (front ++ (row ∷ back)) back
     rest more e n ih =
         ap (λ k. told_from (steps_by (front ++ (row ∷ back))) k back) (sym n)

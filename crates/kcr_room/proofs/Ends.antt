@@ -12,7 +12,7 @@ use Rattle.kcr_room.specs.declared.stays.Step.{Step}
 use Rattle.kcr_room.specs.Room.{is_enter, is_ahead}
 use Rattle.kcr_room.specs.Stays.{lasts_at, sooner, cut, next_onto, stay_from, stays_next, stays_onto, stays_by}
 use Rattle.kcr_room.specs.Ends.{steps_from, steps_by, follows, IsEnd, stays_with}
-use Rattle.kcr_room.proofs.Agreement.{same-turned, lasts-sooner}
+use Rattle.kcr_room.proofs.Agreement.{begun, same-turned, lasts-sooner}
 
 -- a row at a place
 abbrev pub step_at : ℕ → SheetRow → Step
@@ -44,9 +44,10 @@ end-is steps step until h = end-unique until (until_in None step steps) (λ t. h
 -- the stays of rows of which the first has this place, each with its end among all steps
 abbrev pub told_from : List Step → ℕ → List SheetRow → List Stay
 told_from all place [] = []
-told_from all place (row ∷ rows) = cond (is_enter row.way) (stay_from row (until_in None (step_at place row) all) ∷ []) [] ++ told_from all (suc place) rows
+told_from all place (row ∷ rows) = begun row (until_in None (step_at place row) all) ++ told_from all (suc place) rows
 
-until-append : (found : Option ℕ) (step other : Step) (steps : List Step) → until_in found step (steps ++ (other ∷ [])) ≡ cond (follows step other) (Some (sooner other.at (until_in found step steps))) (until_in found step steps)
+until-append : (found : Option ℕ) (step other : Step) (steps : List Step)
+    → until_in found step (steps ++ (other ∷ [])) ≡ cond (follows step other) (Some (sooner other.at (until_in found step steps))) (until_in found step steps)
 until-append found step other [] = refl
 until-append found step other (next ∷ steps) = until-append (cond (follows step next) (Some (sooner next.at found)) found) step other steps
 
@@ -54,67 +55,64 @@ steps-append : (place : ℕ) (rows : List SheetRow) (row : SheetRow) → steps_f
 steps-append place [] row = let e : place ≡ place + 0 = omega arith in ap (λ n. step_at n row ∷ []) e
 steps-append place (other ∷ rows) row =
     let e : suc place + length rows ≡ place + suc (length rows) = omega arith in
-    ap (λ rest. step_at place other ∷ rest) (steps-append (suc place) rows row ∙ ap (λ n. steps_from (suc place) rows ++ (step_at n row ∷ [])) e)
+    rw (steps-append (suc place) rows row) (ap (λ n. step_at place other ∷ (steps_from (suc place) rows ++ (step_at n row ∷ []))) e)
 
-told-append : (all : List Step) (place : ℕ) (rows : List SheetRow) (row : SheetRow) → told_from all place (rows ++ (row ∷ [])) ≡ told_from all place rows ++ cond (is_enter row.way) (stay_from row (until_in None (step_at (place + length rows) row) all) ∷ []) []
+told-append : (all : List Step) (place : ℕ) (rows : List SheetRow) (row : SheetRow)
+    → told_from all place (rows ++ (row ∷ [])) ≡ told_from all place rows ++ begun row (until_in None (step_at (place + length rows) row) all)
 told-append all place [] row =
-    let e : place ≡ place + 0 = omega arith in
-    append-nil (cond (is_enter row.way) (stay_from row (until_in None (step_at place row) all) ∷ []) [])
-    ∙ ap (λ n. cond (is_enter row.way) (stay_from row (until_in None (step_at n row) all) ∷ []) []) e
+    let e : place ≡ place + 0 = omega arith in append-nil (begun row (until_in None (step_at place row) all)) ∙ ap (λ n. begun row (until_in None (step_at n row) all)) e
 told-append all place (other ∷ rows) row =
-    let first : List Stay = cond (is_enter other.way) (stay_from other (until_in None (step_at place other) all) ∷ []) [] in
+    let first : List Stay = begun other (until_in None (step_at place other) all) in
     let e : suc place + length rows ≡ place + suc (length rows) = omega arith in
-    ap (λ rest. first ++ rest) (told-append all (suc place) rows row ∙ ap (λ n. told_from all (suc place) rows ++ cond (is_enter row.way) (stay_from row (until_in None (step_at n row) all) ∷ []) []) e)
-    ∙ sym (append_assoc first (told_from all (suc place) rows) (cond (is_enter row.way) (stay_from row (until_in None (step_at (place + suc (length rows)) row) all) ∷ []) []))
-
-later-listed : (m n p q : ℕ) → p < q → (nat_lt m n || (m == n && nat_lt p q)) ≡ nat_le m n
-later-listed m n p q h = grind (arith, nat_tests)
-
-sooner-listed : (m n p q : ℕ) → q ≤ p → (nat_lt m n || (m == n && nat_lt p q)) ≡ nat_lt m n
-sooner-listed m n p q h = grind (arith, nat_tests)
+    ap (λ rest. first ++ rest) (told-append all (suc place) rows row)
+    ∙ ap (λ n. first ++ (told_from all (suc place) rows ++ begun row (until_in None (step_at n row) all))) e
+    ∙ sym (append_assoc first (told_from all (suc place) rows) (begun row (until_in None (step_at (place + suc (length rows)) row) all)))
 
 -- a row listed behind cuts the stay of a row at its end
-cut-one : (place last : ℕ) (other row : SheetRow) (all : List Step) → place < last → cut row (stay_from other (until_in None (step_at place other) all)) ≡ stay_from other (until_in None (step_at place other) (all ++ (step_at last row ∷ [])))
+cut-one : (place last : ℕ) (other row : SheetRow) (all : List Step) → place < last
+    → cut row (stay_from other (until_in None (step_at place other) all)) ≡ stay_from other (until_in None (step_at place other) (all ++ (step_at last row ∷ [])))
 cut-one place last other row all h =
-    ap (λ b. stay_from other (cond b (Some (sooner row.at (until_in None (step_at place other) all))) (until_in None (step_at place other) all)))
-    (ap (λ b. b && nat_le other.at row.at) (same-turned other.who row.who) ∙ ap (λ b. same_text row.who other.who && b) (sym (later-listed other.at row.at place last h)))
+    let until = until_in None (step_at place other) all in
+    ap (λ b. stay_from other (cond b (Some (sooner row.at until)) until)) listed
     ∙ ap (λ until. stay_from other until) (sym (until-append None (step_at place other) (step_at last row) all))
+  where
+    listed : (same_text other.who row.who && nat_le other.at row.at) ≡ follows (step_at place other) (step_at last row)
+    listed = grind (arith, nat_tests, h, same-turned other.who row.who)
 
-cut-told : (last : ℕ) (row : SheetRow) (all : List Step) (place : ℕ) (rows : List SheetRow) → place + length rows ≤ last → map (cut row) (told_from all place rows) ≡ told_from (all ++ (step_at last row ∷ [])) place rows
+cut-told : (last : ℕ) (row : SheetRow) (all : List Step) (place : ℕ) (rows : List SheetRow) → place + length rows ≤ last
+    → map (cut row) (told_from all place rows) ≡ told_from (all ++ (step_at last row ∷ [])) place rows
 cut-told last row all place [] h = refl
 cut-told last row all place (other ∷ rows) h =
-    map-append (cut row) (cond (is_enter other.way) (stay_from other (until_in None (step_at place other) all) ∷ []) []) (told_from all (suc place) rows)
-    ∙ ap (λ rest. map (cut row) (cond (is_enter other.way) (stay_from other (until_in None (step_at place other) all) ∷ []) []) ++ rest) (cut-told last row all (suc place) rows (omega arith))
-    ∙ by_way (is_enter other.way)
-  where
-    by_way : (b : Bool) → map (cut row) (cond b (stay_from other (until_in None (step_at place other) all) ∷ []) []) ++ told_from (all ++ (step_at last row ∷ [])) (suc place) rows
-        ≡ cond b (stay_from other (until_in None (step_at place other) (all ++ (step_at last row ∷ []))) ∷ []) [] ++ told_from (all ++ (step_at last row ∷ [])) (suc place) rows
-    by_way true = ap (λ stay. stay ∷ told_from (all ++ (step_at last row ∷ [])) (suc place) rows) (cut-one place last other row all (omega arith))
-    by_way false = refl
+    grind (arith, nat_tests, cut-one place last other row all (omega arith), cut-told last row all (suc place) rows (omega arith))
 
 -- of the rows listed before, those follow that are ahead
-next-before : (row : SheetRow) (last place : ℕ) (before : List SheetRow) (found : Option ℕ) → place + length before ≤ last → until_in found (step_at last row) (steps_from place before) ≡ next_onto found row before
+next-before : (row : SheetRow) (last place : ℕ) (before : List SheetRow) (found : Option ℕ) → place + length before ≤ last
+    → until_in found (step_at last row) (steps_from place before) ≡ next_onto found row before
 next-before row last place [] found h = refl
 next-before row last place (other ∷ before) found h =
-    ap (λ b. until_in (cond b (Some (sooner other.at found)) found) (step_at last row) (steps_from (suc place) before)) (ap (λ b. same_text other.who row.who && b) (sooner-listed row.at other.at last place (omega arith)))
+    ap (λ b. until_in (cond b (Some (sooner other.at found)) found) (step_at last row) (steps_from (suc place) before)) listed
     ∙ next-before row last (suc place) before (cond (is_ahead row other) (Some (sooner other.at found)) found) (omega arith)
+  where
+    listed : follows (step_at last row) (step_at place other) ≡ is_ahead row other
+    listed = grind (arith, nat_tests, h)
 
 next-last : (row : SheetRow) (before : List SheetRow) → until_in None (step_at (length before) row) (steps_from 0 before ++ (step_at (length before) row ∷ [])) ≡ next_onto None row before
 next-last row before =
-    let e : follows (step_at (length before) row) (step_at (length before) row) ≡ false =
-    ap (λ b. same_text row.who row.who && b) (sooner-listed row.at row.at (length before) (length before) (omega arith) ∙ le-ltb row.at row.at (omega arith)) ∙ and-false (same_text row.who row.who) in
-    until-append None (step_at (length before) row) (step_at (length before) row) (steps_from 0 before)
-    ∙ ap (λ b. cond b (Some (sooner row.at (until_in None (step_at (length before) row) (steps_from 0 before)))) (until_in None (step_at (length before) row) (steps_from 0 before))) e
-    ∙ next-before row (length before) 0 before None (omega arith)
+    let step : Step = step_at (length before) row in
+    let until : Option ℕ = until_in None step (steps_from 0 before) in
+    until-append None step step (steps_from 0 before) ∙ ap (λ b. cond b (Some (sooner row.at until)) until) itself ∙ next-before row (length before) 0 before None (omega arith)
+  where
+    itself : follows (step_at (length before) row) (step_at (length before) row) ≡ false
+    itself = grind (arith, nat_tests)
 
 told-next : (before : List SheetRow) (row : SheetRow) → stays_next before (told_from (steps_by before) 0 before) row ≡ told_from (steps_by (before ++ (row ∷ []))) 0 (before ++ (row ∷ []))
 told-next before row =
     let z : 0 + length before ≡ length before = omega arith in
     let all : List Step = steps_by before ++ (step_at (length before) row ∷ []) in
     let e : steps_by (before ++ (row ∷ [])) ≡ all = steps-append 0 before row ∙ ap (λ n. steps_by before ++ (step_at n row ∷ [])) z in
-    ap (λ stays. stays ++ cond (is_enter row.way) (stay_from row (next_onto None row before) ∷ []) []) (cut-told (length before) row (steps_by before) 0 before (omega arith))
-    ∙ ap (λ until. told_from all 0 before ++ cond (is_enter row.way) (stay_from row until ∷ []) []) (sym (next-last row before))
-    ∙ ap (λ n. told_from all 0 before ++ cond (is_enter row.way) (stay_from row (until_in None (step_at n row) all) ∷ []) []) (sym z)
+    ap (λ stays. stays ++ begun row (next_onto None row before)) (cut-told (length before) row (steps_by before) 0 before (omega arith))
+    ∙ ap (λ until. told_from all 0 before ++ begun row until) (sym (next-last row before))
+    ∙ ap (λ n. told_from all 0 before ++ begun row (until_in None (step_at n row) all)) (sym z)
     ∙ sym (told-append all 0 before row)
     ∙ ap (λ steps. told_from steps 0 (before ++ (row ∷ []))) (sym e)
 
@@ -134,21 +132,16 @@ pub with-ends : (all : List Step) (full : List (Option ℕ)) (place : ℕ) (rows
 with-ends all full place [] l a = refl
 with-ends all full place (row ∷ rows) l a =
     ap (stays_with (row ∷ rows)) (drop-cons full place None (omega arith))
-    ∙ ap (λ until. cond (is_enter row.way) (stay_from row until ∷ stays_with rows (drop (suc place) full)) (stays_with rows (drop (suc place) full))) (end-is all (step_at place row) (get_or full place None) a.0)
-    ∙ ap (λ rest. cond (is_enter row.way) (stay_from row (until_in None (step_at place row) all) ∷ rest) rest) (with-ends all full (suc place) rows (omega arith) a.1)
-    ∙ by_way (is_enter row.way)
-  where
-    by_way : (b : Bool) → cond b (stay_from row (until_in None (step_at place row) all) ∷ told_from all (suc place) rows) (told_from all (suc place) rows) ≡ cond b (stay_from row (until_in None (step_at place row) all) ∷ []) [] ++ told_from all (suc place) rows
-    by_way true = refl
-    by_way false = refl
+    ∙ grind (arith, nat_tests, end-is all (step_at place row) (get_or full place None) a.0, with-ends all full (suc place) rows (omega arith) a.1)
 
 -- one row more, of which b says whether it is `in`
 pub with-more : (rows : List SheetRow) (ends : List (Option ℕ)) (i : ℕ) (row : SheetRow) (until : Option ℕ) (done later : List Stay) → i < length rows → length ends ≡ length rows → row ≡ get_or rows i row → until ≡ get_or ends i until → (b : Bool) → is_enter row.way ≡ b → later ≡ cond b (done ++ (stay_from row until ∷ [])) done
     → later ++ stays_with (drop (i + 1) rows) (drop (i + 1) ends) ≡ done ++ stays_with (drop i rows) (drop i ends)
 with-more rows ends i row until done later h l e f b w g =
-    ap (λ xs. xs ++ stays_with (drop (i + 1) rows) (drop (i + 1) ends)) g
+    let more = stays_with (drop (i + 1) rows) (drop (i + 1) ends) in
+    ap (λ xs. xs ++ more) g
     ∙ by_way b
-    ∙ ap (λ x. done ++ cond x (stay_from row until ∷ stays_with (drop (i + 1) rows) (drop (i + 1) ends)) (stays_with (drop (i + 1) rows) (drop (i + 1) ends))) (sym w)
+    ∙ ap (λ x. done ++ cond x (stay_from row until ∷ more) more) (sym w)
     ∙ ap (λ xs. done ++ stays_with (row ∷ drop (i + 1) rows) xs) (sym (drop_more ends i until (omega arith) ∙ ap (λ first. first ∷ drop (i + 1) ends) (sym f)))
     ∙ ap (λ xs. done ++ stays_with xs (drop i ends)) (sym (drop_more rows i row h ∙ ap (λ first. first ∷ drop (i + 1) rows) (sym e)))
   where
