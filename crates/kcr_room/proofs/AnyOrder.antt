@@ -15,7 +15,7 @@ use Rattle.kcr_room.specs.Moments.{IsFirst, IsEver}
 use Rattle.kcr_room.specs.Room.{is_enter, is_ahead, later, last_onto, last_row_of, present_by, crowd_by}
 use Rattle.kcr_room.specs.Adding.{is_out_of_turn_by}
 use Rattle.kcr_room.specs.Stays.{sooner, next_onto, stay_from, stays_by}
-use Rattle.kcr_room.specs.Ends.{steps_from, steps_by}
+use Rattle.kcr_room.specs.Ends.{steps_from, steps_by, follows}
 use Rattle.kcr_room.specs.Laws.{in_turn_onto, IsSheet, ShareNoMoment}
 use Rattle.kcr_room.proofs.Lists.{any-filter, map-same, count-cons, none-behind, IsPermutation-filter}
 use Rattle.kcr_room.proofs.Agreement.{begun, same-is, same-itself, of_person, next-lasts, same-present, same-crowd}
@@ -24,41 +24,41 @@ use Rattle.kcr_room.proofs.Refusals.{first-unique, ever-unique}
 use Rattle.kcr_room.proofs.Orders.{crowd-order, present-order}
 use Rattle.kcr_room.proofs.Sheets.{last_reaches, earlier-last}
 
--- no row of the person listed behind place i has this row's moment
-abbrev Untied : ℕ → SheetRow → ℕ → List SheetRow → Type 0
-Untied i row place [] = Unit {0}
-Untied i row place (other ∷ rows) = ((same_text other.who row.who && (row.at == other.at && nat_lt i place)) ≡ false) × Untied i row (suc place) rows
+-- the row is this person's and has this moment
+abbrev is_at : List ℕ → ℕ → SheetRow → Bool
+is_at who t row = same_text row.who who && row.at == t
 
-untied-until : (i : ℕ) (row : SheetRow) (place : ℕ) (rows : List SheetRow) (found : Option ℕ) → Untied i row place rows
-    → until_in found (step_at i row) (steps_from place rows) ≡ next_onto found row rows
-untied-until i row place [] found u = refl
-untied-until i row place (other ∷ rows) found u =
-    ap (λ b. until_in (cond b (Some (sooner other.at found)) found) (step_at i row) (steps_from (suc place) rows)) tied
-    ∙ untied-until i row (suc place) rows (cond (is_ahead row other) (Some (sooner other.at found)) found) u.1
+-- of rows behind a row's place, none of which has its person's moment too, the next one is told by the moments alone
+told-back : (i : ℕ) (row : SheetRow) (place : ℕ) (back : List SheetRow) (found : Option ℕ) → AllByRecursion (λ other. is_at row.who row.at other ≡ false) back
+    → until_in found (step_at i row) (steps_from place back) ≡ next_onto found row back
+told-back i row place [] found a = refl
+told-back i row place (other ∷ back) found a =
+    ap (λ b. until_in (cond b (Some (sooner other.at found)) found) (step_at i row) (steps_from (suc place) back)) tied
+    ∙ told-back i row (suc place) back (cond (is_ahead row other) (Some (sooner other.at found)) found) a.1
   where
-    tied : (same_text other.who row.who && (nat_lt row.at other.at || (row.at == other.at && nat_lt i place))) ≡ is_ahead row other
-    tied = grind (arith, nat_tests, u.0)
-
-untied-back : (i : ℕ) (row : SheetRow) (place : ℕ) (rows : List SheetRow) → AllByRecursion (λ other. (same_text other.who row.who && other.at == row.at) ≡ false) rows → Untied i row place rows
-untied-back i row place [] a = tt
-untied-back i row place (other ∷ rows) a = (tied, untied-back i row (suc place) rows a.1)
-  where
-    tied : (same_text other.who row.who && (row.at == other.at && nat_lt i place)) ≡ false
+    tied : follows (step_at i row) (step_at place other) ≡ is_ahead row other
     tied = grind (arith, nat_tests, a.0)
 
-tie-before : (s : Bool) (m n i place : ℕ) → place ≤ i → (s && (m == n && nat_lt i place)) ≡ false
-tie-before s m n i place h = grind (arith, nat_tests)
+untied : (i : ℕ) (row other : SheetRow) (place : ℕ) → place ≤ i → follows (step_at i row) (step_at place other) ≡ is_ahead row other
+untied i row other place h = grind (arith, nat_tests)
 
-untied-at : (i : ℕ) (row : SheetRow) (place : ℕ) (front back : List SheetRow) → place + length front ≡ i → AllByRecursion (λ other. (same_text other.who row.who && other.at == row.at) ≡ false) back → Untied i row place (front ++ (row ∷ back))
-untied-at i row place [] back e a = (tie-before (same_text row.who row.who) row.at row.at i place (omega arith), untied-back i row (suc place) back a)
-untied-at i row place (other ∷ front) back e a = (tie-before (same_text other.who row.who) row.at other.at i place (omega arith), untied-at i row (suc place) front back (omega arith) a)
+-- and so it is of those in front, and of the row itself
+told-at : (i : ℕ) (row : SheetRow) (place : ℕ) (front back : List SheetRow) (found : Option ℕ) → place + length front ≡ i
+    → AllByRecursion (λ other. is_at row.who row.at other ≡ false) back → until_in found (step_at i row) (steps_from place (front ++ (row ∷ back))) ≡ next_onto found row (front ++ (row ∷ back))
+told-at i row place [] back found e a =
+    ap (λ b. until_in (cond b (Some (sooner row.at found)) found) (step_at i row) (steps_from (suc place) back)) (untied i row row place (omega arith))
+    ∙ told-back i row (suc place) back (cond (is_ahead row row) (Some (sooner row.at found)) found) a
+told-at i row place (other ∷ front) back found e a =
+    ap (λ b. until_in (cond b (Some (sooner other.at found)) found) (step_at i row) (steps_from (suc place) (front ++ (row ∷ back)))) (untied i row other place (omega arith))
+    ∙ told-at i row (suc place) front back (cond (is_ahead row other) (Some (sooner other.at found)) found) (omega arith) a
 
 -- of such rows the next one is told by the moments alone
 next-told : (front back : List SheetRow) (row : SheetRow) → ShareNoMoment (front ++ (row ∷ back)) → until_in None (step_at (length front) row) (steps_by (front ++ (row ∷ back))) ≡ next_onto None row (front ++ (row ∷ back))
 next-told front back row h =
-    let own : (same_text row.who row.who && row.at == row.at) ≡ true = ap (λ b. b && row.at == row.at) (same-itself row.who) ∙ eq-eqb row.at row.at refl in
-    untied-until (length front) row 0 (front ++ (row ∷ back)) None
-    (untied-at (length front) row 0 front back (omega arith) (none-behind (λ other. same_text other.who row.who && other.at == row.at) front back row own (h row.who row.at)))
+    told-at (length front) row 0 front back None (omega arith) (none-behind (is_at row.who row.at) front back row own (h row.who row.at))
+  where
+    own : is_at row.who row.at row ≡ true
+    own = grind (arith, nat_tests, same-itself row.who)
 
 -- the stays of some of the rows, each with the moment of the person's next row among all
 abbrev plain : List SheetRow → List SheetRow → List Stay
@@ -130,34 +130,26 @@ reached m (row ∷ rows) (Some other) = reached m rows (later (Some other) row) 
     both true e = grind (arith, nat_tests, e)
     both false e = grind (arith, nat_tests, e)
 
-uncounted : (who : List ℕ) (t : ℕ) (rows : List SheetRow) → list_any (λ row. same_text row.who who && nat_le t row.at) rows ≡ false → count_by (λ row. same_text row.who who && row.at == t) rows ≡ 0
+uncounted : (who : List ℕ) (t : ℕ) (rows : List SheetRow) → list_any (λ row. same_text row.who who && nat_le t row.at) rows ≡ false → count_by (is_at who t) rows ≡ 0
 uncounted who t [] h = refl
-uncounted who t (row ∷ rows) h =
-    let k = count-cons (λ row. same_text row.who who && row.at == t) row rows (same_text row.who who && row.at == t) refl in
-    grind (arith, nat_tests, h, k, uncounted who t rows)
+uncounted who t (row ∷ rows) h = grind (arith, nat_tests, h, count-cons (is_at who t) row rows (is_at who t row) refl, uncounted who t rows)
 
 share-next : (before : List SheetRow) (row : SheetRow) → ShareNoMoment before → is_out_of_turn_by before row.ceremony row.way row.at row.who ≡ false → ShareNoMoment (before ++ (row ∷ []))
-share-next before row h turn who t = by_row (same_text row.who who && row.at == t) refl
+share-next before row h turn who t =
+    let k = sum_by-append (λ other. cond (is_at who t other) 1 0) before (row ∷ []) in
+    grind (arith, nat_tests, k, count-cons (is_at who t) row [] (is_at who t row) refl, h who t, alone)
   where
-    new : count_by (λ other. same_text other.who row.who && other.at == row.at) before ≡ 0
+    new : count_by (is_at row.who row.at) before ≡ 0
     new =
         uncounted row.who row.at before
         (sym (any-filter (of_person row.who) (λ other. nat_le row.at other.at) before)
         ∙ sym (reached row.at (filter (of_person row.who) before) None)
         ∙ earlier-last row.way row.ceremony row.at (last_row_of before row.who) turn)
 
-    many : (b : Bool) → (same_text row.who who && row.at == t) ≡ b → count_by (λ other. same_text other.who who && other.at == t) (before ++ (row ∷ [])) ≡ count_by (λ other. same_text other.who who && other.at == t) before + (cond b 1 0 + 0)
-    many b e =
-        sum_by-append (λ other. cond (same_text other.who who && other.at == t) 1 0) before (row ∷ [])
-        ∙ ap (λ n. count_by (λ other. same_text other.who who && other.at == t) before + n) (count-cons (λ other. same_text other.who who && other.at == t) row [] b e)
-
-    by_row : (b : Bool) → (same_text row.who who && row.at == t) ≡ b → count_by (λ other. same_text other.who who && other.at == t) (before ++ (row ∷ [])) ≤ 1
-    by_row false e = let k = many false e in let n = h who t in omega (arith, k, n)
-    by_row true e =
+    alone : is_at who t row ≡ true → count_by (is_at who t) before ≡ 0
+    alone e =
         let d = and_parts (same_text row.who who) (row.at == t) e in
-        let k = many true e in
-        let n = subst (λ w. count_by (λ other. same_text other.who w && other.at == t) before ≡ 0) (same-is row.who who d.0) (subst (λ m. count_by (λ other. same_text other.who row.who && other.at == m) before ≡ 0) (eqb-true row.at t d.1) new) in
-        omega (arith, k, n)
+        rw (← same-is row.who who d.0, ← eqb-true row.at t d.1) new
 
 share-onto : (rows before : List SheetRow) → ShareNoMoment before → in_turn_onto before rows ≡ true → ShareNoMoment (before ++ rows)
 share-onto [] before h turns = subst ShareNoMoment (sym (append-nil before)) h

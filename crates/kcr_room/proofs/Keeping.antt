@@ -65,17 +65,13 @@ none-found p who rest h = by_test (p who) refl h
 
 -- another person's row changes nothing of this one's last row
 pub last-other : (rows : List SheetRow) (row : SheetRow) (who : List ℕ) → same_text row.who who ≡ false → last_row_of (rows ++ (row ∷ [])) who ≡ last_row_of rows who
-last-other rows row who h = ap last_row (filter-append (of_person who) rows (row ∷ []) ∙ by_end)
-  where
-    by_end : filter (of_person who) rows ++ filter (of_person who) (row ∷ []) ≡ filter (of_person who) rows
-    by_end = rw h (append-nil (filter (of_person who) rows))
+last-other rows row who h = ap last_row (filter-append (of_person who) rows (row ∷ [])) ∙ rw (h, append-nil (filter (of_person who) rows))
 
 pub in_turn-append : (before rows more : List SheetRow) → in_turn_onto before (rows ++ more) ≡ (in_turn_onto before rows && in_turn_onto (before ++ rows) more)
 in_turn-append before [] more = rw (append-nil before) refl
 in_turn-append before (row ∷ rows) more =
-    ap (λ b. not (is_out_of_turn_by before row.ceremony row.way row.at row.who) && b) (in_turn-append (before ++ (row ∷ [])) rows more)
-    ∙ ap (λ all. not (is_out_of_turn_by before row.ceremony row.way row.at row.who) && (in_turn_onto (before ++ (row ∷ [])) rows && in_turn_onto all more)) (append_assoc before (row ∷ []) rows)
-    ∙ sym (and-assoc (not (is_out_of_turn_by before row.ceremony row.way row.at row.who)) (in_turn_onto (before ++ (row ∷ [])) rows) (in_turn_onto (before ++ (row ∷ rows)) more))
+    rw (in_turn-append (before ++ (row ∷ [])) rows more, append_assoc before (row ∷ []) rows)
+    (sym (and-assoc (not (is_out_of_turn_by before row.ceremony row.way row.at row.who)) (in_turn_onto (before ++ (row ∷ [])) rows) (in_turn_onto (before ++ (row ∷ rows)) more)))
 
 -- people of whom each has the turn have it still where others of them came before
 pub turn-others : (rows : List SheetRow) (c : ℕ) (way : Way) (at : ℕ) (first : List ℕ) (people : List (List ℕ)) → list_any (same_text first) people ≡ false → turn_refusal (find (is_out_of_turn_by rows c way at) people) ≡ None → turn_refusal (find (is_out_of_turn_by (rows ++ (new_row c way at first ∷ [])) c way at) people) ≡ None
@@ -91,9 +87,8 @@ turns-more rows c way at [] a h = refl
 turns-more rows c way at (who ∷ rest) a h =
     let d = and_parts (not (list_any (same_text who) rest)) (are_apart rest) a in
     let n = none-found (is_out_of_turn_by rows c way at) who rest h in
-    and_from (not (is_out_of_turn_by rows c way at who)) (in_turn_onto (rows ++ (new_row c way at who ∷ [])) (map (new_row c way at) rest))
-    (not_from_false (is_out_of_turn_by rows c way at who) n.0)
-    (turns-more (rows ++ (new_row c way at who ∷ [])) c way at rest d.1 (turn-others rows c way at who rest (not-true (list_any (same_text who) rest) d.0) n.1))
+    let more = turn-others rows c way at who rest (not-true (list_any (same_text who) rest) d.0) n.1 in
+    rw n.0 (turns-more (rows ++ (new_row c way at who ∷ [])) c way at rest d.1 more)
 
 pub turns_keep : TurnsKeep
 turns_keep rows c mark full way people at apart h s =
@@ -111,7 +106,7 @@ any-ascending p (who ∷ rest) done = grind (arith, nat_tests, any-ascending p r
 
 any-map : (p : List ℕ → Bool) (rows : List SheetRow) → list_any p (map (λ row. row.who) rows) ≡ list_any (λ row. p row.who) rows
 any-map p [] = refl
-any-map p (row ∷ rows) = ap (λ b. p row.who || b) (any-map p rows)
+any-map p (row ∷ rows) = rw (any-map p rows)
 
 any-listed : (c : ℕ) (last : Option SheetRow) → list_any (enters c) (listed last) ≡ last_enters c last
 any-listed c None = refl
