@@ -19,12 +19,14 @@ use Rattle.kcr_custody.specs.declared.Bag.{Bag}
 use Rattle.kcr_custody.specs.declared.Item.{Item}
 use Rattle.kcr_custody.specs.declared.Store.{Store}
 use Rattle.kcr_custody.specs.declared.Store.TheVariants.{SafeOne, Boxed}
-use Rattle.kcr_custody.specs.Custody.{is_box, place_of_box_by, spot_by, rest_by, spot_of_store, is_within, lies_in, loose, within, loosened, packed, no_item, add_box_conditions, add_box_refusal, put_conditions, put_refusal, seal_conditions, seal_refusal}
+use Rattle.kcr_custody.specs.Custody.{is_box, place_of_box_by, spot_by, rest_by, spot_of_store, is_within, lies_in, loose, within, loosened, packed, no_item}
+use Rattle.kcr_custody.specs.Custody.{add_box_conditions, add_box_refusal, put_conditions, put_refusal, seal_conditions, seal_refusal}
 use Rattle.kcr_base.specs.Rows.{put, put_all}
 use Rattle.kcr_custody.specs.Balance.{same_box, same_bag, same_item, holds_items, is_kept, has_its_box, IsBalanced}
 use Rattle.kcr_custody.proofs.Puts.{text_refl, text_flip, all_mono, all_put_kept, all_put_all, keys_stay_all, found_any, differ_put, differ_put_all, find_put}
 
-all_both : {X : Type 0} (P Q R : X → Bool) → ((x : X) → P x ≡ true → Q x ≡ true → R x ≡ true) → (xs : List X) → list_all P xs ≡ true → list_all Q xs ≡ true → list_all R xs ≡ true
+all_both : {X : Type 0} (P Q R : X → Bool) → ((x : X) → P x ≡ true → Q x ≡ true → R x ≡ true) → (xs : List X) → list_all P xs ≡ true → list_all Q xs ≡ true
+    → list_all R xs ≡ true
 all_both P Q R f [] g h = refl
 all_both P Q R f (x ∷ xs) g h = grind (arith, nat_tests, g, h, f x, all_both P Q R f xs)
 
@@ -40,7 +42,8 @@ kept_put bag bags u (Loose f) h = refl
 kept_put bag bags u (Within s) h = grind (arith, nat_tests, u, h, spot_put bag bags s)
 
 -- and after another bag is cut
-kept_spent : (serial : List ℕ) (bags : List Bag) (r : Rest) → is_kept bags r ≡ true → is_within serial r ≡ false → is_kept (put same_bag (record { serial = serial; spot = Spent }) bags) r ≡ true
+kept_spent : (serial : List ℕ) (bags : List Bag) (r : Rest) → is_kept bags r ≡ true → is_within serial r ≡ false
+    → is_kept (put same_bag (record { serial = serial; spot = Spent }) bags) r ≡ true
 kept_spent serial bags (Loose f) h n = refl
 kept_spent serial bags (Within s) h n = rw (spot_put (record { serial = serial; spot = Spent }) bags s, text_flip serial s, n) h
 
@@ -59,10 +62,12 @@ pub take_keeps : (facility : Facility) (boxes : List BoxRow) (bags : List Bag) (
     → IsBalanced boxes bags items → IsBalanced boxes (put same_bag (record { serial = serial; spot = Table facility }) bags) items
 take_keeps facility boxes bags items serial h = moved boxes bags items (record { serial = serial; spot = Table facility }) refl refl h
 
-pub put_keeps : (scene : Scene) (safes : List SafeRow) (boxes : List BoxRow) (bags : List Bag) (items : List Item) (serial : List ℕ) (to : Store) (has_holder : Bool)
+pub put_keeps : (scene : Scene) (safes : List SafeRow) (boxes : List BoxRow) (bags : List Bag) (items : List Item) (serial : List ℕ) (to : Store)
+    (has_holder : Bool)
     → IsBalanced boxes bags items → put_refusal scene safes boxes bags serial to has_holder ≡ None
     → IsBalanced boxes (put same_bag (record { serial = serial; spot = spot_of_store scene.facility to }) bags) items
-put_keeps scene safes boxes bags items serial SafeOne has_holder h n = moved boxes bags items (record { serial = serial; spot = Equipment scene.facility }) refl refl h
+put_keeps scene safes boxes bags items serial SafeOne has_holder h n =
+    moved boxes bags items (record { serial = serial; spot = Equipment scene.facility }) refl refl h
 put_keeps scene safes boxes bags items serial (Boxed number) has_holder h n =
     moved boxes bags items (record { serial = serial; spot = InBox scene.facility number }) refl
     (there (place_of_box_by boxes scene.facility number) (unmet _ (Unknown (Things.Box number)) (none_holds (put_conditions scene safes boxes bags serial (Boxed number) has_holder) n).1.1.0)) h
@@ -77,7 +82,8 @@ put_keeps scene safes boxes bags items serial (Boxed number) has_holder h n =
 pub add_box_keeps : (boxes : List BoxRow) (bags : List Bag) (items : List Item) (is_full : Bool) (row : BoxRow)
     → IsBalanced boxes bags items → add_box_refusal boxes is_full row ≡ None → IsBalanced (put same_box row boxes) bags items
 add_box_keeps boxes bags items is_full row h n =
-    let new = (or_parts (list_any (is_box row.facility row.number) boxes) (list_any (λ old. same_place old.place row.place) boxes) (unmet _ Taken (none_holds (add_box_conditions boxes is_full row) n).0)).0 in
+    let new =
+        (or_parts (list_any (is_box row.facility row.number) boxes) (list_any (λ old. same_place old.place row.place) boxes) (unmet _ Taken (none_holds (add_box_conditions boxes is_full row) n).0)).0 in
     record {
       items_once = h.items_once;
       bags_once = h.bags_once;
@@ -104,7 +110,8 @@ add_item_keeps facility boxes bags items code h =
     }
 
 -- items sealed into a bag on the table are kept
-packed_kept : (bags : List Bag) (serial : List ℕ) → holds_items (spot_by bags serial) ≡ true → (codes : List (List ℕ)) → list_all (λ row. is_kept bags row.rest) (packed serial codes) ≡ true
+packed_kept : (bags : List Bag) (serial : List ℕ) → holds_items (spot_by bags serial) ≡ true → (codes : List (List ℕ))
+    → list_all (λ row. is_kept bags row.rest) (packed serial codes) ≡ true
 packed_kept bags serial u [] = refl
 packed_kept bags serial u (code ∷ codes) = and_from (holds_items (spot_by bags serial)) _ u (packed_kept bags serial u codes)
 
@@ -153,12 +160,14 @@ cut_keeps facility boxes bags items serial h =
       kept = all_put_all same_item (λ row. is_kept (put same_bag bag bags) row.rest) (loosened items serial facility) items
           (loose_kept (put same_bag bag bags) facility (filter (lies_in serial) items))
           (all_both (λ row. is_kept bags row.rest) (λ old. not (lies_in serial old) || list_any (λ c. same_item c old) (loosened items serial facility))
-          (λ row. is_kept (put same_bag bag bags) row.rest || list_any (λ c. same_item c row) (loosened items serial facility)) one items h.kept (all_loosened serial facility items));
+          (λ row. is_kept (put same_bag bag bags) row.rest || list_any (λ c. same_item c row) (loosened items serial facility)) one items h.kept
+          (all_loosened serial facility items));
       boxed = all_put_kept same_bag (λ row. has_its_box boxes row.spot) bag bags refl h.boxed;
     }
   where
     one : (row : Item) → is_kept bags row.rest ≡ true → (not (lies_in serial row) || list_any (λ c. same_item c row) (loosened items serial facility)) ≡ true
-        → (is_kept (put same_bag (record { serial = serial; spot = Spent }) bags) row.rest || list_any (λ c. same_item c row) (loosened items serial facility)) ≡ true
+        → (is_kept (put same_bag (record { serial = serial; spot = Spent }) bags) row.rest || list_any (λ c. same_item c row) (loosened items serial facility))
+        ≡ true
     one row k g = grind (arith, nat_tests, g, kept_spent serial bags row.rest k)
 
 -- NO ITEM IS LOST
@@ -166,17 +175,20 @@ cut_keeps facility boxes bags items serial h =
 abbrev is_there : List Item → Item → Bool
 is_there items c = list_any (same_text c.code) (map (λ row. row.code) items)
 
-packed_there : (items : List Item) (serial : List ℕ) (codes : List (List ℕ)) → no_item items codes ≡ None → list_all (is_there items) (packed serial codes) ≡ true
+packed_there : (items : List Item) (serial : List ℕ) (codes : List (List ℕ)) → no_item items codes ≡ None
+    → list_all (is_there items) (packed serial codes) ≡ true
 packed_there items serial [] h = refl
 packed_there items serial (code ∷ codes) h =
     let found : is_none (rest_by items code) ≡ false → is_there items (within serial code) ≡ true = found_any (λ row. row.code) (λ row. row.rest) code items in
     grind (arith, nat_tests, h, found, packed_there items serial codes)
 
 -- the items of a seal are the items that there were
-pub seal_stays : (scene : Scene) (bags : List Bag) (items : List Item) (serial : List ℕ) (codes : List (List ℕ)) → seal_refusal scene bags items serial codes ≡ None
+pub seal_stays : (scene : Scene) (bags : List Bag) (items : List Item) (serial : List ℕ) (codes : List (List ℕ))
+    → seal_refusal scene bags items serial codes ≡ None
     → map (λ row. row.code) (put_all same_item (packed serial codes) items) ≡ map (λ row. row.code) items
 seal_stays scene bags items serial codes n =
-    keys_stay_all (λ row. row.code) (packed serial codes) items (packed_there items serial codes (none_holds (seal_conditions scene bags items serial codes) n).1.0)
+    keys_stay_all (λ row. row.code) (packed serial codes) items
+    (packed_there items serial codes (none_holds (seal_conditions scene bags items serial codes) n).1.0)
 
 loosened_there : (serial : List ℕ) (facility : Facility) (items : List Item) → list_all (is_there items) (loosened items serial facility) ≡ true
 loosened_there serial facility [] = refl

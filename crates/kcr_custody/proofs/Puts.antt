@@ -23,7 +23,8 @@ all_mono P Q f [] h = refl
 all_mono P Q f (x ∷ xs) h = grind (arith, nat_tests, h, f x, all_mono P Q f xs)
 
 -- a test that the new row passes, and each row whose key is another
-pub all_put : {X : Type 0} (same : X → X → Bool) (Q : X → Bool) (row : X) (rows : List X) → Q row ≡ true → list_all (λ old. Q old || same row old) rows ≡ true → list_all Q (put same row rows) ≡ true
+pub all_put : {X : Type 0} (same : X → X → Bool) (Q : X → Bool) (row : X) (rows : List X) → Q row ≡ true → list_all (λ old. Q old || same row old) rows ≡ true
+    → list_all Q (put same row rows) ≡ true
 all_put {X} same Q row rows q h =
     let w : list_any (same row) rows ≡ false → list_all Q rows ≡ true = λ n. without rows n h in
     grind (arith, nat_tests, q, mapped rows h, w)
@@ -37,7 +38,8 @@ all_put {X} same Q row rows q h =
     without (old ∷ olds) n g = grind (arith, nat_tests, n, g, without olds)
 
 -- the same where the old rows pass the test
-pub all_put_kept : {X : Type 0} (same : X → X → Bool) (Q : X → Bool) (row : X) (rows : List X) → Q row ≡ true → list_all Q rows ≡ true → list_all Q (put same row rows) ≡ true
+pub all_put_kept : {X : Type 0} (same : X → X → Bool) (Q : X → Bool) (row : X) (rows : List X) → Q row ≡ true → list_all Q rows ≡ true
+    → list_all Q (put same row rows) ≡ true
 all_put_kept same Q row rows q h = all_put same Q row rows q (all_mono Q (λ old. Q old || same row old) (λ old g. rw g) rows h)
 
 -- all new rows, and each row whose key is none of theirs
@@ -99,13 +101,15 @@ module _ {X : Type 0} (key : X → List ℕ) where
   find_put row rows k = by_test (list_any (same_key row) rows) (same_text (key row) k) refl refl
     where
       by_test : (b s : Bool) → list_any (same_key row) rows ≡ b → same_text (key row) k ≡ s
-          → find (λ old. same_text (key old) k) (cond b (map (λ old. cond (same_key row old) row old) rows) (row ∷ rows)) ≡ cond s (Some row) (find (λ old. same_text (key old) k) rows)
+          → find (λ old. same_text (key old) k) (cond b (map (λ old. cond (same_key row old) row old) rows) (row ∷ rows))
+          ≡ cond s (Some row) (find (λ old. same_text (key old) k) rows)
       by_test false s e f = rw f
       by_test true false e f = find_other row k f rows
       by_test true true e f = let same : key row ≡ k = text_same (key row) k f in rw (← same) (find_same row rows e)
 
   -- rows under keys that are all there leave the keys
-  pub keys_stay_all : (changes rows : List X) → list_all (λ c. list_any (same_text (key c)) (map key rows)) changes ≡ true → map key (put_all same_key changes rows) ≡ map key rows
+  pub keys_stay_all : (changes rows : List X) → list_all (λ c. list_any (same_text (key c)) (map key rows)) changes ≡ true
+      → map key (put_all same_key changes rows) ≡ map key rows
   keys_stay_all [] rows h = refl
   keys_stay_all (row ∷ changes) rows h =
       let p = and_parts (list_any (same_text (key row)) (map key rows)) (list_all (λ c. list_any (same_text (key c)) (map key rows)) changes) h in
@@ -113,6 +117,7 @@ module _ {X : Type 0} (key : X → List ℕ) where
       keys_stay_all changes (put same_key row rows) (rw e p.1) ∙ e
 
   -- what is found stands there
-  pub found_any : {Y : Type 0} (f : X → Y) (k : List ℕ) (rows : List X) → is_none (option_map f (find (λ row. same_text (key row) k) rows)) ≡ false → list_any (same_text k) (map key rows) ≡ true
+  pub found_any : {Y : Type 0} (f : X → Y) (k : List ℕ) (rows : List X) → is_none (option_map f (find (λ row. same_text (key row) k) rows)) ≡ false
+      → list_any (same_text k) (map key rows) ≡ true
   found_any f k [] h = absurd (true≢false h)
   found_any f k (row ∷ rows) h = grind (arith, nat_tests, h, text_flip k (key row), found_any f k rows)

@@ -1,5 +1,6 @@
 -- Rows of which no two of one person share a moment tell the same in any order.
-use Rattle.std.proofs.Common.{◌≡◌, ℕ, suc, ◌+◌, ◌≤◌, Bool, true, false, cond, not, ◌||◌, ◌&&◌, ◌==◌, nat_le, nat_lt, List, [], ◌∷◌, ◌++◌, map, length, Option, Some, None, refl, sym, ap, ◌∙◌, subst, arith, append-nil, append_assoc}
+use Rattle.std.proofs.Common.{◌≡◌, ℕ, suc, ◌+◌, ◌≤◌, Bool, true, false, cond, not, ◌||◌, ◌&&◌, ◌==◌, nat_le, nat_lt, List, [], ◌∷◌, ◌++◌, map, length, Option}
+use Rattle.std.proofs.Common.{Some, None, refl, sym, ap, ◌∙◌, subst, arith, append-nil, append_assoc}
 use Rattle.std.specs.List.{list_any, filter, count_by, AllByRecursion}
 use Rattle.std.specs.List.Sorted.{IsPermutation}
 use Rattle.std.proofs.lemmas.Bool.{eq-eqb, eqb-true, and_parts, not-true}
@@ -44,16 +45,19 @@ untied i row other place h = grind (arith, nat_tests)
 
 -- and so it is of those in front, and of the row itself
 told-at : (i : ℕ) (row : SheetRow) (place : ℕ) (front back : List SheetRow) (found : Option ℕ) → place + length front ≡ i
-    → AllByRecursion (λ other. is_at row.who row.at other ≡ false) back → until_in found (step_at i row) (steps_from place (front ++ (row ∷ back))) ≡ next_onto found row (front ++ (row ∷ back))
+    → AllByRecursion (λ other. is_at row.who row.at other ≡ false) back
+    → until_in found (step_at i row) (steps_from place (front ++ (row ∷ back))) ≡ next_onto found row (front ++ (row ∷ back))
 told-at i row place [] back found e a =
     ap (λ b. until_in (cond b (Some (sooner row.at found)) found) (step_at i row) (steps_from (suc place) back)) (untied i row row place (omega arith))
     ∙ told-back i row (suc place) back (cond (is_ahead row row) (Some (sooner row.at found)) found) a
 told-at i row place (other ∷ front) back found e a =
-    ap (λ b. until_in (cond b (Some (sooner other.at found)) found) (step_at i row) (steps_from (suc place) (front ++ (row ∷ back)))) (untied i row other place (omega arith))
+    ap (λ b. until_in (cond b (Some (sooner other.at found)) found) (step_at i row) (steps_from (suc place) (front ++ (row ∷ back))))
+    (untied i row other place (omega arith))
     ∙ told-at i row (suc place) front back (cond (is_ahead row other) (Some (sooner other.at found)) found) (omega arith) a
 
 -- of such rows the next one is told by the moments alone
-next-told : (front back : List SheetRow) (row : SheetRow) → ShareNoMoment (front ++ (row ∷ back)) → until_in None (step_at (length front) row) (steps_by (front ++ (row ∷ back))) ≡ next_onto None row (front ++ (row ∷ back))
+next-told : (front back : List SheetRow) (row : SheetRow) → ShareNoMoment (front ++ (row ∷ back))
+    → until_in None (step_at (length front) row) (steps_by (front ++ (row ∷ back))) ≡ next_onto None row (front ++ (row ∷ back))
 next-told front back row h =
     told-at (length front) row 0 front back None (omega arith) (none-behind (is_at row.who row.at) front back row own (h row.who row.at))
   where
@@ -64,13 +68,15 @@ next-told front back row h =
 abbrev plain : List SheetRow → List SheetRow → List Stay
 plain all rows = map (λ row. stay_from row (next_onto None row all)) (filter (λ row. is_enter row.way) rows)
 
-plain-from : (front back : List SheetRow) → ShareNoMoment (front ++ back) → told_from (steps_by (front ++ back)) (length front) back ≡ plain (front ++ back) back
+plain-from : (front back : List SheetRow) → ShareNoMoment (front ++ back)
+    → told_from (steps_by (front ++ back)) (length front) back ≡ plain (front ++ back) back
 plain-from front [] h = refl
 plain-from front (row ∷ back) h =
     let all : List SheetRow = front ++ (row ∷ back) in
     let more : List SheetRow = front ++ (row ∷ []) in
     ap (λ until. begun row until ++ told_from (steps_by all) (suc (length front)) back) (next-told front back row h)
-    ∙ ap (λ rest. begun row (next_onto None row all) ++ rest) (rest more (append_assoc front (row ∷ []) back) (omega (arith, length-append front (row ∷ []))) (plain-from more back))
+    ∙ ap (λ rest. begun row (next_onto None row all) ++ rest)
+    (rest more (append_assoc front (row ∷ []) back) (omega (arith, length-append front (row ∷ []))) (plain-from more back))
     ∙ by_way (is_enter row.way)
   where
     rest : (more : List SheetRow) → more ++ back ≡ front ++ (row ∷ back) → length more ≡ suc (length front)
@@ -94,12 +100,15 @@ next-order xs ys p row =
     (λ t. next-lasts t row xs None ∙ ap not (list_any-IsPermutation (λ other. is_ahead row other && nat_le other.at t) xs ys p) ∙ sym (next-lasts t row ys None))
 
 pub share-order : (xs ys : List SheetRow) → IsPermutation xs ys → ShareNoMoment xs → ShareNoMoment ys
-share-order xs ys p h = λ who t. let e = sum_by-IsPermutation (λ row. cond (same_text row.who who && row.at == t) 1 0) xs ys p in let n = h who t in omega (arith, e, n)
+share-order xs ys p h =
+    λ who t. let e = sum_by-IsPermutation (λ row. cond (same_text row.who who && row.at == t) 1 0) xs ys p in let n = h who t in omega (arith, e, n)
 
 -- the stays of such rows are the same in any order, up to their own order
 pub stays-order : (xs ys : List SheetRow) → IsPermutation xs ys → ShareNoMoment xs → IsPermutation (stays_by xs) (stays_by ys)
 stays-order xs ys p h =
-    let same : plain xs ys ≡ plain ys ys = map-same (λ row. stay_from row (next_onto None row xs)) (λ row. stay_from row (next_onto None row ys)) (filter (λ row. is_enter row.way) ys) (λ row. ap (stay_from row) (next-order xs ys p row)) in
+    let same : plain xs ys ≡ plain ys ys =
+        map-same (λ row. stay_from row (next_onto None row xs)) (λ row. stay_from row (next_onto None row ys)) (filter (λ row. is_enter row.way) ys)
+        (λ row. ap (stay_from row) (next-order xs ys p row)) in
     subst (λ stays. IsPermutation stays (stays_by ys)) (sym (stays-plain xs h))
     (subst (IsPermutation (plain xs xs)) (same ∙ sym (stays-plain ys (share-order xs ys p h)))
     (IsPermutation-map (λ row. stay_from row (next_onto None row xs)) (filter (λ row. is_enter row.way) xs) (filter (λ row. is_enter row.way) ys) (IsPermutation-filter (λ row. is_enter row.way) xs ys p)))
@@ -112,29 +121,38 @@ rows-crowd xs ys p h c t = sym (same-crowd ys c t) ∙ crowd-order (stays_by xs)
 pub rows-present : (xs ys : List SheetRow) → IsPermutation xs ys → ShareNoMoment xs → (c t : ℕ) → present_by ys c t ≡ present_by xs c t
 rows-present xs ys p h c t = sym (same-present ys c t) ∙ present-order (stays_by xs) (stays_by ys) (stays-order xs ys p h) c t ∙ same-present xs c t
 
-pub rows-lone : (xs ys : List SheetRow) → IsPermutation xs ys → ShareNoMoment xs → (c : ℕ) (first other : Option ℕ) → IsFirst (λ t. crowd_by xs c t == 1) first → IsFirst (λ t. crowd_by ys c t == 1) other → other ≡ first
-rows-lone xs ys p h c first other f g = first-unique (λ t. crowd_by ys c t == 1) (λ t. crowd_by xs c t == 1) (λ t. ap (λ n. n == 1) (rows-crowd xs ys p h c t)) other first g f
+pub rows-lone : (xs ys : List SheetRow) → IsPermutation xs ys → ShareNoMoment xs → (c : ℕ) (first other : Option ℕ) → IsFirst (λ t. crowd_by xs c t == 1) first
+    → IsFirst (λ t. crowd_by ys c t == 1) other → other ≡ first
+rows-lone xs ys p h c first other f g =
+    first-unique (λ t. crowd_by ys c t == 1) (λ t. crowd_by xs c t == 1) (λ t. ap (λ n. n == 1) (rows-crowd xs ys p h c t)) other first g f
 
-pub rows-crowded : (xs ys : List SheetRow) → IsPermutation xs ys → ShareNoMoment xs → (c : ℕ) (ever other : Bool) → IsEver (λ t. nat_lt 128 (crowd_by xs c t)) ever → IsEver (λ t. nat_lt 128 (crowd_by ys c t)) other → other ≡ ever
-rows-crowded xs ys p h c ever other f g = ever-unique (λ t. nat_lt 128 (crowd_by ys c t)) (λ t. nat_lt 128 (crowd_by xs c t)) (λ t. ap (λ n. nat_lt 128 n) (rows-crowd xs ys p h c t)) other ever g f
+pub rows-crowded : (xs ys : List SheetRow) → IsPermutation xs ys → ShareNoMoment xs → (c : ℕ) (ever other : Bool)
+    → IsEver (λ t. nat_lt 128 (crowd_by xs c t)) ever → IsEver (λ t. nat_lt 128 (crowd_by ys c t)) other → other ≡ ever
+rows-crowded xs ys p h c ever other f g =
+    ever-unique (λ t. nat_lt 128 (crowd_by ys c t)) (λ t. nat_lt 128 (crowd_by xs c t)) (λ t. ap (λ n. nat_lt 128 n) (rows-crowd xs ys p h c t)) other ever g f
 
 -- A SHEET'S ROWS
 
 -- a list of rows has one not earlier than m exactly where its last is
-reached : (m : ℕ) (rows : List SheetRow) (last : Option SheetRow) → last_reaches m (last_onto last rows) ≡ (last_reaches m last || list_any (λ row. nat_le m row.at) rows)
+reached : (m : ℕ) (rows : List SheetRow) (last : Option SheetRow)
+    → last_reaches m (last_onto last rows) ≡ (last_reaches m last || list_any (λ row. nat_le m row.at) rows)
 reached m [] last = sym (or-false (last_reaches m last))
 reached m (row ∷ rows) None = reached m rows (Some row)
 reached m (row ∷ rows) (Some other) = reached m rows (later (Some other) row) ∙ both (nat_lt row.at other.at) refl
   where
-    both : (b : Bool) → nat_lt row.at other.at ≡ b → (last_reaches m (cond b (Some other) (Some row)) || list_any (λ row. nat_le m row.at) rows) ≡ (nat_le m other.at || (nat_le m row.at || list_any (λ row. nat_le m row.at) rows))
+    both : (b : Bool) → nat_lt row.at other.at ≡ b
+        → (last_reaches m (cond b (Some other) (Some row)) || list_any (λ row. nat_le m row.at) rows)
+        ≡ (nat_le m other.at || (nat_le m row.at || list_any (λ row. nat_le m row.at) rows))
     both true e = grind (arith, nat_tests, e)
     both false e = grind (arith, nat_tests, e)
 
-uncounted : (who : List ℕ) (t : ℕ) (rows : List SheetRow) → list_any (λ row. same_text row.who who && nat_le t row.at) rows ≡ false → count_by (is_at who t) rows ≡ 0
+uncounted : (who : List ℕ) (t : ℕ) (rows : List SheetRow) → list_any (λ row. same_text row.who who && nat_le t row.at) rows ≡ false
+    → count_by (is_at who t) rows ≡ 0
 uncounted who t [] h = refl
 uncounted who t (row ∷ rows) h = grind (arith, nat_tests, h, count-cons (is_at who t) row rows (is_at who t row) refl, uncounted who t rows)
 
-share-next : (before : List SheetRow) (row : SheetRow) → ShareNoMoment before → is_out_of_turn_by before row.ceremony row.way row.at row.who ≡ false → ShareNoMoment (before ++ (row ∷ []))
+share-next : (before : List SheetRow) (row : SheetRow) → ShareNoMoment before → is_out_of_turn_by before row.ceremony row.way row.at row.who ≡ false
+    → ShareNoMoment (before ++ (row ∷ []))
 share-next before row h turn who t =
     let k = sum_by-append (λ other. cond (is_at who t other) 1 0) before (row ∷ []) in
     grind (arith, nat_tests, k, count-cons (is_at who t) row [] (is_at who t row) refl, h who t, alone)

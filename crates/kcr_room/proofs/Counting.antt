@@ -1,5 +1,6 @@
 -- The moments at which people come and go tell how many are in a room.
-use Rattle.std.proofs.Common.{◌≡◌, ℕ, zero, suc, ◌-◌, ◌≤◌, Bool, true, false, cond, ◌==◌, nat_le, List, [], ◌∷◌, ◌++◌, length, Option, None, refl, sym, ap, ◌∙◌, subst, arith}
+use Rattle.std.proofs.Common.{◌≡◌, ℕ, zero, suc, ◌-◌, ◌≤◌, Bool, true, false, cond, ◌==◌, nat_le, List, [], ◌∷◌, ◌++◌, length, Option, None, refl, sym, ap, ◌∙◌}
+use Rattle.std.proofs.Common.{subst, arith}
 use Rattle.std.specs.List.{count_by, AllByRecursion, list_any}
 use Rattle.std.specs.List.Sorted.{IsPermutation, IsPartitionPoint}
 use Rattle.std.proofs.lemmas.Bool.{ltb-false, le-ltb}
@@ -15,19 +16,24 @@ use Rattle.kcr_room.proofs.Firsts.{SameSide, Behind, IsSteady, is_first, is_ever
 use Rattle.kcr_room.proofs.Moments.{balance, count-steady, count-behind, count-rises}
 
 -- of moments in order the point up to which they are not later is their number
-pub parted-count : (test : ℕ → Bool) (moments : List ℕ) (i : ℕ) → i ≤ length moments → IsPartitionPoint (λ m. test m ≡ true) (λ m. test m ≡ false) moments i → i ≡ count_by test moments
+pub parted-count : (test : ℕ → Bool) (moments : List ℕ) (i : ℕ) → i ≤ length moments → IsPartitionPoint (λ m. test m ≡ true) (λ m. test m ≡ false) moments i
+    → i ≡ count_by test moments
 parted-count test [] i h point = omega (arith, h)
 parted-count test (m ∷ moments) zero h point =
     let k = count-cons test m moments false (point.1 0 m (omega arith) (omega arith)) in
-    let n = parted-count test moments 0 (omega arith) ((λ k d l g. absurd (omega (arith, g))), (λ k d l g. point.1 (suc k) d (omega arith) (omega (arith, g)))) in
+    let n =
+        parted-count test moments 0 (omega arith) ((λ k d l g. absurd (omega (arith, g))), (λ k d l g. point.1 (suc k) d (omega arith) (omega (arith, g)))) in
     omega (arith, k, n)
 parted-count test (m ∷ moments) (suc i) h point =
     let k = count-cons test m moments true (point.0 0 m (omega arith) (omega arith)) in
-    let n = parted-count test moments i (omega arith) ((λ k d l g. point.0 (suc k) d (omega arith) (omega (arith, g))), (λ k d l g. point.1 (suc k) d (omega (arith, l)) (omega (arith, g)))) in
+    let n =
+        parted-count test moments i (omega arith)
+        ((λ k d l g. point.0 (suc k) d (omega arith) (omega (arith, g))), (λ k d l g. point.1 (suc k) d (omega (arith, l)) (omega (arith, g)))) in
     omega (arith, k, n)
 
 -- those who have come without those who have gone are there
-pub told-crowd : (stays : List Stay) (c : ℕ) (comings goings : List ℕ) → IsPermutation (comings_by stays c) comings → IsPermutation (goings_by stays c) goings → (t : ℕ) → count_until comings t - count_until goings t ≡ crowd_in_by stays c t
+pub told-crowd : (stays : List Stay) (c : ℕ) (comings goings : List ℕ) → IsPermutation (comings_by stays c) comings → IsPermutation (goings_by stays c) goings
+    → (t : ℕ) → count_until comings t - count_until goings t ≡ crowd_in_by stays c t
 told-crowd stays c comings goings p q t =
     let m = sum_by-IsPermutation (λ moment. cond (nat_le moment t) 1 0) (comings_by stays c) comings p in
     let n = sum_by-IsPermutation (λ moment. cond (nat_le moment t) 1 0) (goings_by stays c) goings q in
@@ -56,7 +62,8 @@ try_all-append : (test : ℕ → Bool) (found : Option ℕ) (ms ns : List ℕ) �
 try_all-append test found [] ns = refl
 try_all-append test found (m ∷ ms) ns = try_all-append test (try test found m) ms ns
 
-pub lone-is_first : (traffic : Traffic) → IsFirst (is_lone_of traffic) (try_all (is_lone_of traffic) (try_all (is_lone_of traffic) None traffic.comings.items) traffic.goings.items)
+pub lone-is_first : (traffic : Traffic)
+    → IsFirst (is_lone_of traffic) (try_all (is_lone_of traffic) (try_all (is_lone_of traffic) None traffic.comings.items) traffic.goings.items)
 lone-is_first traffic =
     subst (IsFirst (is_lone_of traffic)) (try_all-append (is_lone_of traffic) None traffic.comings.items traffic.goings.items)
     (is_first (is_lone_of traffic) (traffic.comings.items ++ traffic.goings.items) (lone-steady traffic))

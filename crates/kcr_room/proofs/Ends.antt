@@ -1,5 +1,6 @@
 -- The stays of a sheet are told by the end of each row.
-use Rattle.std.proofs.Common.{◌≡◌, ℕ, suc, ◌+◌, ◌<◌, ◌≤◌, Bool, true, false, cond, not, ◌||◌, ◌&&◌, ◌==◌, nat_le, nat_lt, List, [], ◌∷◌, ◌++◌, map, length, get_or, drop, Option, Some, None, refl, sym, ap, ◌∙◌, arith, append-nil, append_assoc, drop-cons}
+use Rattle.std.proofs.Common.{◌≡◌, ℕ, suc, ◌+◌, ◌<◌, ◌≤◌, Bool, true, false, cond, not, ◌||◌, ◌&&◌, ◌==◌, nat_le, nat_lt, List, [], ◌∷◌, ◌++◌, map, length}
+use Rattle.std.proofs.Common.{get_or, drop, Option, Some, None, refl, sym, ap, ◌∙◌, arith, append-nil, append_assoc, drop-cons}
 use Rattle.std.specs.List.{list_any, AllByRecursion}
 use Rattle.std.proofs.lemmas.Bool.{both_ways, le-ltb}
 use Rattle.std.proofs.lemmas.Bool.Decides.{nat_tests}
@@ -31,7 +32,8 @@ end-unique (Some a) None f = absurd (both_ways (nat_lt a a) (le-ltb a a (omega a
 end-unique (Some a) (Some b) f =
     let e : a ≡ b = grind (arith, nat_tests, f a, f b) in ap (λ x. Some x) e
 
-pub until-lasts : (t : ℕ) (step : Step) (steps : List Step) (found : Option ℕ) → lasts_at t (until_in found step steps) ≡ (lasts_at t found && not (list_any (λ other. follows step other && nat_le other.at t) steps))
+pub until-lasts : (t : ℕ) (step : Step) (steps : List Step) (found : Option ℕ)
+    → lasts_at t (until_in found step steps) ≡ (lasts_at t found && not (list_any (λ other. follows step other && nat_le other.at t) steps))
 until-lasts t step [] found = sym (and-true (lasts_at t found))
 until-lasts t step (other ∷ steps) found =
     let ih = until-lasts t step steps (cond (follows step other) (Some (sooner other.at found)) found) in
@@ -51,7 +53,8 @@ until-append : (found : Option ℕ) (step other : Step) (steps : List Step)
 until-append found step other [] = refl
 until-append found step other (next ∷ steps) = until-append (cond (follows step next) (Some (sooner next.at found)) found) step other steps
 
-steps-append : (place : ℕ) (rows : List SheetRow) (row : SheetRow) → steps_from place (rows ++ (row ∷ [])) ≡ steps_from place rows ++ (step_at (place + length rows) row ∷ [])
+steps-append : (place : ℕ) (rows : List SheetRow) (row : SheetRow)
+    → steps_from place (rows ++ (row ∷ [])) ≡ steps_from place rows ++ (step_at (place + length rows) row ∷ [])
 steps-append place [] row = let e : place ≡ place + 0 = omega arith in ap (λ n. step_at n row ∷ []) e
 steps-append place (other ∷ rows) row =
     let e : suc place + length rows ≡ place + suc (length rows) = omega arith in
@@ -60,7 +63,8 @@ steps-append place (other ∷ rows) row =
 told-append : (all : List Step) (place : ℕ) (rows : List SheetRow) (row : SheetRow)
     → told_from all place (rows ++ (row ∷ [])) ≡ told_from all place rows ++ begun row (until_in None (step_at (place + length rows) row) all)
 told-append all place [] row =
-    let e : place ≡ place + 0 = omega arith in append-nil (begun row (until_in None (step_at place row) all)) ∙ ap (λ n. begun row (until_in None (step_at n row) all)) e
+    let e : place ≡ place + 0 = omega arith in append-nil (begun row (until_in None (step_at place row) all))
+    ∙ ap (λ n. begun row (until_in None (step_at n row) all)) e
 told-append all place (other ∷ rows) row =
     let first : List Stay = begun other (until_in None (step_at place other) all) in
     let e : suc place + length rows ≡ place + suc (length rows) = omega arith in
@@ -70,7 +74,8 @@ told-append all place (other ∷ rows) row =
 
 -- a row listed behind cuts the stay of a row at its end
 cut-one : (place last : ℕ) (other row : SheetRow) (all : List Step) → place < last
-    → cut row (stay_from other (until_in None (step_at place other) all)) ≡ stay_from other (until_in None (step_at place other) (all ++ (step_at last row ∷ [])))
+    → cut row (stay_from other (until_in None (step_at place other) all))
+    ≡ stay_from other (until_in None (step_at place other) (all ++ (step_at last row ∷ [])))
 cut-one place last other row all h =
     let until = until_in None (step_at place other) all in
     ap (λ b. stay_from other (cond b (Some (sooner row.at until)) until)) listed
@@ -96,16 +101,19 @@ next-before row last place (other ∷ before) found h =
     listed : follows (step_at last row) (step_at place other) ≡ is_ahead row other
     listed = grind (arith, nat_tests, h)
 
-next-last : (row : SheetRow) (before : List SheetRow) → until_in None (step_at (length before) row) (steps_from 0 before ++ (step_at (length before) row ∷ [])) ≡ next_onto None row before
+next-last : (row : SheetRow) (before : List SheetRow)
+    → until_in None (step_at (length before) row) (steps_from 0 before ++ (step_at (length before) row ∷ [])) ≡ next_onto None row before
 next-last row before =
     let step : Step = step_at (length before) row in
     let until : Option ℕ = until_in None step (steps_from 0 before) in
-    until-append None step step (steps_from 0 before) ∙ ap (λ b. cond b (Some (sooner row.at until)) until) itself ∙ next-before row (length before) 0 before None (omega arith)
+    until-append None step step (steps_from 0 before) ∙ ap (λ b. cond b (Some (sooner row.at until)) until) itself
+    ∙ next-before row (length before) 0 before None (omega arith)
   where
     itself : follows (step_at (length before) row) (step_at (length before) row) ≡ false
     itself = grind (arith, nat_tests)
 
-told-next : (before : List SheetRow) (row : SheetRow) → stays_next before (told_from (steps_by before) 0 before) row ≡ told_from (steps_by (before ++ (row ∷ []))) 0 (before ++ (row ∷ []))
+told-next : (before : List SheetRow) (row : SheetRow)
+    → stays_next before (told_from (steps_by before) 0 before) row ≡ told_from (steps_by (before ++ (row ∷ []))) 0 (before ++ (row ∷ []))
 told-next before row =
     let z : 0 + length before ≡ length before = omega arith in
     let all : List Step = steps_by before ++ (step_at (length before) row ∷ []) in
@@ -116,7 +124,8 @@ told-next before row =
     ∙ sym (told-append all 0 before row)
     ∙ ap (λ steps. told_from steps 0 (before ++ (row ∷ []))) (sym e)
 
-told-onto : (rows before : List SheetRow) → stays_onto before (told_from (steps_by before) 0 before) rows ≡ told_from (steps_by (before ++ rows)) 0 (before ++ rows)
+told-onto : (rows before : List SheetRow)
+    → stays_onto before (told_from (steps_by before) 0 before) rows ≡ told_from (steps_by (before ++ rows)) 0 (before ++ rows)
 told-onto [] before = ap (λ all. told_from (steps_by all) 0 all) (sym (append-nil before))
 told-onto (row ∷ rows) before =
     ap (λ stays. stays_onto (before ++ (row ∷ [])) stays rows) (told-next before row)
@@ -128,14 +137,18 @@ pub stays-told : (rows : List SheetRow) → stays_by rows ≡ told_from (steps_b
 stays-told rows = told-onto rows []
 
 -- the stays with these ends are the stays of the rows
-pub with-ends : (all : List Step) (full : List (Option ℕ)) (place : ℕ) (rows : List SheetRow) → place + length rows ≡ length full → AllByRecursion (λ step. IsEnd all step (get_or full step.place None)) (steps_from place rows) → stays_with rows (drop place full) ≡ told_from all place rows
+pub with-ends : (all : List Step) (full : List (Option ℕ)) (place : ℕ) (rows : List SheetRow) → place + length rows ≡ length full
+    → AllByRecursion (λ step. IsEnd all step (get_or full step.place None)) (steps_from place rows)
+    → stays_with rows (drop place full) ≡ told_from all place rows
 with-ends all full place [] l a = refl
 with-ends all full place (row ∷ rows) l a =
     ap (stays_with (row ∷ rows)) (drop-cons full place None (omega arith))
     ∙ grind (arith, nat_tests, end-is all (step_at place row) (get_or full place None) a.0, with-ends all full (suc place) rows (omega arith) a.1)
 
 -- one row more, of which b says whether it is `in`
-pub with-more : (rows : List SheetRow) (ends : List (Option ℕ)) (i : ℕ) (row : SheetRow) (until : Option ℕ) (done later : List Stay) → i < length rows → length ends ≡ length rows → row ≡ get_or rows i row → until ≡ get_or ends i until → (b : Bool) → is_enter row.way ≡ b → later ≡ cond b (done ++ (stay_from row until ∷ [])) done
+pub with-more : (rows : List SheetRow) (ends : List (Option ℕ)) (i : ℕ) (row : SheetRow) (until : Option ℕ) (done later : List Stay) → i < length rows
+    → length ends ≡ length rows → row ≡ get_or rows i row → until ≡ get_or ends i until → (b : Bool) → is_enter row.way ≡ b
+    → later ≡ cond b (done ++ (stay_from row until ∷ [])) done
     → later ++ stays_with (drop (i + 1) rows) (drop (i + 1) ends) ≡ done ++ stays_with (drop i rows) (drop i ends)
 with-more rows ends i row until done later h l e f b w g =
     let more = stays_with (drop (i + 1) rows) (drop (i + 1) ends) in

@@ -1,5 +1,6 @@
 -- What holds of every sheet that requests have made.
-use Rattle.std.proofs.Common.{◌≡◌, ℕ, Bool, true, false, cond, not, ◌||◌, ◌&&◌, nat_le, List, [], ◌∷◌, ◌++◌, map, Option, Some, None, refl, sym, ap, ◌∙◌, subst, arith, append-nil, append_assoc}
+use Rattle.std.proofs.Common.{◌≡◌, ℕ, Bool, true, false, cond, not, ◌||◌, ◌&&◌, nat_le, List, [], ◌∷◌, ◌++◌, map, Option, Some, None, refl, sym, ap, ◌∙◌, subst}
+use Rattle.std.proofs.Common.{arith, append-nil, append_assoc}
 use Rattle.std.specs.List.{list_any, filter, find}
 use Rattle.std.proofs.lemmas.Bool.Decides.{nat_tests}
 use Rattle.std.proofs.lemmas.Bool.{both_ways, ltb-false, eq-eqb, and_parts, and_from, or_parts, not-true, not_from_false}
@@ -15,7 +16,8 @@ use Rattle.kcr_room.specs.declared.Stay.{Stay}
 use Rattle.kcr_room.specs.Moments.{IsFirst, IsEver}
 use Rattle.kcr_room.specs.Room.{enters, last_row, last_enters, last_row_of, is_of, in_force, ascending_onto, put_person}
 use Rattle.kcr_room.specs.Stays.{crowd_in_by, is_lone_in_by, is_crowd_in_by, first_lone_in_by, is_crowded_in_by, stays_by}
-use Rattle.kcr_room.specs.Adding.{turn_refusal, lone_refusal, later_refusal, sheet_refusal, after, is_out_of_turn, is_out_of_turn_by, is_out_of_turn_in, new_row, rows_refusal}
+use Rattle.kcr_room.specs.Adding.{turn_refusal, lone_refusal, later_refusal, sheet_refusal, after, is_out_of_turn, is_out_of_turn_by, is_out_of_turn_in}
+use Rattle.kcr_room.specs.Adding.{new_row, rows_refusal}
 use Rattle.kcr_base.specs.Lists.{are_apart}
 use Rattle.kcr_room.specs.Laws.{IsAllowed, in_turn_onto, RowsKeep, StaysKeep, TurnsKeep, PresentAreIn}
 use Rattle.kcr_room.proofs.Lists.{any-filter, any-same}
@@ -26,13 +28,17 @@ pub and-assoc : (a b c : Bool) → ((a && b) && c) ≡ (a && (b && c))
 and-assoc a b c = grind (arith, nat_tests)
 
 -- where no crowd and nobody alone is found, each moment is allowed
-allowed : (stays : List Stay) (c : ℕ) (last : Option Refusal) → first_of (when (is_crowded_in_by stays c) Crowd ∷ lone_refusal (first_lone_in_by stays c) ∷ last ∷ []) ≡ None → (t : ℕ) → IsAllowed (crowd_in_by stays c t)
+allowed : (stays : List Stay) (c : ℕ) (last : Option Refusal)
+    → first_of (when (is_crowded_in_by stays c) Crowd ∷ lone_refusal (first_lone_in_by stays c) ∷ last ∷ []) ≡ None → (t : ℕ)
+    → IsAllowed (crowd_in_by stays c t)
 allowed stays c last h = by_answers (is_crowded_in_by stays c) (crowded-is_ever stays c) (first_lone_in_by stays c) (first_lone-is_first stays c) h
   where
-    by_answers : (b : Bool) → IsEver (is_crowd_in_by stays c) b → (o : Option ℕ) → IsFirst (is_lone_in_by stays c) o → first_of (when b Crowd ∷ lone_refusal o ∷ last ∷ []) ≡ None → (t : ℕ) → IsAllowed (crowd_in_by stays c t)
+    by_answers : (b : Bool) → IsEver (is_crowd_in_by stays c) b → (o : Option ℕ) → IsFirst (is_lone_in_by stays c) o
+        → first_of (when b Crowd ∷ lone_refusal o ∷ last ∷ []) ≡ None → (t : ℕ) → IsAllowed (crowd_in_by stays c t)
     by_answers true e o f h t = absurd (let k : Some Crowd ≡ None = h in cc)
     by_answers false e (Some m) f h t = absurd (let k : Some (Lone m) ≡ None = h in cc)
-    by_answers false e None f h t = (λ k. both_ways (is_lone_in_by stays c t) (f t) (eq-eqb (crowd_in_by stays c t) 1 k), ltb-false 128 (crowd_in_by stays c t) (e t))
+    by_answers false e None f h t =
+        (λ k. both_ways (is_lone_in_by stays c t) (f t) (eq-eqb (crowd_in_by stays c t) 1 k), ltb-false 128 (crowd_in_by stays c t) (e t))
 
 pub third : (a b c : Option Refusal) → first_of (a ∷ b ∷ c ∷ []) ≡ None → (b ≡ None) × (c ≡ None)
 third (Some r) b c h = absurd (let k : Some r ≡ None = h in cc)
@@ -47,7 +53,8 @@ stays_keep stays c mark full way people at h =
 
 -- rows that are not refused: everybody has the turn, and nothing is against the sheet that they make
 pub taken : (rows : List SheetRow) (c mark : ℕ) (full : Bool) (way : Way) (people : List (List ℕ)) (at : ℕ) → rows_refusal rows c mark full way people at ≡ None
-    → (turn_refusal (find (is_out_of_turn_by rows c way at) people) ≡ None) × (sheet_refusal (stays_by (rows ++ map (new_row c way at) people)) c full way ≡ None)
+    → (turn_refusal (find (is_out_of_turn_by rows c way at) people) ≡ None) ×
+    (sheet_refusal (stays_by (rows ++ map (new_row c way at) people)) c full way ≡ None)
 taken rows c mark full way people at h = third (when (nat_le at mark) (Late mark)) _ _ h
 
 pub rows_keep : RowsKeep
@@ -56,7 +63,8 @@ rows_keep rows c mark full way people at h t =
     subst IsAllowed (same-crowd all c t) (allowed (stays_by all) c _ (taken rows c mark full way people at h).1 t)
 
 -- nobody's turn is missed where no first such person is found
-pub none-found : (p : List ℕ → Bool) (who : List ℕ) (rest : List (List ℕ)) → turn_refusal (find p (who ∷ rest)) ≡ None → (p who ≡ false) × (turn_refusal (find p rest) ≡ None)
+pub none-found : (p : List ℕ → Bool) (who : List ℕ) (rest : List (List ℕ)) → turn_refusal (find p (who ∷ rest)) ≡ None
+    → (p who ≡ false) × (turn_refusal (find p rest) ≡ None)
 none-found p who rest h = by_test (p who) refl h
   where
     by_test : (b : Bool) → p who ≡ b → turn_refusal (cond b (Some who) (find p rest)) ≡ None → (p who ≡ false) × (turn_refusal (find p rest) ≡ None)
@@ -64,7 +72,8 @@ none-found p who rest h = by_test (p who) refl h
     by_test false e h = (e, h)
 
 -- another person's row changes nothing of this one's last row
-pub last-other : (rows : List SheetRow) (row : SheetRow) (who : List ℕ) → same_text row.who who ≡ false → last_row_of (rows ++ (row ∷ [])) who ≡ last_row_of rows who
+pub last-other : (rows : List SheetRow) (row : SheetRow) (who : List ℕ) → same_text row.who who ≡ false
+    → last_row_of (rows ++ (row ∷ [])) who ≡ last_row_of rows who
 last-other rows row who h = ap last_row (filter-append (of_person who) rows (row ∷ [])) ∙ rw (h, append-nil (filter (of_person who) rows))
 
 pub in_turn-append : (before rows more : List SheetRow) → in_turn_onto before (rows ++ more) ≡ (in_turn_onto before rows && in_turn_onto (before ++ rows) more)
@@ -74,15 +83,19 @@ in_turn-append before (row ∷ rows) more =
     (sym (and-assoc (not (is_out_of_turn_by before row.ceremony row.way row.at row.who)) (in_turn_onto (before ++ (row ∷ [])) rows) (in_turn_onto (before ++ (row ∷ rows)) more)))
 
 -- people of whom each has the turn have it still where others of them came before
-pub turn-others : (rows : List SheetRow) (c : ℕ) (way : Way) (at : ℕ) (first : List ℕ) (people : List (List ℕ)) → list_any (same_text first) people ≡ false → turn_refusal (find (is_out_of_turn_by rows c way at) people) ≡ None → turn_refusal (find (is_out_of_turn_by (rows ++ (new_row c way at first ∷ [])) c way at) people) ≡ None
+pub turn-others : (rows : List SheetRow) (c : ℕ) (way : Way) (at : ℕ) (first : List ℕ) (people : List (List ℕ)) → list_any (same_text first) people ≡ false
+    → turn_refusal (find (is_out_of_turn_by rows c way at) people) ≡ None
+    → turn_refusal (find (is_out_of_turn_by (rows ++ (new_row c way at first ∷ [])) c way at) people) ≡ None
 turn-others rows c way at first [] a h = refl
 turn-others rows c way at first (who ∷ rest) a h =
     let n = none-found (is_out_of_turn_by rows c way at) who rest h in
     let d = or_parts (same_text first who) (list_any (same_text first) rest) a in
-    let e : is_out_of_turn_by (rows ++ (new_row c way at first ∷ [])) c way at who ≡ false = ap (λ last. is_out_of_turn way c at last) (last-other rows (new_row c way at first) who d.0) ∙ n.0 in
+    let e : is_out_of_turn_by (rows ++ (new_row c way at first ∷ [])) c way at who ≡ false =
+        ap (λ last. is_out_of_turn way c at last) (last-other rows (new_row c way at first) who d.0) ∙ n.0 in
     rw e (turn-others rows c way at first rest d.1 n.1)
 
-turns-more : (rows : List SheetRow) (c : ℕ) (way : Way) (at : ℕ) (people : List (List ℕ)) → are_apart people ≡ true → turn_refusal (find (is_out_of_turn_by rows c way at) people) ≡ None → in_turn_onto rows (map (new_row c way at) people) ≡ true
+turns-more : (rows : List SheetRow) (c : ℕ) (way : Way) (at : ℕ) (people : List (List ℕ)) → are_apart people ≡ true
+    → turn_refusal (find (is_out_of_turn_by rows c way at) people) ≡ None → in_turn_onto rows (map (new_row c way at) people) ≡ true
 turns-more rows c way at [] a h = refl
 turns-more rows c way at (who ∷ rest) a h =
     let d = and_parts (not (list_any (same_text who) rest)) (are_apart rest) a in
@@ -93,7 +106,8 @@ turns-more rows c way at (who ∷ rest) a h =
 pub turns_keep : TurnsKeep
 turns_keep rows c mark full way people at apart h s =
     in_turn-append [] rows (map (new_row c way at) people)
-    ∙ and_from (in_turn_onto [] rows) (in_turn_onto rows (map (new_row c way at) people)) s (turns-more rows c way at people apart (taken rows c mark full way people at h).0)
+    ∙ and_from (in_turn_onto [] rows) (in_turn_onto rows (map (new_row c way at) people)) s
+    (turns-more rows c way at people apart (taken rows c mark full way people at h).0)
 
 -- a test finds in a list put in order what it finds in the list
 pub any-put : (p : List ℕ → Bool) (who : List ℕ) (people : List (List ℕ)) → list_any p (put_person who people) ≡ (p who || list_any p people)

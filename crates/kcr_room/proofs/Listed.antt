@@ -3,7 +3,8 @@ use Rattle.std.proofs.Common.{◌≡◌, ℕ, Bool, true, false, cond, not, ◌=
 use Rattle.std.specs.List.{list_all, filter}
 use Rattle.std.specs.List.Sorted.{IsPermutation}
 use Rattle.std.proofs.lemmas.Bool.Decides.{nat_tests}
-use Rattle.std.proofs.lemmas.List.Sorted.{IsPermutation-refl, IsPermutation-sym, IsPermutation-cons, IsPermutation-trans, IsPermutation-middle, IsPermutation-append_right}
+use Rattle.std.proofs.lemmas.List.Sorted.{IsPermutation-refl, IsPermutation-sym, IsPermutation-cons, IsPermutation-trans, IsPermutation-middle}
+use Rattle.std.proofs.lemmas.List.Sorted.{IsPermutation-append_right}
 use Rattle.kcr_room.specs.declared.Stay.{Stay}
 use Rattle.kcr_room.specs.Stays.{is_listed_before, put_stay, listed_onto, attendance_in_by, are_listed}
 use Rattle.kcr_room.proofs.Orders.{before-turned, behind}
@@ -14,7 +15,8 @@ put-moves : (stay : Stay) (stays : List Stay) → IsPermutation (stay ∷ stays)
 put-moves stay [] = IsPermutation-refl (stay ∷ [])
 put-moves stay (other ∷ rest) = by_order (is_listed_before other stay) (put-moves stay rest)
   where
-    by_order : (b : Bool) → IsPermutation (stay ∷ rest) (put_stay stay rest) → IsPermutation (stay ∷ other ∷ rest) (cond b (other ∷ put_stay stay rest) (stay ∷ other ∷ rest))
+    by_order : (b : Bool) → IsPermutation (stay ∷ rest) (put_stay stay rest)
+        → IsPermutation (stay ∷ other ∷ rest) (cond b (other ∷ put_stay stay rest) (stay ∷ other ∷ rest))
     by_order true ih =
         IsPermutation-trans (stay ∷ other ∷ rest) (other ∷ stay ∷ rest) (other ∷ put_stay stay rest)
         (IsPermutation-middle (stay ∷ []) other rest) (IsPermutation-cons other (stay ∷ rest) (put_stay stay rest) ih)
@@ -47,7 +49,8 @@ all-put : (p : Stay → Bool) (stay : Stay) (stays : List Stay) → p stay ≡ t
 all-put p stay [] h a = rw h refl
 all-put p stay (other ∷ rest) h a = grind (arith, nat_tests, h, a, all-put p stay rest)
 
-all-behind : (stay other : Stay) (stays : List Stay) → is_listed_before other stay ≡ false → list_all (λ s. not (is_listed_before s other)) stays ≡ true → list_all (λ s. not (is_listed_before s stay)) stays ≡ true
+all-behind : (stay other : Stay) (stays : List Stay) → is_listed_before other stay ≡ false → list_all (λ s. not (is_listed_before s other)) stays ≡ true
+    → list_all (λ s. not (is_listed_before s stay)) stays ≡ true
 all-behind stay other [] h a = refl
 all-behind stay other (s ∷ rest) h a = grind (arith, nat_tests, a, listed-behind s other stay, all-behind stay other rest h)
 

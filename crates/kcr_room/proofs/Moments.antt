@@ -1,5 +1,6 @@
 -- Who is in a room by stays changes at the moments of the stays alone.
-use Rattle.std.proofs.Common.{◌≡◌, ℕ, ◌+◌, ◌≤◌, Bool, true, false, cond, ◌&&◌, ◌==◌, nat_le, nat_lt, List, [], ◌∷◌, ◌++◌, map, Option, Some, None, refl, sym, ap, ◌∙◌, arith, subst}
+use Rattle.std.proofs.Common.{◌≡◌, ℕ, ◌+◌, ◌≤◌, Bool, true, false, cond, ◌&&◌, ◌==◌, nat_le, nat_lt, List, [], ◌∷◌, ◌++◌, map, Option, Some, None, refl, sym}
+use Rattle.std.proofs.Common.{ap, ◌∙◌, arith, subst}
 use Rattle.std.specs.List.{AllByRecursion, list_any, count_by, filter, filter_map}
 use Rattle.std.proofs.lemmas.Bool.{ltb-true, ltb-false, le-ltb}
 use Rattle.std.proofs.lemmas.Bool.Decides.{nat_tests}
@@ -10,7 +11,8 @@ use Rattle.kcr_room.specs.Adding.{of_ceremony}
 use Rattle.kcr_room.specs.Comings.{is_held, comings_by, goings_by, count_until}
 use Rattle.kcr_room.specs.Room.{crowd_by}
 use Rattle.kcr_room.specs.Moments.{IsFirst, IsEver}
-use Rattle.kcr_room.specs.Stays.{lasts_at, holds, crowd_in_by, is_lone_in_by, is_crowd_in_by, ends, moments_in, first_lone_in_by, is_crowd_at, is_crowded_in_by, stays_by}
+use Rattle.kcr_room.specs.Stays.{lasts_at, holds, crowd_in_by, is_lone_in_by, is_crowd_in_by, ends, moments_in, first_lone_in_by, is_crowd_at, is_crowded_in_by}
+use Rattle.kcr_room.specs.Stays.{stays_by}
 use Rattle.kcr_room.proofs.Firsts.{SameSide, Behind, IsSteady, is_first, is_first-same, is_ever}
 use Rattle.kcr_room.proofs.Agreement.{same-crowd}
 use Rattle.kcr_room.proofs.Lists.{count-cons}
@@ -68,7 +70,8 @@ parts P (stay ∷ stays) c a = by_tests (stay.ceremony == c) stay.until a (parts
     by_tests true None a ih = let d = ih a.1 in ((a.0, d.0), d.1)
     by_tests true (Some u) a ih = by_held (nat_lt stay.since u) (ih a.1.1)
       where
-        by_held : (b : Bool) → Parts P (filter (is_held c) stays) → Parts P (cond b (record stay { until = Some u } ∷ filter (is_held c) stays) (filter (is_held c) stays))
+        by_held : (b : Bool) → Parts P (filter (is_held c) stays)
+            → Parts P (cond b (record stay { until = Some u } ∷ filter (is_held c) stays) (filter (is_held c) stays))
         by_held true d = ((a.0, d.0), (a.1.0, d.1))
         by_held false d = d
 
@@ -82,7 +85,8 @@ lone-steady stays c = record {
     nobody : (t : ℕ) → count_until (comings_by stays c) t ≡ 0 → crowd_in_by stays c t ≡ 0
     nobody t h = omega (arith, balance stays c t, h)
 
-    as_many : (m t : ℕ) → count_until (comings_by stays c) m ≡ count_until (comings_by stays c) t → count_until (goings_by stays c) m ≡ count_until (goings_by stays c) t
+    as_many : (m t : ℕ) → count_until (comings_by stays c) m ≡ count_until (comings_by stays c) t
+        → count_until (goings_by stays c) m ≡ count_until (goings_by stays c) t
         → crowd_in_by stays c m ≡ crowd_in_by stays c t
     as_many m t h k = omega (arith, balance stays c m, balance stays c t, h, k)
 
@@ -135,7 +139,8 @@ crowded-by_rows rows c false h = λ t. subst (λ n. nat_lt 128 n ≡ false) (sam
 -- where the ceremony has few stays no crowd can be there
 crowd-few : (stays : List Stay) (c t : ℕ) → crowd_in_by stays c t ≤ count_by (of_ceremony c) stays
 crowd-few [] c t = omega arith
-crowd-few (stay ∷ stays) c t = grind (arith, nat_tests, crowd-cons stay stays c t, sum_by-cons (λ s. cond (of_ceremony c s) 1 0) stay stays, crowd-few stays c t)
+crowd-few (stay ∷ stays) c t =
+    grind (arith, nat_tests, crowd-cons stay stays c t, sum_by-cons (λ s. cond (of_ceremony c s) 1 0) stay stays, crowd-few stays c t)
 
 pub crowded-some : (stays : List Stay) (c : ℕ) → (nat_lt 128 (count_by (of_ceremony c) stays) && is_crowded_in_by stays c) ≡ is_crowded_in_by stays c
 crowded-some stays c = by_answers (nat_lt 128 (count_by (of_ceremony c) stays)) refl (is_crowded_in_by stays c) (crowded-is_ever stays c)

@@ -4,7 +4,8 @@ use Rattle.std.specs.List.{filter, find}
 use Rattle.std.specs.List.Sorted.{IsPermutation}
 use Rattle.std.proofs.lemmas.Bool.Decides.{nat_tests}
 use Rattle.kcr_base.proofs.RowsLemmas.{Shuffled, shuffled}
-use Rattle.std.proofs.lemmas.List.Sorted.{IsPermutation-refl, IsPermutation-map, IsPermutation-append_left, length_permutation, sum_by-IsPermutation, list_any-IsPermutation}
+use Rattle.std.proofs.lemmas.List.Sorted.{IsPermutation-refl, IsPermutation-map, IsPermutation-append_left, length_permutation, sum_by-IsPermutation}
+use Rattle.std.proofs.lemmas.List.Sorted.{list_any-IsPermutation}
 use Rattle.std.specs.Ordering.{nat_cmp, is_lt, ordering_reverse}
 use Rattle.std.specs.Cmp.Lexicographic.{slice_cmp}
 use Rattle.std.proofs.lemmas.Cmp.{nat_list_cmp_total}
@@ -16,7 +17,8 @@ use Rattle.kcr_room.specs.declared.Way.TheVariants.{Enter, Leave}
 use Rattle.kcr_room.specs.declared.Stay.{Stay}
 use Rattle.kcr_room.specs.Room.{ascending_onto, put_person}
 use Rattle.kcr_room.specs.Stays.{holds, crowd_in_by, present_in_by, first_lone_in_by, is_crowded_in_by}
-use Rattle.kcr_room.specs.Adding.{reaches, is_inside, is_inside_of, is_out_of_turn_in, new_stay, closed, of_ceremony, after, ends_by, changed_stays, turn_refusal, is_overfull, later_refusal, stays_refusal}
+use Rattle.kcr_room.specs.Adding.{reaches, is_inside, is_inside_of, is_out_of_turn_in, new_stay, closed, of_ceremony, after, ends_by, changed_stays}
+use Rattle.kcr_room.specs.Adding.{turn_refusal, is_overfull, later_refusal, stays_refusal}
 use Rattle.kcr_room.proofs.Lists.{IsPermutation-filter}
 use Rattle.kcr_room.proofs.Agreement.{same-is}
 use Rattle.kcr_room.proofs.Refusals.{lone-same, crowded-same, refused-same, find-same}
@@ -65,7 +67,8 @@ present-order xs ys p c t =
 
 -- REFUSALS
 
-after-order : (xs ys : List Stay) → IsPermutation xs ys → (c : ℕ) (way : Way) (people : List (List ℕ)) (at : ℕ) → IsPermutation (after xs c way people at) (after ys c way people at)
+after-order : (xs ys : List Stay) → IsPermutation xs ys → (c : ℕ) (way : Way) (people : List (List ℕ)) (at : ℕ)
+    → IsPermutation (after xs c way people at) (after ys c way people at)
 after-order xs ys p c Enter people at = IsPermutation-append_left (map (new_stay c at) people) _ _ (IsPermutation-filter (of_ceremony c) xs ys p)
 after-order xs ys p c Leave people at = IsPermutation-map (closed people at) _ _ (IsPermutation-filter (of_ceremony c) xs ys p)
 
@@ -76,11 +79,13 @@ overfull-order xs ys p Leave = refl
 later-order : (xs ys : List Stay) → IsPermutation xs ys → (c : ℕ) (full : Bool) (way : Way) → later_refusal ys c full way ≡ later_refusal xs c full way
 later-order xs ys p c full way = refused-same ys xs c _ _ full (crowd-order xs ys p c) (overfull-order xs ys p way)
 
-turn-order : (xs ys : List Stay) → IsPermutation xs ys → (c : ℕ) (way : Way) (at : ℕ) (who : List ℕ) → is_out_of_turn_in ys c way at who ≡ is_out_of_turn_in xs c way at who
+turn-order : (xs ys : List Stay) → IsPermutation xs ys → (c : ℕ) (way : Way) (at : ℕ) (who : List ℕ)
+    → is_out_of_turn_in ys c way at who ≡ is_out_of_turn_in xs c way at who
 turn-order xs ys p c Enter at who = rw (list_any-IsPermutation (reaches who at) xs ys p, list_any-IsPermutation (is_inside who) xs ys p)
 turn-order xs ys p c Leave at who = rw (list_any-IsPermutation (reaches who at) xs ys p, list_any-IsPermutation (is_inside_of c who) xs ys p)
 
-pub refusal-order : (xs ys : List Stay) → IsPermutation xs ys → (c mark : ℕ) (full : Bool) (way : Way) (people : List (List ℕ)) (at : ℕ) → stays_refusal ys c mark full way people at ≡ stays_refusal xs c mark full way people at
+pub refusal-order : (xs ys : List Stay) → IsPermutation xs ys → (c mark : ℕ) (full : Bool) (way : Way) (people : List (List ℕ)) (at : ℕ)
+    → stays_refusal ys c mark full way people at ≡ stays_refusal xs c mark full way people at
 refusal-order xs ys p c mark full way people at =
     ap (λ o. first_of (when (nat_le at mark) (Late mark) ∷ turn_refusal o ∷ later_refusal (after ys c way people at) c full way ∷ []))
     (find-same (is_out_of_turn_in ys c way at) (is_out_of_turn_in xs c way at) (turn-order xs ys p c way at) people)
@@ -89,7 +94,8 @@ refusal-order xs ys p c mark full way people at =
 
 -- CHANGES
 
-pub changes-order : (xs ys : List Stay) → IsPermutation xs ys → (c : ℕ) (way : Way) (people : List (List ℕ)) (at : ℕ) → IsPermutation (changed_stays xs c way people at) (changed_stays ys c way people at)
+pub changes-order : (xs ys : List Stay) → IsPermutation xs ys → (c : ℕ) (way : Way) (people : List (List ℕ)) (at : ℕ)
+    → IsPermutation (changed_stays xs c way people at) (changed_stays ys c way people at)
 changes-order xs ys p c Enter people at = IsPermutation-refl (map (new_stay c at) people)
 changes-order xs ys p c Leave people at =
     IsPermutation-map (closed people at) (filter (ends_by c people) xs) (filter (ends_by c people) ys) (IsPermutation-filter (ends_by c people) xs ys p)

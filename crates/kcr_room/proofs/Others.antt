@@ -1,5 +1,6 @@
 -- Rows added for one ceremony leave the rooms of the others as they are.
-use Rattle.std.proofs.Common.{◌≡◌, ℕ, Bool, true, false, cond, ◌&&◌, ◌==◌, nat_le, List, [], ◌∷◌, ◌++◌, map, length, Option, Some, None, refl, sym, ap, ◌∙◌, arith, append-nil}
+use Rattle.std.proofs.Common.{◌≡◌, ℕ, Bool, true, false, cond, ◌&&◌, ◌==◌, nat_le, List, [], ◌∷◌, ◌++◌, map, length, Option, Some, None, refl, sym, ap, ◌∙◌}
+use Rattle.std.proofs.Common.{arith, append-nil}
 use Rattle.std.specs.List.{list_any, filter, find}
 use Rattle.std.proofs.lemmas.Bool.Decides.{nat_tests}
 use Rattle.std.proofs.lemmas.Bool.{or_parts}
@@ -23,11 +24,14 @@ no-new c other t at [] h = refl
 no-new c other t at (who ∷ rest) h = rw h (no-new c other t at rest h)
 
 -- where none of the people is inside the other room, closing their stays changes nothing there
-closed-apart : (other t at : ℕ) (people : List (List ℕ)) (stays : List Stay) → ((who : List ℕ) → is_among people who ≡ true → list_any (is_inside_of other who) stays ≡ false) → length (filter (holds other t) (map (closed people at) stays)) ≡ length (filter (holds other t) stays)
+closed-apart : (other t at : ℕ) (people : List (List ℕ)) (stays : List Stay)
+    → ((who : List ℕ) → is_among people who ≡ true → list_any (is_inside_of other who) stays ≡ false)
+    → length (filter (holds other t) (map (closed people at) stays)) ≡ length (filter (holds other t) stays)
 closed-apart other t at people [] h = refl
 closed-apart other t at people (stay ∷ stays) h =
     ap (λ b. length (cond b (closed people at stay ∷ filter (holds other t) (map (closed people at) stays)) (filter (holds other t) (map (closed people at) stays)))) (by_until stay.until (λ m. (or_parts (is_inside_of other stay.who stay) (list_any (is_inside_of other stay.who) stays) (h stay.who m)).0))
-    ∙ by_test (holds other t stay) (closed-apart other t at people stays (λ who m. (or_parts (is_inside_of other who stay) (list_any (is_inside_of other who) stays) (h who m)).1))
+    ∙ by_test (holds other t stay)
+    (closed-apart other t at people stays (λ who m. (or_parts (is_inside_of other who stay) (list_any (is_inside_of other who) stays) (h who m)).1))
   where
     by_test : (b : Bool) → length (filter (holds other t) (map (closed people at) stays)) ≡ length (filter (holds other t) stays)
         → length (cond b (closed people at stay ∷ filter (holds other t) (map (closed people at) stays)) (filter (holds other t) (map (closed people at) stays)))
@@ -35,7 +39,8 @@ closed-apart other t at people (stay ∷ stays) h =
     by_test b ih = grind (arith, nat_tests, ih)
 
     by_until : (until : Option ℕ) → (is_among people stay.who ≡ true → ((same_text stay.who stay.who && is_open until) && stay.ceremony == other) ≡ false)
-        → ((stay.ceremony == other && nat_le stay.since t) && lasts_at t (cond (is_among people stay.who && is_open until) (Some at) until)) ≡ ((stay.ceremony == other && nat_le stay.since t) && lasts_at t until)
+        → ((stay.ceremony == other && nat_le stay.since t) && lasts_at t (cond (is_among people stay.who && is_open until) (Some at) until))
+        ≡ ((stay.ceremony == other && nat_le stay.since t) && lasts_at t until)
     by_until None e = grind (arith, nat_tests, e, same-itself stay.who)
     by_until (Some u) e = grind (arith, nat_tests)
 
@@ -57,16 +62,19 @@ others_keep rows s c mark full way people at a h other t d =
     let all : List SheetRow = rows ++ map (new_row c way at) people in
     let k = (taken rows c mark full way people at h).0 in
     sym (same-crowd all other t)
-    ∙ ap (λ stays. crowd_in_by stays other t) (stays-append rows (map (new_row c way at) people) [] [] ∙ added-onto c way at people rows (stays_by rows) (tells-sheet rows s) a k)
+    ∙ ap (λ stays. crowd_in_by stays other t)
+    (stays-append rows (map (new_row c way at) people) [] [] ∙ added-onto c way at people rows (stays_by rows) (tells-sheet rows s) a k)
     ∙ by_way way k
     ∙ same-crowd rows other t
   where
-    by_way : (way : Way) → turn_refusal (find (is_out_of_turn_by rows c way at) people) ≡ None → crowd_in_by (added c way at people (stays_by rows)) other t ≡ crowd_in_by (stays_by rows) other t
+    by_way : (way : Way) → turn_refusal (find (is_out_of_turn_by rows c way at) people) ≡ None
+        → crowd_in_by (added c way at people (stays_by rows)) other t ≡ crowd_in_by (stays_by rows) other t
     by_way Enter k =
         sym (length-filter (holds other t) (stays_by rows ++ map (new_stay c at) people))
         ∙ ap length (filter-append (holds other t) (stays_by rows) (map (new_stay c at) people) ∙ ap (λ more. filter (holds other t) (stays_by rows) ++ more) (no-new c other t at people d) ∙ append-nil (filter (holds other t) (stays_by rows)))
         ∙ length-filter (holds other t) (stays_by rows)
     by_way Leave k =
         sym (length-filter (holds other t) (map (closed people at) (stays_by rows)))
-        ∙ closed-apart other t at people (stays_by rows) (λ who m. (tells-sheet rows s who).inside_of other ∙ in-no-other c other at (last_row_of rows who) d (among-turn (is_out_of_turn_by rows c Leave at) people k who m))
+        ∙ closed-apart other t at people (stays_by rows)
+        (λ who m. (tells-sheet rows s who).inside_of other ∙ in-no-other c other at (last_row_of rows who) d (among-turn (is_out_of_turn_by rows c Leave at) people k who m))
         ∙ length-filter (holds other t) (stays_by rows)

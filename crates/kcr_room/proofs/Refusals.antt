@@ -1,5 +1,6 @@
 -- Of a sheet whose rows came in their turn, a request is refused alike by rows and by stays.
-use Rattle.std.proofs.Common.{◌≡◌, ℕ, Bool, true, false, ◌||◌, ◌==◌, nat_le, nat_lt, List, [], ◌∷◌, ◌++◌, map, length, Option, Some, None, refl, sym, ap, ◌∙◌, arith}
+use Rattle.std.proofs.Common.{◌≡◌, ℕ, Bool, true, false, ◌||◌, ◌==◌, nat_le, nat_lt, List, [], ◌∷◌, ◌++◌, map, length, Option, Some, None, refl, sym, ap, ◌∙◌}
+use Rattle.std.proofs.Common.{arith}
 use Rattle.std.specs.List.{filter, find}
 use Rattle.std.proofs.lemmas.Bool.Decides.{nat_tests}
 use Rattle.std.proofs.lemmas.Bool.{both_ways}
@@ -12,7 +13,8 @@ use Rattle.kcr_room.specs.declared.Way.TheVariants.{Enter, Leave}
 use Rattle.kcr_room.specs.declared.Stay.{Stay}
 use Rattle.kcr_room.specs.Moments.{IsFirst, IsEver}
 use Rattle.kcr_room.specs.Stays.{holds, crowd_in_by, is_lone_in_by, is_crowd_in_by, first_lone_in_by, is_crowded_in_by, stays_by}
-use Rattle.kcr_room.specs.Adding.{turn_refusal, lone_refusal, later_refusal, sheet_refusal, after, of_ceremony, is_overfull, is_overfull_by, is_out_of_turn_by, is_out_of_turn_in, new_row}
+use Rattle.kcr_room.specs.Adding.{turn_refusal, lone_refusal, later_refusal, sheet_refusal, after, of_ceremony, is_overfull, is_overfull_by, is_out_of_turn_by}
+use Rattle.kcr_room.specs.Adding.{is_out_of_turn_in, new_row}
 use Rattle.kcr_room.specs.Laws.{SameRefusal, SameStays}
 use Rattle.kcr_room.proofs.Lists.{filter-kept}
 use Rattle.kcr_room.proofs.Moments.{first_lone-is_first, crowded-is_ever}
@@ -62,7 +64,8 @@ overfull-filter : (stays : List Stay) (c : ℕ) (way : Way) → is_overfull (fil
 overfull-filter stays c Enter = ap (λ n. nat_lt 1000 n) (length-filter (of_ceremony c) stays)
 overfull-filter stays c Leave = refl
 
-refusal-filter : (stays : List Stay) (c : ℕ) (full : Bool) (way : Way) → later_refusal (filter (of_ceremony c) stays) c full way ≡ sheet_refusal stays c full way
+refusal-filter : (stays : List Stay) (c : ℕ) (full : Bool) (way : Way)
+    → later_refusal (filter (of_ceremony c) stays) c full way ≡ sheet_refusal stays c full way
 refusal-filter stays c full way = refused-same (filter (of_ceremony c) stays) stays c _ _ full (crowd-filter stays c) (overfull-filter stays c way)
 
 pub find-same : (p q : List ℕ → Bool) → ((who : List ℕ) → p who ≡ q who) → (people : List (List ℕ)) → find p people ≡ find q people

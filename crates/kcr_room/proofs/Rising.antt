@@ -44,7 +44,8 @@ all-trans : (a b : List ℕ) (people : List (List ℕ)) → is_before a b ≡ tr
 all-trans a b [] h k = refl
 all-trans a b (who ∷ rest) h k = grind (arith, nat_tests, h, k, before-trans a b who, all-trans a b rest)
 
-rising-put : (who : List ℕ) (people : List (List ℕ)) → are_rising people ≡ true → list_any (same_text who) people ≡ false → are_rising (put_person who people) ≡ true
+rising-put : (who : List ℕ) (people : List (List ℕ)) → are_rising people ≡ true → list_any (same_text who) people ≡ false
+    → are_rising (put_person who people) ≡ true
 rising-put who [] r n = refl
 rising-put who (other ∷ rest) r n =
     let after = other-before other who in
@@ -55,11 +56,13 @@ abbrev are_new : List (List ℕ) → List (List ℕ) → Bool
 are_new done [] = true
 are_new done (who ∷ rest) = not (list_any (same_text who) done) && are_new done rest
 
-new-put : (who : List ℕ) (done rest : List (List ℕ)) → list_any (same_text who) rest ≡ false → are_new done rest ≡ true → are_new (put_person who done) rest ≡ true
+new-put : (who : List ℕ) (done rest : List (List ℕ)) → list_any (same_text who) rest ≡ false → are_new done rest ≡ true
+    → are_new (put_person who done) rest ≡ true
 new-put who done [] n a = refl
 new-put who done (other ∷ rest) n a = grind (arith, nat_tests, n, a, any-put (same_text other) who done, same-turned other who, new-put who done rest)
 
-rising-onto : (people done : List (List ℕ)) → are_apart people ≡ true → are_new done people ≡ true → are_rising done ≡ true → are_rising (ascending_onto done people) ≡ true
+rising-onto : (people done : List (List ℕ)) → are_apart people ≡ true → are_new done people ≡ true → are_rising done ≡ true
+    → are_rising (ascending_onto done people) ≡ true
 rising-onto [] done a n r = r
 rising-onto (who ∷ rest) done a n r =
     let d = and_parts (not (list_any (same_text who) rest)) (are_apart rest) a in
@@ -71,12 +74,14 @@ all-new : (people : List (List ℕ)) → are_new [] people ≡ true
 all-new [] = refl
 all-new (who ∷ rest) = all-new rest
 
-none-like : (c : ℕ) (who : List ℕ) (rows : List SheetRow) → length (filter (of_person who) rows) ≡ 0 → list_any (same_text who) (map (λ row. row.who) (filter (enters c) rows)) ≡ false
+none-like : (c : ℕ) (who : List ℕ) (rows : List SheetRow) → length (filter (of_person who) rows) ≡ 0
+    → list_any (same_text who) (map (λ row. row.who) (filter (enters c) rows)) ≡ false
 none-like c who [] h = refl
 none-like c who (row ∷ rows) h = grind (arith, nat_tests, h, same-turned who row.who, none-like c who rows)
 
 -- where the list has one row of each person or none
-apart-single : (c : ℕ) (rows : List SheetRow) → ((who : List ℕ) → length (filter (of_person who) rows) ≤ 1) → are_apart (map (λ row. row.who) (filter (enters c) rows)) ≡ true
+apart-single : (c : ℕ) (rows : List SheetRow) → ((who : List ℕ) → length (filter (of_person who) rows) ≤ 1)
+    → are_apart (map (λ row. row.who) (filter (enters c) rows)) ≡ true
 apart-single c [] single = refl
 apart-single c (row ∷ rows) single =
     let rest = apart-single c rows (λ who. single-rest who (single who)) in
@@ -93,4 +98,6 @@ one-listed (Some row) = omega arith
 pub present_are_rising : PresentAreRising
 present_are_rising rows c t =
     let people : List (List ℕ) = map (λ row. row.who) (filter (enters c) (in_force t rows)) in
-    rising-onto people [] (apart-single c (in_force t rows) (λ who. rw (force-last who t rows [] None refl) (one-listed (last_row (filter (is_of who t) rows))))) (all-new people) refl
+    rising-onto people []
+    (apart-single c (in_force t rows) (λ who. rw (force-last who t rows [] None refl) (one-listed (last_row (filter (is_of who t) rows)))))
+    (all-new people) refl

@@ -1,5 +1,6 @@
 -- Of a sheet whose rows came in their turn, rows and stays are added alike.
-use Rattle.std.proofs.Common.{◌≡◌, ℕ, Bool, true, false, cond, not, ◌||◌, ◌&&◌, ◌==◌, nat_le, nat_lt, List, [], ◌∷◌, ◌++◌, map, Option, Some, None, refl, sym, ap, ◌∙◌, arith, subst, append-nil, append_assoc}
+use Rattle.std.proofs.Common.{◌≡◌, ℕ, Bool, true, false, cond, not, ◌||◌, ◌&&◌, ◌==◌, nat_le, nat_lt, List, [], ◌∷◌, ◌++◌, map, Option, Some, None, refl, sym}
+use Rattle.std.proofs.Common.{ap, ◌∙◌, arith, subst, append-nil, append_assoc}
 use Rattle.std.specs.List.{list_any, filter, find}
 use Rattle.std.proofs.lemmas.Bool.{true≢false, and_parts, or_parts, or_from, not-true}
 use Rattle.std.proofs.lemmas.Bool.Decides.{nat_tests}
@@ -12,7 +13,8 @@ use Rattle.kcr_room.specs.declared.SheetRow.{SheetRow}
 use Rattle.kcr_room.specs.declared.Stay.{Stay}
 use Rattle.kcr_room.specs.Room.{is_enter, later, last_onto, last_row, last_enters, last_row_of, is_ahead}
 use Rattle.kcr_room.specs.Stays.{sooner, cut, next_onto, stays_next, stays_onto, stays_by}
-use Rattle.kcr_room.specs.Adding.{is_open, ends_from, reaches, is_inside, is_inside_of, is_out_of_turn_in, is_among, new_stay, closed, of_ceremony, after, turn_refusal, is_no_turn, is_out_of_turn, is_out_of_turn_by, new_row}
+use Rattle.kcr_room.specs.Adding.{is_open, ends_from, reaches, is_inside, is_inside_of, is_out_of_turn_in, is_among, new_stay, closed, of_ceremony, after}
+use Rattle.kcr_room.specs.Adding.{turn_refusal, is_no_turn, is_out_of_turn, is_out_of_turn_by, new_row}
 use Rattle.kcr_base.specs.Lists.{are_apart}
 use Rattle.kcr_room.specs.Laws.{in_turn_onto, IsSheet}
 use Rattle.kcr_room.proofs.Lists.{any-filter}
@@ -23,12 +25,14 @@ use Rattle.kcr_room.proofs.Keeping.{last-other, none-found, turn-others, and-ass
 cut-enter-one : (row : SheetRow) (stay : Stay) → reaches row.who row.at stay ≡ false → is_inside row.who stay ≡ false → cut row stay ≡ stay
 cut-enter-one row stay r i = ap (λ until. record stay { until = until }) (ended stay.until r i)
   where
-    ended : (until : Option ℕ) → (same_text stay.who row.who && (nat_le row.at stay.since || ends_from row.at until)) ≡ false → (same_text stay.who row.who && is_open until) ≡ false
+    ended : (until : Option ℕ) → (same_text stay.who row.who && (nat_le row.at stay.since || ends_from row.at until)) ≡ false
+        → (same_text stay.who row.who && is_open until) ≡ false
         → cond (same_text stay.who row.who && nat_le stay.since row.at) (Some (sooner row.at until)) until ≡ until
     ended None r i = grind (arith, nat_tests, i)
     ended (Some u) r i = grind (arith, nat_tests, r)
 
-cut-enter : (row : SheetRow) (stays : List Stay) → list_any (reaches row.who row.at) stays ≡ false → list_any (is_inside row.who) stays ≡ false → map (cut row) stays ≡ stays
+cut-enter : (row : SheetRow) (stays : List Stay) → list_any (reaches row.who row.at) stays ≡ false → list_any (is_inside row.who) stays ≡ false
+    → map (cut row) stays ≡ stays
 cut-enter row [] r i = refl
 cut-enter row (stay ∷ stays) r i =
     let d = or_parts (reaches row.who row.at stay) (list_any (reaches row.who row.at) stays) r in
@@ -40,11 +44,13 @@ cut-leave-one : (row : SheetRow) (stay : Stay) → reaches row.who row.at stay �
 cut-leave-one row stay r = ap (λ until. record stay { until = until }) (ended stay.until r)
   where
     ended : (until : Option ℕ) → (same_text stay.who row.who && (nat_le row.at stay.since || ends_from row.at until)) ≡ false
-        → cond (same_text stay.who row.who && nat_le stay.since row.at) (Some (sooner row.at until)) until ≡ cond ((same_text stay.who row.who || false) && is_open until) (Some row.at) until
+        → cond (same_text stay.who row.who && nat_le stay.since row.at) (Some (sooner row.at until)) until
+        ≡ cond ((same_text stay.who row.who || false) && is_open until) (Some row.at) until
     ended None r = grind (arith, nat_tests, r)
     ended (Some u) r = grind (arith, nat_tests, r)
 
-cut-leave : (row : SheetRow) (stays : List Stay) → list_any (reaches row.who row.at) stays ≡ false → map (cut row) stays ≡ map (closed (row.who ∷ []) row.at) stays
+cut-leave : (row : SheetRow) (stays : List Stay) → list_any (reaches row.who row.at) stays ≡ false
+    → map (cut row) stays ≡ map (closed (row.who ∷ []) row.at) stays
 cut-leave row [] r = refl
 cut-leave row (stay ∷ stays) r =
     let d = or_parts (reaches row.who row.at stay) (list_any (reaches row.who row.at) stays) r in
@@ -71,7 +77,8 @@ pub record Tells (who : List ℕ) (last : Option SheetRow) (stays : List Stay) :
   pub inside_of : (c : ℕ) → list_any (is_inside_of c who) stays ≡ last_enters c last
 
 -- so it is a person's turn by the stays where it is by the rows
-pub same-turn : (who : List ℕ) (last : Option SheetRow) (stays : List Stay) → Tells who last stays → (c : ℕ) (way : Way) (at : ℕ) → is_out_of_turn_in stays c way at who ≡ is_out_of_turn way c at last
+pub same-turn : (who : List ℕ) (last : Option SheetRow) (stays : List Stay) → Tells who last stays → (c : ℕ) (way : Way) (at : ℕ)
+    → is_out_of_turn_in stays c way at who ≡ is_out_of_turn way c at last
 same-turn who None stays tells c Enter at = rw (tells.moments at, tells.inside)
 same-turn who None stays tells c Leave at = rw (tells.moments at, tells.inside_of c)
 same-turn who (Some row) stays tells c Enter at = rw (tells.moments at, tells.inside)
@@ -99,7 +106,8 @@ added c Leave at people stays = map (closed people at) stays
 
 -- the stays with a further row in its turn
 next-added : (before : List SheetRow) (stays : List Stay) (row : SheetRow) → Tells row.who (last_row_of before row.who) stays
-    → is_out_of_turn_by before row.ceremony row.way row.at row.who ≡ false → (way : Way) → row.way ≡ way → stays_next before stays row ≡ added row.ceremony way row.at (row.who ∷ []) stays
+    → is_out_of_turn_by before row.ceremony row.way row.at row.who ≡ false → (way : Way) → row.way ≡ way
+    → stays_next before stays row ≡ added row.ceremony way row.at (row.who ∷ []) stays
 next-added before stays row tells h Enter w =
     let last = last_row_of before row.who in
     let t : is_out_of_turn_in stays row.ceremony Enter row.at row.who ≡ false =
@@ -111,7 +119,9 @@ next-added before stays row tells h Leave w =
     rw (cut-leave row stays r, w) (append-nil (map (closed (row.who ∷ []) row.at) stays))
 
 -- closing somebody else's stays changes no test of this person's
-closed-other : (who other : List ℕ) (at : ℕ) (test : Stay → Bool) (f : ℕ → ℕ → Option ℕ → Bool) → ((stay : Stay) → test stay ≡ (same_text stay.who who && f stay.ceremony stay.since stay.until)) → same_text other who ≡ false → (stays : List Stay) → list_any test (map (closed (other ∷ []) at) stays) ≡ list_any test stays
+closed-other : (who other : List ℕ) (at : ℕ) (test : Stay → Bool) (f : ℕ → ℕ → Option ℕ → Bool)
+    → ((stay : Stay) → test stay ≡ (same_text stay.who who && f stay.ceremony stay.since stay.until)) → same_text other who ≡ false → (stays : List Stay)
+    → list_any test (map (closed (other ∷ []) at) stays) ≡ list_any test stays
 closed-other who other at test f shape h [] = refl
 closed-other who other at test f shape h (stay ∷ stays) =
     grind (arith, nat_tests, shape (closed (other ∷ []) at stay), shape stay, apart, closed-other who other at test f shape h stays)
@@ -120,11 +130,13 @@ closed-other who other at test f shape h (stay ∷ stays) =
     apart e = ap (λ w. same_text w other) (same-is stay.who who e) ∙ same-turned who other ∙ h
 
 -- closing a person's open stays: what they reach then, and that nobody is inside
-closed-reaches : (who : List ℕ) (at t : ℕ) (stays : List Stay) → list_any (reaches who t) (map (closed (who ∷ []) at) stays) ≡ (list_any (reaches who t) stays || (list_any (is_inside who) stays && nat_le t at))
+closed-reaches : (who : List ℕ) (at t : ℕ) (stays : List Stay)
+    → list_any (reaches who t) (map (closed (who ∷ []) at) stays) ≡ (list_any (reaches who t) stays || (list_any (is_inside who) stays && nat_le t at))
 closed-reaches who at t [] = refl
 closed-reaches who at t (stay ∷ stays) = by_until stay.until (closed-reaches who at t stays)
   where
-    by_until : (until : Option ℕ) → list_any (reaches who t) (map (closed (who ∷ []) at) stays) ≡ (list_any (reaches who t) stays || (list_any (is_inside who) stays && nat_le t at))
+    by_until : (until : Option ℕ)
+        → list_any (reaches who t) (map (closed (who ∷ []) at) stays) ≡ (list_any (reaches who t) stays || (list_any (is_inside who) stays && nat_le t at))
         → ((same_text stay.who who && (nat_le t stay.since || ends_from t (cond ((same_text stay.who who || false) && is_open until) (Some at) until))) || list_any (reaches who t) (map (closed (who ∷ []) at) stays))
         ≡ (((same_text stay.who who && (nat_le t stay.since || ends_from t until)) || list_any (reaches who t) stays) || (((same_text stay.who who && is_open until) || list_any (is_inside who) stays) && nat_le t at))
     by_until None ih = grind (arith, nat_tests, ih)
@@ -160,7 +172,8 @@ last-snoc last [] row = refl
 last-snoc last (other ∷ rows) row = last-snoc (later last other) rows row
 
 -- the person's own row is the last one then
-last-own : (before : List SheetRow) (row : SheetRow) → last_reaches row.at (last_row_of before row.who) ≡ false → last_row_of (before ++ (row ∷ [])) row.who ≡ Some row
+last-own : (before : List SheetRow) (row : SheetRow) → last_reaches row.at (last_row_of before row.who) ≡ false
+    → last_row_of (before ++ (row ∷ [])) row.who ≡ Some row
 last-own before row h =
     ap last_row (filter-append (of_person row.who) before (row ∷ []))
     ∙ ap (λ b. last_row (filter (of_person row.who) before ++ cond b (row ∷ []) [])) (same-itself row.who)
@@ -168,13 +181,15 @@ last-own before row h =
     ∙ not-later row (last_row_of before row.who) h
 
 -- what the stays tell of the person that a further row is of
-tells-own : (before : List SheetRow) (stays : List Stay) (row : SheetRow) → Tells row.who (last_row_of before row.who) stays → is_out_of_turn_by before row.ceremony row.way row.at row.who ≡ false → Tells row.who (Some row) (stays_next before stays row)
+tells-own : (before : List SheetRow) (stays : List Stay) (row : SheetRow) → Tells row.who (last_row_of before row.who) stays
+    → is_out_of_turn_by before row.ceremony row.way row.at row.who ≡ false → Tells row.who (Some row) (stays_next before stays row)
 tells-own before stays row tells h = by_way row.way refl
   where
     under : (at : ℕ) → (last_reaches at (last_row_of before row.who) || nat_le at row.at) ≡ nat_le at row.at
     under at = reach-under row.at at (last_row_of before row.who) (earlier-last row.way row.ceremony row.at (last_row_of before row.who) h)
 
-    one_more : (test : Stay → Bool) → row.way ≡ Enter → list_any test (stays_next before stays row) ≡ (list_any test stays || list_any test (new_stay row.ceremony row.at row.who ∷ []))
+    one_more : (test : Stay → Bool) → row.way ≡ Enter
+        → list_any test (stays_next before stays row) ≡ (list_any test stays || list_any test (new_stay row.ceremony row.at row.who ∷ []))
     one_more test w = ap (list_any test) (next-added before stays row tells h Enter w) ∙ list_any-append test stays (new_stay row.ceremony row.at row.who ∷ [])
 
     turn : (way : Way) → row.way ≡ way → is_out_of_turn way row.ceremony row.at (last_row_of before row.who) ≡ false
@@ -198,7 +213,9 @@ tells-own before stays row tells h = by_way row.way refl
         let came : last_inside (last_row_of before row.who) ≡ true = inside (last_row_of before row.who) (turn Leave w) in
         let gone = closed-inside row.who row.at stays in
         record {
-          moments = λ at. ap (list_any (reaches row.who at)) all ∙ closed-reaches row.who row.at at stays ∙ grind (arith, nat_tests, tells.moments at, tells.inside, came, under at);
+          moments =
+              λ at. ap (list_any (reaches row.who at)) all ∙ closed-reaches row.who row.at at stays
+              ∙ grind (arith, nat_tests, tells.moments at, tells.inside, came, under at);
           inside = ap (list_any (is_inside row.who)) all ∙ gone ∙ sym (ap is_enter w);
           inside_of = λ c.
               ap (list_any (is_inside_of c row.who)) all
@@ -211,12 +228,15 @@ tells-own before stays row tells h = by_way row.way refl
         inside (Some other) h = grind (arith, nat_tests, h)
 
 -- what the stays tell of somebody else
-tells-other : (before : List SheetRow) (stays : List Stay) (row : SheetRow) (who : List ℕ) → same_text row.who who ≡ false → Tells row.who (last_row_of before row.who) stays → is_out_of_turn_by before row.ceremony row.way row.at row.who ≡ false → Tells who (last_row_of before who) stays → Tells who (last_row_of before who) (stays_next before stays row)
+tells-other : (before : List SheetRow) (stays : List Stay) (row : SheetRow) (who : List ℕ) → same_text row.who who ≡ false
+    → Tells row.who (last_row_of before row.who) stays → is_out_of_turn_by before row.ceremony row.way row.at row.who ≡ false
+    → Tells who (last_row_of before who) stays → Tells who (last_row_of before who) (stays_next before stays row)
 tells-other before stays row who d own h tells = record {
   moments = λ at. kept (reaches who at) (λ c since until. nat_le at since || ends_from at until) (λ stay. refl) ∙ tells.moments at;
   inside = kept (is_inside who) (λ c since until. is_open until) (λ stay. refl) ∙ tells.inside;
   inside_of = λ c.
-      kept (is_inside_of c who) (λ d since until. is_open until && d == c) (λ stay. and-assoc (same_text stay.who who) (is_open stay.until) (stay.ceremony == c)) ∙ tells.inside_of c;
+      kept (is_inside_of c who) (λ d since until. is_open until && d == c)
+      (λ stay. and-assoc (same_text stay.who who) (is_open stay.until) (stay.ceremony == c)) ∙ tells.inside_of c;
 }
   where
     kept : (test : Stay → Bool) (f : ℕ → ℕ → Option ℕ → Bool) → ((stay : Stay) → test stay ≡ (same_text stay.who who && f stay.ceremony stay.since stay.until))
@@ -229,7 +249,9 @@ tells-other before stays row who d own h tells = record {
             ap (list_any test) (next-added before stays row own h Enter w) ∙ list_any-append test stays (new ∷ []) ∙ grind (arith, nat_tests, shape new, d)
         by_way Leave w = ap (list_any test) (next-added before stays row own h Leave w) ∙ closed-other who row.who row.at test f shape d stays
 
-tells-next : (before : List SheetRow) (stays : List Stay) (row : SheetRow) → ((who : List ℕ) → Tells who (last_row_of before who) stays) → is_out_of_turn_by before row.ceremony row.way row.at row.who ≡ false → (who : List ℕ) → Tells who (last_row_of (before ++ (row ∷ [])) who) (stays_next before stays row)
+tells-next : (before : List SheetRow) (stays : List Stay) (row : SheetRow) → ((who : List ℕ) → Tells who (last_row_of before who) stays)
+    → is_out_of_turn_by before row.ceremony row.way row.at row.who ≡ false → (who : List ℕ)
+    → Tells who (last_row_of (before ++ (row ∷ [])) who) (stays_next before stays row)
 tells-next before stays row tells h who = by_same (same_text row.who who) refl
   where
     by_same : (s : Bool) → same_text row.who who ≡ s → Tells who (last_row_of (before ++ (row ∷ [])) who) (stays_next before stays row)
@@ -237,9 +259,11 @@ tells-next before stays row tells h who = by_same (same_text row.who who) refl
         subst (λ w. Tells w (last_row_of (before ++ (row ∷ [])) w) (stays_next before stays row)) (same-is row.who who e)
         (subst (λ last. Tells row.who last (stays_next before stays row)) (sym (last-own before row (earlier-last row.way row.ceremony row.at (last_row_of before row.who) h))) (tells-own before stays row (tells row.who) h))
     by_same false e =
-        subst (λ last. Tells who last (stays_next before stays row)) (sym (last-other before row who e)) (tells-other before stays row who e (tells row.who) h (tells who))
+        subst (λ last. Tells who last (stays_next before stays row)) (sym (last-other before row who e))
+        (tells-other before stays row who e (tells row.who) h (tells who))
 
-tells-onto : (rows before : List SheetRow) (stays : List Stay) → ((who : List ℕ) → Tells who (last_row_of before who) stays) → in_turn_onto before rows ≡ true → (who : List ℕ) → Tells who (last_row_of (before ++ rows) who) (stays_onto before stays rows)
+tells-onto : (rows before : List SheetRow) (stays : List Stay) → ((who : List ℕ) → Tells who (last_row_of before who) stays) → in_turn_onto before rows ≡ true
+    → (who : List ℕ) → Tells who (last_row_of (before ++ rows) who) (stays_onto before stays rows)
 tells-onto [] before stays tells h who = subst (λ rows. Tells who (last_row_of rows who) stays) (sym (append-nil before)) (tells who)
 tells-onto (row ∷ rows) before stays tells h who =
     let p = and_parts (not (is_out_of_turn_by before row.ceremony row.way row.at row.who)) (in_turn_onto (before ++ (row ∷ [])) rows) h in
@@ -251,10 +275,12 @@ pub tells-sheet : (rows : List SheetRow) → IsSheet rows → (who : List ℕ) �
 tells-sheet rows s who = tells-onto rows [] [] (λ who. record { moments = λ at. refl; inside = refl; inside_of = λ c. refl }) s who
 
 -- it is somebody's turn by the stays of a sheet where it is by its rows
-pub same-turns : (rows : List SheetRow) → IsSheet rows → (c : ℕ) (way : Way) (at : ℕ) (who : List ℕ) → is_out_of_turn_by rows c way at who ≡ is_out_of_turn_in (stays_by rows) c way at who
+pub same-turns : (rows : List SheetRow) → IsSheet rows → (c : ℕ) (way : Way) (at : ℕ) (who : List ℕ)
+    → is_out_of_turn_by rows c way at who ≡ is_out_of_turn_in (stays_by rows) c way at who
 same-turns rows s c way at who = sym (same-turn who (last_row_of rows who) (stays_by rows) (tells-sheet rows s who) c way at)
 
-pub stays-append : (rows more before : List SheetRow) (stays : List Stay) → stays_onto before stays (rows ++ more) ≡ stays_onto (before ++ rows) (stays_onto before stays rows) more
+pub stays-append : (rows more before : List SheetRow) (stays : List Stay)
+    → stays_onto before stays (rows ++ more) ≡ stays_onto (before ++ rows) (stays_onto before stays rows) more
 stays-append [] more before stays = ap (λ all. stays_onto all stays more) (sym (append-nil before))
 stays-append (row ∷ rows) more before stays =
     stays-append rows more (before ++ (row ∷ [])) (stays_next before stays row)
@@ -264,14 +290,17 @@ closed-none : (at : ℕ) (stays : List Stay) → map (closed [] at) stays ≡ st
 closed-none at [] = refl
 closed-none at (stay ∷ stays) = ap (λ rest. stay ∷ rest) (closed-none at stays)
 
-closed-more : (who : List ℕ) (rest : List (List ℕ)) (at : ℕ) (stays : List Stay) → map (closed rest at) (map (closed (who ∷ []) at) stays) ≡ map (closed (who ∷ rest) at) stays
+closed-more : (who : List ℕ) (rest : List (List ℕ)) (at : ℕ) (stays : List Stay)
+    → map (closed rest at) (map (closed (who ∷ []) at) stays) ≡ map (closed (who ∷ rest) at) stays
 closed-more who rest at [] = refl
 closed-more who rest at (stay ∷ stays) =
-    ap (λ until. record stay { until = until } ∷ map (closed rest at) (map (closed (who ∷ []) at) stays)) (by_until (same_text stay.who who) (is_among rest stay.who) stay.until)
+    ap (λ until. record stay { until = until } ∷ map (closed rest at) (map (closed (who ∷ []) at) stays))
+    (by_until (same_text stay.who who) (is_among rest stay.who) stay.until)
     ∙ ap (λ more. closed (who ∷ rest) at stay ∷ more) (closed-more who rest at stays)
   where
     by_until : (a m : Bool) (until : Option ℕ)
-        → cond (m && is_open (cond ((a || false) && is_open until) (Some at) until)) (Some at) (cond ((a || false) && is_open until) (Some at) until) ≡ cond ((a || m) && is_open until) (Some at) until
+        → cond (m && is_open (cond ((a || false) && is_open until) (Some at) until)) (Some at) (cond ((a || false) && is_open until) (Some at) until)
+        ≡ cond ((a || m) && is_open until) (Some at) until
     by_until a m None = grind (arith, nat_tests)
     by_until a m (Some u) = grind (arith, nat_tests)
 
@@ -279,12 +308,15 @@ added-none : (c : ℕ) (way : Way) (at : ℕ) (stays : List Stay) → added c wa
 added-none c Enter at stays = append-nil stays
 added-none c Leave at stays = closed-none at stays
 
-added-more : (c : ℕ) (way : Way) (at : ℕ) (who : List ℕ) (rest : List (List ℕ)) (stays : List Stay) → added c way at rest (added c way at (who ∷ []) stays) ≡ added c way at (who ∷ rest) stays
+added-more : (c : ℕ) (way : Way) (at : ℕ) (who : List ℕ) (rest : List (List ℕ)) (stays : List Stay)
+    → added c way at rest (added c way at (who ∷ []) stays) ≡ added c way at (who ∷ rest) stays
 added-more c Enter at who rest stays = append_assoc stays (new_stay c at who ∷ []) (map (new_stay c at) rest)
 added-more c Leave at who rest stays = closed-more who rest at stays
 
-pub added-onto : (c : ℕ) (way : Way) (at : ℕ) (people : List (List ℕ)) (before : List SheetRow) (stays : List Stay) → ((who : List ℕ) → Tells who (last_row_of before who) stays)
-    → are_apart people ≡ true → turn_refusal (find (is_out_of_turn_by before c way at) people) ≡ None → stays_onto before stays (map (new_row c way at) people) ≡ added c way at people stays
+pub added-onto : (c : ℕ) (way : Way) (at : ℕ) (people : List (List ℕ)) (before : List SheetRow) (stays : List Stay)
+    → ((who : List ℕ) → Tells who (last_row_of before who) stays)
+    → are_apart people ≡ true → turn_refusal (find (is_out_of_turn_by before c way at) people) ≡ None
+    → stays_onto before stays (map (new_row c way at) people) ≡ added c way at people stays
 added-onto c way at [] before stays tells a h = sym (added-none c way at stays)
 added-onto c way at (who ∷ rest) before stays tells a h =
     let d = and_parts (not (list_any (same_text who) rest)) (are_apart rest) a in
@@ -299,16 +331,22 @@ filter-new : (c at : ℕ) (people : List (List ℕ)) → filter (of_ceremony c) 
 filter-new c at [] = refl
 filter-new c at (who ∷ rest) = grind (arith, nat_tests, filter-new c at rest)
 
-filter-closed : (c at : ℕ) (people : List (List ℕ)) (stays : List Stay) → filter (of_ceremony c) (map (closed people at) stays) ≡ map (closed people at) (filter (of_ceremony c) stays)
+filter-closed : (c at : ℕ) (people : List (List ℕ)) (stays : List Stay)
+    → filter (of_ceremony c) (map (closed people at) stays) ≡ map (closed people at) (filter (of_ceremony c) stays)
 filter-closed c at people [] = refl
 filter-closed c at people (stay ∷ stays) = grind (arith, nat_tests, filter-closed c at people stays)
 
 -- rows added to a sheet in their turn give the ceremony's stays as they are changed
-pub same-added : (rows : List SheetRow) → IsSheet rows → (c : ℕ) (way : Way) (at : ℕ) (people : List (List ℕ)) → are_apart people ≡ true → turn_refusal (find (is_out_of_turn_by rows c way at) people) ≡ None → filter (of_ceremony c) (stays_by (rows ++ map (new_row c way at) people)) ≡ after (stays_by rows) c way people at
+pub same-added : (rows : List SheetRow) → IsSheet rows → (c : ℕ) (way : Way) (at : ℕ) (people : List (List ℕ)) → are_apart people ≡ true
+    → turn_refusal (find (is_out_of_turn_by rows c way at) people) ≡ None
+    → filter (of_ceremony c) (stays_by (rows ++ map (new_row c way at) people)) ≡ after (stays_by rows) c way people at
 same-added rows s c way at people a h =
-    ap (filter (of_ceremony c)) (stays-append rows (map (new_row c way at) people) [] [] ∙ added-onto c way at people rows (stays_by rows) (tells-sheet rows s) a h)
+    ap (filter (of_ceremony c))
+    (stays-append rows (map (new_row c way at) people) [] [] ∙ added-onto c way at people rows (stays_by rows) (tells-sheet rows s) a h)
     ∙ by_way way
   where
     by_way : (way : Way) → filter (of_ceremony c) (added c way at people (stays_by rows)) ≡ after (stays_by rows) c way people at
-    by_way Enter = filter-append (of_ceremony c) (stays_by rows) (map (new_stay c at) people) ∙ ap (λ more. filter (of_ceremony c) (stays_by rows) ++ more) (filter-new c at people)
+    by_way Enter =
+        filter-append (of_ceremony c) (stays_by rows) (map (new_stay c at) people)
+        ∙ ap (λ more. filter (of_ceremony c) (stays_by rows) ++ more) (filter-new c at people)
     by_way Leave = filter-closed c at people (stays_by rows)

@@ -1,5 +1,6 @@
 -- Steps in order, gone through from the last one back, tell each row's end.
-use Rattle.std.proofs.Common.{◌≡◌, ℕ, suc, ◌+◌, ◌<◌, ◌≤◌, Bool, true, false, cond, not, ◌||◌, ◌&&◌, ◌==◌, nat_le, nat_lt, List, [], ◌∷◌, ◌++◌, length, get_or, set, drop, Option, Some, None, refl, sym, ap, ◌∙◌, subst, arith, append-nil, append_assoc}
+use Rattle.std.proofs.Common.{◌≡◌, ℕ, suc, ◌+◌, ◌<◌, ◌≤◌, Bool, true, false, cond, not, ◌||◌, ◌&&◌, ◌==◌, nat_le, nat_lt, List, [], ◌∷◌, ◌++◌, length, get_or}
+use Rattle.std.proofs.Common.{set, drop, Option, Some, None, refl, sym, ap, ◌∙◌, subst, arith, append-nil, append_assoc}
 use Rattle.std.specs.List.{list_any, count_by, AllByRecursion}
 use Rattle.std.specs.List.Sorted.{IsPermutation, IsSortedBy}
 use Rattle.std.specs.declared.cmp.Ordering.{Ordering}
@@ -34,12 +35,14 @@ abbrev pub AreSorted : List Step → Type 0
 AreSorted steps = IsSortedBy (λ a b. is_lt (step_cmp a b)) steps
 
 ranked : IsStrictWeakOrder (λ a b. is_lt (step_cmp a b))
-ranked = ranks_by (then_total (on_total (λ (s : Step). s.at) nat_cmp_total) (then_total (on_total (λ (s : Step). s.place) nat_cmp_total) (on_total (λ (s : Step). s.who) nat_list_cmp_total))) (λ s. s)
+ranked =
+    ranks_by (then_total (on_total (λ (s : Step). s.at) nat_cmp_total) (then_total (on_total (λ (s : Step). s.place) nat_cmp_total) (on_total (λ (s : Step). s.who) nat_list_cmp_total))) (λ s. s)
 
 not-before : (a b : Step) → is_lt (step_cmp a b) ≡ false → before a b ≡ false
 not-before a b h = by_tests (nat_lt a.at b.at) (a.at == b.at) (nat_lt a.place b.place) h
   where
-    by_tests : (x y z : Bool) → is_lt (ordering_then (cond x Less (cond y Equal Greater)) (ordering_then (cond z Less (cond (a.place == b.place) Equal Greater)) (slice_cmp nat_cmp a.who b.who))) ≡ false → (x || (y && z)) ≡ false
+    by_tests : (x y z : Bool)
+        → is_lt (ordering_then (cond x Less (cond y Equal Greater)) (ordering_then (cond z Less (cond (a.place == b.place) Equal Greater)) (slice_cmp nat_cmp a.who b.who))) ≡ false → (x || (y && z)) ≡ false
     by_tests true y z h = absurd (both_ways true h refl)
     by_tests false true true h = absurd (both_ways true h refl)
     by_tests false true false h = refl
@@ -77,7 +80,8 @@ places-once i place (row ∷ rows) =
     grind (arith, nat_tests, k, places-once i (suc place) rows, places-above i (suc place) rows)
 
 -- of steps with each place once none behind a step has its place
-apart : (front back : List Step) (step : Step) → count_by (λ other. other.place == step.place) (front ++ (step ∷ back)) ≤ 1 → AllByRecursion (λ other. (other.place == step.place) ≡ false) back
+apart : (front back : List Step) (step : Step) → count_by (λ other. other.place == step.place) (front ++ (step ∷ back)) ≤ 1
+    → AllByRecursion (λ other. (other.place == step.place) ≡ false) back
 apart front back step h = none-behind (λ other. other.place == step.place) front back step (eq-eqb step.place step.place refl) h
 
 -- THE STEP THAT COMES NEXT
@@ -86,17 +90,20 @@ apart front back step h = none-behind (λ other. other.place == step.place) fron
 abbrev pub is_next_by : List Step → List ℕ → ℕ → Bool
 is_next_by steps who t = list_any (λ other. same_text other.who who && nat_le other.at t) steps
 
-followed-back : (step : Step) (t : ℕ) (back : List Step) → AllByRecursion (λ other. before other step ≡ false) back → AllByRecursion (λ other. (other.place == step.place) ≡ false) back
+followed-back : (step : Step) (t : ℕ) (back : List Step) → AllByRecursion (λ other. before other step ≡ false) back
+    → AllByRecursion (λ other. (other.place == step.place) ≡ false) back
     → list_any (λ other. follows step other && nat_le other.at t) back ≡ is_next_by back step.who t
 followed-back step t [] a b = refl
 followed-back step t (other ∷ back) a b = grind (arith, nat_tests, a.0, b.0, followed-back step t back a.1 b.1)
 
-followed-front : (step : Step) (t : ℕ) (front : List Step) → AllByRecursion (λ other. before step other ≡ false) front → list_any (λ other. follows step other && nat_le other.at t) front ≡ false
+followed-front : (step : Step) (t : ℕ) (front : List Step) → AllByRecursion (λ other. before step other ≡ false) front
+    → list_any (λ other. follows step other && nat_le other.at t) front ≡ false
 followed-front step t [] a = refl
 followed-front step t (other ∷ front) a = grind (arith, nat_tests, a.0, followed-front step t front a.1)
 
 -- the steps that follow are those of the person that stand behind
-followed : (front back : List Step) (step : Step) (t : ℕ) → AreSorted (front ++ (step ∷ back)) → count_by (λ other. other.place == step.place) (front ++ (step ∷ back)) ≤ 1
+followed : (front back : List Step) (step : Step) (t : ℕ) → AreSorted (front ++ (step ∷ back))
+    → count_by (λ other. other.place == step.place) (front ++ (step ∷ back)) ≤ 1
     → list_any (λ other. follows step other && nat_le other.at t) (front ++ (step ∷ back)) ≡ is_next_by back step.who t
 followed front back step t sorted once =
     let none = followed-front step t front (ahead front back step sorted) in
@@ -112,7 +119,8 @@ pub record Told (rows : List SheetRow) (all front : List Step) (next : List ℕ 
   pub ended : AllByRecursion (λ step. IsEnd (steps_by rows) step (get_or ends step.place None)) (drop (length front) all)
   pub many : length ends ≡ length rows
 
-pub told-init : (rows : List SheetRow) (all : List Step) (next : List ℕ → Option ℕ) (ends : List (Option ℕ)) → ((who : List ℕ) → next who ≡ None) → length ends ≡ length rows → Told rows all all next ends
+pub told-init : (rows : List SheetRow) (all : List Step) (next : List ℕ → Option ℕ) (ends : List (Option ℕ)) → ((who : List ℕ) → next who ≡ None)
+    → length ends ≡ length rows → Told rows all all next ends
 told-init rows all next ends none many =
     let e : drop (length all) all ≡ [] = drop_all (length all) all (omega arith) in
     record {
@@ -122,17 +130,21 @@ told-init rows all next ends none many =
       many = many;
     }
 
-none-next : (step : Step) (t : ℕ) (who : List ℕ) (back : List Step) → AllByRecursion (λ other. before other step ≡ false) back → nat_le step.at t ≡ false → is_next_by back who t ≡ false
+none-next : (step : Step) (t : ℕ) (who : List ℕ) (back : List Step) → AllByRecursion (λ other. before other step ≡ false) back → nat_le step.at t ≡ false
+    → is_next_by back who t ≡ false
 none-next step t who [] a h = refl
 none-next step t who (other ∷ back) a h = grind (arith, nat_tests, a.0, h, none-next step t who back a.1)
 
-soon-more : (step : Step) (back : List Step) (found : Option ℕ) (who : List ℕ) (t : ℕ) → AllByRecursion (λ other. before other step ≡ false) back → lasts_at t found ≡ not (is_next_by back who t)
+soon-more : (step : Step) (back : List Step) (found : Option ℕ) (who : List ℕ) (t : ℕ) → AllByRecursion (λ other. before other step ≡ false) back
+    → lasts_at t found ≡ not (is_next_by back who t)
     → lasts_at t (cond (same_text step.who who) (Some step.at) found) ≡ not (is_next_by (step ∷ back) who t)
 soon-more step back found who t a h = grind (arith, nat_tests, h, none-next step t who back a)
 
 -- an end that is written at another place changes none of these
-kept : (all : List Step) (ends : List (Option ℕ)) (place : ℕ) (until : Option ℕ) (steps : List Step) → AllByRecursion (λ other. (other.place == place) ≡ false) steps
-    → AllByRecursion (λ other. IsEnd all other (get_or ends other.place None)) steps → AllByRecursion (λ other. IsEnd all other (get_or (set ends place until) other.place None)) steps
+kept : (all : List Step) (ends : List (Option ℕ)) (place : ℕ) (until : Option ℕ) (steps : List Step)
+    → AllByRecursion (λ other. (other.place == place) ≡ false) steps
+    → AllByRecursion (λ other. IsEnd all other (get_or ends other.place None)) steps
+    → AllByRecursion (λ other. IsEnd all other (get_or (set ends place until) other.place None)) steps
 kept all ends place until [] n a = tt
 kept all ends place until (other ∷ steps) n a =
     (subst (IsEnd all other) (sym (get_or-set_other ends place other.place until None (eqb-false other.place place n.0))) a.0, kept all ends place until steps n.1 a.1)
@@ -156,8 +168,12 @@ module _ (rows : List SheetRow) (all front : List Step) (step : Step) (next : Li
 
   pub place-within : step.place < length ends
   place-within =
-      let w = All-permutation (λ step. step.place < length rows) (steps_by rows) all moved (All-from_recursion (λ step. step.place < length rows) (steps_by rows) (places-within (length rows) 0 rows (omega arith))) in
-      let h = in-middle (λ step. step.place < length rows) front back step (subst (AllByRecursion (λ step. step.place < length rows)) (sym split) (recursion_from_All (λ step. step.place < length rows) all w)) in
+      let w =
+          All-permutation (λ step. step.place < length rows) (steps_by rows) all moved
+          (All-from_recursion (λ step. step.place < length rows) (steps_by rows) (places-within (length rows) 0 rows (omega arith))) in
+      let h =
+          in-middle (λ step. step.place < length rows) front back step
+          (subst (AllByRecursion (λ step. step.place < length rows)) (sym split) (recursion_from_All (λ step. step.place < length rows) all w)) in
       omega (arith, h, told.many)
 
   module _ (sorted : AreSorted all) where
@@ -180,7 +196,8 @@ module _ (rows : List SheetRow) (all front : List Step) (step : Step) (next : Li
         told.soon step.who t
         ∙ ap not (sym (followed front back step t in-order once) ∙ ap (list_any (λ other. follows step other && nat_le other.at t)) split ∙ sym (list_any-IsPermutation (λ other. follows step other && nat_le other.at t) (steps_by rows) all moved))
 
-    pub told-next : (later : List ℕ → Option ℕ) → ((who : List ℕ) → later who ≡ cond (same_text step.who who) (Some step.at) (next who)) → Told rows all front later (set ends step.place (next step.who))
+    pub told-next : (later : List ℕ → Option ℕ) → ((who : List ℕ) → later who ≡ cond (same_text step.who who) (Some step.at) (next who))
+        → Told rows all front later (set ends step.place (next step.who))
     unfolding back
     told-next later e = record {
       left = ap (λ rest. front ++ rest) rest-is ∙ split;
@@ -197,7 +214,8 @@ module _ (rows : List SheetRow) (all front : List Step) (step : Step) (next : Li
     }
 
 -- where no step is left each has its end
-pub told-all : (rows : List SheetRow) (all : List Step) (next : List ℕ → Option ℕ) (ends : List (Option ℕ)) → IsPermutation (steps_by rows) all → Told rows all [] next ends → AreEnds rows ends
+pub told-all : (rows : List SheetRow) (all : List Step) (next : List ℕ → Option ℕ) (ends : List (Option ℕ)) → IsPermutation (steps_by rows) all
+    → Told rows all [] next ends → AreEnds rows ends
 told-all rows all next ends moved told = (
   told.many,
   All-permutation (λ step. IsEnd (steps_by rows) step (get_or ends step.place None)) all (steps_by rows) (IsPermutation-sym (steps_by rows) all moved)

@@ -7,4 +7,6 @@ abbrev pub invariant-loop-stay : goal.invariant-loop-stay
 invariant-loop-stay l = l.later.items ++ filter (of_ceremony l.ceremony) (drop l.stay-index l.stays) ≡ filter (of_ceremony l.ceremony) l.stays
 
 abbrev pub invariant-loop-who : goal.invariant-loop-who
-invariant-loop-who l = l.later.items ++ map (new_stay l.ceremony l.at) (drop l.who-index l.people) ≡ filter (of_ceremony l.ceremony) l.stays ++ map (new_stay l.ceremony l.at) l.people
+invariant-loop-who l =
+    l.later.items ++ map (new_stay l.ceremony l.at) (drop l.who-index l.people) ≡ filter (of_ceremony l.ceremony) l.stays ++ map
+    (new_stay l.ceremony l.at) l.people

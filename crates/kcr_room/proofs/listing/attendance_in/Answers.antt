@@ -9,7 +9,8 @@ use Rattle.kcr_room.proofs.listing.attendance_in.Goals as goal
 
 pub returns-clause-complete : goal.returns-clause-complete
 returns-clause-complete c =
-    IfOk-weaker c.stays_in_order.result (λ list. list.items ≡ attendance_in_by c.args.stays.now c.args.ceremony) (λ list. IsPermutation (filter (of_ceremony c.args.ceremony) c.args.stays.now) list.items)
+    IfOk-weaker c.stays_in_order.result (λ list. list.items ≡ attendance_in_by c.args.stays.now c.args.ceremony)
+    (λ list. IsPermutation (filter (of_ceremony c.args.ceremony) c.args.stays.now) list.items)
     (λ list e. subst (λ xs. IsPermutation (filter (of_ceremony c.args.ceremony) c.args.stays.now) xs) (sym e) (attendance-moves c.args.stays.now c.args.ceremony))
     c.stays_in_order.ensures
 

@@ -10,6 +10,7 @@ returns c =
     let ends = c.in_ok-ends.ends.items in
     subst (λ stays. IfOk c.stays_with.result (λ made. made.items ≡ stays))
     (ap (stays_with rows) c.deref.ensures.value
-    ∙ with-ends (steps_by rows) ends 0 rows (omega (arith, c.in_ok-ends.ensures.0)) (recursion_from_All (λ step. IsEnd (steps_by rows) step (get_or ends step.place None)) (steps_by rows) c.in_ok-ends.ensures.1)
+    ∙ with-ends (steps_by rows) ends 0 rows (omega (arith, c.in_ok-ends.ensures.0))
+    (recursion_from_All (λ step. IsEnd (steps_by rows) step (get_or ends step.place None)) (steps_by rows) c.in_ok-ends.ensures.1)
     ∙ sym (stays-told rows))
     c.stays_with.ensures

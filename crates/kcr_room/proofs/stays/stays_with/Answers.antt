@@ -10,6 +10,7 @@ loop-index-preserved c =
     c.loop-index-test.true c.requires c.index-rows-index.is c.index-ends-index.is
     in
     elim c.if-is_enter.branch [
-      | then-is_enter+in_ok-push w ↦ more true (sym c.is_enter.ensures ∙ w.if-is_enter.true) (ap (λ stays. stays.items) w.stays-is ∙ w.in_ok-push.ensures.items) ∙ c.loop-index.invariant
+      | then-is_enter+in_ok-push w ↦ more true (sym c.is_enter.ensures ∙ w.if-is_enter.true) (ap (λ stays. stays.items) w.stays-is ∙ w.in_ok-push.ensures.items)
+      ∙ c.loop-index.invariant
       | else-is_enter w ↦ more false (sym c.is_enter.ensures ∙ w.if-is_enter.false) (ap (λ stays. stays.items) w.stays-is) ∙ c.loop-index.invariant
     ]

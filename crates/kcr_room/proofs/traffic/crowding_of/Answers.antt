@@ -7,7 +7,8 @@ use Rattle.kcr_room.proofs.traffic.crowding_of.Goals as goal
 
 pub returns-clause-crowded : goal.returns-clause-crowded
 returns-clause-crowded c =
-    ever-unique (is_crowd_of c.in_ok-traffic.traffic) (is_crowd_in_by c.args.stays.now c.args.ceremony) (λ t. ap (λ n. nat_lt 128 n) (c.in_ok-traffic.ensures t))
+    ever-unique (is_crowd_of c.in_ok-traffic.traffic) (is_crowd_in_by c.args.stays.now c.args.ceremony)
+    (λ t. ap (λ n. nat_lt 128 n) (c.in_ok-traffic.ensures t))
     c.is_crowded.result (is_crowded_in_by c.args.stays.now c.args.ceremony) c.is_crowded.ensures (crowded-is_ever c.args.stays.now c.args.ceremony)
 
 pub returns-clause-lone : goal.returns-clause-lone
