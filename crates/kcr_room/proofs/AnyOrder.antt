@@ -23,7 +23,7 @@ use Rattle.kcr_room.proofs.Agreement.{begun, same-is, same-itself, of_person, ne
 use Rattle.kcr_room.proofs.Ends.{step_at, until_in, end-unique, told_from, stays-told}
 use Rattle.kcr_room.proofs.Refusals.{first-unique, ever-unique}
 use Rattle.kcr_room.proofs.Orders.{crowd-order, present-order}
-use Rattle.kcr_room.proofs.Sheets.{last_reaches, earlier-last}
+use Rattle.kcr_room.proofs.Sheets.{made, last_reaches, earlier-last}
 
 -- the row is this person's and has this moment
 abbrev is_at : List ℕ → ℕ → SheetRow → Bool
@@ -169,13 +169,6 @@ share-next before row h turn who t =
         let d = and_parts (same_text row.who who) (row.at == t) e in
         rw (← same-is row.who who d.0, ← eqb-true row.at t d.1) new
 
-share-onto : (rows before : List SheetRow) → ShareNoMoment before → in_turn_onto before rows ≡ true → ShareNoMoment (before ++ rows)
-share-onto [] before h turns = subst ShareNoMoment (sym (append-nil before)) h
-share-onto (row ∷ rows) before h turns =
-    let p = and_parts (not (is_out_of_turn_by before row.ceremony row.way row.at row.who)) (in_turn_onto (before ++ (row ∷ [])) rows) turns in
-    subst ShareNoMoment (append_assoc before (row ∷ []) rows)
-    (share-onto rows (before ++ (row ∷ [])) (share-next before row h (not-true (is_out_of_turn_by before row.ceremony row.way row.at row.who) p.0)) p.1)
-
 -- rows made in turn share no moment
 pub sheet-shares : (rows : List SheetRow) → IsSheet rows → ShareNoMoment rows
-sheet-shares rows s = share-onto rows [] (λ who t. omega arith) s
+sheet-shares rows s = made (λ rows stays. ShareNoMoment rows) (λ before stays row turn h. share-next before row h turn) (λ who t. omega arith) rows s

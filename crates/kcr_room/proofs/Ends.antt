@@ -13,7 +13,7 @@ use Rattle.kcr_room.specs.declared.stays.Step.{Step}
 use Rattle.kcr_room.specs.Room.{is_enter, is_ahead}
 use Rattle.kcr_room.specs.Stays.{lasts_at, sooner, cut, next_onto, stay_from, stays_next, stays_onto, stays_by}
 use Rattle.kcr_room.specs.Ends.{steps_from, steps_by, follows, IsEnd, stays_with}
-use Rattle.kcr_room.proofs.Agreement.{begun, same-turned, lasts-sooner}
+use Rattle.kcr_room.proofs.Agreement.{begun, onto, same-turned, lasts-sooner}
 
 -- a row at a place
 abbrev pub step_at : ℕ → SheetRow → Step
@@ -124,17 +124,13 @@ told-next before row =
     ∙ sym (told-append all 0 before row)
     ∙ ap (λ steps. told_from steps 0 (before ++ (row ∷ []))) (sym e)
 
-told-onto : (rows before : List SheetRow)
-    → stays_onto before (told_from (steps_by before) 0 before) rows ≡ told_from (steps_by (before ++ rows)) 0 (before ++ rows)
-told-onto [] before = ap (λ all. told_from (steps_by all) 0 all) (sym (append-nil before))
-told-onto (row ∷ rows) before =
-    ap (λ stays. stays_onto (before ++ (row ∷ [])) stays rows) (told-next before row)
-    ∙ told-onto rows (before ++ (row ∷ []))
-    ∙ ap (λ all. told_from (steps_by all) 0 all) (append_assoc before (row ∷ []) rows)
-
 -- a stay for each `in` row, its end the moment of the person's next row
 pub stays-told : (rows : List SheetRow) → stays_by rows ≡ told_from (steps_by rows) 0 rows
-stays-told rows = told-onto rows []
+stays-told rows = onto (λ rows stays. stays ≡ told_from (steps_by rows) 0 rows) next rows [] [] refl
+  where
+    next : (before : List SheetRow) (stays : List Stay) (row : SheetRow) → stays ≡ told_from (steps_by before) 0 before
+        → stays_next before stays row ≡ told_from (steps_by (before ++ (row ∷ []))) 0 (before ++ (row ∷ []))
+    next before stays row e = ap (λ xs. stays_next before xs row) e ∙ told-next before row
 
 -- the stays with these ends are the stays of the rows
 pub with-ends : (all : List Step) (full : List (Option ℕ)) (place : ℕ) (rows : List SheetRow) → place + length rows ≡ length full

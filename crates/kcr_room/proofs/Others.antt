@@ -4,7 +4,7 @@ use Rattle.std.proofs.Common.{arith, append-nil}
 use Rattle.std.specs.List.{list_any, filter, find}
 use Rattle.std.proofs.lemmas.Bool.Decides.{nat_tests}
 use Rattle.std.proofs.lemmas.Bool.{or_parts}
-use Rattle.std.proofs.lemmas.List.Sums.{length-filter}
+use Rattle.std.proofs.lemmas.List.Sums.{sum_by-append}
 use Rattle.std.proofs.lemmas.List.Elements.{filter-append}
 use Rattle.kcr_base.specs.Same.{same_text}
 use Rattle.kcr_room.specs.declared.Way.{Way}
@@ -17,27 +17,25 @@ use Rattle.kcr_room.specs.Adding.{is_open, is_inside_of, is_among, new_stay, clo
 use Rattle.kcr_room.specs.Laws.{OthersKeep}
 use Rattle.kcr_room.proofs.Agreement.{same-crowd, same-is, same-itself}
 use Rattle.kcr_room.proofs.Keeping.{taken, none-found}
+use Rattle.kcr_room.proofs.Moments.{crowd-cons}
 use Rattle.kcr_room.proofs.Sheets.{tells-sheet, stays-append, added, added-onto}
 
-no-new : (c other t at : ℕ) (people : List (List ℕ)) → (c == other) ≡ false → filter (holds other t) (map (new_stay c at) people) ≡ []
+no-new : (c other t at : ℕ) (people : List (List ℕ)) → (c == other) ≡ false → crowd_in_by (map (new_stay c at) people) other t ≡ 0
 no-new c other t at [] h = refl
-no-new c other t at (who ∷ rest) h = rw h (no-new c other t at rest h)
+no-new c other t at (who ∷ rest) h =
+    grind (arith, nat_tests, h, crowd-cons (new_stay c at who) (map (new_stay c at) rest) other t, no-new c other t at rest h)
 
 -- where none of the people is inside the other room, closing their stays changes nothing there
 closed-apart : (other t at : ℕ) (people : List (List ℕ)) (stays : List Stay)
     → ((who : List ℕ) → is_among people who ≡ true → list_any (is_inside_of other who) stays ≡ false)
-    → length (filter (holds other t) (map (closed people at) stays)) ≡ length (filter (holds other t) stays)
+    → crowd_in_by (map (closed people at) stays) other t ≡ crowd_in_by stays other t
 closed-apart other t at people [] h = refl
 closed-apart other t at people (stay ∷ stays) h =
-    ap (λ b. length (cond b (closed people at stay ∷ filter (holds other t) (map (closed people at) stays)) (filter (holds other t) (map (closed people at) stays)))) (by_until stay.until (λ m. (or_parts (is_inside_of other stay.who stay) (list_any (is_inside_of other stay.who) stays) (h stay.who m)).0))
-    ∙ by_test (holds other t stay)
-    (closed-apart other t at people stays (λ who m. (or_parts (is_inside_of other who stay) (list_any (is_inside_of other who) stays) (h who m)).1))
+    let outside = λ (who : List ℕ) (m : is_among people who ≡ true). or_parts (is_inside_of other who stay) (list_any (is_inside_of other who) stays) (h who m) in
+    let same = by_until stay.until (λ m. (outside stay.who m).0) in
+    let rest = closed-apart other t at people stays (λ who m. (outside who m).1) in
+    crowd-cons (closed people at stay) (map (closed people at) stays) other t ∙ rw (same, rest) (sym (crowd-cons stay stays other t))
   where
-    by_test : (b : Bool) → length (filter (holds other t) (map (closed people at) stays)) ≡ length (filter (holds other t) stays)
-        → length (cond b (closed people at stay ∷ filter (holds other t) (map (closed people at) stays)) (filter (holds other t) (map (closed people at) stays)))
-        ≡ length (cond b (stay ∷ filter (holds other t) stays) (filter (holds other t) stays))
-    by_test b ih = grind (arith, nat_tests, ih)
-
     by_until : (until : Option ℕ) → (is_among people stay.who ≡ true → ((same_text stay.who stay.who && is_open until) && stay.ceremony == other) ≡ false)
         → ((stay.ceremony == other && nat_le stay.since t) && lasts_at t (cond (is_among people stay.who && is_open until) (Some at) until))
         ≡ ((stay.ceremony == other && nat_le stay.since t) && lasts_at t until)
@@ -70,11 +68,8 @@ others_keep rows s c mark full way people at a h other t d =
     by_way : (way : Way) → turn_refusal (find (is_out_of_turn_by rows c way at) people) ≡ None
         → crowd_in_by (added c way at people (stays_by rows)) other t ≡ crowd_in_by (stays_by rows) other t
     by_way Enter k =
-        sym (length-filter (holds other t) (stays_by rows ++ map (new_stay c at) people))
-        ∙ ap length (filter-append (holds other t) (stays_by rows) (map (new_stay c at) people) ∙ ap (λ more. filter (holds other t) (stays_by rows) ++ more) (no-new c other t at people d) ∙ append-nil (filter (holds other t) (stays_by rows)))
-        ∙ length-filter (holds other t) (stays_by rows)
-    by_way Leave k =
-        sym (length-filter (holds other t) (map (closed people at) (stays_by rows)))
-        ∙ closed-apart other t at people (stays_by rows)
-        (λ who m. (tells-sheet rows s who).inside_of other ∙ in-no-other c other at (last_row_of rows who) d (among-turn (is_out_of_turn_by rows c Leave at) people k who m))
-        ∙ length-filter (holds other t) (stays_by rows)
+        let sum = sum_by-append (λ stay. cond (holds other t stay) 1 0) (stays_by rows) (map (new_stay c at) people) in
+        omega (arith, sum, no-new c other t at people d)
+    by_way Leave k = closed-apart other t at people (stays_by rows) (λ who m.
+        (tells-sheet rows s who).inside_of other
+        ∙ in-no-other c other at (last_row_of rows who) d (among-turn (is_out_of_turn_by rows c Leave at) people k who m))

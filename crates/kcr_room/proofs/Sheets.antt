@@ -18,8 +18,8 @@ use Rattle.kcr_room.specs.Adding.{turn_refusal, is_no_turn, is_out_of_turn, is_o
 use Rattle.kcr_base.specs.Lists.{are_apart}
 use Rattle.kcr_room.specs.Laws.{in_turn_onto, IsSheet}
 use Rattle.kcr_room.proofs.Lists.{any-filter}
-use Rattle.kcr_room.proofs.Agreement.{same-is, same-itself, same-turned, listed, of_person, last-above}
-use Rattle.kcr_room.proofs.Keeping.{last-other, none-found, turn-others, and-assoc}
+use Rattle.kcr_room.proofs.Agreement.{onto, same-is, same-itself, same-turned, listed, of_person, last-above}
+use Rattle.kcr_room.proofs.Keeping.{in_turn-append, last-other, none-found, turn-others, and-assoc}
 
 -- an `in` in its turn cuts nothing
 cut-enter-one : (row : SheetRow) (stay : Stay) → reaches row.who row.at stay ≡ false → is_inside row.who stay ≡ false → cut row stay ≡ stay
@@ -76,6 +76,13 @@ pub record Tells (who : List ℕ) (last : Option SheetRow) (stays : List Stay) :
   pub inside : list_any (is_inside who) stays ≡ last_inside last
   pub inside_of : (c : ℕ) → list_any (is_inside_of c who) stays ≡ last_enters c last
 
+abbrev pub AllTell : List SheetRow → List Stay → Type 0
+AllTell rows stays = (who : List ℕ) → Tells who (last_row_of rows who) stays
+
+-- it is the turn of the row's person
+abbrev pub InTurn : List SheetRow → SheetRow → Type 0
+InTurn before row = is_out_of_turn_by before row.ceremony row.way row.at row.who ≡ false
+
 -- so it is a person's turn by the stays where it is by the rows
 pub same-turn : (who : List ℕ) (last : Option SheetRow) (stays : List Stay) → Tells who last stays → (c : ℕ) (way : Way) (at : ℕ)
     → is_out_of_turn_in stays c way at who ≡ is_out_of_turn way c at last
@@ -105,9 +112,8 @@ added c Enter at people stays = stays ++ map (new_stay c at) people
 added c Leave at people stays = map (closed people at) stays
 
 -- the stays with a further row in its turn
-next-added : (before : List SheetRow) (stays : List Stay) (row : SheetRow) → Tells row.who (last_row_of before row.who) stays
-    → is_out_of_turn_by before row.ceremony row.way row.at row.who ≡ false → (way : Way) → row.way ≡ way
-    → stays_next before stays row ≡ added row.ceremony way row.at (row.who ∷ []) stays
+next-added : (before : List SheetRow) (stays : List Stay) (row : SheetRow) → Tells row.who (last_row_of before row.who) stays → InTurn before row
+    → (way : Way) → row.way ≡ way → stays_next before stays row ≡ added row.ceremony way row.at (row.who ∷ []) stays
 next-added before stays row tells h Enter w =
     let last = last_row_of before row.who in
     let t : is_out_of_turn_in stays row.ceremony Enter row.at row.who ≡ false =
@@ -181,9 +187,11 @@ last-own before row h =
     ∙ not-later row (last_row_of before row.who) h
 
 -- what the stays tell of the person that a further row is of
-tells-own : (before : List SheetRow) (stays : List Stay) (row : SheetRow) → Tells row.who (last_row_of before row.who) stays
-    → is_out_of_turn_by before row.ceremony row.way row.at row.who ≡ false → Tells row.who (Some row) (stays_next before stays row)
-tells-own before stays row tells h = by_way row.way refl
+tells-own : (before : List SheetRow) (stays : List Stay) (row : SheetRow) → Tells row.who (last_row_of before row.who) stays → InTurn before row
+    → Tells row.who (last_row_of (before ++ (row ∷ [])) row.who) (stays_next before stays row)
+tells-own before stays row tells h =
+    let early = earlier-last row.way row.ceremony row.at (last_row_of before row.who) h in
+    subst (λ last. Tells row.who last (stays_next before stays row)) (sym (last-own before row early)) (by_way row.way refl)
   where
     under : (at : ℕ) → (last_reaches at (last_row_of before row.who) || nat_le at row.at) ≡ nat_le at row.at
     under at = reach-under row.at at (last_row_of before row.who) (earlier-last row.way row.ceremony row.at (last_row_of before row.who) h)
@@ -229,15 +237,15 @@ tells-own before stays row tells h = by_way row.way refl
 
 -- what the stays tell of somebody else
 tells-other : (before : List SheetRow) (stays : List Stay) (row : SheetRow) (who : List ℕ) → same_text row.who who ≡ false
-    → Tells row.who (last_row_of before row.who) stays → is_out_of_turn_by before row.ceremony row.way row.at row.who ≡ false
-    → Tells who (last_row_of before who) stays → Tells who (last_row_of before who) (stays_next before stays row)
-tells-other before stays row who d own h tells = record {
+    → Tells row.who (last_row_of before row.who) stays → InTurn before row → Tells who (last_row_of before who) stays
+    → Tells who (last_row_of (before ++ (row ∷ [])) who) (stays_next before stays row)
+tells-other before stays row who d own h tells = rw (last-other before row who d) (record {
   moments = λ at. kept (reaches who at) (λ c since until. nat_le at since || ends_from at until) (λ stay. refl) ∙ tells.moments at;
   inside = kept (is_inside who) (λ c since until. is_open until) (λ stay. refl) ∙ tells.inside;
   inside_of = λ c.
       kept (is_inside_of c who) (λ d since until. is_open until && d == c)
       (λ stay. and-assoc (same_text stay.who who) (is_open stay.until) (stay.ceremony == c)) ∙ tells.inside_of c;
-}
+})
   where
     kept : (test : Stay → Bool) (f : ℕ → ℕ → Option ℕ → Bool) → ((stay : Stay) → test stay ≡ (same_text stay.who who && f stay.ceremony stay.since stay.until))
         → list_any test (stays_next before stays row) ≡ list_any test stays
@@ -249,30 +257,33 @@ tells-other before stays row who d own h tells = record {
             ap (list_any test) (next-added before stays row own h Enter w) ∙ list_any-append test stays (new ∷ []) ∙ grind (arith, nat_tests, shape new, d)
         by_way Leave w = ap (list_any test) (next-added before stays row own h Leave w) ∙ closed-other who row.who row.at test f shape d stays
 
-tells-next : (before : List SheetRow) (stays : List Stay) (row : SheetRow) → ((who : List ℕ) → Tells who (last_row_of before who) stays)
-    → is_out_of_turn_by before row.ceremony row.way row.at row.who ≡ false → (who : List ℕ)
-    → Tells who (last_row_of (before ++ (row ∷ [])) who) (stays_next before stays row)
+tells-next : (before : List SheetRow) (stays : List Stay) (row : SheetRow) → AllTell before stays → InTurn before row
+    → AllTell (before ++ (row ∷ [])) (stays_next before stays row)
 tells-next before stays row tells h who = by_same (same_text row.who who) refl
   where
     by_same : (s : Bool) → same_text row.who who ≡ s → Tells who (last_row_of (before ++ (row ∷ [])) who) (stays_next before stays row)
     by_same true e =
         subst (λ w. Tells w (last_row_of (before ++ (row ∷ [])) w) (stays_next before stays row)) (same-is row.who who e)
-        (subst (λ last. Tells row.who last (stays_next before stays row)) (sym (last-own before row (earlier-last row.way row.ceremony row.at (last_row_of before row.who) h))) (tells-own before stays row (tells row.who) h))
-    by_same false e =
-        subst (λ last. Tells who last (stays_next before stays row)) (sym (last-other before row who e))
-        (tells-other before stays row who e (tells row.who) h (tells who))
+        (tells-own before stays row (tells row.who) h)
+    by_same false e = tells-other before stays row who e (tells row.who) h (tells who)
 
-tells-onto : (rows before : List SheetRow) (stays : List Stay) → ((who : List ℕ) → Tells who (last_row_of before who) stays) → in_turn_onto before rows ≡ true
-    → (who : List ℕ) → Tells who (last_row_of (before ++ rows) who) (stays_onto before stays rows)
-tells-onto [] before stays tells h who = subst (λ rows. Tells who (last_row_of rows who) stays) (sym (append-nil before)) (tells who)
-tells-onto (row ∷ rows) before stays tells h who =
-    let p = and_parts (not (is_out_of_turn_by before row.ceremony row.way row.at row.who)) (in_turn_onto (before ++ (row ∷ [])) rows) h in
-    subst (λ all. Tells who (last_row_of all who) (stays_onto (before ++ (row ∷ [])) (stays_next before stays row) rows)) (append_assoc before (row ∷ []) rows)
-    (tells-onto rows (before ++ (row ∷ [])) (stays_next before stays row) (tells-next before stays row tells (not-true (is_out_of_turn_by before row.ceremony row.way row.at row.who) p.0)) p.1 who)
+-- what one row more in its turn keeps holds of every sheet
+pub made : (P : List SheetRow → List Stay → Type 0)
+    → ((before : List SheetRow) (stays : List Stay) (row : SheetRow) → InTurn before row → P before stays → P (before ++ (row ∷ [])) (stays_next before stays row))
+    → P [] [] → (rows : List SheetRow) → IsSheet rows → P rows (stays_by rows)
+made P step none rows s = onto (λ rows stays. IsSheet rows → P rows stays) next rows [] [] (λ s. none) s
+  where
+    turn : (x : Bool) → (not x && true) ≡ true → x ≡ false
+    turn x h = grind (arith, nat_tests, h)
+
+    next : (before : List SheetRow) (stays : List Stay) (row : SheetRow) → (IsSheet before → P before stays) → IsSheet (before ++ (row ∷ [])) → P (before ++ (row ∷ [])) (stays_next before stays row)
+    next before stays row h s =
+        let p = and_parts (in_turn_onto [] before) (in_turn_onto before (row ∷ [])) (sym (in_turn-append [] before (row ∷ [])) ∙ s) in
+        step before stays row (turn (is_out_of_turn_by before row.ceremony row.way row.at row.who) p.1) (h p.0)
 
 -- the stays of a sheet tell of each person what the last row tells
 pub tells-sheet : (rows : List SheetRow) → IsSheet rows → (who : List ℕ) → Tells who (last_row_of rows who) (stays_by rows)
-tells-sheet rows s who = tells-onto rows [] [] (λ who. record { moments = λ at. refl; inside = refl; inside_of = λ c. refl }) s who
+tells-sheet rows s who = made AllTell (λ before stays row h tells. tells-next before stays row tells h) (λ who. record { moments = λ at. refl; inside = refl; inside_of = λ c. refl }) rows s who
 
 -- it is somebody's turn by the stays of a sheet where it is by its rows
 pub same-turns : (rows : List SheetRow) → IsSheet rows → (c : ℕ) (way : Way) (at : ℕ) (who : List ℕ)
