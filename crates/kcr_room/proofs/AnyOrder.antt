@@ -1,9 +1,9 @@
 -- Rows of which no two of one person share a moment tell the same in any order.
 use Rattle.std.proofs.Common.{◌≡◌, ℕ, suc, ◌+◌, ◌≤◌, Bool, true, false, cond, not, ◌||◌, ◌&&◌, ◌==◌, nat_le, nat_lt, List, [], ◌∷◌, ◌++◌, map, length, Option}
-use Rattle.std.proofs.Common.{Some, None, refl, sym, ap, ◌∙◌, subst, arith, append-nil, append_assoc}
+use Rattle.std.proofs.Common.{Some, None, refl, sym, ap, ◌∙◌, subst, arith, append_assoc}
 use Rattle.std.specs.List.{list_any, filter, count_by, AllByRecursion}
 use Rattle.std.specs.List.Sorted.{IsPermutation}
-use Rattle.std.proofs.lemmas.Bool.{eq-eqb, eqb-true, and_parts, not-true}
+use Rattle.std.proofs.lemmas.Bool.{eqb-true, and_parts}
 use Rattle.std.proofs.lemmas.Bool.Decides.{nat_tests}
 use Rattle.std.proofs.Math.Bool.{or-false}
 use Rattle.std.proofs.lemmas.List.{length-append}
@@ -17,7 +17,7 @@ use Rattle.kcr_room.specs.Room.{is_enter, is_ahead, later, last_onto, last_row_o
 use Rattle.kcr_room.specs.Adding.{is_out_of_turn_by}
 use Rattle.kcr_room.specs.Stays.{sooner, next_onto, stay_from, stays_by}
 use Rattle.kcr_room.specs.Ends.{steps_from, steps_by, follows}
-use Rattle.kcr_room.specs.Laws.{in_turn_onto, IsSheet, ShareNoMoment}
+use Rattle.kcr_room.specs.Laws.{IsSheet, ShareNoMoment}
 use Rattle.kcr_room.proofs.Lists.{any-filter, map-same, count-cons, none-behind, IsPermutation-filter}
 use Rattle.kcr_room.proofs.Agreement.{begun, same-is, same-itself, of_person, next-lasts, same-present, same-crowd}
 use Rattle.kcr_room.proofs.Ends.{step_at, until_in, end-unique, told_from, stays-told}

@@ -1,17 +1,17 @@
 -- The stays of a sheet are told by the end of each row.
-use Rattle.std.proofs.Common.{◌≡◌, ℕ, suc, ◌+◌, ◌<◌, ◌≤◌, Bool, true, false, cond, not, ◌||◌, ◌&&◌, ◌==◌, nat_le, nat_lt, List, [], ◌∷◌, ◌++◌, map, length}
+use Rattle.std.proofs.Common.{◌≡◌, ℕ, suc, ◌+◌, ◌<◌, ◌≤◌, Bool, true, false, cond, not, ◌&&◌, nat_le, nat_lt, List, [], ◌∷◌, ◌++◌, map, length}
 use Rattle.std.proofs.Common.{get_or, drop, Option, Some, None, refl, sym, ap, ◌∙◌, arith, append-nil, append_assoc, drop-cons}
 use Rattle.std.specs.List.{list_any, AllByRecursion}
 use Rattle.std.proofs.lemmas.Bool.{both_ways, le-ltb}
 use Rattle.std.proofs.lemmas.Bool.Decides.{nat_tests}
-use Rattle.std.proofs.lemmas.List.{map-append, drop_more}
-use Rattle.std.proofs.Math.Bool.{and-true, and-false}
+use Rattle.std.proofs.lemmas.List.{drop_more}
+use Rattle.std.proofs.Math.Bool.{and-true}
 use Rattle.kcr_base.specs.Same.{same_text}
 use Rattle.kcr_room.specs.declared.SheetRow.{SheetRow}
 use Rattle.kcr_room.specs.declared.Stay.{Stay}
 use Rattle.kcr_room.specs.declared.stays.Step.{Step}
 use Rattle.kcr_room.specs.Room.{is_enter, is_ahead}
-use Rattle.kcr_room.specs.Stays.{lasts_at, sooner, cut, next_onto, stay_from, stays_next, stays_onto, stays_by}
+use Rattle.kcr_room.specs.Stays.{lasts_at, sooner, cut, next_onto, stay_from, stays_next, stays_by}
 use Rattle.kcr_room.specs.Ends.{steps_from, steps_by, follows, IsEnd, stays_with}
 use Rattle.kcr_room.proofs.Agreement.{begun, onto, same-turned, lasts-sooner}
 
@@ -140,21 +140,3 @@ with-ends all full place [] l a = refl
 with-ends all full place (row ∷ rows) l a =
     ap (stays_with (row ∷ rows)) (drop-cons full place None (omega arith))
     ∙ grind (arith, nat_tests, end-is all (step_at place row) (get_or full place None) a.0, with-ends all full (suc place) rows (omega arith) a.1)
-
--- one row more, of which b says whether it is `in`
-pub with-more : (rows : List SheetRow) (ends : List (Option ℕ)) (i : ℕ) (row : SheetRow) (until : Option ℕ) (done later : List Stay) → i < length rows
-    → length ends ≡ length rows → row ≡ get_or rows i row → until ≡ get_or ends i until → (b : Bool) → is_enter row.way ≡ b
-    → later ≡ cond b (done ++ (stay_from row until ∷ [])) done
-    → later ++ stays_with (drop (i + 1) rows) (drop (i + 1) ends) ≡ done ++ stays_with (drop i rows) (drop i ends)
-with-more rows ends i row until done later h l e f b w g =
-    let more = stays_with (drop (i + 1) rows) (drop (i + 1) ends) in
-    ap (λ xs. xs ++ more) g
-    ∙ by_way b
-    ∙ ap (λ x. done ++ cond x (stay_from row until ∷ more) more) (sym w)
-    ∙ ap (λ xs. done ++ stays_with (row ∷ drop (i + 1) rows) xs) (sym (drop_more ends i until (omega arith) ∙ ap (λ first. first ∷ drop (i + 1) ends) (sym f)))
-    ∙ ap (λ xs. done ++ stays_with xs (drop i ends)) (sym (drop_more rows i row h ∙ ap (λ first. first ∷ drop (i + 1) rows) (sym e)))
-  where
-    by_way : (b : Bool) → cond b (done ++ (stay_from row until ∷ [])) done ++ stays_with (drop (i + 1) rows) (drop (i + 1) ends)
-        ≡ done ++ cond b (stay_from row until ∷ stays_with (drop (i + 1) rows) (drop (i + 1) ends)) (stays_with (drop (i + 1) rows) (drop (i + 1) ends))
-    by_way true = append_assoc done (stay_from row until ∷ []) (stays_with (drop (i + 1) rows) (drop (i + 1) ends))
-    by_way false = refl

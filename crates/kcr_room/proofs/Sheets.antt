@@ -34,10 +34,7 @@ cut-enter-one row stay r i = ap (λ until. record stay { until = until }) (ended
 cut-enter : (row : SheetRow) (stays : List Stay) → list_any (reaches row.who row.at) stays ≡ false → list_any (is_inside row.who) stays ≡ false
     → map (cut row) stays ≡ stays
 cut-enter row [] r i = refl
-cut-enter row (stay ∷ stays) r i =
-    let d = or_parts (reaches row.who row.at stay) (list_any (reaches row.who row.at) stays) r in
-    let e = or_parts (is_inside row.who stay) (list_any (is_inside row.who) stays) i in
-    ap (λ x. x ∷ map (cut row) stays) (cut-enter-one row stay d.0 e.0) ∙ ap (λ rest. stay ∷ rest) (cut-enter row stays d.1 e.1)
+cut-enter row (stay ∷ stays) r i = grind (arith, nat_tests, r, i, cut-enter-one row stay, cut-enter row stays)
 
 -- an `out` in its turn ends the person's open stay
 cut-leave-one : (row : SheetRow) (stay : Stay) → reaches row.who row.at stay ≡ false → cut row stay ≡ closed (row.who ∷ []) row.at stay
@@ -52,14 +49,12 @@ cut-leave-one row stay r = ap (λ until. record stay { until = until }) (ended s
 cut-leave : (row : SheetRow) (stays : List Stay) → list_any (reaches row.who row.at) stays ≡ false
     → map (cut row) stays ≡ map (closed (row.who ∷ []) row.at) stays
 cut-leave row [] r = refl
-cut-leave row (stay ∷ stays) r =
-    let d = or_parts (reaches row.who row.at stay) (list_any (reaches row.who row.at) stays) r in
-    ap (λ x. x ∷ map (cut row) stays) (cut-leave-one row stay d.0) ∙ ap (λ rest. closed (row.who ∷ []) row.at stay ∷ rest) (cut-leave row stays d.1)
+cut-leave row (stay ∷ stays) r = grind (arith, nat_tests, r, cut-leave-one row stay, cut-leave row stays)
 
 -- where no row before is ahead there is no next one
 no-next : (row : SheetRow) (before : List SheetRow) (found : Option ℕ) → list_any (is_ahead row) before ≡ false → next_onto found row before ≡ found
 no-next row [] found h = refl
-no-next row (other ∷ before) found h = let d = or_parts (is_ahead row other) (list_any (is_ahead row) before) h in rw d.0 (no-next row before found d.1)
+no-next row (other ∷ before) found h = grind (arith, nat_tests, h, no-next row before found)
 
 -- by the last row: not earlier than a moment; in some room
 abbrev pub last_reaches : ℕ → Option SheetRow → Bool
@@ -135,26 +130,24 @@ closed-other who other at test f shape h (stay ∷ stays) =
     apart : same_text stay.who who ≡ true → same_text stay.who other ≡ false
     apart e = ap (λ w. same_text w other) (same-is stay.who who e) ∙ same-turned who other ∙ h
 
+-- an end that is set where there is none
+ends-closed : (t at : ℕ) (b : Bool) (until : Option ℕ) → ends_from t (cond (b && is_open until) (Some at) until) ≡ (ends_from t until || ((b && is_open until) && nat_le t at))
+ends-closed t at b None = grind (arith, nat_tests)
+ends-closed t at b (Some u) = grind (arith, nat_tests)
+
+open-closed : (at : ℕ) (b : Bool) (until : Option ℕ) → is_open (cond (b && is_open until) (Some at) until) ≡ (not b && is_open until)
+open-closed at b None = grind (arith, nat_tests)
+open-closed at b (Some u) = grind (arith, nat_tests)
+
 -- closing a person's open stays: what they reach then, and that nobody is inside
 closed-reaches : (who : List ℕ) (at t : ℕ) (stays : List Stay)
     → list_any (reaches who t) (map (closed (who ∷ []) at) stays) ≡ (list_any (reaches who t) stays || (list_any (is_inside who) stays && nat_le t at))
 closed-reaches who at t [] = refl
-closed-reaches who at t (stay ∷ stays) = by_until stay.until (closed-reaches who at t stays)
-  where
-    by_until : (until : Option ℕ)
-        → list_any (reaches who t) (map (closed (who ∷ []) at) stays) ≡ (list_any (reaches who t) stays || (list_any (is_inside who) stays && nat_le t at))
-        → ((same_text stay.who who && (nat_le t stay.since || ends_from t (cond ((same_text stay.who who || false) && is_open until) (Some at) until))) || list_any (reaches who t) (map (closed (who ∷ []) at) stays))
-        ≡ (((same_text stay.who who && (nat_le t stay.since || ends_from t until)) || list_any (reaches who t) stays) || (((same_text stay.who who && is_open until) || list_any (is_inside who) stays) && nat_le t at))
-    by_until None ih = grind (arith, nat_tests, ih)
-    by_until (Some u) ih = grind (arith, nat_tests, ih)
+closed-reaches who at t (stay ∷ stays) = grind (arith, nat_tests, ends-closed t at (same_text stay.who who || false) stay.until, closed-reaches who at t stays)
 
 closed-inside : (who : List ℕ) (at : ℕ) (stays : List Stay) → list_any (is_inside who) (map (closed (who ∷ []) at) stays) ≡ false
 closed-inside who at [] = refl
-closed-inside who at (stay ∷ stays) = or_from _ _ (by_until stay.until) (closed-inside who at stays)
-  where
-    by_until : (until : Option ℕ) → (same_text stay.who who && is_open (cond ((same_text stay.who who || false) && is_open until) (Some at) until)) ≡ false
-    by_until None = grind (arith, nat_tests)
-    by_until (Some u) = grind (arith, nat_tests)
+closed-inside who at (stay ∷ stays) = grind (arith, nat_tests, open-closed at (same_text stay.who who || false) stay.until, closed-inside who at stays)
 
 reach-under : (at m : ℕ) (last : Option SheetRow) → last_reaches at last ≡ false → (last_reaches m last || nat_le m at) ≡ nat_le m at
 reach-under at m None h = refl

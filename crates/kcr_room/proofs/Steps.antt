@@ -39,14 +39,7 @@ ranked =
     ranks_by (then_total (on_total (λ (s : Step). s.at) nat_cmp_total) (then_total (on_total (λ (s : Step). s.place) nat_cmp_total) (on_total (λ (s : Step). s.who) nat_list_cmp_total))) (λ s. s)
 
 not-before : (a b : Step) → is_lt (step_cmp a b) ≡ false → before a b ≡ false
-not-before a b h = by_tests (nat_lt a.at b.at) (a.at == b.at) (nat_lt a.place b.place) h
-  where
-    by_tests : (x y z : Bool)
-        → is_lt (ordering_then (cond x Less (cond y Equal Greater)) (ordering_then (cond z Less (cond (a.place == b.place) Equal Greater)) (slice_cmp nat_cmp a.who b.who))) ≡ false → (x || (y && z)) ≡ false
-    by_tests true y z h = absurd (both_ways true h refl)
-    by_tests false true true h = absurd (both_ways true h refl)
-    by_tests false true false h = refl
-    by_tests false false z h = refl
+not-before a b h = grind (arith, nat_tests, h)
 
 -- of sorted steps none stands before one ahead of it
 in_order : (all : List Step) → AreSorted all → (i j : ℕ) (d : Step) → i ≤ j → j < length all → before (get_or all j d) (get_or all i d) ≡ false

@@ -1,4 +1,4 @@
-use Rattle.std.proofs.Common.{◌≡◌, true, sym, ap, subst, ◌∙◌}
+use Rattle.std.proofs.Common.{◌≡◌, true}
 use Rattle.std.specs.List.{filter}
 use Rattle.std.specs.List.Sorted.{IsPermutation}
 use Rattle.std.proofs.lemmas.Result.{IfOk-weaker}
@@ -9,13 +9,12 @@ use Rattle.kcr_room.proofs.listing.attendance_in.Goals as goal
 
 pub returns-clause-complete : goal.returns-clause-complete
 returns-clause-complete c =
-    IfOk-weaker c.stays_in_order.result (λ list. list.items ≡ attendance_in_by c.args.stays.now c.args.ceremony)
-    (λ list. IsPermutation (filter (of_ceremony c.args.ceremony) c.args.stays.now) list.items)
-    (λ list e. subst (λ xs. IsPermutation (filter (of_ceremony c.args.ceremony) c.args.stays.now) xs) (sym e) (attendance-moves c.args.stays.now c.args.ceremony))
-    c.stays_in_order.ensures
+    let stays = c.args.stays.now in
+    IfOk-weaker c.stays_in_order.result (λ list. list.items ≡ attendance_in_by stays c.args.ceremony) (λ list. IsPermutation (filter (of_ceremony c.args.ceremony) stays) list.items)
+    (λ list e. rw e (attendance-moves stays c.args.ceremony)) c.stays_in_order.ensures
 
 pub returns-clause-ordered : goal.returns-clause-ordered
 returns-clause-ordered c =
-    IfOk-weaker c.stays_in_order.result (λ list. list.items ≡ attendance_in_by c.args.stays.now c.args.ceremony) (λ list. are_listed list.items ≡ true)
-    (λ list e. ap are_listed e ∙ attendance-listed c.args.stays.now c.args.ceremony)
-    c.stays_in_order.ensures
+    let stays = c.args.stays.now in
+    IfOk-weaker c.stays_in_order.result (λ list. list.items ≡ attendance_in_by stays c.args.ceremony) (λ list. are_listed list.items ≡ true)
+    (λ list e. rw e (attendance-listed stays c.args.ceremony)) c.stays_in_order.ensures
