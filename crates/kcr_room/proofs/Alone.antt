@@ -1,8 +1,7 @@
 -- Exactly one person is in the room where one is found, and no second.
 use Rattle.std.proofs.Common.{◌≡◌, ℕ, ◌+◌, Bool, true, false, cond, ◌==◌, List, [], ◌∷◌, ap, ◌∙◌, arith}
-use Rattle.std.proofs.lemmas.Bool.Decides.{nat_tests}
-use Rattle.kcr_room.specs.declared.Stay.{Stay}
 use Rattle.kcr_room.specs.Stays.{crowd_in_by, is_lone_in_by, is_one_onto}
+use Rattle.kcr_room.proofs.Words.{nat_tests, Stay}
 use Rattle.kcr_room.proofs.Moments.{crowd-cons}
 
 one-onto : (c t : ℕ) (stays : List Stay) (one : Bool) → is_one_onto c t one stays ≡ ((cond one 1 0 + crowd_in_by stays c t) == 1)

@@ -4,20 +4,17 @@ use Rattle.std.proofs.Common.{Some, None, refl, sym, ap, ◌∙◌, subst, arith
 use Rattle.std.specs.List.{list_any, filter, count_by, AllByRecursion}
 use Rattle.std.specs.List.Sorted.{IsPermutation}
 use Rattle.std.proofs.lemmas.Bool.{eqb-true, and_parts}
-use Rattle.std.proofs.lemmas.Bool.Decides.{nat_tests}
 use Rattle.std.proofs.Math.Bool.{or-false}
 use Rattle.std.proofs.lemmas.List.{length-append}
 use Rattle.std.proofs.lemmas.List.Sums.{sum_by-append}
 use Rattle.std.proofs.lemmas.List.Sorted.{IsPermutation-map, sum_by-IsPermutation, list_any-IsPermutation}
-use Rattle.kcr_base.specs.Same.{same_text}
-use Rattle.kcr_room.specs.declared.SheetRow.{SheetRow}
-use Rattle.kcr_room.specs.declared.Stay.{Stay}
 use Rattle.kcr_room.specs.Moments.{IsFirst, IsEver}
 use Rattle.kcr_room.specs.Room.{is_enter, is_ahead, later, last_onto, last_row_of, present_by, crowd_by}
 use Rattle.kcr_room.specs.Adding.{is_out_of_turn_by}
 use Rattle.kcr_room.specs.Stays.{sooner, next_onto, stay_from, stays_by}
 use Rattle.kcr_room.specs.Ends.{steps_from, steps_by, follows}
 use Rattle.kcr_room.specs.Laws.{IsSheet, ShareNoMoment}
+use Rattle.kcr_room.proofs.Words.{nat_tests, same_text, SheetRow, Stay}
 use Rattle.kcr_room.proofs.Lists.{any-filter, map-same, count-cons, none-behind, IsPermutation-filter}
 use Rattle.kcr_room.proofs.Agreement.{begun, same-is, same-itself, of_person, next-lasts, same-present, same-crowd}
 use Rattle.kcr_room.proofs.Ends.{step_at, until_in, end-unique, told_from, stays-told}

@@ -5,12 +5,12 @@ use Rattle.std.specs.List.{count_by, AllByRecursion, list_any}
 use Rattle.std.specs.List.Sorted.{IsPermutation, IsPartitionPoint}
 use Rattle.std.proofs.lemmas.Bool.{ltb-false, le-ltb}
 use Rattle.std.proofs.lemmas.List.Sorted.{sum_by-IsPermutation}
-use Rattle.kcr_room.specs.declared.Stay.{Stay}
 use Rattle.kcr_room.specs.declared.traffic.Traffic.{Traffic}
 use Rattle.kcr_room.specs.Moments.{IsFirst, IsEver, try, try_all}
 use Rattle.kcr_room.specs.Stays.{crowd_in_by}
 use Rattle.kcr_room.specs.Comings.{comings_by, goings_by, count_until}
 use Rattle.kcr_room.specs.Traffic.{crowd_of, is_crowd_of, is_lone_of}
+use Rattle.kcr_room.proofs.Words.{Stay}
 use Rattle.kcr_room.proofs.Lists.{count-cons}
 use Rattle.kcr_room.proofs.Firsts.{SameSide, Behind, IsSteady, is_first, is_ever}
 use Rattle.kcr_room.proofs.Moments.{balance, count-steady, count-behind, count-rises}

@@ -2,17 +2,12 @@
 use Rattle.std.proofs.Common.{◌≡◌, ℕ, Bool, true, false, cond, not, ◌||◌, ◌&&◌, nat_le, List, [], ◌∷◌, ◌++◌, map, Option, Some, None, refl, sym, ap, ◌∙◌, subst}
 use Rattle.std.proofs.Common.{arith, append-nil, append_assoc}
 use Rattle.std.specs.List.{list_any, filter, find}
-use Rattle.std.proofs.lemmas.Bool.Decides.{nat_tests}
 use Rattle.std.proofs.lemmas.Bool.{both_ways, ltb-false, eq-eqb, and_parts, and_from, or_parts, not-true}
 use Rattle.std.proofs.Math.Bool.{or-false}
 use Rattle.std.proofs.lemmas.List.Elements.{filter-append}
-use Rattle.kcr_base.specs.Same.{same_text}
 use Rattle.kcr_base.specs.Refuse.{when, first_of}
 use Rattle.kcr_base.specs.declared.refusal.Refusal.{Refusal}
 use Rattle.kcr_base.specs.declared.refusal.Refusal.TheVariants.{Late, Turn, Crowd, Lone}
-use Rattle.kcr_room.specs.declared.Way.{Way}
-use Rattle.kcr_room.specs.declared.SheetRow.{SheetRow}
-use Rattle.kcr_room.specs.declared.Stay.{Stay}
 use Rattle.kcr_room.specs.Moments.{IsFirst, IsEver}
 use Rattle.kcr_room.specs.Room.{enters, last_row, last_enters, last_row_of, is_of, in_force, ascending_onto, put_person}
 use Rattle.kcr_room.specs.Stays.{crowd_in_by, is_lone_in_by, is_crowd_in_by, first_lone_in_by, is_crowded_in_by, stays_by}
@@ -20,6 +15,7 @@ use Rattle.kcr_room.specs.Adding.{turn_refusal, lone_refusal, later_refusal, she
 use Rattle.kcr_room.specs.Adding.{new_row, rows_refusal}
 use Rattle.kcr_base.specs.Lists.{are_apart}
 use Rattle.kcr_room.specs.Laws.{IsAllowed, in_turn_onto, RowsKeep, StaysKeep, TurnsKeep, PresentAreIn}
+use Rattle.kcr_room.proofs.Words.{nat_tests, same_text, SheetRow, Way, Stay}
 use Rattle.kcr_room.proofs.Lists.{any-filter, any-same}
 use Rattle.kcr_room.proofs.Agreement.{same-crowd, same-turned, listed, of_person, force-last}
 use Rattle.kcr_room.proofs.Moments.{first_lone-is_first, crowded-is_ever}

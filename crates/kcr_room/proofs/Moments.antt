@@ -3,16 +3,14 @@ use Rattle.std.proofs.Common.{◌≡◌, ℕ, ◌+◌, ◌≤◌, Bool, true, fa
 use Rattle.std.proofs.Common.{ap, ◌∙◌, arith, subst}
 use Rattle.std.specs.List.{AllByRecursion, list_any, count_by, filter, filter_map}
 use Rattle.std.proofs.lemmas.Bool.{ltb-true, ltb-false, le-ltb}
-use Rattle.std.proofs.lemmas.Bool.Decides.{nat_tests}
 use Rattle.std.proofs.lemmas.List.Sums.{sum_by-cons}
-use Rattle.kcr_room.specs.declared.SheetRow.{SheetRow}
-use Rattle.kcr_room.specs.declared.Stay.{Stay}
 use Rattle.kcr_room.specs.Adding.{of_ceremony}
 use Rattle.kcr_room.specs.Comings.{is_held, comings_by, goings_by, count_until}
 use Rattle.kcr_room.specs.Room.{crowd_by}
 use Rattle.kcr_room.specs.Moments.{IsFirst, IsEver}
 use Rattle.kcr_room.specs.Stays.{lasts_at, holds, crowd_in_by, is_lone_in_by, is_crowd_in_by, ends, moments_in, first_lone_in_by, is_crowd_at, is_crowded_in_by}
 use Rattle.kcr_room.specs.Stays.{stays_by}
+use Rattle.kcr_room.proofs.Words.{nat_tests, SheetRow, Stay}
 use Rattle.kcr_room.proofs.Firsts.{SameSide, Behind, IsSteady, is_first, is_first-same, is_ever}
 use Rattle.kcr_room.proofs.Agreement.{same-crowd}
 use Rattle.kcr_room.proofs.Lists.{count-cons}

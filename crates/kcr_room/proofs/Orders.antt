@@ -2,7 +2,6 @@
 use Rattle.std.proofs.Common.{◌≡◌, ℕ, Bool, true, false, cond, nat_le, nat_lt, List, [], ◌∷◌, map, refl, sym, ap, ◌∙◌, arith}
 use Rattle.std.specs.List.{filter, find}
 use Rattle.std.specs.List.Sorted.{IsPermutation}
-use Rattle.std.proofs.lemmas.Bool.Decides.{nat_tests}
 use Rattle.kcr_base.proofs.RowsLemmas.{Shuffled, shuffled}
 use Rattle.std.proofs.lemmas.List.Sorted.{IsPermutation-refl, IsPermutation-map, IsPermutation-append_left, length_permutation, sum_by-IsPermutation}
 use Rattle.std.proofs.lemmas.List.Sorted.{list_any-IsPermutation}
@@ -10,15 +9,12 @@ use Rattle.std.specs.Ordering.{nat_cmp, is_lt, ordering_reverse}
 use Rattle.std.specs.Cmp.Lexicographic.{slice_cmp}
 use Rattle.std.proofs.lemmas.Cmp.{nat_list_cmp_total}
 use Rattle.kcr_base.specs.Refuse.{when, first_of}
-use Rattle.kcr_base.specs.Same.{is_before}
 use Rattle.kcr_base.specs.declared.refusal.Refusal.TheVariants.{Late}
-use Rattle.kcr_room.specs.declared.Way.{Way}
-use Rattle.kcr_room.specs.declared.Way.TheVariants.{Enter, Leave}
-use Rattle.kcr_room.specs.declared.Stay.{Stay}
 use Rattle.kcr_room.specs.Room.{ascending_onto, put_person}
 use Rattle.kcr_room.specs.Stays.{holds, crowd_in_by, present_in_by, first_lone_in_by, is_crowded_in_by}
 use Rattle.kcr_room.specs.Adding.{reaches, is_inside, is_inside_of, is_out_of_turn_in, new_stay, closed, of_ceremony, after, ends_by, changed_stays}
 use Rattle.kcr_room.specs.Adding.{turn_refusal, is_overfull, later_refusal, stays_refusal}
+use Rattle.kcr_room.proofs.Words.{nat_tests, is_before, Way, Enter, Leave, Stay}
 use Rattle.kcr_room.proofs.Lists.{IsPermutation-filter}
 use Rattle.kcr_room.proofs.Agreement.{same-is}
 use Rattle.kcr_room.proofs.Refusals.{lone-same, crowded-same, refused-same, find-same}

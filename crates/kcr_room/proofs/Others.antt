@@ -2,18 +2,13 @@
 use Rattle.std.proofs.Common.{◌≡◌, ℕ, Bool, true, false, cond, ◌&&◌, ◌==◌, nat_le, List, [], ◌∷◌, ◌++◌, map, Option, Some, None, refl, sym, ap, ◌∙◌}
 use Rattle.std.proofs.Common.{arith}
 use Rattle.std.specs.List.{list_any, find}
-use Rattle.std.proofs.lemmas.Bool.Decides.{nat_tests}
 use Rattle.std.proofs.lemmas.Bool.{or_parts}
 use Rattle.std.proofs.lemmas.List.Sums.{sum_by-append}
-use Rattle.kcr_base.specs.Same.{same_text}
-use Rattle.kcr_room.specs.declared.Way.{Way}
-use Rattle.kcr_room.specs.declared.Way.TheVariants.{Enter, Leave}
-use Rattle.kcr_room.specs.declared.SheetRow.{SheetRow}
-use Rattle.kcr_room.specs.declared.Stay.{Stay}
 use Rattle.kcr_room.specs.Room.{last_enters, last_row_of}
 use Rattle.kcr_room.specs.Stays.{lasts_at, holds, crowd_in_by, stays_by}
 use Rattle.kcr_room.specs.Adding.{is_open, is_inside_of, is_among, new_stay, closed, turn_refusal, is_out_of_turn, is_out_of_turn_by, new_row}
 use Rattle.kcr_room.specs.Laws.{OthersKeep}
+use Rattle.kcr_room.proofs.Words.{nat_tests, same_text, SheetRow, Way, Enter, Leave, Stay}
 use Rattle.kcr_room.proofs.Agreement.{same-crowd, same-is, same-itself}
 use Rattle.kcr_room.proofs.Keeping.{taken, none-found}
 use Rattle.kcr_room.proofs.Moments.{crowd-cons}

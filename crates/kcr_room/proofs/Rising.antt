@@ -6,13 +6,11 @@ use Rattle.std.specs.declared.cmp.Ordering.TheVariants.{Less, Equal, Greater}
 use Rattle.std.specs.Ordering.{nat_cmp, is_lt, is_eq, ordering_reverse}
 use Rattle.std.specs.Cmp.Lexicographic.{slice_cmp, pointwise}
 use Rattle.std.proofs.lemmas.Bool.{both_ways, and_parts, not-true}
-use Rattle.std.proofs.lemmas.Bool.Decides.{nat_tests}
 use Rattle.std.proofs.lemmas.Cmp.{nat_list_cmp_total, same_from_slice_cmp}
-use Rattle.kcr_base.specs.Same.{same_text, is_before}
-use Rattle.kcr_room.specs.declared.SheetRow.{SheetRow}
 use Rattle.kcr_room.specs.Room.{enters, in_force, last_row, is_of, ascending_onto, put_person}
 use Rattle.kcr_base.specs.Lists.{are_apart}
 use Rattle.kcr_room.specs.Laws.{are_rising, PresentAreRising}
+use Rattle.kcr_room.proofs.Words.{nat_tests, same_text, is_before, SheetRow}
 use Rattle.kcr_room.proofs.Agreement.{same-turned, same-itself, listed, of_person, force-last}
 use Rattle.kcr_room.proofs.Keeping.{any-put}
 

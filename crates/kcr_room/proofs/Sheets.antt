@@ -3,20 +3,15 @@ use Rattle.std.proofs.Common.{◌≡◌, ℕ, Bool, true, false, cond, not, ◌|
 use Rattle.std.proofs.Common.{ap, ◌∙◌, arith, subst, append-nil, append_assoc}
 use Rattle.std.specs.List.{list_any, filter, find}
 use Rattle.std.proofs.lemmas.Bool.{true≢false, and_parts, or_parts, or_from, not-true}
-use Rattle.std.proofs.lemmas.Bool.Decides.{nat_tests}
 use Rattle.std.proofs.lemmas.List.Elements.{filter-append}
 use Rattle.std.proofs.lemmas.List.Folds.{list_any-append}
-use Rattle.kcr_base.specs.Same.{same_text}
-use Rattle.kcr_room.specs.declared.Way.{Way}
-use Rattle.kcr_room.specs.declared.Way.TheVariants.{Enter, Leave}
-use Rattle.kcr_room.specs.declared.SheetRow.{SheetRow}
-use Rattle.kcr_room.specs.declared.Stay.{Stay}
 use Rattle.kcr_room.specs.Room.{is_enter, later, last_onto, last_row, last_enters, last_row_of, is_ahead}
 use Rattle.kcr_room.specs.Stays.{sooner, cut, next_onto, stays_next, stays_onto, stays_by}
 use Rattle.kcr_room.specs.Adding.{is_open, ends_from, reaches, is_inside, is_inside_of, is_out_of_turn_in, is_among, new_stay, closed, of_ceremony, after}
 use Rattle.kcr_room.specs.Adding.{turn_refusal, is_no_turn, is_out_of_turn, is_out_of_turn_by, new_row}
 use Rattle.kcr_base.specs.Lists.{are_apart}
 use Rattle.kcr_room.specs.Laws.{in_turn_onto, IsSheet}
+use Rattle.kcr_room.proofs.Words.{nat_tests, same_text, SheetRow, Way, Enter, Leave, Stay}
 use Rattle.kcr_room.proofs.Lists.{any-filter}
 use Rattle.kcr_room.proofs.Agreement.{onto, same-is, same-itself, same-turned, listed, of_person, last-above}
 use Rattle.kcr_room.proofs.Keeping.{in_turn-append, last-other, none-found, turn-others, and-assoc}

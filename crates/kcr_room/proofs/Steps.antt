@@ -9,16 +9,14 @@ use Rattle.std.specs.Ordering.{nat_cmp, is_lt, ordering_then}
 use Rattle.std.specs.Cmp.{IsStrictWeakOrder, on_total}
 use Rattle.std.specs.Cmp.Lexicographic.{slice_cmp}
 use Rattle.std.proofs.lemmas.Bool.{both_ways, eq-eqb, eqb-false}
-use Rattle.std.proofs.lemmas.Bool.Decides.{nat_tests}
 use Rattle.std.proofs.lemmas.Cmp.{then_total, nat_cmp_total, nat_list_cmp_total}
 use Rattle.std.proofs.lemmas.List.{length-set, drop_at, drop_all, get_or-set_same, get_or-set_other, get_or-append-add, get_or_append_left, length-append}
 use Rattle.std.proofs.lemmas.List.Elements.{All-from_recursion, recursion_from_All}
 use Rattle.std.proofs.lemmas.List.Folds.{list_any-append}
 use Rattle.std.proofs.lemmas.List.Sorted.{ranks_by, sorted_far, All-permutation, IsPermutation-sym, sum_by-IsPermutation, list_any-IsPermutation}
-use Rattle.kcr_base.specs.Same.{same_text}
-use Rattle.kcr_room.specs.declared.SheetRow.{SheetRow}
 use Rattle.kcr_room.specs.declared.stays.Step.{Step}
 use Rattle.kcr_room.specs.Stays.{lasts_at}
+use Rattle.kcr_room.proofs.Words.{nat_tests, same_text, SheetRow}
 use Rattle.kcr_room.proofs.Lists.{count-cons, none-behind}
 use Rattle.kcr_room.specs.Ends.{steps_from, steps_by, follows, IsEnd, AreEnds}
 
