@@ -66,11 +66,10 @@ pub put_keeps : (scene : Scene) (safes : List SafeRow) (boxes : List BoxRow) (ba
     (has_holder : Bool)
     → IsBalanced boxes bags items → put_refusal scene safes boxes bags serial to has_holder ≡ None
     → IsBalanced boxes (put same_bag (record { serial = serial; spot = spot_of_store scene.facility to }) bags) items
-put_keeps scene safes boxes bags items serial SafeOne has_holder h n =
-    moved boxes bags items (record { serial = serial; spot = Equipment scene.facility }) refl refl h
+put_keeps scene safes boxes bags items serial SafeOne has_holder h n = moved boxes bags items (record { serial = serial; spot = Equipment scene.facility }) refl refl h
 put_keeps scene safes boxes bags items serial (Boxed number) has_holder h n =
-    moved boxes bags items (record { serial = serial; spot = InBox scene.facility number }) refl
-    (there (place_of_box_by boxes scene.facility number) (unmet _ (Unknown (Things.Box number)) (none_holds (put_conditions scene safes boxes bags serial (Boxed number) has_holder) n).1.1.0)) h
+    let known = (none_holds (put_conditions scene safes boxes bags serial (Boxed number) has_holder) n).1.1.0 in
+    moved boxes bags items (record { serial = serial; spot = InBox scene.facility number }) refl (there (place_of_box_by boxes scene.facility number) (unmet _ _ known)) h
   where
     there : {X : Type 0} (o : Option X) → is_none o ≡ false → is_some o ≡ true
     there None g = absurd (true≢false g)
@@ -82,8 +81,8 @@ put_keeps scene safes boxes bags items serial (Boxed number) has_holder h n =
 pub add_box_keeps : (boxes : List BoxRow) (bags : List Bag) (items : List Item) (is_full : Bool) (row : BoxRow)
     → IsBalanced boxes bags items → add_box_refusal boxes is_full row ≡ None → IsBalanced (put same_box row boxes) bags items
 add_box_keeps boxes bags items is_full row h n =
-    let new =
-        (or_parts (list_any (is_box row.facility row.number) boxes) (list_any (λ old. same_place old.place row.place) boxes) (unmet _ Taken (none_holds (add_box_conditions boxes is_full row) n).0)).0 in
+    let free = unmet _ Taken (none_holds (add_box_conditions boxes is_full row) n).0 in
+    let new = (or_parts (list_any (is_box row.facility row.number) boxes) (list_any (λ old. same_place old.place row.place) boxes) free).0 in
     record {
       items_once = h.items_once;
       bags_once = h.bags_once;
@@ -109,11 +108,17 @@ add_item_keeps facility boxes bags items code h =
       boxed = h.boxed;
     }
 
+-- the item is kept with these bags; a row of it is among the changes
+abbrev is_safe : List Bag → Item → Bool
+is_safe bags row = is_kept bags row.rest
+
+abbrev is_changed : List Item → Item → Bool
+is_changed changes row = list_any (λ c. same_item c row) changes
+
 -- items sealed into a bag on the table are kept
-packed_kept : (bags : List Bag) (serial : List ℕ) → holds_items (spot_by bags serial) ≡ true → (codes : List (List ℕ))
-    → list_all (λ row. is_kept bags row.rest) (packed serial codes) ≡ true
+packed_kept : (bags : List Bag) (serial : List ℕ) → holds_items (spot_by bags serial) ≡ true → (codes : List (List ℕ)) → list_all (is_safe bags) (packed serial codes) ≡ true
 packed_kept bags serial u [] = refl
-packed_kept bags serial u (code ∷ codes) = and_from (holds_items (spot_by bags serial)) _ u (packed_kept bags serial u codes)
+packed_kept bags serial u (code ∷ codes) = rw u (packed_kept bags serial u codes)
 
 pub seal_keeps : (facility : Facility) (boxes : List BoxRow) (bags : List Bag) (items : List Item) (serial : List ℕ) (codes : List (List ℕ))
     → IsBalanced boxes bags items
@@ -125,28 +130,24 @@ seal_keeps facility boxes bags items serial codes h =
     record {
       items_once = differ_put_all (λ row. row.code) (packed serial codes) items h.items_once;
       bags_once = m.bags_once;
-      kept = all_put_all same_item (λ row. is_kept (put same_bag bag bags) row.rest) (packed serial codes) items
-          (packed_kept (put same_bag bag bags) serial here codes)
-          (all_mono (λ row. is_kept (put same_bag bag bags) row.rest) (λ row. is_kept (put same_bag bag bags) row.rest || list_any (λ c. same_item c row) (packed serial codes)) (λ row k. rw k) items m.kept);
+      kept = all_put_all same_item (is_safe (put same_bag bag bags)) (packed serial codes) items (packed_kept (put same_bag bag bags) serial here codes)
+          (all_mono (is_safe (put same_bag bag bags)) (λ row. is_safe (put same_bag bag bags) row || is_changed (packed serial codes) row) (λ row k. rw k) items m.kept);
       boxed = m.boxed;
     }
 
 -- loose items are kept
-loose_kept : (bags : List Bag) (facility : Facility) (rows : List Item) → list_all (λ row. is_kept bags row.rest) (map (loose facility) rows) ≡ true
+loose_kept : (bags : List Bag) (facility : Facility) (rows : List Item) → list_all (is_safe bags) (map (loose facility) rows) ≡ true
 loose_kept bags facility [] = refl
 loose_kept bags facility (row ∷ rows) = loose_kept bags facility rows
 
 -- each item of the bag is among the loosened
 all_loosened : (serial : List ℕ) (facility : Facility) (items : List Item)
-    → list_all (λ old. not (lies_in serial old) || list_any (λ c. same_item c old) (loosened items serial facility)) items ≡ true
+    → list_all (λ old. not (lies_in serial old) || is_changed (loosened items serial facility) old) items ≡ true
 all_loosened serial facility [] = refl
-all_loosened serial facility (row ∷ rows) =
-    let more = all_mono (λ old. not (lies_in serial old) || list_any (λ c. same_item c old) (loosened rows serial facility))
-        (λ old. not (lies_in serial old) || (same_text old.code row.code || list_any (λ c. same_item c old) (loosened rows serial facility))) weaker rows in
-    grind (arith, nat_tests, text_refl row.code, all_loosened serial facility rows, more)
+all_loosened serial facility (row ∷ rows) = grind (arith, nat_tests, text_refl row.code, all_loosened serial facility rows, all_mono _ _ weaker rows)
   where
-    weaker : (old : Item) → (not (lies_in serial old) || list_any (λ c. same_item c old) (loosened rows serial facility)) ≡ true
-        → (not (lies_in serial old) || (same_text old.code row.code || list_any (λ c. same_item c old) (loosened rows serial facility))) ≡ true
+    weaker : (old : Item) → (not (lies_in serial old) || is_changed (loosened rows serial facility) old) ≡ true
+        → (not (lies_in serial old) || (same_text old.code row.code || is_changed (loosened rows serial facility) old)) ≡ true
     weaker old g = grind (arith, nat_tests, g)
 
 pub cut_keeps : (facility : Facility) (boxes : List BoxRow) (bags : List Bag) (items : List Item) (serial : List ℕ)
@@ -157,17 +158,15 @@ cut_keeps facility boxes bags items serial h =
     record {
       items_once = differ_put_all (λ row. row.code) (loosened items serial facility) items h.items_once;
       bags_once = differ_put (λ row. row.serial) bag bags h.bags_once;
-      kept = all_put_all same_item (λ row. is_kept (put same_bag bag bags) row.rest) (loosened items serial facility) items
+      kept = all_put_all same_item (is_safe (put same_bag bag bags)) (loosened items serial facility) items
           (loose_kept (put same_bag bag bags) facility (filter (lies_in serial) items))
-          (all_both (λ row. is_kept bags row.rest) (λ old. not (lies_in serial old) || list_any (λ c. same_item c old) (loosened items serial facility))
-          (λ row. is_kept (put same_bag bag bags) row.rest || list_any (λ c. same_item c row) (loosened items serial facility)) one items h.kept
+          (all_both (is_safe bags) _ (λ row. is_safe (put same_bag bag bags) row || is_changed (loosened items serial facility) row) one items h.kept
           (all_loosened serial facility items));
       boxed = all_put_kept same_bag (λ row. has_its_box boxes row.spot) bag bags refl h.boxed;
     }
   where
-    one : (row : Item) → is_kept bags row.rest ≡ true → (not (lies_in serial row) || list_any (λ c. same_item c row) (loosened items serial facility)) ≡ true
-        → (is_kept (put same_bag (record { serial = serial; spot = Spent }) bags) row.rest || list_any (λ c. same_item c row) (loosened items serial facility))
-        ≡ true
+    one : (row : Item) → is_safe bags row ≡ true → (not (lies_in serial row) || is_changed (loosened items serial facility) row) ≡ true
+        → (is_safe (put same_bag (record { serial = serial; spot = Spent }) bags) row || is_changed (loosened items serial facility) row) ≡ true
     one row k g = grind (arith, nat_tests, g, kept_spent serial bags row.rest k)
 
 -- NO ITEM IS LOST
@@ -193,8 +192,7 @@ seal_stays scene bags items serial codes n =
 loosened_there : (serial : List ℕ) (facility : Facility) (items : List Item) → list_all (is_there items) (loosened items serial facility) ≡ true
 loosened_there serial facility [] = refl
 loosened_there serial facility (row ∷ rows) =
-    let more = all_mono (is_there rows) (is_there (row ∷ rows)) weaker (loosened rows serial facility) (loosened_there serial facility rows) in
-    grind (arith, nat_tests, more, text_refl row.code)
+    grind (arith, nat_tests, text_refl row.code, all_mono _ _ weaker (loosened rows serial facility) (loosened_there serial facility rows))
   where
     weaker : (c : Item) → is_there rows c ≡ true → is_there (row ∷ rows) c ≡ true
     weaker c g = grind (arith, nat_tests, g)
