@@ -74,7 +74,7 @@ plain-from front (row ∷ back) h =
     ap (λ until. begun row until ++ told_from (steps_by all) (suc (length front)) back) (next-told front back row h)
     ∙ ap (λ rest. begun row (next_onto None row all) ++ rest)
     (rest more (append_assoc front (row ∷ []) back) (omega (arith, length-append front (row ∷ []))) (plain-from more back))
-    ∙ by_way (is_enter row.way)
+    ∙ grind (arith, nat_tests)
   where
     rest : (more : List SheetRow) → more ++ back ≡ front ++ (row ∷ back) → length more ≡ suc (length front)
         → (ShareNoMoment (more ++ back) → told_from (steps_by (more ++ back)) (length more) back ≡ plain (more ++ back) back)
@@ -83,18 +83,14 @@ plain-from front (row ∷ back) h =
         ap (λ k. told_from (steps_by (front ++ (row ∷ back))) k back) (sym n)
         ∙ subst (λ all. told_from (steps_by all) (length more) back ≡ plain all back) e (ih (subst ShareNoMoment (sym e) h))
 
-    by_way : (b : Bool) → cond b (stay_from row (next_onto None row (front ++ (row ∷ back))) ∷ []) [] ++ plain (front ++ (row ∷ back)) back
-        ≡ map (λ other. stay_from other (next_onto None other (front ++ (row ∷ back)))) (cond b (row ∷ filter (λ other. is_enter other.way) back) (filter (λ other. is_enter other.way) back))
-    by_way true = refl
-    by_way false = refl
-
 stays-plain : (rows : List SheetRow) → ShareNoMoment rows → stays_by rows ≡ plain rows rows
 stays-plain rows h = stays-told rows ∙ plain-from [] rows h
 
 next-order : (xs ys : List SheetRow) → IsPermutation xs ys → (row : SheetRow) → next_onto None row xs ≡ next_onto None row ys
 next-order xs ys p row =
     end-unique (next_onto None row xs) (next_onto None row ys)
-    (λ t. next-lasts t row xs None ∙ ap not (list_any-IsPermutation (λ other. is_ahead row other && nat_le other.at t) xs ys p) ∙ sym (next-lasts t row ys None))
+    (λ t. next-lasts t row xs None
+    ∙ ap not (list_any-IsPermutation (λ other. is_ahead row other && nat_le other.at t) xs ys p) ∙ sym (next-lasts t row ys None))
 
 pub share-order : (xs ys : List SheetRow) → IsPermutation xs ys → ShareNoMoment xs → ShareNoMoment ys
 share-order xs ys p h =
@@ -108,7 +104,7 @@ stays-order xs ys p h =
         (λ row. ap (stay_from row) (next-order xs ys p row)) in
     subst (λ stays. IsPermutation stays (stays_by ys)) (sym (stays-plain xs h))
     (subst (IsPermutation (plain xs xs)) (same ∙ sym (stays-plain ys (share-order xs ys p h)))
-    (IsPermutation-map (λ row. stay_from row (next_onto None row xs)) (filter (λ row. is_enter row.way) xs) (filter (λ row. is_enter row.way) ys) (IsPermutation-filter (λ row. is_enter row.way) xs ys p)))
+    (IsPermutation-map (λ row. stay_from row (next_onto None row xs)) _ _ (IsPermutation-filter (λ row. is_enter row.way) xs ys p)))
 
 -- WHO, HOW MANY AND WHEN
 

@@ -15,6 +15,7 @@ use Rattle.kcr_room.specs.Adding.{turn_refusal, lone_refusal, later_refusal, she
 use Rattle.kcr_room.specs.Adding.{new_row, rows_refusal}
 use Rattle.kcr_base.specs.Lists.{are_apart}
 use Rattle.kcr_room.specs.Laws.{IsAllowed, in_turn_onto, RowsKeep, StaysKeep, TurnsKeep, PresentAreIn}
+use Rattle.kcr_base.proofs.RefuseLemmas.{none_holds}
 use Rattle.kcr_room.proofs.Words.{nat_tests, same_text, SheetRow, Way, Stay}
 use Rattle.kcr_room.proofs.Lists.{any-filter, any-same}
 use Rattle.kcr_room.proofs.Agreement.{same-crowd, same-turned, listed, of_person, force-last}
@@ -36,22 +37,14 @@ allowed stays c last h = by_answers (is_crowded_in_by stays c) (crowded-is_ever 
     by_answers false e None f h t =
         (λ k. both_ways (is_lone_in_by stays c t) (f t) (eq-eqb (crowd_in_by stays c t) 1 k), ltb-false 128 (crowd_in_by stays c t) (e t))
 
-pub third : (a b c : Option Refusal) → first_of (a ∷ b ∷ c ∷ []) ≡ None → (b ≡ None) × (c ≡ None)
-third (Some r) b c h = absurd (let k : Some r ≡ None = h in cc)
-third None (Some r) c h = absurd (let k : Some r ≡ None = h in cc)
-third None None (Some r) h = absurd (let k : Some r ≡ None = h in cc)
-third None None None h = (refl, refl)
-
 pub stays_keep : StaysKeep
-stays_keep stays c mark full way people at h =
-    allowed (after stays c way people at) c _
-    (third (when (nat_le at mark) (Late mark)) (turn_refusal (find (is_out_of_turn_in stays c way at) people)) (later_refusal (after stays c way people at) c full way) h).1
+stays_keep stays c mark full way people at h = allowed (after stays c way people at) c _ (none_holds (when (nat_le at mark) (Late mark) ∷ _ ∷ _ ∷ []) h).1.1.0
 
 -- rows that are not refused: everybody has the turn, and nothing is against the sheet that they make
 pub taken : (rows : List SheetRow) (c mark : ℕ) (full : Bool) (way : Way) (people : List (List ℕ)) (at : ℕ) → rows_refusal rows c mark full way people at ≡ None
     → (turn_refusal (find (is_out_of_turn_by rows c way at) people) ≡ None) ×
     (sheet_refusal (stays_by (rows ++ map (new_row c way at) people)) c full way ≡ None)
-taken rows c mark full way people at h = third (when (nat_le at mark) (Late mark)) _ _ h
+taken rows c mark full way people at h = let n = none_holds (when (nat_le at mark) (Late mark) ∷ _ ∷ _ ∷ []) h in (n.1.0, n.1.1.0)
 
 pub rows_keep : RowsKeep
 rows_keep rows c mark full way people at h t =
