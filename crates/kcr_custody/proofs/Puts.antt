@@ -98,14 +98,12 @@ module _ {X : Type 0} (key : X → List ℕ) where
   -- by its key the new row is found, and by another what was found before
   pub find_put : (row : X) (rows : List X) (k : List ℕ)
       → find (λ old. same_text (key old) k) (put same_key row rows) ≡ cond (same_text (key row) k) (Some row) (find (λ old. same_text (key old) k) rows)
-  find_put row rows k = by_test (list_any (same_key row) rows) (same_text (key row) k) refl refl
-    where
-      by_test : (b s : Bool) → list_any (same_key row) rows ≡ b → same_text (key row) k ≡ s
-          → find (λ old. same_text (key old) k) (cond b (map (λ old. cond (same_key row old) row old) rows) (row ∷ rows))
-          ≡ cond s (Some row) (find (λ old. same_text (key old) k) rows)
-      by_test false s e f = rw f
-      by_test true false e f = find_other row k f rows
-      by_test true true e f = let same : key row ≡ k = text_same (key row) k f in rw (← same) (find_same row rows e)
+  find_put row rows k =
+      let other : same_text (key row) k ≡ false → find (λ old. same_text (key old) k) (map (λ old. cond (same_key row old) row old) rows) ≡ find (λ old. same_text (key old) k) rows =
+          λ f. find_other row k f rows in
+      let same : list_any (same_key row) rows ≡ true → same_text (key row) k ≡ true → find (λ old. same_text (key old) k) (map (λ old. cond (same_key row old) row old) rows) ≡ Some row =
+          λ e f. rw (← text_same (key row) k f) (find_same row rows e) in
+      grind (arith, nat_tests, other, same)
 
   -- rows under keys that are all there leave the keys
   pub keys_stay_all : (changes rows : List X) → list_all (λ c. list_any (same_text (key c)) (map key rows)) changes ≡ true

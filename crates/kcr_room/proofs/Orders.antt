@@ -18,7 +18,7 @@ use Rattle.kcr_room.proofs.Words.{nat_tests, is_before, Way, Enter, Leave, Stay}
 use Rattle.kcr_room.proofs.Lists.{IsPermutation-filter}
 use Rattle.kcr_room.proofs.Agreement.{same-is}
 use Rattle.kcr_room.proofs.Refusals.{lone-same, crowded-same, refused-same, find-same}
-use Rattle.kcr_room.proofs.Rising.{less, other-before, before-trans}
+use Rattle.kcr_room.proofs.Rising.{ranked, other-before}
 
 -- HOW MANY
 
@@ -34,7 +34,7 @@ crowded-order xs ys p c = crowded-same ys xs c (crowd-order xs ys p c)
 -- WHO
 
 pub before-turned : (a b : List ℕ) → is_before a b ≡ true → is_before b a ≡ false
-before-turned a b h = ap is_lt (nat_list_cmp_total.antisymm b a ∙ ap ordering_reverse (less (slice_cmp nat_cmp a b) h))
+before-turned a b h = ranked.one_way a b h
 
 -- of two codes neither of which is before the other
 level : (a b : List ℕ) → is_before a b ≡ false → is_before b a ≡ false → a ≡ b
@@ -42,7 +42,7 @@ level a b f g = grind (arith, nat_tests, f, g, same-is a b, other-before a b)
 
 -- what is not before b, but before a
 pub behind : (x b a : List ℕ) → is_before x b ≡ false → is_before x a ≡ true → is_before b a ≡ true
-behind x b a f h = grind (arith, nat_tests, f, h, same-is x b, other-before x b, before-trans b x a)
+behind x b a f h = grind (arith, nat_tests, f, h, ranked.chain x b a)
 
 -- two people put in one after the other
 put-put : (a b : List ℕ) (people : List (List ℕ)) → put_person a (put_person b people) ≡ put_person b (put_person a people)

@@ -6,6 +6,8 @@ use Rattle.std.specs.declared.cmp.Ordering.TheVariants.{Less, Equal, Greater}
 use Rattle.std.specs.Ordering.{nat_cmp, is_lt, is_eq, ordering_reverse}
 use Rattle.std.specs.Cmp.Lexicographic.{slice_cmp, pointwise}
 use Rattle.std.proofs.lemmas.Bool.{both_ways, and_parts, not-true}
+use Rattle.std.specs.Cmp.{IsStrictWeakOrder}
+use Rattle.std.proofs.lemmas.List.Sorted.{ranks_by}
 use Rattle.std.proofs.lemmas.Cmp.{nat_list_cmp_total, same_from_slice_cmp}
 use Rattle.kcr_room.specs.Room.{enters, in_force, last_row, is_of, ascending_onto, put_person}
 use Rattle.kcr_base.specs.Lists.{are_apart}
@@ -26,13 +28,12 @@ other-before a b f s = by_order (slice_cmp nat_cmp a b) refl f
     by_order Equal e f = absurd (both_ways (same_text a b) s (sym (tied-same a b Equal (sym e))))
     by_order Greater e f = ap is_lt (nat_list_cmp_total.antisymm b a ∙ ap ordering_reverse e)
 
-pub less : (o : Ordering) → is_lt o ≡ true → o ≡ Less
-less Less h = refl
-less Equal h = absurd (let k : false ≡ true = h in cc)
-less Greater h = absurd (let k : false ≡ true = h in cc)
+-- codes stand in an order in which any two compare
+pub ranked : IsStrictWeakOrder is_before
+ranked = ranks_by nat_list_cmp_total (λ code. code)
 
 pub before-trans : (a b c : List ℕ) → is_before a b ≡ true → is_before b c ≡ true → is_before a c ≡ true
-before-trans a b c f g = ap is_lt (nat_list_cmp_total.trans a b c (less (slice_cmp nat_cmp a b) f) (less (slice_cmp nat_cmp b c) g))
+before-trans a b c f g = grind (arith, nat_tests, f, g, ranked.one_way a b, ranked.chain b a c)
 
 all-put : (p : List ℕ → Bool) (who : List ℕ) (people : List (List ℕ)) → p who ≡ true → list_all p people ≡ true → list_all p (put_person who people) ≡ true
 all-put p who [] h a = rw h refl
