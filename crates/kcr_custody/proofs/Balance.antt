@@ -66,10 +66,10 @@ pub put_keeps : (scene : Scene) (safes : List SafeRow) (boxes : List BoxRow) (ba
     (has_holder : Bool)
     → IsBalanced boxes bags items → put_refusal scene safes boxes bags serial to has_holder ≡ None
     → IsBalanced boxes (put same_bag (record { serial = serial; spot = spot_of_store scene.facility to }) bags) items
-put_keeps scene safes boxes bags items serial SafeOne has_holder h n = moved boxes bags items (record { serial = serial; spot = Equipment scene.facility }) refl refl h
+put_keeps scene safes boxes bags items serial SafeOne has_holder h n = moved boxes bags items _ refl refl h
 put_keeps scene safes boxes bags items serial (Boxed number) has_holder h n =
     let known = (none_holds (put_conditions scene safes boxes bags serial (Boxed number) has_holder) n).1.1.0 in
-    moved boxes bags items (record { serial = serial; spot = InBox scene.facility number }) refl (there (place_of_box_by boxes scene.facility number) (unmet _ _ known)) h
+    moved boxes bags items _ refl (there (place_of_box_by boxes scene.facility number) (unmet _ _ known)) h
   where
     there : {X : Type 0} (o : Option X) → is_none o ≡ false → is_some o ≡ true
     there None g = absurd (true≢false g)
@@ -116,7 +116,8 @@ abbrev is_changed : List Item → Item → Bool
 is_changed changes row = list_any (λ c. same_item c row) changes
 
 -- items sealed into a bag on the table are kept
-packed_kept : (bags : List Bag) (serial : List ℕ) → holds_items (spot_by bags serial) ≡ true → (codes : List (List ℕ)) → list_all (is_safe bags) (packed serial codes) ≡ true
+packed_kept : (bags : List Bag) (serial : List ℕ) → holds_items (spot_by bags serial) ≡ true → (codes : List (List ℕ))
+    → list_all (is_safe bags) (packed serial codes) ≡ true
 packed_kept bags serial u [] = refl
 packed_kept bags serial u (code ∷ codes) = rw u (packed_kept bags serial u codes)
 
@@ -131,7 +132,7 @@ seal_keeps facility boxes bags items serial codes h =
       items_once = differ_put_all (λ row. row.code) (packed serial codes) items h.items_once;
       bags_once = m.bags_once;
       kept = all_put_all same_item (is_safe (put same_bag bag bags)) (packed serial codes) items (packed_kept (put same_bag bag bags) serial here codes)
-          (all_mono (is_safe (put same_bag bag bags)) (λ row. is_safe (put same_bag bag bags) row || is_changed (packed serial codes) row) (λ row k. rw k) items m.kept);
+          (all_mono (is_safe (put same_bag bag bags)) _ (λ row k. rw k) items m.kept);
       boxed = m.boxed;
     }
 

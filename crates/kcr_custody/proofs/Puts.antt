@@ -99,9 +99,9 @@ module _ {X : Type 0} (key : X → List ℕ) where
   pub find_put : (row : X) (rows : List X) (k : List ℕ)
       → find (λ old. same_text (key old) k) (put same_key row rows) ≡ cond (same_text (key row) k) (Some row) (find (λ old. same_text (key old) k) rows)
   find_put row rows k =
-      let other : same_text (key row) k ≡ false → find (λ old. same_text (key old) k) (map (λ old. cond (same_key row old) row old) rows) ≡ find (λ old. same_text (key old) k) rows =
-          λ f. find_other row k f rows in
-      let same : list_any (same_key row) rows ≡ true → same_text (key row) k ≡ true → find (λ old. same_text (key old) k) (map (λ old. cond (same_key row old) row old) rows) ≡ Some row =
+      let other = λ (f : same_text (key row) k ≡ false). find_other row k f rows in
+      let same : list_any (same_key row) rows ≡ true → same_text (key row) k ≡ true
+          → find (λ old. same_text (key old) k) (map (λ old. cond (same_key row old) row old) rows) ≡ Some row =
           λ e f. rw (← text_same (key row) k f) (find_same row rows e) in
       grind (arith, nat_tests, other, same)
 

@@ -20,7 +20,7 @@ use Rattle.kcr_room.proofs.Agreement.{begun, same-is, same-itself, of_person, ne
 use Rattle.kcr_room.proofs.Ends.{step_at, until_in, end-unique, told_from, stays-told}
 use Rattle.kcr_room.proofs.Refusals.{first-unique, ever-unique}
 use Rattle.kcr_room.proofs.Orders.{crowd-order, present-order}
-use Rattle.kcr_room.proofs.Sheets.{made, last_reaches, earlier-last}
+use Rattle.kcr_room.proofs.Sheets.{made, InTurn, last_reaches, earlier-last}
 
 -- the row is this person's and has this moment
 abbrev is_at : List ℕ → ℕ → SheetRow → Bool
@@ -106,8 +106,6 @@ stays-order xs ys p h =
     (subst (IsPermutation (plain xs xs)) (same ∙ sym (stays-plain ys (share-order xs ys p h)))
     (IsPermutation-map (λ row. stay_from row (next_onto None row xs)) _ _ (IsPermutation-filter (λ row. is_enter row.way) xs ys p)))
 
--- WHO, HOW MANY AND WHEN
-
 pub rows-crowd : (xs ys : List SheetRow) → IsPermutation xs ys → ShareNoMoment xs → (c t : ℕ) → crowd_by ys c t ≡ crowd_by xs c t
 rows-crowd xs ys p h c t = sym (same-crowd ys c t) ∙ crowd-order (stays_by xs) (stays_by ys) (stays-order xs ys p h) c t ∙ same-crowd xs c t
 
@@ -123,8 +121,6 @@ pub rows-crowded : (xs ys : List SheetRow) → IsPermutation xs ys → ShareNoMo
     → IsEver (λ t. nat_lt 128 (crowd_by xs c t)) ever → IsEver (λ t. nat_lt 128 (crowd_by ys c t)) other → other ≡ ever
 rows-crowded xs ys p h c ever other f g =
     ever-unique (λ t. nat_lt 128 (crowd_by ys c t)) (λ t. nat_lt 128 (crowd_by xs c t)) (λ t. ap (λ n. nat_lt 128 n) (rows-crowd xs ys p h c t)) other ever g f
-
--- A SHEET'S ROWS
 
 -- a list of rows has one not earlier than m exactly where its last is
 reached : (m : ℕ) (rows : List SheetRow) (last : Option SheetRow)
@@ -144,9 +140,9 @@ uncounted : (who : List ℕ) (t : ℕ) (rows : List SheetRow) → list_any (λ r
 uncounted who t [] h = refl
 uncounted who t (row ∷ rows) h = grind (arith, nat_tests, h, count-cons (is_at who t) row rows (is_at who t row) refl, uncounted who t rows)
 
-share-next : (before : List SheetRow) (row : SheetRow) → ShareNoMoment before → is_out_of_turn_by before row.ceremony row.way row.at row.who ≡ false
+share-next : (before : List SheetRow) (stays : List Stay) (row : SheetRow) → InTurn before row → ShareNoMoment before
     → ShareNoMoment (before ++ (row ∷ []))
-share-next before row h turn who t =
+share-next before stays row turn h who t =
     let k = sum_by-append (λ other. cond (is_at who t other) 1 0) before (row ∷ []) in
     grind (arith, nat_tests, k, count-cons (is_at who t) row [] (is_at who t row) refl, h who t, alone)
   where
@@ -164,4 +160,4 @@ share-next before row h turn who t =
 
 -- rows made in turn share no moment
 pub sheet-shares : (rows : List SheetRow) → IsSheet rows → ShareNoMoment rows
-sheet-shares rows s = made (λ rows stays. ShareNoMoment rows) (λ before stays row turn h. share-next before row h turn) (λ who t. omega arith) rows s
+sheet-shares rows s = made (λ rows stays. ShareNoMoment rows) share-next (λ who t. omega arith) rows s

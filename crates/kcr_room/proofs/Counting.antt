@@ -40,8 +40,6 @@ told-crowd stays c comings goings p q t =
     let b = balance stays c t in
     omega (arith, m, n, b)
 
--- THE FIRST MOMENT
-
 all-parts : {X : Type 0} (P : X → Type 0) (xs ys : List X) → AllByRecursion P (xs ++ ys) → AllByRecursion P xs × AllByRecursion P ys
 all-parts P [] ys a = (tt, a)
 all-parts P (x ∷ xs) ys a = let d = all-parts P xs ys a.1 in ((a.0, d.0), d.1)
@@ -67,8 +65,6 @@ pub lone-is_first : (traffic : Traffic)
 lone-is_first traffic =
     subst (IsFirst (is_lone_of traffic)) (try_all-append (is_lone_of traffic) None traffic.comings.items traffic.goings.items)
     (is_first (is_lone_of traffic) (traffic.comings.items ++ traffic.goings.items) (lone-steady traffic))
-
--- TOO MANY
 
 -- where nobody comes later no more are there
 pub crowd-is_ever : (traffic : Traffic) (b : Bool) → b ≡ list_any (is_crowd_of traffic) traffic.comings.items → IsEver (is_crowd_of traffic) b

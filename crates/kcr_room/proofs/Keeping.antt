@@ -54,11 +54,7 @@ rows_keep rows c mark full way people at h t =
 -- nobody's turn is missed where no first such person is found
 pub none-found : (p : List ℕ → Bool) (who : List ℕ) (rest : List (List ℕ)) → turn_refusal (find p (who ∷ rest)) ≡ None
     → (p who ≡ false) × (turn_refusal (find p rest) ≡ None)
-none-found p who rest h = by_test (p who) refl h
-  where
-    by_test : (b : Bool) → p who ≡ b → turn_refusal (cond b (Some who) (find p rest)) ≡ None → (p who ≡ false) × (turn_refusal (find p rest) ≡ None)
-    by_test true e h = absurd (let k : Some (Turn who) ≡ None = h in cc)
-    by_test false e h = (e, h)
+none-found p who rest h = (grind (arith, nat_tests, h), grind (arith, nat_tests, h))
 
 -- another person's row changes nothing of this one's last row
 pub last-other : (rows : List SheetRow) (row : SheetRow) (who : List ℕ) → same_text row.who who ≡ false
@@ -69,7 +65,7 @@ pub in_turn-append : (before rows more : List SheetRow) → in_turn_onto before 
 in_turn-append before [] more = rw (append-nil before) refl
 in_turn-append before (row ∷ rows) more =
     rw (in_turn-append (before ++ (row ∷ [])) rows more, append_assoc before (row ∷ []) rows)
-    (sym (and-assoc (not (is_out_of_turn_by before row.ceremony row.way row.at row.who)) (in_turn_onto (before ++ (row ∷ [])) rows) (in_turn_onto (before ++ (row ∷ rows)) more)))
+    (sym (and-assoc (not (is_out_of_turn_by before row.ceremony row.way row.at row.who)) _ _))
 
 -- people of whom each has the turn have it still where others of them came before
 pub turn-others : (rows : List SheetRow) (c : ℕ) (way : Way) (at : ℕ) (first : List ℕ) (people : List (List ℕ)) → list_any (same_text first) people ≡ false

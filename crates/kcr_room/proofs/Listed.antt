@@ -8,8 +8,6 @@ use Rattle.kcr_room.specs.Stays.{is_listed_before, put_stay, listed_onto, attend
 use Rattle.kcr_room.proofs.Words.{nat_tests, Stay}
 use Rattle.kcr_room.proofs.Orders.{before-turned, behind}
 
--- NOTHING IS LOST
-
 put-moves : (stay : Stay) (stays : List Stay) → IsPermutation (stay ∷ stays) (put_stay stay stays)
 put-moves stay [] = IsPermutation-refl (stay ∷ [])
 put-moves stay (other ∷ rest) = by_order (is_listed_before other stay) (put-moves stay rest)
@@ -34,8 +32,6 @@ pub attendance-moves : (stays : List Stay) (c : ℕ) → IsPermutation (filter (
 attendance-moves stays c =
     subst (λ xs. IsPermutation xs (attendance_in_by stays c)) (append-nil (filter (λ stay. stay.ceremony == c) stays))
     (listed-moves (filter (λ stay. stay.ceremony == c) stays) [])
-
--- IN ORDER
 
 listed-turned : (a b : Stay) → is_listed_before a b ≡ true → is_listed_before b a ≡ false
 listed-turned a b h = grind (arith, nat_tests, before-turned a.who b.who)

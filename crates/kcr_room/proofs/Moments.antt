@@ -37,6 +37,10 @@ count-rises m t (n ∷ moments) h = grind (arith, nat_tests, count-first n momen
 pub crowd-cons : (stay : Stay) (stays : List Stay) (c t : ℕ) → crowd_in_by (stay ∷ stays) c t ≡ cond (holds c t stay) 1 0 + crowd_in_by stays c t
 crowd-cons stay stays c t = sum_by-cons (λ s. cond (holds c t s) 1 0) stay stays
 
+-- the stays that hold, with one more of this end where b says so
+abbrev one_more : Bool → Option ℕ → Stay → List Stay → List Stay
+one_more b until stay held = cond b (record stay { until = until } ∷ held) held
+
 -- as many have come until t as are there or have gone
 pub balance : (stays : List Stay) (c t : ℕ) → count_until (comings_by stays c) t ≡ crowd_in_by stays c t + count_until (goings_by stays c) t
 balance [] c t = refl
@@ -46,9 +50,9 @@ balance (stay ∷ stays) c t =
   where
     by_until : (b : Bool) (until : Option ℕ) → count_until (comings_by stays c) t ≡ crowd_in_by stays c t + count_until (goings_by stays c) t
         → count_until (stay.since ∷ comings_by stays c) t ≡ cond (nat_le stay.since t) 1 0 + count_until (comings_by stays c) t
-        → count_until (map (λ stay. stay.since) (cond (b && lasts_at stay.since until) (record stay { until = until } ∷ filter (is_held c) stays) (filter (is_held c) stays))) t
+        → count_until (map (λ stay. stay.since) (one_more (b && lasts_at stay.since until) until stay (filter (is_held c) stays))) t
         ≡ (cond ((b && nat_le stay.since t) && lasts_at t until) 1 0 + crowd_in_by stays c t)
-        + count_until (filter_map (λ stay. stay.until) (cond (b && lasts_at stay.since until) (record stay { until = until } ∷ filter (is_held c) stays) (filter (is_held c) stays))) t
+        + count_until (filter_map (λ stay. stay.until) (one_more (b && lasts_at stay.since until) until stay (filter (is_held c) stays))) t
     by_until b None ih came = grind (arith, nat_tests, ih, came)
     by_until b (Some u) ih came = grind (arith, nat_tests, ih, came, count-first u (goings_by stays c) t)
 
@@ -63,13 +67,13 @@ parts P (stay ∷ stays) c a = by_tests (stay.ceremony == c) stay.until a (parts
   where
     by_tests : (b : Bool) (until : Option ℕ) → AllByRecursion P (cond b (stay.since ∷ (ends until ++ moments_in stays c)) (moments_in stays c))
         → (AllByRecursion P (moments_in stays c) → Parts P (filter (is_held c) stays))
-        → Parts P (cond (b && lasts_at stay.since until) (record stay { until = until } ∷ filter (is_held c) stays) (filter (is_held c) stays))
+        → Parts P (one_more (b && lasts_at stay.since until) until stay (filter (is_held c) stays))
     by_tests false until a ih = ih a
     by_tests true None a ih = let d = ih a.1 in ((a.0, d.0), d.1)
     by_tests true (Some u) a ih = by_held (nat_lt stay.since u) (ih a.1.1)
       where
         by_held : (b : Bool) → Parts P (filter (is_held c) stays)
-            → Parts P (cond b (record stay { until = Some u } ∷ filter (is_held c) stays) (filter (is_held c) stays))
+            → Parts P (one_more b (Some u) stay (filter (is_held c) stays))
         by_held true d = ((a.0, d.0), (a.1.0, d.1))
         by_held false d = d
 

@@ -20,8 +20,6 @@ use Rattle.kcr_room.proofs.Agreement.{same-is}
 use Rattle.kcr_room.proofs.Refusals.{lone-same, crowded-same, refused-same, find-same}
 use Rattle.kcr_room.proofs.Rising.{ranked, other-before}
 
--- HOW MANY
-
 pub crowd-order : (xs ys : List Stay) → IsPermutation xs ys → (c t : ℕ) → crowd_in_by ys c t ≡ crowd_in_by xs c t
 crowd-order xs ys p c t = sum_by-IsPermutation (λ s. cond (holds c t s) 1 0) xs ys p
 
@@ -61,8 +59,6 @@ present-order xs ys p c t =
     let moved = IsPermutation-map (λ stay. stay.who) (filter (holds c t) xs) (filter (holds c t) ys) (IsPermutation-filter (holds c t) xs ys p) in
     sym (same-ascending (shuffled _ _ moved) [])
 
--- REFUSALS
-
 after-order : (xs ys : List Stay) → IsPermutation xs ys → (c : ℕ) (way : Way) (people : List (List ℕ)) (at : ℕ)
     → IsPermutation (after xs c way people at) (after ys c way people at)
 after-order xs ys p c Enter people at = IsPermutation-append_left (map (new_stay c at) people) _ _ (IsPermutation-filter (of_ceremony c) xs ys p)
@@ -87,8 +83,6 @@ refusal-order xs ys p c mark full way people at =
     (find-same (is_out_of_turn_in ys c way at) (is_out_of_turn_in xs c way at) (turn-order xs ys p c way at) people)
     ∙ ap (λ x. first_of (when (nat_le at mark) (Late mark) ∷ turn_refusal (find (is_out_of_turn_in xs c way at) people) ∷ x ∷ []))
     (later-order _ _ (after-order xs ys p c way people at) c full way)
-
--- CHANGES
 
 pub changes-order : (xs ys : List Stay) → IsPermutation xs ys → (c : ℕ) (way : Way) (people : List (List ℕ)) (at : ℕ)
     → IsPermutation (changed_stays xs c way people at) (changed_stays ys c way people at)

@@ -25,7 +25,7 @@ closed-apart : (other t at : ℕ) (people : List (List ℕ)) (stays : List Stay)
     → crowd_in_by (map (closed people at) stays) other t ≡ crowd_in_by stays other t
 closed-apart other t at people [] h = refl
 closed-apart other t at people (stay ∷ stays) h =
-    let outside = λ (who : List ℕ) (m : is_among people who ≡ true). or_parts (is_inside_of other who stay) (list_any (is_inside_of other who) stays) (h who m) in
+    let outside = λ (who : List ℕ) (m : is_among people who ≡ true). or_parts (is_inside_of other who stay) _ (h who m) in
     let same = by_until stay.until (λ m. (outside stay.who m).0) in
     let rest = closed-apart other t at people stays (λ who m. (outside who m).1) in
     crowd-cons (closed people at stay) (map (closed people at) stays) other t ∙ rw (same, rest) (sym (crowd-cons stay stays other t))

@@ -126,7 +126,8 @@ closed-other who other at test f shape h (stay ∷ stays) =
     apart e = ap (λ w. same_text w other) (same-is stay.who who e) ∙ same-turned who other ∙ h
 
 -- an end that is set where there is none
-ends-closed : (t at : ℕ) (b : Bool) (until : Option ℕ) → ends_from t (cond (b && is_open until) (Some at) until) ≡ (ends_from t until || ((b && is_open until) && nat_le t at))
+ends-closed : (t at : ℕ) (b : Bool) (until : Option ℕ)
+    → ends_from t (cond (b && is_open until) (Some at) until) ≡ (ends_from t until || ((b && is_open until) && nat_le t at))
 ends-closed t at b None = grind (arith, nat_tests)
 ends-closed t at b (Some u) = grind (arith, nat_tests)
 
@@ -170,9 +171,7 @@ last-own : (before : List SheetRow) (row : SheetRow) → last_reaches row.at (la
     → last_row_of (before ++ (row ∷ [])) row.who ≡ Some row
 last-own before row h =
     ap last_row (filter-append (of_person row.who) before (row ∷ []))
-    ∙ ap (λ b. last_row (filter (of_person row.who) before ++ cond b (row ∷ []) [])) (same-itself row.who)
-    ∙ last-snoc None (filter (of_person row.who) before) row
-    ∙ not-later row (last_row_of before row.who) h
+    ∙ rw (same-itself row.who) (last-snoc None (filter (of_person row.who) before) row ∙ not-later row (last_row_of before row.who) h)
 
 -- what the stays tell of the person that a further row is of
 tells-own : (before : List SheetRow) (stays : List Stay) (row : SheetRow) → Tells row.who (last_row_of before row.who) stays → InTurn before row
@@ -245,9 +244,9 @@ tells-other before stays row who d own h tells = rw (last-other before row who d
             ap (list_any test) (next-added before stays row own h Enter w) ∙ list_any-append test stays (new ∷ []) ∙ grind (arith, nat_tests, shape new, d)
         by_way Leave w = ap (list_any test) (next-added before stays row own h Leave w) ∙ closed-other who row.who row.at test f shape d stays
 
-tells-next : (before : List SheetRow) (stays : List Stay) (row : SheetRow) → AllTell before stays → InTurn before row
+tells-next : (before : List SheetRow) (stays : List Stay) (row : SheetRow) → InTurn before row → AllTell before stays
     → AllTell (before ++ (row ∷ [])) (stays_next before stays row)
-tells-next before stays row tells h who = by_same (same_text row.who who) refl
+tells-next before stays row h tells who = by_same (same_text row.who who) refl
   where
     by_same : (s : Bool) → same_text row.who who ≡ s → Tells who (last_row_of (before ++ (row ∷ [])) who) (stays_next before stays row)
     by_same true e =
@@ -257,21 +256,23 @@ tells-next before stays row tells h who = by_same (same_text row.who who) refl
 
 -- what one row more in its turn keeps holds of every sheet
 pub made : (P : List SheetRow → List Stay → Type 0)
-    → ((before : List SheetRow) (stays : List Stay) (row : SheetRow) → InTurn before row → P before stays → P (before ++ (row ∷ [])) (stays_next before stays row))
+    → ((before : List SheetRow) (stays : List Stay) (row : SheetRow) → InTurn before row → P before stays
+    → P (before ++ (row ∷ [])) (stays_next before stays row))
     → P [] [] → (rows : List SheetRow) → IsSheet rows → P rows (stays_by rows)
 made P step none rows s = onto (λ rows stays. IsSheet rows → P rows stays) next rows [] [] (λ s. none) s
   where
     turn : (x : Bool) → (not x && true) ≡ true → x ≡ false
     turn x h = grind (arith, nat_tests, h)
 
-    next : (before : List SheetRow) (stays : List Stay) (row : SheetRow) → (IsSheet before → P before stays) → IsSheet (before ++ (row ∷ [])) → P (before ++ (row ∷ [])) (stays_next before stays row)
+    next : (before : List SheetRow) (stays : List Stay) (row : SheetRow) → (IsSheet before → P before stays)
+        → IsSheet (before ++ (row ∷ [])) → P (before ++ (row ∷ [])) (stays_next before stays row)
     next before stays row h s =
         let p = and_parts (in_turn_onto [] before) (in_turn_onto before (row ∷ [])) (sym (in_turn-append [] before (row ∷ [])) ∙ s) in
         step before stays row (turn (is_out_of_turn_by before row.ceremony row.way row.at row.who) p.1) (h p.0)
 
 -- the stays of a sheet tell of each person what the last row tells
 pub tells-sheet : (rows : List SheetRow) → IsSheet rows → (who : List ℕ) → Tells who (last_row_of rows who) (stays_by rows)
-tells-sheet rows s who = made AllTell (λ before stays row h tells. tells-next before stays row tells h) (λ who. record { moments = λ at. refl; inside = refl; inside_of = λ c. refl }) rows s who
+tells-sheet rows s who = made AllTell tells-next (λ who. record { moments = λ at. refl; inside = refl; inside_of = λ c. refl }) rows s who
 
 -- it is somebody's turn by the stays of a sheet where it is by its rows
 pub same-turns : (rows : List SheetRow) → IsSheet rows → (c : ℕ) (way : Way) (at : ℕ) (who : List ℕ)
@@ -322,7 +323,7 @@ added-onto c way at (who ∷ rest) before stays tells a h =
     let n = none-found (is_out_of_turn_by before c way at) who rest h in
     let row : SheetRow = new_row c way at who in
     let turns = turn-others before c way at who rest (not-true (list_any (same_text who) rest) d.0) n.1 in
-    added-onto c way at rest (before ++ (row ∷ [])) (stays_next before stays row) (tells-next before stays row tells n.0) d.1 turns
+    added-onto c way at rest (before ++ (row ∷ [])) (stays_next before stays row) (tells-next before stays row n.0 tells) d.1 turns
     ∙ ap (added c way at rest) (next-added before stays row (tells who) n.0 way refl)
     ∙ added-more c way at who rest stays
 

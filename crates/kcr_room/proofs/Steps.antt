@@ -34,7 +34,8 @@ AreSorted steps = IsSortedBy (λ a b. is_lt (step_cmp a b)) steps
 
 ranked : IsStrictWeakOrder (λ a b. is_lt (step_cmp a b))
 ranked =
-    ranks_by (then_total (on_total (λ (s : Step). s.at) nat_cmp_total) (then_total (on_total (λ (s : Step). s.place) nat_cmp_total) (on_total (λ (s : Step). s.who) nat_list_cmp_total))) (λ s. s)
+    let by_place = then_total (on_total (λ (s : Step). s.place) nat_cmp_total) (on_total (λ (s : Step). s.who) nat_list_cmp_total) in
+    ranks_by (then_total (on_total (λ (s : Step). s.at) nat_cmp_total) by_place) (λ s. s)
 
 not-before : (a b : Step) → is_lt (step_cmp a b) ≡ false → before a b ≡ false
 not-before a b h = grind (arith, nat_tests, h)
@@ -47,7 +48,7 @@ in_order all sorted i j d h k = not-before (get_or all j d) (get_or all i d) (so
 behind : (front back : List Step) (step : Step) → AreSorted (front ++ (step ∷ back)) → AllByRecursion (λ other. before other step ≡ false) back
 behind front back step sorted = recursion_from_All (λ other. before other step ≡ false) back (λ i d h.
     rw (get_or-append-add front (step ∷ back) 0 d, get_or-append-add front (step ∷ back) (suc i) d)
-    at (in_order (front ++ (step ∷ back)) sorted (length front + 0) (length front + suc i) d (omega arith) (omega (arith, h, length-append front (step ∷ back)))))
+    at (in_order _ sorted (length front + 0) (length front + suc i) d (omega arith) (omega (arith, h, length-append front (step ∷ back)))))
 
 -- and it stands before none ahead of it
 ahead : (front back : List Step) (step : Step) → AreSorted (front ++ (step ∷ back)) → AllByRecursion (λ other. before step other ≡ false) front
@@ -138,7 +139,7 @@ kept : (all : List Step) (ends : List (Option ℕ)) (place : ℕ) (until : Optio
     → AllByRecursion (λ other. IsEnd all other (get_or (set ends place until) other.place None)) steps
 kept all ends place until [] n a = tt
 kept all ends place until (other ∷ steps) n a =
-    (subst (IsEnd all other) (sym (get_or-set_other ends place other.place until None (eqb-false other.place place n.0))) a.0, kept all ends place until steps n.1 a.1)
+    (rw (get_or-set_other ends place other.place until None (eqb-false other.place place n.0)) a.0, kept all ends place until steps n.1 a.1)
 
 in-middle : {X : Type 0} (P : X → Type 0) (front back : List X) (x : X) → AllByRecursion P (front ++ (x ∷ back)) → P x
 in-middle P [] back x a = a.0
@@ -149,7 +150,8 @@ places-within n place [] h = tt
 places-within n place (row ∷ rows) h = (omega arith, places-within n (suc place) rows (omega arith))
 
 -- the step that is last of those in front
-module _ (rows : List SheetRow) (all front : List Step) (step : Step) (next : List ℕ → Option ℕ) (ends : List (Option ℕ)) (moved : IsPermutation (steps_by rows) all) (told : Told rows all (front ++ (step ∷ [])) next ends) where
+module _ (rows : List SheetRow) (all front : List Step) (step : Step) (next : List ℕ → Option ℕ) (ends : List (Option ℕ))
+    (moved : IsPermutation (steps_by rows) all) (told : Told rows all (front ++ (step ∷ [])) next ends) where
   back : List Step
   back = drop (length (front ++ (step ∷ []))) all
 
@@ -185,7 +187,8 @@ module _ (rows : List SheetRow) (all front : List Step) (step : Step) (next : Li
     unfolding back
     its-end = λ t.
         told.soon step.who t
-        ∙ ap not (sym (followed front back step t in-order once) ∙ ap (list_any (λ other. follows step other && nat_le other.at t)) split ∙ sym (list_any-IsPermutation (λ other. follows step other && nat_le other.at t) (steps_by rows) all moved))
+        ∙ ap not (sym (followed front back step t in-order once) ∙ ap (list_any (λ other. follows step other && nat_le other.at t)) split
+        ∙ sym (list_any-IsPermutation (λ other. follows step other && nat_le other.at t) (steps_by rows) all moved))
 
     pub told-next : (later : List ℕ → Option ℕ) → ((who : List ℕ) → later who ≡ cond (same_text step.who who) (Some step.at) (next who))
         → Told rows all front later (set ends step.place (next step.who))

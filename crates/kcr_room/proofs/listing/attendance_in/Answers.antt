@@ -10,7 +10,8 @@ use Rattle.kcr_room.proofs.listing.attendance_in.Goals as goal
 pub returns-clause-complete : goal.returns-clause-complete
 returns-clause-complete c =
     let stays = c.args.stays.now in
-    IfOk-weaker c.stays_in_order.result (λ list. list.items ≡ attendance_in_by stays c.args.ceremony) (λ list. IsPermutation (filter (of_ceremony c.args.ceremony) stays) list.items)
+    IfOk-weaker c.stays_in_order.result (λ list. list.items ≡ attendance_in_by stays c.args.ceremony)
+    (λ list. IsPermutation (filter (of_ceremony c.args.ceremony) stays) list.items)
     (λ list e. rw e (attendance-moves stays c.args.ceremony)) c.stays_in_order.ensures
 
 pub returns-clause-ordered : goal.returns-clause-ordered
