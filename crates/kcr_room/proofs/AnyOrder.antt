@@ -10,7 +10,6 @@ use Rattle.std.proofs.lemmas.List.Sums.{sum_by-append}
 use Rattle.std.proofs.lemmas.List.Sorted.{IsPermutation-map, sum_by-IsPermutation, list_any-IsPermutation}
 use Rattle.kcr_room.specs.Moments.{IsFirst, IsEver}
 use Rattle.kcr_room.specs.Room.{is_enter, is_ahead, later, last_onto, last_row_of, present_by, crowd_by}
-use Rattle.kcr_room.specs.Adding.{is_out_of_turn_by}
 use Rattle.kcr_room.specs.Stays.{sooner, next_onto, stay_from, stays_by}
 use Rattle.kcr_room.specs.Ends.{steps_from, steps_by, follows}
 use Rattle.kcr_room.specs.Laws.{IsSheet, ShareNoMoment}

@@ -1,12 +1,11 @@
 -- The stays of a sheet are told by the end of each row.
-use Rattle.std.proofs.Common.{◌≡◌, ℕ, suc, ◌+◌, ◌<◌, ◌≤◌, Bool, true, false, cond, not, ◌&&◌, nat_le, nat_lt, List, [], ◌∷◌, ◌++◌, map, length}
+use Rattle.std.proofs.Common.{◌≡◌, ℕ, suc, ◌+◌, ◌<◌, ◌≤◌, false, cond, not, ◌&&◌, nat_le, nat_lt, List, [], ◌∷◌, ◌++◌, map, length}
 use Rattle.std.proofs.Common.{get_or, drop, Option, Some, None, refl, sym, ap, ◌∙◌, arith, append-nil, append_assoc, drop-cons}
 use Rattle.std.specs.List.{list_any, AllByRecursion}
 use Rattle.std.proofs.lemmas.Bool.{both_ways, le-ltb}
-use Rattle.std.proofs.lemmas.List.{drop_more}
 use Rattle.std.proofs.Math.Bool.{and-true}
 use Rattle.kcr_room.specs.declared.stays.Step.{Step}
-use Rattle.kcr_room.specs.Room.{is_enter, is_ahead}
+use Rattle.kcr_room.specs.Room.{is_ahead}
 use Rattle.kcr_room.specs.Stays.{lasts_at, sooner, cut, next_onto, stay_from, stays_next, stays_by}
 use Rattle.kcr_room.specs.Ends.{steps_from, steps_by, follows, IsEnd, stays_with}
 use Rattle.kcr_room.proofs.Words.{nat_tests, same_text, SheetRow, Stay}

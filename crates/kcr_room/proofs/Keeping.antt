@@ -1,5 +1,5 @@
 -- What holds of every sheet that requests have made.
-use Rattle.std.proofs.Common.{◌≡◌, ℕ, Bool, true, false, cond, not, ◌||◌, ◌&&◌, nat_le, List, [], ◌∷◌, ◌++◌, map, Option, Some, None, refl, sym, ap, ◌∙◌, subst}
+use Rattle.std.proofs.Common.{◌≡◌, ℕ, Bool, true, false, not, ◌||◌, ◌&&◌, nat_le, List, [], ◌∷◌, ◌++◌, map, Option, Some, None, refl, sym, ap, ◌∙◌, subst}
 use Rattle.std.proofs.Common.{arith, append-nil, append_assoc}
 use Rattle.std.specs.List.{list_any, filter, find}
 use Rattle.std.proofs.lemmas.Bool.{both_ways, ltb-false, eq-eqb, and_parts, and_from, or_parts, not-true}
@@ -7,11 +7,11 @@ use Rattle.std.proofs.Math.Bool.{or-false}
 use Rattle.std.proofs.lemmas.List.Elements.{filter-append}
 use Rattle.kcr_base.specs.Refuse.{when, first_of}
 use Rattle.kcr_base.specs.declared.refusal.Refusal.{Refusal}
-use Rattle.kcr_base.specs.declared.refusal.Refusal.TheVariants.{Late, Turn, Crowd, Lone}
+use Rattle.kcr_base.specs.declared.refusal.Refusal.TheVariants.{Late, Crowd, Lone}
 use Rattle.kcr_room.specs.Moments.{IsFirst, IsEver}
 use Rattle.kcr_room.specs.Room.{enters, last_row, last_enters, last_row_of, is_of, in_force, ascending_onto, put_person}
 use Rattle.kcr_room.specs.Stays.{crowd_in_by, is_lone_in_by, is_crowd_in_by, first_lone_in_by, is_crowded_in_by, stays_by}
-use Rattle.kcr_room.specs.Adding.{turn_refusal, lone_refusal, later_refusal, sheet_refusal, after, is_out_of_turn, is_out_of_turn_by, is_out_of_turn_in}
+use Rattle.kcr_room.specs.Adding.{turn_refusal, lone_refusal, sheet_refusal, after, is_out_of_turn, is_out_of_turn_by}
 use Rattle.kcr_room.specs.Adding.{new_row, rows_refusal}
 use Rattle.kcr_base.specs.Lists.{are_apart}
 use Rattle.kcr_room.specs.Laws.{IsAllowed, in_turn_onto, RowsKeep, StaysKeep, TurnsKeep, PresentAreIn}

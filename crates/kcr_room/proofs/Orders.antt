@@ -5,9 +5,6 @@ use Rattle.std.specs.List.Sorted.{IsPermutation}
 use Rattle.kcr_base.proofs.RowsLemmas.{Shuffled, shuffled}
 use Rattle.std.proofs.lemmas.List.Sorted.{IsPermutation-refl, IsPermutation-map, IsPermutation-append_left, length_permutation, sum_by-IsPermutation}
 use Rattle.std.proofs.lemmas.List.Sorted.{list_any-IsPermutation}
-use Rattle.std.specs.Ordering.{nat_cmp, is_lt, ordering_reverse}
-use Rattle.std.specs.Cmp.Lexicographic.{slice_cmp}
-use Rattle.std.proofs.lemmas.Cmp.{nat_list_cmp_total}
 use Rattle.kcr_base.specs.Refuse.{when, first_of}
 use Rattle.kcr_base.specs.declared.refusal.Refusal.TheVariants.{Late}
 use Rattle.kcr_room.specs.Room.{ascending_onto, put_person}

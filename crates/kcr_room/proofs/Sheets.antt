@@ -2,7 +2,7 @@
 use Rattle.std.proofs.Common.{◌≡◌, ℕ, Bool, true, false, cond, not, ◌||◌, ◌&&◌, ◌==◌, nat_le, nat_lt, List, [], ◌∷◌, ◌++◌, map, Option, Some, None, refl, sym}
 use Rattle.std.proofs.Common.{ap, ◌∙◌, arith, subst, append-nil, append_assoc}
 use Rattle.std.specs.List.{list_any, filter, find}
-use Rattle.std.proofs.lemmas.Bool.{true≢false, and_parts, or_parts, or_from, not-true}
+use Rattle.std.proofs.lemmas.Bool.{true≢false, and_parts, or_parts, not-true}
 use Rattle.std.proofs.lemmas.List.Elements.{filter-append}
 use Rattle.std.proofs.lemmas.List.Folds.{list_any-append}
 use Rattle.kcr_room.specs.Room.{is_enter, later, last_onto, last_row, last_enters, last_row_of, is_ahead}

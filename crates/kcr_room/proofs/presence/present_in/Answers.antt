@@ -1,4 +1,3 @@
-use Rattle.std.proofs.Common.{sym}
 use Rattle.kcr_room.proofs.Agreement.{same-present}
 use Rattle.kcr_room.proofs.presence.present_in.Goals as goal
 

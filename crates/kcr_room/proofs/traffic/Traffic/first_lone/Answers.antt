@@ -1,6 +1,3 @@
-use Rattle.std.proofs.Common.{None, ap, ◌∙◌}
-use Rattle.kcr_room.specs.Moments.{try_all}
-use Rattle.kcr_room.specs.Traffic.{is_lone_of}
 use Rattle.kcr_room.proofs.Counting.{lone-is_first}
 use Rattle.kcr_room.proofs.traffic.Traffic.first_lone.Goals as goal
 
