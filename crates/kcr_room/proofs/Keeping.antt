@@ -11,8 +11,7 @@ use Rattle.kcr_base.specs.declared.refusal.Refusal.TheVariants.{Late, Crowd, Lon
 use Rattle.kcr_room.specs.Moments.{IsFirst, IsEver}
 use Rattle.kcr_room.specs.Room.{enters, last_row, last_enters, last_row_of, is_of, in_force, ascending_onto, put_person}
 use Rattle.kcr_room.specs.Stays.{crowd_in_by, is_lone_in_by, is_crowd_in_by, first_lone_in_by, is_crowded_in_by, stays_by}
-use Rattle.kcr_room.specs.Adding.{turn_refusal, lone_refusal, sheet_refusal, after, is_out_of_turn, is_out_of_turn_by}
-use Rattle.kcr_room.specs.Adding.{new_row, rows_refusal}
+use Rattle.kcr_room.specs.Adding.{turn_refusal, lone_refusal, sheet_refusal, after, is_out_of_turn, is_out_of_turn_by, new_row, rows_refusal}
 use Rattle.kcr_base.specs.Lists.{are_apart}
 use Rattle.kcr_room.specs.Laws.{IsAllowed, in_turn_onto, RowsKeep, StaysKeep, TurnsKeep, PresentAreIn}
 use Rattle.kcr_base.proofs.RefuseLemmas.{none_holds}
