@@ -101,8 +101,8 @@ module _ {X : Type 0} (key : X → List ℕ) where
   find_put row rows k =
       let other = λ (f : same_text (key row) k ≡ false). find_other row k f rows in
       let same : list_any (same_key row) rows ≡ true → same_text (key row) k ≡ true
-          → find (λ old. same_text (key old) k) (map (λ old. cond (same_key row old) row old) rows) ≡ Some row =
-          λ e f. rw (← text_same (key row) k f) (find_same row rows e) in
+      → find (λ old. same_text (key old) k) (map (λ old. cond (same_key row old) row old) rows) ≡ Some row =
+      λ e f. rw (← text_same (key row) k f) (find_same row rows e) in
       grind (arith, nat_tests, other, same)
 
   -- rows under keys that are all there leave the keys

@@ -99,8 +99,8 @@ share-order xs ys p h =
 pub stays-order : (xs ys : List SheetRow) → IsPermutation xs ys → ShareNoMoment xs → IsPermutation (stays_by xs) (stays_by ys)
 stays-order xs ys p h =
     let same : plain xs ys ≡ plain ys ys =
-        map-same (λ row. stay_from row (next_onto None row xs)) (λ row. stay_from row (next_onto None row ys)) (filter (λ row. is_enter row.way) ys)
-        (λ row. ap (stay_from row) (next-order xs ys p row)) in
+    map-same (λ row. stay_from row (next_onto None row xs)) (λ row. stay_from row (next_onto None row ys)) (filter (λ row. is_enter row.way) ys)
+    (λ row. ap (stay_from row) (next-order xs ys p row)) in
     subst (λ stays. IsPermutation stays (stays_by ys)) (sym (stays-plain xs h))
     (subst (IsPermutation (plain xs xs)) (same ∙ sym (stays-plain ys (share-order xs ys p h)))
     (IsPermutation-map (λ row. stay_from row (next_onto None row xs)) _ _ (IsPermutation-filter (λ row. is_enter row.way) xs ys p)))

@@ -22,13 +22,13 @@ parted-count test [] i h point = omega (arith, h)
 parted-count test (m ∷ moments) zero h point =
     let k = count-cons test m moments false (point.1 0 m (omega arith) (omega arith)) in
     let n =
-        parted-count test moments 0 (omega arith) ((λ k d l g. absurd (omega (arith, g))), (λ k d l g. point.1 (suc k) d (omega arith) (omega (arith, g)))) in
+    parted-count test moments 0 (omega arith) ((λ k d l g. absurd (omega (arith, g))), (λ k d l g. point.1 (suc k) d (omega arith) (omega (arith, g)))) in
     omega (arith, k, n)
 parted-count test (m ∷ moments) (suc i) h point =
     let k = count-cons test m moments true (point.0 0 m (omega arith) (omega arith)) in
     let n =
-        parted-count test moments i (omega arith)
-        ((λ k d l g. point.0 (suc k) d (omega arith) (omega (arith, g))), (λ k d l g. point.1 (suc k) d (omega (arith, l)) (omega (arith, g)))) in
+    parted-count test moments i (omega arith)
+    ((λ k d l g. point.0 (suc k) d (omega arith) (omega (arith, g))), (λ k d l g. point.1 (suc k) d (omega (arith, l)) (omega (arith, g)))) in
     omega (arith, k, n)
 
 -- those who have come without those who have gone are there

@@ -75,7 +75,7 @@ turn-others rows c way at first (who ∷ rest) a h =
     let n = none-found (is_out_of_turn_by rows c way at) who rest h in
     let d = or_parts (same_text first who) (list_any (same_text first) rest) a in
     let e : is_out_of_turn_by (rows ++ (new_row c way at first ∷ [])) c way at who ≡ false =
-        ap (λ last. is_out_of_turn way c at last) (last-other rows (new_row c way at first) who d.0) ∙ n.0 in
+    ap (λ last. is_out_of_turn way c at last) (last-other rows (new_row c way at first) who d.0) ∙ n.0 in
     rw e (turn-others rows c way at first rest d.1 n.1)
 
 turns-more : (rows : List SheetRow) (c : ℕ) (way : Way) (at : ℕ) (people : List (List ℕ)) → are_apart people ≡ true

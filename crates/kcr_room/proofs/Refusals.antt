@@ -83,5 +83,5 @@ same_refusal rows s c mark full way people at a =
     ap (λ o. first_of (when (nat_le at mark) (Late mark) ∷ turn_refusal o ∷ later_refusal (after (stays_by rows) c way people at) c full way ∷ []))
     (sym (find-same (is_out_of_turn_by rows c way at) (is_out_of_turn_in (stays_by rows) c way at) (same-turns rows s c way at) people))
     ∙ third-alike (when (nat_le at mark) (Late mark)) (turn_refusal (find (is_out_of_turn_by rows c way at) people)) _ _ (λ k.
-        ap (λ stays. later_refusal stays c full way) (sym (same-added rows s c way at people a k))
-        ∙ refusal-filter (stays_by (rows ++ map (new_row c way at) people)) c full way)
+    ap (λ stays. later_refusal stays c full way) (sym (same-added rows s c way at people a k))
+    ∙ refusal-filter (stays_by (rows ++ map (new_row c way at) people)) c full way)

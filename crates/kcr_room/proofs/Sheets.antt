@@ -107,7 +107,7 @@ next-added : (before : List SheetRow) (stays : List Stay) (row : SheetRow) → T
 next-added before stays row tells h Enter w =
     let last = last_row_of before row.who in
     let t : is_out_of_turn_in stays row.ceremony Enter row.at row.who ≡ false =
-        same-turn row.who last stays tells row.ceremony Enter row.at ∙ ap (λ way. is_out_of_turn way row.ceremony row.at last) (sym w) ∙ h in
+    same-turn row.who last stays tells row.ceremony Enter row.at ∙ ap (λ way. is_out_of_turn way row.ceremony row.at last) (sym w) ∙ h in
     let d = or_parts (list_any (reaches row.who row.at) stays) (list_any (is_inside row.who) stays) t in
     rw (cut-enter row stays d.0 d.1, no-next row before None (no-ahead row before (earlier-last row.way row.ceremony row.at last h)), w)
 next-added before stays row tells h Leave w =

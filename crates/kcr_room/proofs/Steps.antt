@@ -161,11 +161,11 @@ module _ (rows : List SheetRow) (all front : List Step) (step : Step) (next : Li
   pub place-within : step.place < length ends
   place-within =
       let w =
-          All-permutation (λ step. step.place < length rows) (steps_by rows) all moved
-          (All-from_recursion (λ step. step.place < length rows) (steps_by rows) (places-within (length rows) 0 rows (omega arith))) in
+      All-permutation (λ step. step.place < length rows) (steps_by rows) all moved
+      (All-from_recursion (λ step. step.place < length rows) (steps_by rows) (places-within (length rows) 0 rows (omega arith))) in
       let h =
-          in-middle (λ step. step.place < length rows) front back step
-          (subst (AllByRecursion (λ step. step.place < length rows)) (sym split) (recursion_from_All (λ step. step.place < length rows) all w)) in
+      in-middle (λ step. step.place < length rows) front back step
+      (subst (AllByRecursion (λ step. step.place < length rows)) (sym split) (recursion_from_All (λ step. step.place < length rows) all w)) in
       omega (arith, h, told.many)
 
   module _ (sorted : AreSorted all) where
