@@ -21,7 +21,7 @@ use Rattle.kcr_custody.specs.declared.SafeNumber.TheVariants.{One, Two}
 use Rattle.kcr_custody.specs.declared.SafeRow.{SafeRow}
 use Rattle.kcr_custody.specs.declared.BoxRow.{BoxRow}
 use Rattle.kcr_custody.specs.declared.Spot.{Spot}
-use Rattle.kcr_custody.specs.declared.Spot.TheVariants.{Table, Equipment, InBox}
+use Rattle.kcr_custody.specs.declared.Spot.TheVariants.{Table, Equipment, InBox, Spent}
 use Rattle.kcr_custody.specs.declared.Rest.{Rest}
 use Rattle.kcr_custody.specs.declared.Rest.TheVariants.{Loose, Within}
 use Rattle.kcr_custody.specs.declared.Bag.{Bag}
