@@ -1,12 +1,8 @@
-mod BagLemmas
 mod CeremonyLemmas
-mod ExceptionLemmas
+mod ChoiceLemmas
+mod CustodyLemmas
 mod FirstLemmas
-mod KeyLemmas
-mod LooseLemmas
 mod NameLemmas
 mod NumberLemmas
 mod OrderLemmas
-mod SafeLemmas
-mod StayLemmas
-mod StepLemmas
+pub mod StayLemmas

@@ -1,43 +1,47 @@
 -- The stays of a ceremony by their beginning, then initials, read one at a time.
-use Rattle.std.proofs.Common.{◌≡◌, ℕ, pos, arith, ◌&&◌, ◌||◌, ◌==◌, nat_lt, not, Bool, true, false, cond, List, [], ◌∷◌, ◌++◌, take, map, filter, codes, slice_get, Option, Some, None, Ordering, Less, Equal, Greater, is_lt, refl, sym, ap, ap₂, subst, ◌∙◌}
+use Rattle.std.proofs.Common.{◌≡◌, ℕ, pos, arith, ◌&&◌, ◌||◌, ◌==◌, nat_lt, not, Bool, true, false, cond, List, [], ◌∷◌, ◌++◌, map, filter, codes, slice_get}
+use Rattle.std.proofs.Common.{Option, Some, None, Ordering, Less, Equal, Greater, is_lt, refl, sym, ap, ap₂, subst, ◌∙◌}
 use Rattle.std.specs.List.{AllByRecursion, list_all}
-use Rattle.std.specs.Ordering.{is_eq, is_gt, nat_cmp, then_cmp, ordering_then, ordering_reverse}
-use Rattle.std.specs.Cmp.{IsTotalOrder}
+use Rattle.std.specs.Ordering.{is_eq, nat_cmp, then_cmp, ordering_then, ordering_reverse}
+use Rattle.std.specs.Cmp.{IsTotalOrder, tied_then}
 use Rattle.std.specs.Cmp.Lexicographic.{slice_cmp}
 use Rattle.std.specs.List.Sorted.{IsPermutation}
+use Rattle.std.proofs.Math.Bool.{and_comm}
 use Rattle.std.proofs.lemmas.Bool.{and_parts, eqb-true}
 use Rattle.std.proofs.lemmas.Bool.Decides.{nat_tests}
 use Rattle.std.proofs.lemmas.Cmp.{nat_cmp_total, nat_list_cmp_total, on_total, then_total, tied_itself}
 use Rattle.std.proofs.lemmas.List.Sorted.{IsPermutation-sym, IsPermutation-trans}
-use Rattle.sqlite.specs.declared.types.Value.TheVariants.{Null, Int, Text}
-use Rattle.sqlite.specs.Order.{Row, column, value_cmp}
+use Rattle.sqlite.specs.declared.types.Value.TheVariants.{Int, Text}
+use Rattle.sqlite.specs.Order.{Row, column}
 use Rattle.sqlite.specs.Query.{key_cmp}
-use Rattle.sqlite.specs.Term.{Term, col, op2, holds}
+use Rattle.sqlite.specs.Term.{Term, col, op2}
 use Rattle.sqlite.specs.Ops.{binary}
 use Rattle.sqlite.specs.Collation.TheVariants.{Binary}
 use Rattle.sqlite.specs.Tree.{Trees, IsAscending}
 use Rattle.sqlite.specs.Listing.{understood}
+use Rattle.sqlite_keyed.proofs.SortLemmas.{sorted_unique}
 use Rattle.sqlite_sql.specs.declared.ops.BinaryOp.TheVariants.{Compare}
 use Rattle.sqlite_sql.specs.declared.ops.CompareOp.TheVariants.{Eq, Gt}
 use Rattle.sqlite_value.specs.Keys.{ascending, rising}
 use Rattle.sqlite_value.proofs.OrderLemmas.{value_cmp-Text, then-Equal}
 use Rattle.sqlite_tied.specs.Compute.{everything}
-use Rattle.sqlite_trees.proofs.ListLemmas.{ascending_weaker, ascending_from_map, ascending-filter, IsPermutation-filter, along_permutation}
+use Rattle.sqlite_trees.proofs.ListLemmas.{all_weaker, filter_none, ascending_weaker, ascending_from_map, ascending-filter, IsPermutation-filter}
 use Rattle.kcr_rows.specs.Keyed.{by_key}
 use Rattle.kcr_rows.proofs.FilterLemmas.{filter_as}
 use Rattle.kcr_cells.specs.Rows.{stay_row}
 use Rattle.kcr_room.proofs.Listed.{attendance-moves, attendance-listed}
+use Rattle.kcr_room.proofs.Lists.{filter-and}
 use Rattle.kcr_room.specs.Stays.{is_listed_before, are_listed, attendance_in_by}
 use Rattle.kcr_room.specs.declared.Stay.{Stay}
-use Rattle.kcr_history.specs.Prints.{name_of}
 use Rattle.kcr_history.specs.Tables as machine
-use Rattle.kcr_tables.specs.Held.{Tables, Kept, stays_place}
-use Rattle.kcr_tables.specs.Joint.{Stands}
+use Rattle.kcr_tables.specs.Held.{stays_place}
+use Rattle.kcr_tables.specs.Joint.{KeepsTables}
 use Rattle.kcr_tables.specs.StaysLaws as laws
 use Rattle.kcr_reading.specs.First.{Choice, ShowsFirst, IsFirst, bound_of}
-use Rattle.kcr_reading.specs.ToCome.{Gives, since_of, begins_with, begins_after, is_stay_past, listed_past, stays_past, with_name}
-use Rattle.kcr_reading.proofs.NumberLemmas.{number_cmp, behind_number, behind_text, equal_number, two_tests, three_tests, rises_among, both_tests}
-use Rattle.kcr_reading.proofs.OrderLemmas.{moved, gives_first, later}
+use Rattle.kcr_reading.specs.ToCome.{Gives, is_behind, since_of, begins_with, begins_after, is_stay_past, listed_past}
+use Rattle.kcr_reading.proofs.ChoiceLemmas.{by_test}
+use Rattle.kcr_reading.proofs.NumberLemmas.{number_cmp, behind_number, behind_text, equal_number, one_test, with_tests, rises_among}
+use Rattle.kcr_reading.proofs.OrderLemmas.{later, moved, apart_on, sorted, gives_first}
 
 -- ---- the order
 
@@ -59,52 +63,21 @@ past_later : (last : Option Stay) (x : Stay) → is_stay_past last x ≡ later l
 past_later None x = refl
 past_later (Some l) x = before_is l x
 
-abbrev Rises : Stay → Stay → Type 0
+abbrev pub Rises : Stay → Stay → Type 0
 Rises a b = listed a b ≡ Less
 
 abbrev Apart : Stay → Stay → Type 0
 Apart a b = is_eq (listed a b) ≡ false
-
-both : (o p : Ordering) → is_eq (ordering_then o p) ≡ (is_eq o && is_eq p)
-both Less p = refl
-both Equal p = refl
-both Greater p = refl
-
-turned_and : (a b : Bool) → (a && b) ≡ (b && a)
-turned_and true true = refl
-turned_and true false = refl
-turned_and false true = refl
-turned_and false false = refl
-
-reversed : (o : Ordering) → is_eq (ordering_reverse o) ≡ is_eq o
-reversed Less = refl
-reversed Equal = refl
-reversed Greater = refl
 
 by_who : (a b : Stay) → by_key 2 (stay_row a) (stay_row b) ≡ ordering_then (slice_cmp nat_cmp a.who b.who) (nat_cmp a.since b.since)
 by_who a b = ap₂ (λ o p. ordering_then o p) (value_cmp-Text a.who b.who) (then-Equal _ ∙ number_cmp a.since b.since)
 
 key_apart : (a b : Stay) → by_key 2 (stay_row a) (stay_row b) ≡ Less → Apart a b
 key_apart a b h =
-    both (nat_cmp a.since b.since) (slice_cmp nat_cmp a.who b.who) ∙ turned_and (is_eq (nat_cmp a.since b.since)) (is_eq (slice_cmp nat_cmp a.who b.who)) ∙ sym (both (slice_cmp nat_cmp a.who b.who) (nat_cmp a.since b.since))
+    sym (tied_then (nat_cmp a.since b.since) (slice_cmp nat_cmp a.who b.who)) ∙ and_comm (is_eq (nat_cmp a.since b.since)) (is_eq (slice_cmp nat_cmp a.who b.who)) ∙ tied_then (slice_cmp nat_cmp a.who b.who) (nat_cmp a.since b.since)
     ∙ ap is_eq (sym (by_who a b) ∙ h)
 
-apart_turned : (a b : Stay) → Apart a b → Apart b a
-apart_turned a b h = ap is_eq (listed_total.antisymm b a) ∙ reversed (listed a b) ∙ h
-
--- that each two are apart holds in any order
-Kept_apart : List Stay → List Stay → Type 0
-Kept_apart xs ys = ((y : Stay) → AllByRecursion (Apart y) xs → AllByRecursion (Apart y) ys) × (IsAscending Apart xs → IsAscending Apart ys)
-
-pub apart_on : (xs ys : List Stay) → IsPermutation xs ys → IsAscending Apart xs → IsAscending Apart ys
-unfolding Kept_apart
-apart_on xs ys same =
-    (along_permutation Kept_apart (λ l. (λ y all. all, λ up. up))
-    (λ x l k h. (λ y all. (all.0, h.0 y all.1), λ up. (h.0 x up.0, h.1 up.1)))
-    (λ x y l. (λ z all. (all.1.0, (all.0, all.1.1)), λ up. ((apart_turned x y up.0.0, up.1.0), (up.0.1, up.1.1))))
-    (λ a b c p q. (λ y all. q.0 y (p.0 y all), λ up. q.1 (p.1 up)))
-    xs ys same).1
-
+-- stays in the order of the listing, each two of them apart, rise
 strict : (xs : List Stay) → are_listed xs ≡ true → IsAscending Apart xs → IsAscending Rises xs
 strict [] h up = tt
 strict (x ∷ xs) h up =
@@ -130,22 +103,33 @@ abbrev those : ℕ → machine.Tables → List Stay
 those ceremony m = attendance_in_by m.stays ceremony
 
 -- those of the ceremony in the table, in another order
-same_stays : (ceremony : ℕ) (m : machine.Tables) (t : Tables) → Stands m t → IsPermutation (filter (is_of ceremony) t.stays) (those ceremony m)
-same_stays ceremony m t stands =
-    IsPermutation-trans _ _ _ (IsPermutation-sym _ _ (IsPermutation-filter (is_of ceremony) _ _ stands.stays)) (attendance-moves m.stays ceremony)
+same_stays : (ceremony : ℕ) {xs ts : List Stay} → IsPermutation xs ts → IsPermutation (filter (is_of ceremony) ts) (attendance_in_by xs ceremony)
+same_stays ceremony {xs} same = IsPermutation-trans _ _ _ (IsPermutation-sym _ _ (IsPermutation-filter (is_of ceremony) _ _ same)) (attendance-moves xs ceremony)
 
-rise : (ceremony : ℕ) (m : machine.Tables) (db : Trees) (t : Tables) → Kept db t → Stands m t → IsAscending Rises (those ceremony m)
-rise ceremony m db t kept stands =
-    strict (those ceremony m) (attendance-listed m.stays ceremony)
-    (apart_on _ _ (same_stays ceremony m t stands) (ascending-filter Apart (is_of ceremony) t.stays
-    (ascending_weaker (λ (a b : Stay). by_key 2 (stay_row a) (stay_row b) ≡ Less) Apart key_apart t.stays (ascending_from_map (λ a b. by_key 2 a b ≡ Less) stay_row t.stays kept.stays.rising))))
+rise : (ceremony : ℕ) {xs ts : List Stay} → IsPermutation xs ts → IsAscending (λ a b. by_key 2 a b ≡ Less) (map stay_row ts) → IsAscending Rises (attendance_in_by xs ceremony)
+rise ceremony {xs} {ts} same rising =
+    strict (attendance_in_by xs ceremony) (attendance-listed xs ceremony)
+    (apart_on listed listed_total (λ (s : Stay). s) _ _ (same_stays ceremony same) (ascending-filter Apart (is_of ceremony) ts
+    (ascending_weaker (λ (a b : Stay). by_key 2 (stay_row a) (stay_row b) ≡ Less) Apart key_apart ts (ascending_from_map (λ a b. by_key 2 a b ≡ Less) stay_row ts rising))))
 
--- what passes in the table are those that pass in the list
-passed : (ceremony : ℕ) (m : machine.Tables) (t : Tables) → Stands m t → (passes : Row → Bool) (test : Stay → Bool) → ((x : Stay) → passes (stay_row x) ≡ (is_of ceremony x && test x))
-    → IsPermutation (filter (λ x. passes (stay_row x)) t.stays) (filter test (those ceremony m))
-passed ceremony m t stands passes test chosen =
-    subst (λ l. IsPermutation l (filter test (those ceremony m))) (both_tests test (is_of ceremony) t.stays ∙ sym (filter_as _ _ chosen t.stays))
-    (IsPermutation-filter test _ _ (same_stays ceremony m t stands))
+-- the stays of the table in any order give one attendance
+pub one_attendance : (ceremony : ℕ) {xs ys ts : List Stay} → IsPermutation xs ts → IsPermutation ys ts → IsAscending (λ a b. by_key 2 a b ≡ Less) (map stay_row ts)
+    → attendance_in_by ys ceremony ≡ attendance_in_by xs ceremony
+one_attendance ceremony {xs} {ys} p q rising =
+    sorted_unique listed listed_total (attendance_in_by xs ceremony) (attendance_in_by ys ceremony) (rise ceremony p rising)
+    (IsPermutation-trans _ _ _ (IsPermutation-sym _ _ (same_stays ceremony p)) (same_stays ceremony q))
+    (sorted listed listed_total (λ (s : Stay). s) _ (rise ceremony q rising))
+
+module _ (ceremony : ℕ) (m : machine.Tables) {db : Trees} (k : KeepsTables m db) where
+  rise_here : IsAscending Rises (those ceremony m)
+  rise_here = rise ceremony k.stands.stays k.kept.stays.rising
+
+  -- what passes in the table are those that pass in the list
+  passed : (passes : Row → Bool) (test : Stay → Bool) → ((x : Stay) → passes (stay_row x) ≡ (is_of ceremony x && test x))
+      → IsPermutation (filter (λ x. passes (stay_row x)) k.t.stays) (filter test (those ceremony m))
+  passed passes test chosen =
+      subst (λ l. IsPermutation l (filter test (those ceremony m))) (filter-and (is_of ceremony) test k.t.stays ∙ sym (filter_as _ _ chosen k.t.stays))
+      (IsPermutation-filter test _ _ (same_stays ceremony k.stands.stays))
 
 -- ---- the next that begins with the last
 
@@ -155,38 +139,30 @@ together_text = codes "SELECT who, since, ceremony, until FROM stays WHERE cerem
 abbrev together_test : List Term
 together_test = op2 (Compare Eq Binary) (col 1 3) (col 0 0) ∷ op2 (Compare Eq Binary) (col 1 2) (col 0 1) ∷ op2 (Compare Gt Binary) (col 1 1) (col 0 2) ∷ []
 
-abbrev pub together : ℕ → Stay → Choice
-together ceremony last = record {
-  passes = λ row. list_all (holds ((Int (pos ceremony) ∷ Int (pos last.since) ∷ Text last.who ∷ []) ∷ (Null ∷ row) ∷ [])) together_test;
-  rank = take 2;
-  compare = by_key 2;
-}
+abbrev together_params : ℕ → Stay → Row
+together_params ceremony last = Int (pos ceremony) ∷ Int (pos last.since) ∷ Text last.who ∷ []
 
-pub shows_together : (ceremony : ℕ) (last : Stay) → ShowsFirst together_text stays_place (Int (pos ceremony) ∷ Int (pos last.since) ∷ Text last.who ∷ []) (together ceremony last)
+abbrev pub together : ℕ → Stay → Choice
+together ceremony last = by_test 2 together_test (together_params ceremony last)
+
+pub shows_together : (ceremony : ℕ) (last : Stay) → ShowsFirst together_text stays_place (together_params ceremony last) (together ceremony last)
 unfolding understood everything
 shows_together ceremony last = record {
-  test = together_test;
-  project = laws.project;
-  order = (col 1 1, ascending Binary) ∷ (col 1 2, ascending Binary) ∷ [];
-  names = laws.names;
-  is = (refl, refl);
-  bare = (refl, refl);
-  shows = λ r. refl;
-  tests = λ r. refl;
-  sorts = λ a b. refl;
-  low = refl;
+  test = together_test; project = laws.project; order = (col 1 1, ascending Binary) ∷ (col 1 2, ascending Binary) ∷ []; names = laws.names;
+  is = (refl, refl); bare = (refl, refl); shows = λ r. refl; tests = λ r. refl; sorts = λ a b. refl; low = refl;
 }
 
 passes_together : (ceremony : ℕ) (last x : Stay) → (together ceremony last).passes (stay_row x) ≡ (is_of ceremony x && begins_with last x)
 unfolding binary
 passes_together ceremony last x =
-    three_tests (is_eq (value_cmp (Int (pos x.ceremony)) (Int (pos ceremony)))) (is_eq (value_cmp (Int (pos x.since)) (Int (pos last.since)))) (is_gt (value_cmp (Text x.who) (Text last.who))) ∙ ap₂ (λ a b. a && b) (equal_number x.ceremony ceremony) (ap₂ (λ a b. a && b) (equal_number x.since last.since) (behind_text last.who x.who))
+    with_tests _ _ _ _ (equal_number x.ceremony ceremony) (with_tests _ _ _ _ (equal_number x.since last.since) (one_test _ ∙ behind_text last.who x.who))
 
-pub first_together : (ceremony : ℕ) (last : Stay) (m : machine.Tables) (db : Trees) (t : Tables) → Kept db t → Stands m t → (found : Option Stay) → IsFirst stay_row (together ceremony last) t.stays found
-    → found ≡ slice_get (filter (begins_with last) (those ceremony m)) 0
-first_together ceremony last m db t kept stands found first =
-    first (filter (begins_with last) (those ceremony m)) (passed ceremony m t stands (together ceremony last).passes (begins_with last) (passes_together ceremony last))
-    (rises_among (begins_with last) (λ (a b : Stay). by_key 2 (stay_row a) (stay_row b) ≡ Less) (those ceremony m) (ascending_weaker Rises _ keyed (those ceremony m) (rise ceremony m db t kept stands)))
+pub first_together : (ceremony : ℕ) (last : Stay) (m : machine.Tables) {db : Trees} (k : KeepsTables m db) (found : Option Stay)
+    → IsFirst stay_row (together ceremony last) k.t.stays found → found ≡ slice_get (filter (begins_with last) (those ceremony m)) 0
+first_together ceremony last m k found first =
+    first (filter (begins_with last) (those ceremony m)) (passed ceremony m k (together ceremony last).passes (begins_with last) (passes_together ceremony last))
+    (rises_among (begins_with last) (λ (a b : Stay). by_key 2 (stay_row a) (stay_row b) ≡ Less) (those ceremony m)
+    (ascending_weaker Rises _ keyed (those ceremony m) (rise_here ceremony m k)))
   where
     keyed : (a b : Stay) → Rises a b → begins_with last a ≡ true → begins_with last b ≡ true → by_key 2 (stay_row a) (stay_row b) ≡ Less
     keyed a b h p q =
@@ -208,110 +184,79 @@ later_test = op2 (Compare Eq Binary) (col 1 3) (col 0 0) ∷ op2 (Compare Gt Bin
 abbrev rank : Row → Row
 rank row = column row 1 ∷ column row 0 ∷ []
 
-abbrev pub begins_later : ℕ → Option Stay → Choice
-begins_later ceremony last = record {
-  passes = λ row. list_all (holds ((Int (pos ceremony) ∷ Int (bound_of (since_of last)) ∷ []) ∷ (Null ∷ row) ∷ [])) later_test;
-  rank = rank;
-  compare = λ a b. key_cmp 0 (rising 2 []) (rank a) (rank b);
-}
+abbrev later_params : ℕ → Option Stay → Row
+later_params ceremony last = Int (pos ceremony) ∷ Int (bound_of (since_of last)) ∷ []
 
-pub shows_later : (ceremony : ℕ) (last : Option Stay) → ShowsFirst later_text stays_place (Int (pos ceremony) ∷ Int (bound_of (since_of last)) ∷ []) (begins_later ceremony last)
+abbrev pub begins_later : ℕ → Option Stay → Choice
+begins_later ceremony last = record (by_test 2 later_test (later_params ceremony last)) { rank = rank; compare = λ a b. key_cmp 0 (rising 2 []) (rank a) (rank b) }
+
+pub shows_later : (ceremony : ℕ) (last : Option Stay) → ShowsFirst later_text stays_place (later_params ceremony last) (begins_later ceremony last)
 unfolding understood everything
 shows_later ceremony last = record {
-  test = later_test;
-  project = laws.project;
-  order = (col 1 2, ascending Binary) ∷ (col 1 1, ascending Binary) ∷ [];
-  names = laws.names;
-  is = (refl, refl);
-  bare = (refl, refl);
-  shows = λ r. refl;
-  tests = λ r. refl;
-  sorts = λ a b. refl;
-  low = refl;
+  test = later_test; project = laws.project; order = (col 1 2, ascending Binary) ∷ (col 1 1, ascending Binary) ∷ []; names = laws.names;
+  is = (refl, refl); bare = (refl, refl); shows = λ r. refl; tests = λ r. refl; sorts = λ a b. refl; low = refl;
 }
 
 passes_later : (ceremony : ℕ) (last : Option Stay) (x : Stay) → (begins_later ceremony last).passes (stay_row x) ≡ (is_of ceremony x && begins_after last x)
 unfolding binary
-passes_later ceremony last x = two_tests _ _ ∙ ap₂ (λ a b. a && b) (equal_number x.ceremony ceremony) (behind_number (since_of last) x.since)
+passes_later ceremony last x = with_tests _ _ _ _ (equal_number x.ceremony ceremony) (one_test _ ∙ behind_number (since_of last) x.since)
 
 by_since : (ceremony : ℕ) (last : Option Stay) (a b : Stay) → (begins_later ceremony last).compare (stay_row a) (stay_row b) ≡ listed a b
 by_since ceremony last a b = ap₂ (λ o p. ordering_then o p) (number_cmp a.since b.since) (then-Equal _ ∙ value_cmp-Text a.who b.who)
 
-pub first_later : (ceremony : ℕ) (last : Option Stay) (m : machine.Tables) (db : Trees) (t : Tables) → Kept db t → Stands m t → (found : Option Stay) → IsFirst stay_row (begins_later ceremony last) t.stays found
-    → found ≡ slice_get (filter (begins_after last) (those ceremony m)) 0
-first_later ceremony last m db t kept stands found first =
-    first (filter (begins_after last) (those ceremony m)) (passed ceremony m t stands (begins_later ceremony last).passes (begins_after last) (passes_later ceremony last))
-    (ascending_weaker Rises _ (λ a b h. by_since ceremony last a b ∙ h) _ (ascending-filter Rises (begins_after last) (those ceremony m) (rise ceremony m db t kept stands)))
+pub first_later : (ceremony : ℕ) (last : Option Stay) (m : machine.Tables) {db : Trees} (k : KeepsTables m db) (found : Option Stay)
+    → IsFirst stay_row (begins_later ceremony last) k.t.stays found → found ≡ slice_get (filter (begins_after last) (those ceremony m)) 0
+first_later ceremony last m k found first =
+    first (filter (begins_after last) (those ceremony m)) (passed ceremony m k (begins_later ceremony last).passes (begins_after last) (passes_later ceremony last))
+    (ascending_weaker Rises _ (λ a b h. by_since ceremony last a b ∙ h) _ (ascending-filter Rises (begins_after last) (those ceremony m) (rise_here ceremony m k)))
 
 -- ---- both
 
-after : (l a b : ℕ) (o : Ordering) → nat_lt l a ≡ true → ordering_then (nat_cmp a b) o ≡ Less → (b == l) ≡ false
-after l a b o p h = grind (arith, nat_tests)
-
-turned_test : (a b : ℕ) → (a == b) ≡ (b == a)
-turned_test a b = grind (arith, nat_tests)
-
 none_with : (last x : Stay) (xs : List Stay) → nat_lt last.since x.since ≡ true → AllByRecursion (Rises x) xs → filter (begins_with last) xs ≡ []
-none_with last x [] p all = refl
-none_with last x (y ∷ ys) p all =
-    let e : (y.since == last.since) ≡ false = after last.since x.since y.since (slice_cmp nat_cmp x.who y.who) p all.0 in
-    rw e (none_with last x ys p all.1)
+none_with last x xs p all = filter_none (begins_with last) xs (all_weaker (Rises x) _ (λ y h. ap (λ b. b && is_behind (Some last.who) y.who) (after last.since x.since y.since _ p h)) xs all)
+  where
+    after : (l a b : ℕ) (o : Ordering) → nat_lt l a ≡ true → ordering_then (nat_cmp a b) o ≡ Less → (b == l) ≡ false
+    after l a b o p h = grind (arith, nat_tests)
 
 -- those past the last are those that begin with it, and then those that begin later
-pub split : (last : Stay) (xs : List Stay) → IsAscending Rises xs → filter (is_stay_past (Some last)) xs ≡ filter (begins_with last) xs ++ filter (begins_after (Some last)) xs
+split : (last : Stay) (xs : List Stay) → IsAscending Rises xs → filter (is_stay_past (Some last)) xs ≡ filter (begins_with last) xs ++ filter (begins_after (Some last)) xs
 split last [] up = refl
-split last (x ∷ xs) up = go (nat_lt last.since x.since) refl (last.since == x.since) refl (is_lt (slice_cmp nat_cmp last.who x.who)) (split last xs up.1)
+split last (x ∷ xs) up = go (nat_lt last.since x.since) refl (is_lt (slice_cmp nat_cmp last.who x.who)) (split last xs up.1)
   where
-    go : (p : Bool) → nat_lt last.since x.since ≡ p → (q : Bool) → (last.since == x.since) ≡ q → (r : Bool)
-        → filter (is_stay_past (Some last)) xs ≡ filter (begins_with last) xs ++ filter (begins_after (Some last)) xs
-        → cond (p || (q && r)) (x ∷ filter (is_stay_past (Some last)) xs) (filter (is_stay_past (Some last)) xs)
-        ≡ cond ((x.since == last.since) && r) (x ∷ filter (begins_with last) xs) (filter (begins_with last) xs) ++ cond p (x ∷ filter (begins_after (Some last)) xs) (filter (begins_after (Some last)) xs)
-    go true e q f r ih =
-        let none = none_with last x xs e up.0 in
-        let other : (x.since == last.since) ≡ false = differs last.since x.since e in
-        rw (other, none) (ap (λ l. x ∷ l) (ih ∙ ap (λ l. l ++ filter (begins_after (Some last)) xs) none))
-      where
-        differs : (l a : ℕ) → nat_lt l a ≡ true → (a == l) ≡ false
-        differs l a h = grind (arith, nat_tests)
-    go false e true f true ih = rw (turned_test x.since last.since, f) (ap (λ l. x ∷ l) ih)
-    go false e true f false ih = rw (turned_test x.since last.since, f) ih
-    go false e false f r ih = rw (turned_test x.since last.since, f) ih
+    turned : (a b : ℕ) → (a == b) ≡ (b == a)
+    turned a b = grind (arith, nat_tests)
 
-pub head_of_both : {X : Type 0} (xs ys : List X) (x : X) → Some x ≡ slice_get xs 0 → Some x ≡ slice_get (xs ++ ys) 0
+    differs : (l a : ℕ) → nat_lt l a ≡ true → (a == l) ≡ false
+    differs l a h = grind (arith, nat_tests)
+
+    go : (p : Bool) → nat_lt last.since x.since ≡ p → (r : Bool) → filter (is_stay_past (Some last)) xs ≡ filter (begins_with last) xs ++ filter (begins_after (Some last)) xs
+        → cond (p || ((last.since == x.since) && r)) (x ∷ filter (is_stay_past (Some last)) xs) (filter (is_stay_past (Some last)) xs)
+        ≡ cond ((x.since == last.since) && r) (x ∷ filter (begins_with last) xs) (filter (begins_with last) xs)
+        ++ cond p (x ∷ filter (begins_after (Some last)) xs) (filter (begins_after (Some last)) xs)
+    go true e r ih =
+        let none = none_with last x xs e up.0 in
+        rw (differs last.since x.since e, none) (ap (λ l. x ∷ l) (ih ∙ ap (λ l. l ++ filter (begins_after (Some last)) xs) none))
+    go false e r ih =
+        rw (turned x.since last.since) (elim ((last.since == x.since) && r) as (λ b. cond b (x ∷ filter (is_stay_past (Some last)) xs) (filter (is_stay_past (Some last)) xs)
+        ≡ cond b (x ∷ filter (begins_with last) xs) (filter (begins_with last) xs) ++ filter (begins_after (Some last)) xs) [ true ↦ ap (λ l. x ∷ l) ih | false ↦ ih ])
+
+head_of_both : {X : Type 0} (xs ys : List X) (x : X) → Some x ≡ slice_get xs 0 → Some x ≡ slice_get (xs ++ ys) 0
 head_of_both [] ys x h = absurd (cc)
 head_of_both (z ∷ xs) ys x h = h
 
-pub head_of_second : {X : Type 0} (xs ys : List X) → None ≡ slice_get xs 0 → slice_get ys 0 ≡ slice_get (xs ++ ys) 0
+head_of_second : {X : Type 0} (xs ys : List X) → None ≡ slice_get xs 0 → slice_get ys 0 ≡ slice_get (xs ++ ys) 0
 head_of_second [] ys h = refl
 head_of_second (z ∷ xs) ys h = absurd (cc)
 
-pub first_with : (ceremony : ℕ) (last : Stay) (m : machine.Tables) (db : Trees) (t : Tables) → Kept db t → Stands m t → (x : Stay) → Some x ≡ slice_get (filter (begins_with last) (those ceremony m)) 0
-    → Some x ≡ slice_get (listed_past (Some last) ceremony m) 0
-first_with ceremony last m db t kept stands x h =
-    head_of_both _ _ x h ∙ ap (λ l. slice_get l 0) (sym (split last (those ceremony m) (rise ceremony m db t kept stands)))
+pub first_with : (ceremony : ℕ) (last : Stay) (m : machine.Tables) {db : Trees} (k : KeepsTables m db) (x : Stay)
+    → Some x ≡ slice_get (filter (begins_with last) (those ceremony m)) 0 → Some x ≡ slice_get (listed_past (Some last) ceremony m) 0
+first_with ceremony last m k x h = head_of_both _ _ x h ∙ ap (λ l. slice_get l 0) (sym (split last (those ceremony m) (rise_here ceremony m k)))
 
-pub first_after : (ceremony : ℕ) (last : Option Stay) (stay : Stay) (m : machine.Tables) (db : Trees) (t : Tables) → Kept db t → Stands m t → last ≡ Some stay → None ≡ slice_get (filter (begins_with stay) (those ceremony m)) 0
-    → (found : Option Stay) → found ≡ slice_get (filter (begins_after last) (those ceremony m)) 0 → found ≡ slice_get (listed_past last ceremony m) 0
-first_after ceremony None stay m db t kept stands is none found h = absurd (cc)
-first_after ceremony (Some last) stay m db t kept stands is none found h =
-    let same : stay ≡ last = cc in
-    let missing : None ≡ slice_get (filter (begins_with last) (those ceremony m)) 0 = subst (λ (s : Stay). None ≡ slice_get (filter (begins_with s) (those ceremony m)) 0) same none in
-    h ∙ head_of_second _ _ missing ∙ ap (λ l. slice_get l 0) (sym (split last (those ceremony m) (rise ceremony m db t kept stands)))
+pub first_after : (ceremony : ℕ) (last : Stay) (m : machine.Tables) {db : Trees} (k : KeepsTables m db) → None ≡ slice_get (filter (begins_with last) (those ceremony m)) 0
+    → (found : Option Stay) → found ≡ slice_get (filter (begins_after (Some last)) (those ceremony m)) 0 → found ≡ slice_get (listed_past (Some last) ceremony m) 0
+first_after ceremony last m k none found h = h ∙ head_of_second _ _ none ∙ ap (λ l. slice_get l 0) (sym (split last (those ceremony m) (rise_here ceremony m k)))
 
-pub first_of_all : (ceremony : ℕ) (last : Option Stay) (m : machine.Tables) → last ≡ None → (found : Option Stay) → found ≡ slice_get (filter (begins_after last) (those ceremony m)) 0 → found ≡ slice_get (listed_past last ceremony m) 0
-first_of_all ceremony None m is found h = h
-first_of_all ceremony (Some last) m is found h = absurd (cc)
-
-pub gives : (ceremony : ℕ) (last : Option Stay) (m : machine.Tables) (db : Trees) (t : Tables) → Kept db t → Stands m t → (found : Option Stay) → found ≡ slice_get (listed_past last ceremony m) 0
+pub next_listed : (ceremony : ℕ) (last : Option Stay) (m : machine.Tables) {db : Trees} (k : KeepsTables m db) (found : Option Stay) → found ≡ slice_get (listed_past last ceremony m) 0
     → Gives (listed_past last ceremony m) found (listed_past (moved listed listed_total (λ (s : Stay). s) last found) ceremony m)
-gives ceremony last m db t kept stands found first =
-    gives_first listed listed_total (λ (s : Stay). s) is_stay_past past_later last (those ceremony m) (rise ceremony m db t kept stands) found first
-
--- ---- with the name
-
--- the stay that was found, with the person's name, is the next
-pub names : (ceremony : ℕ) (last next : Option Stay) (m : machine.Tables) (found : Option Stay) (stay : Stay) → found ≡ Some stay → Gives (listed_past last ceremony m) found (listed_past next ceremony m)
-    → (name : List ℕ) → name ≡ name_of m.people stay.who → stays_past last ceremony m ≡ record { stay = stay; name = name } ∷ stays_past next ceremony m
-names ceremony last next m found stay is go name their =
-    let first : listed_past last ceremony m ≡ stay ∷ listed_past next ceremony m = subst (λ f. Gives (listed_past last ceremony m) f (listed_past next ceremony m)) is go in
-    ap (map (with_name m.people)) first ∙ ap (λ (l : List ℕ). record { stay = stay; name = l } ∷ stays_past next ceremony m) (sym their)
+next_listed ceremony last m k found first =
+    gives_first listed listed_total (λ (s : Stay). s) is_stay_past past_later last (those ceremony m) (rise_here ceremony m k) found first

@@ -1,23 +1,16 @@
 use Rattle.std.proofs.Common.{◌∙◌, ap, sym, rules, find}
-use Rattle.sqlite.specs.Held.{state}
 use Rattle.sqlite_keyed.proofs.ListLemmas.{slice_get-filter}
 use Rattle.kcr_tables.proofs.HoldLemmas.{held_of}
 use Rattle.kcr_reading.specs.ToCome.{is_past, safe_place}
 use Rattle.kcr_custody.specs.declared.SafeRow.{SafeRow}
-use Rattle.kcr_reading.proofs.SafeLemmas.{gives}
+use Rattle.kcr_reading.proofs.CustodyLemmas.{next_safe}
 use Rattle.kcr_reading.proofs.safes.next_safe.Goals as goal
 use Rattle.kcr_reading.proofs.safes.next_safe.Goals.{in-Some, in_default}
 
 pub returns-clause-gives : goal.returns-clause-gives
 returns-clause-gives g c clean m h =
-    let old = state g.S.Store c.args.tx.now.conn.now in
-    let t = h.tables.t in
-    let last = c.args.last.now in
-    let test = λ (row : SafeRow). is_past last (safe_place row) in
-    let rows = c.in_ok-rows.ensures.rows clean t (held_of m old.now h) in
-    let found = c.safe_past-found.ensures ∙ ap (find test) (c.as_slice.ensures.value ∙ rows) ∙ sym (slice_get-filter test t.safes) in
-    let next = gives last m old.now.trees t h.tables.kept h.tables.stands c.safe_past-found.result found in
-    elim c.match-found.branch [
-      | in-Some w ↦ search (rules, next)
-      | in_default w ↦ search (rules, next)
-    ]
+    let test = λ (row : SafeRow). is_past c.args.last.now (safe_place row) in
+    let rows = c.in_ok-rows.ensures.rows clean h.tables.t (held_of m _ h) in
+    let found = c.safe_past-found.ensures ∙ ap (find test) (c.as_slice.ensures.value ∙ rows) ∙ sym (slice_get-filter test h.tables.t.safes) in
+    let next = next_safe c.args.last.now m h.tables c.safe_past-found.result found in
+    elim c.match-found.branch [ in-Some w ↦ search (rules, next) | in_default w ↦ search (rules, next) ]

@@ -1,21 +1,14 @@
-use Rattle.std.proofs.Common.{◌∷◌, [], sym, subst}
-use Rattle.sqlite.specs.Order.{Row}
-use Rattle.sqlite.specs.Held.{state}
-use Rattle.kcr_rows.proofs.FailLemmas.{if_ok}
-use Rattle.kcr_tables.proofs.HoldLemmas.{held_of}
-use Rattle.kcr_tables.specs.Held.{stays_place}
-use Rattle.kcr_reading.specs.First.{ShowsFirst}
-use Rattle.kcr_reading.proofs.StayLemmas.{later_text, begins_later, shows_later, first_later}
+use Rattle.std.proofs.Common.{◌∷◌, []}
+use Rattle.kcr_reading.proofs.ChoiceLemmas.{shown_by, by_tables}
+use Rattle.kcr_reading.proofs.StayLemmas.{shows_later, first_later}
 use Rattle.kcr_reading.proofs.stays.stay_later.Goals as goal
 
 pub returns-clause-first : goal.returns-clause-first
-returns-clause-first g c clean m h =
-    let old = state g.S.Store c.args.tx.now.conn.now in
-    let t = h.tables.t in
-    let shown = subst (λ (v : Row). ShowsFirst later_text stays_place v (begins_later c.args.ceremony c.args.last.now)) (λ i. sym c.number_cell.ensures i ∷ sym c.past_moment.ensures i ∷ []) (shows_later c.args.ceremony c.args.last.now) in
-    if_ok _ _ (λ found first. first_later c.args.ceremony c.args.last.now m old.now.trees t h.tables.kept h.tables.stands found first) c.first_row.result
-    (c.first_row.ensures.row (begins_later c.args.ceremony c.args.last.now) shown clean t (held_of m old.now h))
+returns-clause-first g c =
+    let shown = shown_by (shows_later c.args.ceremony c.args.last.now) (λ i. c.number_cell.ensures i ∷ c.past_moment.ensures i ∷ []) in
+    by_tables c.first_row.result _ _ (c.first_row.ensures.row _ shown) (λ m k. first_later c.args.ceremony c.args.last.now m k)
 
 pub returns-clause-frame : goal.returns-clause-frame
 returns-clause-frame g c =
-    c.first_row.ensures.frame (begins_later c.args.ceremony c.args.last.now) (subst (λ (v : Row). ShowsFirst later_text stays_place v (begins_later c.args.ceremony c.args.last.now)) (λ i. sym c.number_cell.ensures i ∷ sym c.past_moment.ensures i ∷ []) (shows_later c.args.ceremony c.args.last.now))
+    let shown = shown_by (shows_later c.args.ceremony c.args.last.now) (λ i. c.number_cell.ensures i ∷ c.past_moment.ensures i ∷ []) in
+    c.first_row.ensures.frame _ shown

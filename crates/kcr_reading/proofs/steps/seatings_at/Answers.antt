@@ -6,17 +6,18 @@ use Rattle.kcr_rows.proofs.FailLemmas.{if_ok}
 use Rattle.kcr_cells.specs.Rows.{seating_row}
 use Rattle.kcr_tables.proofs.HoldLemmas.{held_of}
 use Rattle.kcr_tables.proofs.FrameLemmas.{reads_by}
-use Rattle.kcr_reading.proofs.StepLemmas.{seating_text, seating_shows, seated}
+use Rattle.kcr_reading.proofs.CeremonyLemmas.{seating_text, seating_shows, seated}
 use Rattle.kcr_reading.proofs.steps.seatings_at.Goals as goal
 
 pub returns-clause-rows : goal.returns-clause-rows
 returns-clause-rows g c clean m h =
     let old = state g.S.Store c.args.tx.now.conn.now in
     let new = state g.S.Store c.rows_of.new.tx.conn.now in
-    let shown = subst (λ (v : Row). IfOk c.rows_of.result (λ rows. Shown seating_text v old new (map seating_row rows.items))) (λ i. c.number_cell.ensures i ∷ c.number_cell-2.ensures i ∷ []) (c.rows_of.ensures.shown clean) in
+    let shown = subst (λ (v : Row). IfOk c.rows_of.result (λ rows. Shown seating_text v old new (map seating_row rows.items)))
+    (λ i. c.number_cell.ensures i ∷ c.number_cell-2.ensures i ∷ []) (c.rows_of.ensures.shown clean) in
     if_ok _ _ (λ rows is. seated c.args.ceremony c.args.step old new rows.items m h.tables.t (held_of m old.now h) h.tables.stands is) c.rows_of.result shown
 
 pub returns-clause-frame : goal.returns-clause-frame
 returns-clause-frame g c =
     let did = c.rows_of.ensures in
-    reads_by seating_text (state g.S.Store c.args.tx.now.conn.now) (state g.S.Store c.rows_of.new.tx.conn.now) c.rows_of.result (seating_shows c.args.ceremony c.args.step).bare did.same did.inside did.kept did.survives did.cause
+    reads_by seating_text _ _ c.rows_of.result (seating_shows c.args.ceremony c.args.step).bare did.same did.inside did.kept did.survives did.cause

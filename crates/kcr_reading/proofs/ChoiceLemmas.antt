@@ -1,0 +1,89 @@
+-- Rows of a table, read one at a time: what a text chooses, and which of them comes next.
+use Rattle.std.proofs.Common.{◌≡◌, ℕ, ◌&&◌, Bool, true, List, [], ◌∷◌, map, filter, take, slice_get, Option, Some, Ordering, Less, Result, Ok, refl, sym, ap, subst, ◌∙◌}
+use Rattle.std.specs.Prelude.{IfOk}
+use Rattle.std.specs.List.{list_all}
+use Rattle.std.specs.Cmp.{IsTotalOrder}
+use Rattle.sqlite.specs.declared.types.Value.TheVariants.{Null}
+use Rattle.sqlite.specs.Effect.{Database}
+use Rattle.sqlite.specs.Order.{Row}
+use Rattle.sqlite.specs.State.{State, HasCleanDisk}
+use Rattle.sqlite.specs.Term.{Term, holds}
+use Rattle.sqlite.specs.Tree.{IsAscending}
+use Rattle.sqlite_trees.proofs.ListLemmas.{ascending_weaker, ascending_from_map, ascending-filter, IsPermutation-same}
+use Rattle.kcr_base.specs.declared.refusal.Refusal.{Refusal}
+use Rattle.kcr_rows.specs.Keyed.{Place, by_key}
+use Rattle.kcr_rows.proofs.FailLemmas.{if_ok}
+use Rattle.kcr_rows.proofs.FilterLemmas.{filter_as}
+use Rattle.kcr_room.proofs.Lists.{filter-and}
+use Rattle.kcr_history.specs.Tables as machine
+use Rattle.kcr_tables.specs.Frame.{Reads}
+use Rattle.kcr_tables.specs.Held.{Tables, Holds}
+use Rattle.kcr_tables.specs.Joint.{HoldsTables, KeepsTables}
+use Rattle.kcr_tables.proofs.HoldLemmas.{held_of, tables_of}
+use Rattle.kcr_reading.specs.First.{Choice, ShowsFirst, IsFirst}
+use Rattle.kcr_reading.specs.ToCome.{Gives}
+use Rattle.kcr_reading.proofs.NumberLemmas.{rises_among}
+use Rattle.kcr_reading.proofs.OrderLemmas.{later, moved, gives_first}
+
+-- ---- texts
+
+-- the first of the rows that pass these tests, in the order of so many keys
+abbrev pub by_test : ℕ → List Term → Row → Choice
+by_test keys test params = record {
+  passes = λ row. list_all (holds (params ∷ (Null ∷ row) ∷ [])) test;
+  rank = take keys;
+  compare = by_key keys;
+}
+
+-- the text chooses the same by other words for its parameters
+pub shown_by : {sql : List ℕ} {place : Place} {params given : Row} {choice : Choice} → ShowsFirst sql place params choice → given ≡ params → ShowsFirst sql place given choice
+shown_by {sql} {place} {choice = choice} shown is = subst (λ v. ShowsFirst sql place v choice) (sym is) shown
+
+-- ---- calls
+
+-- what a call says of the tables as the database has them, it says of the machine's
+pub by_tables : {A Clean : Type 0} {db : Database} (r : Result A Refusal) (Found : Tables → A → Type 0) (Says : machine.Tables → A → Type 0)
+    → (Clean → (t : Tables) → Holds db t → IfOk r (Found t)) → ((m : machine.Tables) (k : KeepsTables m db.trees) (a : A) → Found k.t a → Says m a)
+    → Clean → (m : machine.Tables) → HoldsTables m db → IfOk r (Says m)
+by_tables {db = db} r Found Says found says clean m h = if_ok _ _ (says m h.tables) r (found clean h.tables.t (held_of m db h))
+
+-- the tables that were held are held after a call that read them
+pub still_held : {A : Type 0} (m : machine.Tables) (old mid : State) (a : A) → Reads old mid (Ok a) → HasCleanDisk mid → HoldsTables m old.now → HoldsTables m mid.now
+still_held m old mid a read clean h = tables_of m mid.now h.tables.t h.tables.stands (read.holds clean h.tables.t (held_of m old.now h))
+
+-- what is made of the row that was found is the next of what is made of the rows
+pub gives_made : {X Y : Type 0} (make : X → Y) (all rest : List X) (found : Option X) (row : X) → found ≡ Some row → Gives all found rest
+    → (made : Y) → made ≡ make row → map make all ≡ made ∷ map make rest
+gives_made make all rest found row is gives made same =
+    ap (map make) (subst (λ f. Gives all f rest) is gives) ∙ ap (λ y. y ∷ map make rest) (sym same)
+
+-- ---- the next row
+
+-- of a table whose rows under one test rise as a key of theirs: those that pass are still to come while they are past the last
+module _ {X K : Type 0} (row_of : X → Row) (compare : K → K → Ordering) (total : IsTotalOrder compare) (key : X → K)
+    (past : Option K → X → Bool) (behind : (last : Option K) (x : X) → past last x ≡ later compare total key last x)
+    (keys : ℕ) (test : X → Bool) (among : (a b : X) → test a ≡ true → test b ≡ true → by_key keys (row_of a) (row_of b) ≡ compare (key a) (key b))
+    (ts : List X) (rising : IsAscending (λ a b. by_key keys a b ≡ Less) (map row_of ts)) where
+  abbrev ByKey : X → X → Type 0
+  ByKey a b = by_key keys (row_of a) (row_of b) ≡ Less
+
+  by_keys : IsAscending ByKey ts
+  by_keys = ascending_from_map (λ a b. by_key keys a b ≡ Less) row_of ts rising
+
+  pub rise : IsAscending (λ a b. compare (key a) (key b) ≡ Less) (filter test ts)
+  rise = rises_among test _ ts (ascending_weaker ByKey _ (λ a b h p q. sym (among a b p q) ∙ h) ts by_keys)
+
+  module _ (come : Option K → List X) (come_is : (last : Option K) → come last ≡ filter (past last) (filter test ts)) (last : Option K) where
+    -- what the text chooses is the first of those to come
+    pub first_come : (terms : List Term) (params : Row) → ((x : X) → (by_test keys terms params).passes (row_of x) ≡ (test x && past last x))
+        → (found : Option X) → IsFirst row_of (by_test keys terms params) ts found → found ≡ slice_get (come last) 0
+    first_come terms params chosen found first =
+        let chooses = filter_as _ _ chosen ts ∙ sym (filter-and test (past last) ts) in
+        first (filter (past last) (filter test ts)) (IsPermutation-same _ _ chooses) (ascending-filter ByKey (past last) _ (ascending-filter ByKey test ts by_keys))
+        ∙ ap (λ l. slice_get l 0) (sym (come_is last))
+
+    -- it is the next row, and the others come behind it
+    pub next_come : (found : Option X) → found ≡ slice_get (come last) 0 → Gives (come last) found (come (moved compare total key last found))
+    next_come found is =
+        rw (come_is last, come_is (moved compare total key last found))
+        (gives_first compare total key past behind last (filter test ts) rise found (is ∙ ap (λ l. slice_get l 0) (come_is last)))

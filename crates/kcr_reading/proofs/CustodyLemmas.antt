@@ -1,0 +1,196 @@
+-- The bags, the loose items and the safes, read one at a time in order, and the items of one bag.
+use Rattle.std.proofs.Common.{◌≡◌, ℕ, ◌+◌, ◌*◌, ◌&&◌, pos, Bool, true, List, [], ◌∷◌, map, filter, drop, codes, slice_get, Option, Some, None, Less, Equal, arith, refl, sym, ap, subst, ◌∙◌}
+use Rattle.std.specs.List.Sorted.{IsPermutation}
+use Rattle.std.specs.Ordering.{is_eq, nat_cmp, ordering_then}
+use Rattle.std.specs.Cmp.Lexicographic.{slice_cmp}
+use Rattle.std.proofs.lemmas.Cmp.{nat_cmp_total, nat_list_cmp_total, tied_itself}
+use Rattle.sqlite.specs.declared.types.Value.TheVariants.{Null, Int, Text}
+use Rattle.sqlite.specs.Order.{Row, value_cmp}
+use Rattle.sqlite.specs.Term.{Term, lit, col, op2}
+use Rattle.sqlite.specs.Ops.{binary, is_true, from_truth}
+use Rattle.sqlite.specs.Collation.TheVariants.{Binary}
+use Rattle.sqlite.specs.Tree.{Trees, IsAscending}
+use Rattle.sqlite.specs.Listing.{understood}
+use Rattle.sqlite_sql.specs.declared.ops.BinaryOp.TheVariants.{Compare, Is}
+use Rattle.sqlite_sql.specs.declared.ops.CompareOp.TheVariants.{Gt}
+use Rattle.sqlite_trees.proofs.ListLemmas.{ascending_weaker, ascending_from_map}
+use Rattle.sqlite_value.specs.Keys.{ascending}
+use Rattle.sqlite_value.proofs.OrderLemmas.{value_cmp-Text, value_cmp_total}
+use Rattle.sqlite_tied.specs.Compute.{everything}
+use Rattle.kcr_base.specs.declared.place.Facility.{Facility}
+use Rattle.kcr_base.specs.declared.place.Facility.TheVariants.{East, West}
+use Rattle.kcr_base.specs.Facility.{facility_text}
+use Rattle.kcr_base.specs.Same.{facility_number, is_before}
+use Rattle.kcr_rows.specs.Keyed.{by_key}
+use Rattle.kcr_room.proofs.Lists.{filter-and}
+use Rattle.kcr_cells.specs.Rows.{bag_row, item_row, safe_row}
+use Rattle.kcr_cells.specs.States.{safe_digit}
+use Rattle.kcr_custody.specs.Custody.{lies_in}
+use Rattle.kcr_custody.specs.declared.Bag.{Bag}
+use Rattle.kcr_custody.specs.declared.Item.{Item}
+use Rattle.kcr_custody.specs.declared.Rest.{Rest}
+use Rattle.kcr_custody.specs.declared.Rest.TheVariants.{Loose, Within}
+use Rattle.kcr_custody.specs.declared.SafeNumber.{SafeNumber}
+use Rattle.kcr_custody.specs.declared.SafeNumber.TheVariants.{One, Two}
+use Rattle.kcr_custody.specs.declared.SafeRow.{SafeRow}
+use Rattle.kcr_history.specs.Prints.{in_order}
+use Rattle.kcr_history.specs.Tables as machine
+use Rattle.kcr_tables.specs.BagsLaws as bags
+use Rattle.kcr_tables.specs.Held.{bags_place, items_place}
+use Rattle.kcr_tables.specs.ItemsLaws as items
+use Rattle.kcr_tables.specs.Joint.{KeepsTables}
+use Rattle.kcr_reading.specs.First.{Choice, ShowsFirst, IsFirst}
+use Rattle.kcr_reading.specs.ToCome.{Gives, is_past, is_behind, is_loose, loose_past, items_by_code, serials_past, safe_place, safes_in_order, safes_past}
+use Rattle.kcr_reading.proofs.ChoiceLemmas.{by_test, first_come, next_come}
+use Rattle.kcr_reading.proofs.NumberLemmas.{behind_text, one_test, text_key, text_later, number_cmp, number_later}
+use Rattle.kcr_reading.proofs.OrderLemmas.{moved, ordered, numbers_ordered, gives_first}
+
+-- ---- rows under a text
+
+abbrev behind_test : Option (List ℕ) → List Term
+behind_test None = []
+behind_test (Some last) = op2 (Compare Gt Binary) (col 1 1) (col 0 0) ∷ []
+
+abbrev behind_params : Option (List ℕ) → Row
+behind_params None = []
+behind_params (Some last) = Text last ∷ []
+
+is_tested : (last : Option (List ℕ)) (text : List ℕ) (more : Row) → (by_test 1 (behind_test last) (behind_params last)).passes (Text text ∷ more) ≡ is_behind last text
+unfolding binary
+is_tested None text more = refl
+is_tested (Some last) text more = one_test _ ∙ behind_text last text
+
+module _ {X : Type 0} (row_of : X → Row) (key : X → List ℕ) (row_is : (x : X) → row_of x ≡ Text (key x) ∷ drop 1 (row_of x)) where
+  keyed : (a b : X) → by_key 1 (row_of a) (row_of b) ≡ slice_cmp nat_cmp (key a) (key b)
+  keyed a b = (λ i. by_key 1 (row_is a i) (row_is b i)) ∙ text_key (key a) (key b) (drop 1 (row_of a)) (drop 1 (row_of b))
+
+  abbrev past : Option (List ℕ) → X → Bool
+  past last x = is_behind last (key x)
+
+  abbrev those : List X → List X
+  those xs = in_order (λ a b. is_before (key a) (key b)) xs
+
+  module _ {ms ts : List X} (same : IsPermutation ms ts) (up : IsAscending (λ a b. by_key 1 a b ≡ Less) (map row_of ts)) where
+    pub are : those ms ≡ ts
+    are =
+        ordered (slice_cmp nat_cmp) nat_list_cmp_total key ms ts same
+        (ascending_weaker _ _ (λ a b h. sym (keyed a b) ∙ h) ts (ascending_from_map (λ a b. by_key 1 a b ≡ Less) row_of ts up))
+
+    -- of those that pass a test too
+    module _ (test : X → Bool) (last : Option (List ℕ)) where
+      abbrev come : Option (List ℕ) → List X
+      come l = filter (λ x. test x && past l x) (those ms)
+
+      come_is : (l : Option (List ℕ)) → come l ≡ filter (past l) (filter test ts)
+      come_is l = sym (filter-and test (past l) (those ms)) ∙ ap (λ xs. filter (past l) (filter test xs)) are
+
+      pub first_behind : (terms : List Term) (params : Row) → ((x : X) → (by_test 1 terms params).passes (row_of x) ≡ (test x && past last x))
+          → (found : Option X) → IsFirst row_of (by_test 1 terms params) ts found → found ≡ slice_get (come last) 0
+      first_behind = first_come row_of (slice_cmp nat_cmp) nat_list_cmp_total key past (text_later key) 1 test (λ a b _ _. keyed a b) ts up come come_is last
+
+      pub next_behind : (found : Option X) → found ≡ slice_get (come last) 0
+          → Gives (come last) found (come (moved (slice_cmp nat_cmp) nat_list_cmp_total key last found))
+      next_behind = next_come row_of (slice_cmp nat_cmp) nat_list_cmp_total key past (text_later key) 1 test (λ a b _ _. keyed a b) ts up come come_is last
+
+-- ---- bags
+
+abbrev pub bags_text : Option (List ℕ) → List ℕ
+bags_text None = codes "SELECT serial, spot FROM bags ORDER BY serial LIMIT 1"
+bags_text (Some last) = codes "SELECT serial, spot FROM bags WHERE serial > ?1 ORDER BY serial LIMIT 1"
+
+abbrev pub bags_choice : Option (List ℕ) → Choice
+bags_choice last = by_test 1 (behind_test last) (behind_params last)
+
+pub bags_shown : (last : Option (List ℕ)) → ShowsFirst (bags_text last) bags_place (behind_params last) (bags_choice last)
+unfolding understood everything
+bags_shown None = record {
+  test = behind_test None; project = bags.project; order = (col 1 1, ascending Binary) ∷ []; names = bags.names;
+  is = (refl, refl); bare = (refl, refl); shows = λ r. refl; tests = λ r. refl; sorts = λ a b. refl; low = refl;
+}
+bags_shown (Some last) = record {
+  test = behind_test (Some last); project = bags.project; order = (col 1 1, ascending Binary) ∷ []; names = bags.names;
+  is = (refl, refl); bare = (refl, refl); shows = λ r. refl; tests = λ r. refl; sorts = λ a b. refl; low = refl;
+}
+
+pub first_bag : (last : Option (List ℕ)) (m : machine.Tables) {db : Trees} (k : KeepsTables m db) (found : Option Bag)
+    → IsFirst bag_row (bags_choice last) k.t.bags found → found ≡ slice_get (serials_past last m) 0
+first_bag last m k =
+    first_behind bag_row (λ x. x.serial) (λ x. refl) k.stands.bags k.kept.bags.rising (λ _. true) last
+    (behind_test last) (behind_params last) (λ x. is_tested last x.serial _)
+
+pub next_bag : (last : Option (List ℕ)) (m : machine.Tables) {db : Trees} (k : KeepsTables m db) (found : Option Bag) → found ≡ slice_get (serials_past last m) 0
+    → Gives (serials_past last m) found (serials_past (moved (slice_cmp nat_cmp) nat_list_cmp_total (λ (x : Bag). x.serial) last found) m)
+next_bag last m k = next_behind bag_row (λ x. x.serial) (λ x. refl) k.stands.bags k.kept.bags.rising (λ _. true) last
+
+-- the items that lie in a bag, by code
+pub within : (serial : List ℕ) (m : machine.Tables) {db : Trees} (k : KeepsTables m db) → filter (lies_in serial) k.t.items ≡ filter (lies_in serial) (items_by_code m)
+within serial m k = ap (filter (lies_in serial)) (sym (are item_row (λ (x : Item). x.code) (λ x. refl) k.stands.items k.kept.items.rising))
+
+-- ---- loose items
+
+abbrev pub loose_text : Option (List ℕ) → List ℕ
+loose_text None = codes "SELECT code, facility, serial FROM items WHERE serial IS NULL ORDER BY code LIMIT 1"
+loose_text (Some last) = codes "SELECT code, facility, serial FROM items WHERE serial IS NULL AND code > ?1 ORDER BY code LIMIT 1"
+
+abbrev loose_test : Option (List ℕ) → List Term
+loose_test last = op2 (Is Binary) (col 1 3) (lit Null) ∷ behind_test last
+
+abbrev pub loose_choice : Option (List ℕ) → Choice
+loose_choice last = by_test 1 (loose_test last) (behind_params last)
+
+pub loose_shown : (last : Option (List ℕ)) → ShowsFirst (loose_text last) items_place (behind_params last) (loose_choice last)
+unfolding understood everything
+loose_shown None = record {
+  test = loose_test None; project = items.project; order = (col 1 1, ascending Binary) ∷ []; names = items.names;
+  is = (refl, refl); bare = (refl, refl); shows = λ r. refl; tests = λ r. refl; sorts = λ a b. refl; low = refl;
+}
+loose_shown (Some last) = record {
+  test = loose_test (Some last); project = items.project; order = (col 1 1, ascending Binary) ∷ []; names = items.names;
+  is = (refl, refl); bare = (refl, refl); shows = λ r. refl; tests = λ r. refl; sorts = λ a b. refl; low = refl;
+}
+
+is_chosen : (last : Option (List ℕ)) (x : Item) → (loose_choice last).passes (item_row x) ≡ (is_loose x && is_behind last x.code)
+unfolding binary value_cmp
+is_chosen last x = by_rest x.rest
+  where
+    by_rest : (rest : Rest) → (loose_choice last).passes (item_row (record { code = x.code; rest = rest })) ≡ (is_loose (record { code = x.code; rest = rest }) && is_behind last x.code)
+    by_rest (Loose facility) =
+        ap (λ o. is_true (from_truth (Some (is_eq o))) && (bags_choice last).passes (item_row (record { code = x.code; rest = Loose facility }))) (tied_itself value_cmp_total Null)
+        ∙ is_tested last x.code _
+    by_rest (Within serial) = refl
+
+pub first_loose : (last : Option (List ℕ)) (m : machine.Tables) {db : Trees} (k : KeepsTables m db) (found : Option Item)
+    → IsFirst item_row (loose_choice last) k.t.items found → found ≡ slice_get (loose_past last m) 0
+first_loose last m k =
+    first_behind item_row (λ x. x.code) (λ x. refl) k.stands.items k.kept.items.rising is_loose last (loose_test last) (behind_params last) (is_chosen last)
+
+pub next_loose : (last : Option (List ℕ)) (m : machine.Tables) {db : Trees} (k : KeepsTables m db) (found : Option Item) → found ≡ slice_get (loose_past last m) 0
+    → Gives (loose_past last m) found (loose_past (moved (slice_cmp nat_cmp) nat_list_cmp_total (λ (x : Item). x.code) last found) m)
+next_loose last m k = next_behind item_row (λ x. x.code) (λ x. refl) k.stands.items k.kept.items.rising is_loose last
+
+-- ---- safes
+
+-- the key of a safe's row rises as its place does
+places_rise : (f g : Facility) (s r : SafeNumber)
+    → ordering_then (value_cmp (Text (facility_text f)) (Text (facility_text g))) (ordering_then (value_cmp (Int (pos (safe_digit s))) (Int (pos (safe_digit r)))) Equal)
+    ≡ nat_cmp (facility_number f * 2 + safe_digit s) (facility_number g * 2 + safe_digit r)
+places_rise f g s r = rw (value_cmp-Text (facility_text f) (facility_text g), number_cmp (safe_digit s) (safe_digit r)) (by_cases f g s r)
+  where
+    by_cases : (f g : Facility) (s r : SafeNumber)
+        → ordering_then (slice_cmp nat_cmp (facility_text f) (facility_text g)) (ordering_then (nat_cmp (safe_digit s) (safe_digit r)) Equal)
+        ≡ nat_cmp (facility_number f * 2 + safe_digit s) (facility_number g * 2 + safe_digit r)
+    by_cases f g s r = grind arith
+
+rise : {m : machine.Tables} {db : Trees} (k : KeepsTables m db) → IsAscending (λ a b. nat_cmp (safe_place a) (safe_place b) ≡ Less) k.t.safes
+rise k =
+    ascending_weaker (λ (a b : SafeRow). by_key 2 (safe_row a) (safe_row b) ≡ Less) _ (λ a b h. sym (places_rise a.facility b.facility a.safe b.safe) ∙ h) k.t.safes
+    (ascending_from_map (λ a b. by_key 2 a b ≡ Less) safe_row k.t.safes k.kept.safes.rising)
+
+-- the first of the table's rows past the last is the next, and the others come behind it
+pub next_safe : (last : Option ℕ) (m : machine.Tables) {db : Trees} (k : KeepsTables m db) (found : Option SafeRow)
+    → found ≡ slice_get (filter (λ row. is_past last (safe_place row)) k.t.safes) 0
+    → Gives (safes_past last m) found (safes_past (moved nat_cmp nat_cmp_total safe_place last found) m)
+next_safe last m k found first =
+    let mine : safes_in_order m ≡ k.t.safes = numbers_ordered safe_place m.safes k.t.safes k.stands.safes (rise k) in
+    gives_first nat_cmp nat_cmp_total safe_place (λ l x. is_past l (safe_place x)) (number_later safe_place) last (safes_in_order m)
+    (subst (IsAscending _) (sym mine) (rise k)) found (first ∙ ap (λ l. slice_get (filter (λ row. is_past last (safe_place row)) l) 0) (sym mine))
