@@ -1,6 +1,5 @@
 -- The steps and the exceptions of a ceremony, read one at a time by their numbers, and the people of one step.
 use Rattle.std.proofs.Common.{◌≡◌, ℕ, pos, ◌&&◌, ◌==◌, nat_lt, Bool, true, List, [], ◌∷◌, filter, map, drop, codes, Option, Less, refl, sym, ap, ◌∙◌}
-use Rattle.std.specs.List.{list_all}
 use Rattle.std.specs.List.Sorted.{IsPermutation}
 use Rattle.std.specs.Ordering.{nat_cmp}
 use Rattle.std.proofs.lemmas.Cmp.{nat_cmp_total}
@@ -34,7 +33,7 @@ use Rattle.kcr_tables.specs.StepsLaws as steps
 use Rattle.kcr_tables.proofs.StatementLemmas.{rows_shown}
 use Rattle.kcr_reading.specs.First.{Choice, ShowsFirst, IsFirst, bound_of}
 use Rattle.kcr_reading.specs.ToCome.{Gives, is_past, exceptions_past, rows_past}
-use Rattle.kcr_reading.proofs.ChoiceLemmas.{by_test, rise, first_come, next_come}
+use Rattle.kcr_reading.proofs.ChoiceLemmas.{by_test, shows_first, rise, first_come, next_come}
 use Rattle.kcr_reading.proofs.NumberLemmas.{behind_number, equal_number, one_test, with_tests, same_ceremony, same_step, number_later}
 use Rattle.kcr_reading.proofs.OrderLemmas.{moved, numbers_ordered}
 
@@ -90,10 +89,9 @@ pub exceptions_shown : (ceremony : ℕ) (last : Option ℕ)
     → ShowsFirst (codes "SELECT ceremony, exception, text, at, passed FROM exceptions WHERE ceremony = ?1 AND exception > ?2 ORDER BY ceremony, exception LIMIT 1")
     exceptions_place (number_params ceremony last) (numbered ceremony last)
 unfolding understood everything
-exceptions_shown ceremony last = record {
-  test = number_test; project = exceptions.project; order = (col 1 1, ascending Binary) ∷ (col 1 2, ascending Binary) ∷ []; names = exceptions.names;
-  is = (refl, refl); bare = (refl, refl); shows = λ r. refl; tests = λ r. refl; sorts = λ a b. refl; low = refl;
-}
+exceptions_shown ceremony last =
+    shows_first number_test exceptions.project ((col 1 1, ascending Binary) ∷ (col 1 2, ascending Binary) ∷ []) exceptions.names
+    (refl, refl) (refl, refl) (λ r. refl) (λ r. refl) (λ a b. refl) refl
 
 pub next_exception : (ceremony : ℕ) (last : Option ℕ) (m : machine.Tables) {db : Trees} (k : KeepsTables m db) (found : Option ExceptionRow)
     → IsFirst exception_row (numbered ceremony last) k.t.exceptions found
@@ -106,10 +104,9 @@ pub steps_shown : (ceremony : ℕ) (last : Option ℕ)
     → ShowsFirst (codes "SELECT ceremony, step, activity, seats, state, at FROM steps WHERE ceremony = ?1 AND step > ?2 ORDER BY ceremony, step LIMIT 1")
     steps_place (number_params ceremony last) (numbered ceremony last)
 unfolding understood everything
-steps_shown ceremony last = record {
-  test = number_test; project = steps.project; order = (col 1 1, ascending Binary) ∷ (col 1 2, ascending Binary) ∷ []; names = steps.names;
-  is = (refl, refl); bare = (refl, refl); shows = λ r. refl; tests = λ r. refl; sorts = λ a b. refl; low = refl;
-}
+steps_shown ceremony last =
+    shows_first number_test steps.project ((col 1 1, ascending Binary) ∷ (col 1 2, ascending Binary) ∷ []) steps.names
+    (refl, refl) (refl, refl) (λ r. refl) (λ r. refl) (λ a b. refl) refl
 
 pub next_step : (ceremony : ℕ) (last : Option ℕ) (m : machine.Tables) {db : Trees} (k : KeepsTables m db) (found : Option StepRow)
     → IsFirst step_row (numbered ceremony last) k.t.steps found
@@ -133,9 +130,16 @@ passes ceremony step = (by_test 3 seating_test (seating_params ceremony step)).p
 pub seating_shows : (ceremony step : ℕ) → ShowsRows seating_text seatings_place (seating_params ceremony step) (passes ceremony step)
 unfolding understood everything
 seating_shows ceremony step = record {
-  test = seating_test; project = seatings.project; names = seatings.names;
+  test = seating_test;
+  project = seatings.project;
+  names = seatings.names;
   order = (col 1 1, ascending Binary) ∷ (col 1 2, ascending Binary) ∷ (col 1 3, ascending Binary) ∷ [];
-  is = (refl, refl); bare = (refl, refl); shows = λ r. refl; tests = λ r. refl; sorts = λ a b. refl; low = refl;
+  is = (refl, refl);
+  bare = (refl, refl);
+  shows = λ r. refl;
+  tests = λ r. refl;
+  sorts = λ a b. refl;
+  low = refl;
 }
 
 abbrev is_at : ℕ → ℕ → SeatingRow → Bool

@@ -18,7 +18,6 @@ use Rattle.sqlite_value.specs.Keys.{ascending}
 use Rattle.sqlite_value.proofs.OrderLemmas.{value_cmp-Text, value_cmp_total}
 use Rattle.sqlite_tied.specs.Compute.{everything}
 use Rattle.kcr_base.specs.declared.place.Facility.{Facility}
-use Rattle.kcr_base.specs.declared.place.Facility.TheVariants.{East, West}
 use Rattle.kcr_base.specs.Facility.{facility_text}
 use Rattle.kcr_base.specs.Same.{facility_number, is_before}
 use Rattle.kcr_rows.specs.Keyed.{by_key}
@@ -31,7 +30,6 @@ use Rattle.kcr_custody.specs.declared.Item.{Item}
 use Rattle.kcr_custody.specs.declared.Rest.{Rest}
 use Rattle.kcr_custody.specs.declared.Rest.TheVariants.{Loose, Within}
 use Rattle.kcr_custody.specs.declared.SafeNumber.{SafeNumber}
-use Rattle.kcr_custody.specs.declared.SafeNumber.TheVariants.{One, Two}
 use Rattle.kcr_custody.specs.declared.SafeRow.{SafeRow}
 use Rattle.kcr_history.specs.Prints.{in_order}
 use Rattle.kcr_history.specs.Tables as machine
@@ -41,7 +39,7 @@ use Rattle.kcr_tables.specs.ItemsLaws as items
 use Rattle.kcr_tables.specs.Joint.{KeepsTables}
 use Rattle.kcr_reading.specs.First.{Choice, ShowsFirst, IsFirst}
 use Rattle.kcr_reading.specs.ToCome.{Gives, is_past, is_behind, is_loose, loose_past, items_by_code, serials_past, safe_place, safes_in_order, safes_past}
-use Rattle.kcr_reading.proofs.ChoiceLemmas.{by_test, first_come, next_come}
+use Rattle.kcr_reading.proofs.ChoiceLemmas.{by_test, shows_first, first_come, next_come}
 use Rattle.kcr_reading.proofs.NumberLemmas.{behind_text, one_test, text_key, text_later, number_cmp, number_later}
 use Rattle.kcr_reading.proofs.OrderLemmas.{moved, ordered, numbers_ordered, gives_first}
 
@@ -103,14 +101,12 @@ bags_choice last = by_test 1 (behind_test last) (behind_params last)
 
 pub bags_shown : (last : Option (List ℕ)) → ShowsFirst (bags_text last) bags_place (behind_params last) (bags_choice last)
 unfolding understood everything
-bags_shown None = record {
-  test = behind_test None; project = bags.project; order = (col 1 1, ascending Binary) ∷ []; names = bags.names;
-  is = (refl, refl); bare = (refl, refl); shows = λ r. refl; tests = λ r. refl; sorts = λ a b. refl; low = refl;
-}
-bags_shown (Some last) = record {
-  test = behind_test (Some last); project = bags.project; order = (col 1 1, ascending Binary) ∷ []; names = bags.names;
-  is = (refl, refl); bare = (refl, refl); shows = λ r. refl; tests = λ r. refl; sorts = λ a b. refl; low = refl;
-}
+bags_shown None =
+    shows_first (behind_test None) bags.project ((col 1 1, ascending Binary) ∷ []) bags.names
+    (refl, refl) (refl, refl) (λ r. refl) (λ r. refl) (λ a b. refl) refl
+bags_shown (Some last) =
+    shows_first (behind_test (Some last)) bags.project ((col 1 1, ascending Binary) ∷ []) bags.names
+    (refl, refl) (refl, refl) (λ r. refl) (λ r. refl) (λ a b. refl) refl
 
 pub first_bag : (last : Option (List ℕ)) (m : machine.Tables) {db : Trees} (k : KeepsTables m db) (found : Option Bag)
     → IsFirst bag_row (bags_choice last) k.t.bags found → found ≡ slice_get (serials_past last m) 0
@@ -140,14 +136,12 @@ loose_choice last = by_test 1 (loose_test last) (behind_params last)
 
 pub loose_shown : (last : Option (List ℕ)) → ShowsFirst (loose_text last) items_place (behind_params last) (loose_choice last)
 unfolding understood everything
-loose_shown None = record {
-  test = loose_test None; project = items.project; order = (col 1 1, ascending Binary) ∷ []; names = items.names;
-  is = (refl, refl); bare = (refl, refl); shows = λ r. refl; tests = λ r. refl; sorts = λ a b. refl; low = refl;
-}
-loose_shown (Some last) = record {
-  test = loose_test (Some last); project = items.project; order = (col 1 1, ascending Binary) ∷ []; names = items.names;
-  is = (refl, refl); bare = (refl, refl); shows = λ r. refl; tests = λ r. refl; sorts = λ a b. refl; low = refl;
-}
+loose_shown None =
+    shows_first (loose_test None) items.project ((col 1 1, ascending Binary) ∷ []) items.names
+    (refl, refl) (refl, refl) (λ r. refl) (λ r. refl) (λ a b. refl) refl
+loose_shown (Some last) =
+    shows_first (loose_test (Some last)) items.project ((col 1 1, ascending Binary) ∷ []) items.names
+    (refl, refl) (refl, refl) (λ r. refl) (λ r. refl) (λ a b. refl) refl
 
 is_chosen : (last : Option (List ℕ)) (x : Item) → (loose_choice last).passes (item_row x) ≡ (is_loose x && is_behind last x.code)
 unfolding binary value_cmp

@@ -1,7 +1,7 @@
 -- Numbers and texts as the database compares them.
 use Rattle.std.proofs.lemmas.Bool.{and_parts, eqb-true}
 use Rattle.std.proofs.lemmas.Bool.Decides.{nat_tests}
-use Rattle.std.proofs.Common.{◌≡◌, arith, ℕ, pos, negsuc, ◌&&◌, ◌==◌, nat_lt, Bool, true, false, cond, List, [], ◌∷◌, filter, Option, Some, None, Ordering, is_lt}
+use Rattle.std.proofs.Common.{◌≡◌, arith, ℕ, pos, negsuc, ◌&&◌, ◌==◌, Bool, true, false, cond, List, [], ◌∷◌, filter, Option, Some, None, Ordering, is_lt}
 use Rattle.std.proofs.Common.{refl, sym, ap, ◌∙◌}
 use Rattle.std.specs.List.{AllByRecursion}
 use Rattle.std.specs.Ordering.{is_gt, is_eq, nat_cmp, int_cmp, ordering_then}
@@ -13,7 +13,6 @@ use Rattle.sqlite.specs.Ops.{is_true, from_truth}
 use Rattle.sqlite.specs.Tree.{IsAscending}
 use Rattle.sqlite_trees.proofs.ListLemmas.{all_both, ascending-filter}
 use Rattle.sqlite_value.proofs.OrderLemmas.{value_cmp-Int, value_cmp-Text, value_cmp_total, then-Equal}
-use Rattle.kcr_base.specs.Same.{is_before}
 use Rattle.kcr_rows.specs.Keyed.{by_key}
 use Rattle.kcr_rows.proofs.SameLemmas.{ties_is, number_ties}
 use Rattle.kcr_reading.specs.First.{bound_of}

@@ -19,13 +19,14 @@ use Rattle.sqlite.specs.Ops.{binary}
 use Rattle.sqlite.specs.Collation.TheVariants.{Binary}
 use Rattle.sqlite.specs.Tree.{Trees, IsAscending}
 use Rattle.sqlite.specs.Listing.{understood}
+use Rattle.sqlite_keyed.proofs.ListLemmas.{all_from_test}
 use Rattle.sqlite_keyed.proofs.SortLemmas.{sorted_unique}
 use Rattle.sqlite_sql.specs.declared.ops.BinaryOp.TheVariants.{Compare}
 use Rattle.sqlite_sql.specs.declared.ops.CompareOp.TheVariants.{Eq, Gt}
 use Rattle.sqlite_value.specs.Keys.{ascending, rising}
 use Rattle.sqlite_value.proofs.OrderLemmas.{value_cmp-Text, then-Equal}
 use Rattle.sqlite_tied.specs.Compute.{everything}
-use Rattle.sqlite_trees.proofs.ListLemmas.{all_weaker, filter_none, ascending_weaker, ascending_from_map, ascending-filter, IsPermutation-filter}
+use Rattle.sqlite_trees.proofs.ListLemmas.{all_both, all_weaker, filter_none, ascending_weaker, ascending_from_map, ascending-filter, IsPermutation-filter}
 use Rattle.kcr_rows.specs.Keyed.{by_key}
 use Rattle.kcr_rows.proofs.FilterLemmas.{filter_as}
 use Rattle.kcr_cells.specs.Rows.{stay_row}
@@ -39,7 +40,7 @@ use Rattle.kcr_tables.specs.Joint.{KeepsTables}
 use Rattle.kcr_tables.specs.StaysLaws as laws
 use Rattle.kcr_reading.specs.First.{Choice, ShowsFirst, IsFirst, bound_of}
 use Rattle.kcr_reading.specs.ToCome.{Gives, is_behind, since_of, begins_with, begins_after, is_stay_past, listed_past}
-use Rattle.kcr_reading.proofs.ChoiceLemmas.{by_test}
+use Rattle.kcr_reading.proofs.ChoiceLemmas.{by_test, shows_first}
 use Rattle.kcr_reading.proofs.NumberLemmas.{number_cmp, behind_number, behind_text, equal_number, one_test, with_tests, rises_among}
 use Rattle.kcr_reading.proofs.OrderLemmas.{later, moved, apart_on, sorted, gives_first}
 
@@ -52,12 +53,7 @@ pub listed_total : IsTotalOrder listed
 listed_total = then_total (on_total (λ (x : Stay). x.since) nat_cmp_total) (on_total (λ (x : Stay). x.who) nat_list_cmp_total)
 
 before_is : (a b : Stay) → is_listed_before a b ≡ is_lt (listed a b)
-before_is a b = go (nat_lt a.since b.since) (a.since == b.since) (slice_cmp nat_cmp a.who b.who)
-  where
-    go : (p q : Bool) (o : Ordering) → (p || (q && is_lt o)) ≡ is_lt (ordering_then (cond p Less (cond q Equal Greater)) o)
-    go true q o = refl
-    go false true o = refl
-    go false false o = refl
+before_is a b = grind (arith, nat_tests)
 
 past_later : (last : Option Stay) (x : Stay) → is_stay_past last x ≡ later listed listed_total (λ (s : Stay). s) last x
 past_later None x = refl
@@ -82,19 +78,15 @@ strict : (xs : List Stay) → are_listed xs ≡ true → IsAscending Apart xs �
 strict [] h up = tt
 strict (x ∷ xs) h up =
     let parts = and_parts (list_all (λ other. not (is_listed_before other x)) xs) (are_listed xs) h in
-    (each xs parts.0 up.0, strict xs parts.1 up.1)
+    (all_both _ (Apart x) (Rises x) rises xs (all_from_test _ xs parts.0) up.0, strict xs parts.1 up.1)
   where
     one : (o : Ordering) → not (is_lt (ordering_reverse o)) ≡ true → is_eq o ≡ false → o ≡ Less
     one Less h k = refl
     one Equal h k = absurd (cc)
     one Greater h k = absurd (cc)
 
-    each : (ys : List Stay) → list_all (λ other. not (is_listed_before other x)) ys ≡ true → AllByRecursion (Apart x) ys → AllByRecursion (Rises x) ys
-    each [] h all = tt
-    each (y ∷ ys) h all =
-        let parts = and_parts (not (is_listed_before y x)) (list_all (λ other. not (is_listed_before other x)) ys) h in
-        let there : not (is_lt (ordering_reverse (listed x y))) ≡ true = ap (λ o. not (is_lt o)) (sym (listed_total.antisymm y x)) ∙ ap not (sym (before_is y x)) ∙ parts.0 in
-        (one (listed x y) there all.0, each ys parts.1 all.1)
+    rises : (y : Stay) → not (is_listed_before y x) ≡ true → Apart x y → Rises x y
+    rises y h apart = one (listed x y) (ap (λ o. not (is_lt o)) (sym (listed_total.antisymm y x)) ∙ ap not (sym (before_is y x)) ∙ h) apart
 
 abbrev is_of : ℕ → Stay → Bool
 is_of ceremony stay = stay.ceremony == ceremony
@@ -147,10 +139,9 @@ together ceremony last = by_test 2 together_test (together_params ceremony last)
 
 pub shows_together : (ceremony : ℕ) (last : Stay) → ShowsFirst together_text stays_place (together_params ceremony last) (together ceremony last)
 unfolding understood everything
-shows_together ceremony last = record {
-  test = together_test; project = laws.project; order = (col 1 1, ascending Binary) ∷ (col 1 2, ascending Binary) ∷ []; names = laws.names;
-  is = (refl, refl); bare = (refl, refl); shows = λ r. refl; tests = λ r. refl; sorts = λ a b. refl; low = refl;
-}
+shows_together ceremony last =
+    shows_first together_test laws.project ((col 1 1, ascending Binary) ∷ (col 1 2, ascending Binary) ∷ []) laws.names
+    (refl, refl) (refl, refl) (λ r. refl) (λ r. refl) (λ a b. refl) refl
 
 passes_together : (ceremony : ℕ) (last x : Stay) → (together ceremony last).passes (stay_row x) ≡ (is_of ceremony x && begins_with last x)
 unfolding binary
@@ -192,10 +183,9 @@ begins_later ceremony last = record (by_test 2 later_test (later_params ceremony
 
 pub shows_later : (ceremony : ℕ) (last : Option Stay) → ShowsFirst later_text stays_place (later_params ceremony last) (begins_later ceremony last)
 unfolding understood everything
-shows_later ceremony last = record {
-  test = later_test; project = laws.project; order = (col 1 2, ascending Binary) ∷ (col 1 1, ascending Binary) ∷ []; names = laws.names;
-  is = (refl, refl); bare = (refl, refl); shows = λ r. refl; tests = λ r. refl; sorts = λ a b. refl; low = refl;
-}
+shows_later ceremony last =
+    shows_first later_test laws.project ((col 1 2, ascending Binary) ∷ (col 1 1, ascending Binary) ∷ []) laws.names
+    (refl, refl) (refl, refl) (λ r. refl) (λ r. refl) (λ a b. refl) refl
 
 passes_later : (ceremony : ℕ) (last : Option Stay) (x : Stay) → (begins_later ceremony last).passes (stay_row x) ≡ (is_of ceremony x && begins_after last x)
 unfolding binary

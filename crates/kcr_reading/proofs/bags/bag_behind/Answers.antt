@@ -1,4 +1,4 @@
-use Rattle.std.proofs.Common.{◌∷◌, [], Some, None, refl}
+use Rattle.std.proofs.Common.{◌∷◌, [], Some, None}
 use Rattle.kcr_reading.proofs.ChoiceLemmas.{shown_by, by_tables}
 use Rattle.kcr_reading.proofs.CustodyLemmas.{bags_shown, first_bag}
 use Rattle.kcr_reading.proofs.bags.bag_behind.Goals as goal

@@ -1,4 +1,4 @@
-use Rattle.std.proofs.Common.{◌∷◌, [], Some, None, refl}
+use Rattle.std.proofs.Common.{◌∷◌, [], Some, None}
 use Rattle.kcr_reading.proofs.ChoiceLemmas.{shown_by, by_tables}
 use Rattle.kcr_reading.proofs.CustodyLemmas.{loose_shown, first_loose}
 use Rattle.kcr_reading.proofs.loose.loose_behind.Goals as goal

@@ -1,8 +1,6 @@
-use Rattle.std.proofs.Common.{◌≡◌, Option, Some, sym, subst, ◌∙◌, slice_get}
-use Rattle.kcr_room.specs.declared.Stay.{Stay}
+use Rattle.std.proofs.Common.{sym, ◌∙◌}
 use Rattle.kcr_rows.proofs.FailLemmas.{if_ok}
 use Rattle.kcr_rows.proofs.InsideLemmas.{was_clean}
-use Rattle.kcr_reading.specs.ToCome.{listed_past}
 use Rattle.kcr_reading.proofs.ChoiceLemmas.{still_held}
 use Rattle.kcr_reading.proofs.StayLemmas.{first_with, first_after}
 use Rattle.kcr_reading.proofs.stays.stay_behind.Goals as goal
