@@ -7,12 +7,7 @@ use Rattle.kcr_history.specs.Prints.{wants_quotes, quotes_doubled, csv_field, cs
 
 -- a comma, a quote, or one of the two line marks
 byte_is : (a b c d : Bool) → (((a || b) || (d || c)) || false) || false ≡ ((a || b) || c) || d
-byte_is true b c d = refl
-byte_is false true c d = refl
-byte_is false false true true = refl
-byte_is false false true false = refl
-byte_is false false false true = refl
-byte_is false false false false = refl
+byte_is a b c d = grind arith
 
 quotes_are : (text : List ℕ) → needs_quotes default_writer text ≡ wants_quotes text
 quotes_are [] = refl

@@ -1,7 +1,6 @@
 mod AttendanceLemmas
 mod CsvLemmas
 mod LineLemmas
-mod LinesLemmas
 mod PartLemmas
 mod ReportLemmas
 mod RowLemmas

@@ -3,6 +3,7 @@ use Rattle.std.proofs.Common.{◌≡◌, ℕ, ◌<◌, List, ◌++◌, inl, inr,
 use Rattle.std.specs.Prelude.{◌⊎◌, ⊤, Option, None, Result, Ok, Err, IfErr, IsErr, IsErrAnd, OnOk, IsTrue}
 use Rattle.std.proofs.lemmas.Bool.{false≢true}
 use Rattle.std.specs.Io.KnownBytes.{Appends}
+use Rattle.std.specs.List.{flat_map}
 use Rattle.sqlite.specs.Store.{Ghosts}
 use Rattle.sqlite.specs.Held.{state}
 use Rattle.sqlite.specs.State.{HasCleanDisk}
@@ -10,9 +11,12 @@ use Rattle.kcr_base.specs.Counted.{inner_of, failures_of}
 use Rattle.kcr_base.specs.declared.counted.Counted.{Counted}
 use Rattle.kcr_base.specs.declared.refusal.Refusal.{Refusal}
 use Rattle.kcr_history.specs.History.{History}
+use Rattle.kcr_history.specs.Tables as machine
+use Rattle.kcr_history.specs.Tables.{tables}
 use Rattle.kcr_tables.specs.Refusals.{IsFault}
 use Rattle.kcr_store.specs.Register.{Seen, IsKept}
-use Rattle.kcr_store.specs.Rows.{KeepsHistory, OfHistory}
+use Rattle.kcr_store.specs.Rows.{Begins, KeepsHistory, OfHistory}
+use Rattle.kcr_store.specs.declared.rows.Rows.{Rows}
 use Rattle.kcr_print.specs.Reports.{Stops, IsPrinted, TellsWrites, Puts}
 use Rattle.kcr_print.specs.Written.{Writes}
 use Rattle.kcr_print.specs.declared.fault.PrintFault.{PrintFault}
@@ -107,17 +111,16 @@ module _ {S W : Type 0} {g : Ghosts S} {contents : W → Option (List ℕ)} {D :
     told = told_then x y z r p.told q.told;
   }
 
+  -- the same call, of which other things are printed and denied
+  puts_as : {a b : Seen S} {x y : Counted W} {r : Result ⊤ PrintFault} {E : History → Refusal → Type 0} {N : Refusal → Type 0} {t u : History → List ℕ}
+      → OfHistory g a b (λ A. IsPrinted (D A) (u A) r (contents (inner_of x)) (contents (inner_of y))) → IfErr r (Stops M)
+      → Puts g contents a b x y r E N t → Puts g contents a b x y r D M u
+  puts_as printed cause p = record { printed = printed; cause = cause; keeps = p.keeps; clean = p.clean; kept = p.kept; told = p.told }
+
   -- a part that stops, and what would have followed
   pub puts_more : {a b : Seen S} {x y : Counted W} {r : Result ⊤ PrintFault} {t : History → List ℕ} (u : History → List ℕ) → IsErr r
       → Puts g contents a b x y r D M t → Puts g contents a b x y r D M (λ A. t A ++ u A)
-  puts_more {a} {b} {x} {y} {r} {t} u h p = record {
-    printed = λ founded torn clean. printed_more (D a.accepted) r _ _ (t a.accepted) (u a.accepted) h (p.printed founded torn clean);
-    cause = p.cause;
-    keeps = p.keeps;
-    clean = p.clean;
-    kept = p.kept;
-    told = p.told;
-  }
+  puts_more {a} {r = r} {t} u h p = puts_as (λ founded torn clean. printed_more (D a.accepted) r _ _ (t a.accepted) (u a.accepted) h (p.printed founded torn clean)) p.cause p
 
   -- the error that is handed on
   pub puts_err : {a b : Seen S} {x y : Counted W} {t : History → List ℕ} (r : Result ⊤ PrintFault) (e : PrintFault) → IsErrAnd r (λ fault. fault ≡ e)
@@ -127,36 +130,23 @@ module _ {S W : Type 0} {g : Ghosts S} {contents : W → Option (List ℕ)} {D :
   -- a part that nothing denies
   pub puts_weaker : {a b : Seen S} {x y : Counted W} {r : Result ⊤ PrintFault} {t : History → List ℕ}
       → Puts g contents a b x y r (λ _ _. ⊥) (λ _. ⊥) t → Puts g contents a b x y r D M t
-  puts_weaker {a} {b} {x} {y} {r} {t} p = record {
-    printed = λ founded torn clean. printed_weaker (D a.accepted) r _ _ (t a.accepted) (p.printed founded torn clean);
-    cause = cause_weaker M r p.cause;
-    keeps = p.keeps;
-    clean = p.clean;
-    kept = p.kept;
-    told = p.told;
-  }
+  puts_weaker {a} {r = r} {t} p =
+      puts_as (λ founded torn clean. printed_weaker (D a.accepted) r _ _ (t a.accepted) (p.printed founded torn clean)) (cause_weaker M r p.cause) p
 
   -- the same part, its text told otherwise
   pub puts_text : {a b : Seen S} {x y : Counted W} {r : Result ⊤ PrintFault} (t u : History → List ℕ) → OfHistory g a b (λ A. t A ≡ u A)
       → Puts g contents a b x y r D M t → Puts g contents a b x y r D M u
-  puts_text {a} {b} {x} {y} {r} t u same p = record {
-    printed = λ founded torn clean.
-        let P : List ℕ → Type 0 = λ text. IsPrinted (D a.accepted) text r (contents (inner_of x)) (contents (inner_of y)) in
-        subst P (same founded torn clean) (p.printed founded torn clean);
-    cause = p.cause;
-    keeps = p.keeps;
-    clean = p.clean;
-    kept = p.kept;
-    told = p.told;
-  }
+  puts_text {a} {x = x} {y} {r} t u same p =
+      let P : List ℕ → Type 0 = λ text. IsPrinted (D a.accepted) text r (contents (inner_of x)) (contents (inner_of y)) in
+      puts_as (λ founded torn clean. subst P (same founded torn clean) (p.printed founded torn clean)) p.cause p
 
-module _ {S W : Type 0} (g : Ghosts S) (contents : W → Option (List ℕ)) where
+module _ {S W : Type 0} {g : Ghosts S} {contents : W → Option (List ℕ)} where
   -- a call on the register, and then a text that is written
-  pub puts_line : (D : History → Refusal → Type 0) (M : Refusal → Type 0) (a b : Seen S) (x y : Counted W) (r : Result ⊤ PrintFault) (line : List ℕ) (t : History → List ℕ)
+  pub puts_line : {D : History → Refusal → Type 0} {M : Refusal → Type 0} {a b : Seen S} {x y : Counted W} {r : Result ⊤ PrintFault} (line : List ℕ) {t : History → List ℕ}
       → OfHistory g a b (λ A. line ≡ t A) → KeepsHistory a b → (HasCleanDisk (state g b.conn) → HasCleanDisk (state g a.conn)) → IsKept g b
       → Writes r (contents (inner_of x)) (contents (inner_of y)) line → IfErr r (Stops (λ _. ⊥)) → TellsWrites x y r
       → Puts g contents a b x y r D M t
-  puts_line D M a b x y r line t same keeps clean kept written cause told = record {
+  puts_line {D} {M} {a} {b} {x} {y} {r} line {t} same keeps clean kept written cause told = record {
     printed = λ founded torn now.
         let P : List ℕ → Type 0 = λ text. IsPrinted (D a.accepted) text r (contents (inner_of x)) (contents (inner_of y)) in
         subst P (same founded torn now) (printed_of (D a.accepted) r _ _ line written cause);
@@ -168,11 +158,11 @@ module _ {S W : Type 0} (g : Ghosts S) (contents : W → Option (List ℕ)) wher
   }
 
   -- a call on the register that was refused before anything was written
-  pub puts_nothing : (D : History → Refusal → Type 0) (M : Refusal → Type 0) (a b : Seen S) (x : Counted W) (refusal : Refusal) (t : History → List ℕ)
+  pub puts_nothing : {D : History → Refusal → Type 0} {M : Refusal → Type 0} {a b : Seen S} {x : Counted W} {refusal : Refusal} {t : History → List ℕ}
       → OfHistory g a b (λ A. IsFault refusal ⊎ D A refusal) → (IsFault refusal ⊎ M refusal) → KeepsHistory a b
       → (HasCleanDisk (state g b.conn) → HasCleanDisk (state g a.conn)) → IsKept g b
       → Puts g contents a b x x (Err (Refused refusal)) D M t
-  puts_nothing D M a b x refusal t why cause keeps clean kept = record {
+  puts_nothing {x = x} why cause keeps clean kept = record {
     printed = λ founded torn now. ((0, appends_nothing (contents (inner_of x))), why founded torn now);
     cause = cause;
     keeps = keeps;
@@ -182,21 +172,25 @@ module _ {S W : Type 0} (g : Ghosts S) (contents : W → Option (List ℕ)) wher
   }
 
   -- rows that were written: they began with the register, and left it behind
-  pub puts_rows : (old began ended last : Seen S) (x y : Counted W) (r : Result ⊤ PrintFault) (t u : History → List ℕ)
-      → began ≡ old → last ≡ ended → old.torn ≡ None → ((A : History) → t A ≡ u A)
-      → OfHistory g began ended (λ A. Writes r (contents (inner_of x)) (contents (inner_of y)) (t A)) → (began.torn ≡ None → IfErr r (Stops (λ _. ⊥)))
-      → KeepsHistory began ended → (HasCleanDisk (state g ended.conn) → HasCleanDisk (state g began.conn)) → IsKept g ended → TellsWrites x y r
-      → Puts g contents old last x y r (λ _ _. ⊥) (λ _. ⊥) u
-  puts_rows old began ended last x y r t u begins ends whole same written cause keeps clean kept told =
-      let why = cause (ap (λ s. s.torn) begins ∙ whole) in
+  pub puts_rows : {R Row : Type 0} {to_come : R → machine.Tables → List Row} {wanted : machine.Tables → List Row} {rows : Rows S R Row} {old last : Seen S}
+      {x y : Counted W} {r : Result ⊤ PrintFault} {text : History → List ℕ} (lines : Row → List ℕ) (ended : Seen S)
+      → Begins old to_come wanted (Ok rows) → last ≡ ended → old.torn ≡ None → ((A : History) → flat_map lines (wanted (tables A)) ≡ text A)
+      → OfHistory g rows.register.now ended (λ A. Writes r (contents (inner_of x)) (contents (inner_of y)) (flat_map lines (to_come rows.reading (tables A))))
+      → (rows.register.now.torn ≡ None → IfErr r (Stops (λ _. ⊥))) → KeepsHistory rows.register.now ended
+      → (HasCleanDisk (state g ended.conn) → HasCleanDisk (state g rows.register.now.conn)) → IsKept g ended → TellsWrites x y r
+      → Puts g contents old last x y r (λ _ _. ⊥) (λ _. ⊥) text
+  puts_rows {rows = rows} {old} {x = x} {y} {r} {text} lines ended begins ends whole same written cause keeps clean kept told =
+      let began = rows.register.now in
+      let why = cause (ap (λ s. s.torn) begins.same ∙ whole) in
       let P : List ℕ → Type 0 = λ text. IsPrinted (λ _. ⊥) text r (contents (inner_of x)) (contents (inner_of y)) in
-      let done : Puts g contents began ended x y r (λ _ _. ⊥) (λ _. ⊥) u = record {
-        printed = λ founded torn now. subst P (same began.accepted) (printed_of (λ _. ⊥) r _ _ (t began.accepted) (written founded torn now) why);
+      let done : Puts g contents began ended x y r (λ _ _. ⊥) (λ _. ⊥) text = record {
+        printed = λ founded torn now.
+            subst P (ap (flat_map lines) (begins.all (tables began.accepted)) ∙ same began.accepted) (printed_of (λ _. ⊥) r _ _ _ (written founded torn now) why);
         cause = why;
         keeps = keeps;
         clean = clean;
         kept = kept;
         told = told;
       } in
-      let from = subst (λ (s : Seen S). Puts g contents s ended x y r (λ _ _. ⊥) (λ _. ⊥) u) begins done in
-      subst (λ (s : Seen S). Puts g contents old s x y r (λ _ _. ⊥) (λ _. ⊥) u) (sym ends) from
+      let from = subst (λ (s : Seen S). Puts g contents s ended x y r (λ _ _. ⊥) (λ _. ⊥) text) begins.same done in
+      subst (λ (s : Seen S). Puts g contents old s x y r (λ _ _. ⊥) (λ _. ⊥) text) (sym ends) from

@@ -1,28 +1,46 @@
 -- The texts of the rows that are read are the parts of the reports.
-use Rattle.std.proofs.Common.{◌≡◌, ℕ, cond, List, [], ◌∷◌, ◌++◌, filter, reverse, refl, ap, ◌∙◌}
+use Rattle.std.proofs.Common.{◌≡◌, ℕ, cond, List, [], ◌∷◌, ◌++◌, map, filter, reverse, refl, ap, ◌∙◌}
 use Rattle.std.specs.List.{flat_map}
+use Rattle.std.proofs.lemmas.List.Folds.{flat_map-map}
+use Rattle.kcr_custody.specs.Custody.{lies_in}
+use Rattle.kcr_custody.specs.Spots.{spot_text}
+use Rattle.kcr_custody.specs.declared.Bag.{Bag}
 use Rattle.kcr_custody.specs.declared.Item.{Item}
 use Rattle.kcr_custody.specs.declared.Rest.TheVariants.{Loose, Within}
 use Rattle.kcr_room.specs.Stays.{stays_by, attendance_in_by}
 use Rattle.kcr_history.specs.History.{History}
 use Rattle.kcr_history.specs.Room.{sheet}
-use Rattle.kcr_history.specs.Tables.{people, safes, seatings, tables}
-use Rattle.kcr_history.specs.Prints.{step_lines, steps_in_order, exception_line, exceptions_in_order, stay_line, safe_line, bag_lines, items_in_order, bags_in_order, loose_line}
-use Rattle.kcr_reading.specs.ToCome.{with_seated, seated_steps, exceptions_of, with_name, named_stays, safes_in_order, with_items, packed_bags, is_loose, loose_items}
-use Rattle.kcr_print.specs.Lines.{seated_lines, named_line, packed_lines}
-use Rattle.kcr_print.proofs.LinesLemmas.{lines_along, seated_is, packed_is}
+use Rattle.kcr_history.specs.Tables.{people, seatings, tables}
+use Rattle.kcr_history.specs.declared.rows.SeatingRow.{SeatingRow}
+use Rattle.kcr_history.specs.declared.rows.StepRow.{StepRow}
+use Rattle.kcr_history.specs.declared.rows.StepState.TheVariants.{Undone, Signed, Passed}
+use Rattle.kcr_history.specs.Prints.{line_of, step_lines, steps_in_order, stay_line, bag_lines, items_in_order, bags_in_order, loose_line, seated_at}
+use Rattle.kcr_reading.specs.ToCome.{with_seated, seated_steps, with_name, named_stays, with_items, packed_bags, is_loose, loose_items}
+use Rattle.kcr_print.specs.Lines.{seated_lines, named_line, packed_lines, code_line}
+
+-- lines that are the same row by row
+lines_along : {X Y : Type 0} (f : X → List ℕ) (g : Y → List ℕ) (v : Y → X) → ((y : Y) → f (v y) ≡ g y) → (ys : List Y) → flat_map f (map v ys) ≡ flat_map g ys
+lines_along f g v same [] = refl
+lines_along f g v same (y ∷ ys) = ap (λ t. f (v y) ++ t) (lines_along f g v same ys) ∙ ap (λ t. t ++ flat_map g ys) (same y)
+
+-- a step with its people
+seated_is : (rows : List SeatingRow) (row : StepRow) → seated_lines (record { step = row; seated = seated_at rows row.ceremony row.step }) ≡ step_lines rows row
+seated_is rows row =
+    elim row.state as (λ s. seated_lines (record { step = record row { state = s }; seated = seated_at rows row.ceremony row.step }) ≡ step_lines rows (record row { state = s }))
+    [ Undone ↦ refl | Signed ↦ refl | Passed ↦ refl ]
+
+-- a bag with its items
+packed_is : (items : List Item) (bag : Bag) → packed_lines (record { bag = bag; codes = map (λ item. item.code) (filter (lies_in bag.serial) items) }) ≡ bag_lines items bag
+packed_is items bag =
+    ap (λ t. line_of (bag.serial ∷ spot_text bag.spot ∷ []) ++ t) (flat_map-map code_line (λ (item : Item). item.code) (filter (lies_in bag.serial) items))
+
+-- THE PARTS
 
 pub steps_text : (A : History) (ceremony : ℕ) → flat_map seated_lines (seated_steps ceremony (tables A)) ≡ flat_map (step_lines (seatings A)) (steps_in_order A ceremony)
 steps_text A ceremony = lines_along seated_lines (step_lines (seatings A)) (with_seated (seatings A)) (seated_is (seatings A)) (steps_in_order A ceremony)
 
-pub exceptions_text : (A : History) (ceremony : ℕ) → flat_map exception_line (exceptions_of ceremony (tables A)) ≡ flat_map exception_line (exceptions_in_order A ceremony)
-exceptions_text A ceremony = refl
-
 pub stays_text : (A : History) (ceremony : ℕ) → flat_map named_line (named_stays ceremony (tables A)) ≡ flat_map (stay_line (people A)) (attendance_in_by (reverse (stays_by (sheet A))) ceremony)
 stays_text A ceremony = lines_along named_line (stay_line (people A)) (with_name (people A)) (λ stay. refl) (attendance_in_by (reverse (stays_by (sheet A))) ceremony)
-
-pub safes_text : (A : History) → flat_map safe_line (safes_in_order (tables A)) ≡ flat_map safe_line (safes A)
-safes_text A = refl
 
 pub bags_text : (A : History) → flat_map packed_lines (packed_bags (tables A)) ≡ flat_map (bag_lines (items_in_order A)) (bags_in_order A)
 bags_text A = lines_along packed_lines (bag_lines (items_in_order A)) (with_items (items_in_order A)) (packed_is (items_in_order A)) (bags_in_order A)

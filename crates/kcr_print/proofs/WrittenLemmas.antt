@@ -27,17 +27,14 @@ front_after a b c x y rest p q =
     take-append-add x (y ++ rest) n ∙ ap (λ (t : List ℕ). x ++ t) (take-append-le n y rest (omega arith) ∙ e) in
     (length x + n, subst (Appends a c) (sym f) (appends_both a b c x (take q.0 y) p q.1))
 
-pub pieces_split : {X : Type 0} (f : X → List ℕ) (xs : List X) (i : ℕ) (d : X) → i < length xs
-    → flat_map f xs ≡ flat_map f (take i xs) ++ (f (get_or xs i d) ++ flat_map f (drop (suc i) xs))
-pieces_split f xs i d h =
-    ap (flat_map f) (sym (take-append-drop i xs)) ∙ flat_map-append f (take i xs) (drop i xs)
-    ∙ ap (λ t. flat_map f (take i xs) ++ flat_map f t) (drop-cons xs i d h)
+-- x, and then a beginning of y
+pub front_both : (a b c : Option (List ℕ)) (x y : List ℕ) → Appends a b x → WritesFront b c y → WritesFront a c (x ++ y)
+front_both a b c x y p q = subst (λ t. WritesFront a c (x ++ t)) (append-nil y) (front_after a b c x y [] p q)
 
 pub writes_then : {T E : Type 0} (r : Result T E) (a b c : Option (List ℕ)) (x y : List ℕ)
     → Appends a b x → Writes r b c y → Writes r a c (x ++ y)
 writes_then (Ok v) a b c x y p q = appends_both a b c x y p q
-writes_then (Err e) a b c x y p q =
-    subst (λ t. WritesFront a c (x ++ t)) (append-nil y) (front_after a b c x y [] p q)
+writes_then (Err e) a b c x y p q = front_both a b c x y p q
 
 -- a beginning of x is one of x and more
 pub front_longer : (a b : Option (List ℕ)) (x y : List ℕ) → WritesFront a b x → WritesFront a b (x ++ y)
@@ -45,13 +42,3 @@ front_longer a b x y p =
     let n : ℕ = min p.0 (length x) in
     let e : take n (x ++ y) ≡ take p.0 x = take-append-le n x y (omega arith) ∙ take_min p.0 x in
     (n, subst (Appends a b) (sym e) p.1)
-
--- twelve pieces, from the left and from the right
-pub regroup : (a b c d e f g h i j k l : List ℕ)
-    → a ++ b ++ c ++ d ++ e ++ f ++ g ++ h ++ i ++ j ++ k ++ l
-    ≡ flat_map {X = List ℕ} (λ line. line) (a ∷ b ∷ c ∷ d ∷ e ∷ f ∷ g ∷ h ∷ i ∷ j ∷ k ∷ l ∷ [])
-regroup a b c d e f g h i j k l = simp (append_assoc, append-nil)
-
--- x, and then a beginning of y
-pub front_both : (a b c : Option (List ℕ)) (x y : List ℕ) → Appends a b x → WritesFront b c y → WritesFront a c (x ++ y)
-front_both a b c x y p q = subst (λ t. WritesFront a c (x ++ t)) (append-nil y) (front_after a b c x y [] p q)

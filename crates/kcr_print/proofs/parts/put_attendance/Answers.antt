@@ -24,8 +24,7 @@ read ceremony A = flat_map named_line (named_stays ceremony (tables A))
 pub returns-in_err-_planned-clause-puts : goal.returns-in_err-_planned-clause-puts
 returns-in_err-_planned-clause-puts g c =
     let said = c.in_err-_planned.ensures in
-    puts_err _ _ c.from_residual.ensures.1
-    (puts_nothing g.S.Store g.W.Write.contents (λ A. IsNotPlanned A c.args.ceremony) (NamesCeremony c.args.ceremony) _ _ _ _ _ said.row (said.cause c.requires.whole) said.same said.clean said.kept)
+    puts_err _ _ c.from_residual.ensures.1 (puts_nothing said.row (said.cause c.requires.whole) said.same said.clean said.kept)
 
 pub returns-in_err-put_row-clause-puts : goal.returns-in_err-put_row-clause-puts
 returns-in_err-put_row-clause-puts g c =
@@ -33,9 +32,8 @@ returns-in_err-put_row-clause-puts g c =
     let fault = c.from_residual-in_err-put_row.ensures in
     let row = c.in_ok-_planned.ensures in
     let said = c.in_err-put_row.ensures in
-    puts_more (stays n) fault.0 (puts_err _ _ fault.1
-    (puts_line g.S.Store g.W.Write.contents (λ A. IsNotPlanned A n) (NamesCeremony n) _ _ _ _ _ header_line header
-    (λ founded torn clean. refl) row.same row.clean row.kept said.written said.cause said.told))
+    puts_more {t = header} (stays n) fault.0 (puts_err _ _ fault.1
+    (puts_line header_line (λ founded torn clean. refl) row.same row.clean row.kept said.written said.cause said.told))
 
 pub returns-clause-puts : goal.returns-clause-puts
 returns-clause-puts g c =
@@ -43,9 +41,8 @@ returns-clause-puts g c =
     let row = c.in_ok-_planned.ensures in
     let said = c.in_ok-put_row.ensures in
     let before = c.ceremony_row.new.self in
-    let begun = puts_line g.S.Store g.W.Write.contents (λ A. IsNotPlanned A n) (NamesCeremony n) c.args.register.now before c.args.writer.now c.put_row.new.writer _ header_line header
-    (λ founded torn clean. refl) row.same row.clean row.kept said.written said.cause said.told in
-    puts_then begun (puts_weaker (puts_text (read n) (stays n)
+    puts_then {t = header} (puts_line header_line (λ founded torn clean. refl) row.same row.clean row.kept said.written said.cause said.told)
+    (puts_weaker (puts_text (read n) (stays n)
     (λ founded torn clean. register_attendance g.S.Store before row.kept (g.met.S.Store.survives before.conn.store) founded torn (c.put_stays.ensures.clean clean) n)
     c.put_stays.ensures))
 

@@ -1,20 +1,11 @@
-use Rattle.std.proofs.Common.{ℕ, List, ap, ◌∙◌, rules}
-use Rattle.std.specs.List.{flat_map}
-use Rattle.kcr_history.specs.History.{History}
-use Rattle.kcr_history.specs.Tables.{tables, seatings}
-use Rattle.kcr_history.specs.Prints as report
-use Rattle.kcr_reading.specs.ToCome.{steps_past}
+use Rattle.std.proofs.Common.{rules}
 use Rattle.kcr_print.specs.Lines.{seated_lines}
-use Rattle.kcr_print.proofs.PartLemmas.{puts_rows}
 use Rattle.kcr_print.proofs.ReportLemmas.{steps_text}
+use Rattle.kcr_print.proofs.PartLemmas.{puts_rows}
 use Rattle.kcr_print.proofs.parts.put_steps.Goals as goal
 
 pub returns : goal.returns
 returns g c =
-    let rows = c.in_ok-rows.rows in
-    let begun = c.in_ok-rows.ensures.begun in
     let said = c.put_rows.ensures in
-    let to_come : History → List ℕ = λ A. flat_map seated_lines (steps_past rows.reading.last rows.reading.ceremony (tables A)) in
-    let text : History → List ℕ = λ A. flat_map (report.step_lines (seatings A)) (report.steps_in_order A c.args.ceremony) in
-    puts_rows g.S.Store g.W.Write.contents c.args.register.now rows.register.now c.put_rows.new.rows.register.now _ c.args.writer.now c.put_rows.new.writer c.put_rows.result to_come text
-    begun.same (search rules) c.requires.whole (λ A. ap (flat_map seated_lines) (begun.all (tables A)) ∙ steps_text A c.args.ceremony) said.written said.cause said.same said.clean said.kept said.told
+    puts_rows seated_lines c.put_rows.new.rows.register.now c.in_ok-rows.ensures.begun (search rules) c.requires.whole (λ A. steps_text A c.args.ceremony)
+    said.written said.cause said.same said.clean said.kept said.told
