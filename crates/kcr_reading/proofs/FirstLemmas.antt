@@ -3,6 +3,7 @@ use Rattle.std.proofs.Common.{◌≡◌, ℕ, List, [], ◌∷◌, ◌++◌, map
 use Rattle.std.specs.List.{AllByRecursion, list_all}
 use Rattle.std.specs.Option.{option_to_list}
 use Rattle.std.specs.List.Sorted.{IsPermutation}
+use Rattle.std.proofs.lemmas.List.{map-id, take-map}
 use Rattle.std.proofs.lemmas.List.Sorted.{IsPermutation-map, IsPermutation-trans, IsPermutation-sym}
 use Rattle.sqlite.specs.declared.types.Value.TheVariants.{Null}
 use Rattle.sqlite.specs.Order.{Row}
@@ -20,14 +21,6 @@ use Rattle.kcr_rows.proofs.ReadLemmas.{matched, map_same}
 use Rattle.kcr_rows.proofs.TableLemmas.{same_values}
 use Rattle.kcr_tables.specs.Schema.{register_schema}
 use Rattle.kcr_reading.specs.First.{first_of, Choice, ShowsFirst}
-
-map_id : {X : Type 0} (xs : List X) → map (λ x. x) xs ≡ xs
-map_id [] = refl
-map_id (x ∷ xs) = ap (λ l. x ∷ l) (map_id xs)
-
-map_take : {X Y : Type 0} (f : X → Y) (xs : List X) → take 1 (map f xs) ≡ map f (take 1 xs)
-map_take f [] = refl
-map_take f (x ∷ xs) = refl
 
 all_take : {X : Type 0} (P : X → Type 0) (xs : List X) → AllByRecursion P xs → AllByRecursion P (take 1 xs)
 all_take P [] all = tt
@@ -61,7 +54,7 @@ module _ (sql : List ℕ) (place : Place) (params : Row) (choice : Choice) (s : 
       (ascending_weaker _ (λ x y. output_cmp q (ranked x) (ranked y) ≡ Less) (λ x y h. s.sorts x y ∙ h) _ up) in
       let ordered : a.ordered ≡ map ranked those =
       sorted_unique (output_cmp q) (output_cmp_total q) _ _ strict (IsPermutation-trans _ _ _ (subst (IsPermutation (map ranked those)) (sym outs) turned) a.same) a.sorted in
-      a.shown ∙ ap (λ l. take 1 (map (λ (o : Output). o.1) l)) ordered ∙ ap (take 1) (map-map (λ (o : Output). o.1) ranked those ∙ map_id those)
+      a.shown ∙ ap (λ l. take 1 (map (λ (o : Output). o.1) l)) ordered ∙ ap (take 1) (map-map (λ (o : Output). o.1) ranked those ∙ map-id those)
 
   module _ {X : Type 0} (row_of : X → Row) where
     pub shown_first : (IsRead IsStored : X → Type 0) → ((x y : X) → IsRead x → IsStored y → row_of x ≡ row_of y → x ≡ y) → (old new : State) (xs : List X) → old.now.schema ≡ register_schema
@@ -74,7 +67,7 @@ module _ (sql : List ℕ) (place : Place) (params : Row) (choice : Choice) (s : 
         (subst (λ l. IsPermutation l (map row_of those)) (sym (filter-map choice.passes row_of ys)) (IsPermutation-map row_of _ _ same)) in
         let rows = first_rows old.now.trees (map row_of xs) (map row_of those) stored (ascending-map (λ a b. choice.compare a b ≡ Less) row_of those up) (it.answer Null) in
         let known : AllByRecursion IsStored those = all-permutation IsStored _ _ same (all-filter IsStored (λ x. choice.passes (row_of x)) ys held) in
-        same_values row_of IsRead IsStored one xs (take 1 those) read (all_take IsStored those known) (rows ∙ map_take row_of those)
+        same_values row_of IsRead IsStored one xs (take 1 those) read (all_take IsStored those known) (rows ∙ take-map row_of 1 those)
 
 -- what the last of at most one is
 pub popped : {X : Type 0} (xs rest those : List X) (found : Option X) → xs ≡ take 1 those → xs ≡ rest ++ option_to_list found → (found ≡ None → xs ≡ []) → found ≡ slice_get those 0

@@ -1,10 +1,11 @@
--- The stays of a ceremony by their beginning, then initials, read one at a time.
+-- The stays of a ceremony by their beginning, then initials, read one at a time, and the name of a person.
 use Rattle.std.proofs.Common.{◌≡◌, ℕ, pos, arith, ◌&&◌, ◌||◌, ◌==◌, nat_lt, not, Bool, true, false, cond, List, [], ◌∷◌, ◌++◌, map, filter, codes, slice_get}
-use Rattle.std.proofs.Common.{Option, Some, None, Ordering, Less, Equal, Greater, is_lt, refl, sym, ap, ap₂, subst, ◌∙◌}
+use Rattle.std.proofs.Common.{option_map, unwrap_or, inl, Option, Some, None, Ordering, Less, Equal, Greater, is_lt, refl, sym, ap, ap₂, subst, ◌∙◌}
 use Rattle.std.specs.List.{AllByRecursion, list_all}
 use Rattle.std.specs.Ordering.{is_eq, nat_cmp, then_cmp, ordering_then, ordering_reverse}
 use Rattle.std.specs.Cmp.{IsTotalOrder, tied_then}
 use Rattle.std.specs.Cmp.Lexicographic.{slice_cmp}
+use Rattle.std.specs.Option.{option_to_list}
 use Rattle.std.specs.List.Sorted.{IsPermutation}
 use Rattle.std.proofs.Math.Bool.{and_comm}
 use Rattle.std.proofs.lemmas.Bool.{and_parts, eqb-true}
@@ -19,7 +20,10 @@ use Rattle.sqlite.specs.Ops.{binary}
 use Rattle.sqlite.specs.Collation.TheVariants.{Binary}
 use Rattle.sqlite.specs.Tree.{Trees, IsAscending}
 use Rattle.sqlite.specs.Listing.{understood}
-use Rattle.sqlite_keyed.proofs.ListLemmas.{all_from_test}
+use Rattle.std.proofs.lemmas.Slice.Eq.{bytes_eq-Decides}
+use Rattle.sqlite_keyed.proofs.ListLemmas.{all_from_test, slice_get-filter}
+use Rattle.sqlite_rules.specs.Lists.{Has}
+use Rattle.kcr_base.specs.Same.{same_text}
 use Rattle.sqlite_keyed.proofs.SortLemmas.{sorted_unique}
 use Rattle.sqlite_sql.specs.declared.ops.BinaryOp.TheVariants.{Compare}
 use Rattle.sqlite_sql.specs.declared.ops.CompareOp.TheVariants.{Eq, Gt}
@@ -29,19 +33,23 @@ use Rattle.sqlite_tied.specs.Compute.{everything}
 use Rattle.sqlite_trees.proofs.ListLemmas.{all_both, all_weaker, filter_none, ascending_weaker, ascending_from_map, ascending-filter, IsPermutation-filter}
 use Rattle.kcr_rows.specs.Keyed.{by_key}
 use Rattle.kcr_rows.proofs.FilterLemmas.{filter_as}
-use Rattle.kcr_cells.specs.Rows.{stay_row}
+use Rattle.kcr_rows.proofs.PutLemmas.{has_same}
+use Rattle.kcr_cells.specs.Rows.{person_row, stay_row}
+use Rattle.kcr_people.specs.declared.Person.{Person}
 use Rattle.kcr_room.proofs.Listed.{attendance-moves, attendance-listed}
 use Rattle.kcr_room.proofs.Lists.{filter-and}
 use Rattle.kcr_room.specs.Stays.{is_listed_before, are_listed, attendance_in_by}
 use Rattle.kcr_room.specs.declared.Stay.{Stay}
+use Rattle.kcr_history.specs.Prints.{name_of}
 use Rattle.kcr_history.specs.Tables as machine
 use Rattle.kcr_tables.specs.Held.{stays_place}
 use Rattle.kcr_tables.specs.Joint.{KeepsTables}
 use Rattle.kcr_tables.specs.StaysLaws as laws
+use Rattle.kcr_tables.proofs.HasLemmas.{has_right, filter_from, filter_to, filter_is, one_key_of}
 use Rattle.kcr_reading.specs.First.{Choice, ShowsFirst, IsFirst, bound_of}
 use Rattle.kcr_reading.specs.ToCome.{Gives, is_behind, since_of, begins_with, begins_after, is_stay_past, listed_past}
 use Rattle.kcr_reading.proofs.ChoiceLemmas.{by_test, shows_first}
-use Rattle.kcr_reading.proofs.NumberLemmas.{number_cmp, behind_number, behind_text, equal_number, one_test, with_tests, rises_among}
+use Rattle.kcr_reading.proofs.NumberLemmas.{number_cmp, behind_number, behind_text, equal_number, one_test, with_tests, text_key, rises_among}
 use Rattle.kcr_reading.proofs.OrderLemmas.{later, moved, apart_on, sorted, gives_first}
 
 -- ---- the order
@@ -250,3 +258,35 @@ pub next_listed : (ceremony : ℕ) (last : Option Stay) (m : machine.Tables) {db
     → Gives (listed_past last ceremony m) found (listed_past (moved listed listed_total (λ (s : Stay). s) last found) ceremony m)
 next_listed ceremony last m k found first =
     gives_first listed listed_total (λ (s : Stay). s) is_stay_past past_later last (those ceremony m) (rise_here ceremony m k) found first
+
+-- ---- the name of the one person with these initials
+
+named : (who : List ℕ) (m : machine.Tables) {db : Trees} (k : KeepsTables m db) (rows rest : List Person) (person : Person)
+    → rows ≡ filter (λ row. same_text row.who who) k.t.people → rows ≡ rest ++ (person ∷ []) → person.name ≡ name_of m.people who
+named who m k rows rest person are ends =
+    let mine : Person → Bool = λ row. same_text row.who who in
+    let among : Has (filter mine k.t.people) person = subst (λ (l : List Person). Has l person) (sym ends ∙ are) (has_right rest (person ∷ []) person (inl refl)) in
+    let here : Has k.t.people person = filter_from mine k.t.people person among in
+    let is : person.who ≡ who = (bytes_eq-Decides person.who who).0 (filter_is mine k.t.people person among) in
+    let here_too : Has m.people person = has_same k.t.people m.people person (IsPermutation-sym _ _ k.stands.people) here in
+    let there : Has (filter mine m.people) person = filter_to mine m.people person here_too (filter_is mine k.t.people person among) in
+    let found : slice_get (filter mine m.people) 0 ≡ Some person = first (filter mine m.people) refl there here is in
+    ap (λ (o : Option Person). unwrap_or (option_map (λ row. row.name) o) []) (sym found ∙ slice_get-filter mine m.people)
+  where
+    first : (l : List Person) → filter (λ row. same_text row.who who) m.people ≡ l → Has l person → Has k.t.people person → person.who ≡ who → slice_get l 0 ≡ Some person
+    first [] e has here is = absurd has
+    first (x ∷ more) e has here is =
+        let in_all : Has (filter (λ row. same_text row.who who) m.people) x = subst (λ (l : List Person). Has l x) (sym e) (inl refl) in
+        let in_table : Has k.t.people x = has_same m.people k.t.people x k.stands.people (filter_from (λ row. same_text row.who who) m.people x in_all) in
+        let same : x.who ≡ person.who = (bytes_eq-Decides x.who who).0 (filter_is (λ row. same_text row.who who) m.people x in_all) ∙ sym is in
+        let tie : is_eq (by_key 1 (person_row x) (person_row person)) ≡ true =
+        ap is_eq (text_key x.who person.who [] [] ∙ ap (λ w. slice_cmp nat_cmp w person.who) same ∙ tied_itself nat_list_cmp_total person.who) in
+        ap Some (one_key_of 1 person_row k.t.people k.kept.people.rising x person in_table here tie)
+
+pub named_last : (who : List ℕ) (m : machine.Tables) {db : Trees} (k : KeepsTables m db) (rows rest : List Person) (found : Option Person) (name : List ℕ)
+    → rows ≡ filter (λ row. same_text row.who who) k.t.people → rows ≡ rest ++ option_to_list found → option_map (λ row. row.name) found ≡ Some name
+    → name ≡ name_of m.people who
+named_last who m k rows rest None name are ends is = absurd (cc)
+named_last who m k rows rest (Some person) name are ends is =
+    let same : name ≡ person.name = cc in
+    same ∙ named who m k rows rest person are ends
