@@ -1,4 +1,3 @@
-mod AttendanceLemmas
 mod CsvLemmas
 mod LineLemmas
 mod PartLemmas

@@ -73,10 +73,6 @@ told_then x y z r p q =
 
 -- PARTS
 
-err_is : {T E : Type 0} (r : Result T E) (e : E) → IsErrAnd r (λ fault. fault ≡ e) → r ≡ Err e
-err_is (Ok v) e h = absurd h
-err_is (Err x) e h = ap Err h
-
 pub keeps_refl : {S : Type 0} (a : Seen S) → KeepsHistory a a
 keeps_refl a = record { accepted = refl; torn = refl; founded = refl }
 
@@ -125,7 +121,8 @@ module _ {S W : Type 0} {g : Ghosts S} {contents : W → Option (List ℕ)} {D :
   -- the error that is handed on
   pub puts_err : {a b : Seen S} {x y : Counted W} {t : History → List ℕ} (r : Result ⊤ PrintFault) (e : PrintFault) → IsErrAnd r (λ fault. fault ≡ e)
       → Puts g contents a b x y (Err e) D M t → Puts g contents a b x y r D M t
-  puts_err {a} {b} {x} {y} {t} r e is p = subst (λ (o : Result ⊤ PrintFault). Puts g contents a b x y o D M t) (sym (err_is r e is)) p
+  puts_err (Ok v) e is p = absurd is
+  puts_err {a} {b} {x} {y} {t} (Err f) e is p = subst (λ (o : PrintFault). Puts g contents a b x y (Err o) D M t) (sym is) p
 
   -- a part that nothing denies
   pub puts_weaker : {a b : Seen S} {x y : Counted W} {r : Result ⊤ PrintFault} {t : History → List ℕ}
@@ -142,11 +139,11 @@ module _ {S W : Type 0} {g : Ghosts S} {contents : W → Option (List ℕ)} {D :
 
 module _ {S W : Type 0} {g : Ghosts S} {contents : W → Option (List ℕ)} where
   -- a call on the register, and then a text that is written
-  pub puts_line : {D : History → Refusal → Type 0} {M : Refusal → Type 0} {a b : Seen S} {x y : Counted W} {r : Result ⊤ PrintFault} (line : List ℕ) {t : History → List ℕ}
+  pub puts_line : {D : History → Refusal → Type 0} {M : Refusal → Type 0} {a b : Seen S} {x y : Counted W} {r : Result ⊤ PrintFault} {t : History → List ℕ} (line : List ℕ)
       → OfHistory g a b (λ A. line ≡ t A) → KeepsHistory a b → (HasCleanDisk (state g b.conn) → HasCleanDisk (state g a.conn)) → IsKept g b
       → Writes r (contents (inner_of x)) (contents (inner_of y)) line → IfErr r (Stops (λ _. ⊥)) → TellsWrites x y r
       → Puts g contents a b x y r D M t
-  puts_line {D} {M} {a} {b} {x} {y} {r} line {t} same keeps clean kept written cause told = record {
+  puts_line {D} {M} {a} {b} {x} {y} {r} {t} line same keeps clean kept written cause told = record {
     printed = λ founded torn now.
         let P : List ℕ → Type 0 = λ text. IsPrinted (D a.accepted) text r (contents (inner_of x)) (contents (inner_of y)) in
         subst P (same founded torn now) (printed_of (D a.accepted) r _ _ line written cause);

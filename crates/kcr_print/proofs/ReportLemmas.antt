@@ -1,7 +1,17 @@
 -- The texts of the rows that are read are the parts of the reports.
-use Rattle.std.proofs.Common.{◌≡◌, ℕ, cond, List, [], ◌∷◌, ◌++◌, map, filter, reverse, refl, ap, ◌∙◌}
+use Rattle.std.proofs.Common.{◌≡◌, ℕ, false, List, [], ◌∷◌, ◌++◌, map, filter, reverse, refl, ap, ◌∙◌}
+use Rattle.std.specs.Prelude.{None, IsTrue}
 use Rattle.std.specs.List.{flat_map}
+use Rattle.std.specs.Coded.{coded_ℕ, coded_list}
+use base.Stored.{Coded-set}
+use Rattle.std.proofs.Math.Logic.{∥∥₁_elim}
+use Rattle.std.proofs.lemmas.List.Sorted.{IsPermutation-trans, IsPermutation-reverse}
 use Rattle.std.proofs.lemmas.List.Folds.{flat_map-map}
+use Rattle.sqlite.specs.Held.{state}
+use Rattle.sqlite.specs.State.{HasCleanDisk}
+use Rattle.sqlite.specs.Store.{Ghosts}
+use Rattle.sqlite.specs.Tree.{Trees}
+use Rattle.sqlite_trees.proofs.ListLemmas.{flat_map-filter, flat_map_same_on}
 use Rattle.kcr_custody.specs.Custody.{lies_in}
 use Rattle.kcr_custody.specs.Spots.{spot_text}
 use Rattle.kcr_custody.specs.declared.Bag.{Bag}
@@ -16,12 +26,14 @@ use Rattle.kcr_history.specs.declared.rows.StepRow.{StepRow}
 use Rattle.kcr_history.specs.declared.rows.StepState.TheVariants.{Undone, Signed, Passed}
 use Rattle.kcr_history.specs.Prints.{line_of, step_lines, steps_in_order, stay_line, bag_lines, items_in_order, bags_in_order, loose_line, seated_at}
 use Rattle.kcr_reading.specs.ToCome.{with_seated, seated_steps, with_name, named_stays, with_items, packed_bags, is_loose, loose_items}
+use Rattle.kcr_tables.specs.Joint.{KeepsTables}
+use Rattle.kcr_reading.proofs.StayLemmas.{one_attendance}
+use Rattle.kcr_store.specs.Register.{Seen, IsKept}
 use Rattle.kcr_print.specs.Lines.{seated_lines, named_line, packed_lines, code_line}
 
 -- lines that are the same row by row
 lines_along : {X Y : Type 0} (f : X → List ℕ) (g : Y → List ℕ) (v : Y → X) → ((y : Y) → f (v y) ≡ g y) → (ys : List Y) → flat_map f (map v ys) ≡ flat_map g ys
-lines_along f g v same [] = refl
-lines_along f g v same (y ∷ ys) = ap (λ t. f (v y) ++ t) (lines_along f g v same ys) ∙ ap (λ t. t ++ flat_map g ys) (same y)
+lines_along f g v same ys = flat_map-map f v ys ∙ flat_map_same_on (λ y. f (v y)) g same ys
 
 -- a step with its people
 seated_is : (rows : List SeatingRow) (row : StepRow) → seated_lines (record { step = row; seated = seated_at rows row.ceremony row.step }) ≡ step_lines rows row
@@ -39,21 +51,32 @@ packed_is items bag =
 pub steps_text : (A : History) (ceremony : ℕ) → flat_map seated_lines (seated_steps ceremony (tables A)) ≡ flat_map (step_lines (seatings A)) (steps_in_order A ceremony)
 steps_text A ceremony = lines_along seated_lines (step_lines (seatings A)) (with_seated (seatings A)) (seated_is (seatings A)) (steps_in_order A ceremony)
 
-pub stays_text : (A : History) (ceremony : ℕ) → flat_map named_line (named_stays ceremony (tables A)) ≡ flat_map (stay_line (people A)) (attendance_in_by (reverse (stays_by (sheet A))) ceremony)
+stays_text : (A : History) (ceremony : ℕ) → flat_map named_line (named_stays ceremony (tables A)) ≡ flat_map (stay_line (people A)) (attendance_in_by (reverse (stays_by (sheet A))) ceremony)
 stays_text A ceremony = lines_along named_line (stay_line (people A)) (with_name (people A)) (λ stay. refl) (attendance_in_by (reverse (stays_by (sheet A))) ceremony)
 
 pub bags_text : (A : History) → flat_map packed_lines (packed_bags (tables A)) ≡ flat_map (bag_lines (items_in_order A)) (bags_in_order A)
 bags_text A = lines_along packed_lines (bag_lines (items_in_order A)) (with_items (items_in_order A)) (packed_is (items_in_order A)) (bags_in_order A)
 
 -- an item that is in a bag has no line
-loose_more : (item : Item) (rest : List Item) → flat_map loose_line (cond (is_loose item) (item ∷ rest) rest) ≡ loose_line item ++ flat_map loose_line rest
-loose_more item rest =
-    elim item.rest as (λ r. flat_map loose_line (cond (is_loose (record item { rest = r })) (record item { rest = r } ∷ rest) rest) ≡ loose_line (record item { rest = r }) ++ flat_map loose_line rest)
-    [ Loose facility ↦ refl | Within serial ↦ refl ]
-
-loose_is : (items : List Item) → flat_map loose_line (filter is_loose items) ≡ flat_map loose_line items
-loose_is [] = refl
-loose_is (item ∷ items) = loose_more item (filter is_loose items) ∙ ap (λ t. loose_line item ++ t) (loose_is items)
+bagged : (item : Item) → is_loose item ≡ false → loose_line item ≡ []
+bagged item = elim item.rest as (λ r. is_loose (record item { rest = r }) ≡ false → loose_line (record item { rest = r }) ≡ []) [ Loose facility ↦ λ no. absurd (cc no) | Within serial ↦ λ _. refl ]
 
 pub loose_text : (A : History) → flat_map loose_line (loose_items (tables A)) ≡ flat_map loose_line (items_in_order A)
-loose_text A = loose_is (items_in_order A)
+loose_text A = flat_map-filter loose_line is_loose bagged (items_in_order A)
+
+-- THE ATTENDANCE
+
+-- by the table of stays, in whatever order it has them, it is that of the sheet
+attendance_text : (A : History) (db : Trees) → KeepsTables (tables A) db → (ceremony : ℕ)
+    → flat_map named_line (named_stays ceremony (tables A)) ≡ flat_map (stay_line (people A)) (attendance_in_by (stays_by (sheet A)) ceremony)
+attendance_text A db k ceremony =
+    let sheets = IsPermutation-trans _ _ _ (IsPermutation-reverse (stays_by (sheet A))) k.stands.stays in
+    stays_text A ceremony ∙ ap (flat_map (stay_line (people A))) (one_attendance ceremony sheets k.stands.stays k.kept.stays.rising)
+
+-- so it is with every register: its file holds the tables, whatever a crash may leave
+pub register_attendance : {S : Type 0} (g : Ghosts S) (r : Seen S) → IsKept g r → (HasCleanDisk (state g r.conn) → ∥ ((db : Trees) × (state g r.conn).may_leave db) ∥₁)
+    → IsTrue r.is_founded → r.torn ≡ None → HasCleanDisk (state g r.conn) → (ceremony : ℕ)
+    → flat_map named_line (named_stays ceremony (tables r.accepted)) ≡ flat_map (stay_line (people r.accepted)) (attendance_in_by (stays_by (sheet r.accepted)) ceremony)
+register_attendance g r kept left founded torn clean ceremony =
+    let whole = kept.whole founded torn in
+    ∥∥₁_elim (left clean) (Coded-set (coded_list coded_ℕ) _ _) (λ found. attendance_text r.accepted found.0 (whole.crash clean found.0 found.1).kept ceremony)

@@ -6,9 +6,8 @@ use Rattle.kcr_history.specs.Prints.{stay_line}
 use Rattle.kcr_history.specs.Room.{sheet}
 use Rattle.kcr_history.specs.Tables.{people, tables}
 use Rattle.kcr_reading.specs.ToCome.{named_stays}
-use Rattle.kcr_store.specs.Rows.{IsNotPlanned, NamesCeremony}
 use Rattle.kcr_print.specs.Lines.{header_line, named_line}
-use Rattle.kcr_print.proofs.AttendanceLemmas.{register_attendance}
+use Rattle.kcr_print.proofs.ReportLemmas.{register_attendance}
 use Rattle.kcr_print.proofs.PartLemmas.{on_ok, not_ok, puts_then, puts_more, puts_err, puts_weaker, puts_text, puts_line, puts_nothing}
 use Rattle.kcr_print.proofs.parts.put_attendance.Goals as goal
 

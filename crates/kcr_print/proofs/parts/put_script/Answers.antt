@@ -1,20 +1,9 @@
 use Rattle.std.proofs.Common.{◌≡◌, ℕ, List, ap}
-use Rattle.std.specs.Prelude.{⊤, Option, Result, IfErr}
 use Rattle.std.specs.List.{flat_map}
-use Rattle.sqlite.specs.Store.{Ghosts}
-use Rattle.sqlite.specs.Held.{state}
-use Rattle.sqlite.specs.State.{HasCleanDisk}
-use Rattle.kcr_base.specs.Counted.{inner_of}
-use Rattle.kcr_base.specs.declared.counted.Counted.{Counted}
 use Rattle.kcr_history.specs.History.{History}
 use Rattle.kcr_history.specs.Prints as report
 use Rattle.kcr_history.specs.Tables.{ceremony_row, seatings}
-use Rattle.kcr_history.specs.declared.rows.CeremonyRow.{CeremonyRow}
-use Rattle.kcr_store.specs.Register.{Seen, IsKept}
-use Rattle.kcr_store.specs.Rows.{IsNotPlanned, IsRowOf, KeepsHistory, NamesCeremony, OfHistory}
-use Rattle.kcr_print.specs.Reports.{Stops, TellsWrites, Puts}
-use Rattle.kcr_print.specs.Written.{Writes}
-use Rattle.kcr_print.specs.declared.fault.PrintFault.{PrintFault}
+use Rattle.kcr_store.specs.Rows.{IsNotPlanned, NamesCeremony}
 use Rattle.kcr_print.specs.Lines.{head_lines, foot_lines}
 use Rattle.kcr_print.proofs.PartLemmas.{on_ok, not_ok, keeps_refl, of_later, puts_then, puts_more, puts_err, puts_weaker, puts_line, puts_nothing}
 use Rattle.kcr_print.proofs.parts.put_script.Goals as goal
@@ -31,13 +20,6 @@ exceptions ceremony A = flat_map report.exception_line (report.exceptions_in_ord
 abbrev foot : ℕ → History → List ℕ
 foot ceremony A = foot_lines (ceremony_row A ceremony)
 
--- the lines before the first step
-begins : {S W : Type 0} {g : Ghosts S} {contents : W → Option (List ℕ)} {a b : Seen S} {x y : Counted W} {r : Result ⊤ PrintFault} (row : CeremonyRow) (ceremony : ℕ)
-    → OfHistory g a b (λ A. IsRowOf A ceremony row) → KeepsHistory a b → (HasCleanDisk (state g b.conn) → HasCleanDisk (state g a.conn)) → IsKept g b
-    → Writes r (contents (inner_of x)) (contents (inner_of y)) (head_lines row) → IfErr r (Stops (λ _. ⊥)) → TellsWrites x y r
-    → Puts g contents a b x y r (λ A. IsNotPlanned A ceremony) (NamesCeremony ceremony) (head ceremony)
-begins row ceremony is = puts_line (head_lines row) (λ founded torn clean. ap head_lines (is founded torn clean).row_is)
-
 pub returns-in_err-row-clause-puts : goal.returns-in_err-row-clause-puts
 returns-in_err-row-clause-puts g c =
     let said = c.in_err-row.ensures in
@@ -50,7 +32,8 @@ returns-in_err-put_row-clause-puts g c =
     let row = c.in_ok-row.ensures in
     let said = c.in_err-put_row.ensures in
     puts_more (foot n) fault.0 (puts_more (exceptions n) fault.0 (puts_more (steps n) fault.0 (puts_err _ _ fault.1
-    (begins c.in_ok-row.row n row.row row.same row.clean row.kept said.written said.cause said.told))))
+    (puts_line {t = head n} (head_lines c.in_ok-row.row) (λ founded torn clean. ap head_lines (row.row founded torn clean).row_is)
+    row.same row.clean row.kept said.written said.cause said.told))))
 
 pub returns-in_err-put_steps-clause-puts : goal.returns-in_err-put_steps-clause-puts
 returns-in_err-put_steps-clause-puts g c =
@@ -58,7 +41,8 @@ returns-in_err-put_steps-clause-puts g c =
     let fault = c.from_residual-in_err-put_steps.ensures in
     let row = c.in_ok-row.ensures in
     let said = c.in_ok-put_row.ensures in
-    let begun = begins c.in_ok-row.row n row.row row.same row.clean row.kept said.written said.cause said.told in
+    let begun = puts_line {D = λ A. IsNotPlanned A n} {M = NamesCeremony n} {t = head n} (head_lines c.in_ok-row.row)
+    (λ founded torn clean. ap head_lines (row.row founded torn clean).row_is) row.same row.clean row.kept said.written said.cause said.told in
     puts_more (foot n) fault.0 (puts_more (exceptions n) fault.0 (puts_err _ _ fault.1 (puts_then begun (puts_weaker c.in_err-put_steps.ensures))))
 
 pub returns-in_err-put_exceptions-clause-puts : goal.returns-in_err-put_exceptions-clause-puts
@@ -67,7 +51,8 @@ returns-in_err-put_exceptions-clause-puts g c =
     let fault = c.from_residual-in_err-put_exceptions.ensures in
     let row = c.in_ok-row.ensures in
     let said = c.in_ok-put_row.ensures in
-    let begun = begins c.in_ok-row.row n row.row row.same row.clean row.kept said.written said.cause said.told in
+    let begun = puts_line {D = λ A. IsNotPlanned A n} {M = NamesCeremony n} {t = head n} (head_lines c.in_ok-row.row)
+    (λ founded torn clean. ap head_lines (row.row founded torn clean).row_is) row.same row.clean row.kept said.written said.cause said.told in
     puts_more (foot n) fault.0 (puts_err _ _ fault.1 (puts_then (puts_then begun (puts_weaker c.in_ok-put_steps.ensures)) (puts_weaker c.in_err-put_exceptions.ensures)))
 
 pub returns-clause-puts : goal.returns-clause-puts
@@ -77,7 +62,8 @@ returns-clause-puts g c =
     let said = c.in_ok-put_row.ensures in
     let end = c.put_row-2.ensures in
     let after = c.put_exceptions.new.register in
-    let begun = begins c.in_ok-row.row n row.row row.same row.clean row.kept said.written said.cause said.told in
+    let begun = puts_line {D = λ A. IsNotPlanned A n} {M = NamesCeremony n} {t = head n} (head_lines c.in_ok-row.row)
+    (λ founded torn clean. ap head_lines (row.row founded torn clean).row_is) row.same row.clean row.kept said.written said.cause said.told in
     let most = puts_then (puts_then begun (puts_weaker c.in_ok-put_steps.ensures)) (puts_weaker c.in_ok-put_exceptions.ensures) in
     let Says : History → Type 0 = λ A. foot_lines c.in_ok-row.row ≡ foot n A in
     let is = of_later g.S.Store c.args.register.now c.ceremony_row.new.self after Says most.keeps (λ h. c.in_ok-put_steps.ensures.clean (c.in_ok-put_exceptions.ensures.clean h))
