@@ -49,7 +49,8 @@ number_params ceremony last = Int (pos ceremony) ∷ Int (bound_of last) ∷ []
 abbrev pub numbered : ℕ → Option ℕ → Choice
 numbered ceremony last = by_test 2 number_test (number_params ceremony last)
 
-module _ {X : Type 0} (row_of : X → Row) (ceremony_of number_of : X → ℕ) (row_is : (x : X) → row_of x ≡ Int (pos (ceremony_of x)) ∷ Int (pos (number_of x)) ∷ drop 2 (row_of x)) where
+module _ {X : Type 0} (row_of : X → Row) (ceremony_of number_of : X → ℕ)
+    (row_is : (x : X) → row_of x ≡ Int (pos (ceremony_of x)) ∷ Int (pos (number_of x)) ∷ drop 2 (row_of x)) where
   abbrev is_of : ℕ → X → Bool
   is_of ceremony x = ceremony_of x == ceremony
 
@@ -62,7 +63,8 @@ module _ {X : Type 0} (row_of : X → Row) (ceremony_of number_of : X → ℕ) (
 
   among : (ceremony : ℕ) (a b : X) → is_of ceremony a ≡ true → is_of ceremony b ≡ true → by_key 2 (row_of a) (row_of b) ≡ nat_cmp (number_of a) (number_of b)
   among ceremony a b p q =
-      (λ i. by_key 2 (row_is a i) (row_is b i)) ∙ same_ceremony ceremony (ceremony_of a) (ceremony_of b) (number_of a) (number_of b) (drop 2 (row_of a)) (drop 2 (row_of b)) p q
+      (λ i. by_key 2 (row_is a i) (row_is b i)) ∙ same_ceremony ceremony (ceremony_of a) (ceremony_of b) (number_of a) (number_of b) (drop 2 (row_of a))
+      (drop 2 (row_of b)) p q
 
   chosen : (ceremony : ℕ) (last : Option ℕ) (x : X) → (numbered ceremony last).passes (row_of x) ≡ (is_of ceremony x && past last x)
   unfolding binary
@@ -85,9 +87,10 @@ module _ {X : Type 0} (row_of : X → Row) (ceremony_of number_of : X → ℕ) (
 
 -- ---- exceptions
 
-pub exceptions_shown : (ceremony : ℕ) (last : Option ℕ)
-    → ShowsFirst (codes "SELECT ceremony, exception, text, at, passed FROM exceptions WHERE ceremony = ?1 AND exception > ?2 ORDER BY ceremony, exception LIMIT 1")
-    exceptions_place (number_params ceremony last) (numbered ceremony last)
+abbrev pub exceptions_text : List ℕ
+exceptions_text = codes "SELECT ceremony, exception, text, at, passed FROM exceptions WHERE ceremony = ?1 AND exception > ?2 ORDER BY ceremony, exception LIMIT 1"
+
+pub exceptions_shown : (ceremony : ℕ) (last : Option ℕ) → ShowsFirst exceptions_text exceptions_place (number_params ceremony last) (numbered ceremony last)
 unfolding understood everything
 exceptions_shown ceremony last =
     shows_first number_test exceptions.project ((col 1 1, ascending Binary) ∷ (col 1 2, ascending Binary) ∷ []) exceptions.names
@@ -96,13 +99,15 @@ exceptions_shown ceremony last =
 pub next_exception : (ceremony : ℕ) (last : Option ℕ) (m : machine.Tables) {db : Trees} (k : KeepsTables m db) (found : Option ExceptionRow)
     → IsFirst exception_row (numbered ceremony last) k.t.exceptions found
     → Gives (exceptions_past last ceremony m) found (exceptions_past (moved nat_cmp nat_cmp_total (λ (x : ExceptionRow). x.exception) last found) ceremony m)
-next_exception ceremony last m k = next exception_row (λ x. x.ceremony) (λ x. x.exception) (λ x. refl) ceremony last k.stands.exceptions k.kept.exceptions.rising
+next_exception ceremony last m k =
+    next exception_row (λ x. x.ceremony) (λ x. x.exception) (λ x. refl) ceremony last k.stands.exceptions k.kept.exceptions.rising
 
 -- ---- steps
 
-pub steps_shown : (ceremony : ℕ) (last : Option ℕ)
-    → ShowsFirst (codes "SELECT ceremony, step, activity, seats, state, at FROM steps WHERE ceremony = ?1 AND step > ?2 ORDER BY ceremony, step LIMIT 1")
-    steps_place (number_params ceremony last) (numbered ceremony last)
+abbrev pub steps_text : List ℕ
+steps_text = codes "SELECT ceremony, step, activity, seats, state, at FROM steps WHERE ceremony = ?1 AND step > ?2 ORDER BY ceremony, step LIMIT 1"
+
+pub steps_shown : (ceremony : ℕ) (last : Option ℕ) → ShowsFirst steps_text steps_place (number_params ceremony last) (numbered ceremony last)
 unfolding understood everything
 steps_shown ceremony last =
     shows_first number_test steps.project ((col 1 1, ascending Binary) ∷ (col 1 2, ascending Binary) ∷ []) steps.names
@@ -154,9 +159,11 @@ pub seated : (ceremony step : ℕ) (old new : State) (rows : List SeatingRow) (m
 seated ceremony step old new rows m t held stands h =
     let at = is_at ceremony step in
     let there : rows ≡ filter at t.seatings =
-    rows_shown seating_text seatings_place _ (passes ceremony step) (seating_shows ceremony step) seating_row (λ _. Unit {0}) (λ _. Unit {0}) seatings.one at (passes_at ceremony step)
+    rows_shown seating_text seatings_place _ (passes ceremony step) (seating_shows ceremony step) seating_row (λ _. Unit {0}) (λ _. Unit {0}) seatings.one at
+    (passes_at ceremony step)
     old new rows held.schema h (each_is rows) t.seatings (each_is t.seatings) held.kept.seatings in
     let rising = rise seating_row nat_cmp nat_cmp_total (λ x. x.seat) (λ l x. is_past l x.seat) (number_later (λ x. x.seat)) 3 at
     (λ a b. same_step ceremony step a.ceremony a.step b.ceremony b.step a.seat b.seat [] []) t.seatings held.kept.seatings.rising in
-    let order : seatings_at m.seatings ceremony step ≡ filter at t.seatings = numbers_ordered (λ (x : SeatingRow). x.seat) _ _ (IsPermutation-filter at _ _ stands.seatings) rising in
+    let order : seatings_at m.seatings ceremony step ≡ filter at t.seatings = numbers_ordered (λ (x : SeatingRow). x.seat) _ _
+    (IsPermutation-filter at _ _ stands.seatings) rising in
     ap (map (λ (row : SeatingRow). row.who)) (there ∙ sym order)

@@ -1,5 +1,6 @@
 -- Rows of a table, read one at a time: what a text chooses, and which of them comes next.
-use Rattle.std.proofs.Common.{◌≡◌, ℕ, ◌^◌, ◌&&◌, nat_le, Bool, true, false, List, [], ◌∷◌, map, filter, take, slice_get, Option, Some, Ordering, Less, Result, Ok, sym, ap, subst, ◌∙◌}
+use Rattle.std.proofs.Common.{◌≡◌, ℕ, ◌^◌, ◌&&◌, nat_le, Bool, true, false, List, [], ◌∷◌, map, filter, take, slice_get, Option, Some, Ordering, Less, Result}
+use Rattle.std.proofs.Common.{Ok, sym, ap, subst, ◌∙◌}
 use Rattle.std.specs.Prelude.{IfOk}
 use Rattle.std.specs.List.{list_all}
 use Rattle.std.specs.Cmp.{IsTotalOrder}
@@ -54,7 +55,8 @@ shows_first test project order names is bare shows tests sorts low =
     record { test = test; project = project; order = order; names = names; is = is; bare = bare; shows = shows; tests = tests; sorts = sorts; low = low }
 
 -- the text chooses the same by other words for its parameters
-pub shown_by : {sql : List ℕ} {place : Place} {params given : Row} {choice : Choice} → ShowsFirst sql place params choice → given ≡ params → ShowsFirst sql place given choice
+pub shown_by : {sql : List ℕ} {place : Place} {params given : Row} {choice : Choice} → ShowsFirst sql place params choice → given ≡ params
+    → ShowsFirst sql place given choice
 shown_by {sql} {place} {choice = choice} shown is = subst (λ v. ShowsFirst sql place v choice) (sym is) shown
 
 -- ---- calls
@@ -66,7 +68,8 @@ pub by_tables : {A Clean : Type 0} {db : Database} (r : Result A Refusal) (Found
 by_tables {db = db} r Found Says found says clean m h = if_ok _ _ (says m h.tables) r (found clean h.tables.t (held_of m db h))
 
 -- the tables that were held are held after a call that read them
-pub still_held : {A : Type 0} (m : machine.Tables) (old mid : State) (a : A) → Reads old mid (Ok a) → HasCleanDisk mid → HoldsTables m old.now → HoldsTables m mid.now
+pub still_held : {A : Type 0} (m : machine.Tables) (old mid : State) (a : A) → Reads old mid (Ok a) → HasCleanDisk mid → HoldsTables m old.now
+    → HoldsTables m mid.now
 still_held m old mid a read clean h = tables_of m mid.now h.tables.t h.tables.stands (read.holds clean h.tables.t (held_of m old.now h))
 
 -- what is made of the row that was found is the next of what is made of the rows
@@ -97,7 +100,8 @@ module _ {X K : Type 0} (row_of : X → Row) (compare : K → K → Ordering) (t
         → (found : Option X) → IsFirst row_of (by_test keys terms params) ts found → found ≡ slice_get (come last) 0
     first_come terms params chosen found first =
         let chooses = filter_as _ _ chosen ts ∙ sym (filter-and test (past last) ts) in
-        first (filter (past last) (filter test ts)) (IsPermutation-same _ _ chooses) (ascending-filter ByKey (past last) _ (ascending-filter ByKey test ts by_keys))
+        first (filter (past last) (filter test ts)) (IsPermutation-same _ _ chooses)
+        (ascending-filter ByKey (past last) _ (ascending-filter ByKey test ts by_keys))
         ∙ ap (λ l. slice_get l 0) (sym (come_is last))
 
     -- it is the next row, and the others come behind it

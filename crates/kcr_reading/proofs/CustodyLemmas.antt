@@ -1,5 +1,6 @@
 -- The bags, the loose items and the safes, read one at a time in order, and the items of one bag.
-use Rattle.std.proofs.Common.{◌≡◌, ℕ, ◌+◌, ◌*◌, ◌&&◌, pos, Bool, true, List, [], ◌∷◌, map, filter, drop, codes, slice_get, Option, Some, None, Less, Equal, arith, refl, sym, ap, subst, ◌∙◌}
+use Rattle.std.proofs.Common.{◌≡◌, ℕ, ◌+◌, ◌*◌, ◌&&◌, pos, Bool, true, List, [], ◌∷◌, map, filter, drop, codes, slice_get, Option, Some, None, Less, Equal}
+use Rattle.std.proofs.Common.{arith, refl, sym, ap, subst, ◌∙◌}
 use Rattle.std.specs.List.Sorted.{IsPermutation}
 use Rattle.std.specs.Ordering.{is_eq, nat_cmp, ordering_then}
 use Rattle.std.specs.Cmp.Lexicographic.{slice_cmp}
@@ -53,7 +54,8 @@ abbrev behind_params : Option (List ℕ) → Row
 behind_params None = []
 behind_params (Some last) = Text last ∷ []
 
-is_tested : (last : Option (List ℕ)) (text : List ℕ) (more : Row) → (by_test 1 (behind_test last) (behind_params last)).passes (Text text ∷ more) ≡ is_behind last text
+is_tested : (last : Option (List ℕ)) (text : List ℕ) (more : Row)
+    → (by_test 1 (behind_test last) (behind_params last)).passes (Text text ∷ more) ≡ is_behind last text
 unfolding binary
 is_tested None text more = refl
 is_tested (Some last) text more = one_test _ ∙ behind_text last text
@@ -114,12 +116,14 @@ first_bag last m k =
     first_behind bag_row (λ x. x.serial) (λ x. refl) k.stands.bags k.kept.bags.rising (λ _. true) last
     (behind_test last) (behind_params last) (λ x. is_tested last x.serial _)
 
-pub next_bag : (last : Option (List ℕ)) (m : machine.Tables) {db : Trees} (k : KeepsTables m db) (found : Option Bag) → found ≡ slice_get (serials_past last m) 0
+pub next_bag : (last : Option (List ℕ)) (m : machine.Tables) {db : Trees} (k : KeepsTables m db) (found : Option Bag)
+    → found ≡ slice_get (serials_past last m) 0
     → Gives (serials_past last m) found (serials_past (moved (slice_cmp nat_cmp) nat_list_cmp_total (λ (x : Bag). x.serial) last found) m)
 next_bag last m k = next_behind bag_row (λ x. x.serial) (λ x. refl) k.stands.bags k.kept.bags.rising (λ _. true) last
 
 -- the items that lie in a bag, by code
-pub within : (serial : List ℕ) (m : machine.Tables) {db : Trees} (k : KeepsTables m db) → filter (lies_in serial) k.t.items ≡ filter (lies_in serial) (items_by_code m)
+pub within : (serial : List ℕ) (m : machine.Tables) {db : Trees} (k : KeepsTables m db)
+    → filter (lies_in serial) k.t.items ≡ filter (lies_in serial) (items_by_code m)
 within serial m k = ap (filter (lies_in serial)) (sym (are item_row (λ (x : Item). x.code) (λ x. refl) k.stands.items k.kept.items.rising))
 
 -- ---- loose items
@@ -147,10 +151,11 @@ is_chosen : (last : Option (List ℕ)) (x : Item) → (loose_choice last).passes
 unfolding binary value_cmp
 is_chosen last x = by_rest x.rest
   where
-    by_rest : (rest : Rest) → (loose_choice last).passes (item_row (record { code = x.code; rest = rest })) ≡ (is_loose (record { code = x.code; rest = rest }) && is_behind last x.code)
+    by_rest : (rest : Rest) → (loose_choice last).passes (item_row (record { code = x.code; rest = rest }))
+        ≡ (is_loose (record { code = x.code; rest = rest }) && is_behind last x.code)
     by_rest (Loose facility) =
-        ap (λ o. is_true (from_truth (Some (is_eq o))) && (bags_choice last).passes (item_row (record { code = x.code; rest = Loose facility }))) (tied_itself value_cmp_total Null)
-        ∙ is_tested last x.code _
+        let tested : Bool = (bags_choice last).passes (item_row (record { code = x.code; rest = Loose facility })) in
+        ap (λ o. is_true (from_truth (Some (is_eq o))) && tested) (tied_itself value_cmp_total Null) ∙ is_tested last x.code _
     by_rest (Within serial) = refl
 
 pub first_loose : (last : Option (List ℕ)) (m : machine.Tables) {db : Trees} (k : KeepsTables m db) (found : Option Item)
@@ -158,7 +163,8 @@ pub first_loose : (last : Option (List ℕ)) (m : machine.Tables) {db : Trees} (
 first_loose last m k =
     first_behind item_row (λ x. x.code) (λ x. refl) k.stands.items k.kept.items.rising is_loose last (loose_test last) (behind_params last) (is_chosen last)
 
-pub next_loose : (last : Option (List ℕ)) (m : machine.Tables) {db : Trees} (k : KeepsTables m db) (found : Option Item) → found ≡ slice_get (loose_past last m) 0
+pub next_loose : (last : Option (List ℕ)) (m : machine.Tables) {db : Trees} (k : KeepsTables m db) (found : Option Item)
+    → found ≡ slice_get (loose_past last m) 0
     → Gives (loose_past last m) found (loose_past (moved (slice_cmp nat_cmp) nat_list_cmp_total (λ (x : Item). x.code) last found) m)
 next_loose last m k = next_behind item_row (λ x. x.code) (λ x. refl) k.stands.items k.kept.items.rising is_loose last
 
@@ -166,7 +172,8 @@ next_loose last m k = next_behind item_row (λ x. x.code) (λ x. refl) k.stands.
 
 -- the key of a safe's row rises as its place does
 places_rise : (f g : Facility) (s r : SafeNumber)
-    → ordering_then (value_cmp (Text (facility_text f)) (Text (facility_text g))) (ordering_then (value_cmp (Int (pos (safe_digit s))) (Int (pos (safe_digit r)))) Equal)
+    → ordering_then (value_cmp (Text (facility_text f)) (Text (facility_text g)))
+    (ordering_then (value_cmp (Int (pos (safe_digit s))) (Int (pos (safe_digit r)))) Equal)
     ≡ nat_cmp (facility_number f * 2 + safe_digit s) (facility_number g * 2 + safe_digit r)
 places_rise f g s r = rw (value_cmp-Text (facility_text f) (facility_text g), number_cmp (safe_digit s) (safe_digit r)) (by_cases f g s r)
   where
@@ -177,7 +184,8 @@ places_rise f g s r = rw (value_cmp-Text (facility_text f) (facility_text g), nu
 
 rise : {m : machine.Tables} {db : Trees} (k : KeepsTables m db) → IsAscending (λ a b. nat_cmp (safe_place a) (safe_place b) ≡ Less) k.t.safes
 rise k =
-    ascending_weaker (λ (a b : SafeRow). by_key 2 (safe_row a) (safe_row b) ≡ Less) _ (λ a b h. sym (places_rise a.facility b.facility a.safe b.safe) ∙ h) k.t.safes
+    ascending_weaker (λ (a b : SafeRow). by_key 2 (safe_row a) (safe_row b) ≡ Less) _
+    (λ a b h. sym (places_rise a.facility b.facility a.safe b.safe) ∙ h) k.t.safes
     (ascending_from_map (λ a b. by_key 2 a b ≡ Less) safe_row k.t.safes k.kept.safes.rising)
 
 -- the first of the table's rows past the last is the next, and the others come behind it

@@ -1,5 +1,6 @@
 -- A reading of a table that gives the first row alone.
-use Rattle.std.proofs.Common.{◌≡◌, ℕ, List, [], ◌∷◌, ◌++◌, map, filter, take, length, slice_get, Option, Some, None, ◌<◌, arith, refl, sym, ap, subst, ◌∙◌, Less}
+use Rattle.std.proofs.Common.{◌≡◌, ℕ, List, [], ◌∷◌, ◌++◌, map, filter, take, length, slice_get, Option, Some, None, ◌<◌, arith, refl, sym, ap, subst, ◌∙◌}
+use Rattle.std.proofs.Common.{Less}
 use Rattle.std.specs.List.{AllByRecursion, list_all}
 use Rattle.std.specs.Option.{option_to_list}
 use Rattle.std.specs.List.Sorted.{IsPermutation}
@@ -33,13 +34,15 @@ module _ (sql : List ℕ) (place : Place) (params : Row) (choice : Choice) (s : 
   abbrev ranked : Row → Output
   ranked r = (choice.rank r, r)
 
-  first_rows : (db : Trees) (rows those : List Row) → IsPermutation (filter choice.passes (map (cells 1 place.width) (db place.tree))) those → IsAscending (λ a b. choice.compare a b ≡ Less) those
+  first_rows : (db : Trees) (rows those : List Row) → IsPermutation (filter choice.passes (map (cells 1 place.width) (db place.tree))) those
+      → IsAscending (λ a b. choice.compare a b ≡ Less) those
       → IsAnswer q (overlay db []) params rows → rows ≡ take 1 those
   first_rows db rows those same up a =
       let entries = db place.tree in
       let shown = cells 1 place.width in
       let p = λ (r : Row). list_all (holds (params ∷ r ∷ [])) s.test in
-      let staged : a.staged ≡ map (λ r. params ∷ r ∷ []) (filter p (overlay db [] place.tree)) = a.grouped ∙ matched p (λ r. params ∷ r ∷ []) (overlay db [] place.tree) in
+      let staged : a.staged ≡ map (λ r. params ∷ r ∷ []) (filter p (overlay db [] place.tree)) = a.grouped
+      ∙ matched p (λ r. params ∷ r ∷ []) (overlay db [] place.tree) in
       let over : overlay db [] place.tree ≡ entries = rw s.low in
       let same_test : filter p entries ≡ filter (λ r. choice.passes (shown r)) entries = λ i. filter (λ r. s.tests r i) entries in
       let outs : a.kept ≡ map ranked (filter choice.passes (map shown entries)) =
@@ -53,24 +56,30 @@ module _ (sql : List ℕ) (place : Place) (params : Row) (choice : Choice) (s : 
       ascending-map (λ x y. output_cmp q x y ≡ Less) ranked those
       (ascending_weaker _ (λ x y. output_cmp q (ranked x) (ranked y) ≡ Less) (λ x y h. s.sorts x y ∙ h) _ up) in
       let ordered : a.ordered ≡ map ranked those =
-      sorted_unique (output_cmp q) (output_cmp_total q) _ _ strict (IsPermutation-trans _ _ _ (subst (IsPermutation (map ranked those)) (sym outs) turned) a.same) a.sorted in
+      sorted_unique (output_cmp q) (output_cmp_total q) _ _ strict
+      (IsPermutation-trans _ _ _ (subst (IsPermutation (map ranked those)) (sym outs) turned) a.same) a.sorted in
       a.shown ∙ ap (λ l. take 1 (map (λ (o : Output). o.1) l)) ordered ∙ ap (take 1) (map-map (λ (o : Output). o.1) ranked those ∙ map-id those)
 
   module _ {X : Type 0} (row_of : X → Row) where
-    pub shown_first : (IsRead IsStored : X → Type 0) → ((x y : X) → IsRead x → IsStored y → row_of x ≡ row_of y → x ≡ y) → (old new : State) (xs : List X) → old.now.schema ≡ register_schema
-        → Shown sql params old new (map row_of xs) → AllByRecursion IsRead xs → (ys : List X) → AllByRecursion IsStored ys → Keeps place old.now.trees (map row_of ys)
-        → (those : List X) → IsPermutation (filter (λ x. choice.passes (row_of x)) ys) those → IsAscending (λ a b. choice.compare (row_of a) (row_of b) ≡ Less) those → xs ≡ take 1 those
+    pub shown_first : (IsRead IsStored : X → Type 0) → ((x y : X) → IsRead x → IsStored y → row_of x ≡ row_of y → x ≡ y) → (old new : State) (xs : List X)
+        → old.now.schema ≡ register_schema
+        → Shown sql params old new (map row_of xs) → AllByRecursion IsRead xs → (ys : List X) → AllByRecursion IsStored ys
+        → Keeps place old.now.trees (map row_of ys)
+        → (those : List X) → IsPermutation (filter (λ x. choice.passes (row_of x)) ys) those
+        → IsAscending (λ a b. choice.compare (row_of a) (row_of b) ≡ Less) those → xs ≡ take 1 those
     shown_first IsRead IsStored one old new xs has h read ys held keeps those same up =
         let it = reads_as sql params old new register_schema has _ s.is.0 s.bare s.is.1 (map row_of xs) h in
         let stored : IsPermutation (filter choice.passes (map (cells 1 place.width) (old.now.trees place.tree))) (map row_of those) =
         IsPermutation-trans _ _ _ (IsPermutation-sym _ _ (IsPermutation-filter choice.passes _ _ keeps.same))
         (subst (λ l. IsPermutation l (map row_of those)) (sym (filter-map choice.passes row_of ys)) (IsPermutation-map row_of _ _ same)) in
-        let rows = first_rows old.now.trees (map row_of xs) (map row_of those) stored (ascending-map (λ a b. choice.compare a b ≡ Less) row_of those up) (it.answer Null) in
+        let rows = first_rows old.now.trees (map row_of xs) (map row_of those) stored (ascending-map (λ a b. choice.compare a b ≡ Less) row_of those up)
+        (it.answer Null) in
         let known : AllByRecursion IsStored those = all-permutation IsStored _ _ same (all-filter IsStored (λ x. choice.passes (row_of x)) ys held) in
         same_values row_of IsRead IsStored one xs (take 1 those) read (all_take IsStored those known) (rows ∙ take-map row_of 1 those)
 
 -- what the last of at most one is
-pub popped : {X : Type 0} (xs rest those : List X) (found : Option X) → xs ≡ take 1 those → xs ≡ rest ++ option_to_list found → (found ≡ None → xs ≡ []) → found ≡ slice_get those 0
+pub popped : {X : Type 0} (xs rest those : List X) (found : Option X) → xs ≡ take 1 those → xs ≡ rest ++ option_to_list found → (found ≡ None → xs ≡ [])
+    → found ≡ slice_get those 0
 popped xs rest [] None is split none = refl
 popped xs rest (y ∷ those) None is split none = absurd (let h : y ∷ [] ≡ [] = sym is ∙ none refl in cc)
 popped xs [] [] (Some x) is split none = absurd (let h : [] ≡ x ∷ [] = sym is ∙ split in cc)

@@ -85,7 +85,8 @@ rises_where : {X : Type 0} (p : X → Bool) (S : X → X → Type 0) (xs : List 
 rises_where p S [] all up = tt
 rises_where p S (x ∷ xs) all up = (all_both _ _ (S x) (λ y e s. s all.0 e) xs all.1 up.0, rises_where p S xs all.1 up.1)
 
-pub rises_among : {X : Type 0} (p : X → Bool) (S : X → X → Type 0) (xs : List X) → IsAscending (λ a b. p a ≡ true → p b ≡ true → S a b) xs → IsAscending S (filter p xs)
+pub rises_among : {X : Type 0} (p : X → Bool) (S : X → X → Type 0) (xs : List X) → IsAscending (λ a b. p a ≡ true → p b ≡ true → S a b) xs
+    → IsAscending S (filter p xs)
 rises_among p S xs up = rises_where p S (filter p xs) (passing p xs) (ascending-filter _ p xs up)
 
 -- behind the last, as a test and by the order
@@ -94,6 +95,7 @@ pub number_later : {X : Type 0} (key : X → ℕ) (last : Option ℕ) (x : X) �
 number_later key None x = refl
 number_later key (Some l) x = lt_is l (key x)
 
-pub text_later : {X : Type 0} (key : X → List ℕ) (last : Option (List ℕ)) (x : X) → is_behind last (key x) ≡ later (slice_cmp nat_cmp) nat_list_cmp_total key last x
+pub text_later : {X : Type 0} (key : X → List ℕ) (last : Option (List ℕ)) (x : X)
+    → is_behind last (key x) ≡ later (slice_cmp nat_cmp) nat_list_cmp_total key last x
 text_later key None x = refl
 text_later key (Some l) x = refl

@@ -1,5 +1,6 @@
 -- Rows in an order: what stands behind the first of them, and that rows that rise are the rows in order.
-use Rattle.std.proofs.Common.{◌≡◌, ℕ, ◌+◌, Bool, true, false, cond, List, [], ◌∷◌, filter, slice_get, get_or, Option, Some, None, Ordering, Less, Equal, Greater}
+use Rattle.std.proofs.Common.{◌≡◌, ℕ, ◌+◌, Bool, true, false, cond, List, [], ◌∷◌, filter, slice_get, get_or, Option, Some, None, Ordering, Less, Equal}
+use Rattle.std.proofs.Common.{Greater}
 use Rattle.std.proofs.Common.{is_lt, nat_lt, IsSorted, refl, sym, ap, subst, ◌∙◌, arith}
 use Rattle.std.specs.List.{AllByRecursion}
 use Rattle.std.specs.List.Sorted.{IsPermutation}
@@ -64,20 +65,24 @@ module _ {K : Type 0} (compare : K → K → Ordering) (total : IsTotalOrder com
     where
       skipped : later last y ≡ false → (f : Option X) → f ≡ slice_get (filter (later last) ys) 0 → later (moved last f) y ≡ false
       skipped e None is = e
-      skipped e (Some x) is = lt_is_gt y x ∙ ap is_gt (all-slice_get (Rises y) (filter (later last) ys) 0 x (sym is) (all-filter (Rises y) (later last) ys up.0))
+      skipped e (Some x) is =
+          lt_is_gt y x ∙ ap is_gt (all-slice_get (Rises y) (filter (later last) ys) 0 x (sym is) (all-filter (Rises y) (later last) ys up.0))
 
-      go : (b : Bool) → later last y ≡ b → (found ≡ slice_get (filter (later last) ys) 0 → Gives (filter (later last) ys) found (filter (later (moved last found)) ys))
+      go : (b : Bool) → later last y ≡ b → (found ≡ slice_get (filter (later last) ys) 0
+          → Gives (filter (later last) ys) found (filter (later (moved last found)) ys))
           → found ≡ slice_get (cond b (y ∷ filter (later last) ys) (filter (later last) ys)) 0
           → Gives (cond b (y ∷ filter (later last) ys) (filter (later last) ys)) found (filter (later (moved last found)) (y ∷ ys))
       go true e ih is =
           let those : filter (later last) ys ≡ ys = filter_all (later last) ys (all_weaker (Rises y) _ (λ z b. goes_on last y z e b) ys up.0) in
           let rest : filter (later (Some (key y))) ys ≡ ys = filter_all (later (Some (key y))) ys (all_weaker (Rises y) _ (λ z b. ap is_lt b) ys up.0) in
           let itself : later (Some (key y)) y ≡ false = ap is_lt (tied_itself total (key y)) in
-          subst (λ (f : Option X). Gives (y ∷ filter (later last) ys) f (filter (later (moved last f)) (y ∷ ys))) (sym is) (rw itself (ap (λ l. y ∷ l) (those ∙ sym rest)))
+          subst (λ (f : Option X). Gives (y ∷ filter (later last) ys) f (filter (later (moved last f)) (y ∷ ys))) (sym is)
+          (rw itself (ap (λ l. y ∷ l) (those ∙ sym rest)))
       go false e ih is = rw (skipped e found is) (ih is)
 
   -- the first of those behind the last is the next row, and behind it come the others
-  pub gives_first : (past : Option K → X → Bool) → ((last : Option K) (x : X) → past last x ≡ later last x) → (last : Option K) (xs : List X) → IsAscending Rises xs
+  pub gives_first : (past : Option K → X → Bool) → ((last : Option K) (x : X) → past last x ≡ later last x) → (last : Option K) (xs : List X)
+      → IsAscending Rises xs
       → (found : Option X) → found ≡ slice_get (filter (past last) xs) 0 → Gives (filter (past last) xs) found (filter (past (moved last found)) xs)
   gives_first past same last xs up found is =
       let there : (l : Option K) → filter (past l) xs ≡ filter (later l) xs = λ l i. filter (λ x. same l x i) xs in

@@ -78,7 +78,8 @@ by_who a b = ap₂ (λ o p. ordering_then o p) (value_cmp-Text a.who b.who) (the
 
 key_apart : (a b : Stay) → by_key 2 (stay_row a) (stay_row b) ≡ Less → Apart a b
 key_apart a b h =
-    sym (tied_then (nat_cmp a.since b.since) (slice_cmp nat_cmp a.who b.who)) ∙ and_comm (is_eq (nat_cmp a.since b.since)) (is_eq (slice_cmp nat_cmp a.who b.who)) ∙ tied_then (slice_cmp nat_cmp a.who b.who) (nat_cmp a.since b.since)
+    sym (tied_then (nat_cmp a.since b.since) (slice_cmp nat_cmp a.who b.who))
+    ∙ and_comm (is_eq (nat_cmp a.since b.since)) (is_eq (slice_cmp nat_cmp a.who b.who)) ∙ tied_then (slice_cmp nat_cmp a.who b.who) (nat_cmp a.since b.since)
     ∙ ap is_eq (sym (by_who a b) ∙ h)
 
 -- stays in the order of the listing, each two of them apart, rise
@@ -104,16 +105,20 @@ those ceremony m = attendance_in_by m.stays ceremony
 
 -- those of the ceremony in the table, in another order
 same_stays : (ceremony : ℕ) {xs ts : List Stay} → IsPermutation xs ts → IsPermutation (filter (is_of ceremony) ts) (attendance_in_by xs ceremony)
-same_stays ceremony {xs} same = IsPermutation-trans _ _ _ (IsPermutation-sym _ _ (IsPermutation-filter (is_of ceremony) _ _ same)) (attendance-moves xs ceremony)
+same_stays ceremony {xs} same =
+    IsPermutation-trans _ _ _ (IsPermutation-sym _ _ (IsPermutation-filter (is_of ceremony) _ _ same)) (attendance-moves xs ceremony)
 
-rise : (ceremony : ℕ) {xs ts : List Stay} → IsPermutation xs ts → IsAscending (λ a b. by_key 2 a b ≡ Less) (map stay_row ts) → IsAscending Rises (attendance_in_by xs ceremony)
+rise : (ceremony : ℕ) {xs ts : List Stay} → IsPermutation xs ts → IsAscending (λ a b. by_key 2 a b ≡ Less) (map stay_row ts)
+    → IsAscending Rises (attendance_in_by xs ceremony)
 rise ceremony {xs} {ts} same rising =
     strict (attendance_in_by xs ceremony) (attendance-listed xs ceremony)
     (apart_on listed listed_total (λ (s : Stay). s) _ _ (same_stays ceremony same) (ascending-filter Apart (is_of ceremony) ts
-    (ascending_weaker (λ (a b : Stay). by_key 2 (stay_row a) (stay_row b) ≡ Less) Apart key_apart ts (ascending_from_map (λ a b. by_key 2 a b ≡ Less) stay_row ts rising))))
+    (ascending_weaker (λ (a b : Stay). by_key 2 (stay_row a) (stay_row b) ≡ Less) Apart key_apart ts
+    (ascending_from_map (λ a b. by_key 2 a b ≡ Less) stay_row ts rising))))
 
 -- the stays of the table in any order give one attendance
-pub one_attendance : (ceremony : ℕ) {xs ys ts : List Stay} → IsPermutation xs ts → IsPermutation ys ts → IsAscending (λ a b. by_key 2 a b ≡ Less) (map stay_row ts)
+pub one_attendance : (ceremony : ℕ) {xs ys ts : List Stay} → IsPermutation xs ts → IsPermutation ys ts
+    → IsAscending (λ a b. by_key 2 a b ≡ Less) (map stay_row ts)
     → attendance_in_by ys ceremony ≡ attendance_in_by xs ceremony
 one_attendance ceremony {xs} {ys} p q rising =
     sorted_unique listed listed_total (attendance_in_by xs ceremony) (attendance_in_by ys ceremony) (rise ceremony p rising)
@@ -159,7 +164,8 @@ passes_together ceremony last x =
 pub first_together : (ceremony : ℕ) (last : Stay) (m : machine.Tables) {db : Trees} (k : KeepsTables m db) (found : Option Stay)
     → IsFirst stay_row (together ceremony last) k.t.stays found → found ≡ slice_get (filter (begins_with last) (those ceremony m)) 0
 first_together ceremony last m k found first =
-    first (filter (begins_with last) (those ceremony m)) (passed ceremony m k (together ceremony last).passes (begins_with last) (passes_together ceremony last))
+    first (filter (begins_with last) (those ceremony m))
+    (passed ceremony m k (together ceremony last).passes (begins_with last) (passes_together ceremony last))
     (rises_among (begins_with last) (λ (a b : Stay). by_key 2 (stay_row a) (stay_row b) ≡ Less) (those ceremony m)
     (ascending_weaker Rises _ keyed (those ceremony m) (rise_here ceremony m k)))
   where
@@ -187,7 +193,8 @@ abbrev later_params : ℕ → Option Stay → Row
 later_params ceremony last = Int (pos ceremony) ∷ Int (bound_of (since_of last)) ∷ []
 
 abbrev pub begins_later : ℕ → Option Stay → Choice
-begins_later ceremony last = record (by_test 2 later_test (later_params ceremony last)) { rank = rank; compare = λ a b. key_cmp 0 (rising 2 []) (rank a) (rank b) }
+begins_later ceremony last =
+    record (by_test 2 later_test (later_params ceremony last)) { rank = rank; compare = λ a b. key_cmp 0 (rising 2 []) (rank a) (rank b) }
 
 pub shows_later : (ceremony : ℕ) (last : Option Stay) → ShowsFirst later_text stays_place (later_params ceremony last) (begins_later ceremony last)
 unfolding understood everything
@@ -205,19 +212,24 @@ by_since ceremony last a b = ap₂ (λ o p. ordering_then o p) (number_cmp a.sin
 pub first_later : (ceremony : ℕ) (last : Option Stay) (m : machine.Tables) {db : Trees} (k : KeepsTables m db) (found : Option Stay)
     → IsFirst stay_row (begins_later ceremony last) k.t.stays found → found ≡ slice_get (filter (begins_after last) (those ceremony m)) 0
 first_later ceremony last m k found first =
-    first (filter (begins_after last) (those ceremony m)) (passed ceremony m k (begins_later ceremony last).passes (begins_after last) (passes_later ceremony last))
-    (ascending_weaker Rises _ (λ a b h. by_since ceremony last a b ∙ h) _ (ascending-filter Rises (begins_after last) (those ceremony m) (rise_here ceremony m k)))
+    first (filter (begins_after last) (those ceremony m))
+    (passed ceremony m k (begins_later ceremony last).passes (begins_after last) (passes_later ceremony last))
+    (ascending_weaker Rises _ (λ a b h. by_since ceremony last a b ∙ h) _
+    (ascending-filter Rises (begins_after last) (those ceremony m) (rise_here ceremony m k)))
 
 -- ---- both
 
 none_with : (last x : Stay) (xs : List Stay) → nat_lt last.since x.since ≡ true → AllByRecursion (Rises x) xs → filter (begins_with last) xs ≡ []
-none_with last x xs p all = filter_none (begins_with last) xs (all_weaker (Rises x) _ (λ y h. ap (λ b. b && is_behind (Some last.who) y.who) (after last.since x.since y.since _ p h)) xs all)
+none_with last x xs p all =
+    filter_none (begins_with last) xs (all_weaker (Rises x) _
+    (λ y h. ap (λ b. b && is_behind (Some last.who) y.who) (after last.since x.since y.since _ p h)) xs all)
   where
     after : (l a b : ℕ) (o : Ordering) → nat_lt l a ≡ true → ordering_then (nat_cmp a b) o ≡ Less → (b == l) ≡ false
     after l a b o p h = grind (arith, nat_tests)
 
 -- those past the last are those that begin with it, and then those that begin later
-split : (last : Stay) (xs : List Stay) → IsAscending Rises xs → filter (is_stay_past (Some last)) xs ≡ filter (begins_with last) xs ++ filter (begins_after (Some last)) xs
+split : (last : Stay) (xs : List Stay) → IsAscending Rises xs → filter (is_stay_past (Some last)) xs ≡ filter (begins_with last) xs
+    ++ filter (begins_after (Some last)) xs
 split last [] up = refl
 split last (x ∷ xs) up = go (nat_lt last.since x.since) refl (is_lt (slice_cmp nat_cmp last.who x.who)) (split last xs up.1)
   where
@@ -227,7 +239,8 @@ split last (x ∷ xs) up = go (nat_lt last.since x.since) refl (is_lt (slice_cmp
     differs : (l a : ℕ) → nat_lt l a ≡ true → (a == l) ≡ false
     differs l a h = grind (arith, nat_tests)
 
-    go : (p : Bool) → nat_lt last.since x.since ≡ p → (r : Bool) → filter (is_stay_past (Some last)) xs ≡ filter (begins_with last) xs ++ filter (begins_after (Some last)) xs
+    go : (p : Bool) → nat_lt last.since x.since ≡ p → (r : Bool) → filter (is_stay_past (Some last)) xs ≡ filter (begins_with last) xs
+        ++ filter (begins_after (Some last)) xs
         → cond (p || ((last.since == x.since) && r)) (x ∷ filter (is_stay_past (Some last)) xs) (filter (is_stay_past (Some last)) xs)
         ≡ cond ((x.since == last.since) && r) (x ∷ filter (begins_with last) xs) (filter (begins_with last) xs)
         ++ cond p (x ∷ filter (begins_after (Some last)) xs) (filter (begins_after (Some last)) xs)
@@ -235,8 +248,10 @@ split last (x ∷ xs) up = go (nat_lt last.since x.since) refl (is_lt (slice_cmp
         let none = none_with last x xs e up.0 in
         rw (differs last.since x.since e, none) (ap (λ l. x ∷ l) (ih ∙ ap (λ l. l ++ filter (begins_after (Some last)) xs) none))
     go false e r ih =
-        rw (turned x.since last.since) (elim ((last.since == x.since) && r) as (λ b. cond b (x ∷ filter (is_stay_past (Some last)) xs) (filter (is_stay_past (Some last)) xs)
-        ≡ cond b (x ∷ filter (begins_with last) xs) (filter (begins_with last) xs) ++ filter (begins_after (Some last)) xs) [ true ↦ ap (λ l. x ∷ l) ih | false ↦ ih ])
+        rw (turned x.since last.since) (elim ((last.since == x.since) && r)
+        as (λ b. cond b (x ∷ filter (is_stay_past (Some last)) xs) (filter (is_stay_past (Some last)) xs)
+        ≡ cond b (x ∷ filter (begins_with last) xs) (filter (begins_with last) xs)
+        ++ filter (begins_after (Some last)) xs) [ true ↦ ap (λ l. x ∷ l) ih | false ↦ ih ])
 
 head_of_both : {X : Type 0} (xs ys : List X) (x : X) → Some x ≡ slice_get xs 0 → Some x ≡ slice_get (xs ++ ys) 0
 head_of_both [] ys x h = absurd (cc)
@@ -250,11 +265,15 @@ pub first_with : (ceremony : ℕ) (last : Stay) (m : machine.Tables) {db : Trees
     → Some x ≡ slice_get (filter (begins_with last) (those ceremony m)) 0 → Some x ≡ slice_get (listed_past (Some last) ceremony m) 0
 first_with ceremony last m k x h = head_of_both _ _ x h ∙ ap (λ l. slice_get l 0) (sym (split last (those ceremony m) (rise_here ceremony m k)))
 
-pub first_after : (ceremony : ℕ) (last : Stay) (m : machine.Tables) {db : Trees} (k : KeepsTables m db) → None ≡ slice_get (filter (begins_with last) (those ceremony m)) 0
-    → (found : Option Stay) → found ≡ slice_get (filter (begins_after (Some last)) (those ceremony m)) 0 → found ≡ slice_get (listed_past (Some last) ceremony m) 0
-first_after ceremony last m k none found h = h ∙ head_of_second _ _ none ∙ ap (λ l. slice_get l 0) (sym (split last (those ceremony m) (rise_here ceremony m k)))
+pub first_after : (ceremony : ℕ) (last : Stay) (m : machine.Tables) {db : Trees} (k : KeepsTables m db)
+    → None ≡ slice_get (filter (begins_with last) (those ceremony m)) 0
+    → (found : Option Stay) → found ≡ slice_get (filter (begins_after (Some last)) (those ceremony m)) 0
+    → found ≡ slice_get (listed_past (Some last) ceremony m) 0
+first_after ceremony last m k none found h =
+    h ∙ head_of_second _ _ none ∙ ap (λ l. slice_get l 0) (sym (split last (those ceremony m) (rise_here ceremony m k)))
 
-pub next_listed : (ceremony : ℕ) (last : Option Stay) (m : machine.Tables) {db : Trees} (k : KeepsTables m db) (found : Option Stay) → found ≡ slice_get (listed_past last ceremony m) 0
+pub next_listed : (ceremony : ℕ) (last : Option Stay) (m : machine.Tables) {db : Trees} (k : KeepsTables m db) (found : Option Stay)
+    → found ≡ slice_get (listed_past last ceremony m) 0
     → Gives (listed_past last ceremony m) found (listed_past (moved listed listed_total (λ (s : Stay). s) last found) ceremony m)
 next_listed ceremony last m k found first =
     gives_first listed listed_total (λ (s : Stay). s) is_stay_past past_later last (those ceremony m) (rise_here ceremony m k) found first
@@ -265,7 +284,8 @@ named : (who : List ℕ) (m : machine.Tables) {db : Trees} (k : KeepsTables m db
     → rows ≡ filter (λ row. same_text row.who who) k.t.people → rows ≡ rest ++ (person ∷ []) → person.name ≡ name_of m.people who
 named who m k rows rest person are ends =
     let mine : Person → Bool = λ row. same_text row.who who in
-    let among : Has (filter mine k.t.people) person = subst (λ (l : List Person). Has l person) (sym ends ∙ are) (has_right rest (person ∷ []) person (inl refl)) in
+    let among : Has (filter mine k.t.people) person = subst (λ (l : List Person). Has l person) (sym ends ∙ are)
+    (has_right rest (person ∷ []) person (inl refl)) in
     let here : Has k.t.people person = filter_from mine k.t.people person among in
     let is : person.who ≡ who = (bytes_eq-Decides person.who who).0 (filter_is mine k.t.people person among) in
     let here_too : Has m.people person = has_same k.t.people m.people person (IsPermutation-sym _ _ k.stands.people) here in
@@ -273,7 +293,8 @@ named who m k rows rest person are ends =
     let found : slice_get (filter mine m.people) 0 ≡ Some person = first (filter mine m.people) refl there here is in
     ap (λ (o : Option Person). unwrap_or (option_map (λ row. row.name) o) []) (sym found ∙ slice_get-filter mine m.people)
   where
-    first : (l : List Person) → filter (λ row. same_text row.who who) m.people ≡ l → Has l person → Has k.t.people person → person.who ≡ who → slice_get l 0 ≡ Some person
+    first : (l : List Person) → filter (λ row. same_text row.who who) m.people ≡ l → Has l person → Has k.t.people person → person.who ≡ who
+        → slice_get l 0 ≡ Some person
     first [] e has here is = absurd has
     first (x ∷ more) e has here is =
         let in_all : Has (filter (λ row. same_text row.who who) m.people) x = subst (λ (l : List Person). Has l x) (sym e) (inl refl) in
