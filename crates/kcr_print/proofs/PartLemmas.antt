@@ -47,11 +47,13 @@ not_ok (Err e) P h = tt
 
 -- THE BYTES
 
-printed_then : (D : Refusal → Type 0) (r : Result ⊤ PrintFault) (a b c : Option (List ℕ)) (x y : List ℕ) → Appends a b x → IsPrinted D y r b c → IsPrinted D (x ++ y) r a c
+printed_then : (D : Refusal → Type 0) (r : Result ⊤ PrintFault) (a b c : Option (List ℕ)) (x y : List ℕ) → Appends a b x → IsPrinted D y r b c
+    → IsPrinted D (x ++ y) r a c
 printed_then D (Ok v) a b c x y p q = appends_both a b c x y p q
 printed_then D (Err e) a b c x y p q = (front_both a b c x y p q.0, q.1)
 
-printed_more : (D : Refusal → Type 0) (r : Result ⊤ PrintFault) (a b : Option (List ℕ)) (x y : List ℕ) → IsErr r → IsPrinted D x r a b → IsPrinted D (x ++ y) r a b
+printed_more : (D : Refusal → Type 0) (r : Result ⊤ PrintFault) (a b : Option (List ℕ)) (x y : List ℕ) → IsErr r → IsPrinted D x r a b
+    → IsPrinted D (x ++ y) r a b
 printed_more D (Ok v) a b x y h p = absurd (false≢true h)
 printed_more D (Err e) a b x y h p = (front_longer a b x y p.0, p.1)
 
@@ -59,7 +61,8 @@ printed_weaker : (D : Refusal → Type 0) (r : Result ⊤ PrintFault) (a b : Opt
 printed_weaker D (Ok v) a b x p = p
 printed_weaker D (Err e) a b x p = (p.0, stops_weaker D e p.1)
 
-printed_of : (D : Refusal → Type 0) (r : Result ⊤ PrintFault) (a b : Option (List ℕ)) (x : List ℕ) → Writes r a b x → IfErr r (Stops (λ _. ⊥)) → IsPrinted D x r a b
+printed_of : (D : Refusal → Type 0) (r : Result ⊤ PrintFault) (a b : Option (List ℕ)) (x : List ℕ) → Writes r a b x → IfErr r (Stops (λ _. ⊥))
+    → IsPrinted D x r a b
 printed_of D (Ok v) a b x p q = p
 printed_of D (Err e) a b x p q = (p, stops_weaker D e q)
 
@@ -86,7 +89,8 @@ module _ {S : Type 0} (g : Ghosts S) where
       subst Says keeps.accepted (says (subst IsTrue (sym keeps.founded) founded) (keeps.torn ∙ torn) clean)
 
   -- what is said of the history by an earlier call holds later
-  pub of_later : (a b c : Seen S) (Says : History → Type 0) → KeepsHistory a c → (HasCleanDisk (state g c.conn) → HasCleanDisk (state g b.conn)) → OfHistory g a b Says → OfHistory g c c Says
+  pub of_later : (a b c : Seen S) (Says : History → Type 0) → KeepsHistory a c → (HasCleanDisk (state g c.conn) → HasCleanDisk (state g b.conn))
+      → OfHistory g a b Says → OfHistory g c c Says
   of_later a b c Says keeps clean says founded torn now =
       subst Says (sym keeps.accepted) (says (subst IsTrue keeps.founded founded) (sym keeps.torn ∙ torn) (clean now))
 
@@ -116,7 +120,8 @@ module _ {S W : Type 0} {g : Ghosts S} {contents : W → Option (List ℕ)} {D :
   -- a part that stops, and what would have followed
   pub puts_more : {a b : Seen S} {x y : Counted W} {r : Result ⊤ PrintFault} {t : History → List ℕ} (u : History → List ℕ) → IsErr r
       → Puts g contents a b x y r D M t → Puts g contents a b x y r D M (λ A. t A ++ u A)
-  puts_more {a} {r = r} {t} u h p = puts_as (λ founded torn clean. printed_more (D a.accepted) r _ _ (t a.accepted) (u a.accepted) h (p.printed founded torn clean)) p.cause p
+  puts_more {a} {r = r} {t} u h p =
+      puts_as (λ founded torn clean. printed_more (D a.accepted) r _ _ (t a.accepted) (u a.accepted) h (p.printed founded torn clean)) p.cause p
 
   -- the error that is handed on
   pub puts_err : {a b : Seen S} {x y : Counted W} {t : History → List ℕ} (r : Result ⊤ PrintFault) (e : PrintFault) → IsErrAnd r (λ fault. fault ≡ e)
@@ -139,7 +144,8 @@ module _ {S W : Type 0} {g : Ghosts S} {contents : W → Option (List ℕ)} {D :
 
 module _ {S W : Type 0} {g : Ghosts S} {contents : W → Option (List ℕ)} where
   -- a call on the register, and then a text that is written
-  pub puts_line : {D : History → Refusal → Type 0} {M : Refusal → Type 0} {a b : Seen S} {x y : Counted W} {r : Result ⊤ PrintFault} {t : History → List ℕ} (line : List ℕ)
+  pub puts_line : {D : History → Refusal → Type 0} {M : Refusal → Type 0} {a b : Seen S} {x y : Counted W} {r : Result ⊤ PrintFault}
+      {t : History → List ℕ} (line : List ℕ)
       → OfHistory g a b (λ A. line ≡ t A) → KeepsHistory a b → (HasCleanDisk (state g b.conn) → HasCleanDisk (state g a.conn)) → IsKept g b
       → Writes r (contents (inner_of x)) (contents (inner_of y)) line → IfErr r (Stops (λ _. ⊥)) → TellsWrites x y r
       → Puts g contents a b x y r D M t
@@ -182,7 +188,8 @@ module _ {S W : Type 0} {g : Ghosts S} {contents : W → Option (List ℕ)} wher
       let P : List ℕ → Type 0 = λ text. IsPrinted (λ _. ⊥) text r (contents (inner_of x)) (contents (inner_of y)) in
       let done : Puts g contents began ended x y r (λ _ _. ⊥) (λ _. ⊥) text = record {
         printed = λ founded torn now.
-            subst P (ap (flat_map lines) (begins.all (tables began.accepted)) ∙ same began.accepted) (printed_of (λ _. ⊥) r _ _ _ (written founded torn now) why);
+            subst P (ap (flat_map lines) (begins.all (tables began.accepted)) ∙ same began.accepted)
+            (printed_of (λ _. ⊥) r _ _ _ (written founded torn now) why);
         cause = why;
         keeps = keeps;
         clean = clean;

@@ -38,28 +38,34 @@ lines_along f g v same ys = flat_map-map f v ys ∙ flat_map_same_on (λ y. f (v
 -- a step with its people
 seated_is : (rows : List SeatingRow) (row : StepRow) → seated_lines (record { step = row; seated = seated_at rows row.ceremony row.step }) ≡ step_lines rows row
 seated_is rows row =
-    elim row.state as (λ s. seated_lines (record { step = record row { state = s }; seated = seated_at rows row.ceremony row.step }) ≡ step_lines rows (record row { state = s }))
+    elim row.state as (λ s. seated_lines (with_seated rows (record row { state = s })) ≡ step_lines rows (record row { state = s }))
     [ Undone ↦ refl | Signed ↦ refl | Passed ↦ refl ]
 
 -- a bag with its items
-packed_is : (items : List Item) (bag : Bag) → packed_lines (record { bag = bag; codes = map (λ item. item.code) (filter (lies_in bag.serial) items) }) ≡ bag_lines items bag
+packed_is : (items : List Item) (bag : Bag) → packed_lines (record { bag = bag; codes = map (λ item. item.code) (filter (lies_in bag.serial) items) })
+    ≡ bag_lines items bag
 packed_is items bag =
     ap (λ t. line_of (bag.serial ∷ spot_text bag.spot ∷ []) ++ t) (flat_map-map code_line (λ (item : Item). item.code) (filter (lies_in bag.serial) items))
 
 -- THE PARTS
 
-pub steps_text : (A : History) (ceremony : ℕ) → flat_map seated_lines (seated_steps ceremony (tables A)) ≡ flat_map (step_lines (seatings A)) (steps_in_order A ceremony)
+pub steps_text : (A : History) (ceremony : ℕ) → flat_map seated_lines (seated_steps ceremony (tables A))
+    ≡ flat_map (step_lines (seatings A)) (steps_in_order A ceremony)
 steps_text A ceremony = lines_along seated_lines (step_lines (seatings A)) (with_seated (seatings A)) (seated_is (seatings A)) (steps_in_order A ceremony)
 
-stays_text : (A : History) (ceremony : ℕ) → flat_map named_line (named_stays ceremony (tables A)) ≡ flat_map (stay_line (people A)) (attendance_in_by (reverse (stays_by (sheet A))) ceremony)
-stays_text A ceremony = lines_along named_line (stay_line (people A)) (with_name (people A)) (λ stay. refl) (attendance_in_by (reverse (stays_by (sheet A))) ceremony)
+stays_text : (A : History) (ceremony : ℕ) → flat_map named_line (named_stays ceremony (tables A))
+    ≡ flat_map (stay_line (people A)) (attendance_in_by (reverse (stays_by (sheet A))) ceremony)
+stays_text A ceremony =
+    lines_along named_line (stay_line (people A)) (with_name (people A)) (λ stay. refl) (attendance_in_by (reverse (stays_by (sheet A))) ceremony)
 
 pub bags_text : (A : History) → flat_map packed_lines (packed_bags (tables A)) ≡ flat_map (bag_lines (items_in_order A)) (bags_in_order A)
 bags_text A = lines_along packed_lines (bag_lines (items_in_order A)) (with_items (items_in_order A)) (packed_is (items_in_order A)) (bags_in_order A)
 
 -- an item that is in a bag has no line
 bagged : (item : Item) → is_loose item ≡ false → loose_line item ≡ []
-bagged item = elim item.rest as (λ r. is_loose (record item { rest = r }) ≡ false → loose_line (record item { rest = r }) ≡ []) [ Loose facility ↦ λ no. absurd (cc no) | Within serial ↦ λ _. refl ]
+bagged item =
+    elim item.rest as (λ r. is_loose (record item { rest = r }) ≡ false → loose_line (record item { rest = r }) ≡ [])
+    [ Loose facility ↦ λ no. absurd (cc no) | Within serial ↦ λ _. refl ]
 
 pub loose_text : (A : History) → flat_map loose_line (loose_items (tables A)) ≡ flat_map loose_line (items_in_order A)
 loose_text A = flat_map-filter loose_line is_loose bagged (items_in_order A)
@@ -74,9 +80,11 @@ attendance_text A db k ceremony =
     stays_text A ceremony ∙ ap (flat_map (stay_line (people A))) (one_attendance ceremony sheets k.stands.stays k.kept.stays.rising)
 
 -- so it is with every register: its file holds the tables, whatever a crash may leave
-pub register_attendance : {S : Type 0} (g : Ghosts S) (r : Seen S) → IsKept g r → (HasCleanDisk (state g r.conn) → ∥ ((db : Trees) × (state g r.conn).may_leave db) ∥₁)
+pub register_attendance : {S : Type 0} (g : Ghosts S) (r : Seen S) → IsKept g r
+    → (HasCleanDisk (state g r.conn) → ∥ ((db : Trees) × (state g r.conn).may_leave db) ∥₁)
     → IsTrue r.is_founded → r.torn ≡ None → HasCleanDisk (state g r.conn) → (ceremony : ℕ)
-    → flat_map named_line (named_stays ceremony (tables r.accepted)) ≡ flat_map (stay_line (people r.accepted)) (attendance_in_by (stays_by (sheet r.accepted)) ceremony)
+    → flat_map named_line (named_stays ceremony (tables r.accepted))
+    ≡ flat_map (stay_line (people r.accepted)) (attendance_in_by (stays_by (sheet r.accepted)) ceremony)
 register_attendance g r kept left founded torn clean ceremony =
     let whole = kept.whole founded torn in
     ∥∥₁_elim (left clean) (Coded-set (coded_list coded_ℕ) _ _) (λ found. attendance_text r.accepted found.0 (whole.crash clean found.0 found.1).kept ceremony)

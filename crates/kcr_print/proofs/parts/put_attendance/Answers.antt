@@ -42,7 +42,8 @@ returns-clause-puts g c =
     let before = c.ceremony_row.new.self in
     puts_then {t = header} (puts_line header_line (λ founded torn clean. refl) row.same row.clean row.kept said.written said.cause said.told)
     (puts_weaker (puts_text (read n) (stays n)
-    (λ founded torn clean. register_attendance g.S.Store before row.kept (g.met.S.Store.survives before.conn.store) founded torn (c.put_stays.ensures.clean clean) n)
+    (λ founded torn clean. register_attendance g.S.Store before row.kept (g.met.S.Store.survives before.conn.store) founded torn
+    (c.put_stays.ensures.clean clean) n)
     c.put_stays.ensures))
 
 pub returns-in_err-_planned-clause-planned : goal.returns-in_err-_planned-clause-planned

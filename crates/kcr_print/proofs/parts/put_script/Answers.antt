@@ -53,7 +53,8 @@ returns-in_err-put_exceptions-clause-puts g c =
     let said = c.in_ok-put_row.ensures in
     let begun = puts_line {D = λ A. IsNotPlanned A n} {M = NamesCeremony n} {t = head n} (head_lines c.in_ok-row.row)
     (λ founded torn clean. ap head_lines (row.row founded torn clean).row_is) row.same row.clean row.kept said.written said.cause said.told in
-    puts_more (foot n) fault.0 (puts_err _ _ fault.1 (puts_then (puts_then begun (puts_weaker c.in_ok-put_steps.ensures)) (puts_weaker c.in_err-put_exceptions.ensures)))
+    puts_more (foot n) fault.0 (puts_err _ _ fault.1 (puts_then (puts_then begun (puts_weaker c.in_ok-put_steps.ensures))
+    (puts_weaker c.in_err-put_exceptions.ensures)))
 
 pub returns-clause-puts : goal.returns-clause-puts
 returns-clause-puts g c =
@@ -66,7 +67,8 @@ returns-clause-puts g c =
     (λ founded torn clean. ap head_lines (row.row founded torn clean).row_is) row.same row.clean row.kept said.written said.cause said.told in
     let most = puts_then (puts_then begun (puts_weaker c.in_ok-put_steps.ensures)) (puts_weaker c.in_ok-put_exceptions.ensures) in
     let Says : History → Type 0 = λ A. foot_lines c.in_ok-row.row ≡ foot n A in
-    let is = of_later g.S.Store c.args.register.now c.ceremony_row.new.self after Says most.keeps (λ h. c.in_ok-put_steps.ensures.clean (c.in_ok-put_exceptions.ensures.clean h))
+    let is = of_later g.S.Store c.args.register.now c.ceremony_row.new.self after Says most.keeps
+    (λ h. c.in_ok-put_steps.ensures.clean (c.in_ok-put_exceptions.ensures.clean h))
     (λ founded torn clean. ap foot_lines (row.row founded torn clean).row_is) in
     puts_then most (puts_line (foot_lines c.in_ok-row.row) is (keeps_refl after) (λ h. h) c.in_ok-put_exceptions.ensures.kept end.written end.cause end.told)
 

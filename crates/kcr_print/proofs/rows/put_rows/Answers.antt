@@ -23,8 +23,10 @@ returns-in_err-row-clause-written g c = λ founded torn clean.
 pub returns-in_err-put_row-clause-written : goal.returns-in_err-put_row-clause-written
 returns-in_err-put_row-clause-written g c = λ founded torn clean.
     let goes = c.loop.invariant.goes founded torn (c.next.ensures.clean clean) in
-    let Says : History → Type 0 = λ A. Gives (g.R.Reading.to_come c.loop.rows.reading (tables A)) c.in_ok-row.field-0 (g.R.Reading.to_come c.next.new.self.reading (tables A)) in
-    let found = of_kept g.S.Store c.args.rows.now.register.now c.loop.rows.register.now c.next.new.self.register.now Says c.loop.invariant.keeps c.in_ok-row.ensures.gives founded torn clean in
+    let Says : History → Type 0 = λ A. Gives (g.R.Reading.to_come c.loop.rows.reading (tables A)) c.in_ok-row.field-0
+    (g.R.Reading.to_come c.next.new.self.reading (tables A)) in
+    let found = of_kept g.S.Store c.args.rows.now.register.now c.loop.rows.register.now c.next.new.self.register.now Says c.loop.invariant.keeps
+    c.in_ok-row.ensures.gives founded torn clean in
     let is = rw c.in-Some.is at found in
     writes_err _ _ _ _ c.from_residual-in_err-put_row.ensures.0
     (goes_front g.P.Printed.lines _ _ _ _ _ _ c.in-Some.row goes is c.in_err-put_row.ensures.written)
@@ -34,8 +36,10 @@ loop-preserved g c = record {
   same_reference = c.next.ensures.same_reference ∙ c.loop.invariant.same_reference;
   goes = λ founded torn clean.
       let goes = c.loop.invariant.goes founded torn (c.next.ensures.clean clean) in
-      let Says : History → Type 0 = λ A. Gives (g.R.Reading.to_come c.loop.rows.reading (tables A)) c.in_ok-row.field-0 (g.R.Reading.to_come c.next.new.self.reading (tables A)) in
-      let found = of_kept g.S.Store c.args.rows.now.register.now c.loop.rows.register.now c.next.new.self.register.now Says c.loop.invariant.keeps c.in_ok-row.ensures.gives founded torn clean in
+      let Says : History → Type 0 = λ A. Gives (g.R.Reading.to_come c.loop.rows.reading (tables A)) c.in_ok-row.field-0
+      (g.R.Reading.to_come c.next.new.self.reading (tables A)) in
+      let found = of_kept g.S.Store c.args.rows.now.register.now c.loop.rows.register.now c.next.new.self.register.now Says c.loop.invariant.keeps
+      c.in_ok-row.ensures.gives founded torn clean in
       let is = rw c.in-Some.is at found in
       goes_more g.P.Printed.lines _ _ _ _ _ _ c.in-Some.row goes is c.in_ok-put_row.ensures.written;
   keeps = keeps_both _ _ _ c.loop.invariant.keeps c.next.ensures.same;
