@@ -88,7 +88,8 @@ module _ {X : Type 0} (row_of : X → Row) (ceremony_of number_of : X → ℕ)
 -- ---- exceptions
 
 abbrev pub exceptions_text : List ℕ
-exceptions_text = codes "SELECT ceremony, exception, text, at, passed FROM exceptions WHERE ceremony = ?1 AND exception > ?2 ORDER BY ceremony, exception LIMIT 1"
+exceptions_text =
+    codes "SELECT ceremony, exception, text, at, passed FROM exceptions WHERE ceremony = ?1 AND exception > ?2 ORDER BY ceremony, exception LIMIT 1"
 
 pub exceptions_shown : (ceremony : ℕ) (last : Option ℕ) → ShowsFirst exceptions_text exceptions_place (number_params ceremony last) (numbered ceremony last)
 unfolding understood everything
