@@ -16,8 +16,9 @@ loop-word-preserved c =
     let more = words_more (λ (w : Bor (List ℕ)). w.now) c.args.words.now c.loop-word.word-index nothing below in
     record {
       text =
-          rw (c.in_ok-extend_from_slice-2.ensures.items, c.as_bytes-in-loop-word.ensures.value, c.in_ok-extend_from_slice.ensures.items, c.as_bytes.ensures.value, so_far.text, so_far.blank)
-          (append_assoc (out ++ said) blank word.now ∙ append_assoc out said (blank ++ word.now) ∙ ap (λ t. out ++ t) (sym more));
+          rw (c.in_ok-extend_from_slice-2.ensures.items, c.as_bytes-in-loop-word.ensures.value, c.in_ok-extend_from_slice.ensures.items)
+          (rw (c.as_bytes.ensures.value, so_far.text, so_far.blank)
+          (append_assoc (out ++ said) blank word.now ∙ append_assoc out said (blank ++ word.now) ∙ ap (λ t. out ++ t) (sym more)));
       blank = sym (separator_more _ _ below);
       utf8 = search rules;
     }
