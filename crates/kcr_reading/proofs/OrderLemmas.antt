@@ -13,9 +13,11 @@ use Rattle.sqlite.specs.Tree.{IsAscending}
 use Rattle.sqlite_trees.proofs.ListLemmas.{all_weaker, all-filter, all-slice_get, filter_all, ascending-get_or, ascending_weaker, along_permutation}
 use Rattle.sqlite_keyed.specs.Lists.{insert_sorted, sort_by}
 use Rattle.sqlite_keyed.proofs.SortLemmas.{sorted_is-sort_by}
-use Rattle.kcr_room.proofs.Rising.{less}
 use Rattle.kcr_history.specs.Prints.{put_in_order, in_order}
 use Rattle.kcr_reading.specs.ToCome.{Gives}
+
+less : (o : Ordering) → is_lt o ≡ true → o ≡ Less
+less o h = grind arith
 
 pub turned : (o : Ordering) → is_lt (ordering_reverse o) ≡ is_gt o
 turned o = elim o as (λ o. is_lt (ordering_reverse o) ≡ is_gt o) [ Less ↦ refl | Equal ↦ refl | Greater ↦ refl ]
