@@ -1,5 +1,5 @@
 -- What one transaction leaves of a register.
-use Rattle.std.proofs.Common.{◌≡◌, inl, inr, true, false, Result, Ok, Err, IfOk, OnOk, IsTrue, refl, sym, subst, ◌∙◌, arith}
+use Rattle.std.proofs.Common.{◌≡◌, Bool, inl, inr, None, true, false, Result, Ok, Err, IfOk, OnOk, IsTrue, refl, sym, subst, ◌∙◌, arith}
 use Rattle.sqlite.specs.declared.error.ErrorCode.TheVariants.{OutOfMemory}
 use Rattle.sqlite.specs.declared.error.Error.{Error}
 use Rattle.sqlite.specs.declared.error.Error.TheVariants.{SqliteFailure}
@@ -7,11 +7,12 @@ use Rattle.sqlite.specs.Store.{Ghosts}
 use Rattle.sqlite.specs.Tree.{Trees}
 use Rattle.sqlite.specs.State.{State, HasCleanDisk, KeepsCommit, IsRolledBack, IsUnchanged, Survives, Shows}
 use Rattle.sqlite.proofs.StateLemmas.{survives_then}
+use Rattle.sqlite.specs.Effect.{Database}
 use Rattle.sqlite.specs.Steps.{FailsToCommit}
 use Rattle.sqlite.specs.Held.{Held, state}
 use Rattle.kcr_store.specs.Stored.{IsTables, Stores}
 use Rattle.kcr_history.specs.History.{History}
-use Rattle.kcr_store.specs.Register.{IsWhole, Leaves, LeavesEither}
+use Rattle.kcr_store.specs.Register.{IsKept, IsWhole, Leaves, LeavesEither}
 use Rattle.kcr_store.specs.Register as register
 
 -- within the transaction
@@ -89,6 +90,33 @@ module _ (accepted after : History) (begun mid : State) (b : Began accepted begu
               shows = λ clean live. (shown clean).1;
               crash = λ clean db may. let s = shown clean in subst (IsTables accepted) (sym (settled db s.0 may)) s.1.committed.tables;
             }
+
+-- a transaction that reads and is rolled back, or dropped
+module _ {S : Type 0} (g : Ghosts S) (old begun : Held S) (is : begun ≡ record old { in_transaction = true }) (mid end : State)
+    (kept : Survives (state g begun) mid (λ _. ⊥)) (then : Survives mid end (λ _. ⊥)) where
+  -- it began over the tables of the history
+  pub read_stores : (A : History) → IsWhole A (state g old) → HasCleanDisk end → IsTrue (state g begun).is_open → Stores A (state g begun).now
+  read_stores A was clean live = ((begins g A old begun is was).shows (was_clean (state g begun) mid _ kept (was_clean mid end _ then clean)) live).now
+
+  -- and leaves them
+  pub read_whole : (HasCleanDisk mid → IsTrue (state g begun).in_transaction → KeepsCommit (state g begun) mid) → (HasCleanDisk end → IsRolledBack mid end)
+      → (A : History) → IsWhole A (state g old) → IsWhole A end
+  read_whole keeps back A was = whole_undone A A (state g begun) mid (begins g A old begun is was) kept keeps end then back
+
+-- what a database has it has within a transaction too
+pub begun_has : {S : Type 0} (g : Ghosts S) (old begun : Held S) (P : Database → Type 0) → begun ≡ record old { in_transaction = true } → P (state g old).now
+    → P (state g begun).now
+begun_has g old begun P is has = rw is has
+
+-- a call that leaves the connection of a register whole leaves the register so
+pub still_kept : {S : Type 0} {g : Ghosts S} (old new : Held S) (founded : Bool) (A : History)
+    → IsKept g (record { conn = old; is_founded = founded; accepted = A; torn = None }) → new.in_transaction ≡ false
+    → (IsWhole A (state g old) → IsWhole A (state g new)) → IsKept g (record { conn = new; is_founded = founded; accepted = A; torn = None })
+still_kept old new founded A was out still = record {
+  autocommit = out;
+  whole = λ yes intact. still (was.whole yes refl);
+  crash = λ yes clean db may. inl ((still (was.whole yes refl)).crash clean db may);
+}
 
 -- what is said of a value under a premise that the call's success gives
 pub if_ok : {T E : Type 0} (P : Type 0) (Q : T → Type 0) (r : Result T E) → OnOk r P → (P → IfOk r Q) → IfOk r Q
