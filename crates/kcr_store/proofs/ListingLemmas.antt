@@ -1,6 +1,7 @@
 -- What a reading of a database of any version gives, by what the database is.
 use Rattle.std.specs.Prelude.{MatchOption}
 use Rattle.std.proofs.Common.{◌≡◌, ◌≢◌, ◌⊎◌, inl, inr, ◌+◌, [], Option, Some, None, Result, Ok, Err, IfOk, IfErr, OnOk, IsTrue, refl, sym, ap, subst, ◌∙◌, arith}
+use Rattle.std.proofs.lemmas.Result.{IfOk-weaker}
 use Rattle.sqlite.specs.Effect.{Database}
 use Rattle.sqlite.specs.Schema.{Schema}
 use Rattle.sqlite.specs.State.{State, HasCleanDisk, IsLive}
@@ -21,10 +22,11 @@ use Rattle.kcr_store.specs.Whole.{IsListed}
 use Rattle.kcr_store.specs.declared.«open».OpenFault.{OpenFault}
 use Rattle.kcr_store.specs.declared.«open».OpenFault.TheVariants as opening
 use Rattle.kcr_store.specs.declared.«open».OpenFault.TheVariants.{Version}
-use Rattle.kcr_store.proofs.AuditLemmas.{held_of, listed}
+use Rattle.kcr_store.proofs.AuditLemmas.{listed}
 use Rattle.kcr_store.proofs.OpenLemmas.{apart, count, none_strange, nothing_accepted, of_ours, of_first_version, of_second_version, of_strange}
-use Rattle.kcr_store.proofs.StoreLemmas.{held_in, if_ok_then}
+use Rattle.kcr_store.proofs.StoreLemmas.{held_in}
 use Rattle.kcr_tables.specs.Held as held
+use Rattle.kcr_tables.proofs.HoldLemmas.{held_of}
 use Rattle.kcr_tables.specs.Joint.{HoldsTables}
 use Rattle.kcr_tables.specs.Schema.{register_schema}
 
@@ -71,8 +73,8 @@ version_by Foreign db result stands gives t h = absurd (none_strange 3 db.schema
 pub rows_by : (standing : Standing) (db : Database) (result : Result View OpenFault) → StandsAs db.schema standing → Gives standing db result
     → (m : Tables) → HoldsTables m db → IfOk result (IsListed m)
 rows_by standing db result stands gives m h =
-    if_ok_then _ _ result (λ view k. listed m k.1.db h.tables.t view k.1.kept h.tables.stands k.1.lists)
-    (is_given _ _ result (version_by standing db result stands gives h.tables.t (held_of m h)))
+    IfOk-weaker result _ _ (λ view k. listed k.1.kept h.tables.stands k.1.lists)
+    (is_given _ _ result (version_by standing db result stands gives h.tables.t (held_of m db h)))
 
 -- a register of an older version is not strange
 pub not_strange : (from : Older) (t : held.Tables) (db : Database) → IsStrange db.schema → HoldsUpTo (14 + number_of from) db t → ⊥
@@ -109,7 +111,7 @@ strange_by standing s stands (inr foreign) = (subst (StandsAs s) foreign stands)
 -- the rows of a history's tables, whose number is this version's
 own_here : (A : History) (db : Database) (result : Result View OpenFault) (h : HoldsTables (tables A) db)
     → GivesOr (h.tables.t.versions ≢ numbered 3) (IsNumberedView h.tables.t) result → GivesOr ⊥ (IsListed (tables A)) result
-own_here A db (Ok view) h k = listed (tables A) k.1.db h.tables.t view k.1.kept h.tables.stands k.1.lists
+own_here A db (Ok view) h k = listed k.1.kept h.tables.stands k.1.lists
 own_here A db (Err fault) h k = λ version. k version h.tables.stands.versions
 
 module _ (A : History) (old : State) (settled : IsTrue old.is_open → old.now ≡ old.committed) (lives : IsLive old) (clean : HasCleanDisk old) (live : IsTrue old.is_open)
@@ -120,7 +122,7 @@ module _ (A : History) (old : State) (settled : IsTrue old.is_open → old.now �
   own_by Current result stands gives =
       let s = (of_ours A old settled lives clean live f stands).now in
       let h = held_in A old.now s in
-      own_here A old.now result h (gives h.tables.t (held_of (tables A) h))
+      own_here A old.now result h (gives h.tables.t (held_of (tables A) old.now h))
   own_by Second result stands gives = gives.own A (of_second_version A old settled lives clean live f stands)
   own_by First result stands gives = gives.own A (of_first_version A old settled lives clean live f stands)
   own_by Numbered result stands gives = absurd (of_strange A old settled lives clean live f stands.0)

@@ -9,18 +9,18 @@ use Rattle.sqlite.specs.State.{State, Opens, HasCleanDisk, IsLive, IsUnchanged, 
 use Rattle.sqlite.specs.Store.{Ghosts}
 use Rattle.sqlite.specs.Tree.{Trees}
 use Rattle.sqlite.specs.Held.{Held, state}
-use Rattle.sqlite.proofs.StateLemmas.{survives_then}
 use Rattle.kcr_history.specs.History.{History}
+use Rattle.kcr_history.specs.Tables.{tables}
 use Rattle.kcr_tables.specs.Schema.{register_schema, all_tables}
 use Rattle.kcr_tables.specs.Made.{first}
-use Rattle.kcr_tables.specs.Held.{Tables, Holds}
+use Rattle.kcr_tables.specs.Joint.{HoldsTables}
 use Rattle.kcr_tables.proofs.OpenLemmas.{one_schema}
 use Rattle.kcr_older.specs.Older.{IsTablesAs, StoresAs}
 use Rattle.kcr_older.specs.Standing.{outline, LooksLike, IsStrange, no_schema}
 use Rattle.kcr_store.specs.Stored.{Stores, IsTables}
 use Rattle.kcr_store.specs.Register.{Shows, IsKept}
 use Rattle.sqlite_wal.specs.Recovery.{Image}
-use Rattle.kcr_store.specs.Opening.{IsFounded, IsHeld, IsHeldIn}
+use Rattle.kcr_store.specs.Opening.{IsBrought, IsFounded, IsHeld, IsHeldIn}
 
 -- how many tables there are in a database that looks like a register of this version
 counted : (version : ℕ) (s : Schema) → LooksLike version s → length s.tables ≡ length (take (14 + version) all_tables)
@@ -35,10 +35,6 @@ apart version s t like is = ap count (sym is) ∙ counted version s like
 
 pub of_first : (version : ℕ) (s : Schema) → s ≡ first (14 + version) → LooksLike version s
 of_first version s is = ap (λ (t : Schema). map outline t.tables) is
-
-pub on_ok : {T E : Type 0} (P Q : Type 0) (r : Result T E) → (P → Q) → OnOk r P → OnOk r Q
-on_ok P Q (Ok x) f h = f h
-on_ok P Q (Err e) f h = tt
 
 module _ {S : Type 0} (g : Ghosts S) (settled : (s : S) (db : Trees) → IsTrue (g.view s).is_open → g.recovers s db → db ≡ (g.view s).committed) where
   pub adopted : (old : State) (new : Held S) (is_founded : Bool) (accepted : History) → new.in_transaction ≡ false → (IsTrue is_founded → IsFounded accepted old)
@@ -120,40 +116,21 @@ module _ (accepted : History) (old : State) (settled : IsTrue old.is_open → ol
     | inr (inr (inr two)) ↦ none_strange 2 old.now.schema strange (stored_as 2 two).schema (inr (inl refl))
   ]
 
--- what a call says where it succeeds, under a premise that its success gives
-pub on_ok_if : {T E : Type 0} (P Q : Type 0) (r : Result T E) → OnOk r P → (P → OnOk r Q) → OnOk r Q
-on_ok_if P Q (Ok x) p f = f p
-on_ok_if P Q (Err e) p f = tt
-
 -- ---- a reading that is rolled back
 
 module _ {S : Type 0} (g : Ghosts S) (old begun : Held S) (is : begun ≡ record old { in_transaction = true }) where
   pub begun_inside : IsTrue (state g begun).in_transaction
   begun_inside = rw is refl
 
-  pub begun_holds : (t : Tables) → Holds (state g old).now t → Holds (state g begun).now t
-  begun_holds t held = rw is (record { schema = held.schema; kept = held.kept })
-
-  pub begun_shows : (accepted : History) → (IsTrue (state g old).is_open → Shows accepted (state g old)) → IsTrue (state g begun).is_open → Shows accepted (state g begun)
+  pub begun_shows : (accepted : History) → (IsTrue (state g old).is_open → Shows accepted (state g old)) → IsTrue (state g begun).is_open
+      → Shows accepted (state g begun)
   begun_shows accepted shows = rw is (λ live. let s = shows live in record { now = s.now; committed = s.committed })
 
-  pub undone_survives : (mid end : State) → Survives (state g begun) mid (λ _. ⊥) → Survives mid end (λ _. ⊥) → Survives (state g old) end (λ _. ⊥)
-  undone_survives mid end kept then =
-      let s = subst (λ (h : Held S). Survives (state g h) mid (λ _. ⊥)) is kept in
-      survives_then (state g old) mid end _ _ (λ _. ⊥) (λ _ db none. none) (λ _ db none. none)
-      (record { clean = s.clean; shield = s.shield; counts = s.counts; limit = s.limit; closes = s.closes; crash = s.crash }) then
+-- ---- a register of an older version, brought to this one
 
-pub undone_shows : (accepted : History) (begun mid end : State) → (IsTrue begun.is_open → Shows accepted begun) → IsTrue begun.in_transaction → (IsTrue begun.in_transaction → KeepsCommit begun mid) → IsRolledBack mid end → IsTrue end.is_open → Shows accepted end
-undone_shows accepted begun mid end shows inside keeps r live =
-    let k = keeps inside in
-    let was = subst (Stores accepted) (sym (k.committed (r.was_open live))) (shows (k.was_open (r.was_open live))).committed in
-    let is = r.undone live in
-    record { now = subst (Stores accepted) (sym is.0) was; committed = subst (Stores accepted) (sym is.1) was }
-
-pub unchanged_shows : (accepted : History) (old new : State) → (IsTrue old.is_open → Shows accepted old) → IsUnchanged old new → Shows accepted new × IsTrue new.is_open
-unchanged_shows accepted old new shows u =
-    let s = shows u.0.was_open in
-    (record { now = subst (Stores accepted) (sym u.0.now_is) s.now; committed = subst (Stores accepted) (sym u.0.committed_is) s.committed }, u.0.is_open)
+pub brought_tables : {version : ℕ} {before : Database} (db : Database) → ((A : History) → StoresAs version A before → HoldsTables (tables A) db)
+    → IsBrought version before db.trees
+brought_tables db holds = record { tables = λ A s. record { register = s.tables.register; kept = (holds A s).tables } }
 
 -- ---- what the files held is what the connection shows
 

@@ -4,10 +4,8 @@ use Rattle.std.specs.Prelude.{AllPairs, IsTrue, slice_get, MatchResult}
 use Rattle.std.specs.Option.{ok_or}
 use Rattle.std.specs.List.{list_any, find}
 use Rattle.std.specs.List.Sorted.{IsPermutation}
-use Rattle.std.proofs.lemmas.Bool.{eqb-true}
-use Rattle.std.proofs.lemmas.List.{get_or-map, length-map}
-use Rattle.std.proofs.lemmas.List.Kept.{AllPairs-filter}
 use Rattle.std.proofs.lemmas.List.Sorted.{IsPermutation-map, list_any-IsPermutation}
+use Rattle.sqlite_trees.proofs.ListLemmas.{ascending-filter, ascending-map}
 use Rattle.sqlite_keyed.proofs.ListLemmas.{slice_get-filter}
 use Rattle.kcr_base.specs.Same.{is_before}
 use Rattle.kcr_base.specs.declared.refusal.Refusal.TheVariants.{Unknown}
@@ -39,31 +37,16 @@ use Rattle.kcr_tables.proofs.ViewLemmas.{asked_shows}
 use Rattle.kcr_history.specs.declared.questions.BagShown.{BagShown}
 use Rattle.kcr_history.specs.Questions.{holders_by, holders_on, IsBagShown}
 use Rattle.kcr_store.specs.Rows.{IsRowOf, HasNoRow}
-use Rattle.kcr_store.proofs.StoreLemmas.{by_code}
-
--- ---- lists
-
--- what holds of any two holds of what is made of them
-pairs_map : {X Y : Type 0} (f : X → Y) (R : Y → Y → Type 0) (xs : List X) → AllPairs (λ a b. R (f a) (f b)) xs → AllPairs R (map f xs)
-pairs_map f R [] h = λ i j d lt below. absurd (omega arith)
-pairs_map f R (x ∷ xs) h = λ i j d lt below.
-    let within : j < length (x ∷ xs) = omega (arith, length-map (x ∷ xs) f) in
-    subst₂ R (sym (get_or-map f (x ∷ xs) i x d (omega arith))) (sym (get_or-map f (x ∷ xs) j x d within)) (h i j x lt within)
-
-not_empty : (n : ℕ) → (suc n == 0) ≡ false
-not_empty n = by_test (suc n == 0) refl
-  where
-    by_test : (b : Bool) → (suc n == 0) ≡ b → b ≡ false
-    by_test true e = absurd (let same : suc n ≡ 0 = eqb-true (suc n) 0 e in omega arith)
-    by_test false e = refl
+use Rattle.kcr_store.proofs.StoreLemmas.{all_pairs, by_code}
 
 -- a test keeps something where something passes it
 some_kept : {X : Type 0} (test : X → Bool) (xs : List X) → list_any test xs ≡ not (length (filter test xs) == 0)
 some_kept test [] = refl
 some_kept test (x ∷ xs) = by_test (test x) (some_kept test xs)
   where
-    by_test : (b : Bool) → list_any test xs ≡ not (length (filter test xs) == 0) → (b || list_any test xs) ≡ not (length (cond b (x ∷ filter test xs) (filter test xs)) == 0)
-    by_test true ih = ap not (sym (not_empty (length (filter test xs))))
+    by_test : (b : Bool) → list_any test xs ≡ not (length (filter test xs) == 0)
+        → (b || list_any test xs) ≡ not (length (cond b (x ∷ filter test xs) (filter test xs)) == 0)
+    by_test true ih = grind arith
     by_test false ih = ih
 
 -- ---- what the rows of a register's tables show
@@ -86,8 +69,7 @@ module _ (A : History) (register : IsRegister A) (t : Tables) (stands : Stands (
     items = subst (IsPermutation (map (λ item. item.code) (filter (lies_in serial) (items A)))) (sym codes)
         (IsPermutation-map (λ item. item.code) (filter (lies_in serial) (items A)) (filter (lies_in serial) t.items) (filter-order (lies_in serial) (items A) t.items stands.items));
     order = subst (AllPairs (λ a b. IsTrue (is_before a b))) (sym codes)
-        (pairs_map (λ item. item.code) (λ a b. IsTrue (is_before a b)) (filter (lies_in serial) t.items)
-        (AllPairs-filter (λ (a b : Item). IsTrue (is_before a.code b.code)) (lies_in serial) t.items (by_code t.items rises.items)));
+        (all_pairs _ _ (ascending-map _ (λ item. item.code) (filter (lies_in serial) t.items) (ascending-filter _ (lies_in serial) t.items (by_code t.items rises.items))));
   }
 
   -- the ceremony is planned where it has a row

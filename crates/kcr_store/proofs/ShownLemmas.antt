@@ -9,13 +9,13 @@ use Rattle.std.specs.Cmp.Lexicographic.{bytes_decides}
 use Rattle.std.proofs.lemmas.Bool.{false≢true, cases_order, and_parts, and_from, eqb-true, eq-eqb}
 use Rattle.std.proofs.lemmas.Cmp.{nat_cmp_total, on_total, then_total}
 use Rattle.std.proofs.lemmas.List.{map-append, get_or_default}
-use Rattle.std.proofs.lemmas.List.Elements.{All-nil, All-cons}
-use Rattle.std.proofs.lemmas.List.Kept.{AllPairs-cons}
 use Rattle.std.proofs.lemmas.List.MinMax.{ranks_by}
 use Rattle.std.proofs.lemmas.List.Sorted.{sorted_far, IsPermutation-map, IsPermutation-sym, IsPermutation-trans}
 use Rattle.sqlite.specs.Tree.{IsAscending}
+use Rattle.sqlite_trees.proofs.ListLemmas.{along_permutation, ascending_from_map, ascending_weaker}
+use Rattle.sqlite_keyed.proofs.ListLemmas.{map_same}
 use Rattle.kcr_base.specs.Same.{same_text, same_role, role_number}
-use Rattle.kcr_base.proofs.RowsLemmas.{Shuffled, shuffled, filter-order}
+use Rattle.kcr_base.proofs.RowsLemmas.{filter-order}
 use Rattle.kcr_people.specs.declared.Person.{Person}
 use Rattle.kcr_people.specs.declared.Training.{Training}
 use Rattle.kcr_people.specs.declared.Withdrawal.{Withdrawal}
@@ -35,7 +35,7 @@ use Rattle.kcr_history.specs.declared.questions.PersonShown.{PersonShown}
 use Rattle.kcr_history.specs.declared.questions.RoleShown.{RoleShown}
 use Rattle.kcr_history.specs.Questions.{role_shown, is_role_before, IsByInitials, roles_of, person_of, IsPersonShown, ArePeopleShown}
 use Rattle.kcr_store.specs.Shown.{AreRolesOf}
-use Rattle.kcr_store.proofs.StoreLemmas.{by_initials}
+use Rattle.kcr_store.proofs.StoreLemmas.{all_pairs, by_initials}
 
 -- ---- people one after the other
 
@@ -59,16 +59,14 @@ role_cmp_total : IsTotalOrder role_cmp
 role_cmp_total = then_total (then_total (on_total (λ (a : RoleShown). a.since) nat_cmp_total) (on_total (λ (a : RoleShown). role_number a.role) nat_cmp_total)) (on_total (λ (a : RoleShown). a.until) nat_cmp_total)
 
 before : (a b : RoleShown) → is_lt (role_cmp a b) ≡ is_role_before a b
-before a b = by_tests (nat_lt a.since b.since) (a.since == b.since) (nat_lt (role_number a.role) (role_number b.role)) (role_number a.role == role_number b.role) (nat_lt a.until b.until) (a.until == b.until)
+before a b =
+    by_tests (nat_lt a.since b.since) (a.since == b.since) (nat_lt (role_number a.role) (role_number b.role)) (role_number a.role == role_number b.role)
+    (nat_lt a.until b.until) (a.until == b.until)
   where
-    by_tests : (p q r s t u : Bool) → is_lt (ordering_then (ordering_then (cond p Less (cond q Equal Greater)) (cond r Less (cond s Equal Greater))) (cond t Less (cond u Equal Greater))) ≡ (p || (q && (r || (s && t))))
-    by_tests true q r s t u = refl
-    by_tests false false r s t u = refl
-    by_tests false true true s t u = refl
-    by_tests false true false false t u = refl
-    by_tests false true false true true u = refl
-    by_tests false true false true false true = refl
-    by_tests false true false true false false = refl
+    by_tests : (p q r s t u : Bool)
+        → is_lt (ordering_then (ordering_then (cond p Less (cond q Equal Greater)) (cond r Less (cond s Equal Greater))) (cond t Less (cond u Equal Greater)))
+        ≡ (p || (q && (r || (s && t))))
+    by_tests p q r s t u = grind arith
 
 pub in_order : (roles : List RoleShown) → IsSortedBy (λ a b. is_lt (role_cmp a b)) roles → AllPairs (λ a b. is_role_before b a ≡ false) roles
 in_order roles up = λ i j d lt below.
@@ -80,17 +78,16 @@ in_order roles up = λ i j d lt below.
 abbrev Differ : RoleShown → RoleShown → Type 0
 Differ a b = (a.since == b.since && role_number a.role == role_number b.role) && a.until == b.until ≡ false
 
-equal : (a b : RoleShown) → role_cmp a b ≡ Equal → ((a.since == b.since && role_number a.role == role_number b.role) && a.until == b.until) ≡ true
-equal a b = by_tests (nat_lt a.since b.since) (a.since == b.since) (nat_lt (role_number a.role) (role_number b.role)) (role_number a.role == role_number b.role) (nat_lt a.until b.until) (a.until == b.until)
+equal : (a b : RoleShown) → role_cmp a b ≡ Equal
+    → ((a.since == b.since && role_number a.role == role_number b.role) && a.until == b.until) ≡ true
+equal a b =
+    by_tests (nat_lt a.since b.since) (a.since == b.since) (nat_lt (role_number a.role) (role_number b.role)) (role_number a.role == role_number b.role)
+    (nat_lt a.until b.until) (a.until == b.until)
   where
-    by_tests : (p q r s t u : Bool) → ordering_then (ordering_then (cond p Less (cond q Equal Greater)) (cond r Less (cond s Equal Greater))) (cond t Less (cond u Equal Greater)) ≡ Equal → ((q && s) && u) ≡ true
-    by_tests true q r s t u e = absurd (let f : Less ≡ Equal = e in cc)
-    by_tests false false r s t u e = absurd (let f : Greater ≡ Equal = e in cc)
-    by_tests false true true s t u e = absurd (let f : Less ≡ Equal = e in cc)
-    by_tests false true false false t u e = absurd (let f : Greater ≡ Equal = e in cc)
-    by_tests false true false true true u e = absurd (let f : Less ≡ Equal = e in cc)
-    by_tests false true false true false true e = refl
-    by_tests false true false true false false e = absurd (let f : Greater ≡ Equal = e in cc)
+    by_tests : (p q r s t u : Bool)
+        → ordering_then (ordering_then (cond p Less (cond q Equal Greater)) (cond r Less (cond s Equal Greater))) (cond t Less (cond u Equal Greater)) ≡ Equal
+        → ((q && s) && u) ≡ true
+    by_tests p q r s t u e = grind arith
 
 -- of two that differ one stands before the other
 one_before : (a b : RoleShown) → Differ a b → is_role_before b a ≡ false → is_role_before a b ≡ true
@@ -102,65 +99,34 @@ one_before a b differ not_after = sym (before a b) ∙ by_order (role_cmp a b) r
     by_order Greater e = absurd (false≢true (sym not_after ∙ sym (before b a) ∙ ap is_lt (role_cmp_total.antisymm b a ∙ ap ordering_reverse e)))
 
 turned : (a b : RoleShown) → Differ a b → Differ b a
-turned a b differ = by_test ((b.since == a.since && role_number b.role == role_number a.role) && b.until == a.until) refl
-  where
-    by_test : (t : Bool) → ((b.since == a.since && role_number b.role == role_number a.role) && b.until == a.until) ≡ t → t ≡ false
-    by_test false e = refl
-    by_test true e =
-        let p = and_parts (b.since == a.since && role_number b.role == role_number a.role) (b.until == a.until) e in
-        let q = and_parts (b.since == a.since) (role_number b.role == role_number a.role) p.0 in
-        absurd (false≢true (sym differ ∙ and_from (a.since == b.since && role_number a.role == role_number b.role) (a.until == b.until)
-        (and_from (a.since == b.since) (role_number a.role == role_number b.role) (eq-eqb a.since b.since (sym (eqb-true b.since a.since q.0))) (eq-eqb (role_number a.role) (role_number b.role) (sym (eqb-true (role_number b.role) (role_number a.role) q.1))))
-        (eq-eqb a.until b.until (sym (eqb-true b.until a.until p.1)))))
+turned a b differ = grind arith
 
--- what holds of each and of each two holds in another order
-record Reordered {X : Type 0} (R : X → X → Type 0) (xs ys : List X) : Type 1 where
-  each : (P : X → Type 0) → AllByRecursion P xs → AllByRecursion P ys
-  pairs : IsAscending R xs → IsAscending R ys
+-- what holds of each two holds in another order
+abbrev Reordered : {X : Type 0} → (X → X → Type 0) → List X → List X → Type 0
+Reordered R xs ys = ((y : _) → AllByRecursion (R y) xs → AllByRecursion (R y) ys) × (IsAscending R xs → IsAscending R ys)
 
-reordered : {X : Type 0} (R : X → X → Type 0) → ((x y : X) → R x y → R y x) → {xs ys : List X} → Shuffled xs ys → Reordered R xs ys
-reordered R turn Shuffled.nothing = record { each = λ P h. h; pairs = λ h. h }
-reordered R turn (Shuffled.under x xs ys s) =
-    let o = reordered R turn s in record { each = λ P h. (h.0, o.each P h.1); pairs = λ h. (o.each (R x) h.0, o.pairs h.1) }
-reordered R turn (Shuffled.flipped x y xs) = record { each = λ P h. (h.1.0, (h.0, h.1.1)); pairs = λ h. ((turn x y h.0.0, h.1.0), (h.0.1, h.1.1)) }
-reordered R turn (Shuffled.after xs ys zs s t) =
-    let o = reordered R turn s in
-    let m = reordered R turn t in
-    record { each = λ P h. m.each P (o.each P h); pairs = λ h. m.pairs (o.pairs h) }
-
-each_of : {X : Type 0} (P : X → Type 0) (xs : List X) → AllByRecursion P xs → All P xs
-each_of P [] h = All-nil P
-each_of P (x ∷ xs) h = All-cons P x xs h.0 (each_of P xs h.1)
-
-pairs_of : {X : Type 0} (R : X → X → Type 0) (xs : List X) → IsAscending R xs → AllPairs R xs
-pairs_of R [] h = λ i j d lt below. absurd (omega arith)
-pairs_of R (x ∷ xs) h = AllPairs-cons R x xs (each_of (R x) xs h.0) (pairs_of R xs h.1)
+reordered : {X : Type 0} (R : X → X → Type 0) → ((x y : X) → R x y → R y x) → (xs ys : List X) → IsPermutation xs ys → Reordered R xs ys
+reordered R turn =
+    along_permutation (Reordered R) (λ l. (λ y all. all, λ up. up)) (λ x l k h. (λ y all. (all.0, h.0 y all.1), λ up. (h.0 x up.0, h.1 up.1)))
+    (λ x y l. (λ z all. (all.1.0, (all.0, all.1.1)), λ up. ((turn x y up.0.0, up.1.0), (up.0.1, up.1.1))))
+    (λ a b c p q. (λ y all. q.0 y (p.0 y all), λ up. q.1 (p.1 up)))
 
 -- those that are in order and differ each stand before the next
-strictly : (roles : List RoleShown) → IsAscending Differ roles → AllPairs (λ a b. is_role_before b a ≡ false) roles → AllPairs (λ a b. IsTrue (is_role_before a b)) roles
-strictly roles differ order = λ i j d lt below. one_before (get_or roles i d) (get_or roles j d) (pairs_of Differ roles differ i j d lt below) (order i j d lt below)
+strictly : (roles : List RoleShown) → IsAscending Differ roles → AllPairs (λ a b. is_role_before b a ≡ false) roles
+    → AllPairs (λ a b. IsTrue (is_role_before a b)) roles
+strictly roles differ order =
+    λ i j d lt below. one_before (get_or roles i d) (get_or roles j d) (all_pairs Differ roles differ i j d lt below) (order i j d lt below)
 
 -- ---- trainings of different keys
 
 module _ (withdrawn : List Withdrawal) (who : List ℕ) where
   -- of one person they differ in a day or the role
-  apart : (x y : Training) → is_training_of who x ≡ true → is_training_of who y ≡ true → by_key 4 (training_row x) (training_row y) ≡ Less → Differ (role_shown withdrawn x) (role_shown withdrawn y)
-  apart x y p q less = by_test ((x.since == y.since && role_number x.role == role_number y.role) && x.until == y.until) refl
-    where
-      other : same_training y x ≡ false
-      other = key_of_trainings y x ∙ ap is_eq less
-
-      by_test : (t : Bool) → ((x.since == y.since && role_number x.role == role_number y.role) && x.until == y.until) ≡ t → t ≡ false
-      by_test false e = refl
-      by_test true e =
-          let a = and_parts (x.since == y.since && role_number x.role == role_number y.role) (x.until == y.until) e in
-          let b = and_parts (x.since == y.since) (role_number x.role == role_number y.role) a.0 in
-          let own : y.who ≡ x.who = (bytes_decides y.who who).0 q ∙ sym ((bytes_decides x.who who).0 p) in
-          absurd (false≢true (sym other ∙ and_from (same_text y.who x.who && same_role y.role x.role && y.since == x.since) (y.until == x.until)
-          (and_from (same_text y.who x.who && same_role y.role x.role) (y.since == x.since)
-          (and_from (same_text y.who x.who) (same_role y.role x.role) ((bytes_decides y.who x.who).1 own) (eq-eqb (role_number y.role) (role_number x.role) (sym (eqb-true (role_number x.role) (role_number y.role) b.1))))
-          (eq-eqb y.since x.since (sym (eqb-true x.since y.since b.0))))
-          (eq-eqb y.until x.until (sym (eqb-true x.until y.until a.1)))))
+  apart : (x y : Training) → is_training_of who x ≡ true → is_training_of who y ≡ true → by_key 4 (training_row x) (training_row y) ≡ Less
+      → Differ (role_shown withdrawn x) (role_shown withdrawn y)
+  apart x y p q less =
+      let other : same_training y x ≡ false = key_of_trainings y x ∙ ap is_eq less in
+      let own : same_text y.who x.who ≡ true = (bytes_decides y.who x.who).1 ((bytes_decides y.who who).0 q ∙ sym ((bytes_decides x.who who).0 p)) in
+      grind arith
 
   first_apart : (x : Training) → is_training_of who x ≡ true → (xs : List Training) → AllByRecursion (λ row. by_key 4 (training_row x) row ≡ Less) (map training_row xs)
       → AllByRecursion (Differ (role_shown withdrawn x)) (roles_of xs withdrawn who)
@@ -184,13 +150,10 @@ module _ (withdrawn : List Withdrawal) (who : List ℕ) where
 -- ---- the withdrawal of a training
 
 -- two rows of the table are of two trainings
-other_training : (rows : List Withdrawal) → IsAscending (λ a b. by_key 4 a b ≡ Less) (map withdrawal_row rows) → IsAscending (λ a b. same_withdrawn b a ≡ false) rows
-other_training [] up = tt
-other_training (x ∷ xs) up = (later xs up.0, other_training xs up.1)
-  where
-    later : (ys : List Withdrawal) → AllByRecursion (λ row. by_key 4 (withdrawal_row x) row ≡ Less) (map withdrawal_row ys) → AllByRecursion (λ b. same_withdrawn b x ≡ false) ys
-    later [] h = tt
-    later (y ∷ ys) h = (key_of_withdrawals y x ∙ ap is_eq h.0, later ys h.1)
+other_training : (rows : List Withdrawal) → IsAscending (λ a b. by_key 4 a b ≡ Less) (map withdrawal_row rows) → AllPairs (λ a b. same_withdrawn b a ≡ false) rows
+other_training rows up =
+    all_pairs _ rows
+    (ascending_weaker _ _ (λ a b less. key_of_withdrawals b a ∙ ap is_eq less) rows (ascending_from_map (λ a b. by_key 4 a b ≡ Less) withdrawal_row rows up))
 
 -- two withdrawals of a training are of one training
 both_of : (row : Training) (a b : Withdrawal) → is_of row a ≡ true → is_of row b ≡ true → same_withdrawn b a ≡ true
@@ -213,20 +176,17 @@ at_most_one row rows differ = λ i c low p j d below q. by_place i c low p j d b
 -- the same day in whatever order the rows are
 same_shown : (table rows : List Withdrawal) → IsPermutation table rows → IsAscending (λ a b. by_key 4 a b ≡ Less) (map withdrawal_row rows) → (row : Training) → role_shown table row ≡ role_shown rows row
 same_shown table rows p up row =
-    let one = at_most_one row rows (pairs_of (λ a b. same_withdrawn b a ≡ false) rows (other_training rows up)) in
+    let one = at_most_one row rows (other_training rows up) in
     ap (λ (found : Option Withdrawal). record { since = row.since; role = row.role; until = row.until; withdrawn = option_map (λ withdrawal. withdrawal.day) found })
     (find-order (is_of row) rows table (IsPermutation-sym table rows p) one)
-
-map_alike : {X Y : Type 0} (f g : X → Y) → ((x : X) → f x ≡ g x) → (xs : List X) → map f xs ≡ map g xs
-map_alike f g alike [] = refl
-map_alike f g alike (x ∷ xs) = rw (alike x, map_alike f g alike xs)
 
 -- ---- what a register shows
 
 module _ (A : History) (t : Tables) (stands : Stands (tables A) t) (rises : Rises t) where
   roles_shown : (who : List ℕ) → IsPermutation (roles_of (trainings A) (withdrawals A) who) (roles_of t.trainings t.withdrawals who)
   roles_shown who =
-      rw (map_alike (role_shown (withdrawals A)) (role_shown t.withdrawals) (same_shown (withdrawals A) t.withdrawals stands.withdrawals rises.withdrawals) (filter (is_training_of who) (trainings A)))
+      rw (map_same (role_shown (withdrawals A)) (role_shown t.withdrawals) (same_shown (withdrawals A) t.withdrawals stands.withdrawals rises.withdrawals)
+      (filter (is_training_of who) (trainings A)))
       (IsPermutation-map (role_shown t.withdrawals) (filter (is_training_of who) (trainings A)) (filter (is_training_of who) t.trainings)
       (filter-order (is_training_of who) (trainings A) t.trainings stands.trainings))
 
@@ -234,7 +194,8 @@ module _ (A : History) (t : Tables) (stands : Stands (tables A) t) (rises : Rise
   person_shown shown are = record {
     roles = IsPermutation-trans (roles_of (trainings A) (withdrawals A) shown.who) (roles_of t.trainings t.withdrawals shown.who) shown.roles.items (roles_shown shown.who) are.roles;
     order = strictly shown.roles.items
-        ((reordered Differ turned (shuffled (roles_of t.trainings t.withdrawals shown.who) shown.roles.items are.roles)).pairs (all_apart t.withdrawals shown.who t.trainings rises.trainings))
+        ((reordered Differ turned (roles_of t.trainings t.withdrawals shown.who) shown.roles.items are.roles).1
+        (all_apart t.withdrawals shown.who t.trainings rises.trainings))
         are.order;
   }
 

@@ -1,14 +1,12 @@
 -- What a decision makes of the tables, and what a reading of them shows.
-use Rattle.std.proofs.Common.{◌≡◌, inl, inr, ℕ, List, [], ◌∷◌, map, Option, Some, None, Result, Ok, Err, Less, IfOk, IsTrue, refl, sym, ap, subst, ◌∙◌, arith}
-use Rattle.std.specs.Prelude.{MatchOption, All, AllPairs}
-use Rattle.std.specs.List.{AllByRecursion}
+use Rattle.std.proofs.Common.{◌≡◌, inl, inr, ℕ, List, [], ◌∷◌, map, Option, Some, None, Ok, Err, Less, IsTrue, refl, sym, ap, subst, ◌∙◌, arith}
+use Rattle.std.specs.Prelude.{MatchOption, AllPairs}
 use Rattle.std.specs.Ordering.{is_lt}
-use Rattle.std.proofs.lemmas.List.Elements.{All-nil, All-cons}
-use Rattle.std.proofs.lemmas.List.Kept.{AllPairs-cons}
 use Rattle.sqlite.specs.declared.types.Value.TheVariants.{Text}
 use Rattle.sqlite.specs.Effect.{Database}
 use Rattle.sqlite.specs.Order.{Row, value_cmp}
 use Rattle.sqlite.specs.Tree.{IsAscending}
+use Rattle.sqlite_trees.proofs.ListLemmas.{ascending-get_or, ascending_from_map, ascending_weaker}
 use Rattle.sqlite_value.proofs.OrderLemmas.{value_cmp-Text, then-Equal}
 use Rattle.kcr_base.specs.Same.{is_before}
 use Rattle.kcr_base.specs.declared.refusal.Refusal.{Refusal}
@@ -17,13 +15,12 @@ use Rattle.kcr_people.specs.declared.Person.{Person}
 use Rattle.kcr_history.specs.declared.commands.Answer.{Answer}
 use Rattle.kcr_history.specs.declared.commands.Command.{Command}
 use Rattle.kcr_history.specs.declared.commands.Entry.{Entry}
-use Rattle.kcr_history.specs.declared.commands.Reply.{Reply}
 use Rattle.kcr_history.specs.declared.views.Change.{Change}
 use Rattle.kcr_history.specs.declared.views.Verdict.{Verdict}
 use Rattle.kcr_history.specs.History.{History}
 use Rattle.kcr_history.specs.Tables.{tables}
 use Rattle.kcr_history.specs.Changes.{changed_by}
-use Rattle.kcr_history.specs.Machine.{IsRegister, IsAcceptance, IsRepeat, machine, Accepts}
+use Rattle.kcr_history.specs.Machine.{IsRegister, IsAcceptance, IsRepeat}
 use Rattle.kcr_tables.specs.Keyed.{by_key}
 use Rattle.kcr_cells.specs.Rows.{person_row, item_row}
 use Rattle.kcr_cells.specs.States.{loose_value, within_value}
@@ -32,7 +29,7 @@ use Rattle.kcr_tables.specs.Joint.{HoldsTables}
 use Rattle.kcr_tables.proofs.JointLemmas.{same_holds}
 use Rattle.kcr_tables.specs.Refusals.{IsFault}
 use Rattle.kcr_history.specs.Questions.{IsByInitials}
-use Rattle.kcr_store.specs.Steps.{Steps, IsNext, with_answer}
+use Rattle.kcr_store.specs.Steps.{Steps, with_answer}
 use Rattle.kcr_store.specs.Stored.{Stores}
 
 -- the tables that the database holds
@@ -76,33 +73,19 @@ first_stores db h = record { schema = h.schema; tables = record { register = tt;
 
 -- ---- rows in the order of their keys
 
+-- what holds of each row and each later one holds of any two
+pub all_pairs : {X : Type 0} (R : X → X → Type 0) (xs : List X) → IsAscending R xs → AllPairs R xs
+all_pairs R xs up i j d lt below = ascending-get_or R xs i j d up lt below
+
 -- of rows whose key is a text two stand in the order of its bytes
-module _ {X : Type 0} (text : X → List ℕ) (rest : X → Row) where
-  abbrev row_of : X → Row
-  row_of x = Text (text x) ∷ rest x
-
-  before : (a b : X) → by_key 1 (row_of a) (row_of b) ≡ Less → IsTrue (is_before (text a) (text b))
-  before a b e = ap is_lt (sym (value_cmp-Text (text a) (text b)) ∙ sym (then-Equal (value_cmp (Text (text a)) (Text (text b)))) ∙ e)
-
-  all_before : (x : X) (xs : List X) → AllByRecursion (λ row. by_key 1 (row_of x) row ≡ Less) (map row_of xs) → All (λ y. IsTrue (is_before (text x) (text y))) xs
-  all_before x [] up = All-nil (λ y. IsTrue (is_before (text x) (text y)))
-  all_before x (y ∷ xs) up = All-cons (λ y. IsTrue (is_before (text x) (text y))) y xs (before x y up.0) (all_before x xs up.1)
-
-  pub by_text : (xs : List X) → IsAscending (λ a b. by_key 1 a b ≡ Less) (map row_of xs) → AllPairs (λ a b. IsTrue (is_before (text a) (text b))) xs
-  by_text [] up = λ i j d lt below. absurd (omega arith)
-  by_text (x ∷ xs) up = AllPairs-cons (λ a b. IsTrue (is_before (text a) (text b))) x xs (all_before x xs up.0) (by_text xs up.1)
+by_text : {X : Type 0} (text : X → List ℕ) (rest : X → Row) (xs : List X) → IsAscending (λ a b. by_key 1 a b ≡ Less) (map (λ x. Text (text x) ∷ rest x) xs)
+    → IsAscending (λ a b. IsTrue (is_before (text a) (text b))) xs
+by_text text rest xs up =
+    ascending_weaker _ _ (λ a b e. ap is_lt (sym (value_cmp-Text (text a) (text b)) ∙ sym (then-Equal (value_cmp (Text (text a)) (Text (text b)))) ∙ e)) xs
+    (ascending_from_map (λ a b. by_key 1 a b ≡ Less) (λ x. Text (text x) ∷ rest x) xs up)
 
 pub by_initials : (people : List Person) → IsAscending (λ a b. by_key 1 a b ≡ Less) (map person_row people) → IsByInitials people
-by_initials people up = by_text (λ person. person.who) (λ person. Text person.name ∷ []) people up
+by_initials people up = all_pairs _ people (by_text (λ person. person.who) (λ person. Text person.name ∷ []) people up)
 
-pub by_code : (items : List Item) → IsAscending (λ a b. by_key 1 a b ≡ Less) (map item_row items) → AllPairs (λ a b. IsTrue (is_before a.code b.code)) items
+pub by_code : (items : List Item) → IsAscending (λ a b. by_key 1 a b ≡ Less) (map item_row items) → IsAscending (λ a b. IsTrue (is_before a.code b.code)) items
 by_code items up = by_text (λ item. item.code) (λ item. loose_value item.rest ∷ within_value item.rest ∷ []) items up
-
--- what is said of a value under a premise that the call's success gives
-pub if_ok_then : {T E : Type 0} (P Q : T → Type 0) (r : Result T E) → ((x : T) → P x → Q x) → IfOk r P → IfOk r Q
-if_ok_then P Q (Ok x) f h = f x h
-if_ok_then P Q (Err e) f h = tt
-
--- the history that a commit would make
-pub candidate_of : (A : History) (x : Command) (r : Reply) (A' A'' : History) → Steps A x (Ok r) A' → A'' ≡ A' → IsNext A x A''
-candidate_of A x r A' A'' step is = inr (step.0, subst (λ h. machine A x (Accepts step.0) h) (sym is) step.1)

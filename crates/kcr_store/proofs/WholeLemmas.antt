@@ -10,6 +10,10 @@ use Rattle.sqlite.proofs.StateLemmas.{survives_then}
 use Rattle.sqlite.specs.Effect.{Database}
 use Rattle.sqlite.specs.Steps.{FailsToCommit}
 use Rattle.sqlite.specs.Held.{Held, state}
+use Rattle.kcr_history.specs.declared.commands.Command.{Command}
+use Rattle.kcr_rows.proofs.InsideLemmas.{was_clean, survives_on}
+use Rattle.kcr_store.specs.Steps.{Steps, with_answer}
+use Rattle.kcr_store.specs.declared.perform.Prepared.{Prepared}
 use Rattle.kcr_store.specs.Stored.{IsTables, Stores}
 use Rattle.kcr_history.specs.History.{History}
 use Rattle.kcr_store.specs.Register.{IsKept, IsWhole, Leaves, LeavesEither}
@@ -21,38 +25,47 @@ pub record Began (accepted : History) (s : State) : Type 0 where
   pub shows : HasCleanDisk s → IsTrue s.is_open → register.Shows accepted s
   pub crash : Leaves accepted s
 
-pub begins : {S : Type 0} (g : Ghosts S) (accepted : History) (old begun : Held S) → begun ≡ record old { in_transaction = true } → IsWhole accepted (state g old) → Began accepted (state g begun)
-begins g accepted old begun is w = rw is (record { inside = refl; shows = λ clean live. let s = w.shows clean live in record { now = s.now; committed = s.committed }; crash = w.crash })
+pub begins : {S : Type 0} (g : Ghosts S) (accepted : History) (old begun : Held S) → begun ≡ record old { in_transaction = true } → IsWhole accepted (state g old)
+    → Began accepted (state g begun)
+begins g accepted old begun is w =
+    rw is (record {
+      inside = refl;
+      shows = λ clean live. let s = w.shows clean live in record { now = s.now; committed = s.committed };
+      crash = w.crash;
+    })
 
-pub was_clean : (old new : State) (P : Trees → Type 0) → Survives old new P → HasCleanDisk new → HasCleanDisk old
-was_clean old new P s clean = omega (arith, s.clean)
-
-pub begun_clean : {S : Type 0} (g : Ghosts S) (old begun : Held S) → begun ≡ record old { in_transaction = true } → HasCleanDisk (state g begun) → HasCleanDisk (state g old)
+pub begun_clean : {S : Type 0} (g : Ghosts S) (old begun : Held S) → begun ≡ record old { in_transaction = true } → HasCleanDisk (state g begun)
+    → HasCleanDisk (state g old)
 begun_clean g old begun is clean = rw is at clean
 
-pub leaves : (accepted : History) (old new : State) → Leaves accepted old → Survives old new (λ _. ⊥) → Leaves accepted new
+-- what a database has it has within a transaction too
+pub begun_has : {S : Type 0} (g : Ghosts S) (old begun : Held S) (P : Database → Type 0) → begun ≡ record old { in_transaction = true } → P (state g old).now
+    → P (state g begun).now
+begun_has g old begun P is has = rw is has
+
+leaves : (accepted : History) (old new : State) → Leaves accepted old → Survives old new (λ _. ⊥) → Leaves accepted new
 leaves accepted old new had s clean db may = elim (s.crash clean db may) [ inl before ↦ had (was_clean old new _ s clean) db before | inr none ↦ absurd none ]
 
-module _ (accepted after : History) (begun mid : State) (b : Began accepted begun) (kept : Survives begun mid (λ _. ⊥)) (keeps : HasCleanDisk mid → IsTrue begun.in_transaction → KeepsCommit begun mid) where
-  -- what a rollback goes back to
-  stored : HasCleanDisk mid → IsTrue mid.is_open → Stores accepted mid.committed
-  stored clean live =
-      let k = keeps clean b.inside in
-      subst (Stores accepted) (sym (k.committed live)) (b.shows (was_clean begun mid _ kept clean) (k.was_open live)).committed
+-- a rollback goes back to the tables that were shown
+pub undone_shows : (accepted : History) (begun mid end : State) → (IsTrue begun.is_open → register.Shows accepted begun) → KeepsCommit begun mid → IsRolledBack mid end
+    → IsTrue end.is_open → register.Shows accepted end
+undone_shows accepted begun mid end shows k r live =
+    let was = subst (Stores accepted) (sym (k.committed (r.was_open live))) (shows (k.was_open (r.was_open live))).committed in
+    let is = r.undone live in
+    record { now = subst (Stores accepted) (sym is.0) was; committed = subst (Stores accepted) (sym is.1) was }
 
+module _ (accepted : History) (begun mid : State) (b : Began accepted begun) (kept : Survives begun mid (λ _. ⊥))
+    (keeps : HasCleanDisk mid → IsTrue begun.in_transaction → KeepsCommit begun mid) where
   undone : (end : State) → HasCleanDisk mid → IsRolledBack mid end → IsTrue end.is_open → register.Shows accepted end
-  undone end clean r live =
-      let was = stored clean (r.was_open live) in
-      let is = r.undone live in
-      record { now = subst (Stores accepted) (sym is.0) was; committed = subst (Stores accepted) (sym is.1) was }
+  undone end clean r = undone_shows accepted begun mid end (b.shows (was_clean begun mid _ kept clean)) (keeps clean b.inside) r
 
-  pub whole_undone : (end : State) → Survives mid end (λ _. ⊥) → (HasCleanDisk end → IsRolledBack mid end) → IsWhole accepted end
+  whole_undone : (end : State) → Survives mid end (λ _. ⊥) → (HasCleanDisk end → IsRolledBack mid end) → IsWhole accepted end
   whole_undone end then back = record {
     shows = λ clean live. undone end (was_clean mid end _ then clean) (back clean) live;
     crash = leaves accepted mid end (leaves accepted begun mid b.crash kept) then;
   }
 
-  module _ (end : State) (then : Survives mid end (λ db. db ≡ mid.now.trees)) where
+  module _ (after : History) (end : State) (then : Survives mid end (λ db. db ≡ mid.now.trees)) where
     pub either : (HasCleanDisk mid → Stores after mid.now) → LeavesEither accepted after end
     either done clean db may =
         let before = was_clean mid end _ then clean in
@@ -62,51 +75,77 @@ module _ (accepted after : History) (begun mid : State) (b : Began accepted begu
         ]
 
     -- the store says that it stands
-    module _ (settled : (db : Trees) → IsTrue end.is_open → end.may_leave db → db ≡ end.committed.trees) where
-      pub whole_done : (HasCleanDisk mid → Stores after mid.now) → (HasCleanDisk end → Shows mid end mid.now mid.now false) → IsWhole after end
-      whole_done done shown = record {
-        shows = λ clean live.
-            let is = done (was_clean mid end _ then clean) in let s = shown clean in record { now = subst (Stores after) (sym s.now_is) is; committed = subst (Stores after) (sym s.committed_is) is };
-        crash = λ clean db may.
-            let is = done (was_clean mid end _ then clean) in let s = shown clean in
-            subst (IsTables after) (sym (settled db s.is_open may)) (subst (Stores after) (sym s.committed_is) is).tables;
-      }
+    pub whole_done : ((db : Trees) → IsTrue end.is_open → end.may_leave db → db ≡ end.committed.trees) → (HasCleanDisk mid → Stores after mid.now)
+        → (HasCleanDisk end → Shows mid end mid.now mid.now false) → IsWhole after end
+    whole_done settled done shown = record {
+      shows = λ clean live.
+          let is = done (was_clean mid end _ then clean) in
+          let s = shown clean in
+          record { now = subst (Stores after) (sym s.now_is) is; committed = subst (Stores after) (sym s.committed_is) is };
+      crash = λ clean db may.
+          let is = done (was_clean mid end _ then clean) in
+          let s = shown clean in
+          subst (IsTables after) (sym (settled db s.is_open may)) (subst (Stores after) (sym s.committed_is) is).tables;
+    }
 
     module _ (last : State) (probed : Survives end last (λ _. ⊥)) where
       pub either_last : (HasCleanDisk mid → Stores after mid.now) → LeavesEither accepted after last
-      either_last done clean db may = elim (probed.crash clean db may) [ inl before ↦ either done (was_clean end last _ probed clean) db before | inr none ↦ absurd none ]
+      either_last done clean db may =
+          elim (probed.crash clean db may) [ inl before ↦ either done (was_clean end last _ probed clean) db before | inr none ↦ absurd none ]
 
-      module _ (settled : (db : Trees) → IsTrue last.is_open → last.may_leave db → db ≡ last.committed.trees) where
-        pub whole_stands : (e : Error) → e ≡ SqliteFailure OutOfMemory → (HasCleanDisk end → FailsToCommit mid end e) → (HasCleanDisk last → IsUnchanged end last) → IsWhole accepted last
-        whole_stands e is failed same =
-            let shown : HasCleanDisk last → IsTrue last.is_open × register.Shows accepted last =
-            λ clean. let mine = was_clean end last _ probed clean in let u = same clean in
-            elim (failed mine) [
-              | inl f ↦ (let s = undone end (was_clean mid end _ then mine) f.3 u.0.was_open in
-                  (u.0.is_open, record { now = subst (Stores accepted) (sym u.0.now_is) s.now; committed = subst (Stores accepted) (sym u.0.committed_is) s.committed }))
-              | inr other ↦ absurd (let apart = sym is ∙ other.0 in cc)
-            ] in
-            record {
-              shows = λ clean live. (shown clean).1;
-              crash = λ clean db may. let s = shown clean in subst (IsTables accepted) (sym (settled db s.0 may)) s.1.committed.tables;
-            }
+      -- memory was wanting at the commit, and the store that is open still shows what was there
+      pub whole_stands : ((db : Trees) → IsTrue last.is_open → last.may_leave db → db ≡ last.committed.trees) → (e : Error) → e ≡ SqliteFailure OutOfMemory
+          → (HasCleanDisk end → FailsToCommit mid end e) → (HasCleanDisk last → IsUnchanged end last) → IsWhole accepted last
+      whole_stands settled e is failed same =
+          let shown : HasCleanDisk last → IsTrue last.is_open × register.Shows accepted last =
+          λ clean. let mine = was_clean end last _ probed clean in let u = same clean in
+          elim (failed mine) [
+            | inl f ↦ (let s = undone end (was_clean mid end _ then mine) f.3 u.0.was_open in
+                (u.0.is_open, record { now = subst (Stores accepted) (sym u.0.now_is) s.now; committed = subst (Stores accepted) (sym u.0.committed_is) s.committed }))
+            | inr other ↦ absurd (let apart = sym is ∙ other.0 in cc)
+          ] in
+          record {
+            shows = λ clean live. (shown clean).1;
+            crash = λ clean db may. let s = shown clean in subst (IsTables accepted) (sym (settled db s.0 may)) s.1.committed.tables;
+          }
 
--- a transaction that reads and is rolled back, or dropped
-module _ {S : Type 0} (g : Ghosts S) (old begun : Held S) (is : begun ≡ record old { in_transaction = true }) (mid end : State)
-    (kept : Survives (state g begun) mid (λ _. ⊥)) (then : Survives mid end (λ _. ⊥)) where
-  -- it began over the tables of the history
-  pub read_stores : (A : History) → IsWhole A (state g old) → HasCleanDisk end → IsTrue (state g begun).is_open → Stores A (state g begun).now
-  read_stores A was clean live = ((begins g A old begun is was).shows (was_clean (state g begun) mid _ kept (was_clean mid end _ then clean)) live).now
+module _ {S : Type 0} (g : Ghosts S) (old begun : Held S) (is : begun ≡ record old { in_transaction = true }) where
+  -- a command that was prepared: the tables are those after it
+  pub made_by : (mid : State) → Survives (state g begun) mid (λ _. ⊥) → {A after : History} (x : Command) (p : Prepared) → after ≡ with_answer A x p.answer
+      → (HasCleanDisk mid → IsTrue (state g begun).in_transaction → (B : History) → (IsTrue (state g begun).is_open → Stores B (state g begun).now)
+      → Steps B x (Ok p.reply) (with_answer B x p.answer) × Stores (with_answer B x p.answer) mid.now × IsTrue mid.in_transaction)
+      → IsWhole A (state g old) → HasCleanDisk mid → Steps A x (Ok p.reply) after × Stores after mid.now
+  made_by mid kept {A} {after} x p after_is said was clean =
+      let b = begins g A old begun is was in
+      let done = said clean b.inside A (λ live. (b.shows (was_clean (state g begun) mid _ kept clean) live).now) in
+      subst (λ B. Steps A x (Ok p.reply) B × Stores B mid.now) (sym after_is) (done.0, done.1)
 
-  -- and leaves them
-  pub read_whole : (HasCleanDisk mid → IsTrue (state g begun).in_transaction → KeepsCommit (state g begun) mid) → (HasCleanDisk end → IsRolledBack mid end)
-      → (A : History) → IsWhole A (state g old) → IsWhole A end
-  read_whole keeps back A was = whole_undone A A (state g begun) mid (begins g A old begun is was) kept keeps end then back
+  -- a transaction that reads and is rolled back, or dropped
+  module _ (mid end : State) (kept : Survives (state g begun) mid (λ _. ⊥)) (then : Survives mid end (λ _. ⊥)) where
+    -- it began over the tables of the history
+    pub read_stores : (A : History) → IsWhole A (state g old) → HasCleanDisk end → IsTrue (state g begun).is_open → Stores A (state g begun).now
+    read_stores A was clean live = ((begins g A old begun is was).shows (was_clean (state g begun) mid _ kept (was_clean mid end _ then clean)) live).now
 
--- what a database has it has within a transaction too
-pub begun_has : {S : Type 0} (g : Ghosts S) (old begun : Held S) (P : Database → Type 0) → begun ≡ record old { in_transaction = true } → P (state g old).now
-    → P (state g begun).now
-begun_has g old begun P is has = rw is has
+    -- and leaves them
+    pub read_whole : (HasCleanDisk mid → IsTrue (state g begun).in_transaction → KeepsCommit (state g begun) mid) → (HasCleanDisk end → IsRolledBack mid end)
+        → (A : History) → IsWhole A (state g old) → IsWhole A end
+    read_whole keeps back A was = whole_undone A (state g begun) mid (begins g A old begun is was) kept keeps end then back
+
+  -- what survives the transaction survives from before it
+  module _ (mid : State) (kept : Survives (state g begun) mid (λ _. ⊥)) where
+    within : Survives (state g old) mid (λ _. ⊥)
+    within =
+        let s = subst (λ (h : Held S). Survives (state g h) mid (λ _. ⊥)) is kept in
+        record { clean = s.clean; shield = s.shield; counts = s.counts; limit = s.limit; closes = s.closes; crash = s.crash }
+
+    pub undone_survives : (end : State) → Survives mid end (λ _. ⊥) → Survives (state g old) end (λ _. ⊥)
+    undone_survives end then = survives_on (state g old) mid end within then
+
+    -- a transaction that was committed, or may have been
+    pub made_survives : (end : State) (P : Trees → Type 0) → Survives mid end (λ db. db ≡ mid.now.trees) → (HasCleanDisk mid → P mid.now.trees)
+        → Survives (state g old) end P
+    made_survives end P then done =
+        survives_then (state g old) mid end _ _ P (λ _ db none. absurd none) (λ clean db same. subst P (sym same) (done (was_clean mid end _ then clean))) within then
 
 -- a call that leaves the connection of a register whole leaves the register so
 pub still_kept : {S : Type 0} {g : Ghosts S} (old new : Held S) (founded : Bool) (A : History)
@@ -122,17 +161,3 @@ still_kept old new founded A was out still = record {
 pub if_ok : {T E : Type 0} (P : Type 0) (Q : T → Type 0) (r : Result T E) → OnOk r P → (P → IfOk r Q) → IfOk r Q
 if_ok P Q (Ok x) p f = f p
 if_ok P Q (Err e) p f = tt
-
-pub keeps_then : (a b c : State) → KeepsCommit a b → KeepsCommit b c → KeepsCommit a c
-keeps_then a b c p q = record { was_open = λ live. p.was_open (q.was_open live); committed = λ live. q.committed live ∙ p.committed (q.was_open live) }
-
--- a transaction that was committed, or may have been, over an empty database
-module _ {S : Type 0} (g : Ghosts S) (old begun : Held S) (is : begun ≡ record old { in_transaction = true }) (mid end : State) (kept : Survives (state g begun) mid (λ _. ⊥)) (then : Survives mid end (λ db. db ≡ mid.now.trees)) where
-  within : Survives (state g old) mid (λ _. ⊥)
-  within =
-      let s = subst (λ (h : Held S). Survives (state g h) mid (λ _. ⊥)) is kept in
-      record { clean = s.clean; shield = s.shield; counts = s.counts; limit = s.limit; closes = s.closes; crash = s.crash }
-
-  pub made_survives : (P : Trees → Type 0) → (HasCleanDisk mid → P mid.now.trees) → Survives (state g old) end P
-  made_survives P done =
-      survives_then (state g old) mid end _ _ P (λ _ db none. absurd none) (λ clean db same. subst P (sym same) (done (was_clean mid end _ then clean))) within then

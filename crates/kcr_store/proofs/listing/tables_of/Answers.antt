@@ -5,7 +5,8 @@ use Rattle.sqlite.specs.State.{HasCleanDisk}
 use Rattle.kcr_older.specs.Standing.{StandsAs, IsStrange}
 use Rattle.kcr_store.proofs.ListingLemmas.{is_given, own_by, rows_by, older_by, version_by, known_by, strange_by, taken_by, not_strange}
 use Rattle.kcr_store.proofs.OpenLemmas.{none_strange, of_strange}
-use Rattle.kcr_store.proofs.WholeLemmas.{if_ok, was_clean}
+use Rattle.kcr_rows.proofs.InsideLemmas.{was_clean}
+use Rattle.kcr_store.proofs.WholeLemmas.{if_ok}
 use Rattle.kcr_store.proofs.listing.tables_of.Goals as goal
 
 pub returns-in-Numbered-clause-taken : goal.returns-in-Numbered-clause-taken

@@ -1,6 +1,4 @@
 use Rattle.std.proofs.Common.{[], rules}
-use Rattle.sqlite.specs.State.{HasCleanDisk}
-use Rattle.sqlite.specs.Held.{state}
 use Rattle.kcr_store.specs.Stored.{IsTables}
 use Rattle.kcr_store.proofs.StoreLemmas.{first_stores}
 use Rattle.kcr_store.proofs.WholeLemmas.{made_survives}
@@ -8,20 +6,14 @@ use Rattle.kcr_store.proofs.open.found.Goals as goal
 
 pub returns-in-Ok-clause-survives : goal.returns-in-Ok-clause-survives
 returns-in-Ok-clause-survives g c =
-    let S = g.S.Store in
-    let mid = state S c.make.new.tx.conn.now in
-    let end = c.commit.new.self.0 in
-    let held = λ (clean : HasCleanDisk mid). c.in_default.ensures.made clean (search rules) in
-    let left = made_survives S c.args.conn.now c.transaction-tx.result.conn.now c.transaction-tx.ensures.begun mid (state S end) c.make.ensures.survives c.commit.ensures.survives (IsTables [])
-    (λ clean. (first_stores mid.now (held clean)).tables) in
+    let left =
+        made_survives g.S.Store c.args.conn.now _ c.transaction-tx.ensures.begun _ c.make.ensures.survives _ (IsTables []) c.commit.ensures.survives
+        (λ clean. (first_stores _ (c.in_default.ensures.made clean (search rules))).tables) in
     search rules
 
 pub returns-in-Err-commit-clause-survives : goal.returns-in-Err-commit-clause-survives
 returns-in-Err-commit-clause-survives g c =
-    let S = g.S.Store in
-    let mid = state S c.make.new.tx.conn.now in
-    let end = c.commit.new.self.0 in
-    let held = λ (clean : HasCleanDisk mid). c.in_default.ensures.made clean (search rules) in
-    let left = made_survives S c.args.conn.now c.transaction-tx.result.conn.now c.transaction-tx.ensures.begun mid (state S end) c.make.ensures.survives c.commit.ensures.survives (IsTables [])
-    (λ clean. (first_stores mid.now (held clean)).tables) in
+    let left =
+        made_survives g.S.Store c.args.conn.now _ c.transaction-tx.ensures.begun _ c.make.ensures.survives _ (IsTables []) c.commit.ensures.survives
+        (λ clean. (first_stores _ (c.in_default.ensures.made clean (search rules))).tables) in
     search rules

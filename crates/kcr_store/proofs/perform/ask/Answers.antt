@@ -1,5 +1,6 @@
 use Rattle.std.proofs.Common.{rules}
-use Rattle.kcr_store.proofs.WholeLemmas.{was_clean, read_stores, read_whole}
+use Rattle.kcr_rows.proofs.InsideLemmas.{was_clean}
+use Rattle.kcr_store.proofs.WholeLemmas.{read_stores, read_whole}
 use Rattle.kcr_store.proofs.perform.ask.Goals as goal
 
 pub returns-clause-shown : goal.returns-clause-shown

@@ -3,7 +3,7 @@ use Rattle.std.proofs.lemmas.Result.{err_from_is_err_and}
 use Rattle.sqlite.specs.State.{HasCleanDisk}
 use Rattle.sqlite.specs.Held.{state}
 use Rattle.kcr_history.specs.Tables.{tables}
-use Rattle.kcr_store.proofs.WholeLemmas.{was_clean}
+use Rattle.kcr_rows.proofs.InsideLemmas.{was_clean}
 use Rattle.kcr_store.proofs.StoreLemmas.{held_in, steps, next_stores, fault_steps}
 use Rattle.kcr_store.proofs.perform.prepare.Goals as goal
 

@@ -5,7 +5,7 @@ use Rattle.kcr_custody.specs.Custody.{spot_by}
 use Rattle.kcr_tables.proofs.JointLemmas.{kept_rises}
 use Rattle.kcr_store.proofs.QuestionLemmas.{spot_shown, bag_shown}
 use Rattle.kcr_store.proofs.StoreLemmas.{holds_in}
-use Rattle.kcr_store.proofs.WholeLemmas.{was_clean}
+use Rattle.kcr_rows.proofs.InsideLemmas.{was_clean}
 use Rattle.kcr_store.proofs.perform.read_bag.Goals as goal
 
 pub returns-in_default-clause-shown : goal.returns-in_default-clause-shown

@@ -9,7 +9,7 @@ use Rattle.kcr_tables.proofs.JointLemmas.{kept_rises}
 use Rattle.kcr_history.specs.declared.questions.PersonShown.{PersonShown}
 use Rattle.kcr_store.specs.Shown.{AreRolesOf}
 use Rattle.kcr_store.proofs.ShownLemmas.{people_shown}
-use Rattle.kcr_store.proofs.WholeLemmas.{was_clean}
+use Rattle.kcr_rows.proofs.InsideLemmas.{was_clean}
 use Rattle.kcr_store.proofs.perform.read_people.Goals as goal
 
 pub returns-clause-shown : goal.returns-clause-shown

@@ -8,7 +8,7 @@ use Rattle.kcr_history.specs.Ceremonies.{is_ceremony}
 use Rattle.kcr_history.specs.Room.{present}
 use Rattle.kcr_store.proofs.QuestionLemmas.{planned_shown, present_shown}
 use Rattle.kcr_store.proofs.StoreLemmas.{holds_in}
-use Rattle.kcr_store.proofs.WholeLemmas.{was_clean}
+use Rattle.kcr_rows.proofs.InsideLemmas.{was_clean}
 use Rattle.kcr_store.proofs.perform.read_room.Goals as goal
 
 pub returns-then-is_empty-clause-shown : goal.returns-then-is_empty-clause-shown
