@@ -1,6 +1,7 @@
 -- What a reading of a database of any version gives, by what the database is.
 use Rattle.std.specs.Prelude.{MatchOption}
-use Rattle.std.proofs.Common.{◌≡◌, ◌≢◌, ◌⊎◌, inl, inr, ◌+◌, [], Option, Some, None, Result, Ok, Err, IfOk, IfErr, OnOk, IsTrue, refl, sym, ap, subst, ◌∙◌, arith}
+use Rattle.std.proofs.Common.{◌≡◌, ◌≢◌, ◌⊎◌, inl, inr, ◌+◌, [], Option, Some, None, Result, Ok, Err, IfOk, IfErr, OnOk, IsTrue, refl, sym, ap, subst, ◌∙◌}
+use Rattle.std.proofs.Common.{arith}
 use Rattle.std.proofs.lemmas.Result.{IfOk-weaker}
 use Rattle.sqlite.specs.Effect.{Database}
 use Rattle.sqlite.specs.Schema.{Schema}
@@ -43,16 +44,13 @@ module _ (Other : Type 0) (Is : View → Type 0) where
   is_given (Ok view) h = h
   is_given (Err fault) h = tt
 
-kind_of : (fault : OpenFault) → (fault ≡ Version → ⊥) → (fault ≡ opening.Foreign → ⊥) → (fault ≡ opening.Memory) ⊎ (fault ≡ opening.Disk)
-kind_of opening.Memory version foreign = inl refl
-kind_of opening.Disk version foreign = inr refl
-kind_of opening.Foreign version foreign = absurd (foreign refl)
-kind_of Version version foreign = absurd (version refl)
-
 pub taken_by : (Is : View → Type 0) (result : Result View OpenFault) → GivesOr ⊥ Is result → IfErr result (λ fault. fault ≡ opening.Foreign → ⊥)
     → IfErr result (λ fault. (fault ≡ opening.Memory) ⊎ (fault ≡ opening.Disk))
 taken_by Is (Ok view) version foreign = tt
-taken_by Is (Err fault) version foreign = kind_of fault version foreign
+taken_by Is (Err opening.Memory) version foreign = inl refl
+taken_by Is (Err opening.Disk) version foreign = inr refl
+taken_by Is (Err opening.Foreign) version foreign = absurd (foreign refl)
+taken_by Is (Err Version) version foreign = absurd (version refl)
 
 pub given_open : (P : Type 0) (rows : Result (Option View) Refusal) (result : Result View OpenFault) → IfOk result (λ view. rows ≡ Ok (Some view))
     → IfOk rows (λ view. MatchOption view (Unit {0}) (λ _. P)) → OnOk result P
@@ -67,8 +65,7 @@ version_by Empty db result stands gives t h = absurd (let e : 0 ≡ 17 = ap coun
 version_by Current db result stands gives t h = gives t h
 version_by Second db result stands gives t h = absurd (let e : 17 ≡ 16 = apart 2 db.schema register_schema stands h.schema in omega (arith, e))
 version_by First db result stands gives t h = absurd (let e : 17 ≡ 15 = apart 1 db.schema register_schema stands h.schema in omega (arith, e))
-version_by Numbered db result stands gives t h = absurd (none_strange 3 db.schema stands.0 h.schema (inr (inr refl)))
-version_by Foreign db result stands gives t h = absurd (none_strange 3 db.schema stands.0 h.schema (inr (inr refl)))
+version_by _ db result stands gives t h = absurd (none_strange 3 db.schema stands.0 h.schema (inr (inr refl)))
 
 pub rows_by : (standing : Standing) (db : Database) (result : Result View OpenFault) → StandsAs db.schema standing → Gives standing db result
     → (m : Tables) → HoldsTables m db → IfOk result (IsListed m)
@@ -91,8 +88,7 @@ older_by Second db result stands gives older.First t h = absurd (let e : 15 ≡ 
 older_by Second db result stands gives older.Second t h = gives.rows t h
 older_by First db result stands gives older.First t h = gives.rows t h
 older_by First db result stands gives older.Second t h = absurd (let e : 16 ≡ 15 = apart 1 db.schema _ stands h.schema in omega (arith, e))
-older_by Numbered db result stands gives from t h = absurd (not_strange from t db stands.0 h)
-older_by Foreign db result stands gives from t h = absurd (not_strange from t db stands.0 h)
+older_by _ db result stands gives from t h = absurd (not_strange from t db stands.0 h)
 
 -- what is read looks like a register, or has nothing
 pub known_by : (standing : Standing) (s : Schema) → StandsAs s standing → ¬ IsUnread standing → ¬ IsStrange s
@@ -114,9 +110,10 @@ own_here : (A : History) (db : Database) (result : Result View OpenFault) (h : H
 own_here A db (Ok view) h k = listed k.1.kept h.tables.stands k.1.lists
 own_here A db (Err fault) h k = λ version. k version h.tables.stands.versions
 
-module _ (A : History) (old : State) (settled : IsTrue old.is_open → old.now ≡ old.committed) (lives : IsLive old) (clean : HasCleanDisk old) (live : IsTrue old.is_open)
-    (f : IsFounded A old) where
-  pub own_by : (standing : Standing) (result : Result View OpenFault) → StandsAs old.now.schema standing → Gives standing old.now result → GivesOr ⊥ (IsListed (tables A)) result
+module _ (A : History) (old : State) (settled : IsTrue old.is_open → old.now ≡ old.committed) (lives : IsLive old) (clean : HasCleanDisk old)
+    (live : IsTrue old.is_open) (f : IsFounded A old) where
+  pub own_by : (standing : Standing) (result : Result View OpenFault) → StandsAs old.now.schema standing → Gives standing old.now result
+      → GivesOr ⊥ (IsListed (tables A)) result
   own_by Empty result stands gives =
       subst (λ (B : History). GivesOr ⊥ (IsListed (tables B)) result) (sym (nothing_accepted A old settled lives clean live f stands)) (gives stands)
   own_by Current result stands gives =
@@ -125,5 +122,4 @@ module _ (A : History) (old : State) (settled : IsTrue old.is_open → old.now �
       own_here A old.now result h (gives h.tables.t (held_of (tables A) old.now h))
   own_by Second result stands gives = gives.own A (of_second_version A old settled lives clean live f stands)
   own_by First result stands gives = gives.own A (of_first_version A old settled lives clean live f stands)
-  own_by Numbered result stands gives = absurd (of_strange A old settled lives clean live f stands.0)
-  own_by Foreign result stands gives = absurd (of_strange A old settled lives clean live f stands.0)
+  own_by _ result stands gives = absurd (of_strange A old settled lives clean live f stands.0)

@@ -1,5 +1,6 @@
 -- What an opening finds.
-use Rattle.std.proofs.Common.{arith, refl, Bool, false, true, ◌≡◌, ◌⊎◌, inl, inr, ℕ, ◌+◌, [], length, take, map, None, Result, Ok, Err, OnOk, IsTrue, sym, ap, subst, ◌∙◌}
+use Rattle.std.proofs.Common.{arith, refl, Bool, false, true, ◌≡◌, ◌⊎◌, inl, inr, ℕ, ◌+◌, [], length, take, map, None, Result, Ok, Err, OnOk, IsTrue, sym, ap}
+use Rattle.std.proofs.Common.{subst, ◌∙◌}
 use Rattle.std.proofs.lemmas.List.{length-map}
 use Rattle.sqlite.specs.Schema.{Schema}
 use Rattle.sqlite.specs.Effect.{Database}
@@ -37,16 +38,19 @@ pub of_first : (version : ℕ) (s : Schema) → s ≡ first (14 + version) → L
 of_first version s is = ap (λ (t : Schema). map outline t.tables) is
 
 module _ {S : Type 0} (g : Ghosts S) (settled : (s : S) (db : Trees) → IsTrue (g.view s).is_open → g.recovers s db → db ≡ (g.view s).committed) where
-  pub adopted : (old : State) (new : Held S) (is_founded : Bool) (accepted : History) → new.in_transaction ≡ false → (IsTrue is_founded → IsFounded accepted old)
+  pub adopted : (old : State) (new : Held S) (is_founded : Bool) (accepted : History) → new.in_transaction ≡ false
+      → (IsTrue is_founded → IsFounded accepted old)
       → (HasCleanDisk (state g new) → (all : History) → IsFounded all old → Shows all (state g new) × IsTrue (state g new).is_open)
       → IsKept g (record { conn = new; is_founded = is_founded; accepted = accepted; torn = None })
   adopted old new is_founded accepted out founded found = record {
     autocommit = out;
     whole = λ yes _. record {
       shows = λ clean _. (found clean accepted (founded yes)).0;
-      crash = λ clean db may. let it = found clean accepted (founded yes) in subst (IsTables accepted) (sym (settled new.store db it.1 may)) it.0.committed.tables;
+      crash = λ clean db may.
+          let it = found clean accepted (founded yes) in subst (IsTables accepted) (sym (settled new.store db it.1 may)) it.0.committed.tables;
     };
-    crash = λ yes clean db may. let it = found clean accepted (founded yes) in inl (subst (IsTables accepted) (sym (settled new.store db it.1 may)) it.0.committed.tables);
+    crash = λ yes clean db may.
+        let it = found clean accepted (founded yes) in inl (subst (IsTables accepted) (sym (settled new.store db it.1 may)) it.0.committed.tables);
   }
 
 -- ---- what looks like a register, or like none
@@ -58,7 +62,8 @@ none_strange version s strange is (inr (inr three)) = strange.third (of_first 3 
 
 -- ---- a database that is one of a register
 
-module _ (accepted : History) (old : State) (settled : IsTrue old.is_open → old.now ≡ old.committed) (lives : IsLive old) (clean : HasCleanDisk old) (live : IsTrue old.is_open) (f : IsFounded accepted old) where
+module _ (accepted : History) (old : State) (settled : IsTrue old.is_open → old.now ≡ old.committed) (lives : IsLive old) (clean : HasCleanDisk old)
+    (live : IsTrue old.is_open) (f : IsFounded accepted old) where
   now_is : old.now ≡ old.committed
   now_is = settled live
 
@@ -139,5 +144,6 @@ pub founded_in : (accepted : History) (image : Image) (s : State) → IsHeldIn a
 founded_in accepted image s (inl held) finds opens lives = inr (subst (IsHeld accepted) (sym (finds.holds held.0 held.1)) held.2)
 founded_in accepted image s (inr nothing) finds opens lives =
     let bare = nothing.1 s.committed.trees finds.reads in
-    let none : s.committed.schema ≡ no_schema = one_schema s.committed.schema no_schema s.committed.trees refl (lives opens.is_open).1 (empty_is_sound s.committed.trees bare.1) in
+    let none : s.committed.schema ≡ no_schema =
+    one_schema s.committed.schema no_schema s.committed.trees refl (lives opens.is_open).1 (empty_is_sound s.committed.trees bare.1) in
     inl (ap (λ (d : Database). d.schema) opens.clean ∙ none, nothing.0)

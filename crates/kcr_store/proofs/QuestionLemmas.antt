@@ -1,5 +1,6 @@
 -- What is shown of custodians, of a bag, of a ceremony and of a room, out of the rows of the tables.
-use Rattle.std.proofs.Common.{◌≡◌, ℕ, suc, ◌<◌, ◌==◌, Bool, true, false, not, ◌||◌, cond, List, [], ◌∷◌, map, filter, reverse, length, Option, Some, None, refl, inr, sym, ap, ◌∙◌, subst, subst₂, arith}
+use Rattle.std.proofs.Common.{◌≡◌, ℕ, suc, ◌<◌, ◌==◌, Bool, true, false, not, ◌||◌, cond, List, [], ◌∷◌, map, filter, reverse, length, Option, Some, None, refl}
+use Rattle.std.proofs.Common.{inr, sym, ap, ◌∙◌, subst, subst₂, arith}
 use Rattle.std.specs.Prelude.{AllPairs, IsTrue, slice_get, MatchResult}
 use Rattle.std.specs.Option.{ok_or}
 use Rattle.std.specs.List.{list_any, find}
@@ -67,13 +68,16 @@ module _ (A : History) (register : IsRegister A) (t : Tables) (stands : Stands (
     serial = named;
     spot = lies;
     items = subst (IsPermutation (map (λ item. item.code) (filter (lies_in serial) (items A)))) (sym codes)
-        (IsPermutation-map (λ item. item.code) (filter (lies_in serial) (items A)) (filter (lies_in serial) t.items) (filter-order (lies_in serial) (items A) t.items stands.items));
+        (IsPermutation-map (λ item. item.code) (filter (lies_in serial) (items A)) (filter (lies_in serial) t.items)
+        (filter-order (lies_in serial) (items A) t.items stands.items));
     order = subst (AllPairs (λ a b. IsTrue (is_before a b))) (sym codes)
-        (all_pairs _ _ (ascending-map _ (λ item. item.code) (filter (lies_in serial) t.items) (ascending-filter _ (lies_in serial) t.items (by_code t.items rises.items))));
+        (all_pairs _ _ (ascending-map _ (λ item. item.code) (filter (lies_in serial) t.items)
+        (ascending-filter _ (lies_in serial) t.items (by_code t.items rises.items))));
   }
 
   -- the ceremony is planned where it has a row
-  pub planned_shown : (ceremony : ℕ) (rows : List CeremonyRow) → rows ≡ filter (is_of_number ceremony) t.ceremonies → is_ceremony A ceremony ≡ not (length rows == 0)
+  pub planned_shown : (ceremony : ℕ) (rows : List CeremonyRow) → rows ≡ filter (is_of_number ceremony) t.ceremonies
+      → is_ceremony A ceremony ≡ not (length rows == 0)
   planned_shown ceremony rows is =
       sym (planned-number A ceremony)
       ∙ sym (any-map (is_of_number ceremony) (ceremony_row A) (all_said planned_number A))
@@ -84,7 +88,7 @@ module _ (A : History) (register : IsRegister A) (t : Tables) (stands : Stands (
   -- the first of the rows of the ceremony is its row, and where there is none it was never planned
   pub row_shown : (ceremony : ℕ) (rows : List CeremonyRow) → rows ≡ filter (is_of_number ceremony) t.ceremonies
       → MatchResult (ok_or (slice_get rows 0) (Unknown (Things.Ceremony ceremony))) (IsRowOf A ceremony) (HasNoRow A ceremony)
-  row_shown ceremony rows is = by_plan (is_ceremony A ceremony) refl
+  row_shown ceremony rows is = says (is_ceremony A ceremony) refl
     where
       Says : Option CeremonyRow → Type 0
       Says row = MatchResult (ok_or row (Unknown (Things.Ceremony ceremony))) (IsRowOf A ceremony) (HasNoRow A ceremony)
@@ -95,14 +99,12 @@ module _ (A : History) (register : IsRegister A) (t : Tables) (stands : Stands (
       ordered : IsPermutation (filter (is_of_number ceremony) (ceremonies A)) (filter (is_of_number ceremony) t.ceremonies)
       ordered = filter-order (is_of_number ceremony) (ceremonies A) t.ceremonies stands.ceremonies
 
-      by_plan : (b : Bool) → is_ceremony A ceremony ≡ b → Says (slice_get rows 0)
-      by_plan true e =
-          let there : slice_get rows 0 ≡ Some (ceremony_row A ceremony) = first ∙ rw e at (ceremony-shown A ceremony t.ceremonies ordered) in
-          subst Says (sym there) (record { planned = e; row_is = refl })
-      by_plan false e =
-          let none : slice_get rows 0 ≡ None = first ∙ rw e at (ceremony-shown A ceremony t.ceremonies ordered) in
-          subst Says (sym none) (inr (e, refl))
+      says : (b : Bool) → is_ceremony A ceremony ≡ b → Says (slice_get rows 0)
+      says true e = subst Says (sym (first ∙ rw e at (ceremony-shown A ceremony t.ceremonies ordered))) (record { planned = e; row_is = refl })
+      says false e = subst Says (sym (first ∙ rw e at (ceremony-shown A ceremony t.ceremonies ordered))) (inr (e, refl))
 
   -- who is in the room
-  pub present_shown : (ceremony at : ℕ) (rows : List Stay) → rows ≡ filter (is_stay_of ceremony) t.stays → present_in_by rows ceremony at ≡ present A ceremony at
-  present_shown ceremony at rows is = present-shown A ceremony rows (asked_shows is_stay_of (Under ceremony) (reverse (stays_by (sheet A))) t.stays rows stands.stays is) at
+  pub present_shown : (ceremony at : ℕ) (rows : List Stay) → rows ≡ filter (is_stay_of ceremony) t.stays
+      → present_in_by rows ceremony at ≡ present A ceremony at
+  present_shown ceremony at rows is =
+      present-shown A ceremony rows (asked_shows is_stay_of (Under ceremony) (reverse (stays_by (sheet A))) t.stays rows stands.stays is) at

@@ -1,5 +1,6 @@
 -- What is shown of people: trainings in their order, and the same out of rows in another order.
-use Rattle.std.proofs.Common.{◌≡◌, ◌⊎◌, inl, inr, ℕ, ◌<◌, Bool, true, false, ◌&&◌, ◌||◌, cond, List, [], ◌∷◌, ◌++◌, map, filter, length, get_or, Option, option_map, Ordering, Less, Equal, Greater, refl, sym, ap, ◌∙◌, subst, append_assoc, arith}
+use Rattle.std.proofs.Common.{◌≡◌, ◌⊎◌, inl, inr, ℕ, ◌<◌, Bool, true, false, ◌&&◌, ◌||◌, cond, List, [], ◌∷◌, ◌++◌, map, filter, length, get_or, Option}
+use Rattle.std.proofs.Common.{option_map, Ordering, Less, Equal, Greater, refl, sym, ap, ◌∙◌, subst, append_assoc, arith}
 use Rattle.std.specs.Prelude.{All, AllPairs, IsTrue, nat_lt, ◌==◌}
 use Rattle.std.specs.List.{AllByRecursion}
 use Rattle.std.specs.List.Sorted.{IsPermutation, IsSortedBy}
@@ -7,6 +8,7 @@ use Rattle.std.specs.Ordering.{nat_cmp, ordering_then, ordering_reverse, is_lt, 
 use Rattle.std.specs.Cmp.{IsTotalOrder}
 use Rattle.std.specs.Cmp.Lexicographic.{bytes_decides}
 use Rattle.std.proofs.lemmas.Bool.{false≢true, cases_order, and_parts, and_from, eqb-true, eq-eqb}
+use Rattle.std.proofs.lemmas.Bool.Decides.{nat_tests}
 use Rattle.std.proofs.lemmas.Cmp.{nat_cmp_total, on_total, then_total}
 use Rattle.std.proofs.lemmas.List.{map-append, get_or_default}
 use Rattle.std.proofs.lemmas.List.MinMax.{ranks_by}
@@ -40,7 +42,8 @@ use Rattle.kcr_store.proofs.StoreLemmas.{all_pairs, by_initials}
 -- ---- people one after the other
 
 -- one more person is shown, of those that are left
-pub one_more : (done : List PersonShown) (shown : PersonShown) (person : Person) (all left rest : List Person) → map person_of done ++ left ≡ all → left ≡ person ∷ rest → person_of shown ≡ person
+pub one_more : (done : List PersonShown) (shown : PersonShown) (person : Person) (all left rest : List Person) → map person_of done ++ left ≡ all
+    → left ≡ person ∷ rest → person_of shown ≡ person
     → map person_of (done ++ shown ∷ []) ++ rest ≡ all
 one_more done shown person all left rest had first is =
     ap (λ l. l ++ rest) (map-append person_of done (shown ∷ []))
@@ -56,21 +59,17 @@ abbrev pub role_cmp : RoleShown → RoleShown → Ordering
 role_cmp a b = ordering_then (ordering_then (nat_cmp a.since b.since) (nat_cmp (role_number a.role) (role_number b.role))) (nat_cmp a.until b.until)
 
 role_cmp_total : IsTotalOrder role_cmp
-role_cmp_total = then_total (then_total (on_total (λ (a : RoleShown). a.since) nat_cmp_total) (on_total (λ (a : RoleShown). role_number a.role) nat_cmp_total)) (on_total (λ (a : RoleShown). a.until) nat_cmp_total)
+role_cmp_total =
+    then_total (then_total (on_total (λ (a : RoleShown). a.since) nat_cmp_total) (on_total (λ (a : RoleShown). role_number a.role) nat_cmp_total))
+    (on_total (λ (a : RoleShown). a.until) nat_cmp_total)
 
 before : (a b : RoleShown) → is_lt (role_cmp a b) ≡ is_role_before a b
-before a b =
-    by_tests (nat_lt a.since b.since) (a.since == b.since) (nat_lt (role_number a.role) (role_number b.role)) (role_number a.role == role_number b.role)
-    (nat_lt a.until b.until) (a.until == b.until)
-  where
-    by_tests : (p q r s t u : Bool)
-        → is_lt (ordering_then (ordering_then (cond p Less (cond q Equal Greater)) (cond r Less (cond s Equal Greater))) (cond t Less (cond u Equal Greater)))
-        ≡ (p || (q && (r || (s && t))))
-    by_tests p q r s t u = grind arith
+before a b = grind arith
 
 pub in_order : (roles : List RoleShown) → IsSortedBy (λ a b. is_lt (role_cmp a b)) roles → AllPairs (λ a b. is_role_before b a ≡ false) roles
 in_order roles up = λ i j d lt below.
-    sym (before (get_or roles j d) (get_or roles i d)) ∙ sorted_far (λ a b. is_lt (role_cmp a b)) (ranks_by role_cmp_total (λ a. a)) roles up i j d (omega arith) below
+    sym (before (get_or roles j d) (get_or roles i d))
+    ∙ sorted_far (λ a b. is_lt (role_cmp a b)) (ranks_by role_cmp_total (λ a. a)) roles up i j d (omega arith) below
 
 -- ---- no two are alike
 
@@ -78,25 +77,9 @@ in_order roles up = λ i j d lt below.
 abbrev Differ : RoleShown → RoleShown → Type 0
 Differ a b = (a.since == b.since && role_number a.role == role_number b.role) && a.until == b.until ≡ false
 
-equal : (a b : RoleShown) → role_cmp a b ≡ Equal
-    → ((a.since == b.since && role_number a.role == role_number b.role) && a.until == b.until) ≡ true
-equal a b =
-    by_tests (nat_lt a.since b.since) (a.since == b.since) (nat_lt (role_number a.role) (role_number b.role)) (role_number a.role == role_number b.role)
-    (nat_lt a.until b.until) (a.until == b.until)
-  where
-    by_tests : (p q r s t u : Bool)
-        → ordering_then (ordering_then (cond p Less (cond q Equal Greater)) (cond r Less (cond s Equal Greater))) (cond t Less (cond u Equal Greater)) ≡ Equal
-        → ((q && s) && u) ≡ true
-    by_tests p q r s t u e = grind arith
-
 -- of two that differ one stands before the other
 one_before : (a b : RoleShown) → Differ a b → is_role_before b a ≡ false → is_role_before a b ≡ true
-one_before a b differ not_after = sym (before a b) ∙ by_order (role_cmp a b) refl
-  where
-    by_order : (o : Ordering) → role_cmp a b ≡ o → is_lt o ≡ true
-    by_order Less e = refl
-    by_order Equal e = absurd (false≢true (sym differ ∙ equal a b e))
-    by_order Greater e = absurd (false≢true (sym not_after ∙ sym (before b a) ∙ ap is_lt (role_cmp_total.antisymm b a ∙ ap ordering_reverse e)))
+one_before a b differ not_after = grind (arith, nat_tests)
 
 turned : (a b : RoleShown) → Differ a b → Differ b a
 turned a b differ = grind arith
@@ -128,13 +111,15 @@ module _ (withdrawn : List Withdrawal) (who : List ℕ) where
       let own : same_text y.who x.who ≡ true = (bytes_decides y.who x.who).1 ((bytes_decides y.who who).0 q ∙ sym ((bytes_decides x.who who).0 p)) in
       grind arith
 
-  first_apart : (x : Training) → is_training_of who x ≡ true → (xs : List Training) → AllByRecursion (λ row. by_key 4 (training_row x) row ≡ Less) (map training_row xs)
+  first_apart : (x : Training) → is_training_of who x ≡ true → (xs : List Training)
+      → AllByRecursion (λ row. by_key 4 (training_row x) row ≡ Less) (map training_row xs)
       → AllByRecursion (Differ (role_shown withdrawn x)) (roles_of xs withdrawn who)
   first_apart x p [] up = tt
   first_apart x p (y ∷ xs) up = by_test (is_training_of who y) refl (first_apart x p xs up.1)
     where
       by_test : (b : Bool) → is_training_of who y ≡ b → AllByRecursion (Differ (role_shown withdrawn x)) (roles_of xs withdrawn who)
-          → AllByRecursion (Differ (role_shown withdrawn x)) (map (role_shown withdrawn) (cond b (y ∷ filter (is_training_of who) xs) (filter (is_training_of who) xs)))
+          → AllByRecursion (Differ (role_shown withdrawn x))
+          (map (role_shown withdrawn) (cond b (y ∷ filter (is_training_of who) xs) (filter (is_training_of who) xs)))
       by_test true e ih = (apart x y p e up.0, ih)
       by_test false e ih = ih
 
@@ -150,7 +135,8 @@ module _ (withdrawn : List Withdrawal) (who : List ℕ) where
 -- ---- the withdrawal of a training
 
 -- two rows of the table are of two trainings
-other_training : (rows : List Withdrawal) → IsAscending (λ a b. by_key 4 a b ≡ Less) (map withdrawal_row rows) → AllPairs (λ a b. same_withdrawn b a ≡ false) rows
+other_training : (rows : List Withdrawal) → IsAscending (λ a b. by_key 4 a b ≡ Less) (map withdrawal_row rows)
+    → AllPairs (λ a b. same_withdrawn b a ≡ false) rows
 other_training rows up =
     all_pairs _ rows
     (ascending_weaker _ _ (λ a b less. key_of_withdrawals b a ∙ ap is_eq less) rows (ascending_from_map (λ a b. by_key 4 a b ≡ Less) withdrawal_row rows up))
@@ -160,24 +146,26 @@ both_of : (row : Training) (a b : Withdrawal) → is_of row a ≡ true → is_of
 both_of row a b p q = subst (λ t. is_of t a ≡ true) (sym (is_of-true row b q)) p
 
 at_most_one : (row : Training) (rows : List Withdrawal) → AllPairs (λ a b. same_withdrawn b a ≡ false) rows → AtMostOne (is_of row) rows
-at_most_one row rows differ = λ i c low p j d below q. by_place i c low p j d below q (cases_order i j)
+at_most_one row rows differ = λ i c low p j d below q. elim (cases_order i j) [
+    | inl same ↦ get_or_default rows j d c below ∙ ap (λ n. get_or rows n c) (sym same)
+    | inr (inl lt) ↦ absurd (not_before i c low p j d below q lt)
+    | inr (inr gt) ↦ absurd (not_before j d below q i c low p gt)
+  ]
   where
     -- one of two rows does not stand before the other
-    not_before : (i : ℕ) (c : Withdrawal) → i < length rows → is_of row (get_or rows i c) ≡ true → (j : ℕ) (d : Withdrawal) → j < length rows → is_of row (get_or rows j d) ≡ true → i < j → ⊥
+    not_before : (i : ℕ) (c : Withdrawal) → i < length rows → is_of row (get_or rows i c) ≡ true → (j : ℕ) (d : Withdrawal) → j < length rows
+        → is_of row (get_or rows j d) ≡ true → i < j → ⊥
     not_before i c low p j d below q lt =
-        false≢true (sym (differ i j c lt below) ∙ both_of row (get_or rows i c) (get_or rows j c) p (ap (is_of row) (get_or_default rows j c d below) ∙ q))
-
-    by_place : (i : ℕ) (c : Withdrawal) → i < length rows → is_of row (get_or rows i c) ≡ true → (j : ℕ) (d : Withdrawal) → j < length rows → is_of row (get_or rows j d) ≡ true
-        → (i ≡ j) ⊎ ((i < j) ⊎ (j < i)) → get_or rows j d ≡ get_or rows i c
-    by_place i c low p j d below q (inl same) = get_or_default rows j d c below ∙ ap (λ n. get_or rows n c) (sym same)
-    by_place i c low p j d below q (inr (inl lt)) = absurd (not_before i c low p j d below q lt)
-    by_place i c low p j d below q (inr (inr gt)) = absurd (not_before j d below q i c low p gt)
+        false≢true (sym (differ i j c lt below)
+        ∙ both_of row (get_or rows i c) (get_or rows j c) p (ap (is_of row) (get_or_default rows j c d below) ∙ q))
 
 -- the same day in whatever order the rows are
-same_shown : (table rows : List Withdrawal) → IsPermutation table rows → IsAscending (λ a b. by_key 4 a b ≡ Less) (map withdrawal_row rows) → (row : Training) → role_shown table row ≡ role_shown rows row
+same_shown : (table rows : List Withdrawal) → IsPermutation table rows → IsAscending (λ a b. by_key 4 a b ≡ Less) (map withdrawal_row rows) → (row : Training)
+    → role_shown table row ≡ role_shown rows row
 same_shown table rows p up row =
     let one = at_most_one row rows (other_training rows up) in
-    ap (λ (found : Option Withdrawal). record { since = row.since; role = row.role; until = row.until; withdrawn = option_map (λ withdrawal. withdrawal.day) found })
+    ap
+    (λ (found : Option Withdrawal). record { since = row.since; role = row.role; until = row.until; withdrawn = option_map (λ w. w.day) found })
     (find-order (is_of row) rows table (IsPermutation-sym table rows p) one)
 
 -- ---- what a register shows
@@ -192,7 +180,8 @@ module _ (A : History) (t : Tables) (stands : Stands (tables A) t) (rises : Rise
 
   person_shown : (shown : PersonShown) → AreRolesOf t.trainings t.withdrawals shown.who shown.roles.items → IsPersonShown A shown
   person_shown shown are = record {
-    roles = IsPermutation-trans (roles_of (trainings A) (withdrawals A) shown.who) (roles_of t.trainings t.withdrawals shown.who) shown.roles.items (roles_shown shown.who) are.roles;
+    roles = IsPermutation-trans (roles_of (trainings A) (withdrawals A) shown.who) (roles_of t.trainings t.withdrawals shown.who) shown.roles.items
+        (roles_shown shown.who) are.roles;
     order = strictly shown.roles.items
         ((reordered Differ turned (roles_of t.trainings t.withdrawals shown.who) shown.roles.items are.roles).1
         (all_apart t.withdrawals shown.who t.trainings rises.trainings))
@@ -200,7 +189,8 @@ module _ (A : History) (t : Tables) (stands : Stands (tables A) t) (rises : Rise
   }
 
   -- the people with their trainings, out of the rows of the tables
-  pub people_shown : (rows : List PersonShown) → map person_of rows ≡ t.people → All (λ shown. AreRolesOf t.trainings t.withdrawals shown.who shown.roles.items) rows → ArePeopleShown A rows
+  pub people_shown : (rows : List PersonShown) → map person_of rows ≡ t.people
+      → All (λ shown. AreRolesOf t.trainings t.withdrawals shown.who shown.roles.items) rows → ArePeopleShown A rows
   people_shown rows is each = record {
     people = subst (IsPermutation (people A)) (sym is) stands.people;
     order = subst IsByInitials (sym is) (by_initials t.people rises.people);

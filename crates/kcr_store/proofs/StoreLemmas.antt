@@ -53,11 +53,13 @@ module _ (A : History) (x : Command) (v : Verdict) where
   next_register None d r = r
 
   -- the tables with the changes are those of the history after the command, up to the order of their rows
-  next_holds : (answer : Option Answer) (new : Database) → Decides A x v answer → HoldsTables (changed_by v.changes.items (tables A)) new → HoldsTables (tables (with_answer A x answer)) new
+  next_holds : (answer : Option Answer) (new : Database) → Decides A x v answer → HoldsTables (changed_by v.changes.items (tables A)) new
+      → HoldsTables (tables (with_answer A x answer)) new
   next_holds (Some a) new d h = same_holds (changed_by v.changes.items (tables A)) (tables (with_answer A x (Some a))) new d.tables h
   next_holds None new d h = subst (λ (l : List Change). HoldsTables (changed_by l (tables A)) new) d.1.changes h
 
-  pub next_stores : (answer : Option Answer) (old new : Database) → Stores A old → Decides A x v answer → HoldsTables (changed_by v.changes.items (tables A)) new → Stores (with_answer A x answer) new
+  pub next_stores : (answer : Option Answer) (old new : Database) → Stores A old → Decides A x v answer
+      → HoldsTables (changed_by v.changes.items (tables A)) new → Stores (with_answer A x answer) new
   next_stores answer old new s d h =
       let held = next_holds answer new d h in
       record { schema = held.schema; tables = record { register = next_register answer d s.tables.register; kept = held.tables } }

@@ -1,5 +1,5 @@
 -- What one transaction leaves of a register.
-use Rattle.std.proofs.Common.{◌≡◌, Bool, inl, inr, None, true, false, Result, Ok, Err, IfOk, OnOk, IsTrue, refl, sym, subst, ◌∙◌, arith}
+use Rattle.std.proofs.Common.{◌≡◌, Bool, inl, inr, Option, None, true, false, Result, Ok, Err, IfOk, OnOk, IsTrue, refl, sym, subst, ◌∙◌, arith}
 use Rattle.sqlite.specs.declared.error.ErrorCode.TheVariants.{OutOfMemory}
 use Rattle.sqlite.specs.declared.error.Error.{Error}
 use Rattle.sqlite.specs.declared.error.Error.TheVariants.{SqliteFailure}
@@ -25,7 +25,8 @@ pub record Began (accepted : History) (s : State) : Type 0 where
   pub shows : HasCleanDisk s → IsTrue s.is_open → register.Shows accepted s
   pub crash : Leaves accepted s
 
-pub begins : {S : Type 0} (g : Ghosts S) (accepted : History) (old begun : Held S) → begun ≡ record old { in_transaction = true } → IsWhole accepted (state g old)
+pub begins : {S : Type 0} (g : Ghosts S) (accepted : History) (old begun : Held S) → begun ≡ record old { in_transaction = true }
+    → IsWhole accepted (state g old)
     → Began accepted (state g begun)
 begins g accepted old begun is w =
     rw is (record {
@@ -47,7 +48,8 @@ leaves : (accepted : History) (old new : State) → Leaves accepted old → Surv
 leaves accepted old new had s clean db may = elim (s.crash clean db may) [ inl before ↦ had (was_clean old new _ s clean) db before | inr none ↦ absurd none ]
 
 -- a rollback goes back to the tables that were shown
-pub undone_shows : (accepted : History) (begun mid end : State) → (IsTrue begun.is_open → register.Shows accepted begun) → KeepsCommit begun mid → IsRolledBack mid end
+pub undone_shows : (accepted : History) (begun mid end : State) → (IsTrue begun.is_open → register.Shows accepted begun) → KeepsCommit begun mid
+    → IsRolledBack mid end
     → IsTrue end.is_open → register.Shows accepted end
 undone_shows accepted begun mid end shows k r live =
     let was = subst (Stores accepted) (sym (k.committed (r.was_open live))) (shows (k.was_open (r.was_open live))).committed in
@@ -101,7 +103,8 @@ module _ (accepted : History) (begun mid : State) (b : Began accepted begun) (ke
           λ clean. let mine = was_clean end last _ probed clean in let u = same clean in
           elim (failed mine) [
             | inl f ↦ (let s = undone end (was_clean mid end _ then mine) f.3 u.0.was_open in
-                (u.0.is_open, record { now = subst (Stores accepted) (sym u.0.now_is) s.now; committed = subst (Stores accepted) (sym u.0.committed_is) s.committed }))
+                (u.0.is_open,
+                record { now = subst (Stores accepted) (sym u.0.now_is) s.now; committed = subst (Stores accepted) (sym u.0.committed_is) s.committed }))
             | inr other ↦ absurd (let apart = sym is ∙ other.0 in cc)
           ] in
           record {
@@ -145,16 +148,17 @@ module _ {S : Type 0} (g : Ghosts S) (old begun : Held S) (is : begun ≡ record
     pub made_survives : (end : State) (P : Trees → Type 0) → Survives mid end (λ db. db ≡ mid.now.trees) → (HasCleanDisk mid → P mid.now.trees)
         → Survives (state g old) end P
     made_survives end P then done =
-        survives_then (state g old) mid end _ _ P (λ _ db none. absurd none) (λ clean db same. subst P (sym same) (done (was_clean mid end _ then clean))) within then
+        survives_then (state g old) mid end _ _ P (λ _ db none. absurd none)
+        (λ clean db same. subst P (sym same) (done (was_clean mid end _ then clean))) within then
 
 -- a call that leaves the connection of a register whole leaves the register so
-pub still_kept : {S : Type 0} {g : Ghosts S} (old new : Held S) (founded : Bool) (A : History)
-    → IsKept g (record { conn = old; is_founded = founded; accepted = A; torn = None }) → new.in_transaction ≡ false
-    → (IsWhole A (state g old) → IsWhole A (state g new)) → IsKept g (record { conn = new; is_founded = founded; accepted = A; torn = None })
-still_kept old new founded A was out still = record {
+pub still_kept : {S : Type 0} {g : Ghosts S} {old new : Held S} {founded : Bool} {A : History} {torn : Option History}
+    → IsKept g (record { conn = old; is_founded = founded; accepted = A; torn = torn }) → new.in_transaction ≡ false
+    → (IsWhole A (state g old) → IsWhole A (state g new)) → torn ≡ None → IsKept g (record { conn = new; is_founded = founded; accepted = A; torn = torn })
+still_kept was out still none = record {
   autocommit = out;
-  whole = λ yes intact. still (was.whole yes refl);
-  crash = λ yes clean db may. inl ((still (was.whole yes refl)).crash clean db may);
+  whole = λ yes intact. still (was.whole yes intact);
+  crash = λ yes clean db may. inl ((still (was.whole yes none)).crash clean db may);
 }
 
 -- what is said of a value under a premise that the call's success gives

@@ -1,8 +1,7 @@
 use Rattle.std.proofs.Common.{◌≡◌, rules, IsTrue, IfErr, inl, inr, refl}
 use Rattle.std.proofs.lemmas.Result.{IfOk-weaker, IfErr-weaker}
 use Rattle.sqlite.specs.Held.{state}
-use Rattle.sqlite.specs.State.{HasCleanDisk}
-use Rattle.kcr_older.specs.Standing.{StandsAs, IsStrange}
+use Rattle.kcr_older.specs.Standing.{StandsAs}
 use Rattle.kcr_store.proofs.ListingLemmas.{is_given, own_by, rows_by, older_by, version_by, known_by, strange_by, taken_by, not_strange}
 use Rattle.kcr_store.proofs.OpenLemmas.{none_strange, of_strange}
 use Rattle.kcr_rows.proofs.InsideLemmas.{was_clean}
@@ -11,32 +10,23 @@ use Rattle.kcr_store.proofs.listing.tables_of.Goals as goal
 
 pub returns-in-Numbered-clause-taken : goal.returns-in-Numbered-clause-taken
 returns-in-Numbered-clause-taken g c clean live A founded =
-    let old = state g.S.Store c.args.conn.now in
-    let strange : IsStrange old.now.schema = search rules in
-    let before = was_clean old (state g.S.Store c.stranger.new.conn) _ c.stranger.ensures.survives clean in
-    absurd (of_strange A old (search rules) c.inspect.ensures.live before live founded strange)
+    let before = was_clean _ _ _ c.stranger.ensures.survives clean in
+    absurd (of_strange A (state g.S.Store c.args.conn.now) (search rules) c.inspect.ensures.live before live founded (search rules))
 
 pub returns-in-Numbered-clause-version : goal.returns-in-Numbered-clause-version
-returns-in-Numbered-clause-version g c clean t held =
-    let old = state g.S.Store c.args.conn.now in
-    let strange : IsStrange old.now.schema = search rules in
-    absurd (none_strange 3 old.now.schema strange held.schema (inr (inr refl)))
+returns-in-Numbered-clause-version g c clean t held = absurd (none_strange 3 _ (search rules) held.schema (inr (inr refl)))
 
 pub returns-in-Numbered-clause-older : goal.returns-in-Numbered-clause-older
-returns-in-Numbered-clause-older g c clean from t held =
-    let old = state g.S.Store c.args.conn.now in
-    let strange : IsStrange old.now.schema = search rules in
-    absurd (not_strange from t old.now strange held)
+returns-in-Numbered-clause-older g c clean from t held = absurd (not_strange from t (state g.S.Store c.args.conn.now).now (search rules) held)
 
 pub returns-in_default : goal.returns-in_default
 returns-in_default g c =
     let old = state g.S.Store c.args.conn.now in
-    let new = state g.S.Store c.rows_back.new.conn in
     let standing = c.in_ok-standing.standing in
     let result = c.rows_back.result in
     let stands : StandsAs old.now.schema standing = search rules in
     let gives = c.rows_back.ensures.gives in
-    let before = was_clean old new _ c.rows_back.ensures.survives in
+    let before = was_clean _ _ _ c.rows_back.ensures.survives in
     record {
       autocommit = search rules;
       own = λ clean A founded.
@@ -45,7 +35,8 @@ returns-in_default g c =
       taken = λ clean live A founded.
           taken_by _ result (own_by A old (search rules) c.inspect.ensures.live (before clean) live founded standing result stands (gives clean))
           (IfErr-weaker result _ _
-          (λ fault unread is. of_strange A old (search rules) c.inspect.ensures.live (before clean) live founded (strange_by standing old.now.schema stands (unread is)))
+          (λ fault unread is. of_strange A old (search rules) c.inspect.ensures.live (before clean) live founded
+          (strange_by standing old.now.schema stands (unread is)))
           c.rows_back.ensures.foreign);
       rows = λ clean. rows_by standing old.now result stands (gives clean);
       version = λ clean. version_by standing old.now result stands (gives clean);

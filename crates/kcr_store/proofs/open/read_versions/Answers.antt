@@ -13,18 +13,21 @@ returns-clause-rows g c clean accepted shows =
     if_ok _ _ c.all_rows-versions.result (c.all_rows-versions.ensures.opened before)
     (λ live.
     let s = (begun_shows g.S.Store c.args.conn.now _ c.transaction-tx.ensures.begun accepted shows live).now in
-    IfOk-weaker c.all_rows-versions.result _ _ (λ rows is. is ∙ s.tables.kept.stands.versions) (c.all_rows-versions.ensures.rows before _ (holds_in accepted _ s)))
+    IfOk-weaker c.all_rows-versions.result _ _ (λ rows is. is ∙ s.tables.kept.stands.versions)
+    (c.all_rows-versions.ensures.rows before _ (holds_in accepted _ s)))
 
 pub returns-clause-shows : goal.returns-clause-shows
 returns-clause-shows g c clean accepted shows =
     let keeps = c.all_rows-versions.ensures.kept (was_clean _ _ _ c.rollback.ensures.survives (search rules)) in
     let shown = begun_shows g.S.Store c.args.conn.now _ c.transaction-tx.ensures.begun accepted shows in
-    let back = undone_shows accepted _ _ _ shown (keeps (begun_inside g.S.Store c.args.conn.now _ c.transaction-tx.ensures.begun)) (c.rollback.ensures.undone (search rules)) in
+    let inside = begun_inside g.S.Store c.args.conn.now _ c.transaction-tx.ensures.begun in
+    let back = undone_shows accepted _ _ _ shown (keeps inside) (c.rollback.ensures.undone (search rules)) in
     search rules
 
 pub returns-clause-survives : goal.returns-clause-survives
 returns-clause-survives g c =
-    let left = undone_survives g.S.Store c.args.conn.now _ c.transaction-tx.ensures.begun _ c.all_rows-versions.ensures.survives _ c.rollback.ensures.survives in
+    let left =
+        undone_survives g.S.Store c.args.conn.now _ c.transaction-tx.ensures.begun _ c.all_rows-versions.ensures.survives _ c.rollback.ensures.survives in
     search rules
 
 pub returns-clause-exact : goal.returns-clause-exact

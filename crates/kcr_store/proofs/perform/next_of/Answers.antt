@@ -13,7 +13,6 @@ returns-clause-gives g c accepted was clean =
 
 pub returns-clause-whole : goal.returns-clause-whole
 returns-clause-whole g c accepted was =
-    let whole =
-        read_whole g.S.Store c.args.conn.now _ c.transaction-tx.ensures.begun _ _ c.step-row.ensures.frame.survives c.rollback.ensures.survives
-        c.step-row.ensures.frame.kept c.rollback.ensures.undone accepted was in
+    let back = read_whole g.S.Store c.args.conn.now _ c.transaction-tx.ensures.begun _ _ c.step-row.ensures.frame.survives c.rollback.ensures.survives in
+    let whole = back c.step-row.ensures.frame.kept c.rollback.ensures.undone accepted was in
     search rules

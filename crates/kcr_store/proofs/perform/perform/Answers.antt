@@ -9,9 +9,8 @@ use Rattle.kcr_store.proofs.perform.perform.Goals as goal
 
 pub returns-in-Err-clause-whole : goal.returns-in-Err-clause-whole
 returns-in-Err-clause-whole g c was _ =
-    let whole =
-        read_whole g.S.Store c.args.conn.now _ c.transaction-tx.ensures.begun _ _ c.prepare.ensures.survives c.drop-tx.ensures.survives
-        c.prepare.ensures.kept c.drop-tx.ensures.undone _ was in
+    let back = read_whole g.S.Store c.args.conn.now _ c.transaction-tx.ensures.begun _ _ c.prepare.ensures.survives c.drop-tx.ensures.survives in
+    let whole = back c.prepare.ensures.kept c.drop-tx.ensures.undone _ was in
     search rules
 
 pub returns-in-Err-clause-step : goal.returns-in-Err-clause-step

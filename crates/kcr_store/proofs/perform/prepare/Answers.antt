@@ -26,10 +26,7 @@ returns-in_err-make_changes-clause-denied g c clean accepted had =
 
 pub returns-clause-done : goal.returns-clause-done
 returns-clause-done g c clean inside accepted had =
-    let S = g.S.Store in
-    let one = state S c.view_of.new.tx.conn.now in
-    let two = state S c.make_changes.new.tx.conn.now in
-    let clean1 : HasCleanDisk one = was_clean one two _ c.make_changes.ensures.survives clean in
+    let clean1 = was_clean _ _ _ c.make_changes.ensures.survives clean in
     let was = had (c.in_ok-view.ensures.opened clean1) in
     let held = held_in _ _ was in
     let view = c.in_ok-view.ensures.view clean1 (tables accepted) held in

@@ -11,7 +11,6 @@ returns-clause-row g c accepted was clean =
 
 pub returns-clause-whole : goal.returns-clause-whole
 returns-clause-whole g c accepted was =
-    let whole =
-        read_whole g.S.Store c.args.conn.now _ c.transaction-tx.ensures.begun _ _ c.planned_row-row.ensures.survives c.rollback.ensures.survives
-        c.planned_row-row.ensures.kept c.rollback.ensures.undone accepted was in
+    let back = read_whole g.S.Store c.args.conn.now _ c.transaction-tx.ensures.begun _ _ c.planned_row-row.ensures.survives c.rollback.ensures.survives in
+    let whole = back c.planned_row-row.ensures.kept c.rollback.ensures.undone accepted was in
     search rules

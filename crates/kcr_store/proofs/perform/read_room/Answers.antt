@@ -23,9 +23,7 @@ returns-then-is_empty-clause-shown g c clean accepted had =
 
 pub returns-clause-shown : goal.returns-clause-shown
 returns-clause-shown g c clean accepted had =
-    let one = state g.S.Store c.rows_under.new.tx.conn.now in
-    let new = state g.S.Store c.rows_under-2.new.tx.conn.now in
-    let clean1 : HasCleanDisk one = was_clean one new _ c.in_ok-stays.ensures.survives clean in
+    let clean1 = was_clean _ _ _ c.in_ok-stays.ensures.survives clean in
     let was = had (c.in_ok-planned.ensures.opened clean1) in
     let kept = was.tables.kept in
     let t = kept.t in

@@ -17,7 +17,8 @@ loop-person-preserved c =
     let more = c.in_ok-push.ensures.items in
     let HasRoles : PersonShown → Type 0 = λ person. AreRolesOf c.args.trainings.now c.args.withdrawals.now person.who person.roles.items in
     record {
-      people = rw more (one_more at.shown.items shown person (into_iter_items c.into_iter-person-iterator.result) left rest at.invariant.people first c.in_ok-person_shown.ensures.person);
+      people = rw more (one_more at.shown.items shown person (into_iter_items c.into_iter-person-iterator.result) left rest
+          at.invariant.people first c.in_ok-person_shown.ensures.person);
       left =
           let was = at.invariant.left in
           let gone = c.in-Some.ensures.steps.1 in

@@ -20,7 +20,8 @@ returns-clause-holds g c clean t held =
     let clean3 = was_clean _ _ _ c.in_ok-sheet.ensures.survives clean in
     let clean2 = was_clean _ _ _ c.in_ok-ceremonies.ensures.survives clean3 in
     let clean1 = was_clean _ _ _ c.in_ok-boxes.ensures.survives clean2 in
-    c.in_ok-sheet.ensures.holds clean t (c.in_ok-ceremonies.ensures.holds clean3 t (c.in_ok-boxes.ensures.holds clean2 t (c.in_ok-people.ensures.holds clean1 t held)))
+    c.in_ok-sheet.ensures.holds clean t
+    (c.in_ok-ceremonies.ensures.holds clean3 t (c.in_ok-boxes.ensures.holds clean2 t (c.in_ok-people.ensures.holds clean1 t held)))
 
 pub returns-clause-opened : goal.returns-clause-opened
 returns-clause-opened g c clean =

@@ -28,7 +28,6 @@ returns-clause-register g c accepted was clean =
 
 pub returns-clause-whole : goal.returns-clause-whole
 returns-clause-whole g c accepted was =
-    let whole =
-        read_whole g.S.Store c.args.conn.now _ c.transaction-tx.ensures.begun _ _ c.all_of-view.ensures.survives c.rollback.ensures.survives
-        c.all_of-view.ensures.kept c.rollback.ensures.undone accepted was in
+    let back = read_whole g.S.Store c.args.conn.now _ c.transaction-tx.ensures.begun _ _ c.all_of-view.ensures.survives c.rollback.ensures.survives in
+    let whole = back c.all_of-view.ensures.kept c.rollback.ensures.undone accepted was in
     search rules

@@ -1,11 +1,12 @@
+use Rattle.std.proofs.Common.{refl}
 use Rattle.kcr_store.proofs.WholeLemmas.{still_kept}
 use Rattle.kcr_store.proofs.register.Register.look.Goals as goal
 
 pub invariant_of-self : goal.invariant_of-self
-invariant_of-self g c = rw c.if-self.false (still_kept _ _ _ _ (rw c.if-self.false at c.self.invariant) c.ask.ensures.autocommit (c.ask.ensures.whole _))
+invariant_of-self g c = still_kept c.self.invariant c.ask.ensures.autocommit (c.ask.ensures.whole _) (rw c.if-self.false refl)
 
 pub invariant_of-self-in-Err : goal.invariant_of-self-in-Err
-invariant_of-self-in-Err g c = rw c.if-self.false (still_kept _ _ _ _ (rw c.if-self.false at c.self.invariant) c.ask.ensures.autocommit (c.ask.ensures.whole _))
+invariant_of-self-in-Err g c = still_kept c.self.invariant c.ask.ensures.autocommit (c.ask.ensures.whole _) (rw c.if-self.false refl)
 
 pub returns-in-Ok-clause-kept : goal.returns-in-Ok-clause-kept
 returns-in-Ok-clause-kept g c = invariant_of-self g c

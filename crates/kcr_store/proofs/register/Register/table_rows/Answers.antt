@@ -3,16 +3,14 @@ use Rattle.kcr_history.specs.History.{History}
 use Rattle.kcr_history.specs.Machine.{IsRegister}
 use Rattle.kcr_history.specs.Tables.{tables}
 use Rattle.kcr_store.specs.Whole.{AreRows}
-use Rattle.sqlite.specs.Held.{state}
-use Rattle.kcr_tables.specs.Joint.{HoldsTables}
 use Rattle.kcr_store.proofs.WholeLemmas.{still_kept}
 use Rattle.kcr_store.proofs.register.Register.table_rows.Goals as goal
 
 pub invariant_of-self : goal.invariant_of-self
-invariant_of-self g c = rw c.if-self.false (still_kept _ _ _ _ (rw c.if-self.false at c.self.invariant) c.rows_in_table.ensures.autocommit (c.rows_in_table.ensures.whole _))
+invariant_of-self g c = still_kept c.self.invariant c.rows_in_table.ensures.autocommit (c.rows_in_table.ensures.whole _) (rw c.if-self.false refl)
 
 pub invariant_of-self-in-Err : goal.invariant_of-self-in-Err
-invariant_of-self-in-Err g c = rw c.if-self.false (still_kept _ _ _ _ (rw c.if-self.false at c.self.invariant) c.rows_in_table.ensures.autocommit (c.rows_in_table.ensures.whole _))
+invariant_of-self-in-Err g c = still_kept c.self.invariant c.rows_in_table.ensures.autocommit (c.rows_in_table.ensures.whole _) (rw c.if-self.false refl)
 
 pub returns-in-Ok-clause-kept : goal.returns-in-Ok-clause-kept
 returns-in-Ok-clause-kept g c = invariant_of-self g c
@@ -21,9 +19,7 @@ pub returns-in-Err-clause-kept : goal.returns-in-Err-clause-kept
 returns-in-Err-clause-kept g c = invariant_of-self-in-Err g c
 
 pub returns-in-Ok-clause-rows : goal.returns-in-Ok-clause-rows
-returns-in-Ok-clause-rows g c whole clean m held =
-    let inside : HoldsTables m (state g.S.Store c.self.inside.conn).now = search rules in
-    c.in-Ok.ensures.rows clean m inside
+returns-in-Ok-clause-rows g c whole clean m held = c.in-Ok.ensures.rows clean m (search rules)
 
 pub returns-in-Ok-clause-shown : goal.returns-in-Ok-clause-shown
 returns-in-Ok-clause-shown g c founded whole clean =
