@@ -1,9 +1,8 @@
 -- What an older file holds, before and after it is brought to this version.
-use Rattle.std.proofs.Common.{◌≡◌, ℕ, ◌+◌, List, [], ◌∷◌, map, fold, refl, sym, ap, subst, ◌∙◌, arith}
+use Rattle.std.proofs.Common.{rules, ◌≡◌, ℕ, ◌+◌, List, [], ◌∷◌, map, fold, refl, sym, ap, subst, ◌∙◌, arith}
 use Rattle.std.specs.List.Sorted.{IsPermutation}
 use Rattle.std.proofs.lemmas.List.Sorted.{IsPermutation-refl}
 use Rattle.sqlite.specs.Effect.{Database}
-use Rattle.kcr_people.specs.declared.Withdrawal.{Withdrawal}
 use Rattle.kcr_room.specs.declared.Stay.{Stay}
 use Rattle.kcr_room.specs.Stays.{stays_by}
 use Rattle.kcr_history.specs.declared.views.Change.TheVariants.{PutStay}
@@ -22,12 +21,14 @@ use Rattle.kcr_older.specs.Filled.{with_stays}
 use Rattle.kcr_older.specs.Older.{StoresAs, HoldsUpTo, numbered}
 use Rattle.kcr_older.proofs.Filling.{filled}
 
-pub old_holds : (version : ℕ) (A : History) (db : Database) (s : StoresAs version A db) → HoldsUpTo (14 + version) db (record s.tables.t { versions = numbered version })
+pub old_holds : (version : ℕ) (A : History) (db : Database) (s : StoresAs version A db)
+    → HoldsUpTo (14 + version) db (record s.tables.t { versions = numbered version })
 old_holds version A db s = record { schema = s.schema; kept = s.tables.kept }
 
 -- ---- the stays and the number of the version do not meet
 
-put_stays : (stays : List Stay) (t : Tables) → changed_all (map PutStay stays) t ≡ record t { stays = fold (λ rows stay. put_in 2 stay_row stay rows) t.stays stays }
+put_stays : (stays : List Stay) (t : Tables)
+    → changed_all (map PutStay stays) t ≡ record t { stays = fold (λ rows stay. put_in 2 stay_row stay rows) t.stays stays }
 put_stays [] t = refl
 put_stays (stay ∷ stays) t = put_stays stays (record t { stays = put_in 2 stay_row stay t.stays })
 
@@ -36,67 +37,33 @@ same_number t = ap (λ (u : Tables). u.versions) (put_stays (stays_by t.sheet) t
 
 other_number : (t : Tables) (versions : List Version) → record (with_stays t) { versions = versions } ≡ with_stays (record t { versions = versions })
 other_number t versions =
-    ap (λ (u : Tables). record u { versions = versions }) (put_stays (stays_by t.sheet) t) ∙ sym (put_stays (stays_by t.sheet) (record t { versions = versions }))
-
-rises_still : (t : Tables) (versions : List Version) → Rises t → Rises (record t { versions = versions })
-rises_still t versions r = record {
-  people = r.people;
-  trainings = r.trainings;
-  appointments = r.appointments;
-  boxes = r.boxes;
-  safes = r.safes;
-  bags = r.bags;
-  items = r.items;
-  ceremonies = r.ceremonies;
-  marks = r.marks;
-  steps = r.steps;
-  seatings = r.seatings;
-  sheet = r.sheet;
-  exceptions = r.exceptions;
-  keys = r.keys;
-  stays = r.stays;
-  withdrawals = r.withdrawals;
-}
+    ap (λ (u : Tables). record u { versions = versions }) (put_stays (stays_by t.sheet) t)
+    ∙ sym (put_stays (stays_by t.sheet) (record t { versions = versions }))
 
 -- ---- an older file has the rows of its history, but for withdrawals, which it has none of, and for its stays
 
 stands_older : (A : History) (t : Tables) (own rows : List Stay) → Stands (tables A) t → machine.withdrawals A ≡ [] → IsPermutation own rows
     → Stands (record (tables A) { stays = own }) (record t { stays = rows; withdrawals = []; versions = numbered 3 })
-stands_older A t own rows s none same = record {
-  people = s.people;
-  trainings = s.trainings;
-  withdrawals = subst (λ (ws : List Withdrawal). IsPermutation ws []) (sym none) (IsPermutation-refl []);
-  appointments = s.appointments;
-  boxes = s.boxes;
-  safes = s.safes;
-  bags = s.bags;
-  items = s.items;
-  ceremonies = s.ceremonies;
-  marks = s.marks;
-  steps = s.steps;
-  seatings = s.seatings;
-  sheet = s.sheet;
-  stays = same;
-  exceptions = s.exceptions;
-  keys = s.keys;
-  versions = refl;
-}
+stands_older A t own rows s none same =
+    let without : IsPermutation (machine.withdrawals A) [] = rw none (IsPermutation-refl []) in
+    search (rules, without, same)
 
--- the tables of a file of version 1 after those that it lacks were made
-abbrev pub grown : Tables → Tables
-grown t = record t { stays = []; withdrawals = []; versions = numbered 1 }
-
-pub brought_1 : (A : History) (old mid new : Database) (s : StoresAs 1 A old) → Holds mid (grown s.tables.t) → Holds new (record (with_stays (grown s.tables.t)) { versions = numbered 3 }) → HoldsTables (tables A) new
-brought_1 A old mid new s before after =
+pub brought_1 : (A : History) (old new : Database) (s : StoresAs 1 A old)
+    → Holds new (record (with_stays (record s.tables.t { stays = []; withdrawals = []; versions = numbered 1 })) { versions = numbered 3 })
+    → HoldsTables (tables A) new
+brought_1 A old new s after =
     let t : Tables = s.tables.t in
-    let now : Tables = record (grown t) { versions = numbered 3 } in
+    let now : Tables = record t { stays = []; withdrawals = []; versions = numbered 3 } in
     let stood = stands_older A t [] [] s.tables.stands (s.tables.unwithdrawn (omega arith)) (IsPermutation-refl []) in
-    let rises = rises_still (grown t) (numbered 3) (kept_rises mid.trees (grown t) before.kept) in
+    let rose = kept_rises s.tables.kept.whole (record t { versions = numbered 1 }) s.tables.kept.kept in
+    let rises : Rises now = search (rules, rose) in
     let put = all_stand (map PutStay (stays_by t.sheet)) (record (tables A) { stays = [] }) now rises stood in
     let stands = same_stands _ (tables A) (with_stays now) (filled A s.tables.register t.sheet s.tables.stands.sheet) put in
-    tables_of (tables A) new (with_stays now) stands (subst (Holds new) (other_number (grown t) (numbered 3)) after)
+    tables_of (tables A) new (with_stays now) stands
+    (subst (Holds new) (other_number (record t { stays = []; withdrawals = []; versions = numbered 1 }) (numbered 3)) after)
 
-pub brought_2 : (A : History) (old new : Database) (s : StoresAs 2 A old) → Holds new (record s.tables.t { withdrawals = []; versions = numbered 3 }) → HoldsTables (tables A) new
+pub brought_2 : (A : History) (old new : Database) (s : StoresAs 2 A old) → Holds new (record s.tables.t { withdrawals = []; versions = numbered 3 })
+    → HoldsTables (tables A) new
 brought_2 A old new s after =
     let t : Tables = s.tables.t in
     let stands = stands_older A t (tables A).stays t.stays s.tables.stands (s.tables.unwithdrawn (omega arith)) s.tables.stands.stays in

@@ -1,9 +1,12 @@
 -- The stays of a sheet, put one after the other into a table without rows.
-use Rattle.std.proofs.Common.{◌≡◌, ℕ, suc, ◌+◌, ◌≤◌, ◌==◌, ◌&&◌, ◌||◌, Bool, true, false, cond, List, [], ◌∷◌, ◌++◌, map, refl, sym, ap, subst, ◌∙◌, arith, append-nil, eq-eqb, None}
+use Rattle.std.proofs.Common.{rules, ◌≡◌, ℕ, suc, ◌+◌, ◌≤◌, ◌==◌, ◌&&◌, ◌||◌, Bool, true, false, cond, List, [], ◌∷◌, ◌++◌, map, refl, sym, ap, subst, ◌∙◌}
+use Rattle.std.proofs.Common.{arith, append-nil, eq-eqb, None, reverse}
 use Rattle.std.specs.List.{list_any, count_by}
 use Rattle.std.specs.List.Sorted.{IsPermutation}
+use Rattle.std.proofs.lemmas.List.Elements.{All-from_recursion}
+use Rattle.std.proofs.lemmas.List.Folds.{list_any_none}
 use Rattle.std.proofs.lemmas.List.Sums.{sum_by-cons}
-use Rattle.std.proofs.lemmas.List.Sorted.{IsPermutation-refl, IsPermutation-sym, IsPermutation-trans}
+use Rattle.std.proofs.lemmas.List.Sorted.{IsPermutation-refl, IsPermutation-sym, IsPermutation-trans, IsPermutation-reverse}
 use Rattle.kcr_base.specs.Rows.{put_all}
 use Rattle.kcr_base.specs.Same.{same_text}
 use Rattle.kcr_room.specs.declared.SheetRow.{SheetRow}
@@ -13,6 +16,7 @@ use Rattle.kcr_room.specs.Stays.{stay_from, stays_by}
 use Rattle.kcr_room.specs.Ends.{steps_by}
 use Rattle.kcr_room.specs.Laws.{ShareNoMoment}
 use Rattle.kcr_room.proofs.Agreement.{same-itself}
+use Rattle.kcr_room.proofs.Lists.{none-counted}
 use Rattle.kcr_room.proofs.Ends.{step_at, until_in, told_from, stays-told}
 use Rattle.kcr_history.specs.Changes.{same_stay, changed_by}
 use Rattle.kcr_history.specs.declared.views.Change.TheVariants.{PutStay}
@@ -20,7 +24,26 @@ use Rattle.kcr_history.specs.History.{History}
 use Rattle.kcr_history.specs.Tables.{Tables, SameTables, tables}
 use Rattle.kcr_history.specs.Machine.{IsRegister}
 use Rattle.kcr_machine.proofs.SheetLeads.{IsFresh, put-fresh, changed_by-stays}
-use Rattle.kcr_older.proofs.SheetOrder.{shared_none, stays_meet}
+use Rattle.kcr_room.proofs.AnyOrder.{stays-order, sheet-shares, share-order}
+use Rattle.kcr_history.specs.Room.{sheet}
+use Rattle.kcr_machine.proofs.SheetFaults.{sheet-made}
+
+-- ---- the stays of a register's sheet, in whatever order its rows come
+
+there : (A : History) (rows : List SheetRow) → IsPermutation (reverse (sheet A)) rows → IsPermutation (sheet A) rows
+there A rows p = IsPermutation-trans _ _ _ (IsPermutation-reverse (sheet A)) p
+
+-- no two rows of the table share person and moment
+pub shared_none : (A : History) → IsRegister A → (rows : List SheetRow) → IsPermutation (reverse (sheet A)) rows → ShareNoMoment rows
+shared_none A h rows p = share-order (sheet A) rows (there A rows p) (sheet-shares (sheet A) (sheet-made A h))
+
+pub stays_meet : (A : History) → IsRegister A → (rows : List SheetRow) → IsPermutation (reverse (sheet A)) rows
+    → IsPermutation (reverse (stays_by (sheet A))) (stays_by rows)
+stays_meet A h rows p =
+    IsPermutation-trans _ _ _ (IsPermutation-sym _ _ (IsPermutation-reverse (stays_by (sheet A))))
+    (stays-order (sheet A) rows (there A rows p) (sheet-shares (sheet A) (sheet-made A h)))
+
+-- ---- each stay has a key of its own
 
 -- how many rows, and how many stays, are the person's of that moment
 abbrev rows_at : List ℕ → ℕ → List SheetRow → ℕ
@@ -29,19 +52,18 @@ rows_at who t rows = count_by (λ row. same_text row.who who && row.at == t) row
 abbrev stays_at : List ℕ → ℕ → List Stay → ℕ
 stays_at who t stays = count_by (λ stay. same_text stay.who who && stay.since == t) stays
 
-row-counted : (who : List ℕ) (t : ℕ) (row : SheetRow) (rows : List SheetRow) → rows_at who t (row ∷ rows) ≡ cond (same_text row.who who && row.at == t) 1 0 + rows_at who t rows
+row-counted : (who : List ℕ) (t : ℕ) (row : SheetRow) (rows : List SheetRow)
+    → rows_at who t (row ∷ rows) ≡ cond (same_text row.who who && row.at == t) 1 0 + rows_at who t rows
 row-counted who t row rows = sum_by-cons (λ (r : SheetRow). cond (same_text r.who who && r.at == t) 1 0) row rows
 
-stay-counted : (who : List ℕ) (t : ℕ) (stay : Stay) (stays : List Stay) → stays_at who t (stay ∷ stays) ≡ cond (same_text stay.who who && stay.since == t) 1 0 + stays_at who t stays
+stay-counted : (who : List ℕ) (t : ℕ) (stay : Stay) (stays : List Stay)
+    → stays_at who t (stay ∷ stays) ≡ cond (same_text stay.who who && stay.since == t) 1 0 + stays_at who t stays
 stay-counted who t stay stays = sum_by-cons (λ (s : Stay). cond (same_text s.who who && s.since == t) 1 0) stay stays
 
 none-any : (who : List ℕ) (t : ℕ) (stays : List Stay) → stays_at who t stays ≡ 0 → list_any (λ stay. same_text stay.who who && stay.since == t) stays ≡ false
-none-any who t [] h = refl
-none-any who t (stay ∷ stays) h = by_test (same_text stay.who who && stay.since == t) (sym (stay-counted who t stay stays) ∙ h) (none-any who t stays)
-  where
-    by_test : (b : Bool) → cond b 1 0 + stays_at who t stays ≡ 0 → (stays_at who t stays ≡ 0 → list_any (λ s. same_text s.who who && s.since == t) stays ≡ false) → (b || list_any (λ s. same_text s.who who && s.since == t) stays) ≡ false
-    by_test true e ih = absurd (omega (arith, e))
-    by_test false e ih = ih (omega (arith, e))
+none-any who t stays h =
+    let test = λ (stay : Stay). same_text stay.who who && stay.since == t in
+    list_any_none test stays (All-from_recursion _ stays (none-counted test stays h))
 
 -- of a sheet no two rows of which share person and moment, each stay has a key of its own
 told-fresh : (all : List SheetRow) (place : ℕ) (rows front : List SheetRow) (old : List Stay)
@@ -49,30 +71,31 @@ told-fresh : (all : List SheetRow) (place : ℕ) (rows front : List SheetRow) (o
     → IsFresh same_stay (told_from (steps_by all) place rows) old
 told-fresh all place [] front old free within = tt
 told-fresh all place (row ∷ rows) front old free within =
-    by_way (is_enter row.way) (told-fresh all (suc place) rows (row ∷ front) (x ∷ old) more with_stay) (told-fresh all (suc place) rows (row ∷ front) old more without_stay)
+    by_way (is_enter row.way) (told-fresh all (suc place) rows (row ∷ front) (x ∷ old) more with_stay)
+    (told-fresh all (suc place) rows (row ∷ front) old more without_stay)
   where
     x : Stay
     x = stay_from row (until_in None (step_at place row) (steps_by all))
 
     more : (who : List ℕ) (t : ℕ) → rows_at who t (row ∷ front) + rows_at who t rows ≤ 1
-    more who t = let a = row-counted who t row front in let b = row-counted who t row rows in let f = free who t in omega (arith, a, b, f)
+    more who t = omega (arith, row-counted who t row front, row-counted who t row rows, free who t)
 
     own : 1 ≤ rows_at row.who row.at (row ∷ rows)
     own =
         let k : (same_text row.who row.who && row.at == row.at) ≡ true = ap (λ b. b && row.at == row.at) (same-itself row.who) ∙ eq-eqb row.at row.at refl in
-        let a : rows_at row.who row.at (row ∷ rows) ≡ 1 + rows_at row.who row.at rows = row-counted row.who row.at row rows ∙ ap (λ b. cond b 1 0 + rows_at row.who row.at rows) k in
-        omega (arith, a)
+        omega (arith, row-counted row.who row.at row rows ∙ ap (λ b. cond b 1 0 + rows_at row.who row.at rows) k)
 
     fresh : list_any (same_stay x) old ≡ false
-    fresh = none-any row.who row.at old (let f = free row.who row.at in let w = within row.who row.at in let o = own in omega (arith, f, w, o))
+    fresh = none-any row.who row.at old (omega (arith, free row.who row.at, within row.who row.at, own))
 
     with_stay : (who : List ℕ) (t : ℕ) → stays_at who t (x ∷ old) ≤ rows_at who t (row ∷ front)
-    with_stay who t = let a = row-counted who t row front in let b : stays_at who t (x ∷ old) ≡ cond (same_text row.who who && row.at == t) 1 0 + stays_at who t old = stay-counted who t x old in let w = within who t in omega (arith, a, b, w)
+    with_stay who t = omega (arith, row-counted who t row front, stay-counted who t x old, within who t)
 
     without_stay : (who : List ℕ) (t : ℕ) → stays_at who t old ≤ rows_at who t (row ∷ front)
-    without_stay who t = let a = row-counted who t row front in let w = within who t in omega (arith, a, w)
+    without_stay who t = omega (arith, row-counted who t row front, within who t)
 
-    by_way : (b : Bool) → IsFresh same_stay (told_from (steps_by all) (suc place) rows) (x ∷ old) → IsFresh same_stay (told_from (steps_by all) (suc place) rows) old
+    by_way : (b : Bool) → IsFresh same_stay (told_from (steps_by all) (suc place) rows) (x ∷ old)
+        → IsFresh same_stay (told_from (steps_by all) (suc place) rows) old
         → IsFresh same_stay (cond b (x ∷ []) [] ++ told_from (steps_by all) (suc place) rows) old
     by_way true here there = (fresh, here)
     by_way false here there = there
@@ -80,28 +103,11 @@ told-fresh all place (row ∷ rows) front old free within =
 stays-put : (rows : List SheetRow) → ShareNoMoment rows → IsPermutation (put_all same_stay (stays_by rows) []) (stays_by rows)
 stays-put rows h =
     put-fresh same_stay (stays_by rows) []
-    (subst (λ stays. IsFresh same_stay stays []) (sym (stays-told rows)) (told-fresh rows 0 rows [] [] (λ who t. let k = h who t in omega (arith, k)) (λ who t. omega arith)))
+    (subst (λ stays. IsFresh same_stay stays []) (sym (stays-told rows))
+    (told-fresh rows 0 rows [] [] (λ who t. omega (arith, h who t)) (λ who t. omega arith)))
 
 other-stays : (t : Tables) (stays : List Stay) → IsPermutation stays t.stays → SameTables (record t { stays = stays }) t
-other-stays t stays p =
-    record {
-      people = IsPermutation-refl t.people;
-      trainings = IsPermutation-refl t.trainings;
-      withdrawals = IsPermutation-refl t.withdrawals;
-      appointments = IsPermutation-refl t.appointments;
-      boxes = IsPermutation-refl t.boxes;
-      safes = IsPermutation-refl t.safes;
-      bags = IsPermutation-refl t.bags;
-      items = IsPermutation-refl t.items;
-      ceremonies = IsPermutation-refl t.ceremonies;
-      marks = IsPermutation-refl t.marks;
-      steps = IsPermutation-refl t.steps;
-      seatings = IsPermutation-refl t.seatings;
-      sheet = IsPermutation-refl t.sheet;
-      stays = p;
-      exceptions = IsPermutation-refl t.exceptions;
-      keys = IsPermutation-refl t.keys;
-    }
+other-stays t stays p = search (rules, IsPermutation-refl, p)
 
 -- the machine's tables but for the stays, and the stays of the sheet put into them: the machine's tables
 pub filled : (A : History) → IsRegister A → (rows : List SheetRow) → IsPermutation (tables A).sheet rows

@@ -1,18 +1,67 @@
--- An older file with the tables that it lacks, which have no rows yet.
-use Rattle.std.proofs.Common.{◌≡◌, ℕ, zero, suc, List, [], ◌∷◌, map, take, ◌∙◌}
+-- An older file with the tables that it lacks, which have no rows yet: what CREATE TABLE does to tables that have rows.
+use Rattle.std.proofs.Common.{rules, ◌≡◌, ℕ, zero, suc, List, [], ◌∷◌, map, drop, take, ◌∙◌, ◌+◌, None, Ok, false, refl, sym, ap, subst}
 use Rattle.sqlite.specs.Tree.{Trees}
 use Rattle.sqlite.specs.Table.{Table}
-use Rattle.sqlite.specs.Change.{KeepsRows}
+use Rattle.sqlite.specs.Change.{KeepsRows, created, next_tree}
 use Rattle.sqlite.specs.Effect.{Database}
 use Rattle.sqlite_catalog.specs.Listing.{IsSound}
-use Rattle.kcr_rows.specs.Keyed.{Keeps}
+use Rattle.sqlite.specs.Order.{Row}
+use Rattle.kcr_rows.specs.Keyed.{Keeps, Place}
 use Rattle.kcr_rows.proofs.CreateLemmas.{bare}
 use Rattle.kcr_rows.proofs.TableLemmas.{keeps_on}
 use Rattle.kcr_cells.specs.Rows.{stay_row, withdrawal_row}
 use Rattle.kcr_tables.specs.Schema.{all_tables, register_schema, stays, withdrawals}
-use Rattle.kcr_tables.specs.Held.{Tables, Kept, Holds, people_place, trainings_place, appointments_place, boxes_place, safes_place, bags_place, items_place, ceremonies_place, marks_place, steps_place, seatings_place, sheet_place, exceptions_place, versions_place, keys_place, stays_place, withdrawals_place}
+use Rattle.kcr_tables.specs.Held.{Tables, Kept, Holds, stays_place, withdrawals_place}
 use Rattle.kcr_older.specs.Growth.{Gains}
 use Rattle.kcr_older.specs.Older.{HoldsUpTo}
+use Rattle.sqlite.specs.Command.TheVariants.{CreateTable}
+use Rattle.sqlite.specs.Compile.{table_defined_by}
+use Rattle.sqlite.specs.Does.{Tally, lacks_sequence}
+use Rattle.sqlite.specs.State.{State, Executes, Writes}
+use Rattle.sqlite.specs.Listing.{understood}
+use Rattle.sqlite.proofs.Callers.{IsPlain, command_of, statement_of, runs_as}
+use Rattle.kcr_rows.proofs.WriteLemmas.{went, same_value}
+use Rattle.kcr_tables.specs.Made.{text_at, first}
+use Rattle.kcr_tables.proofs.MakeLemmas.{is_15, defines_15, is_16, defines_16}
+
+-- ---- one more table
+
+-- the rows of the tables that were there stay, and the new one has none
+module _ (at : ℕ) (table : Table)
+    (is : command_of (understood (first at) (text_at at)) ≡ CreateTable)
+    (whole : statement_of (text_at at) (understood (first at) (text_at at)) ≡ text_at at)
+    (plain : IsPlain (understood (first at) (text_at at)))
+    (after_is : (found : Table) → table_defined_by (text_at at) ≡ Ok found → created (first at) found ≡ first (at + 1))
+    (tree_is : next_tree (first at) ≡ table.tree)
+    (uncounted : lacks_sequence (first (at + 1)) ≡ false) where
+  creates_over : (old new : State) (count : ℕ) → old.now.schema ≡ first at → Executes (text_at at) [] old new (Ok count) → Gains at table old.now new.now
+  creates_over old new count has h =
+      let w = subst (λ t. Writes old new None CreateTable t [] count) whole (runs_as (text_at at) [] old new (first at) has CreateTable is plain count h) in
+      let all = went w.changed in
+      let made_as = went all.1 in
+      let made = made_as.1 in
+      let schema_is : made_as.0.schema ≡ first (at + 1) = made.is ∙ ap (λ s. created s made.table) has ∙ after_is made.table made.defined in
+      let lacks : lacks_sequence made_as.0.schema ≡ false = ap lacks_sequence schema_is ∙ uncounted in
+      let now : new.now ≡ made_as.0 = ap (λ (p : Tally × Database). p.1) (same_value all.2) ∙ same_value (rw lacks at made_as.2) in
+      let trees : new.now.trees ≡ made_as.0.trees = ap (λ (d : Database). d.trees) now in
+      let schema : new.now.schema ≡ first (at + 1) = ap (λ (d : Database). d.schema) now ∙ schema_is in
+      let kept : KeepsRows (first at).tables old.now.trees made_as.0.trees = subst (λ s. KeepsRows s.tables old.now.trees made_as.0.trees) has made.others in
+      let bare : made_as.0.trees table.tree ≡ [] = subst (λ t. made_as.0.trees t ≡ []) (ap next_tree has ∙ tree_is) made.empty in
+      record {
+        schema = schema;
+        shared = subst (λ (n : Trees). KeepsRows (first at).tables old.now.trees n) (sym trees) kept;
+        empty = subst (λ (n : Trees). n table.tree ≡ []) (sym trees) bare;
+        sound = subst (λ s. IsSound s new.now.trees) schema w.sound;
+      }
+
+pub creates_stays : (old new : State) (count : ℕ) → old.now.schema ≡ first 15 → Executes (text_at 15) [] old new (Ok count) → Gains 15 stays old.now new.now
+creates_stays = creates_over 15 stays is_15.0 is_15.1 is_15.2 defines_15 refl refl
+
+pub creates_withdrawals : (old new : State) (count : ℕ) → old.now.schema ≡ first 16 → Executes (text_at 16) [] old new (Ok count)
+    → Gains 16 withdrawals old.now new.now
+creates_withdrawals = creates_over 16 withdrawals is_16.0 is_16.1 is_16.2 defines_16 refl refl
+
+-- ---- all that an older file lacks
 
 shares_on : (tables : List Table) (a b c : Trees) → KeepsRows tables a b → KeepsRows tables b c → KeepsRows tables a c
 shares_on [] a b c one two = tt
@@ -20,52 +69,45 @@ shares_on (t ∷ tables) a b c one two = (two.0 ∙ one.0, shares_on tables a b 
 
 -- trees that share the first 15 tables with those of a register keep its rows in them, beside stays and withdrawals of their own
 shares_kept : (whole db : Trees) (t u : Tables) → Kept whole t → KeepsRows (take 15 all_tables) whole db → IsSound register_schema db
-    → Keeps stays_place db (map stay_row u.stays) → Keeps withdrawals_place db (map withdrawal_row u.withdrawals) → Kept db (record t { stays = u.stays; withdrawals = u.withdrawals })
-shares_kept whole db t u k s sound own_stays own_withdrawals = record {
-  sound = sound;
-  people = keeps_on people_place whole db _ s.0 k.people;
-  trainings = keeps_on trainings_place whole db _ s.1.0 k.trainings;
-  appointments = keeps_on appointments_place whole db _ s.1.1.0 k.appointments;
-  boxes = keeps_on boxes_place whole db _ s.1.1.1.0 k.boxes;
-  safes = keeps_on safes_place whole db _ s.1.1.1.1.0 k.safes;
-  bags = keeps_on bags_place whole db _ s.1.1.1.1.1.0 k.bags;
-  items = keeps_on items_place whole db _ s.1.1.1.1.1.1.0 k.items;
-  ceremonies = keeps_on ceremonies_place whole db _ s.1.1.1.1.1.1.1.0 k.ceremonies;
-  marks = keeps_on marks_place whole db _ s.1.1.1.1.1.1.1.1.0 k.marks;
-  steps = keeps_on steps_place whole db _ s.1.1.1.1.1.1.1.1.1.0 k.steps;
-  seatings = keeps_on seatings_place whole db _ s.1.1.1.1.1.1.1.1.1.1.0 k.seatings;
-  sheet = keeps_on sheet_place whole db _ s.1.1.1.1.1.1.1.1.1.1.1.0 k.sheet;
-  exceptions = keeps_on exceptions_place whole db _ s.1.1.1.1.1.1.1.1.1.1.1.1.0 k.exceptions;
-  versions = keeps_on versions_place whole db _ s.1.1.1.1.1.1.1.1.1.1.1.1.1.0 k.versions;
-  keys = keeps_on keys_place whole db _ s.1.1.1.1.1.1.1.1.1.1.1.1.1.1.0 k.keys;
-  stays = own_stays;
-  withdrawals = own_withdrawals;
-  spot = k.spot;
-  seats = k.seats;
-}
+    → Keeps stays_place db (map stay_row u.stays) → Keeps withdrawals_place db (map withdrawal_row u.withdrawals)
+    → Kept db (record t { stays = u.stays; withdrawals = u.withdrawals })
+shares_kept whole db t u k s sound own_stays own_withdrawals =
+    let still : (place : Place) (rows : List Row) → db place.tree ≡ whole place.tree → Keeps place whole rows → Keeps place db rows
+    = λ place rows. keeps_on place whole db rows in
+    -- the tables behind the first seven, which the search does not reach from the front
+    let later : KeepsRows (drop 7 (take 15 all_tables)) whole db = s.1.1.1.1.1.1.1 in
+    search (rules, still, own_stays, own_withdrawals)
 
 front_of : (count : ℕ) (tables : List Table) (a b : Trees) → KeepsRows tables a b → KeepsRows (take count tables) a b
 front_of zero tables a b k = tt
 front_of (suc count) [] a b k = tt
 front_of (suc count) (t ∷ tables) a b k = (k.0, front_of count tables a b k.1)
 
-pub grown_from_1 : (old mid new : Database) (t : Tables) → HoldsUpTo 15 old t → Gains 15 stays old mid → Gains 16 withdrawals mid new → Holds new (record t { stays = []; withdrawals = [] })
+pub grown_from_1 : (old mid new : Database) (t : Tables) → HoldsUpTo 15 old t → Gains 15 stays old mid → Gains 16 withdrawals mid new
+    → Holds new (record t { stays = []; withdrawals = [] })
 grown_from_1 old mid new t held one two =
     let k = held.kept in
     let still = front_of 15 (take 16 all_tables) mid.trees new.trees two.shared in
-    let shared = shares_on (take 15 all_tables) k.whole old.trees new.trees k.shared (shares_on (take 15 all_tables) old.trees mid.trees new.trees one.shared still) in
-    let none : new.trees 32 ≡ [] = two.shared.1.1.1.1.1.1.1.1.1.1.1.1.1.1.1.0 ∙ one.empty in
+    let shared =
+        shares_on (take 15 all_tables) k.whole old.trees new.trees k.shared (shares_on (take 15 all_tables) old.trees mid.trees new.trees one.shared still) in
+    let there : new.trees 32 ≡ mid.trees 32 = assumption two.shared in
+    let none : new.trees 32 ≡ [] = there ∙ one.empty in
     record {
       schema = two.schema;
-      kept = shares_kept k.whole new.trees t (record t { stays = []; withdrawals = [] }) k.kept shared two.sound (bare stays_place new.trees none) (bare withdrawals_place new.trees two.empty);
+      kept =
+          shares_kept k.whole new.trees t (record t { stays = []; withdrawals = [] }) k.kept shared two.sound
+          (bare stays_place new.trees none) (bare withdrawals_place new.trees two.empty);
     }
 
 pub grown_from_2 : (old new : Database) (t : Tables) → HoldsUpTo 16 old t → Gains 16 withdrawals old new → Holds new (record t { withdrawals = [] })
 grown_from_2 old new t held two =
     let k = held.kept in
     let shared = shares_on (take 16 all_tables) k.whole old.trees new.trees k.shared two.shared in
-    let own_stays = keeps_on stays_place k.whole new.trees (map stay_row t.stays) shared.1.1.1.1.1.1.1.1.1.1.1.1.1.1.1.0 k.kept.stays in
+    let there : new.trees 32 ≡ k.whole 32 = assumption shared in
+    let own_stays = keeps_on stays_place k.whole new.trees (map stay_row t.stays) there k.kept.stays in
     record {
       schema = two.schema;
-      kept = shares_kept k.whole new.trees t (record t { withdrawals = [] }) k.kept (front_of 15 (take 16 all_tables) k.whole new.trees shared) two.sound own_stays (bare withdrawals_place new.trees two.empty);
+      kept =
+          shares_kept k.whole new.trees t (record t { withdrawals = [] }) k.kept
+          (front_of 15 (take 16 all_tables) k.whole new.trees shared) two.sound own_stays (bare withdrawals_place new.trees two.empty);
     }

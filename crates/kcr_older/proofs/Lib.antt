@@ -1,5 +1,3 @@
-pub mod SheetOrder
-pub mod CreateOver
 pub mod Grown
 pub mod Filling
 pub mod Update

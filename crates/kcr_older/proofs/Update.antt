@@ -1,5 +1,7 @@
 -- UPDATE of the one number of the table of versions.
-use Rattle.std.proofs.Common.{◌≡◌, ℕ, ◌^◌, ℤ, pos, nat_le, true, false, not, cond, None, Ok, List, [], ◌∷◌, map, filter, codes, refl, sym, ap, subst, ◌∙◌}
+use Rattle.std.proofs.Common.{rules, ◌==◌, ◌≡◌, ℕ, ◌^◌, ℤ, pos, nat_le, true, false, not, cond, None, Ok, List, [], ◌∷◌, map, filter, codes, refl, sym, ap}
+use Rattle.std.proofs.Common.{subst, ◌∙◌}
+use Rattle.std.specs.List.{list_all}
 use Rattle.std.specs.Ordering.{is_eq}
 use Rattle.std.specs.List.Sorted.{IsPermutation}
 use Rattle.std.proofs.lemmas.Cmp.{tied_itself}
@@ -32,14 +34,14 @@ use Rattle.sqlite_rules.specs.Edit.{Applies}
 use Rattle.sqlite_rules.specs.Calls.{ids_of}
 use Rattle.sqlite_rules.proofs.TableLemmas.{int_is}
 use Rattle.sqlite_catalog.specs.Listing.{IsSound}
-use Rattle.kcr_rows.specs.Keyed.{cells, Keeps}
+use Rattle.kcr_rows.specs.Keyed.{cells, Keeps, Place}
 use Rattle.kcr_rows.proofs.ReadLemmas.{reading, matched, map_same}
 use Rattle.kcr_rows.proofs.WriteLemmas.{went, same_value, cast_int}
 use Rattle.kcr_rows.proofs.TableLemmas.{filter_every, keeps_still}
 use Rattle.kcr_cells.specs.Rows.{version_row}
 use Rattle.kcr_cells.specs.declared.rows.Version.{Version}
 use Rattle.kcr_tables.specs.Schema.{register_schema, versions}
-use Rattle.kcr_tables.specs.Held.{Tables, Holds, people_place, trainings_place, appointments_place, boxes_place, safes_place, bags_place, items_place, ceremonies_place, marks_place, steps_place, seatings_place, sheet_place, exceptions_place, versions_place, keys_place, stays_place, withdrawals_place}
+use Rattle.kcr_tables.specs.Held.{Tables, Holds, versions_place}
 use Rattle.kcr_older.specs.Older.{numbered}
 
 -- ---- what a query with no test shows of each entry
@@ -56,10 +58,13 @@ module _ (params : Row) (tree : ℕ) (project : List Term) (f : Row → Row)
   every_row : (db : Trees) (rows : List Row) → IsAnswer q (overlay db []) params rows → IsPermutation (map f (db tree)) rows
   every_row db rows a =
       let entries = db tree in
-      let staged : a.staged ≡ map (λ r. params ∷ r ∷ []) (filter (λ _. true) (overlay db [] tree)) = a.grouped ∙ matched (λ _. true) (λ r. params ∷ r ∷ []) (overlay db [] tree) in
+      let staged : a.staged ≡ map (λ r. params ∷ r ∷ []) (filter (λ _. true) (overlay db [] tree)) =
+      a.grouped ∙ matched (λ _. true) (λ r. params ∷ r ∷ []) (overlay db [] tree) in
       let over : overlay db [] tree ≡ entries = rw low in
-      let all : a.staged ≡ map (λ r. params ∷ r ∷ []) entries = staged ∙ ap (λ l. map (λ r. params ∷ r ∷ []) (filter (λ _. true) l)) over ∙ ap (map (λ r. params ∷ r ∷ [])) (filter_every entries) in
-      let outs : a.kept ≡ map with_f entries = a.distinct ∙ ap (map (output q)) all ∙ map-map (output q) (λ r. params ∷ r ∷ []) entries ∙ map_same _ with_f shows entries in
+      let all : a.staged ≡ map (λ r. params ∷ r ∷ []) entries =
+      staged ∙ ap (λ l. map (λ r. params ∷ r ∷ []) (filter (λ _. true) l)) over ∙ ap (map (λ r. params ∷ r ∷ [])) (filter_every entries) in
+      let outs : a.kept ≡ map with_f entries =
+      a.distinct ∙ ap (map (output q)) all ∙ map-map (output q) (λ r. params ∷ r ∷ []) entries ∙ map_same _ with_f shows entries in
       let same : IsPermutation (map (λ (o : Output). o.1) a.kept) (map (λ (o : Output). o.1) a.ordered) = IsPermutation-map (λ (o : Output). o.1) _ _ a.same in
       let firsts : map (λ (o : Output). o.1) a.kept ≡ map f entries = ap (map (λ (o : Output). o.1)) outs ∙ map-map (λ (o : Output). o.1) with_f entries in
       subst (λ l. IsPermutation l rows) firsts (subst (IsPermutation (map (λ (o : Output). o.1) a.kept)) (sym a.shown) same)
@@ -69,16 +74,15 @@ module _ (params : Row) (tree : ℕ) (project : List Term) (f : Row → Row)
 abbrev project : List Term
 project = col 1 0 ∷ col 1 0 ∷ lit (Int (pos 3)) ∷ []
 
+abbrev set_text : List ℕ
+set_text = codes "UPDATE versions SET number = 3"
+
 abbrev Sets : Command
 Sets = Update 13 (record { lets = []; body = reading 27 [] project [] })
 
-set_is : command_of (understood register_schema (codes "UPDATE versions SET number = 3")) ≡ Sets
+set_is : (command_of (understood register_schema set_text) ≡ Sets) × IsPlain (understood register_schema set_text)
 unfolding understood everything
-set_is = refl
-
-set_plain : IsPlain (understood register_schema (codes "UPDATE versions SET number = 3"))
-unfolding understood everything
-set_plain = (refl, refl)
+set_is = (refl, (refl, refl))
 
 abbrev show_set : Row → Row
 show_set r = column r 0 ∷ column r 0 ∷ Int (pos 3) ∷ []
@@ -95,7 +99,8 @@ record IsSet (trees next : Trees) : Type 0 where
   applies : Applies register_schema Enforced trees (edit_for trees rows) next
 
 updates : (limit : _) (trees : Trees) (text : List ℕ) (tally : Tally) (next : Database)
-    → Does limit (record { keys = Enforced; in_doubt = false; may_wait = false }) [] (record { schema = register_schema; trees = trees }) text None Sets (Ok (tally, next))
+    → Does limit (record { keys = Enforced; in_doubt = false; may_wait = false }) [] (record { schema = register_schema; trees = trees }) text
+    None Sets (Ok (tally, next))
     → (next.schema ≡ register_schema) × IsSet trees next.trees
 updates limit trees text tally next h =
     let done = went h in
@@ -133,47 +138,30 @@ set_tree trees next e i one id s =
     ∙ ap (λ l. put_row (cast_row versions (Int i ∷ Int (pos 3) ∷ [])) l) (gone_one i e id)
     ∙ (λ j. (cast_int i j ∷ cast_int (pos 3) j ∷ []) ∷ [])
 
-pub sets : (n : ℕ) (old new : State) (count : ℕ) (t : Tables) → t.versions ≡ numbered n → Holds old.now t → Executes (codes "UPDATE versions SET number = 3") [] old new (Ok count) → Holds new.now (record t { versions = numbered 3 })
+pub sets : (n : ℕ) (old new : State) (count : ℕ) (t : Tables) → t.versions ≡ numbered n → Holds old.now t
+    → Executes (codes "UPDATE versions SET number = 3") [] old new (Ok count) → Holds new.now (record t { versions = numbered 3 })
 sets n old new count t one held h =
     let o = old.now.trees in
     let m = new.now.trees in
     let k = held.kept in
-    let w = runs_as (codes "UPDATE versions SET number = 3") [] old new register_schema held.schema Sets set_is set_plain count h in
-    let text = statement_of (codes "UPDATE versions SET number = 3") (understood register_schema (codes "UPDATE versions SET number = 3")) in
-    let u = updates old.step_limit o text w.tally new.now (subst (λ s. Does old.step_limit (mode_of old) [] (record old.now { schema = s }) text None Sets (Ok (w.tally, new.now))) held.schema w.changed) in
+    let w = runs_as set_text [] old new register_schema held.schema Sets set_is.0 set_is.1 count h in
+    let text = statement_of set_text (understood register_schema set_text) in
+    let u =
+        updates old.step_limit o text w.tally new.now
+        (subst (λ s. Does old.step_limit (mode_of old) [] (record old.now { schema = s }) text None Sets (Ok (w.tally, new.now))) held.schema w.changed) in
     let kept : Keeps versions_place o ((Int (pos n) ∷ []) ∷ []) = subst (λ (vs : List Version). Keeps versions_place o (map version_row vs)) one k.versions in
     let e = one_entry (cells 1 1) (o 27) (Int (pos n) ∷ []) (one_permutation _ _ kept.same) in
     let shaped = subst (IsShaped shape.Table) e.1 kept.shaped in
     let id : rowid e.0 ≡ Int (id_in (rowid e.0)) = int_is (rowid e.0) shaped.1.0 in
     let tree : m 27 ≡ (Int (id_in (rowid e.0)) ∷ Int (pos 3) ∷ []) ∷ [] = set_tree o m e.0 (id_in (rowid e.0)) e.1 id u.1 in
-    let others = u.1.applies.others in
-    record {
-      schema = u.0;
-      kept = record {
-        sound = subst (λ s. IsSound s m) u.0 w.sound;
-        people = keeps_still register_schema 27 people_place o m _ others refl refl k.people;
-        trainings = keeps_still register_schema 27 trainings_place o m _ others refl refl k.trainings;
-        appointments = keeps_still register_schema 27 appointments_place o m _ others refl refl k.appointments;
-        boxes = keeps_still register_schema 27 boxes_place o m _ others refl refl k.boxes;
-        safes = keeps_still register_schema 27 safes_place o m _ others refl refl k.safes;
-        bags = keeps_still register_schema 27 bags_place o m _ others refl refl k.bags;
-        items = keeps_still register_schema 27 items_place o m _ others refl refl k.items;
-        ceremonies = keeps_still register_schema 27 ceremonies_place o m _ others refl refl k.ceremonies;
-        marks = keeps_still register_schema 27 marks_place o m _ others refl refl k.marks;
-        steps = keeps_still register_schema 27 steps_place o m _ others refl refl k.steps;
-        seatings = keeps_still register_schema 27 seatings_place o m _ others refl refl k.seatings;
-        sheet = keeps_still register_schema 27 sheet_place o m _ others refl refl k.sheet;
-        exceptions = keeps_still register_schema 27 exceptions_place o m _ others refl refl k.exceptions;
-        versions = record {
-          same = subst (λ l. IsPermutation ((Int (pos 3) ∷ []) ∷ []) (map (cells 1 1) l)) (sym tree) (IsPermutation-refl ((Int (pos 3) ∷ []) ∷ []));
-          rising = (tt, tt);
-          full = (refl, tt);
-          shaped = subst (IsShaped shape.Table) (sym tree) ((tt, tt), (refl, tt));
-        };
-        keys = keeps_still register_schema 27 keys_place o m _ others refl refl k.keys;
-        stays = keeps_still register_schema 27 stays_place o m _ others refl refl k.stays;
-        withdrawals = keeps_still register_schema 27 withdrawals_place o m _ others refl refl k.withdrawals;
-        spot = k.spot;
-        seats = k.seats;
-      };
-    }
+    let still : (place : Place) (rows : List Row) → (place.tree == 27) ≡ false → list_all (λ i. not (i.tree == place.tree)) register_schema.indexes ≡ true
+        → Keeps place o rows → Keeps place m rows
+    = λ place rows. keeps_still register_schema 27 place o m rows u.1.applies.others in
+    let sound : IsSound register_schema m = subst (λ s. IsSound s m) u.0 w.sound in
+    let number : Keeps versions_place m ((Int (pos 3) ∷ []) ∷ []) = record {
+      same = subst (λ l. IsPermutation ((Int (pos 3) ∷ []) ∷ []) (map (cells 1 1) l)) (sym tree) (IsPermutation-refl ((Int (pos 3) ∷ []) ∷ []));
+      rising = (tt, tt);
+      full = (refl, tt);
+      shaped = subst (IsShaped shape.Table) (sym tree) ((tt, tt), (refl, tt));
+    } in
+    record { schema = u.0; kept = search (rules, still, sound, number) }

@@ -1,13 +1,10 @@
-use Rattle.std.proofs.Common.{ℕ, [], Ok, OnOk, subst}
 use Rattle.sqlite.specs.Held.{state}
-use Rattle.sqlite.specs.State.{Executes}
 use Rattle.kcr_rows.proofs.FailLemmas.{on_ok_then}
-use Rattle.kcr_older.proofs.CreateOver.{creates_stays}
+use Rattle.kcr_older.proofs.Grown.{creates_stays}
 use Rattle.kcr_older.proofs.grow.create_stays.Goals as goal
 
 pub returns-clause-gains : goal.returns-clause-gains
 returns-clause-gains g c clean has =
     let old = state g.S.Store c.args.tx.now.conn.now in
     let new = state g.S.Store c.write.new.tx.conn.now in
-    let ran = subst (λ text. OnOk c.write.result ((count : ℕ) × Executes text [] old new (Ok count))) c.create_text-text.ensures (c.write.ensures.runs clean) in
-    on_ok_then _ _ (λ h. creates_stays old new h.0 has h.1) c.write.result ran
+    on_ok_then _ _ (λ h. creates_stays old new h.0 has h.1) c.write.result (rw c.create_text-text.ensures at (c.write.ensures.runs clean))

@@ -1,4 +1,4 @@
-use Rattle.kcr_older.proofs.SheetOrder.{stays_meet}
+use Rattle.kcr_older.proofs.Filling.{stays_meet}
 use Rattle.kcr_older.proofs.laws.stays_meet_the_sheet.Goals as goal
 
 pub returns : goal.returns

@@ -1,80 +1,37 @@
-use Rattle.std.proofs.Common.{◌≡◌, [], Bool, true, false, refl, sym, subst, ◌∙◌, rules}
-use Rattle.std.specs.Prelude.{IsTrue}
-use Rattle.sqlite.specs.Held.{state}
-use Rattle.sqlite.specs.State.{HasCleanDisk}
+use Rattle.std.proofs.Common.{◌≡◌, [], true, false, refl, ◌∙◌, rules}
 use Rattle.kcr_rows.proofs.InsideLemmas.{was_clean}
-use Rattle.kcr_tables.specs.Held.{Tables}
 use Rattle.kcr_older.specs.Filled.{with_stays}
-use Rattle.kcr_older.specs.Older.{numbered}
-use Rattle.kcr_older.proofs.Bringing.{old_holds, same_number, grown, brought_1}
+use Rattle.kcr_older.proofs.Bringing.{old_holds, same_number, brought_1}
 use Rattle.kcr_older.proofs.renewal.bring_first.Goals as goal
+
+pub returns-then-not-branch-clause-numbered : goal.returns-then-not-branch-clause-numbered
+returns-then-not-branch-clause-numbered g c clean t held =
+    let held1 = c.in_ok-grow_from_1.ensures.holds (was_clean _ _ _ c.has_number.ensures.frame.survives clean) t held in
+    let no : c.in_ok-has_number.field-0 ≡ false = search rules in
+    rw no at (c.in_ok-has_number.ensures.number clean _ held1)
 
 -- a register of this version has its number
 pub returns-then-not-branch-clause-brought : goal.returns-then-not-branch-clause-brought
 returns-then-not-branch-clause-brought g c clean A s =
-    let old = state g.S.Store c.args.tx.now.conn.now in
-    let one = state g.S.Store c.grow_from_1.new.tx.conn.now in
-    let two = state g.S.Store c.has_number.new.tx.conn.now in
-    let clean1 : HasCleanDisk one = was_clean one two _ c.has_number.ensures.frame.survives clean in
-    let t : Tables = record s.tables.t { versions = numbered 1 } in
-    let held = c.in_ok-grow_from_1.ensures.holds clean1 t (old_holds 1 A old.now s) in
-    let yes : c.in_ok-has_number.field-0 ≡ true = (c.in_ok-has_number.ensures.number clean (record t { stays = []; withdrawals = [] }) held).1 refl in
-    let no : c.in_ok-has_number.field-0 ≡ false = search rules in
-    absurd (let both : true ≡ false = sym yes ∙ no in cc)
-
-pub returns-then-not-branch-clause-numbered : goal.returns-then-not-branch-clause-numbered
-returns-then-not-branch-clause-numbered g c clean t held =
-    let old = state g.S.Store c.args.tx.now.conn.now in
-    let one = state g.S.Store c.grow_from_1.new.tx.conn.now in
-    let two = state g.S.Store c.has_number.new.tx.conn.now in
-    let clean1 : HasCleanDisk one = was_clean one two _ c.has_number.ensures.frame.survives clean in
-    let says = c.in_ok-has_number.ensures.number clean (record t { stays = []; withdrawals = [] }) (c.in_ok-grow_from_1.ensures.holds clean1 t held) in
-    let no : c.in_ok-has_number.field-0 ≡ false = search rules in
-    subst (λ b. (IsTrue b → t.versions ≡ numbered 1) × (t.versions ≡ numbered 1 → IsTrue b)) no says
-
-pub returns-clause-brought : goal.returns-clause-brought
-returns-clause-brought g c clean A s =
-    let old = state g.S.Store c.args.tx.now.conn.now in
-    let one = state g.S.Store c.grow_from_1.new.tx.conn.now in
-    let two = state g.S.Store c.has_number.new.tx.conn.now in
-    let three = state g.S.Store c.fill_stays.new.tx.conn.now in
-    let new = state g.S.Store c.set_version.new.tx.conn.now in
-    let clean3 : HasCleanDisk three = was_clean three new _ c.set_version.ensures.frame.survives clean in
-    let clean2 : HasCleanDisk two = was_clean two three _ c.fill_stays.ensures.frame.survives clean3 in
-    let clean1 : HasCleanDisk one = was_clean one two _ c.has_number.ensures.frame.survives clean2 in
-    let t : Tables = s.tables.t in
-    let held1 = c.in_ok-grow_from_1.ensures.holds clean1 (record t { versions = numbered 1 }) (old_holds 1 A old.now s) in
-    let held2 = c.in_ok-has_number.ensures.frame.holds clean2 (grown t) held1 in
-    let held3 = c.in_ok-fill_stays.ensures.holds clean3 (grown t) held2 in
-    (refl, brought_1 A old.now one.now new.now s held1 (c.in_ok-set_version.ensures.holds clean 1 (with_stays (grown t)) (same_number (grown t)) held3))
+    absurd (let has : false ≡ true = (returns-then-not-branch-clause-numbered g c clean _ (old_holds 1 A _ s)).1 refl in cc)
 
 pub returns-clause-numbered : goal.returns-clause-numbered
 returns-clause-numbered g c clean t held =
-    let old = state g.S.Store c.args.tx.now.conn.now in
-    let one = state g.S.Store c.grow_from_1.new.tx.conn.now in
-    let two = state g.S.Store c.has_number.new.tx.conn.now in
-    let three = state g.S.Store c.fill_stays.new.tx.conn.now in
-    let new = state g.S.Store c.set_version.new.tx.conn.now in
-    let clean3 : HasCleanDisk three = was_clean three new _ c.set_version.ensures.frame.survives clean in
-    let clean2 : HasCleanDisk two = was_clean two three _ c.fill_stays.ensures.frame.survives clean3 in
-    let clean1 : HasCleanDisk one = was_clean one two _ c.has_number.ensures.frame.survives clean2 in
-    let says = c.in_ok-has_number.ensures.number clean2 (record t { stays = []; withdrawals = [] }) (c.in_ok-grow_from_1.ensures.holds clean1 t held) in
+    let clean3 = was_clean _ _ _ c.set_version.ensures.frame.survives clean in
+    let clean2 = was_clean _ _ _ c.fill_stays.ensures.frame.survives clean3 in
+    let held1 = c.in_ok-grow_from_1.ensures.holds (was_clean _ _ _ c.has_number.ensures.frame.survives clean2) t held in
     let yes : c.in_ok-has_number.field-0 ≡ true = search rules in
-    subst (λ b. (IsTrue b → t.versions ≡ numbered 1) × (t.versions ≡ numbered 1 → IsTrue b)) yes says
+    rw yes at (c.in_ok-has_number.ensures.number clean2 _ held1)
 
 pub returns-clause-rows : goal.returns-clause-rows
 returns-clause-rows g c clean t held is_so =
-    let one = state g.S.Store c.grow_from_1.new.tx.conn.now in
-    let two = state g.S.Store c.has_number.new.tx.conn.now in
-    let three = state g.S.Store c.fill_stays.new.tx.conn.now in
-    let new = state g.S.Store c.set_version.new.tx.conn.now in
-    let clean3 : HasCleanDisk three = was_clean three new _ c.set_version.ensures.frame.survives clean in
-    let clean2 : HasCleanDisk two = was_clean two three _ c.fill_stays.ensures.frame.survives clean3 in
-    let clean1 : HasCleanDisk one = was_clean one two _ c.has_number.ensures.frame.survives clean2 in
-    let bare : Tables = record t { stays = []; withdrawals = [] } in
-    let held1 = c.in_ok-grow_from_1.ensures.holds clean1 t held in
-    let yes : c.in_ok-has_number.field-0 ≡ true = search rules in
-    let number : t.versions ≡ numbered 1 = (c.in_ok-has_number.ensures.number clean2 bare held1).0 yes in
-    let held2 = c.in_ok-has_number.ensures.frame.holds clean2 bare held1 in
-    let held3 = c.in_ok-fill_stays.ensures.holds clean3 bare held2 in
-    c.in_ok-set_version.ensures.holds clean 1 (with_stays bare) (same_number bare ∙ number) held3
+    let number = (returns-clause-numbered g c clean t held).0 is_so in
+    let clean3 = was_clean _ _ _ c.set_version.ensures.frame.survives clean in
+    let clean2 = was_clean _ _ _ c.fill_stays.ensures.frame.survives clean3 in
+    let held1 = c.in_ok-grow_from_1.ensures.holds (was_clean _ _ _ c.has_number.ensures.frame.survives clean2) t held in
+    let held2 = c.in_ok-has_number.ensures.frame.holds clean2 _ held1 in
+    let bare = record t { stays = []; withdrawals = [] } in
+    c.in_ok-set_version.ensures.holds clean 1 (with_stays bare) (same_number bare ∙ number) (c.in_ok-fill_stays.ensures.holds clean3 bare held2)
+
+pub returns-clause-brought : goal.returns-clause-brought
+returns-clause-brought g c clean A s = (refl, brought_1 A _ _ s (returns-clause-rows g c clean _ (old_holds 1 A _ s) refl))
