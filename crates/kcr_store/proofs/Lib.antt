@@ -3,5 +3,5 @@ pub mod StoreLemmas
 pub mod OpenLemmas
 pub mod ShownLemmas
 pub mod QuestionLemmas
-pub mod AuditLemmas
 pub mod ListingLemmas
+pub mod PastWalks

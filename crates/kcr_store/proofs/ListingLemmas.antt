@@ -23,9 +23,8 @@ use Rattle.kcr_store.specs.Whole.{IsListed}
 use Rattle.kcr_store.specs.declared.«open».OpenFault.{OpenFault}
 use Rattle.kcr_store.specs.declared.«open».OpenFault.TheVariants as opening
 use Rattle.kcr_store.specs.declared.«open».OpenFault.TheVariants.{Version}
-use Rattle.kcr_store.proofs.AuditLemmas.{listed}
 use Rattle.kcr_store.proofs.OpenLemmas.{apart, count, none_strange, nothing_accepted, of_ours, of_first_version, of_second_version, of_strange}
-use Rattle.kcr_store.proofs.StoreLemmas.{held_in}
+use Rattle.kcr_store.proofs.StoreLemmas.{held_in, listed}
 use Rattle.kcr_tables.specs.Held as held
 use Rattle.kcr_tables.proofs.HoldLemmas.{held_of}
 use Rattle.kcr_tables.specs.Joint.{HoldsTables}

@@ -45,12 +45,7 @@ use Rattle.kcr_store.proofs.StoreLemmas.{all_pairs, by_initials}
 pub one_more : (done : List PersonShown) (shown : PersonShown) (person : Person) (all left rest : List Person) → map person_of done ++ left ≡ all
     → left ≡ person ∷ rest → person_of shown ≡ person
     → map person_of (done ++ shown ∷ []) ++ rest ≡ all
-one_more done shown person all left rest had first is =
-    ap (λ l. l ++ rest) (map-append person_of done (shown ∷ []))
-    ∙ append_assoc (map person_of done) (person_of shown ∷ []) rest
-    ∙ ap (λ p. map person_of done ++ (p ∷ rest)) is
-    ∙ ap (λ l. map person_of done ++ l) (sym first)
-    ∙ had
+one_more done shown person all left rest had first is = rw (map-append person_of done (shown ∷ []), append_assoc, is, ← first) had
 
 -- ---- the order of the trainings that are shown
 
@@ -141,10 +136,6 @@ other_training rows up =
     all_pairs _ rows
     (ascending_weaker _ _ (λ a b less. key_of_withdrawals b a ∙ ap is_eq less) rows (ascending_from_map (λ a b. by_key 4 a b ≡ Less) withdrawal_row rows up))
 
--- two withdrawals of a training are of one training
-both_of : (row : Training) (a b : Withdrawal) → is_of row a ≡ true → is_of row b ≡ true → same_withdrawn b a ≡ true
-both_of row a b p q = subst (λ t. is_of t a ≡ true) (sym (is_of-true row b q)) p
-
 at_most_one : (row : Training) (rows : List Withdrawal) → AllPairs (λ a b. same_withdrawn b a ≡ false) rows → AtMostOne (is_of row) rows
 at_most_one row rows differ = λ i c low p j d below q. elim (cases_order i j) [
     | inl same ↦ get_or_default rows j d c below ∙ ap (λ n. get_or rows n c) (sym same)
@@ -156,8 +147,9 @@ at_most_one row rows differ = λ i c low p j d below q. elim (cases_order i j) [
     not_before : (i : ℕ) (c : Withdrawal) → i < length rows → is_of row (get_or rows i c) ≡ true → (j : ℕ) (d : Withdrawal) → j < length rows
         → is_of row (get_or rows j d) ≡ true → i < j → ⊥
     not_before i c low p j d below q lt =
-        false≢true (sym (differ i j c lt below)
-        ∙ both_of row (get_or rows i c) (get_or rows j c) p (ap (is_of row) (get_or_default rows j c d below) ∙ q))
+        -- two withdrawals of a training are of one training
+        let there : is_of row (get_or rows j c) ≡ true = ap (is_of row) (get_or_default rows j c d below) ∙ q in
+        false≢true (sym (differ i j c lt below) ∙ subst (λ t. is_of t (get_or rows i c) ≡ true) (sym (is_of-true row (get_or rows j c) there)) p)
 
 -- the same day in whatever order the rows are
 same_shown : (table rows : List Withdrawal) → IsPermutation table rows → IsAscending (λ a b. by_key 4 a b ≡ Less) (map withdrawal_row rows) → (row : Training)

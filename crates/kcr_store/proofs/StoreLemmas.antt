@@ -1,11 +1,11 @@
 -- What a decision makes of the tables, and what a reading of them shows.
-use Rattle.std.proofs.Common.{◌≡◌, inl, inr, ℕ, List, [], ◌∷◌, map, Option, Some, None, Ok, Err, Less, IsTrue, refl, sym, ap, subst, ◌∙◌, arith}
-use Rattle.std.specs.Prelude.{MatchOption, AllPairs}
+use Rattle.std.proofs.Common.{rules, ◌≡◌, inl, inr, ℕ, List, [], ◌∷◌, map, Option, Some, None, Ok, Err, Less, IsTrue, refl, sym, ap, subst, ◌∙◌, arith}
+use Rattle.std.specs.Prelude.{MatchOption, AllPairs, IsPermutation}
 use Rattle.std.specs.Ordering.{is_lt}
 use Rattle.sqlite.specs.declared.types.Value.TheVariants.{Text}
 use Rattle.sqlite.specs.Effect.{Database}
 use Rattle.sqlite.specs.Order.{Row, value_cmp}
-use Rattle.sqlite.specs.Tree.{IsAscending}
+use Rattle.sqlite.specs.Tree.{IsAscending, Trees}
 use Rattle.sqlite_trees.proofs.ListLemmas.{ascending-get_or, ascending_from_map, ascending_weaker}
 use Rattle.sqlite_value.proofs.OrderLemmas.{value_cmp-Text, then-Equal}
 use Rattle.kcr_base.specs.Same.{is_before}
@@ -16,21 +16,27 @@ use Rattle.kcr_history.specs.declared.commands.Answer.{Answer}
 use Rattle.kcr_history.specs.declared.commands.Command.{Command}
 use Rattle.kcr_history.specs.declared.commands.Entry.{Entry}
 use Rattle.kcr_history.specs.declared.views.Change.{Change}
+use Rattle.kcr_history.specs.declared.views.Finding.{Finding}
 use Rattle.kcr_history.specs.declared.views.Verdict.{Verdict}
+use Rattle.kcr_history.specs.declared.views.View.{View}
+use Rattle.kcr_history.specs.Audit.{IsAudit}
 use Rattle.kcr_history.specs.History.{History}
-use Rattle.kcr_history.specs.Tables.{tables}
+use Rattle.kcr_history.specs.Tables.{Tables, tables}
 use Rattle.kcr_history.specs.Changes.{changed_by}
 use Rattle.kcr_history.specs.Machine.{IsRegister, IsAcceptance, IsRepeat}
 use Rattle.kcr_tables.specs.Keyed.{by_key}
 use Rattle.kcr_cells.specs.Rows.{person_row, item_row}
 use Rattle.kcr_cells.specs.States.{loose_value, within_value}
+use Rattle.kcr_tables.specs.Held as held
 use Rattle.kcr_tables.specs.Held.{Holds}
-use Rattle.kcr_tables.specs.Joint.{HoldsTables}
+use Rattle.kcr_tables.specs.Joint.{HoldsTables, Stands}
+use Rattle.kcr_tables.specs.Table.{Table}
 use Rattle.kcr_tables.proofs.JointLemmas.{same_holds}
 use Rattle.kcr_tables.specs.Refusals.{IsFault}
 use Rattle.kcr_history.specs.Questions.{IsByInitials}
 use Rattle.kcr_store.specs.Steps.{Steps, with_answer}
 use Rattle.kcr_store.specs.Stored.{Stores}
+use Rattle.kcr_store.specs.Whole.{AreRows, IsListed, Lists}
 
 -- the tables that the database holds
 pub holds_in : (A : History) (db : Database) (s : Stores A db) → Holds db s.tables.kept.t
@@ -61,8 +67,8 @@ module _ (A : History) (x : Command) (v : Verdict) where
   pub next_stores : (answer : Option Answer) (old new : Database) → Stores A old → Decides A x v answer
       → HoldsTables (changed_by v.changes.items (tables A)) new → Stores (with_answer A x answer) new
   next_stores answer old new s d h =
-      let held = next_holds answer new d h in
-      record { schema = held.schema; tables = record { register = next_register answer d s.tables.register; kept = held.tables } }
+      let after = next_holds answer new d h in
+      record { schema = after.schema; tables = record { register = next_register answer d s.tables.register; kept = after.tables } }
 
 -- out of memory and a fault of the device leave the history
 pub fault_steps : (A : History) (x : Command) (e : Refusal) → IsFault e → Steps A x (Err e) A
@@ -72,6 +78,26 @@ fault_steps A x e (inr disk) = (refl, λ no_memory no_disk. absurd (no_disk disk
 -- a new register's tables
 pub first_stores : (db : Database) → HoldsTables (tables []) db → Stores [] db
 first_stores db h = record { schema = h.schema; tables = record { register = tt; kept = h.tables } }
+
+-- ---- rows as a database has them
+
+-- where nothing is to be found, nothing is found
+pub none_found : (view : View) (found : Option Finding) → IsAudit view None → IsAudit view found → found ≡ None
+none_found view None clean found = refl
+none_found view (Some finding) clean found = absurd (clean finding found.0)
+
+-- rows of one table as a database has them are the machine's, in the order of their keys
+pub in_table : {X : Type 0} (table : Table X) {m : Tables} {db : Trees} {t : held.Tables} {rows : List X} → held.Kept db t → rows ≡ table.rows_in t
+    → IsPermutation (table.machine_rows m) rows → AreRows table m rows
+in_table table kept is same = record { same = same; db = _; t = _; kept = kept; lists = is }
+
+-- the machine's rows are also those that are listed
+same_rows : {X : Type 0} {all there listed : List X} → IsPermutation all there → listed ≡ there → IsPermutation all listed
+same_rows p is = rw is p
+
+-- rows as a database has them are the machine's, in the order of their keys
+pub listed : {m : Tables} {db : Trees} {t : held.Tables} {view : View} → held.Kept db t → Stands m t → Lists t view → IsListed m view
+listed kept s l = record { same = search (rules, same_rows); db = _; t = _; kept = kept; lists = l }
 
 -- ---- rows in the order of their keys
 

@@ -1,7 +1,7 @@
 use Rattle.std.proofs.Common.{[]}
 use Rattle.kcr_history.specs.Tables.{tables}
 use Rattle.kcr_rows.proofs.InsideLemmas.{was_clean}
-use Rattle.kcr_store.proofs.AuditLemmas.{listed}
+use Rattle.kcr_store.proofs.StoreLemmas.{listed}
 use Rattle.kcr_tables.proofs.HoldLemmas.{held_of}
 use Rattle.kcr_store.proofs.listing.new_rows.Goals as goal
 

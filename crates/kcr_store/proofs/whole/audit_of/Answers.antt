@@ -1,4 +1,4 @@
-use Rattle.kcr_store.proofs.AuditLemmas.{none_found}
+use Rattle.kcr_store.proofs.StoreLemmas.{none_found}
 use Rattle.kcr_store.proofs.whole.audit_of.Goals as goal
 
 pub returns-clause-found : goal.returns-clause-found

@@ -3,8 +3,7 @@ use Rattle.std.proofs.lemmas.Result.{IfOk-weaker}
 use Rattle.kcr_history.specs.Tables.{tables}
 use Rattle.kcr_tables.proofs.HoldLemmas.{held_of}
 use Rattle.kcr_tables.specs.Joint.{HoldsTables}
-use Rattle.kcr_store.proofs.AuditLemmas.{listed}
-use Rattle.kcr_store.proofs.StoreLemmas.{held_in}
+use Rattle.kcr_store.proofs.StoreLemmas.{held_in, listed}
 use Rattle.kcr_rows.proofs.InsideLemmas.{was_clean}
 use Rattle.kcr_store.proofs.WholeLemmas.{begun_has, if_ok, read_stores, read_whole}
 use Rattle.kcr_store.proofs.whole.view.Goals as goal
