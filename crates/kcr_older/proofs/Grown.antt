@@ -89,7 +89,7 @@ grown_from_1 old mid new t held one two =
     let k = held.kept in
     let still = front_of 15 (take 16 all_tables) mid.trees new.trees two.shared in
     let shared =
-        shares_on (take 15 all_tables) k.whole old.trees new.trees k.shared (shares_on (take 15 all_tables) old.trees mid.trees new.trees one.shared still) in
+    shares_on (take 15 all_tables) k.whole old.trees new.trees k.shared (shares_on (take 15 all_tables) old.trees mid.trees new.trees one.shared still) in
     let there : new.trees 32 ≡ mid.trees 32 = assumption two.shared in
     let none : new.trees 32 ≡ [] = there ∙ one.empty in
     record {

@@ -147,15 +147,15 @@ sets n old new count t one held h =
     let w = runs_as set_text [] old new register_schema held.schema Sets set_is.0 set_is.1 count h in
     let text = statement_of set_text (understood register_schema set_text) in
     let u =
-        updates old.step_limit o text w.tally new.now
-        (subst (λ s. Does old.step_limit (mode_of old) [] (record old.now { schema = s }) text None Sets (Ok (w.tally, new.now))) held.schema w.changed) in
+    updates old.step_limit o text w.tally new.now
+    (subst (λ s. Does old.step_limit (mode_of old) [] (record old.now { schema = s }) text None Sets (Ok (w.tally, new.now))) held.schema w.changed) in
     let kept : Keeps versions_place o ((Int (pos n) ∷ []) ∷ []) = subst (λ (vs : List Version). Keeps versions_place o (map version_row vs)) one k.versions in
     let e = one_entry (cells 1 1) (o 27) (Int (pos n) ∷ []) (one_permutation _ _ kept.same) in
     let shaped = subst (IsShaped shape.Table) e.1 kept.shaped in
     let id : rowid e.0 ≡ Int (id_in (rowid e.0)) = int_is (rowid e.0) shaped.1.0 in
     let tree : m 27 ≡ (Int (id_in (rowid e.0)) ∷ Int (pos 3) ∷ []) ∷ [] = set_tree o m e.0 (id_in (rowid e.0)) e.1 id u.1 in
     let still : (place : Place) (rows : List Row) → (place.tree == 27) ≡ false → list_all (λ i. not (i.tree == place.tree)) register_schema.indexes ≡ true
-        → Keeps place o rows → Keeps place m rows
+    → Keeps place o rows → Keeps place m rows
     = λ place rows. keeps_still register_schema 27 place o m rows u.1.applies.others in
     let sound : IsSound register_schema m = subst (λ s. IsSound s m) u.0 w.sound in
     let number : Keeps versions_place m ((Int (pos 3) ∷ []) ∷ []) = record {

@@ -1,6 +1,6 @@
 -- What a reading of a database of any version gives, by what the database is.
 use Rattle.std.specs.Prelude.{MatchOption}
-use Rattle.std.proofs.Common.{◌≡◌, ◌≢◌, ◌⊎◌, inl, inr, ◌+◌, [], Option, Some, None, Result, Ok, Err, IfOk, IfErr, OnOk, IsTrue, refl, sym, ap, subst, ◌∙◌}
+use Rattle.std.proofs.Common.{◌≡◌, ◌≢◌, ◌⊎◌, inl, inr, ◌+◌, Option, Some, None, Result, Ok, Err, IfOk, IfErr, OnOk, IsTrue, refl, sym, ap, subst, ◌∙◌}
 use Rattle.std.proofs.Common.{arith}
 use Rattle.std.proofs.lemmas.Result.{IfOk-weaker}
 use Rattle.sqlite.specs.Effect.{Database}
@@ -11,7 +11,7 @@ use Rattle.kcr_history.specs.History.{History}
 use Rattle.kcr_history.specs.Tables.{Tables, tables}
 use Rattle.kcr_history.specs.declared.views.View.{View}
 use Rattle.kcr_older.specs.Older.{HoldsUpTo, numbered}
-use Rattle.kcr_older.specs.Standing.{StandsAs, IsStrange, no_schema}
+use Rattle.kcr_older.specs.Standing.{StandsAs, IsStrange}
 use Rattle.kcr_older.specs.Versions.{number_of}
 use Rattle.kcr_older.specs.declared.renewal.Older.{Older}
 use Rattle.kcr_older.specs.declared.renewal.Older.TheVariants as older

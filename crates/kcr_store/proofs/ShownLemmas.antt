@@ -1,13 +1,13 @@
 -- What is shown of people: trainings in their order, and the same out of rows in another order.
-use Rattle.std.proofs.Common.{◌≡◌, ◌⊎◌, inl, inr, ℕ, ◌<◌, Bool, true, false, ◌&&◌, ◌||◌, cond, List, [], ◌∷◌, ◌++◌, map, filter, length, get_or, Option}
-use Rattle.std.proofs.Common.{option_map, Ordering, Less, Equal, Greater, refl, sym, ap, ◌∙◌, subst, append_assoc, arith}
-use Rattle.std.specs.Prelude.{All, AllPairs, IsTrue, nat_lt, ◌==◌}
+use Rattle.std.proofs.Common.{◌≡◌, inl, inr, ℕ, ◌<◌, Bool, true, false, ◌&&◌, cond, List, [], ◌∷◌, ◌++◌, map, filter, length, get_or, Option}
+use Rattle.std.proofs.Common.{option_map, Ordering, Less, refl, sym, ap, ◌∙◌, subst, append_assoc, arith}
+use Rattle.std.specs.Prelude.{All, AllPairs, IsTrue, ◌==◌}
 use Rattle.std.specs.List.{AllByRecursion}
 use Rattle.std.specs.List.Sorted.{IsPermutation, IsSortedBy}
-use Rattle.std.specs.Ordering.{nat_cmp, ordering_then, ordering_reverse, is_lt, is_eq}
+use Rattle.std.specs.Ordering.{nat_cmp, ordering_then, is_lt, is_eq}
 use Rattle.std.specs.Cmp.{IsTotalOrder}
 use Rattle.std.specs.Cmp.Lexicographic.{bytes_decides}
-use Rattle.std.proofs.lemmas.Bool.{false≢true, cases_order, and_parts, and_from, eqb-true, eq-eqb}
+use Rattle.std.proofs.lemmas.Bool.{false≢true, cases_order}
 use Rattle.std.proofs.lemmas.Bool.Decides.{nat_tests}
 use Rattle.std.proofs.lemmas.Cmp.{nat_cmp_total, on_total, then_total}
 use Rattle.std.proofs.lemmas.List.{map-append, get_or_default}
@@ -16,7 +16,7 @@ use Rattle.std.proofs.lemmas.List.Sorted.{sorted_far, IsPermutation-map, IsPermu
 use Rattle.sqlite.specs.Tree.{IsAscending}
 use Rattle.sqlite_trees.proofs.ListLemmas.{along_permutation, ascending_from_map, ascending_weaker}
 use Rattle.sqlite_keyed.proofs.ListLemmas.{map_same}
-use Rattle.kcr_base.specs.Same.{same_text, same_role, role_number}
+use Rattle.kcr_base.specs.Same.{same_text, role_number}
 use Rattle.kcr_base.proofs.RowsLemmas.{filter-order}
 use Rattle.kcr_people.specs.declared.Person.{Person}
 use Rattle.kcr_people.specs.declared.Training.{Training}
@@ -138,10 +138,10 @@ other_training rows up =
 
 at_most_one : (row : Training) (rows : List Withdrawal) → AllPairs (λ a b. same_withdrawn b a ≡ false) rows → AtMostOne (is_of row) rows
 at_most_one row rows differ = λ i c low p j d below q. elim (cases_order i j) [
-    | inl same ↦ get_or_default rows j d c below ∙ ap (λ n. get_or rows n c) (sym same)
-    | inr (inl lt) ↦ absurd (not_before i c low p j d below q lt)
-    | inr (inr gt) ↦ absurd (not_before j d below q i c low p gt)
-  ]
+  | inl same ↦ get_or_default rows j d c below ∙ ap (λ n. get_or rows n c) (sym same)
+  | inr (inl lt) ↦ absurd (not_before i c low p j d below q lt)
+  | inr (inr gt) ↦ absurd (not_before j d below q i c low p gt)
+]
   where
     -- one of two rows does not stand before the other
     not_before : (i : ℕ) (c : Withdrawal) → i < length rows → is_of row (get_or rows i c) ≡ true → (j : ℕ) (d : Withdrawal) → j < length rows

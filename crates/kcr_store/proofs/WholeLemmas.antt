@@ -1,5 +1,5 @@
 -- What one transaction leaves of a register.
-use Rattle.std.proofs.Common.{◌≡◌, Bool, inl, inr, Option, None, true, false, Result, Ok, Err, IfOk, OnOk, IsTrue, refl, sym, subst, ◌∙◌, arith}
+use Rattle.std.proofs.Common.{◌≡◌, Bool, inl, inr, Option, None, true, false, Result, Ok, Err, IfOk, OnOk, IsTrue, refl, sym, subst, ◌∙◌}
 use Rattle.sqlite.specs.declared.error.ErrorCode.TheVariants.{OutOfMemory}
 use Rattle.sqlite.specs.declared.error.Error.{Error}
 use Rattle.sqlite.specs.declared.error.Error.TheVariants.{SqliteFailure}
@@ -102,9 +102,10 @@ module _ (accepted : History) (begun mid : State) (b : Began accepted begun) (ke
           let shown : HasCleanDisk last → IsTrue last.is_open × register.Shows accepted last =
           λ clean. let mine = was_clean end last _ probed clean in let u = same clean in
           elim (failed mine) [
-            | inl f ↦ (let s = undone end (was_clean mid end _ then mine) f.3 u.0.was_open in
-                (u.0.is_open,
-                record { now = subst (Stores accepted) (sym u.0.now_is) s.now; committed = subst (Stores accepted) (sym u.0.committed_is) s.committed }))
+            | inl f ↦ (let s = undone end (was_clean mid end _ then mine) f.3 u.0.was_open in (
+              u.0.is_open,
+              record { now = subst (Stores accepted) (sym u.0.now_is) s.now; committed = subst (Stores accepted) (sym u.0.committed_is) s.committed },
+            ))
             | inr other ↦ absurd (let apart = sym is ∙ other.0 in cc)
           ] in
           record {

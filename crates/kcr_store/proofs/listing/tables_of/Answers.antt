@@ -1,4 +1,4 @@
-use Rattle.std.proofs.Common.{◌≡◌, rules, IsTrue, IfErr, inl, inr, refl}
+use Rattle.std.proofs.Common.{rules, IsTrue, inr, refl}
 use Rattle.std.proofs.lemmas.Result.{IfOk-weaker, IfErr-weaker}
 use Rattle.sqlite.specs.Held.{state}
 use Rattle.kcr_older.specs.Standing.{StandsAs}

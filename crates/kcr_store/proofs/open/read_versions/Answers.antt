@@ -27,7 +27,7 @@ returns-clause-shows g c clean accepted shows =
 pub returns-clause-survives : goal.returns-clause-survives
 returns-clause-survives g c =
     let left =
-        undone_survives g.S.Store c.args.conn.now _ c.transaction-tx.ensures.begun _ c.all_rows-versions.ensures.survives _ c.rollback.ensures.survives in
+    undone_survives g.S.Store c.args.conn.now _ c.transaction-tx.ensures.begun _ c.all_rows-versions.ensures.survives _ c.rollback.ensures.survives in
     search rules
 
 pub returns-clause-exact : goal.returns-clause-exact

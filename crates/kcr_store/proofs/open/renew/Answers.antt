@@ -23,19 +23,19 @@ returns-in-Ok-false-clause-version g c clean t held is =
 pub returns-in-Ok-clause-survives : goal.returns-in-Ok-clause-survives
 returns-in-Ok-clause-survives g c =
     let left =
-        made_survives g.S.Store c.args.conn.now _ c.transaction-tx.ensures.begun _ c.bring.ensures.frame.survives _
-        (IsBrought (number_of c.args.from) (state g.S.Store c.args.conn.now).now)
-        c.commit.ensures.survives
-        (λ clean. brought_tables _ (λ A s. (c.in-Ok-true.ensures.brought clean A
-        (begun_has g.S.Store c.args.conn.now _ (StoresAs (number_of c.args.from) A) c.transaction-tx.ensures.begun s)).1)) in
+    made_survives g.S.Store c.args.conn.now _ c.transaction-tx.ensures.begun _ c.bring.ensures.frame.survives _
+    (IsBrought (number_of c.args.from) (state g.S.Store c.args.conn.now).now)
+    c.commit.ensures.survives
+    (λ clean. brought_tables _ (λ A s. (c.in-Ok-true.ensures.brought clean A
+    (begun_has g.S.Store c.args.conn.now _ (StoresAs (number_of c.args.from) A) c.transaction-tx.ensures.begun s)).1)) in
     search rules
 
 pub returns-in-Err-commit-clause-survives : goal.returns-in-Err-commit-clause-survives
 returns-in-Err-commit-clause-survives g c =
     let left =
-        made_survives g.S.Store c.args.conn.now _ c.transaction-tx.ensures.begun _ c.bring.ensures.frame.survives _
-        (IsBrought (number_of c.args.from) (state g.S.Store c.args.conn.now).now)
-        c.commit.ensures.survives
-        (λ clean. brought_tables _ (λ A s. (c.in-Ok-true.ensures.brought clean A
-        (begun_has g.S.Store c.args.conn.now _ (StoresAs (number_of c.args.from) A) c.transaction-tx.ensures.begun s)).1)) in
+    made_survives g.S.Store c.args.conn.now _ c.transaction-tx.ensures.begun _ c.bring.ensures.frame.survives _
+    (IsBrought (number_of c.args.from) (state g.S.Store c.args.conn.now).now)
+    c.commit.ensures.survives
+    (λ clean. brought_tables _ (λ A s. (c.in-Ok-true.ensures.brought clean A
+    (begun_has g.S.Store c.args.conn.now _ (StoresAs (number_of c.args.from) A) c.transaction-tx.ensures.begun s)).1)) in
     search rules

@@ -29,12 +29,12 @@ returns-in-Err-clause-clean g c clean =
 pub returns-in-Ok-commit-clause-whole : goal.returns-in-Ok-commit-clause-whole
 returns-in-Ok-commit-clause-whole g c was _ =
     let made =
-        made_by g.S.Store c.args.conn.now _ c.transaction-tx.ensures.begun _ c.prepare.ensures.survives c.args.command.now c.in-Ok.prepared
-        c.after-after.ensures.entries c.in-Ok.ensures.done was in
+    made_by g.S.Store c.args.conn.now _ c.transaction-tx.ensures.begun _ c.prepare.ensures.survives c.args.command.now c.in-Ok.prepared
+    c.after-after.ensures.entries c.in-Ok.ensures.done was in
     let began = begins g.S.Store _ c.args.conn.now _ c.transaction-tx.ensures.begun was in
     let whole =
-        whole_done _ _ _ began c.prepare.ensures.survives c.prepare.ensures.kept _ _ c.commit.ensures.survives
-        (λ db. g.met.S.Store.settled c.commit.new.self.0.store db) (λ clean. (made clean).1) (λ clean. (c.in-Ok-commit.ensures.ok clean).1) in
+    whole_done _ _ _ began c.prepare.ensures.survives c.prepare.ensures.kept _ _ c.commit.ensures.survives
+    (λ db. g.met.S.Store.settled c.commit.new.self.0.store db) (λ clean. (made clean).1) (λ clean. (c.in-Ok-commit.ensures.ok clean).1) in
     search rules
 
 pub returns-in-Ok-commit-clause-tried : goal.returns-in-Ok-commit-clause-tried
@@ -43,8 +43,8 @@ returns-in-Ok-commit-clause-tried g c was clean db may = inr ((returns-in-Ok-com
 pub returns-in-Ok-commit-clause-step : goal.returns-in-Ok-commit-clause-step
 returns-in-Ok-commit-clause-step g c was clean =
     let made =
-        made_by g.S.Store c.args.conn.now _ c.transaction-tx.ensures.begun _ c.prepare.ensures.survives c.args.command.now c.in-Ok.prepared
-        c.after-after.ensures.entries c.in-Ok.ensures.done was in
+    made_by g.S.Store c.args.conn.now _ c.transaction-tx.ensures.begun _ c.prepare.ensures.survives c.args.command.now c.in-Ok.prepared
+    c.after-after.ensures.entries c.in-Ok.ensures.done was in
     (made (was_clean _ _ _ c.commit.ensures.survives (search rules))).0
 
 pub returns-in-Ok-commit-clause-candidate : goal.returns-in-Ok-commit-clause-candidate
@@ -62,8 +62,8 @@ returns-in-Ok-commit-clause-clean g c clean =
 pub returns-clause-tried : goal.returns-clause-tried
 returns-clause-tried g c was clean db may =
     let made =
-        made_by g.S.Store c.args.conn.now _ c.transaction-tx.ensures.begun _ c.prepare.ensures.survives c.args.command.now c.in-Ok.prepared
-        c.after-after.ensures.entries c.in-Ok.ensures.done was in
+    made_by g.S.Store c.args.conn.now _ c.transaction-tx.ensures.begun _ c.prepare.ensures.survives c.args.command.now c.in-Ok.prepared
+    c.after-after.ensures.entries c.in-Ok.ensures.done was in
     let began = begins g.S.Store _ c.args.conn.now _ c.transaction-tx.ensures.begun was in
     let left = either _ _ _ began c.prepare.ensures.survives c.prepare.ensures.kept _ _ c.commit.ensures.survives (λ clean. (made clean).1) in
     let at : HasCleanDisk (state g.S.Store c.commit.new.self.0) = search rules in
@@ -73,8 +73,8 @@ returns-clause-tried g c was clean db may =
 pub returns-clause-candidate : goal.returns-clause-candidate
 returns-clause-candidate g c was clean =
     let made =
-        made_by g.S.Store c.args.conn.now _ c.transaction-tx.ensures.begun _ c.prepare.ensures.survives c.args.command.now c.in-Ok.prepared
-        c.after-after.ensures.entries c.in-Ok.ensures.done was in
+    made_by g.S.Store c.args.conn.now _ c.transaction-tx.ensures.begun _ c.prepare.ensures.survives c.args.command.now c.in-Ok.prepared
+    c.after-after.ensures.entries c.in-Ok.ensures.done was in
     let step = (made (was_clean _ _ _ c.commit.ensures.survives (search rules))).0 in
     inr (step.0, step.1)
 
@@ -91,8 +91,8 @@ returns-clause-step g c was clean = (refl, λ memory disk. absurd (disk refl))
 pub returns-in-Err-SqliteFailure-OutOfMemory-clause-tried : goal.returns-in-Err-SqliteFailure-OutOfMemory-clause-tried
 returns-in-Err-SqliteFailure-OutOfMemory-clause-tried g c was =
     let made =
-        made_by g.S.Store c.args.conn.now _ c.transaction-tx.ensures.begun _ c.prepare.ensures.survives c.args.command.now c.in-Ok.prepared
-        c.after-after.ensures.entries c.in-Ok.ensures.done was in
+    made_by g.S.Store c.args.conn.now _ c.transaction-tx.ensures.begun _ c.prepare.ensures.survives c.args.command.now c.in-Ok.prepared
+    c.after-after.ensures.entries c.in-Ok.ensures.done was in
     let began = begins g.S.Store _ c.args.conn.now _ c.transaction-tx.ensures.begun was in
     either_last _ _ _ began c.prepare.ensures.survives c.prepare.ensures.kept _ _ c.commit.ensures.survives
     (state g.S.Store c.prepare-in-Err-SqliteFailure-OutOfMemory.new.self) (search rules) (λ clean. (made clean).1)
@@ -100,8 +100,8 @@ returns-in-Err-SqliteFailure-OutOfMemory-clause-tried g c was =
 pub returns-in-Err-SqliteFailure-OutOfMemory-clause-candidate : goal.returns-in-Err-SqliteFailure-OutOfMemory-clause-candidate
 returns-in-Err-SqliteFailure-OutOfMemory-clause-candidate g c was clean =
     let made =
-        made_by g.S.Store c.args.conn.now _ c.transaction-tx.ensures.begun _ c.prepare.ensures.survives c.args.command.now c.in-Ok.prepared
-        c.after-after.ensures.entries c.in-Ok.ensures.done was in
+    made_by g.S.Store c.args.conn.now _ c.transaction-tx.ensures.begun _ c.prepare.ensures.survives c.args.command.now c.in-Ok.prepared
+    c.after-after.ensures.entries c.in-Ok.ensures.done was in
     let probed : Survives (state g.S.Store c.commit.new.self.0) (state g.S.Store c.prepare-in-Err-SqliteFailure-OutOfMemory.new.self) (λ _. ⊥) = search rules in
     let step = (made (was_clean _ _ _ c.commit.ensures.survives (was_clean _ _ _ probed clean))).0 in
     inr (step.0, step.1)

@@ -1,6 +1,4 @@
 use Rattle.std.proofs.Common.{◌∙◌, sym, ap, refl, inr, map}
-use Rattle.sqlite.specs.State.{HasCleanDisk}
-use Rattle.sqlite.specs.Held.{state}
 use Rattle.kcr_custody.specs.Custody.{spot_by}
 use Rattle.kcr_tables.proofs.JointLemmas.{kept_rises}
 use Rattle.kcr_store.proofs.QuestionLemmas.{spot_shown, bag_shown}

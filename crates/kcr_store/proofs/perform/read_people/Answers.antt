@@ -1,10 +1,7 @@
 use Rattle.std.proofs.Common.{◌∙◌, List, subst₂}
 use Rattle.std.specs.Prelude.{All}
-use Rattle.sqlite.specs.State.{HasCleanDisk}
-use Rattle.sqlite.specs.Held.{state}
 use Rattle.kcr_people.specs.declared.Training.{Training}
 use Rattle.kcr_people.specs.declared.Withdrawal.{Withdrawal}
-use Rattle.kcr_tables.specs.Held.{Holds}
 use Rattle.kcr_tables.proofs.JointLemmas.{kept_rises}
 use Rattle.kcr_history.specs.declared.questions.PersonShown.{PersonShown}
 use Rattle.kcr_store.specs.Shown.{AreRolesOf}

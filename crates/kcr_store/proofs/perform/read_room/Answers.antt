@@ -1,6 +1,4 @@
 use Rattle.std.proofs.Common.{◌≡◌, ◌∙◌, ◌==◌, not, sym, ap, refl, inr}
-use Rattle.sqlite.specs.State.{HasCleanDisk}
-use Rattle.sqlite.specs.Held.{state}
 use Rattle.kcr_base.specs.declared.refusal.Refusal.TheVariants.{Unknown}
 use Rattle.kcr_base.specs.declared.refusal.Thing.TheVariants as Things
 use Rattle.kcr_room.specs.Stays.{present_in_by}

@@ -1,7 +1,7 @@
 use contract.Running.{tables, tables_of}
-use Rattle.kcr_store.proofs.PastWalks.{refl, [], ◌∷◌, Ura, vstruct, vnil, SProp, ent, emp, via, fst∗, Memory, Routine, Calls, Loops, WpFn, Tables, Logic, Fun}
+use Rattle.kcr_store.proofs.PastWalks.{refl, [], ◌∷◌, Ura, vstruct, vnil, SProp, ent, emp, via, fst∗, Memory, Routine, Calls, Loops, WpFn, Logic, Fun}
 use Rattle.kcr_store.proofs.PastWalks.{WpFn-mono, ‵, raw, ◌$◌, ◌∵◌, !, qed, move, suffices, done, no_more, returns, enter, agg, alloc_all, pass_all, free_all}
-use Rattle.kcr_store.proofs.PastWalks.{look_at, sets, owns, pure_i, on_entry, alive, Meets, triple_of, entered, says, Stays, walk_of, Walks, ends_at, walked}
+use Rattle.kcr_store.proofs.PastWalks.{look_at, sets, owns, pure_i, on_entry, alive, triple_of, entered, says, Stays, walk_of, Walks, ends_at, walked}
 use Rattle.kcr_store.proofs.PastWalks.{walk_Meets}
 use Rattle.kcr_store.specs.contracts.past.Past.of.Key.{name as key}
 use Rattle.kcr_store.specs.contracts.past.Past.of as f

@@ -1,8 +1,8 @@
 use contract.Running.{tables, tables_of}
 use Rattle.kcr_store.proofs.PastWalks.{refl, [], ◌∷◌, Ura, named, Val, vptr, vstruct, vnil, SProp, ent, emp, via, fst∗, Fml, Memory, Routine, Calls, Loops}
-use Rattle.kcr_store.proofs.PastWalks.{WpFn, Tables, Logic, Lfts, Shares, Fun, WpFn-mono, ‵, raw, ◌$◌, ◌∵◌, !, qed, move, suffices, done, no_more, returns}
+use Rattle.kcr_store.proofs.PastWalks.{WpFn, Logic, Lfts, Shares, Fun, WpFn-mono, ‵, raw, ◌$◌, ◌∵◌, !, qed, move, suffices, done, no_more, returns}
 use Rattle.kcr_store.proofs.PastWalks.{enter, agg, alloc_all, pass_all, free_all, look_at, sets, yes, owns, shr_vals, shr_Tells, pure_i, plain, types_at}
-use Rattle.kcr_store.proofs.PastWalks.{on_entry, alive, Args, Meets, triple_of, entered, says, stay_none_ref, Stays, walk_of, Walks, ends_at, walked}
+use Rattle.kcr_store.proofs.PastWalks.{on_entry, alive, Args, triple_of, entered, says, stay_none_ref, Stays, walk_of, Walks, ends_at, walked}
 use Rattle.kcr_store.proofs.PastWalks.{Goes-none_ref, walk_Meets}
 use Rattle.kcr_store.specs.contracts.past.Past.with.Key.{name as key}
 use Rattle.kcr_store.specs.contracts.past.Past.with as f
@@ -13,9 +13,10 @@ use Rattle.kcr_history.specs.contracts.commands.Command as command
 use Rattle.kcr_history.specs.contracts.commands.Answer as answer
 
 abbrev stayed : Stays (f.ended).signature.params (f.ended).kept
-stayed =
-    (stay_none_ref (0 ∷ []) tt (plain (λ _. past.the_row)) yes,
-    (stay_none_ref (1 ∷ []) tt (plain (λ _. command.the_row)) yes, (stay_none_ref (2 ∷ []) tt (plain (λ _. answer.the_row)) yes, tt)))
+stayed = (
+  stay_none_ref (0 ∷ []) tt (plain (λ _. past.the_row)) yes,
+  (stay_none_ref (1 ∷ []) tt (plain (λ _. command.the_row)) yes, (stay_none_ref (2 ∷ []) tt (plain (λ _. answer.the_row)) yes, tt)),
+)
 
 module _ {M : Type 1} {𝓤 : Ura M} (𝓛 : Logic 𝓤) (mem : Memory → SProp 𝓤) (run : Routine → Fun 𝓤) (C : Calls 𝓤 𝓛.H) (Λ : Loops 𝓤 𝓛.H) where
   open 𝓛 use {H}
@@ -62,7 +63,11 @@ with_spec 𝓤 𝓛 𝓜 𝓡 wired =
     let 𝓣 = tables_of 𝓤 𝓛.H 𝓜 (tables 𝓤 𝓛.H 𝓜 𝓡 𝓡.env) in
     entered 𝓤 𝓛.H (triple_of 𝓛 f.signature (f.spec 𝓛 𝓜.mem 𝓡.returns))
     (tables 𝓤 𝓛.H 𝓜 𝓡 𝓡.env).C (tables 𝓤 𝓛.H 𝓜 𝓡 𝓡.env).Λ key code.function (code.unfolded 𝓤 𝓛.H 𝓜 𝓡 wired)
-    (walk_Meets 𝓛 f.ended stayed (Goes-none_ref 𝓛 3 (0 ∷ []) tt (plain (λ _. past.the_row)) yes,
-    (Goes-none_ref 𝓛 3 (1 ∷ []) tt (plain (λ _. command.the_row)) yes,
-    (Goes-none_ref 𝓛 3 (2 ∷ []) tt (plain (λ _. answer.the_row)) yes, tt))) (f.clauses 𝓛 𝓜.mem 𝓡.returns) (WpFn 𝓤 𝓛.H 𝓣.C 𝓣.Λ code.function)
+    (walk_Meets 𝓛 f.ended stayed (
+      Goes-none_ref 𝓛 3 (0 ∷ []) tt (plain (λ _. past.the_row)) yes,
+      (
+        Goes-none_ref 𝓛 3 (1 ∷ []) tt (plain (λ _. command.the_row)) yes,
+        (Goes-none_ref 𝓛 3 (2 ∷ []) tt (plain (λ _. answer.the_row)) yes, tt),
+      ),
+    ) (f.clauses 𝓛 𝓜.mem 𝓡.returns) (WpFn 𝓤 𝓛.H 𝓣.C 𝓣.Λ code.function)
     (WpFn-mono 𝓤 𝓛.H 𝓛.laws 𝓣 code.function) (walks 𝓛 𝓜.mem 𝓡.returns 𝓣.C 𝓣.Λ))

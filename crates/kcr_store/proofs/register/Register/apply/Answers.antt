@@ -1,17 +1,14 @@
-use Rattle.std.proofs.Common.{refl, ap, IsTrue}
-use Rattle.kcr_store.specs.Register.{Seen}
+use Rattle.std.proofs.Common.{refl, rules}
 use Rattle.kcr_store.proofs.WholeLemmas.{still_kept}
 use Rattle.kcr_store.proofs.register.Register.apply.Goals as goal
 
 pub returns-in-Accepted-clause-durable : goal.returns-in-Accepted-clause-durable
 returns-in-Accepted-clause-durable g c founded clean db may =
-    let same : IsTrue c.self.inside.past.is_founded = rw (ap (λ (s : Seen _). s.is_founded) c.self.view_is) founded in
-    (c.in-Accepted.ensures.whole (c.self.invariant.whole same (rw c.if-self.false refl)) refl).crash clean db may
+    (c.in-Accepted.ensures.whole (c.self.invariant.whole (search rules) (rw c.if-self.false refl)) refl).crash clean db may
 
 pub returns-in-Accepted-clause-tried : goal.returns-in-Accepted-clause-tried
 returns-in-Accepted-clause-tried g c founded _ clean =
-    let same : IsTrue c.self.inside.past.is_founded = rw (ap (λ (s : Seen _). s.is_founded) c.self.view_is) founded in
-    rw (← c.self.view_is, c.if-self.false) (c.in-Accepted.ensures.candidate (c.self.invariant.whole same (rw c.if-self.false refl)) clean)
+    rw (← c.self.view_is, c.if-self.false) (c.in-Accepted.ensures.candidate (c.self.invariant.whole (search rules) (rw c.if-self.false refl)) clean)
 
 pub invariant_of-self-in-Refused : goal.invariant_of-self-in-Refused
 invariant_of-self-in-Refused g c =
@@ -19,8 +16,7 @@ invariant_of-self-in-Refused g c =
 
 pub returns-in-Refused-clause-step : goal.returns-in-Refused-clause-step
 returns-in-Refused-clause-step g c founded _ clean =
-    let same : IsTrue c.self.inside.past.is_founded = rw (ap (λ (s : Seen _). s.is_founded) c.self.view_is) founded in
-    rw (← c.self.view_is) (c.in-Refused.ensures.step (c.self.invariant.whole same (rw c.if-self.false refl)) clean)
+    rw (← c.self.view_is) (c.in-Refused.ensures.step (c.self.invariant.whole (search rules) (rw c.if-self.false refl)) clean)
 
 pub returns-in-Refused-clause-kept : goal.returns-in-Refused-clause-kept
 returns-in-Refused-clause-kept g c = invariant_of-self-in-Refused g c

@@ -1,4 +1,4 @@
-use Rattle.std.proofs.Common.{rules, refl, ◌≡◌, subst, IsTrue}
+use Rattle.std.proofs.Common.{rules, refl, ◌≡◌, subst}
 use Rattle.kcr_history.specs.History.{History}
 use Rattle.kcr_history.specs.Machine.{IsRegister}
 use Rattle.kcr_history.specs.Tables.{tables}
@@ -23,7 +23,6 @@ returns-in-Ok-clause-rows g c whole clean m held = c.in-Ok.ensures.rows clean m 
 
 pub returns-in-Ok-clause-shown : goal.returns-in-Ok-clause-shown
 returns-in-Ok-clause-shown g c founded whole clean =
-    let mine : IsTrue c.self.inside.past.is_founded = search rules in
     let entries : c.self.inside.past.entries ≡ c.args.self.now.accepted = search rules in
     subst (λ (A : History). IsRegister A × AreRows g.R.Listed.table (tables A) c.in-Ok.rows.items) entries
-    (c.in-Ok.ensures.register c.self.inside.past.entries (c.self.invariant.whole mine (rw c.if-self.false refl)) clean)
+    (c.in-Ok.ensures.register c.self.inside.past.entries (c.self.invariant.whole (search rules) (rw c.if-self.false refl)) clean)
