@@ -1,6 +1,5 @@
 -- What an opening finds.
-use Rattle.std.proofs.Common.{arith, refl, Bool, false, true, ◌≡◌, ◌⊎◌, inl, inr, ℕ, ◌+◌, [], length, take, map, None, IsTrue, sym, ap}
-use Rattle.std.proofs.Common.{subst, ◌∙◌}
+use Rattle.std.proofs.Common.{arith, refl, Bool, false, true, ◌≡◌, ◌⊎◌, inl, inr, ℕ, ◌+◌, [], length, take, map, None, IsTrue, sym, ap, subst, ◌∙◌}
 use Rattle.std.proofs.lemmas.List.{length-map}
 use Rattle.sqlite.specs.Schema.{Schema}
 use Rattle.sqlite.specs.Effect.{Database}

@@ -43,8 +43,7 @@ use Rattle.kcr_store.proofs.StoreLemmas.{all_pairs, by_initials}
 
 -- one more person is shown, of those that are left
 pub one_more : (done : List PersonShown) (shown : PersonShown) (person : Person) (all left rest : List Person) → map person_of done ++ left ≡ all
-    → left ≡ person ∷ rest → person_of shown ≡ person
-    → map person_of (done ++ shown ∷ []) ++ rest ≡ all
+    → left ≡ person ∷ rest → person_of shown ≡ person → map person_of (done ++ shown ∷ []) ++ rest ≡ all
 one_more done shown person all left rest had first is = rw (map-append person_of done (shown ∷ []), append_assoc, is, ← first) had
 
 -- ---- the order of the trainings that are shown

@@ -26,8 +26,7 @@ pub record Began (accepted : History) (s : State) : Type 0 where
   pub crash : Leaves accepted s
 
 pub begins : {S : Type 0} (g : Ghosts S) (accepted : History) (old begun : Held S) → begun ≡ record old { in_transaction = true }
-    → IsWhole accepted (state g old)
-    → Began accepted (state g begun)
+    → IsWhole accepted (state g old) → Began accepted (state g begun)
 begins g accepted old begun is w =
     rw is (record {
       inside = refl;
@@ -49,8 +48,7 @@ leaves accepted old new had s clean db may = elim (s.crash clean db may) [ inl b
 
 -- a rollback goes back to the tables that were shown
 pub undone_shows : (accepted : History) (begun mid end : State) → (IsTrue begun.is_open → register.Shows accepted begun) → KeepsCommit begun mid
-    → IsRolledBack mid end
-    → IsTrue end.is_open → register.Shows accepted end
+    → IsRolledBack mid end → IsTrue end.is_open → register.Shows accepted end
 undone_shows accepted begun mid end shows k r live =
     let was = subst (Stores accepted) (sym (k.committed (r.was_open live))) (shows (k.was_open (r.was_open live))).committed in
     let is = r.undone live in

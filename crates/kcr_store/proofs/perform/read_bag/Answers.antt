@@ -19,11 +19,10 @@ returns-clause-shown g c clean accepted had =
     let clean1 = was_clean _ _ _ c.in_ok-items.ensures.survives clean in
     let was = had (c.in_ok-bags.ensures.opened clean1) in
     let kept = was.tables.kept in
-    let t = kept.t in
     let held = holds_in accepted _ was in
-    let bags = c.in_ok-bags.ensures.rows clean1 t held in
-    let items = c.in_ok-items.ensures.rows clean t (c.in_ok-bags.ensures.holds clean1 t held) in
-    let lies = spot_shown accepted was.tables.register t kept.stands c.args.serial c.in_ok-bags.bags.items bags in
-    bag_shown accepted was.tables.register t kept.stands (kept_rises _ t kept.kept) c.args.serial _ refl
+    let bags = c.in_ok-bags.ensures.rows clean1 kept.t held in
+    let items = c.in_ok-items.ensures.rows clean kept.t (c.in_ok-bags.ensures.holds clean1 kept.t held) in
+    let lies = spot_shown accepted was.tables.register kept.t kept.stands c.args.serial c.in_ok-bags.bags.items bags in
+    bag_shown accepted was.tables.register kept.t kept.stands (kept_rises _ kept.t kept.kept) c.args.serial _ refl
     (sym lies ∙ ap (λ rows. spot_by rows c.args.serial) (sym c.deref.ensures.value) ∙ sym c.in-Some.ensures)
     (c.in_ok-codes_of.ensures ∙ ap (map (λ item. item.code)) (c.deref-2.ensures.value ∙ items))

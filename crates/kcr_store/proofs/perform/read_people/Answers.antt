@@ -16,15 +16,13 @@ returns-clause-shown g c clean accepted had =
     let clean1 = was_clean _ _ _ c.in_ok-trainings.ensures.survives clean2 in
     let was = had (c.in_ok-people.ensures.opened clean1) in
     let kept = was.tables.kept in
-    let t = kept.t in
     let held = holds_in accepted _ was in
-    let held1 = c.in_ok-people.ensures.holds clean1 t held in
-    let held2 = c.in_ok-trainings.ensures.holds clean2 t held1 in
-    let people = c.in_ok-people.ensures.rows clean1 t held in
-    let trainings = c.in_ok-trainings.ensures.rows clean2 t held1 in
-    let withdrawals = c.in_ok-withdrawals.ensures.rows clean t held2 in
+    let held1 = c.in_ok-people.ensures.holds clean1 kept.t held in
+    let held2 = c.in_ok-trainings.ensures.holds clean2 kept.t held1 in
+    let trainings = c.in_ok-trainings.ensures.rows clean2 kept.t held1 in
+    let withdrawals = c.in_ok-withdrawals.ensures.rows clean kept.t held2 in
     let rows : List PersonShown = c.in_ok-people_shown.field-0.items in
     let HaveRoles : List Training → List Withdrawal → Type 0 =
     λ taught withdrawn. All (λ (shown : PersonShown). AreRolesOf taught withdrawn shown.who shown.roles.items) rows in
-    people_shown accepted t kept.stands (kept_rises _ t kept.kept) rows (c.in_ok-people_shown.ensures.people ∙ people)
+    people_shown accepted kept.t kept.stands (kept_rises _ kept.t kept.kept) rows (c.in_ok-people_shown.ensures.people ∙ c.in_ok-people.ensures.rows clean1 kept.t held)
     (subst₂ HaveRoles (c.deref.ensures.value ∙ trainings) (c.deref-2.ensures.value ∙ withdrawals) c.in_ok-people_shown.ensures.roles)

@@ -24,12 +24,11 @@ returns-clause-shown g c clean accepted had =
     let clean1 = was_clean _ _ _ c.in_ok-stays.ensures.survives clean in
     let was = had (c.in_ok-planned.ensures.opened clean1) in
     let kept = was.tables.kept in
-    let t = kept.t in
     let held = holds_in accepted _ was in
-    let ceremonies = c.in_ok-planned.ensures.rows clean1 t held in
-    let stays = c.in_ok-stays.ensures.rows clean t (c.in_ok-planned.ensures.holds clean1 t held) in
-    let planned = planned_shown accepted was.tables.register t kept.stands c.get-number.result c.in_ok-planned.planned.items ceremonies in
-    let there = present_shown accepted was.tables.register t kept.stands c.get-number.result c.args.at c.in_ok-stays.stays.items stays in
+    let ceremonies = c.in_ok-planned.ensures.rows clean1 kept.t held in
+    let stays = c.in_ok-stays.ensures.rows clean kept.t (c.in_ok-planned.ensures.holds clean1 kept.t held) in
+    let planned = planned_shown accepted was.tables.register kept.t kept.stands c.get-number.result c.in_ok-planned.planned.items ceremonies in
+    let there = present_shown accepted was.tables.register kept.t kept.stands c.get-number.result c.args.at c.in_ok-stays.stays.items stays in
     let number : c.get-number.result ≡ c.args.ceremony = c.get-number.ensures.value in
     let filled = ap (λ n. n == 0) (sym c.in_ok-planned.planned.ok.0) ∙ sym c.is_empty.ensures ∙ c.if-is_empty.false in
     record {

@@ -1,9 +1,8 @@
 use contract.Running.{tables, tables_of}
 use Rattle.kcr_store.proofs.PastWalks.{refl, [], ◌∷◌, Ura, named, Val, vptr, vstruct, vnil, SProp, ent, emp, via, fst∗, Fml, Memory, Routine, Calls, Loops}
-use Rattle.kcr_store.proofs.PastWalks.{WpFn, Logic, Lfts, Shares, Fun, WpFn-mono, ‵, raw, ◌$◌, ◌∵◌, !, qed, move, suffices, done, no_more, returns}
-use Rattle.kcr_store.proofs.PastWalks.{enter, agg, alloc_all, pass_all, free_all, look_at, sets, yes, owns, shr_vals, shr_Tells, pure_i, plain, types_at}
-use Rattle.kcr_store.proofs.PastWalks.{on_entry, alive, Args, triple_of, entered, says, stay_none_ref, Stays, walk_of, Walks, ends_at, walked}
-use Rattle.kcr_store.proofs.PastWalks.{Goes-none_ref, walk_Meets}
+use Rattle.kcr_store.proofs.PastWalks.{WpFn, Logic, Lfts, Shares, Fun, WpFn-mono, ‵, raw, ◌$◌, ◌∵◌, !, qed, move, suffices, done, no_more, returns, enter, agg}
+use Rattle.kcr_store.proofs.PastWalks.{alloc_all, pass_all, free_all, look_at, sets, yes, owns, shr_vals, shr_Tells, pure_i, plain, types_at, on_entry, alive}
+use Rattle.kcr_store.proofs.PastWalks.{Args, triple_of, entered, says, stay_none_ref, Stays, walk_of, Walks, ends_at, walked, Goes-none_ref, walk_Meets}
 use Rattle.kcr_store.specs.contracts.past.Past.same.Key.{name as key}
 use Rattle.kcr_store.specs.contracts.past.Past.same as f
 use Rattle.kcr_store.proofs.past.Past.same.Statement as stated
@@ -50,5 +49,5 @@ same_spec 𝓤 𝓛 𝓜 𝓡 wired =
     let 𝓣 = tables_of 𝓤 𝓛.H 𝓜 (tables 𝓤 𝓛.H 𝓜 𝓡 𝓡.env) in
     entered 𝓤 𝓛.H (triple_of 𝓛 f.signature (f.spec 𝓛 𝓜.mem 𝓡.returns))
     (tables 𝓤 𝓛.H 𝓜 𝓡 𝓡.env).C (tables 𝓤 𝓛.H 𝓜 𝓡 𝓡.env).Λ key code.function (code.unfolded 𝓤 𝓛.H 𝓜 𝓡 wired)
-    (walk_Meets 𝓛 f.ended stayed (Goes-none_ref 𝓛 1 (0 ∷ []) tt (plain (λ _. past.the_row)) yes, tt) (f.clauses 𝓛 𝓜.mem 𝓡.returns) (WpFn 𝓤 𝓛.H 𝓣.C 𝓣.Λ code.function)
-    (WpFn-mono 𝓤 𝓛.H 𝓛.laws 𝓣 code.function) (walks 𝓛 𝓜.mem 𝓡.returns 𝓣.C 𝓣.Λ))
+    (walk_Meets 𝓛 f.ended stayed (Goes-none_ref 𝓛 1 (0 ∷ []) tt (plain (λ _. past.the_row)) yes, tt) (f.clauses 𝓛 𝓜.mem 𝓡.returns)
+    (WpFn 𝓤 𝓛.H 𝓣.C 𝓣.Λ code.function) (WpFn-mono 𝓤 𝓛.H 𝓛.laws 𝓣 code.function) (walks 𝓛 𝓜.mem 𝓡.returns 𝓣.C 𝓣.Λ))
