@@ -38,7 +38,7 @@ def without_unused(text):
 def write(path, text, crate=TABLES_CRATE):
     path = os.path.join("crates", crate, path)
     text = without_unused(text)
-    if path.endswith(".antt"):
+    if "/specs/" in path:
         text = laid_out(text)
     os.makedirs(os.path.dirname(path), exist_ok=True)
     with open(path, "w") as f:
