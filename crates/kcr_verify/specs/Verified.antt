@@ -78,7 +78,7 @@ HasRows Exceptions m view = AreRows exceptions.table m view.exceptions.items
 HasRows Keys m view = IsPermutation m.keys view.keys.items
 
 -- what a call that only reads leaves of a register, whatever it answers
-pub record Reads {S : Type 0} (g : Ghosts S) {A : Type 0} (old new : Seen S) (result : Result A Refusal) : Type 0 where
+pub record OnlyLooks {S : Type 0} (g : Ghosts S) {A : Type 0} (old new : Seen S) (result : Result A Refusal) : Type 0 where
   pub founded : new.is_founded ≡ true
   pub torn : IfOk result (λ _. new.torn ≡ None)
   pub same : new.accepted ≡ old.accepted

@@ -10,7 +10,7 @@ ghost use Rattle.kcr_history.specs.Tables.{key_row};
 ghost use Rattle.kcr_store.specs.Register.{IsKept};
 ghost use Rattle.kcr_store.specs.Whole.{AreRows};
 ghost use Rattle.kcr_verify.specs.declared.compare.Table.{Table as Named};
-ghost use Rattle.kcr_verify.specs.Verified.{HasRows, Reads, by_number, name_of};
+ghost use Rattle.kcr_verify.specs.Verified.{HasRows, OnlyLooks, by_number, name_of};
 
 use crate::order::put_in_order;
 use kcr_base::Refusal;
@@ -240,7 +240,7 @@ fn has_rows<S: Alter, R: Listed + Compared>(
         → IfOk result (λ are. IsTrue are ↔ AreRows R.table (machine.tables register.new.accepted) rows.now) }
     ensures register { HasCleanDisk (state S.Store register.new.conn)
         → IfOk result (λ _. IsRegister register.new.accepted) }
-    ensures frame { Reads S.Store register.old register.new result }
+    ensures frame { OnlyLooks S.Store register.old register.new result }
 {
     let own = register.table_rows::<R>()?;
     Ok(same_rows(rows, &own))
@@ -256,7 +256,7 @@ fn has_commands<S: Alter>(register: &mut Register<S>, rows: &[KeyRow]) -> Result
         → IfOk result (λ are. IsTrue are ↔ IsPermutation (map key_row register.new.accepted) rows.now) }
     ensures register { HasCleanDisk (state S.Store register.new.conn)
         → IfOk result (λ _. IsRegister register.new.accepted) }
-    ensures frame { Reads S.Store register.old register.new result }
+    ensures frame { OnlyLooks S.Store register.old register.new result }
 {
     numbers_count_commands();
     let mut commands = register.table_rows::<KeyRow>()?;
@@ -278,7 +278,7 @@ fn has_table<S: Alter>(
         → IfOk result (λ has. IsTrue has ↔ HasRows table (machine.tables register.new.accepted) rows.now) }
     ensures register { HasCleanDisk (state S.Store register.new.conn)
         → IfOk result (λ _. IsRegister register.new.accepted) }
-    ensures frame { Reads S.Store register.old register.new result }
+    ensures frame { OnlyLooks S.Store register.old register.new result }
 {
     match table {
         Table::People => has_rows(register, &rows.people),
@@ -315,7 +315,7 @@ fn first_of<S: Alter>(
     ensures some { HasCleanDisk (state S.Store register.new.conn)
         → IfOk result (λ found. IfSome found (λ table. ¬ HasRows table
         (machine.tables register.new.accepted) rows.now)) }
-    ensures frame { Reads S.Store register.old register.new result }
+    ensures frame { OnlyLooks S.Store register.old register.new result }
 {
     for table in tables {
         if !has_table(register, *table, rows)? {
@@ -343,7 +343,7 @@ pub(crate) fn first_difference<S: Alter>(
         (machine.tables register.new.accepted) rows.now)) }
     ensures register { HasCleanDisk (state S.Store register.new.conn)
         → IfOk result (λ _. IsRegister register.new.accepted) }
-    ensures frame { Reads S.Store register.old register.new result }
+    ensures frame { OnlyLooks S.Store register.old register.new result }
 {
     if !has_table(register, Table::Keys, rows)? {
         return Ok(Some(Table::Keys));
