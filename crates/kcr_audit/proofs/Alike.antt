@@ -1,19 +1,19 @@
 -- The rows of a register's sheet tell the same in any order.
-use Rattle.std.proofs.Common.{◌≡◌, ℕ, ◌<◌, ◌≤◌, Bool, true, false, cond, ◌||◌, nat_lt, nat_le, List, [], ◌∷◌, ◌++◌, map, length, Some, None, refl, sym, ap, subst, ◌∙◌, arith, inl, inr}
+use Rattle.std.proofs.Common.{◌≡◌, ℕ, ◌<◌, ◌≤◌, Bool, true, false, ◌||◌, nat_lt, nat_le, List, [], ◌∷◌, ◌++◌, map, length, Some, None, refl, sym, ap, subst, ◌∙◌, arith, inl, inr}
 use Rattle.std.specs.Prelude.{◌⊎◌, reverse}
 use Rattle.std.specs.List.{list_any, filter}
 use Rattle.std.specs.List.Sorted.{IsPermutation}
-use Rattle.std.proofs.lemmas.Bool.{both_ways, cond_both, ltb-true, ltb-false, leb-false, or_parts, or_right, and_parts}
+use Rattle.std.proofs.lemmas.Bool.{ltb-true, ltb-false, leb-false, or_parts, or_right, and_parts}
 use Rattle.std.proofs.lemmas.List.Sorted.{IsPermutation-reverse, IsPermutation-sym, IsPermutation-trans}
 use Rattle.kcr_base.proofs.RefuseLemmas.{none_holds}
-use Rattle.kcr_base.proofs.RowsLemmas.{Shuffled, shuffled, nothing, under, flipped, after}
+use Rattle.kcr_base.proofs.RowsLemmas.{filter-order}
+use Rattle.kcr_base.proofs.SameLemmas.{same-is, same-itself, same-turned}
+use Rattle.kcr_base.proofs.Members.{IsIn, in-order, in-append, in-filter, filter-in}
 use Rattle.kcr_base.specs.Same.{same_text}
 use Rattle.kcr_room.specs.declared.SheetRow.{SheetRow}
 use Rattle.kcr_room.specs.declared.Way.{Way}
 use Rattle.kcr_room.specs.Room.{enters, later, last_onto, last_row, last_enters, is_of, in_by, crowd_by}
 use Rattle.kcr_room.specs.Adding.{is_out_of_turn, is_out_of_turn_by, new_row}
-use Rattle.kcr_room.proofs.Lists.{IsPermutation-filter}
-use Rattle.kcr_room.proofs.Agreement.{same-is, same-itself, same-turned}
 use Rattle.kcr_history.specs.declared.commands.Act.{Act}
 use Rattle.kcr_history.specs.declared.commands.Act.TheVariants.{Sheet}
 use Rattle.kcr_history.specs.History.{History}
@@ -24,67 +24,25 @@ use Rattle.kcr_history.proofs.Steps.{took}
 use Rattle.kcr_laws.proofs.Alone.{turns}
 use Rattle.kcr_laws.proofs.Rooms.{HaveTurns, same_room}
 
--- x is one of the list
-abbrev pub In : {X : Type 0} → X → List X → Type 0
-In x [] = ⊥
-In x (y ∷ ys) = (x ≡ y) ⊎ In x ys
-
-pub turned : {X : Type 0} {xs ys : List X} → Shuffled xs ys → Shuffled ys xs
-turned nothing = nothing
-turned (under x xs ys s) = under x ys xs (turned s)
-turned (flipped x y xs) = flipped y x xs
-turned (after xs ys zs s t) = after zs ys xs (turned t) (turned s)
-
-pub in-shuffled : {X : Type 0} (x : X) {xs ys : List X} → Shuffled xs ys → In x xs → In x ys
-in-shuffled x nothing h = h
-in-shuffled x (under y xs ys s) (inl e) = inl e
-in-shuffled x (under y xs ys s) (inr h) = inr (in-shuffled x s h)
-in-shuffled x (flipped y z xs) (inl e) = inr (inl e)
-in-shuffled x (flipped y z xs) (inr (inl e)) = inl e
-in-shuffled x (flipped y z xs) (inr (inr h)) = inr (inr h)
-in-shuffled x (after xs ys zs s t) h = in-shuffled x t (in-shuffled x s h)
-
-in-order : {X : Type 0} (x : X) (xs ys : List X) → IsPermutation xs ys → In x xs → In x ys
-in-order x xs ys p h = in-shuffled x (shuffled xs ys p) h
-
-in-append : {X : Type 0} (x : X) (xs ys : List X) → In x (xs ++ ys) → In x xs ⊎ In x ys
-in-append x [] ys h = inr h
-in-append x (y ∷ xs) ys (inl e) = inl (inl e)
-in-append x (y ∷ xs) ys (inr h) = elim (in-append x xs ys h) [ inl g ↦ inl (inr g) | inr g ↦ inr g ]
-
-in-filter : {X : Type 0} (p : X → Bool) (x : X) (xs : List X) → In x (filter p xs) → In x xs × (p x ≡ true)
-in-filter p x [] h = absurd h
-in-filter p x (y ∷ ys) h = by_test (p y) refl h (in-filter p x ys)
-  where
-    by_test : (b : Bool) → p y ≡ b → In x (cond b (y ∷ filter p ys) (filter p ys)) → (In x (filter p ys) → In x ys × (p x ≡ true)) → ((x ≡ y) ⊎ In x ys) × (p x ≡ true)
-    by_test true e (inl g) ih = (inl g, ap p g ∙ e)
-    by_test true e (inr g) ih = let r = ih g in (inr r.0, r.1)
-    by_test false e g ih = let r = ih g in (inr r.0, r.1)
-
-to-filter : {X : Type 0} (p : X → Bool) (x : X) (xs : List X) → In x xs → p x ≡ true → In x (filter p xs)
-to-filter p x [] h e = absurd h
-to-filter p x (y ∷ ys) (inl g) e = cond_both (p y) (y ∷ filter p ys) (filter p ys) (In x) (λ f. inl g) (λ f. absurd (both_ways _ f (sym (ap p g) ∙ e)))
-to-filter p x (y ∷ ys) (inr g) e = let there = to-filter p x ys g e in cond_both (p y) (y ∷ filter p ys) (filter p ys) (In x) (λ f. inr there) (λ f. there)
-
 -- THE LAST ROW
 
 -- the last of some rows: it is one of them, and none is later
 record Last (rows : List SheetRow) : Type 0 where
   row : SheetRow
   is : last_row rows ≡ Some row
-  inside : In row rows
-  top : (x : SheetRow) → In x rows → x.at ≤ row.at
+  inside : IsIn row rows
+  top : (x : SheetRow) → IsIn x rows → x.at ≤ row.at
 
 -- of two rows the kept one is before the others
 last-over : (z y kept : SheetRow) (ys : List SheetRow) → later (Some z) y ≡ Some kept → (kept ≡ z) ⊎ (kept ≡ y) → z.at ≤ kept.at → y.at ≤ kept.at → Last (kept ∷ ys) → Last (z ∷ y ∷ ys)
 last-over z y kept ys e from l m last = record { row = last.row; is = ap (λ o. last_onto o ys) e ∙ last.is; inside = inside from last.inside; top = top }
   where
-    inside : (kept ≡ z) ⊎ (kept ≡ y) → (last.row ≡ kept) ⊎ In last.row ys → (last.row ≡ z) ⊎ ((last.row ≡ y) ⊎ In last.row ys)
+    inside : (kept ≡ z) ⊎ (kept ≡ y) → (last.row ≡ kept) ⊎ IsIn last.row ys → (last.row ≡ z) ⊎ ((last.row ≡ y) ⊎ IsIn last.row ys)
     inside from (inr h) = inr (inr h)
     inside (inl f) (inl g) = inl (g ∙ f)
     inside (inr f) (inl g) = inr (inl (g ∙ f))
 
-    top : (x : SheetRow) → (x ≡ z) ⊎ ((x ≡ y) ⊎ In x ys) → x.at ≤ last.row.at
+    top : (x : SheetRow) → (x ≡ z) ⊎ ((x ≡ y) ⊎ IsIn x ys) → x.at ≤ last.row.at
     top x (inl f) = let k = last.top kept (inl refl) in let same = ap (λ (r : SheetRow). r.at) f in omega arith
     top x (inr (inl f)) = let k = last.top kept (inl refl) in let same = ap (λ (r : SheetRow). r.at) f in omega arith
     top x (inr (inr h)) = last.top x (inr h)
@@ -102,21 +60,21 @@ last-of z (y ∷ ys) = by_test (nat_lt y.at z.at) refl (last-of z ys) (last-of y
     by_test true e old new = let l = ltb-true y.at z.at e in last-over z y z ys (rw e refl) (inl refl) (omega arith) (omega arith) old
     by_test false e old new = let l = ltb-false y.at z.at e in last-over z y y ys (rw e refl) (inr refl) (omega arith) (omega arith) new
 
-last-there : (rows : List SheetRow) (x : SheetRow) → In x rows → Last rows
+last-there : (rows : List SheetRow) (x : SheetRow) → IsIn x rows → Last rows
 last-there [] x h = absurd h
 last-there (y ∷ ys) x h = last-of y ys
 
 -- the last of rows that are alike where they share a moment tells the same in any order
 last-same : (c : ℕ) (rows shown : List SheetRow) → IsPermutation rows shown
-    → ((r o : SheetRow) → In r rows → In o rows → r.at ≡ o.at → enters c r ≡ enters c o) → last_enters c (last_row rows) ≡ last_enters c (last_row shown)
+    → ((r o : SheetRow) → IsIn r rows → IsIn o rows → r.at ≡ o.at → enters c r ≡ enters c o) → last_enters c (last_row rows) ≡ last_enters c (last_row shown)
 last-same c [] [] p alike = refl
-last-same c [] (y ∷ ys) p alike = absurd (in-order y (y ∷ ys) [] (IsPermutation-sym [] (y ∷ ys) p) (inl refl))
-last-same c (x ∷ xs) [] p alike = absurd (in-order x (x ∷ xs) [] p (inl refl))
+last-same c [] (y ∷ ys) p alike = absurd (in-order y [] (y ∷ ys) p (inl refl))
+last-same c (x ∷ xs) [] p alike = absurd (in-order x [] (x ∷ xs) (IsPermutation-sym (x ∷ xs) [] p) (inl refl))
 last-same c (x ∷ xs) (y ∷ ys) p alike =
     let a = last-of x xs in
     let b = last-of y ys in
-    let back = in-order b.row (y ∷ ys) (x ∷ xs) (IsPermutation-sym (x ∷ xs) (y ∷ ys) p) b.inside in
-    let up = b.top a.row (in-order a.row (x ∷ xs) (y ∷ ys) p a.inside) in
+    let back = in-order b.row (x ∷ xs) (y ∷ ys) p b.inside in
+    let up = b.top a.row (in-order a.row (y ∷ ys) (x ∷ xs) (IsPermutation-sym (x ∷ xs) (y ∷ ys) p) a.inside) in
     let down = a.top b.row back in
     ap (last_enters c) a.is ∙ alike a.row b.row a.inside back (omega arith) ∙ sym (ap (last_enters c) b.is)
 
@@ -124,11 +82,11 @@ last-same c (x ∷ xs) (y ∷ ys) p alike =
 
 -- two rows of one person at one moment say the same
 abbrev AreAlike : List SheetRow → Type 0
-AreAlike rows = (r o : SheetRow) → In r rows → In o rows → same_text r.who o.who ≡ true → r.at ≡ o.at → (c : ℕ) → enters c r ≡ enters c o
+AreAlike rows = (r o : SheetRow) → IsIn r rows → IsIn o rows → same_text r.who o.who ≡ true → r.at ≡ o.at → (c : ℕ) → enters c r ≡ enters c o
 
 same-in : (rows shown : List SheetRow) → IsPermutation rows shown → AreAlike rows → (who : List ℕ) (c t : ℕ) → in_by rows who c t ≡ in_by shown who c t
 same-in rows shown p alike who c t =
-    last-same c (filter (is_of who t) rows) (filter (is_of who t) shown) (IsPermutation-filter (is_of who t) rows shown p)
+    last-same c (filter (is_of who t) rows) (filter (is_of who t) shown) (filter-order (is_of who t) rows shown p)
     (λ r o h k e. (let a = in-filter (is_of who t) r rows h in let b = in-filter (is_of who t) o rows k in alike r o a.0 b.0 (one-person r o a.1 b.1) e c))
   where
     one-person : (r o : SheetRow) → is_of who t r ≡ true → is_of who t o ≡ true → same_text r.who o.who ≡ true
@@ -139,9 +97,9 @@ same-in rows shown p alike who c t =
 
 -- who has the turn at a moment has only earlier rows
 turn-after : (rows : List SheetRow) (c : ℕ) (way : Way) (at : ℕ) (who : List ℕ) → is_out_of_turn_by rows c way at who ≡ false
-    → (r : SheetRow) → In r rows → same_text r.who who ≡ true → r.at < at
+    → (r : SheetRow) → IsIn r rows → same_text r.who who ≡ true → r.at < at
 turn-after rows c way at who f r h e =
-    let mine = to-filter (λ row. same_text row.who who) r rows h e in
+    let mine = filter-in (λ row. same_text row.who who) r rows h e in
     let last = last-there (filter (λ row. same_text row.who who) rows) r mine in
     let g : is_out_of_turn way c at (Some last.row) ≡ false = subst (λ o. is_out_of_turn way c at o ≡ false) last.is f in
     let early = leb-false at last.row.at (or_parts (nat_le at last.row.at) _ g).0 in
@@ -149,7 +107,7 @@ turn-after rows c way at who f r h e =
     omega arith
 
 -- a new row is of one of the people
-new-of : (c : ℕ) (way : Way) (at : ℕ) (people : List (List ℕ)) (o : SheetRow) → In o (map (new_row c way at) people)
+new-of : (c : ℕ) (way : Way) (at : ℕ) (people : List (List ℕ)) (o : SheetRow) → IsIn o (map (new_row c way at) people)
     → (who : List ℕ) × (list_any (same_text who) people ≡ true) × (o ≡ new_row c way at who)
 new-of c way at [] o h = absurd h
 new-of c way at (who ∷ people) o (inl e) = (who, ap (λ b. b || list_any (same_text who) people) (same-itself who), e)
@@ -159,7 +117,7 @@ alike-more : (rows : List SheetRow) (c : ℕ) (way : Way) (at : ℕ) (people : L
 alike-more rows c way at people turn alike r o h k same e d = by_parts (in-append r rows (map (new_row c way at) people) h) (in-append o rows (map (new_row c way at) people) k)
   where
     -- an earlier row has no moment of a new one
-    apart : (x y : SheetRow) → In x rows → In y (map (new_row c way at) people) → same_text x.who y.who ≡ true → x.at ≡ y.at → ⊥
+    apart : (x y : SheetRow) → IsIn x rows → IsIn y (map (new_row c way at) people) → same_text x.who y.who ≡ true → x.at ≡ y.at → ⊥
     apart x y g n s f =
         let w = new-of c way at people y n in
         let at-is : y.at ≡ at = ap (λ (q : SheetRow). q.at) w.2 in
@@ -167,7 +125,7 @@ alike-more rows c way at people turn alike r o h k same e d = by_parts (in-appen
         let early = turn-after rows c way at w.0 (turn w.0 w.1) x g (subst (λ q. same_text x.who q ≡ true) who-is s) in
         omega arith
 
-    by_parts : In r rows ⊎ In r (map (new_row c way at) people) → In o rows ⊎ In o (map (new_row c way at) people) → enters d r ≡ enters d o
+    by_parts : IsIn r rows ⊎ IsIn r (map (new_row c way at) people) → IsIn o rows ⊎ IsIn o (map (new_row c way at) people) → enters d r ≡ enters d o
     by_parts (inl g) (inl n) = alike r o g n same e d
     by_parts (inl g) (inr n) = absurd (apart r o g n same e)
     by_parts (inr g) (inl n) = absurd (apart o r n g (same-turned o.who r.who ∙ same) (sym e))

@@ -6,6 +6,7 @@ use Rattle.std.proofs.lemmas.Bool.{true≢false, ltb-false, and_parts, or_cases,
 use Rattle.std.proofs.lemmas.List.Elements.{All-contains}
 use Rattle.std.proofs.lemmas.List.Folds.{list_any-append}
 use Rattle.std.proofs.lemmas.Map.Views.{Contains-from_any}
+use Rattle.kcr_base.proofs.ListLemmas.{none-find, any-map, any-more}
 use Rattle.kcr_room.specs.declared.SheetRow.{SheetRow}
 use Rattle.kcr_room.specs.declared.Stay.{Stay}
 use Rattle.kcr_room.specs.Room.{crowd_by, is_enter}
@@ -18,8 +19,7 @@ use Rattle.kcr_history.specs.declared.views.Finding.TheVariants as Findings
 use Rattle.kcr_history.specs.declared.views.View.{View}
 use Rattle.kcr_history.specs.Audit.{IsTrueOf, rank}
 use Rattle.kcr_audit.specs.Rooms.{IsSometime, IsSoughtAmong, is_lone, is_crowd}
-use Rattle.kcr_laws.proofs.Finds.{none-find}
-use Rattle.kcr_audit.proofs.Found.{is-found, any-more, any-map, counted-any}
+use Rattle.kcr_audit.proofs.Found.{is-found, counted-any}
 
 -- the stay, the row is of the ceremony
 abbrev of_stay : ℕ → Stay → Bool

@@ -4,6 +4,7 @@ use Rattle.std.specs.Prelude.{is_some, unwrap_or}
 use Rattle.std.specs.List.{list_all, list_any}
 use Rattle.std.proofs.lemmas.Bool.{cond_both, true≢false, and_parts, eqb-true, eq-eqb, not-false, and_right}
 use Rattle.kcr_base.proofs.RefuseLemmas.{none_holds, unmet}
+use Rattle.kcr_base.proofs.RowsLemmas.{filter-order}
 use Rattle.kcr_base.specs.Rows.{or_else}
 use Rattle.kcr_base.specs.declared.place.Role.TheVariants.{Ca, Iw}
 use Rattle.kcr_base.specs.declared.refusal.Refusal.TheVariants.{Unknown}
@@ -25,10 +26,10 @@ use Rattle.kcr_history.specs.Laws.{is_seated}
 use Rattle.kcr_history.specs.Machine.{answer_to, sitting, IsRegister}
 use Rattle.kcr_history.specs.declared.commands.Entry.{Entry}
 use Rattle.kcr_history.proofs.Steps.{Took, took}
+use Rattle.kcr_history.proofs.Piled.{filter-stacked, stacked-alone}
 use Rattle.kcr_laws.proofs.Done.{next_signed, next-undone}
 use Rattle.std.specs.List.Sorted.{IsPermutation}
 use Rattle.std.proofs.lemmas.List.Sorted.{list_any-IsPermutation, IsPermutation-trans}
-use Rattle.kcr_room.proofs.Lists.{IsPermutation-filter}
 use Rattle.kcr_history.specs.declared.rows.StepRow.{StepRow}
 use Rattle.kcr_history.specs.declared.views.Finding.TheVariants as Findings
 use Rattle.kcr_history.specs.declared.views.View.{View}
@@ -36,7 +37,7 @@ use Rattle.kcr_history.specs.Audit.{IsTrueOf, is_done, are_numbered, is_well_sea
 use Rattle.kcr_history.specs.Prints.{seatings_at, seated_at, seats_filled}
 use Rattle.kcr_laws.proofs.Seated.{seated}
 use Rattle.kcr_audit.specs.Whole.{tables_of}
-use Rattle.kcr_audit.proofs.Placed.{stacked-alone, seats-in-order, people-of-seats, seats-numbered}
+use Rattle.kcr_audit.proofs.Placed.{seats-in-order, people-of-seats, seats-numbered}
 use Rattle.kcr_audit.proofs.Fitting.{ceremony-found, seating-same}
 
 abbrev pub is_of : ℕ → ℕ → SeatingRow → Bool
@@ -56,14 +57,6 @@ other-rows d s c k i (who ∷ people) e = rw e (other-rows d s c k (suc i) peopl
 own-rows : (c k i : ℕ) (people : List (List ℕ)) → filter (is_of c k) (seat_rows c k i people) ≡ seat_rows c k i people
 own-rows c k i [] = refl
 own-rows c k i (who ∷ people) = rw (eq-eqb c c refl, eq-eqb k k refl) (ap (λ rows. record { ceremony = c; step = k; seat = suc i; who = who } ∷ rows) (own-rows c k (suc i) people))
-
-filter-stacked : {X : Type 0} (p : X → Bool) (xs ys : List X) → filter p (stacked_on xs ys) ≡ stacked_on (filter p xs) (filter p ys)
-filter-stacked p [] ys = refl
-filter-stacked p (x ∷ xs) ys = filter-stacked p xs (x ∷ ys) ∙ by_test (p x)
-  where
-    by_test : (b : Bool) → stacked_on (filter p xs) (cond b (x ∷ filter p ys) (filter p ys)) ≡ stacked_on (cond b (x ∷ filter p xs) (filter p xs)) (filter p ys)
-    by_test true = refl
-    by_test false = refl
 
 -- the rows that an answer files
 abbrev filed_by : Act → Answer → List SeatingRow
@@ -195,7 +188,7 @@ rows-placed : (table shown : List SeatingRow) → IsPermutation table shown → 
 rows-placed table shown p c k people e =
     let own = seat_rows c k 0 people in
     seats-in-order c k 0 people (filter (is_of c k) shown)
-    (IsPermutation-trans own (filter (is_of c k) table) (filter (is_of c k) shown) (rw e (stacked-alone own)) (IsPermutation-filter (is_of c k) table shown p))
+    (IsPermutation-trans own (filter (is_of c k) table) (filter (is_of c k) shown) (rw e (stacked-alone own)) (filter-order (is_of c k) table shown p))
 
 -- the row of a step with what became of it
 abbrev row_with : History → ℕ × ℕ → Option (StepState × ℕ) → StepRow

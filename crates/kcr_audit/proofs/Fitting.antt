@@ -12,9 +12,10 @@ use Rattle.kcr_base.specs.Same.{same_text, is_this}
 use Rattle.kcr_base.specs.declared.place.Facility.{Facility}
 use Rattle.kcr_base.specs.declared.place.Place.{Place}
 use Rattle.kcr_base.specs.declared.place.Place.TheVariants as Places
+use Rattle.kcr_base.proofs.ListLemmas.{any-same, any-map, all-keys, find-only, find-order, only-order}
 use Rattle.kcr_people.specs.declared.Appointment.{Appointment}
 use Rattle.kcr_people.specs.People.{holder_by, holds}
-use Rattle.kcr_people.proofs.Orders.{any-same, trained-order}
+use Rattle.kcr_people.proofs.Orders.{trained-order}
 use Rattle.kcr_script.specs.declared.seat.Seat.{Seat}
 use Rattle.kcr_script.specs.declared.seat.Seat.TheVariants.{Staff, AnyCo, AnyRksh, Co, Rksh}
 use Rattle.kcr_history.specs.declared.commands.Act.{Act}
@@ -30,55 +31,25 @@ use Rattle.kcr_history.specs.Seating.{fits, eligible, is_seating, one_to_seven}
 use Rattle.kcr_history.specs.Training.{holder, is_holder}
 use Rattle.kcr_history.specs.Tables.{appointments, trainings, withdrawals, ceremonies, ceremony_row, planned_number, tables, SameTables}
 use Rattle.kcr_history.specs.Machine.{IsRegister}
-use Rattle.kcr_history.proofs.Stacked.{find-none}
 use Rattle.kcr_history.proofs.Orderly.{orderly, holder-appointments}
 use Rattle.kcr_history.proofs.Trained.{trained-rows}
+use Rattle.kcr_history.proofs.Words.{planned-number}
 use Rattle.kcr_audit.specs.Whole.{tables_of}
 use Rattle.kcr_audit.proofs.Alike.{shown-in}
-use Rattle.kcr_audit.proofs.Found.{any-map}
-use Rattle.kcr_laws.proofs.Finds.{some_if, find-all, none-find, some-find, only-holder}
-
--- in any order
-find-one : {X : Type 0} (test : X → Bool) (v : X) (table rows : List X) → IsPermutation table rows → AllByRecursion (λ x. test x ≡ true → x ≡ v) table
-    → find test rows ≡ some_if (list_any test table) v
-find-one test v table rows p a =
-    find-all test v rows (recursion_from_All (λ x. test x ≡ true → x ≡ v) rows (All-permutation (λ x. test x ≡ true → x ≡ v) table rows p (All-from_recursion (λ x. test x ≡ true → x ≡ v) table a)))
-    ∙ ap (λ b. some_if b v) (sym (list_any-IsPermutation test table rows p))
-
--- where all that passes in the table is the first that does, it is found in any order
-find-same : {X : Type 0} (test : X → Bool) (table rows : List X) → IsPermutation table rows → ((r : X) → find test table ≡ Some r → AllByRecursion (λ row. test row ≡ true → row ≡ r) table)
-    → find test rows ≡ find test table
-find-same {X = X} test table rows p only = by_row (find test table) refl
-  where
-    by_row : (o : Option X) → find test table ≡ o → find test rows ≡ o
-    by_row None e = find-none test rows (sym (list_any-IsPermutation test table rows p) ∙ none-find test table e)
-    by_row (Some r) e = find-one test r table rows p (only r e) ∙ ap (λ b. some_if b r) (some-find test r table e)
-
--- THE CEREMONY
-
-planned_after : (act : Act) (c : ℕ) (numbers : List ℕ) (plan : Option Planned) → list_any (λ k. k == c) numbers ≡ is_some plan
-    → list_any (λ k. k == c) (cons_option (planned_number act) numbers) ≡ is_some (or_else (planned_as c act) plan)
-planned_after (Plan number facility day script) c numbers plan ih = elim (cases_Bool (number == c)) [ inl e ↦ rw e refl | inr e ↦ rw e ih ]
-planned_after act c numbers plan ih = ih
-
-planned-number : (A : History) (c : ℕ) → list_any (λ k. k == c) (all_said planned_number A) ≡ is_ceremony A c
-planned-number [] c = refl
-planned-number (entry ∷ A) c = planned_after entry.command.act c (all_said planned_number A) (plan_of A c) (planned-number A c)
-
-own-row : (A : History) (c : ℕ) (numbers : List ℕ) → AllByRecursion (λ (row : CeremonyRow). (row.number == c) ≡ true → row ≡ ceremony_row A c) (map (ceremony_row A) numbers)
-own-row A c [] = tt
-own-row A c (k ∷ numbers) = (λ e. ap (ceremony_row A) (eqb-true k c e), own-row A c numbers)
+use Rattle.kcr_laws.proofs.Finds.{only-holder}
 
 -- the row of a planned ceremony
 pub ceremony-found : (A : History) (view : View) → IsPermutation (ceremonies A) view.ceremonies.items → (c : ℕ) → is_ceremony A c ≡ true → ceremony_in view c ≡ Some (ceremony_row A c)
 ceremony-found A view p c k =
-    find-one (λ row. row.number == c) (ceremony_row A c) (ceremonies A) view.ceremonies.items p (own-row A c (all_said planned_number A))
-    ∙ ap (λ b. some_if b (ceremony_row A c)) (any-map (λ row. row.number == c) (ceremony_row A) (all_said planned_number A) ∙ planned-number A c ∙ k)
+    let numbers = all_said planned_number A in
+    let own = all-keys (λ row. row.number == c) (ceremony_row A) (ceremony_row A c) (λ n e. ap (ceremony_row A) (eqb-true n c e)) numbers in
+    find-only (λ row. row.number == c) (ceremony_row A c) view.ceremonies.items (only-order (λ row. row.number == c) (ceremony_row A c) (ceremonies A) view.ceremonies.items p own)
+    (sym (list_any-IsPermutation (λ row. row.number == c) (ceremonies A) view.ceremonies.items p) ∙ any-map (λ row. row.number == c) (ceremony_row A) numbers ∙ planned-number A c ∙ k)
 
 -- who holds a place
 holder-same : (A : History) → IsRegister A → (rows : List Appointment) → IsPermutation (appointments A) rows → (place : Place) (day : ℕ) → holder_by rows place day ≡ holder A place day
 holder-same A h rows p place day =
-    ap (option_map (λ row. row.who)) (find-same (holds place day) (appointments A) rows p (λ r e. only-holder place day r (appointments A) (orderly A h).0 e))
+    ap (option_map (λ row. row.who)) (find-order (holds place day) (appointments A) rows p (λ r e. only-holder place day r (appointments A) (orderly A h).0 e))
     ∙ holder-appointments A h place day
 
 -- SEATS
@@ -91,10 +62,10 @@ module _ (A : History) (h : IsRegister A) (view : View) (same : SameTables (tabl
   fits-same facility day (Staff role) who =
       trained-order (trainings A) view.trainings.items (withdrawals A) view.withdrawals.items same.trainings same.withdrawals who role day ∙ trained-rows A h who role day
   fits-same facility day AnyCo who =
-      any-same (λ n. is_holder_by view.appointments.items (Places.Co facility n) day who) (λ n. is_holder A (Places.Co facility n) day who) (λ n. held (Places.Co facility n) day who) one_to_seven
+      any-same (λ n. is_holder_by view.appointments.items (Places.Co facility n) day who) (λ n. is_holder A (Places.Co facility n) day who) one_to_seven (λ n. held (Places.Co facility n) day who)
   fits-same facility day (Co n) who = held (Places.Co facility n) day who
   fits-same facility day AnyRksh who =
-      any-same (λ n. is_holder_by view.appointments.items (Places.Rksh n) day who) (λ n. is_holder A (Places.Rksh n) day who) (λ n. held (Places.Rksh n) day who) one_to_seven
+      any-same (λ n. is_holder_by view.appointments.items (Places.Rksh n) day who) (λ n. is_holder A (Places.Rksh n) day who) one_to_seven (λ n. held (Places.Rksh n) day who)
   fits-same facility day (Rksh n) who = held (Places.Rksh n) day who
 
   eligible-same : (c t : ℕ) (seat : Seat) (who : List ℕ) → eligible_by view (ceremony_row A c) t seat who ≡ eligible A c t seat who

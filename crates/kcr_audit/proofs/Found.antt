@@ -1,17 +1,17 @@
 -- What is found is true, and where nothing is found nothing is true.
-use Rattle.std.proofs.Common.{◌≡◌, ℕ, ◌≤◌, Bool, true, false, cond, ◌||◌, ◌&&◌, ◌==◌, nat_lt, not, List, [], ◌∷◌, map, Option, Some, None, refl, sym, ap, subst, ◌∙◌, arith, option_map, inl, inr}
+use Rattle.std.proofs.Common.{◌≡◌, ℕ, ◌≤◌, Bool, true, false, cond, ◌||◌, ◌&&◌, ◌==◌, nat_lt, not, List, [], ◌∷◌, Option, Some, None, refl, sym, ap, subst, ◌∙◌, arith, option_map, inl, inr}
 use Rattle.std.specs.Prelude.{find}
 use Rattle.std.specs.List.{list_any, count_by}
 use Rattle.std.proofs.lemmas.Bool.{true≢false, and_from, and_parts, cases_Bool, or_cases, or_left, or_right, eq-eqb, lt-ltb, ltb-true, ltb-false}
 use Rattle.kcr_base.specs.Same.{same_text}
-use Rattle.kcr_room.proofs.Agreement.{same-is}
+use Rattle.kcr_base.proofs.SameLemmas.{same-is}
+use Rattle.kcr_base.proofs.ListLemmas.{none-find, any-more}
 use Rattle.kcr_room.proofs.Lists.{count-cons}
 use Rattle.kcr_history.specs.declared.views.Finding.{Finding}
 use Rattle.kcr_history.specs.declared.views.Finding.TheVariants as Findings
 use Rattle.kcr_history.specs.declared.views.View.{View}
 use Rattle.kcr_history.specs.declared.rows.StepRow.{StepRow}
 use Rattle.kcr_history.specs.Audit.{IsTrueOf, rank, is_ill_seated, is_done, is_well_seated, ceremony_in, is_doubled, is_lost, is_unboxed}
-use Rattle.kcr_laws.proofs.Finds.{none-find}
 use Rattle.kcr_audit.specs.Sought.{IsSought}
 use Rattle.kcr_audit.specs.Wrongs.{is_step_wrong, is_item_wrong, is_bag_wrong}
 
@@ -28,18 +28,6 @@ is-found p (y ∷ ys) x e = by_test (p y) refl e (is-found p ys x)
     by_test true h g ih = let same : y ≡ x = (let k : Some y ≡ Some x = g in cc) in
         record { passes = subst (λ z. p z ≡ true) same h; any = λ q f. or_left (q y) (list_any q ys) (subst (λ z. q z ≡ true) (sym same) f) }
     by_test false h g ih = let r = ih g in record { passes = r.passes; any = λ q f. or_right (q y) (list_any q ys) (r.any q f) }
-
--- a row that passes one test passes the other
-pub any-more : {X : Type 0} (p q : X → Bool) (xs : List X) → ((x : X) → p x ≡ true → q x ≡ true) → list_any p xs ≡ true → list_any q xs ≡ true
-any-more p q [] f e = e
-any-more p q (y ∷ ys) f e = elim (or_cases (p y) (list_any p ys) e) [
-  | inl h ↦ or_left (q y) (list_any q ys) (f y h)
-  | inr h ↦ or_right (q y) (list_any q ys) (any-more p q ys f h)
-]
-
-pub any-map : {X Y : Type 0} (p : Y → Bool) (f : X → Y) (xs : List X) → list_any p (map f xs) ≡ list_any (λ x. p (f x)) xs
-any-map p f [] = refl
-any-map p f (x ∷ xs) = ap (λ b. p (f x) || b) (any-map p f xs)
 
 -- some row passes the test where some are counted
 pub any-counted : {X : Type 0} (p : X → Bool) (xs : List X) → list_any p xs ≡ nat_lt 0 (count_by p xs)

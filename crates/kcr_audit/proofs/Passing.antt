@@ -6,8 +6,7 @@ use Rattle.std.specs.List.Sorted.{IsPermutation}
 use Rattle.std.proofs.lemmas.Bool.{true≢false, ltb-true, and_parts, and_from, and_right, or_cases, or_from, or_left, or_right, not-true}
 use Rattle.std.proofs.lemmas.List.Sorted.{list_any-IsPermutation, sum_by-IsPermutation}
 use Rattle.kcr_base.specs.Same.{same_text}
-use Rattle.kcr_room.proofs.Agreement.{same-is, same-itself, same-turned}
-use Rattle.kcr_room.proofs.Lists.{any-same, count-cons, map-map}
+use Rattle.kcr_room.proofs.Lists.{count-cons, map-map}
 use Rattle.kcr_custody.specs.Balance.{all_differ, holds_items}
 use Rattle.kcr_custody.specs.Custody.{is_box}
 use Rattle.kcr_custody.specs.declared.Bag.{Bag}
@@ -16,6 +15,8 @@ use Rattle.kcr_custody.specs.declared.Rest.TheVariants.{Loose, Within}
 use Rattle.kcr_custody.specs.declared.Spot.{Spot}
 use Rattle.kcr_custody.specs.declared.Spot.TheVariants.{InBox, Spent}
 use Rattle.kcr_base.specs.declared.place.Facility.TheVariants.{East}
+use Rattle.kcr_base.proofs.SameLemmas.{same-is, same-itself, same-turned}
+use Rattle.kcr_base.proofs.ListLemmas.{any-same, any-map, any-more}
 use Rattle.kcr_history.specs.declared.rows.KeyRow.{KeyRow}
 use Rattle.kcr_history.specs.declared.views.Finding.TheVariants as Findings
 use Rattle.kcr_history.specs.declared.views.View.{View}
@@ -32,7 +33,7 @@ use Rattle.kcr_laws.proofs.Balance.{balanced}
 use Rattle.kcr_laws.proofs.Alone.{rooms}
 use Rattle.kcr_audit.proofs.Alike.{shown-crowd}
 use Rattle.kcr_audit.specs.Whole.{tables_of}
-use Rattle.kcr_audit.proofs.Found.{any-more, any-map, none-counted}
+use Rattle.kcr_audit.proofs.Found.{none-counted}
 use Rattle.kcr_laws.proofs.Stored.{sealed_somewhere, box-there}
 use Rattle.kcr_audit.proofs.Filed.{no-seating}
 

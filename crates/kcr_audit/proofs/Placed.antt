@@ -1,26 +1,13 @@
 -- The rows of a step's seats, in whatever order they come, are those people once they are put in order.
-use Rattle.std.proofs.Common.{◌≡◌, ℕ, suc, ◌<◌, Bool, true, false, cond, ◌&&◌, nat_lt, List, [], ◌∷◌, ◌++◌, map, refl, sym, ap, subst, ◌∙◌, arith, inl, inr}
+use Rattle.std.proofs.Common.{◌≡◌, ℕ, suc, ◌<◌, Bool, true, false, cond, ◌&&◌, nat_lt, List, [], ◌∷◌, map, refl, sym, ap, ◌∙◌, arith, inl, inr}
 use Rattle.std.specs.List.Sorted.{IsPermutation}
 use Rattle.std.proofs.lemmas.Bool.{cases_order, ltb-true, ltb-false, lt-ltb, le-ltb, eq-eqb}
-use Rattle.std.proofs.lemmas.List.{append-nil}
-use Rattle.std.proofs.lemmas.List.Sorted.{IsPermutation-refl, IsPermutation-sym, IsPermutation-trans, IsPermutation-middle}
 use Rattle.kcr_base.proofs.RowsLemmas.{Shuffled, shuffled, nothing, under, flipped, after}
+use Rattle.kcr_base.proofs.Members.{IsIn, in-shuffled}
 use Rattle.kcr_history.specs.declared.rows.SeatingRow.{SeatingRow}
-use Rattle.kcr_history.specs.History.{stacked_on}
 use Rattle.kcr_history.specs.Tables.{seat_rows}
 use Rattle.kcr_history.specs.Audit.{are_numbered}
 use Rattle.kcr_audit.specs.Wrongs.{put_row, rows_in_order}
-use Rattle.kcr_audit.proofs.Alike.{In, in-shuffled, turned}
-
--- STACKED
-
-stacked-order : {X : Type 0} (xs ys : List X) → IsPermutation (xs ++ ys) (stacked_on xs ys)
-stacked-order [] ys = IsPermutation-refl ys
-stacked-order (x ∷ xs) ys =
-    IsPermutation-trans (x ∷ xs ++ ys) (xs ++ (x ∷ ys)) (stacked_on xs (x ∷ ys)) (IsPermutation-sym (xs ++ (x ∷ ys)) (x ∷ xs ++ ys) (IsPermutation-middle xs x ys)) (stacked-order xs (x ∷ ys))
-
-pub stacked-alone : {X : Type 0} (xs : List X) → IsPermutation xs (stacked_on xs [])
-stacked-alone xs = subst (λ zs. IsPermutation zs (stacked_on xs [])) (append-nil xs) (stacked-order xs [])
 
 -- BY SEATS
 
@@ -48,7 +35,7 @@ put-both x y zs same = elim (cases_order x.seat y.seat) [
 -- ROWS THAT ARE ONE WHERE THEIR SEAT IS ONE
 
 abbrev OneEach : List SeatingRow → Type 0
-OneEach xs = (r o : SeatingRow) → In r xs → In o xs → r.seat ≡ o.seat → r ≡ o
+OneEach xs = (r o : SeatingRow) → IsIn r xs → IsIn o xs → r.seat ≡ o.seat → r ≡ o
 
 -- they come in one order, however they came
 order-same : {xs ys : List SeatingRow} → Shuffled xs ys → OneEach xs → rows_in_order xs ≡ rows_in_order ys
@@ -56,11 +43,11 @@ order-same nothing one = refl
 order-same (under x xs ys s) one = ap (put_row x) (order-same s (λ r o m n. one r o (inr m) (inr n)))
 order-same (flipped x y xs) one = put-both x y (rows_in_order xs) (one x y (inl refl) (inr (inl refl)))
 order-same (after xs ys zs s t) one =
-    order-same s one ∙ order-same t (λ r o m n. one r o (in-shuffled r (turned s) m) (in-shuffled o (turned s) n))
+    order-same s one ∙ order-same t (λ r o m n. one r o (in-shuffled r s m) (in-shuffled o s n))
 
 -- THE ROWS OF THE SEATS
 
-seats-above : (c k i : ℕ) (people : List (List ℕ)) (y : SeatingRow) → In y (seat_rows c k i people) → i < y.seat
+seats-above : (c k i : ℕ) (people : List (List ℕ)) (y : SeatingRow) → IsIn y (seat_rows c k i people) → i < y.seat
 seats-above c k i [] y m = absurd m
 seats-above c k i (who ∷ people) y (inl e) = let s : y.seat ≡ suc i = ap (λ (row : SeatingRow). row.seat) e in omega arith
 seats-above c k i (who ∷ people) y (inr m) = let l = seats-above c k (suc i) people y m in omega arith

@@ -1,9 +1,9 @@
 -- A day number and its date name each other.
-use Rattle.std.proofs.Common.{◌≡◌, All, ℕ, zero, suc, ◌+◌, ◌-◌, ◌*◌, ◌/◌, ◌%◌, ◌<◌, ◌≤◌, inl, inr, Option, Some, nat_lt, cond, true, false, List, [], ◌∷◌, ◌++◌, length, take, drop, append_assoc, length-append, refl, sym, ap, ◌∙◌, arith, ℤ, pos, negsuc, ◌+ℤ◌}
+use Rattle.std.proofs.Common.{◌≡◌, All, ℕ, zero, suc, ◌+◌, ◌-◌, ◌*◌, ◌/◌, ◌%◌, ◌<◌, ◌≤◌, inl, inr, Option, Some, List, [], ◌∷◌, ◌++◌, length, take, drop, refl, sym, ap, ◌∙◌, arith, ℤ, pos, ◌+ℤ◌, subst}
 use Rattle.std.specs.List.{AllByRecursion}
-use Rattle.std.proofs.lemmas.List.Elements.{All-same, All-append, All-from_recursion}
-use Rattle.std.proofs.lemmas.List.{take_at, drop_at, take-append-drop}
-use Rattle.std.proofs.lemmas.Bool.{cases_lt, cases_order}
+use Rattle.std.proofs.lemmas.List.Elements.{All-append, All-from_recursion}
+use Rattle.std.proofs.lemmas.List.{take-append-drop}
+use Rattle.std.proofs.lemmas.Bool.{cases_lt, cases_order, lt-ltb, le-ltb}
 use Rattle.jiff_core.specs.Calendar.{IsCivilDate, day_count, day_of_year, days_of_months, days_from_civil, days_in_year, days_in_month}
 use Rattle.jiff_core.proofs.SignedLemmas.{signed_arith}
 use Rattle.jiff_core.proofs.MarchLemmas.{day_count-early}
@@ -11,9 +11,8 @@ use Rattle.jiff_core.proofs.CalendarLemmas.{days_from_civil-day_count, day_count
 use Rattle.jiff_core.specs.declared.civil.date.Date.{Date}
 use Rattle.jiff_core.specs.Date.{epoch_day}
 use Rattle.jiff_core.proofs.DateLemmas.{civil, epoch_day_injective}
-use Rattle.kcr_base.specs.Day.{IsDayOf, IsDay, year_from, month_from, year_of, month_of, day_of_month, day_text, date_text, two_digits, IsDateParts}
+use Rattle.kcr_base.specs.Day.{IsDayOf, IsDay, year_from, month_from, year_of, month_of, day_of_month, day_text, date_text, IsDateParts}
 use Rattle.kcr_base.specs.Moment.{clock_text, moment_text, IsMoment}
-use Rattle.std.proofs.lemmas.Bool.Decides.{nat_tests}
 
 day_count-2000 : day_count (pos 2000) 1 1 ≡ 4_382_910
 day_count-2000 = day_count-early (pos 2000) 11999 1 1 refl (omega arith) (omega arith) (omega arith)
@@ -34,13 +33,6 @@ next_year y = day_count-next_year (pos y) (pos (y + 1)) (omega (arith, signed_ar
 later_year : (y later : ℕ) → y < later → day_count (pos y) 1 1 + days_in_year (pos y) ≤ day_count (pos later) 1 1
 later_year y later h = day_count-later_year (pos y) (pos later) (omega (arith, signed_arith)) (omega (arith, signed_arith))
 
-module _ {X : Type 0} (a b : X) where
-  pick_first : (n d : ℕ) → n < d → cond (nat_lt n d) a b ≡ a
-  pick_first n d h = let e : nat_lt n d ≡ true = grind (arith, nat_tests) in rw e
-
-  pick_second : (n d : ℕ) → d ≤ n → cond (nat_lt n d) a b ≡ b
-  pick_second n d h = let e : nat_lt n d ≡ false = grind (arith, nat_tests) in rw e
-
 -- ---- the year
 
 -- r is the year in which day n after 1 January of year y lies, and how many days of it are gone
@@ -59,12 +51,12 @@ year_from_is zero y n h =
 year_from_is (suc k) y n h =
     let days = days_in_year (pos y) in
     elim (cases_lt n (days_in_year (pos y))) [
-      | inl lt ↦ rw (pick_first (y, n) (year_from k (y + 1) (n - days)) n days lt) (record { from = omega arith; until = omega arith; within = lt; same_day = refl })
+      | inl lt ↦ rw (lt-ltb n (days_in_year (pos y)) lt) (record { from = omega arith; until = omega arith; within = lt; same_day = refl })
       | inr le ↦
           let e : y + suc k + 1 ≡ y + 1 + k + 1 = omega arith in
           let h' = rw e at h in
           let r = year_from_is k (y + 1) (n - days) (omega (arith, next_year y)) in
-          rw (pick_second (y, n) (year_from k (y + 1) (n - days)) n days le) (record { from = omega (arith, r.from); until = omega (arith, r.until); within = r.within; same_day = omega (arith, r.same_day, next_year y) })
+          rw (le-ltb n (days_in_year (pos y)) le) (record { from = omega (arith, r.from); until = omega (arith, r.until); within = r.within; same_day = omega (arith, r.same_day, next_year y) })
     ]
 
 -- and no other
@@ -80,10 +72,10 @@ year_from_only (suc k) y n year rest low high within e =
       | inl same ↦
           let gone : n ≡ rest = omega (arith, rw same at e) in
           let lt : n < days_in_year (pos y) = rw (same, gone) within in
-          pick_first (y, n) (year_from k (y + 1) (n - days)) n days lt ∙ (λ i. (same i, gone i))
+          rw (lt-ltb n (days_in_year (pos y)) lt) (λ i. (same i, gone i))
       | inr (inl lt) ↦
           let le : days_in_year (pos y) ≤ n = omega (arith, later_year y year lt) in
-          pick_second (y, n) (year_from k (y + 1) (n - days)) n days le ∙ year_from_only k (y + 1) (n - days) year rest (omega arith) (omega arith) within (omega (arith, next_year y, e))
+          rw (le-ltb n (days_in_year (pos y)) le) (year_from_only k (y + 1) (n - days) year rest (omega arith) (omega arith) within (omega (arith, next_year y, e)))
       | inr (inr gt) ↦ absurd (omega arith)
     ]
 
@@ -104,14 +96,14 @@ month_from_is zero y m n low h =
 month_from_is (suc k) y m n low h =
     let days = days_in_month (pos y) m in
     elim (cases_lt n (days_in_month (pos y) m)) [
-      | inl lt ↦ rw (pick_first (m, n) (month_from k y (m + 1) (n - days)) n days lt) (record { from = omega arith; until = omega arith; within = lt; same_day = refl })
+      | inl lt ↦ rw (lt-ltb n (days_in_month (pos y) m) lt) (record { from = omega arith; until = omega arith; within = lt; same_day = refl })
       | inr le ↦
           let e : m + suc k ≡ m + 1 + k = omega arith in
           let h' = rw e at h in
           let back : m + 1 - 1 ≡ m = omega arith in
           let r = month_from_is k y (m + 1) (n - days) (omega arith) (rw back (omega (arith, days_of_months_more (pos y) m low))) in
           let same = rw back at r.same_day in
-          rw (pick_second (m, n) (month_from k y (m + 1) (n - days)) n days le) (record { from = omega (arith, r.from); until = omega (arith, r.until); within = r.within; same_day = omega (arith, same, days_of_months_more (pos y) m low) })
+          rw (le-ltb n (days_in_month (pos y) m) le) (record { from = omega (arith, r.from); until = omega (arith, r.until); within = r.within; same_day = omega (arith, same, days_of_months_more (pos y) m low) })
     ]
 
 month_from_only : (k y m n month rest : ℕ) → 1 ≤ m → m ≤ month → month ≤ m + k → rest < days_in_month (pos y) month → n + days_of_months (pos y) (m - 1) ≡ days_of_months (pos y) (month - 1) + rest → month_from k y m n ≡ (month, rest)
@@ -126,13 +118,13 @@ month_from_only (suc k) y m n month rest one low high within e =
       | inl same ↦
           let gone : n ≡ rest = omega (arith, rw same at e) in
           let lt : n < days_in_month (pos y) m = rw (same, gone) within in
-          pick_first (m, n) (month_from k y (m + 1) (n - days)) n days lt ∙ (λ i. (same i, gone i))
+          rw (lt-ltb n (days_in_month (pos y) m) lt) (λ i. (same i, gone i))
       | inr (inl lt) ↦
           let back : m + 1 - 1 ≡ m = omega arith in
           let more = days_of_months_more (pos y) m one in
           let later = days_of_months_mono (pos y) m (month - 1) (omega arith) in
           let le : days_in_month (pos y) m ≤ n = omega (arith, more, later, e) in
-          pick_second (m, n) (month_from k y (m + 1) (n - days)) n days le ∙ month_from_only k y (m + 1) (n - days) month rest (omega arith) (omega arith) (omega arith) within (rw back (omega (arith, more, later, e)))
+          rw (le-ltb n (days_in_month (pos y) m) le) (month_from_only k y (m + 1) (n - days) month rest (omega arith) (omega arith) (omega arith) within (rw back (omega (arith, more, later, e))))
       | inr (inr gt) ↦ absurd (omega arith)
     ]
 
@@ -190,25 +182,15 @@ number_of_date y m d n h =
 
 -- the date that was found has the day's number
 pub date_found : (y m d : ℕ) (date : Date) (z : ℤ) → 2000 ≤ y → y ≤ 2099 → date.year ≡ pos y → pos date.month ≡ pos m → pos date.day ≡ pos d → z ≡ epoch_day date → (n : ℕ) × (z ≡ pos n) × IsDayOf y m d n
-date_found y m d date (negsuc n) from until year month day e =
+date_found y m d date z from until year month day e =
     let month' : date.month ≡ m = cc in
     let day' : date.day ≡ d = cc in
     let civil' : IsCivilDate (pos y) m d = rw (year, month', day') at (civil date) in
-    let e' : negsuc n ≡ days_from_civil (pos y) m d = rw (year, month', day') at e in
-    let low : day_count (pos 2000) 1 1 ≤ day_count (pos y) 1 1 = from_2000 y from in
-    absurd (omega (arith, signed_arith, days_from_civil-day_count (pos y) m d, e', low, day_count-2000, day_count-day_of_year (pos y) m d civil'.2.0, civil'.2.0))
-date_found y m d date (pos n) from until year month day e =
-    let month' : date.month ≡ m = cc in
-    let day' : date.day ≡ d = cc in (
-      n,
-      refl,
-      record {
-        civil = rw (year, month', day') at (civil date);
-        from = from;
-        until = until;
-        number = sym (rw (year, month', day') at e);
-      },
-    )
+    let e' : z ≡ days_from_civil (pos y) m d = rw (year, month', day') at e in
+    let n = day_count (pos y) m d - 4_371_953 in
+    let number : days_from_civil (pos y) m d ≡ pos n =
+    number_of_count y m d n (omega (arith, from_2000 y from, day_count-2000, day_count-day_of_year (pos y) m d civil'.2.0, civil'.2.0)) in
+    (n, e' ∙ number, record { civil = civil'; from = from; until = until; number = number })
 
 -- ---- the text
 
@@ -220,18 +202,16 @@ day_text_of_date y m d n h =
 
 -- a day's text is that of a date
 pub parts_of_day : (n : ℕ) → IsDay n → IsDateParts (year_of n) (month_of n) (day_of_month n) × (date_text (year_of n) (month_of n) (day_of_month n) ≡ day_text n)
+unfolding day_text
 parts_of_day n h =
     let date = date_of_number n h in
     let bounds = days_in_month_bounds (pos (year_of n)) (month_of n) in
-    (record { year = omega (arith, date.until); month = omega (arith, date.civil.1.1); day = omega (arith, date.civil.2.1, bounds) }, sym (day_text_of_date _ _ _ n date))
+    (record { year = omega (arith, date.until); month = omega (arith, date.civil.1.1); day = omega (arith, date.civil.2.1, bounds) }, refl)
 
 pub same_date : (a b c a' b' c' n : ℕ) → ◌≡◌ {A = Option (ℕ × ℕ × ℕ)} (Some (a, b, c)) (Some (a', b', c')) → IsDayOf a' b' c' n → IsDayOf a b c n
 same_date a b c a' b' c' n e h =
     let t : ◌≡◌ {A = ℕ × ℕ × ℕ} (a, b, c) (a', b', c') = cc in
-    let x : a' ≡ a = sym (ap (λ (p : ℕ × ℕ × ℕ). p.0) t) in
-    let y : b' ≡ b = sym (ap (λ (p : ℕ × ℕ × ℕ). p.1) t) in
-    let z : c' ≡ c = sym (ap (λ (p : ℕ × ℕ × ℕ). p.2) t) in
-    rw (x, y, z) at h
+    subst (λ (p : ℕ × ℕ × ℕ). IsDayOf p.0 p.1 p.2 n) (sym t) h
 
 -- the date of a day's number
 date_at : (n : ℕ) → IsDay n → Date
@@ -248,59 +228,40 @@ date_is n date h e =
 
 -- ---- moments
 
-pub length-day_text : (n : ℕ) → length (day_text n) ≡ 10
-unfolding day_text
-length-day_text n = refl
-
 -- the two parts of a moment's text
 pub moment_parts : (t : ℕ) (bytes : List ℕ) → moment_text t ≡ bytes → (length bytes ≡ 20) × (day_text (t / 86400) ≡ take 10 bytes) × (84 ∷ clock_text (t % 86400) ++ 90 ∷ [] ≡ drop 10 bytes)
 unfolding moment_text day_text
-moment_parts t bytes e =
-    let clock = 84 ∷ clock_text (t % 86400) ++ 90 ∷ [] in
-    let whole : day_text (t / 86400) ++ clock ≡ bytes = append_assoc (day_text (t / 86400)) (84 ∷ clock_text (t % 86400)) (90 ∷ []) ∙ e in (
-      ap length (sym whole) ∙ length-append (day_text (t / 86400)) clock ∙ ap (λ (k : ℕ). k + 10) (length-day_text (t / 86400)),
-      sym (take_at (day_text (t / 86400)) clock 10 (length-day_text (t / 86400))) ∙ ap (λ (xs : List ℕ). take 10 xs) whole,
-      sym (drop_at (day_text (t / 86400)) clock 10 (length-day_text (t / 86400))) ∙ ap (λ (xs : List ℕ). drop 10 xs) whole,
-    )
+moment_parts t bytes e = (ap length (sym e), ap (λ (xs : List ℕ). take 10 xs) e, ap (λ (xs : List ℕ). drop 10 xs) e)
 
 pub moment_whole : (day second : ℕ) (bytes : List ℕ) → second < 86400 → day_text day ≡ take 10 bytes → 84 ∷ clock_text second ++ 90 ∷ [] ≡ drop 10 bytes → moment_text (day * 86400 + second) ≡ bytes
 unfolding moment_text day_text
 moment_whole day second bytes h date clock =
     let d : (day * 86400 + second) / 86400 ≡ day = omega arith in
     let s : (day * 86400 + second) % 86400 ≡ second = omega arith in
-    (λ i. day_text (d i) ++ (84 ∷ clock_text (s i)) ++ 90 ∷ []) ∙ append_assoc (day_text day) (84 ∷ clock_text second) (90 ∷ []) ∙ (λ i. date i ++ clock i) ∙ take-append-drop 10 bytes
+    (λ i. day_text (d i) ++ (84 ∷ clock_text (s i)) ++ 90 ∷ []) ∙ (λ i. date i ++ clock i) ∙ take-append-drop 10 bytes
 
 pub day_of_moment : (t : ℕ) → IsMoment t → IsDay (t / 86400)
 day_of_moment t h = record { from = omega (arith, h.from); until = omega (arith, h.until) }
 
 -- ---- the bytes are ASCII
 
-two_ascii : (n : ℕ) → n < 100 → AllByRecursion (λ b. b < 128) (two_digits n)
-two_ascii n h = (omega arith, (omega arith, tt))
+two_ascii : (n : ℕ) → n < 100 → (48 + n / 10 < 128) × (48 + n % 10 < 128)
+two_ascii n h = (omega arith, omega arith)
 
 date_ascii : (y m d : ℕ) → IsDateParts y m d → AllByRecursion (λ b. b < 128) (date_text y m d)
 date_ascii y m d h =
-    let a = two_ascii (y / 100) (omega (arith, h.year)) in
-    let b = two_ascii (y % 100) (omega arith) in
-    let c = two_ascii m h.month in
-    let e = two_ascii d h.day in
-    (a.0, (a.1.0, (b.0, (b.1.0, (omega arith, (c.0, (c.1.0, (omega arith, (e.0, (e.1.0, tt))))))))))
+    let two = two_ascii (y / 100) (omega (arith, h.year)) in
+    grind (arith, two, two_ascii (y % 100) (omega arith), two_ascii m h.month, two_ascii d h.day)
 
 pub day_ascii : (n : ℕ) → IsDay n → All (λ b. b < 128) (day_text n)
-day_ascii n h =
-    let p = parts_of_day n h in
-    All-same (λ b. b < 128) (day_text n) (date_text (year_of n) (month_of n) (day_of_month n)) (sym p.1) (All-from_recursion (λ b. b < 128) (date_text (year_of n) (month_of n) (day_of_month n)) (date_ascii (year_of n) (month_of n) (day_of_month n) p.0))
+unfolding day_text
+day_ascii n h = All-from_recursion (λ b. b < 128) (day_text n) (date_ascii (year_of n) (month_of n) (day_of_month n) (parts_of_day n h).0)
 
 clock_ascii : (s : ℕ) → s < 86400 → AllByRecursion (λ b. b < 128) (84 ∷ clock_text s ++ 90 ∷ [])
-clock_ascii s h =
-    let a = two_ascii (s / 3600) (omega arith) in
-    let b = two_ascii (s / 60 % 60) (omega arith) in
-    let c = two_ascii (s % 60) (omega arith) in
-    (omega arith, (a.0, (a.1.0, (omega arith, (b.0, (b.1.0, (omega arith, (c.0, (c.1.0, (omega arith, tt))))))))))
+clock_ascii s h = grind (arith, two_ascii (s / 3600) (omega arith), two_ascii (s / 60 % 60) (omega arith), two_ascii (s % 60) (omega arith))
 
 pub moment_ascii : (t : ℕ) → IsMoment t → All (λ b. b < 128) (moment_text t)
 unfolding moment_text day_text
 moment_ascii t h =
-    let front = day_ascii (t / 86400) (day_of_moment t h) in
-    let back = All-from_recursion (λ b. b < 128) (84 ∷ clock_text (t % 86400) ++ 90 ∷ []) (clock_ascii (t % 86400) (omega arith)) in
-    All-same (λ b. b < 128) (moment_text t) (day_text (t / 86400) ++ (84 ∷ clock_text (t % 86400) ++ 90 ∷ [])) (append_assoc (day_text (t / 86400)) (84 ∷ clock_text (t % 86400)) (90 ∷ [])) (All-append (λ b. b < 128) (day_text (t / 86400)) (84 ∷ clock_text (t % 86400) ++ 90 ∷ []) front back)
+    All-append (λ b. b < 128) (day_text (t / 86400)) (84 ∷ clock_text (t % 86400) ++ 90 ∷ []) (day_ascii (t / 86400) (day_of_moment t h))
+    (All-from_recursion (λ b. b < 128) (84 ∷ clock_text (t % 86400) ++ 90 ∷ []) (clock_ascii (t % 86400) (omega arith)))

@@ -1,13 +1,30 @@
--- Where no refusal of a list holds.
-use Rattle.std.proofs.Common.{◌≡◌, Bool, true, false, List, [], ◌∷◌, Option, Some, None, refl}
+-- Refusals that hold, and those of which none does.
+use Rattle.std.proofs.Common.{◌≡◌, Bool, true, false, not, List, [], ◌∷◌, ◌++◌, Option, Some, None, refl, arith}
 use Rattle.kcr_base.specs.declared.refusal.Refusal.{Refusal}
 use Rattle.kcr_base.specs.Refuse.{when, first_of, NoneHolds}
 
 pub none_holds : (os : List (Option Refusal)) → first_of os ≡ None → NoneHolds os
 none_holds [] h = tt
-none_holds (Some r ∷ os) h = absurd (let e : Some r ≡ None = h in cc)
-none_holds (None ∷ os) h = (refl, none_holds os h)
+none_holds (o ∷ os) h = grind (arith, none_holds os)
+
+pub no_first : (os : List (Option Refusal)) → NoneHolds os → first_of os ≡ None
+no_first [] h = refl
+no_first (o ∷ os) h = grind (arith, no_first os h.1)
 
 pub unmet : (b : Bool) (r : Refusal) → when b r ≡ None → b ≡ false
-unmet true r h = absurd (let e : Some r ≡ None = h in cc)
-unmet false r h = refl
+unmet b r h = grind arith
+
+pub met : (b : Bool) (r : Refusal) → when (not b) r ≡ None → b ≡ true
+met b r h = grind arith
+
+-- behind the same conditions the first refusal is the same where it is the same of what stands behind them
+pub behind : (os xs ys : List (Option Refusal)) → first_of xs ≡ first_of ys → first_of (os ++ xs) ≡ first_of (os ++ ys)
+behind [] xs ys h = h
+behind (None ∷ os) xs ys h = behind os xs ys h
+behind (Some r ∷ os) xs ys h = refl
+
+-- conditions of which the first refusal is told as one stand one after the other
+pub nested : (os xs : List (Option Refusal)) → first_of (first_of os ∷ xs) ≡ first_of (os ++ xs)
+nested [] xs = refl
+nested (None ∷ os) xs = nested os xs
+nested (Some r ∷ os) xs = refl

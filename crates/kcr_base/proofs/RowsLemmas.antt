@@ -2,9 +2,11 @@
 use Rattle.std.proofs.Common.{◌≡◌, ℕ, zero, suc, ◌<◌, Bool, true, false, cond, ◌||◌, List, [], ◌∷◌, map, filter, length, set, get_or, refl, sym, ap, ◌∙◌, arith}
 use Rattle.std.specs.List.{list_any, swap}
 use Rattle.std.specs.List.Sorted.{IsPermutation}
-use Rattle.std.proofs.lemmas.Bool.{true≢false, false≢true}
+use Rattle.std.proofs.lemmas.Bool.{or_parts}
+use Rattle.std.proofs.lemmas.Bool.Decides.{nat_tests}
 use Rattle.std.proofs.lemmas.List.Sorted.{IsPermutation-refl, IsPermutation-trans, IsPermutation-cons, IsPermutation-map, IsPermutation-middle, IsPermutation-keeps, list_any-IsPermutation}
 use Rattle.kcr_base.specs.Rows.{put, put_all}
+use Rattle.kcr_base.proofs.ListLemmas.{any-map, any-same}
 
 -- LISTS WITH THE SAME ELEMENTS, BY EXCHANGES OF NEIGHBOURS
 
@@ -46,19 +48,14 @@ flip x y xs = IsPermutation-middle (x ∷ []) y xs
 
 -- WHAT A TEST KEEPS
 
-keep_one : {X : Type 0} (b : Bool) (x : X) (xs ys : List X) → IsPermutation xs ys → IsPermutation (cond b (x ∷ xs) xs) (cond b (x ∷ ys) ys)
-keep_one true x xs ys p = IsPermutation-cons x xs ys p
-keep_one false x xs ys p = p
-
 keep_two : {X : Type 0} (b c : Bool) (x y : X) (xs : List X) → IsPermutation (cond b (x ∷ cond c (y ∷ xs) xs) (cond c (y ∷ xs) xs)) (cond c (y ∷ cond b (x ∷ xs) xs) (cond b (x ∷ xs) xs))
 keep_two true true x y xs = flip x y xs
 keep_two true false x y xs = IsPermutation-refl (x ∷ xs)
-keep_two false true x y xs = IsPermutation-refl (y ∷ xs)
-keep_two false false x y xs = IsPermutation-refl xs
+keep_two false c x y xs = IsPermutation-refl (cond c (y ∷ xs) xs)
 
 kept : {X : Type 0} (test : X → Bool) {xs ys : List X} → Shuffled xs ys → IsPermutation (filter test xs) (filter test ys)
 kept test nothing = IsPermutation-refl []
-kept test (under x xs ys s) = keep_one (test x) x (filter test xs) (filter test ys) (kept test s)
+kept test (under x xs ys s) = grind (arith, kept test s, IsPermutation-cons x (filter test xs) (filter test ys) (kept test s))
 kept test (flipped x y xs) = keep_two (test x) (test y) x y (filter test xs)
 kept test (after xs ys zs s t) = IsPermutation-trans (filter test xs) (filter test ys) (filter test zs) (kept test s) (kept test t)
 
@@ -78,37 +75,20 @@ abbrev pub Apart : {X : Type 0} → (X → X → Bool) → List X → Type 0
 Apart same [] = Unit {0}
 Apart same (x ∷ xs) = (list_any (same x) xs ≡ false) × Apart same xs
 
-or_parts : (a b : Bool) → (a || b) ≡ false → (a ≡ false) × (b ≡ false)
-or_parts true b h = absurd (true≢false h)
-or_parts false b h = (refl, h)
-
 any-kept : {X : Type 0} (p test : X → Bool) (xs : List X) → list_any p xs ≡ false → list_any p (filter test xs) ≡ false
 any-kept p test [] h = refl
-any-kept p test (x ∷ xs) h =
-    let q = or_parts (p x) (list_any p xs) h in
-    by_test (test x) q.0 (any-kept p test xs q.1)
-  where
-    by_test : (b : Bool) → p x ≡ false → list_any p (filter test xs) ≡ false → list_any p (cond b (x ∷ filter test xs) (filter test xs)) ≡ false
-    by_test true e ih = rw (e, ih)
-    by_test false e ih = ih
+any-kept p test (x ∷ xs) h = grind (arith, nat_tests, h, any-kept p test xs)
 
 -- of rows of different keys a test keeps rows of different keys
 pub filter-apart : {X : Type 0} (same : X → X → Bool) (test : X → Bool) (xs : List X) → Apart same xs → Apart same (filter test xs)
 filter-apart same test [] a = tt
-filter-apart same test (x ∷ xs) a = by_test (test x) (any-kept (same x) test xs a.0) (filter-apart same test xs a.1)
-  where
-    by_test : (b : Bool) → list_any (same x) (filter test xs) ≡ false → Apart same (filter test xs) → Apart same (cond b (x ∷ filter test xs) (filter test xs))
-    by_test true e ih = (e, ih)
-    by_test false e ih = ih
-
-any-map : {X Y : Type 0} (f : X → Y) (p : Y → Bool) (q : X → Bool) → ((x : X) → p (f x) ≡ q x) → (xs : List X) → list_any p (map f xs) ≡ list_any q xs
-any-map f p q h [] = refl
-any-map f p q h (x ∷ xs) = rw (h x, any-map f p q h xs)
+filter-apart same test (x ∷ xs) a = grind (arith, any-kept (same x) test xs a.0, filter-apart same test xs a.1)
 
 -- nor do rows that are made of them, where their keys are the same as before
 pub map-apart : {X Y : Type 0} (f : X → Y) (same : X → X → Bool) (also : Y → Y → Bool) → ((x y : X) → also (f x) (f y) ≡ same x y) → (xs : List X) → Apart same xs → Apart also (map f xs)
 map-apart f same also h [] a = tt
-map-apart f same also h (x ∷ xs) a = (any-map f (also (f x)) (same x) (h x) xs ∙ a.0, map-apart f same also h xs a.1)
+map-apart f same also h (x ∷ xs) a =
+    (any-map (also (f x)) f xs ∙ any-same (λ y. also (f x) (f y)) (same x) xs (h x) ∙ a.0, map-apart f same also h xs a.1)
 
 -- ROWS THAT ARE PUT
 
@@ -118,56 +98,31 @@ module _ {X : Type 0} (same : X → X → Bool) (is : IsKeyTest same) where
   instead row old = cond (same row old) row old
 
   not_same : (x y : X) → same x y ≡ false → same y x ≡ false
-  not_same x y h = by_test (same y x) refl
-    where
-      by_test : (b : Bool) → same y x ≡ b → same y x ≡ false
-      by_test true e = absurd (false≢true (sym h ∙ is.turns y x e))
-      by_test false e = e
+  not_same x y h = grind (arith, h, is.turns y x)
 
   -- rows of two keys have nothing of one key in common
   none_both : (x y old : X) → same x y ≡ false → same x old ≡ true → same y old ≡ false
-  none_both x y old h e = by_test (same y old) refl
-    where
-      by_test : (b : Bool) → same y old ≡ b → same y old ≡ false
-      by_test true f = absurd (false≢true (sym h ∙ is.joins x old y e (is.turns y old f)))
-      by_test false f = f
+  none_both x y old h e = grind (arith, h, is.turns y old, is.joins x old y e)
 
   -- a row put in place of others leaves the keys as they were
   any-instead : (x y : X) → same x y ≡ false → (rows : List X) → list_any (same y) (map (instead x) rows) ≡ list_any (same y) rows
   any-instead x y h [] = refl
-  any-instead x y h (old ∷ rows) = rw (one (same x old) refl, any-instead x y h rows)
-    where
-      one : (b : Bool) → same x old ≡ b → same y (cond b x old) ≡ same y old
-      one true e = not_same x y h ∙ sym (none_both x y old h e)
-      one false e = refl
+  any-instead x y h (old ∷ rows) = grind (arith, not_same x y h, none_both x y old h, any-instead x y h rows)
 
   any-put : (x y : X) → same x y ≡ false → (rows : List X) → list_any (same y) (put same x rows) ≡ list_any (same y) rows
-  any-put x y h rows = by_test (list_any (same x) rows)
-    where
-      by_test : (b : Bool) → list_any (same y) (cond b (map (instead x) rows) (x ∷ rows)) ≡ list_any (same y) rows
-      by_test true = any-instead x y h rows
-      by_test false = rw (not_same x y h)
+  any-put x y h rows = grind (arith, not_same x y h, any-instead x y h rows)
 
   instead-both : (x y : X) → same x y ≡ false → (old : X) → instead y (instead x old) ≡ instead x (instead y old)
-  instead-both x y h old = by_tests (same x old) (same y old) refl refl
-    where
-      by_tests : (b c : Bool) → same x old ≡ b → same y old ≡ c → instead y (cond b x old) ≡ instead x (cond c y old)
-      by_tests true true e f = absurd (false≢true (sym (none_both x y old h e) ∙ f))
-      by_tests true false e f = rw (not_same x y h, e)
-      by_tests false true e f = rw (h, f)
-      by_tests false false e f = rw (e, f)
+  instead-both x y h old = grind (arith, h, not_same x y h, none_both x y old h)
 
   map-both : (x y : X) → same x y ≡ false → (rows : List X) → map (instead y) (map (instead x) rows) ≡ map (instead x) (map (instead y) rows)
   map-both x y h [] = refl
   map-both x y h (old ∷ rows) = rw (instead-both x y h old, map-both x y h rows)
 
   -- the same row put into rows in another order
-  put-order : (x : X) (rows others : List X) → IsPermutation rows others → IsPermutation (put same x rows) (put same x others)
-  put-order x rows others p = rw (← list_any-IsPermutation (same x) rows others p) (by_test (list_any (same x) rows))
-    where
-      by_test : (b : Bool) → IsPermutation (cond b (map (instead x) rows) (x ∷ rows)) (cond b (map (instead x) others) (x ∷ others))
-      by_test true = IsPermutation-map (instead x) rows others p
-      by_test false = IsPermutation-cons x rows others p
+  pub put-order : (x : X) (rows others : List X) → IsPermutation rows others → IsPermutation (put same x rows) (put same x others)
+  put-order x rows others p =
+      grind (arith, list_any-IsPermutation (same x) rows others p, IsPermutation-map (instead x) rows others p, IsPermutation-cons x rows others p)
 
   put_all-rows : (news rows others : List X) → IsPermutation rows others → IsPermutation (put_all same news rows) (put_all same news others)
   put_all-rows [] rows others p = p
@@ -191,11 +146,6 @@ module _ {X : Type 0} (same : X → X → Bool) (is : IsKeyTest same) where
     any : (p : X → Bool) → list_any p xs ≡ list_any p ys
     puts : (rows : List X) → IsPermutation (put_all same xs rows) (put_all same ys rows)
 
-  or_turn : (a b c : Bool) → (a || (b || c)) ≡ (b || (a || c))
-  or_turn true true c = refl
-  or_turn true false c = refl
-  or_turn false b c = refl
-
   ordered : {xs ys : List X} → Shuffled xs ys → Apart same xs → Ordered xs ys
   ordered nothing a = record { apart = tt; any = λ p. refl; puts = λ rows. IsPermutation-refl rows }
   ordered (under x xs ys s) a =
@@ -205,7 +155,7 @@ module _ {X : Type 0} (same : X → X → Bool) (is : IsKeyTest same) where
       let q = or_parts (same x y) (list_any (same x) xs) a.0 in
       record {
         apart = (rw (not_same x y q.0) a.1.0, (q.1, a.1.1));
-        any = λ p. or_turn (p x) (p y) (list_any p xs);
+        any = λ p. grind arith;
         puts = λ rows. put_all-rows xs (put same y (put same x rows)) (put same x (put same y rows)) (put-both x y q.0 rows);
       }
   ordered (after xs ys zs s t) a =

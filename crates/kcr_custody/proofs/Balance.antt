@@ -1,17 +1,16 @@
 -- Every act keeps balance.
-use Rattle.std.proofs.Common.{◌≡◌, ℕ, Bool, true, false, cond, not, ◌||◌, List, [], ◌∷◌, map, filter, Option, Some, None, is_some, is_none, refl, arith}
+use Rattle.std.proofs.Common.{◌≡◌, ℕ, Bool, true, false, cond, not, ◌||◌, List, [], ◌∷◌, map, filter, Some, None, is_none, refl, arith}
 use Rattle.std.specs.List.{list_any, list_all}
 use Rattle.std.proofs.lemmas.Bool.Decides.{nat_tests}
-use Rattle.std.proofs.lemmas.Bool.{true≢false, or_parts}
-use Rattle.kcr_base.proofs.RefuseLemmas.{none_holds, unmet}
-use Rattle.kcr_base.specs.Same.{same_text, same_place}
+use Rattle.kcr_base.proofs.ListLemmas.{all-more, there}
+use Rattle.kcr_base.proofs.SameLemmas.{same-itself, same-turned}
+use Rattle.kcr_base.specs.Same.{same_text}
 use Rattle.kcr_base.specs.declared.place.Facility.{Facility}
-use Rattle.kcr_base.specs.declared.refusal.Refusal.TheVariants.{Taken}
 use Rattle.kcr_custody.specs.declared.Scene.{Scene}
 use Rattle.kcr_custody.specs.declared.SafeRow.{SafeRow}
 use Rattle.kcr_custody.specs.declared.BoxRow.{BoxRow}
 use Rattle.kcr_custody.specs.declared.Spot.{Spot}
-use Rattle.kcr_custody.specs.declared.Spot.TheVariants.{Table, Equipment, InBox, Spent}
+use Rattle.kcr_custody.specs.declared.Spot.TheVariants.{Table, Spent}
 use Rattle.kcr_custody.specs.declared.Rest.{Rest}
 use Rattle.kcr_custody.specs.declared.Rest.TheVariants.{Loose, Within}
 use Rattle.kcr_custody.specs.declared.Bag.{Bag}
@@ -19,10 +18,10 @@ use Rattle.kcr_custody.specs.declared.Item.{Item}
 use Rattle.kcr_custody.specs.declared.Store.{Store}
 use Rattle.kcr_custody.specs.declared.Store.TheVariants.{SafeOne, Boxed}
 use Rattle.kcr_custody.specs.Custody.{is_box, place_of_box_by, spot_by, rest_by, spot_of_store, is_within, lies_in, loose, within, loosened, packed, no_item}
-use Rattle.kcr_custody.specs.Custody.{add_box_conditions, add_box_refusal, put_conditions, put_refusal, seal_conditions, seal_refusal}
+use Rattle.kcr_custody.specs.Custody.{add_box_refusal, put_refusal, seal_refusal}
 use Rattle.kcr_base.specs.Rows.{put, put_all}
 use Rattle.kcr_custody.specs.Balance.{same_box, same_bag, same_item, holds_items, is_kept, has_its_box, IsBalanced}
-use Rattle.kcr_custody.proofs.Puts.{text_refl, text_flip, all_mono, all_put_kept, all_put_all, keys_stay_all, found_any, differ_put, differ_put_all, find_put}
+use Rattle.kcr_custody.proofs.Puts.{all_put_kept, all_put_all, keys_stay_all, found_any, differ_put, differ_put_all, find_put}
 
 all_both : {X : Type 0} (P Q R : X → Bool) → ((x : X) → P x ≡ true → Q x ≡ true → R x ≡ true) → (xs : List X) → list_all P xs ≡ true → list_all Q xs ≡ true
     → list_all R xs ≡ true
@@ -44,7 +43,7 @@ kept_put bag bags u (Within s) h = grind (arith, nat_tests, u, h, spot_put bag b
 kept_spent : (serial : List ℕ) (bags : List Bag) (r : Rest) → is_kept bags r ≡ true → is_within serial r ≡ false
     → is_kept (put same_bag (record { serial = serial; spot = Spent }) bags) r ≡ true
 kept_spent serial bags (Loose f) h n = refl
-kept_spent serial bags (Within s) h n = rw (spot_put (record { serial = serial; spot = Spent }) bags s, text_flip serial s, n) h
+kept_spent serial bags (Within s) h n = rw (spot_put (record { serial = serial; spot = Spent }) bags s, same-turned serial s, n) h
 
 -- a bag moved to a spot whose box is there
 moved : (boxes : List BoxRow) (bags : List Bag) (items : List Item) (bag : Bag) → holds_items (Some bag.spot) ≡ true → has_its_box boxes bag.spot ≡ true
@@ -53,7 +52,7 @@ moved boxes bags items bag u b h =
     record {
       items_once = h.items_once;
       bags_once = differ_put (λ row. row.serial) bag bags h.bags_once;
-      kept = all_mono (λ row. is_kept bags row.rest) (λ row. is_kept (put same_bag bag bags) row.rest) (λ row k. kept_put bag bags u row.rest k) items h.kept;
+      kept = all-more (λ row. is_kept bags row.rest) (λ row. is_kept (put same_bag bag bags) row.rest) items (λ row k. kept_put bag bags u row.rest k) h.kept;
       boxed = all_put_kept same_bag (λ row. has_its_box boxes row.spot) bag bags b h.boxed;
     }
 
@@ -67,12 +66,8 @@ pub put_keeps : (scene : Scene) (safes : List SafeRow) (boxes : List BoxRow) (ba
     → IsBalanced boxes (put same_bag (record { serial = serial; spot = spot_of_store scene.facility to }) bags) items
 put_keeps scene safes boxes bags items serial SafeOne has_holder h n = moved boxes bags items _ refl refl h
 put_keeps scene safes boxes bags items serial (Boxed number) has_holder h n =
-    let known = (none_holds (put_conditions scene safes boxes bags serial (Boxed number) has_holder) n).1.1.0 in
-    moved boxes bags items _ refl (there (place_of_box_by boxes scene.facility number) (unmet _ _ known)) h
-  where
-    there : {X : Type 0} (o : Option X) → is_none o ≡ false → is_some o ≡ true
-    there None g = absurd (true≢false g)
-    there (Some x) g = refl
+    let known : is_none (place_of_box_by boxes scene.facility number) ≡ false = grind arith in
+    moved boxes bags items _ refl (there (place_of_box_by boxes scene.facility number) known) h
 
 -- BOXES
 
@@ -80,20 +75,16 @@ put_keeps scene safes boxes bags items serial (Boxed number) has_holder h n =
 pub add_box_keeps : (boxes : List BoxRow) (bags : List Bag) (items : List Item) (is_full : Bool) (row : BoxRow)
     → IsBalanced boxes bags items → add_box_refusal boxes is_full row ≡ None → IsBalanced (put same_box row boxes) bags items
 add_box_keeps boxes bags items is_full row h n =
-    let free = unmet _ Taken (none_holds (add_box_conditions boxes is_full row) n).0 in
-    let new = (or_parts (list_any (is_box row.facility row.number) boxes) (list_any (λ old. same_place old.place row.place) boxes) free).0 in
+    let new : list_any (is_box row.facility row.number) boxes ≡ false = grind arith in
     record {
       items_once = h.items_once;
       bags_once = h.bags_once;
       kept = h.kept;
-      boxed = rw new (all_mono (λ bag. has_its_box boxes bag.spot) (λ bag. has_its_box (row ∷ boxes) bag.spot) (λ bag. one bag.spot) bags h.boxed);
+      boxed = rw new (all-more (λ bag. has_its_box boxes bag.spot) (λ bag. has_its_box (row ∷ boxes) bag.spot) bags (λ bag. one bag.spot) h.boxed);
     }
   where
     one : (spot : Spot) → has_its_box boxes spot ≡ true → has_its_box (row ∷ boxes) spot ≡ true
-    one (Table f) g = refl
-    one (Equipment f) g = refl
-    one Spent g = refl
-    one (InBox f k) g = grind (arith, nat_tests, g)
+    one spot g = grind (arith, nat_tests, g)
 
 -- ITEMS
 
@@ -125,13 +116,13 @@ pub seal_keeps : (facility : Facility) (boxes : List BoxRow) (bags : List Bag) (
     → IsBalanced boxes (put same_bag (record { serial = serial; spot = Table facility }) bags) (put_all same_item (packed serial codes) items)
 seal_keeps facility boxes bags items serial codes h =
     let bag : Bag = record { serial = serial; spot = Table facility } in
-    let here : holds_items (spot_by (put same_bag bag bags) serial) ≡ true = rw (spot_put bag bags serial, text_refl serial) in
+    let here : holds_items (spot_by (put same_bag bag bags) serial) ≡ true = rw (spot_put bag bags serial, same-itself serial) in
     let m = moved boxes bags items bag refl refl h in
     record {
       items_once = differ_put_all (λ row. row.code) (packed serial codes) items h.items_once;
       bags_once = m.bags_once;
       kept = all_put_all same_item (is_safe (put same_bag bag bags)) (packed serial codes) items (packed_kept (put same_bag bag bags) serial here codes)
-          (all_mono (is_safe (put same_bag bag bags)) _ (λ row k. rw k) items m.kept);
+          (all-more (is_safe (put same_bag bag bags)) _ items (λ row k. rw k) m.kept);
       boxed = m.boxed;
     }
 
@@ -144,7 +135,7 @@ loose_kept bags facility (row ∷ rows) = loose_kept bags facility rows
 all_loosened : (serial : List ℕ) (facility : Facility) (items : List Item)
     → list_all (λ old. not (lies_in serial old) || is_changed (loosened items serial facility) old) items ≡ true
 all_loosened serial facility [] = refl
-all_loosened serial facility (row ∷ rows) = grind (arith, nat_tests, text_refl row.code, all_loosened serial facility rows, all_mono _ _ weaker rows)
+all_loosened serial facility (row ∷ rows) = grind (arith, nat_tests, same-itself row.code, all_loosened serial facility rows, all-more _ _ rows weaker)
   where
     weaker : (old : Item) → (not (lies_in serial old) || is_changed (loosened rows serial facility) old) ≡ true
         → (not (lies_in serial old) || (same_text old.code row.code || is_changed (loosened rows serial facility) old)) ≡ true
@@ -187,12 +178,12 @@ pub seal_stays : (scene : Scene) (bags : List Bag) (items : List Item) (serial :
     → map (λ row. row.code) (put_all same_item (packed serial codes) items) ≡ map (λ row. row.code) items
 seal_stays scene bags items serial codes n =
     keys_stay_all (λ row. row.code) (packed serial codes) items
-    (packed_there items serial codes (none_holds (seal_conditions scene bags items serial codes) n).1.0)
+    (packed_there items serial codes (grind arith))
 
 loosened_there : (serial : List ℕ) (facility : Facility) (items : List Item) → list_all (is_there items) (loosened items serial facility) ≡ true
 loosened_there serial facility [] = refl
 loosened_there serial facility (row ∷ rows) =
-    grind (arith, nat_tests, text_refl row.code, all_mono _ _ weaker (loosened rows serial facility) (loosened_there serial facility rows))
+    grind (arith, nat_tests, same-itself row.code, all-more _ _ (loosened rows serial facility) weaker (loosened_there serial facility rows))
   where
     weaker : (c : Item) → is_there rows c ≡ true → is_there (row ∷ rows) c ≡ true
     weaker c g = grind (arith, nat_tests, g)

@@ -1,26 +1,13 @@
 -- A row put under its key.
 use Rattle.std.proofs.Common.{◌≡◌, ℕ, Bool, true, false, cond, ◌||◌, List, [], ◌∷◌, map, find, Some, option_map, is_none, refl, sym, ◌∙◌, arith}
 use Rattle.std.specs.List.{list_any, list_all}
-use Rattle.std.specs.Cmp.Lexicographic.{same_text as equal_texts}
 use Rattle.std.proofs.lemmas.Bool.Decides.{nat_tests}
 use Rattle.std.proofs.lemmas.Bool.{true≢false, false≢true, and_parts}
-use Rattle.std.proofs.lemmas.Cmp.{nat_list_eq_equiv}
 use Rattle.kcr_base.specs.Same.{same_text}
 use Rattle.kcr_base.specs.Rows.{put, put_all}
+use Rattle.kcr_base.proofs.ListLemmas.{all-more}
+use Rattle.kcr_base.proofs.SameLemmas.{same-is, same-itself, same-turned}
 use Rattle.kcr_custody.specs.Balance.{all_differ}
-
-pub text_refl : (a : List ℕ) → same_text a a ≡ true
-text_refl a = nat_list_eq_equiv.refl a
-
-pub text_same : (a b : List ℕ) → same_text a b ≡ true → a ≡ b
-text_same a b h = equal_texts a b (sym h)
-
-pub text_flip : (a b : List ℕ) → same_text a b ≡ same_text b a
-text_flip a b = nat_list_eq_equiv.symm a b
-
-pub all_mono : {X : Type 0} (P Q : X → Bool) → ((x : X) → P x ≡ true → Q x ≡ true) → (xs : List X) → list_all P xs ≡ true → list_all Q xs ≡ true
-all_mono P Q f [] h = refl
-all_mono P Q f (x ∷ xs) h = grind (arith, nat_tests, h, f x, all_mono P Q f xs)
 
 -- a test that the new row passes, and each row whose key is another
 pub all_put : {X : Type 0} (same : X → X → Bool) (Q : X → Bool) (row : X) (rows : List X) → Q row ≡ true → list_all (λ old. Q old || same row old) rows ≡ true
@@ -40,24 +27,18 @@ all_put {X} same Q row rows q h =
 -- the same where the old rows pass the test
 pub all_put_kept : {X : Type 0} (same : X → X → Bool) (Q : X → Bool) (row : X) (rows : List X) → Q row ≡ true → list_all Q rows ≡ true
     → list_all Q (put same row rows) ≡ true
-all_put_kept same Q row rows q h = all_put same Q row rows q (all_mono Q (λ old. Q old || same row old) (λ old g. rw g) rows h)
+all_put_kept same Q row rows q h = all_put same Q row rows q (all-more Q (λ old. Q old || same row old) rows (λ old g. rw g) h)
 
 -- all new rows, and each row whose key is none of theirs
 pub all_put_all : {X : Type 0} (same : X → X → Bool) (Q : X → Bool) (changes rows : List X) → list_all Q changes ≡ true
     → list_all (λ old. Q old || list_any (λ c. same c old) changes) rows ≡ true → list_all Q (put_all same changes rows) ≡ true
-all_put_all same Q [] rows q h = all_mono (λ old. Q old || false) Q (λ old g. or_left (Q old) g) rows h
-  where
-    or_left : (x : Bool) → (x || false) ≡ true → x ≡ true
-    or_left x g = grind (arith, nat_tests, g)
-all_put_all same Q (row ∷ changes) rows q h =
+all_put_all same Q [] rows q h = all-more (λ old. Q old || false) Q rows (λ old g. grind (arith, g)) h
+all_put_all {X} same Q (row ∷ changes) rows q h =
     let p = and_parts (Q row) (list_all Q changes) q in
+    let kept = λ (old : X). Q old || list_any (λ c. same c old) changes in
     all_put_all same Q changes (put same row rows) p.1
-    (all_put same (λ old. Q old || list_any (λ c. same c old) changes) row rows (rw p.0)
-    (all_mono (λ old. Q old || (same row old || list_any (λ c. same c old) changes)) (λ old. (Q old || list_any (λ c. same c old) changes) || same row old)
-    (λ old g. turn (Q old) (same row old) (list_any (λ c. same c old) changes) g) rows h))
-  where
-    turn : (x y z : Bool) → (x || (y || z)) ≡ true → ((x || z) || y) ≡ true
-    turn x y z g = grind (arith, nat_tests, g)
+    (all_put same kept row rows (rw p.0)
+    (all-more (λ old. Q old || (same row old || list_any (λ c. same c old) changes)) (λ old. kept old || same row old) rows (λ old g. grind (arith, g)) h))
 
 -- ROWS WITH A KEY
 
@@ -67,11 +48,11 @@ module _ {X : Type 0} (key : X → List ℕ) where
 
   pub any_key : (row : X) (rows : List X) → list_any (same_text (key row)) (map key rows) ≡ list_any (same_key row) rows
   any_key row [] = refl
-  any_key row (old ∷ rows) = rw (text_flip (key row) (key old), any_key row rows)
+  any_key row (old ∷ rows) = rw (same-turned (key row) (key old), any_key row rows)
 
   keys_map : (row : X) (rows : List X) → map key (map (λ old. cond (same_key row old) row old) rows) ≡ map key rows
   keys_map row [] = refl
-  keys_map row (old ∷ rows) = grind (arith, nat_tests, text_same (key old) (key row), keys_map row rows)
+  keys_map row (old ∷ rows) = grind (arith, nat_tests, same-is (key old) (key row), keys_map row rows)
 
   -- a row under a key that is there leaves the keys
   pub keys_stay : (row : X) (rows : List X) → list_any (same_key row) rows ≡ true → map key (put same_key row rows) ≡ map key rows
@@ -88,12 +69,12 @@ module _ {X : Type 0} (key : X → List ℕ) where
   find_other : (row : X) (k : List ℕ) → same_text (key row) k ≡ false → (rows : List X)
       → find (λ old. same_text (key old) k) (map (λ old. cond (same_key row old) row old) rows) ≡ find (λ old. same_text (key old) k) rows
   find_other row k n [] = refl
-  find_other row k n (old ∷ rows) = grind (arith, nat_tests, n, text_same (key old) (key row), find_other row k n rows)
+  find_other row k n (old ∷ rows) = grind (arith, nat_tests, n, same-is (key old) (key row), find_other row k n rows)
 
   find_same : (row : X) (rows : List X) → list_any (same_key row) rows ≡ true
       → find (λ old. same_text (key old) (key row)) (map (λ old. cond (same_key row old) row old) rows) ≡ Some row
   find_same row [] h = absurd (false≢true h)
-  find_same row (old ∷ rows) h = grind (arith, nat_tests, h, text_refl (key row), find_same row rows)
+  find_same row (old ∷ rows) h = grind (arith, nat_tests, h, same-itself (key row), find_same row rows)
 
   -- by its key the new row is found, and by another what was found before
   pub find_put : (row : X) (rows : List X) (k : List ℕ)
@@ -102,7 +83,7 @@ module _ {X : Type 0} (key : X → List ℕ) where
       let other = λ (f : same_text (key row) k ≡ false). find_other row k f rows in
       let same : list_any (same_key row) rows ≡ true → same_text (key row) k ≡ true
       → find (λ old. same_text (key old) k) (map (λ old. cond (same_key row old) row old) rows) ≡ Some row =
-      λ e f. rw (← text_same (key row) k f) (find_same row rows e) in
+      λ e f. rw (← same-is (key row) k f) (find_same row rows e) in
       grind (arith, nat_tests, other, same)
 
   -- rows under keys that are all there leave the keys
@@ -118,4 +99,4 @@ module _ {X : Type 0} (key : X → List ℕ) where
   pub found_any : {Y : Type 0} (f : X → Y) (k : List ℕ) (rows : List X) → is_none (option_map f (find (λ row. same_text (key row) k) rows)) ≡ false
       → list_any (same_text k) (map key rows) ≡ true
   found_any f k [] h = absurd (true≢false h)
-  found_any f k (row ∷ rows) h = grind (arith, nat_tests, h, text_flip k (key row), found_any f k rows)
+  found_any f k (row ∷ rows) h = grind (arith, nat_tests, h, same-turned k (key row), found_any f k rows)

@@ -1,8 +1,6 @@
 -- No training is entered twice.
-use Rattle.std.proofs.Common.{◌≡◌, [], ◌∷◌, None, ◌∙◌}
+use Rattle.std.proofs.Common.{◌≡◌, [], ◌∷◌, None, ◌∙◌, arith, false}
 use Rattle.std.specs.List.{cons_option}
-use Rattle.kcr_base.specs.declared.refusal.Refusal.TheVariants.{Taken}
-use Rattle.kcr_base.proofs.RefuseLemmas.{none_holds, unmet}
 use Rattle.kcr_base.proofs.RowsLemmas.{Apart}
 use Rattle.kcr_people.specs.declared.Training.{Training}
 use Rattle.kcr_people.specs.People.{same_training}
@@ -11,7 +9,7 @@ use Rattle.kcr_history.specs.declared.commands.Act.TheVariants.{Train}
 use Rattle.kcr_history.specs.History.{History, some_command}
 use Rattle.kcr_history.specs.Training.{is_training}
 use Rattle.kcr_history.specs.Tables.{trainings, training_row}
-use Rattle.kcr_history.specs.Conditions.{conditions, fault}
+use Rattle.kcr_history.specs.Conditions.{fault}
 use Rattle.kcr_history.specs.Machine.{IsRegister}
 use Rattle.kcr_history.proofs.Steps.{took}
 use Rattle.kcr_history.proofs.Words.{is_training-trainings}
@@ -19,7 +17,8 @@ use Rattle.kcr_history.proofs.Words.{is_training-trainings}
 apart_after : (A : History) (act : Act) → fault A act ≡ None → Apart same_training (trainings A) → Apart same_training (cons_option (training_row act) (trainings A))
 apart_after A (Train who role since until) f a =
     let new : Training = record { who = who; role = role; since = since; until = until } in
-    (is_training-trainings A new ∙ unmet (some_command (is_training who role since until) A) Taken (none_holds (conditions A (Train who role since until)) f).1.0, a)
+    let absent : some_command (is_training who role since until) A ≡ false = grind arith in
+    (is_training-trainings A new ∙ absent, a)
 apart_after A act f a = a
 
 -- the trainings of a register are all different

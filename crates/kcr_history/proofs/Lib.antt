@@ -2,6 +2,7 @@ pub mod Listed
 pub mod Marks
 pub mod Steps
 pub mod Words
+pub mod Piled
 pub mod Stacked
 pub mod Orderly
 pub mod Trained

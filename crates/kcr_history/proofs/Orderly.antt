@@ -6,18 +6,18 @@ use Rattle.std.proofs.lemmas.Bool.{true≢false, leb-true, leb-false, and_parts}
 use Rattle.kcr_base.specs.Rows.{or_else}
 use Rattle.kcr_base.specs.Same.{same_place}
 use Rattle.kcr_base.specs.declared.place.Place.{Place}
-use Rattle.kcr_base.specs.declared.refusal.Refusal.TheVariants.{Held, Range, Vacant}
-use Rattle.kcr_base.proofs.RefuseLemmas.{none_holds, unmet}
+use Rattle.kcr_base.proofs.ListLemmas.{find-none}
+use Rattle.kcr_base.proofs.SameLemmas.{place-same}
 use Rattle.kcr_people.specs.declared.Appointment.{Appointment}
-use Rattle.kcr_people.specs.People.{lasts, open_row_by, begins_too_late, place_held_from_by, person_holds_from_by, holder_by, holds}
+use Rattle.kcr_people.specs.People.{lasts, open_row_by, begins_too_late, place_held_from_by, holder_by, holds}
 use Rattle.kcr_history.specs.declared.commands.Act.{Act}
 use Rattle.kcr_history.specs.declared.commands.Act.TheVariants.{Appoint, Replace, Release}
 use Rattle.kcr_history.specs.History.{History, last_said}
 use Rattle.kcr_history.specs.Training.{holder, next_holder}
 use Rattle.kcr_history.specs.Tables.{appointments, appointments_after, ended}
-use Rattle.kcr_history.specs.Conditions.{conditions, fault}
+use Rattle.kcr_history.specs.Conditions.{fault}
 use Rattle.kcr_history.specs.Machine.{IsRegister}
-use Rattle.kcr_history.proofs.Stacked.{or_parts, stacked, closing, stacked-ended, lasts-ended, place-same, find-ended, find-none, free-none}
+use Rattle.kcr_history.proofs.Stacked.{stacked, closing, stacked-ended, lasts-ended, find-ended, free-none}
 use Rattle.kcr_history.proofs.Steps.{took}
 
 -- a place that is not vacant has an open row, which began before the day
@@ -40,17 +40,14 @@ ends rows place day o late none =
 
 released : (A : History) (place : Place) (day : ℕ) → fault A (Release place day) ≡ None → IsOrderly (appointments A)
     → (place_held_from_by (map (ended place day) (appointments A)) place day ≡ false) × IsOrderly (map (ended place day) (appointments A))
-released A place day f o =
-    let n = none_holds (conditions A (Release place day)) f in ends (appointments A) place day o (unmet _ Range n.0) (unmet _ Vacant n.1.0)
+released A place day f o = ends (appointments A) place day o (grind arith) (grind arith)
 
 orderly_after : (A : History) (act : Act) → fault A act ≡ None → IsOrderly (appointments A) → IsOrderly (appointments_after act (appointments A))
 orderly_after A (Appoint place who day) f o =
-    let n = none_holds (conditions A (Appoint place who day)) f in
-    let free = (or_parts (place_held_from_by (appointments A) place day) (person_holds_from_by (appointments A) who day) (unmet _ Held n.1.1.0)).0 in
+    let free : place_held_from_by (appointments A) place day ≡ false = grind arith in
     (rw (free, o.0), o.1)
 orderly_after A (Replace place who day) f o =
-    let n = none_holds (conditions A (Replace place who day)) f in
-    let e = ends (appointments A) place day o (unmet _ Range n.1.0) (unmet _ Vacant n.1.1.1.1.0) in
+    let e = ends (appointments A) place day o (grind arith) (grind arith) in
     (rw (e.0, e.1.0), e.1.1)
 orderly_after A (Release place day) f o = (released A place day f o).1
 orderly_after A act f o = o

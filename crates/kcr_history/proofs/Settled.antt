@@ -7,7 +7,7 @@ use Rattle.std.proofs.lemmas.List.Sorted.{IsPermutation-map}
 use Rattle.std.proofs.lemmas.Bool.{false≢true, and_parts, and_from, or_right, eq-eqb}
 use Rattle.kcr_base.specs.Days.{day_of}
 use Rattle.kcr_base.proofs.RowsLemmas.{Shuffled, nothing, under, flipped, after, shuffled}
-use Rattle.kcr_custody.proofs.Puts.{all_mono}
+use Rattle.kcr_base.proofs.ListLemmas.{all-more}
 use Rattle.kcr_history.specs.declared.commands.Act.{Act}
 use Rattle.kcr_history.specs.declared.commands.Act.TheVariants.{Open}
 use Rattle.kcr_history.specs.declared.rows.MarkRow.{MarkRow}
@@ -43,7 +43,7 @@ some_mark ceremony (m ∷ ms) h =
 
 all_more : (o : Option (ℕ × ℕ)) (ms : List (ℕ × ℕ)) (cs : List ℕ) → list_all (λ c. list_any (λ m. eqb m.0 c) ms) cs ≡ true → list_all (λ c. list_any (λ m. eqb m.0 c) (cons_option o ms)) cs ≡ true
 all_more None ms cs h = h
-all_more (Some m) ms cs h = all_mono (λ c. list_any (λ m. eqb m.0 c) ms) _ (λ c. or_right (eqb m.0 c) _) cs h
+all_more (Some m) ms cs h = all-more (λ c. list_any (λ m. eqb m.0 c) ms) _ cs (λ c. or_right (eqb m.0 c) _) h
 
 marked_after : (act : Act) (ms : List (ℕ × ℕ)) (cs : List ℕ) → list_all (λ c. list_any (λ m. eqb m.0 c) ms) cs ≡ true
     → list_all (λ c. list_any (λ m. eqb m.0 c) (cons_option (marked act) ms)) (cons_option (opened_number act) cs) ≡ true

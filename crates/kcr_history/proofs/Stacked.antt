@@ -1,60 +1,29 @@
 -- The appointments of one place: each begins where the older ones have ended.
-use Rattle.std.proofs.Common.{◌≡◌, ℕ, ◌<◌, ◌≤◌, Bool, true, false, cond, not, ◌||◌, ◌&&◌, nat_le, eqb, List, [], ◌∷◌, map, find, Option, Some, None, option_map, is_none, is_some, refl, sym, ap, ◌∙◌, arith, subst, ◌⊎◌, inl, inr}
+use Rattle.std.proofs.Common.{◌≡◌, ℕ, ◌<◌, ◌≤◌, Bool, true, false, cond, not, ◌&&◌, nat_le, eqb, List, [], ◌∷◌, map, find, Option, Some, None, option_map, is_none, refl, sym, ap, ◌∙◌, arith, subst, inl, inr}
 use Rattle.std.specs.List.{list_any, list_all, AllByRecursion}
 use Rattle.std.specs.List.Sorted.{IsPermutation}
-use Rattle.std.proofs.lemmas.List.Sorted.{list_any-IsPermutation, All-permutation}
-use Rattle.std.proofs.lemmas.List.Elements.{All-from_recursion, recursion_from_All}
-use Rattle.std.proofs.lemmas.Bool as bool
-use Rattle.std.proofs.lemmas.Bool.{true≢false, false≢true, both_ways, leb-false, eqb-true, eq-eqb, not-true, not_from_false, and_left, and_parts, and_from, or_from, or_left, or_right, false_from_ne_true}
+use Rattle.std.proofs.lemmas.Bool.{both_ways, leb-false, eq-eqb, not-true, not_from_false, and_left, and_parts, and_from, or_from, or_left, or_right, false_from_ne_true, or_parts}
 use Rattle.std.proofs.lemmas.Bool.Decides.{nat_tests}
 use Rattle.kcr_base.specs.Same.{same_place}
 use Rattle.kcr_base.specs.declared.place.Place.{Place}
 use Rattle.kcr_people.specs.declared.Appointment.{Appointment}
 use Rattle.kcr_base.specs.Rows.{put}
+use Rattle.kcr_base.proofs.ListLemmas.{any-map, find-cases, find-order}
+use Rattle.kcr_base.proofs.SameLemmas.{place-same, place-itself}
 use Rattle.kcr_people.specs.People.{lasts, lasts_beyond, ends_after, place_held_from_by, open_row_by, stands, holds, holder_by}
 use Rattle.kcr_history.specs.Changes.{same_appointment}
 use Rattle.kcr_history.specs.Tables.{ended, end_at}
-
-pub or_parts : (x y : Bool) → (x || y) ≡ false → (x ≡ false) × (y ≡ false)
-or_parts = bool.or_parts
-
--- two places that pass the test are one
-pub place-same : (a b : Place) → same_place a b ≡ true → a ≡ b
-place-same a b h = grind (arith, nat_tests)
-
-pub place-refl : (a : Place) → same_place a a ≡ true
-place-refl a = grind (arith, nat_tests)
 
 -- LISTS OF WHICH NO ROW PASSES A TEST
 
 pub none-weaker : {X : Type 0} (p q : X → Bool) → ((x : X) → p x ≡ false → q x ≡ false) → (xs : List X) → list_any p xs ≡ false → list_any q xs ≡ false
 none-weaker p q one [] h = refl
-none-weaker p q one (x ∷ xs) h = let r = or_parts (p x) (list_any p xs) h in or_from (q x) _ (one x r.0) (none-weaker p q one xs r.1)
-
-any-map : {X Y : Type 0} (f : X → Y) (q : Y → Bool) (xs : List X) → list_any q (map f xs) ≡ list_any (λ x. q (f x)) xs
-any-map f q [] = refl
-any-map f q (x ∷ xs) = ap (λ b. q (f x) || b) (any-map f q xs)
+none-weaker p q one (x ∷ xs) h = grind (arith, h, one x, none-weaker p q one xs)
 
 -- a change that leaves each row that fails the test leaves the list
 unchanged : {X : Type 0} (p : X → Bool) (f : X → X) → ((x : X) → p x ≡ false → f x ≡ x) → (xs : List X) → list_any p xs ≡ false → map f xs ≡ xs
 unchanged p f one [] h = refl
 unchanged p f one (x ∷ xs) h = let r = or_parts (p x) (list_any p xs) h in λ i. one x r.0 i ∷ unchanged p f one xs r.1 i
-
--- some row passes a test where the first that does is found
-any-find : {X : Type 0} (test : X → Bool) (rows : List X) → list_any test rows ≡ is_some (find test rows)
-any-find test [] = refl
-any-find test (row ∷ rows) =
-    elim (test row) as (λ b. (b || list_any test rows) ≡ is_some (cond b (Some row) (find test rows))) [ true ↦ refl | false ↦ any-find test rows ]
-
-pub find-none : {X : Type 0} (test : X → Bool) (rows : List X) → list_any test rows ≡ false → find test rows ≡ None
-find-none {X = X} test rows h = none (find test rows) (sym (any-find test rows) ∙ h)
-  where
-    none : (o : Option X) → is_some o ≡ false → o ≡ None
-    none o e = grind arith
-
--- the first that passes a test is the head, or is in the tail
-find-cases : {X : Type 0} (b : Bool) (x r : X) (rest : Option X) → cond b (Some x) rest ≡ Some r → ((b ≡ true) × (x ≡ r)) ⊎ ((b ≡ false) × (rest ≡ Some r))
-find-cases b x r rest h = grind arith
 
 -- ROWS THAT HAVE ENDED
 
@@ -69,7 +38,7 @@ older row rows s = let p = and_parts (not (place_held_from_by rows row.place row
 -- rows that have ended by a day have ended by a later one
 pub later_free : (place : Place) (first day : ℕ) (rows : List Appointment) → first ≤ day → place_held_from_by rows place first ≡ false
     → place_held_from_by (map (ended place day) rows) place day ≡ false
-later_free place first day rows l h = any-map (ended place day) _ rows ∙ none-weaker _ _ (λ row. until (same_place row.place place) row.until) rows h
+later_free place first day rows l h = any-map _ (ended place day) rows ∙ none-weaker _ _ (λ row. until (same_place row.place place) row.until) rows h
   where
     until : (s : Bool) (u : Option ℕ) → (s && ends_after u first) ≡ false → (s && ends_after (end_at s u day) day) ≡ false
     until s u e = grind (arith, nat_tests)
@@ -88,7 +57,7 @@ stacked-ended place day [] s = refl
 stacked-ended place day (row ∷ rows) s =
     let o = older row rows s in
     and_from _ (stacked (map (ended place day) rows))
-    (not_from_false _ (any-map (ended place day) _ rows
+    (not_from_false _ (any-map _ (ended place day) rows
     ∙ none-weaker _ _ (λ x. until (same_place x.place row.place) (same_place x.place place) x.until) rows o.0))
     (stacked-ended place day rows o.1)
   where
@@ -101,7 +70,7 @@ no_begin place day [] l h = refl
 no_begin place day (row ∷ rows) l h =
     let p = or_parts (same_place row.place place && lasts_beyond day row) (place_held_from_by rows place day) h in
     let q = and_parts (lasts row) (list_all lasts rows) l in
-    or_from (same_place row.place place && eqb row.since day) _ (one (same_place row.place place) row.until row.since q.0 p.0) (no_begin place day rows q.1 p.1)
+    or_from _ _ (one (same_place row.place place) row.until row.since q.0 p.0) (no_begin place day rows q.1 p.1)
   where
     one : (s : Bool) (u : Option ℕ) (since : ℕ) → ends_after u since ≡ true → (s && ends_after u day) ≡ false → (s && eqb since day) ≡ false
     one s u since l h = grind (arith, nat_tests)
@@ -121,7 +90,7 @@ end-other s u day e = grind arith
 
 -- a place with an open row is held
 open-held : (r : Appointment) (day : ℕ) {rows : List Appointment} → IsOpen r rows → place_held_from_by rows r.place day ≡ true
-open-held r day (here rows e free) = or_left _ (place_held_from_by rows r.place day) (no_end (same_place r.place r.place) r.until day (place-refl r.place) e)
+open-held r day (here rows e free) = or_left _ (place_held_from_by rows r.place day) (no_end (same_place r.place r.place) r.until day (place-itself r.place) e)
 open-held r day (below row rows apart o) = or_right (same_place row.place r.place && lasts_beyond day row) _ (open-held r day o)
 
 opened : (place : Place) (r : Appointment) (rows : List Appointment) → stacked rows ≡ true → open_row_by rows place ≡ Some r → (r.place ≡ place) × IsOpen r rows
@@ -173,7 +142,7 @@ put-ended place day r rows s t h = let it = opened place r rows s h in rw (keyed
     has_key old = same_place old.place r.place && eqb old.since r.since
 
     own : has_key r ≡ true
-    own = and_from _ _ (place-refl r.place) (eq-eqb r.since r.since refl)
+    own = and_from _ _ (place-itself r.place) (eq-eqb r.since r.since refl)
 
     keyed : {rows : List Appointment} → IsOpen r rows → list_any has_key rows ≡ true
     keyed (here rows e free) = or_left _ _ own
@@ -186,7 +155,7 @@ put-ended place day r rows s t h = let it = opened place r rows s h in rw (keyed
         → map (λ old. cond (has_key old) (record r { until = Some day }) old) rows ≡ map (ended r.place day) rows
     replaced (here rows e free) t =
         let head : cond (has_key r) (record r { until = Some day }) r ≡ ended r.place day r =
-        rw own (ap (λ u. record r { until = u }) (with_end (same_place r.place r.place) r.until (place-refl r.place) e)) in
+        rw own (ap (λ u. record r { until = u }) (with_end (same_place r.place r.place) r.until (place-itself r.place) e)) in
         let rest = unchanged has_key (λ old. cond (has_key old) (record r { until = Some day }) old) (λ old other. rw other refl) rows
         (no_begin r.place r.since rows (and_parts (lasts r) (list_all lasts rows) t).1 free) in
         λ i. head i ∷ (rest ∙ sym (past-same r.place r.since day rows free)) i
@@ -215,28 +184,9 @@ only-one place r rows s h = let it = opened place r rows s h in subst (λ p. All
     only (here rows e free) = (λ _. refl, none-stands r r.since rows free)
     only (below row rows apart o) = (λ q. absurd (both_ways _ apart (and_parts (same_place row.place r.place) (is_none row.until) q).0), only o)
 
--- where something passes and all that passes is one value, the first that passes is that value
-find-only : {X : Type 0} (test : X → Bool) (r : X) (rows : List X) → AllByRecursion (λ row. test row ≡ true → row ≡ r) rows → list_any test rows ≡ true → find test rows ≡ Some r
-find-only test r [] a h = absurd (false≢true h)
-find-only test r (row ∷ rows) a h =
-    (elim (test row) as (λ b. (b ≡ true → row ≡ r) → (b || list_any test rows) ≡ true → cond b (Some row) (find test rows) ≡ Some r) [
-      | true ↦ λ f g. ap Some (f refl)
-      | false ↦ λ f g. find-only test r rows a.1 g
-    ]) a.0 h
-
 -- rows in another order have the same open row
 pub open-order : (place : Place) (rows others : List Appointment) → stacked rows ≡ true → IsPermutation rows others → open_row_by others place ≡ open_row_by rows place
-open-order place rows others s p = by_row (open_row_by rows place) refl
-  where
-    some : {o : Option Appointment} → open_row_by rows place ≡ o → list_any (stands place) others ≡ is_some o
-    some e = sym (list_any-IsPermutation (stands place) rows others p) ∙ any-find (stands place) rows ∙ ap is_some e
-
-    by_row : (o : Option Appointment) → open_row_by rows place ≡ o → open_row_by others place ≡ o
-    by_row None e = find-none (stands place) others (some e)
-    by_row (Some r) e =
-        find-only (stands place) r others
-        (recursion_from_All (IsOnly place r) others (All-permutation (IsOnly place r) rows others p (All-from_recursion (IsOnly place r) rows (only-one place r rows s e))))
-        (some e)
+open-order place rows others s p = find-order (stands place) rows others p (λ r e. only-one place r rows s e)
 
 -- THE HOLDER
 
@@ -244,7 +194,7 @@ open-order place rows others s p = by_row (open_row_by rows place) refl
 holds-ended : (at place : Place) (since d : ℕ) (row : Appointment) → (same_place at place && nat_le since d) ≡ false → holds place d (ended at since row) ≡ holds place d row
 holds-ended at place since d row h =
     by_places (same_place row.place place) (same_place row.place at) (nat_le row.since d) row.until
-    (λ p q. let here : same_place at place ≡ true = rw (sym (place-same row.place at q) ∙ place-same row.place place p) (place-refl place) in
+    (λ p q. let here : same_place at place ≡ true = rw (sym (place-same row.place at q) ∙ place-same row.place place p) (place-itself place) in
     leb-false since d (rw here at h))
   where
     by_places : (s t b : Bool) (u : Option ℕ) → (s ≡ true → t ≡ true → d < since) → ((s && b) && ends_after (end_at t u since) d) ≡ ((s && b) && ends_after u d)

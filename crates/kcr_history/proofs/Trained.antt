@@ -7,20 +7,19 @@ use Rattle.std.proofs.lemmas.List.Folds.{list_all-map}
 use Rattle.kcr_base.specs.Rows.{or_else}
 use Rattle.kcr_base.specs.Same.{same_text, same_role}
 use Rattle.kcr_base.specs.declared.place.Role.{Role}
-use Rattle.kcr_base.specs.declared.refusal.Refusal.TheVariants.{Taken}
-use Rattle.kcr_base.proofs.RefuseLemmas.{none_holds, unmet}
+use Rattle.kcr_base.proofs.ListLemmas.{all-more}
 use Rattle.kcr_people.specs.declared.Training.{Training}
 use Rattle.kcr_people.specs.declared.Withdrawal.{Withdrawal}
 use Rattle.kcr_people.specs.Laws.{same_withdrawn}
 use Rattle.kcr_people.specs.People.{is_of, is_withdrawn_by, covers, trained_by, same_training, ends_from, withdrawal_of, withdrawn_rows}
-use Rattle.kcr_custody.proofs.Puts.{all_mono, all_put_all}
+use Rattle.kcr_custody.proofs.Puts.{all_put_all}
 use Rattle.kcr_people.proofs.Withdrawn.{trained-after, is_of-true, is_of-own}
 use Rattle.kcr_history.specs.declared.commands.Act.{Act}
 use Rattle.kcr_history.specs.declared.commands.Act.TheVariants.{Train, Withdraw}
 use Rattle.kcr_history.specs.History.{History, some_command, last_said}
 use Rattle.kcr_history.specs.Training.{trained, says_of_training, is_training}
 use Rattle.kcr_history.specs.Tables.{trainings, training_row, withdrawals, withdrawals_after}
-use Rattle.kcr_history.specs.Conditions.{conditions, fault}
+use Rattle.kcr_history.specs.Conditions.{fault}
 use Rattle.kcr_history.specs.Machine.{IsRegister}
 use Rattle.kcr_history.proofs.Stacked.{none-weaker}
 use Rattle.kcr_history.proofs.Steps.{took}
@@ -34,26 +33,23 @@ has_its_training rows withdrawal = list_any (λ row. is_of row withdrawal) rows
 -- each row of a list is found there
 each-found : {X : Type 0} (R : X → X → Bool) → ((x : X) → R x x ≡ true) → (xs : List X) → list_all (λ x. list_any (λ y. R y x) xs) xs ≡ true
 each-found R own [] = refl
-each-found R own (x ∷ xs) = and_from _ _ (or_left (R x x) _ (own x)) (all_mono _ _ (λ y. or_right (R x y) _) xs (each-found R own xs))
+each-found R own (x ∷ xs) = and_from _ _ (or_left (R x x) _ (own x)) (all-more _ _ xs (λ y. or_right (R x y) _) (each-found R own xs))
 
 all-filter : {X : Type 0} (p test : X → Bool) (xs : List X) → list_all p xs ≡ true → list_all p (filter test xs) ≡ true
 all-filter p test [] h = refl
-all-filter p test (x ∷ xs) h =
-    let q = and_parts (p x) (list_all p xs) h in
-    elim (test x) as (λ b. list_all p (cond b (x ∷ filter test xs) (filter test xs)) ≡ true)
-    [ true ↦ and_from (p x) _ q.0 (all-filter p test xs q.1) | false ↦ all-filter p test xs q.1 ]
+all-filter p test (x ∷ xs) h = grind (arith, h, all-filter p test xs)
 
 rooted_after : (act : Act) (rows : List Training) (withdrawn : List Withdrawal) → list_all (has_its_training rows) withdrawn ≡ true
     → list_all (has_its_training (cons_option (training_row act) rows)) (withdrawals_after act rows withdrawn) ≡ true
 rooted_after (Train who role since until) rows withdrawn h =
-    all_mono (has_its_training rows) _ (λ w. or_right (is_of (record { who = who; role = role; since = since; until = until }) w) _) withdrawn h
+    all-more (has_its_training rows) _ withdrawn (λ w. or_right (is_of (record { who = who; role = role; since = since; until = until }) w) _) h
 rooted_after (Withdraw who role day) rows withdrawn h =
     let own = λ (row : Training). is_of-own (withdrawal_of withdrawn day row) in
     let new : list_all (has_its_training rows) (withdrawn_rows rows withdrawn who role day) ≡ true =
     list_all-map (has_its_training rows) (withdrawal_of withdrawn day) (filter (ends_from who role day) rows)
     ∙ all-filter _ (ends_from who role day) rows (each-found (λ x y. is_of x (withdrawal_of withdrawn day y)) own rows) in
     all_put_all same_withdrawn (has_its_training rows) (withdrawn_rows rows withdrawn who role day) withdrawn new
-    (all_mono (has_its_training rows) _ (λ w g. or_left _ _ g) withdrawn h)
+    (all-more (has_its_training rows) _ withdrawn (λ w g. or_left _ _ g) h)
 rooted_after act rows withdrawn h = h
 
 pub rooted : (A : History) → list_all (has_its_training (trainings A)) (withdrawals A) ≡ true
@@ -82,8 +78,8 @@ trained_after : (A : History) (act : Act) (who : List ℕ) (role : Role) (day : 
     ≡ unwrap_or (or_else (says_of_training who role day act) (last_said (says_of_training who role day) A)) false
 trained_after A (Train p r since until) who role day f ih =
     let new : Training = record { who = p; role = r; since = since; until = until } in
-    let absent = is_training-trainings A new ∙ unmet (some_command (is_training p r since until) A) Taken (none_holds (conditions A (Train p r since until)) f).1.0 in
-    rw (not_withdrawn new day (trainings A) (withdrawals A) absent (rooted A)) (by_cover (covers who role day new) _ _ ih)
+    let absent : some_command (is_training p r since until) A ≡ false = grind arith in
+    rw (not_withdrawn new day (trainings A) (withdrawals A) (is_training-trainings A new ∙ absent) (rooted A)) (by_cover (covers who role day new) _ _ ih)
   where
     by_cover : (b t : Bool) (said : Option Bool) → t ≡ unwrap_or said false → ((b && true) || t) ≡ unwrap_or (or_else (cond b (Some true) None) said) false
     by_cover b t said e = grind arith

@@ -1,6 +1,7 @@
 -- The words on the rows of a history's tables are the words on the history.
-use Rattle.std.proofs.Common.{◌≡◌, ℕ, Bool, true, false, cond, ◌||◌, List, [], ◌∷◌, map, Option, Some, option_map, refl, ap, ◌∙◌, arith}
+use Rattle.std.proofs.Common.{◌≡◌, ℕ, Bool, true, false, cond, ◌||◌, List, [], ◌∷◌, map, Option, Some, option_map, refl, ap, ◌∙◌, arith, eqb, is_some}
 use Rattle.std.specs.List.{list_any, cons_option}
+use Rattle.kcr_base.specs.Rows.{or_else}
 use Rattle.kcr_base.specs.Same.{same_text}
 use Rattle.kcr_base.specs.declared.place.Place.{Place}
 use Rattle.kcr_people.specs.declared.Appointment.{Appointment}
@@ -8,11 +9,12 @@ use Rattle.kcr_people.specs.declared.Person.{Person}
 use Rattle.kcr_people.specs.declared.Training.{Training}
 use Rattle.kcr_people.specs.People.{is_person_by, ever_trained_by, ever_put_by, same_training}
 use Rattle.kcr_history.specs.declared.commands.Act.{Act}
-use Rattle.kcr_history.specs.declared.commands.Act.TheVariants.{Appoint, Replace, Release}
+use Rattle.kcr_history.specs.declared.commands.Act.TheVariants.{Appoint, Replace, Release, Plan}
 use Rattle.kcr_history.specs.History.{History, all_said, some_command, entry_of}
 use Rattle.kcr_history.specs.Training.{enters, is_person, trains_person, ever_trained, is_training, puts, ever_put}
-use Rattle.kcr_history.specs.Tables.{people, person_row, trainings, training_row, appointments, appointments_after, ended, keys, key_row}
+use Rattle.kcr_history.specs.Tables.{people, person_row, trainings, training_row, appointments, appointments_after, ended, keys, key_row, planned_number}
 use Rattle.kcr_history.specs.Views.{row_of_key}
+use Rattle.kcr_history.specs.Ceremonies.{Planned, planned_as, plan_of, is_ceremony}
 
 -- some row of the commands passes a test where some command says so
 some_row : {X : Type 0} (row_of : Act → Option X) (test : X → Bool) (says : Act → Bool)
@@ -64,3 +66,13 @@ row_of_key-keys [] key = refl
 row_of_key-keys (entry ∷ A) key =
     ap (λ o. cond (same_text entry.command.key key) (Some (key_row entry)) o) (row_of_key-keys A key)
     ∙ (elim (same_text entry.command.key key) as (λ b. cond b (Some (key_row entry)) (option_map key_row (entry_of A key)) ≡ option_map key_row (cond b (Some entry) (entry_of A key))) [ true ↦ refl | false ↦ refl ])
+
+-- a ceremony has a row where it was planned
+planned_after : (act : Act) (c : ℕ) (numbers : List ℕ) (plan : Option Planned) → list_any (λ k. eqb k c) numbers ≡ is_some plan
+    → list_any (λ k. eqb k c) (cons_option (planned_number act) numbers) ≡ is_some (or_else (planned_as c act) plan)
+planned_after (Plan number facility day script) c numbers plan ih = grind arith
+planned_after act c numbers plan ih = ih
+
+pub planned-number : (A : History) (c : ℕ) → list_any (λ k. eqb k c) (all_said planned_number A) ≡ is_ceremony A c
+planned-number [] c = refl
+planned-number (entry ∷ A) c = planned_after entry.command.act c (all_said planned_number A) (plan_of A c) (planned-number A c)

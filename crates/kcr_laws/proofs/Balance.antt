@@ -4,6 +4,8 @@ use Rattle.std.specs.Prelude.{is_some}
 use Rattle.std.specs.List.{list_any}
 use Rattle.std.proofs.lemmas.Bool.{true≢false, and_from, false≢true, or_right}
 use Rattle.kcr_base.proofs.RefuseLemmas.{unmet}
+use Rattle.kcr_base.proofs.SameLemmas.{same-itself, same-turned}
+use Rattle.kcr_base.proofs.ListLemmas.{any-same, there, still}
 use Rattle.kcr_base.specs.Rows.{or_else}
 use Rattle.kcr_base.specs.Same.{same_text}
 use Rattle.kcr_base.specs.declared.place.Facility.{Facility}
@@ -15,8 +17,6 @@ use Rattle.kcr_custody.specs.declared.Spot.{Spot}
 use Rattle.kcr_custody.specs.declared.Spot.TheVariants.{Table, Equipment, InBox, Spent}
 use Rattle.kcr_custody.specs.declared.Store.TheVariants.{SafeOne, Boxed}
 use Rattle.kcr_custody.specs.Balance.{all_differ}
-use Rattle.kcr_room.proofs.Agreement.{same-itself, same-turned}
-use Rattle.kcr_room.proofs.Lists.{any-same}
 use Rattle.kcr_history.specs.declared.commands.Act.{Act}
 use Rattle.kcr_history.specs.declared.commands.Act.TheVariants.{AddItem, Seal, Take, Put, Cut}
 use Rattle.kcr_history.specs.declared.commands.Answer.{Answer}
@@ -30,7 +30,7 @@ use Rattle.kcr_history.specs.Machine.{IsRegister}
 use Rattle.kcr_history.specs.Laws.{is_added, is_kept, has_its_box, is_in_place, were_in_place, IsBalanced}
 use Rattle.kcr_laws.proofs.Accepted.{IsAccepted, one, each_history, each_register}
 use Rattle.kcr_laws.proofs.Refused.{none_with}
-use Rattle.kcr_laws.proofs.Stored.{there, sealed_somewhere, still}
+use Rattle.kcr_laws.proofs.Stored.{sealed_somewhere}
 
 -- BAGS
 

@@ -1,9 +1,10 @@
 -- Each step of a ceremony is signed or passed once, and in order.
 use Rattle.std.proofs.Common.{◌≡◌, ℕ, suc, Bool, true, false, cond, ◌&&◌, nat_le, List, [], ◌∷◌, filter, length, Option, Some, None, refl, sym, ap, ◌∙◌, arith, inl, inr}
 use Rattle.std.specs.Prelude.{is_some, ◌==◌}
-use Rattle.std.proofs.lemmas.Bool.{both_ways, lt-leb, eqb-true, and_right, cases_Bool}
+use Rattle.std.proofs.lemmas.Bool.{lt-leb, eqb-true, and_right, cases_Bool}
 use Rattle.std.proofs.lemmas.Bool.Decides.{nat_tests}
 use Rattle.kcr_base.specs.Rows.{or_else}
+use Rattle.kcr_base.proofs.ListLemmas.{none-there}
 use Rattle.kcr_history.specs.declared.commands.Act.{Act}
 use Rattle.kcr_history.specs.declared.commands.Act.TheVariants.{Sign, Except}
 use Rattle.kcr_history.specs.declared.commands.Entry.{Entry}
@@ -64,10 +65,6 @@ fate-done (entry ∷ A) h c k =
     let t = took A entry h.0 in
     fate_after A entry.command.act entry.answer.step c k t.no_fault t.people (ap (λ a. a.step) t.answer) (fate-done A h.1 c k)
     ∙ ap (λ n. nat_le 1 k && nat_le k n) (sym (done-after A entry c))
-
-pub none-there : {X : Type 0} (o : Option X) → is_some o ≡ false → o ≡ None
-none-there None e = refl
-none-there (Some x) e = absurd (both_ways _ e refl)
 
 -- nothing has become of the next step
 pub next-undone : (A : History) → IsRegister A → (c k : ℕ) → k ≡ suc (steps_done A c) → fate_of A c k ≡ None

@@ -1,33 +1,13 @@
--- What is found in lists, and who holds a place alone.
-use Rattle.std.proofs.Common.{◌≡◌, ℕ, Bool, true, false, cond, ◌&&◌, nat_le, List, [], ◌∷◌, find, Option, Some, None, refl, subst, arith}
+-- Who holds a place alone.
+use Rattle.std.proofs.Common.{◌≡◌, ℕ, Bool, true, false, cond, ◌&&◌, nat_le, List, [], ◌∷◌, find, Some, refl, subst, arith}
 use Rattle.std.specs.List.{list_any, AllByRecursion}
 use Rattle.std.proofs.lemmas.Bool.{both_ways, and_parts, or_parts, leb-true}
 use Rattle.kcr_base.specs.Same.{same_place}
 use Rattle.kcr_base.specs.declared.place.Place.{Place}
+use Rattle.kcr_base.proofs.SameLemmas.{place-same}
 use Rattle.kcr_people.specs.declared.Appointment.{Appointment}
 use Rattle.kcr_people.specs.People.{holds, lasts_beyond, place_held_from_by}
-use Rattle.kcr_history.proofs.Stacked.{stacked, place-same, free-none}
-
--- the value, where the test holds
-abbrev pub some_if : {X : Type 0} → Bool → X → Option X
-some_if true x = Some x
-some_if false x = None
-
--- all that passes is one row: it is the one that is found
-pub find-all : {X : Type 0} (test : X → Bool) (v : X) (rows : List X) → AllByRecursion (λ x. test x ≡ true → x ≡ v) rows
-    → find test rows ≡ some_if (list_any test rows) v
-find-all test v [] a = refl
-find-all test v (x ∷ rows) a = grind (arith, a.0, find-all test v rows a.1)
-
-pub none-find : {X : Type 0} (test : X → Bool) (rows : List X) → find test rows ≡ None → list_any test rows ≡ false
-none-find test [] h = refl
-none-find test (row ∷ rows) h = grind (arith, none-find test rows)
-
-pub some-find : {X : Type 0} (test : X → Bool) (r : X) (rows : List X) → find test rows ≡ Some r → list_any test rows ≡ true
-some-find test r [] h = absurd (let e : None ≡ Some r = h in cc)
-some-find test r (row ∷ rows) h = grind (arith, some-find test r rows)
-
--- HOLDERS
+use Rattle.kcr_history.proofs.Stacked.{stacked, free-none}
 
 -- where a row holds a place on a day none that was put before it does
 pub none-below : (place : Place) (day : ℕ) (row : Appointment) (rows : List Appointment) → stacked (row ∷ rows) ≡ true → holds place day row ≡ true

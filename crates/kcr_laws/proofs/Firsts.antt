@@ -4,8 +4,8 @@ use Rattle.std.specs.List.{list_any, list_all}
 use Rattle.std.proofs.lemmas.Bool.{false≢true, both_ways, and_parts, and_from}
 use Rattle.kcr_base.specs.Days.{day_of}
 use Rattle.kcr_base.specs.Same.{same_text, is_before}
+use Rattle.kcr_base.proofs.SameLemmas.{same-is, same-turned}
 use Rattle.kcr_room.specs.Laws.{are_rising}
-use Rattle.kcr_room.proofs.Agreement.{same-is, same-turned}
 use Rattle.kcr_room.proofs.Keeping.{present_are_in}
 use Rattle.kcr_room.proofs.Rising.{present_are_rising}
 use Rattle.kcr_script.specs.declared.seat.Seat.{Seat}

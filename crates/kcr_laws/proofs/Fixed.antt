@@ -4,7 +4,7 @@ use Rattle.std.proofs.lemmas.Bool.{false≢true, both_ways, cases_Bool}
 use Rattle.std.proofs.lemmas.Cmp.{lists_equiv, nat_list_eq_equiv}
 use Rattle.kcr_base.specs.declared.refusal.Refusal.{Refusal}
 use Rattle.kcr_base.specs.declared.refusal.Refusal.TheVariants.{Short}
-use Rattle.kcr_room.proofs.Agreement.{same-turned}
+use Rattle.kcr_base.proofs.SameLemmas.{same-turned}
 use Rattle.kcr_room.proofs.Orders.{before-turned}
 use Rattle.kcr_script.specs.declared.seat.Seat.{Seat}
 use Rattle.kcr_history.specs.declared.commands.Answer.{Answer}

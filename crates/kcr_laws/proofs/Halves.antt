@@ -5,7 +5,7 @@ use Rattle.std.proofs.lemmas.Bool.{false≢true, both_ways, and_parts, or_right,
 use Rattle.std.proofs.lemmas.Bool.Decides.{nat_tests}
 use Rattle.std.proofs.lemmas.List.Folds.{list_any_at}
 use Rattle.kcr_base.specs.Same.{same_text}
-use Rattle.kcr_room.proofs.Agreement.{same-is}
+use Rattle.kcr_base.proofs.SameLemmas.{same-is}
 use Rattle.kcr_room.proofs.Keeping.{present_are_in}
 use Rattle.kcr_script.specs.declared.seat.Seat.{Seat}
 use Rattle.kcr_history.specs.History.{History}

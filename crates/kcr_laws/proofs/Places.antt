@@ -10,6 +10,7 @@ use Rattle.kcr_base.specs.Same.{same_text, same_place, is_this}
 use Rattle.kcr_base.specs.declared.place.Place.{Place}
 use Rattle.kcr_base.specs.declared.place.Role.{Role}
 use Rattle.kcr_base.specs.declared.refusal.Refusal.TheVariants.{Range, Vacant}
+use Rattle.kcr_base.proofs.SameLemmas.{place-same, place-itself}
 use Rattle.kcr_people.specs.declared.Appointment.{Appointment}
 use Rattle.kcr_people.specs.People.{holds, holder_by, lasts_beyond, place_held_from_by, holds_some_by, open_row_by, begins_too_late, trained_by}
 use Rattle.kcr_history.specs.declared.commands.Act.{Act}
@@ -18,7 +19,7 @@ use Rattle.kcr_history.specs.History.{History, last_said}
 use Rattle.kcr_history.specs.Tables.{trainings, withdrawals, appointments, appointments_after, ended}
 use Rattle.kcr_history.specs.Conditions.{not_after_first_day, vacant}
 use Rattle.kcr_history.specs.Machine.{IsRegister}
-use Rattle.kcr_history.proofs.Stacked.{stacked, place-same, place-refl}
+use Rattle.kcr_history.proofs.Stacked.{stacked}
 use Rattle.kcr_history.proofs.Orderly.{orderly, holder-appointments}
 use Rattle.kcr_history.proofs.Trained.{trained-rows}
 use Rattle.kcr_laws.specs.Conditions.{IsHeldFrom, HoldsFrom, IsTrainedFrom, says_since, held_since, BeginsFrom}
@@ -54,7 +55,7 @@ its_holder : (rows : List Appointment) (who : List ℕ) (d : ℕ) → stacked ro
     → (place : Place) × (is_this who (holder_by rows place d) ≡ true)
 its_holder [] who d s h = absurd (false≢true h)
 its_holder (row ∷ rows) who d s h = elim (or_cases (same_text row.who who && nat_le row.since d && lasts_beyond d row) (holds_some_by rows who d) h) [
-  | inl e ↦ (row.place, grind (arith, place-refl row.place))
+  | inl e ↦ (row.place, grind (arith, place-itself row.place))
   | inr e ↦
       let w = its_holder rows who d (and_parts (not (place_held_from_by rows row.place row.since)) (stacked rows) s).1 e in
       (w.0, older_holder row rows w.0 d who s w.1)
@@ -87,12 +88,12 @@ since_of o = option_map (λ row. row.since) o
 other_end : (at place : Place) (day : ℕ) (rows : List Appointment) → same_place at place ≡ false
     → since_of (open_row_by (map (ended at day) rows) place) ≡ since_of (open_row_by rows place)
 other_end at place day [] d = refl
-other_end at place day (row ∷ rows) d = grind (arith, place-same row.place place, place-same row.place at, place-refl place, other_end at place day rows d)
+other_end at place day (row ∷ rows) d = grind (arith, place-same row.place place, place-same row.place at, place-itself place, other_end at place day rows d)
 
 -- after an end of the place it has no open row
 own_end : (at place : Place) (day : ℕ) (rows : List Appointment) → same_place at place ≡ true → open_row_by (map (ended at day) rows) place ≡ None
 own_end at place day [] d = refl
-own_end at place day (row ∷ rows) d = grind (arith, place-same row.place place, place-same at place, place-refl place, own_end at place day rows d)
+own_end at place day (row ∷ rows) d = grind (arith, place-same row.place place, place-same at place, place-itself place, own_end at place day rows d)
 
 -- what is said of the place, or what was said before
 abbrev said_since : Option (Option ℕ) → Option (Option ℕ) → Option ℕ

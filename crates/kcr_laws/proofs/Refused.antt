@@ -7,7 +7,7 @@ use Rattle.kcr_base.specs.Rows.{or_else}
 use Rattle.kcr_base.specs.Same.{same_text}
 use Rattle.kcr_base.specs.declared.refusal.Refusal.{Refusal}
 use Rattle.kcr_base.specs.declared.refusal.Refusal.TheVariants.{Crowd, Lone}
-use Rattle.kcr_room.proofs.Agreement.{same-is}
+use Rattle.kcr_base.proofs.SameLemmas.{same-is}
 use Rattle.kcr_history.specs.Conditions.{first_with}
 
 -- REFUSALS OF OTHER KINDS

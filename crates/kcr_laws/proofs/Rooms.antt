@@ -5,13 +5,14 @@ use Rattle.std.proofs.lemmas.Bool.{cond_both, true≢false, or_parts, and_parts,
 use Rattle.std.proofs.lemmas.Bool.Decides.{nat_tests}
 use Rattle.std.proofs.lemmas.List.Elements.{filter-append}
 use Rattle.kcr_base.specs.Same.{same_text, is_before}
+use Rattle.kcr_base.proofs.SameLemmas.{same-is, same-itself, same-turned}
 use Rattle.kcr_room.specs.declared.SheetRow.{SheetRow}
 use Rattle.kcr_room.specs.declared.Way.{Way}
 use Rattle.kcr_room.specs.declared.Way.TheVariants as Ways
 use Rattle.kcr_room.specs.Room.{is_enter, enters, later, last_onto, last_row, is_of, last_enters, in_by, last_row_of, present_by}
 use Rattle.kcr_room.specs.Adding.{is_out_of_turn, is_out_of_turn_by, new_row}
 use Rattle.kcr_room.specs.Laws.{are_rising}
-use Rattle.kcr_room.proofs.Agreement.{same-is, same-itself, same-turned, listed, last-above}
+use Rattle.kcr_room.proofs.Agreement.{listed, last-above}
 use Rattle.kcr_room.proofs.Keeping.{present_are_in}
 use Rattle.kcr_room.proofs.Rising.{present_are_rising}
 use Rattle.kcr_room.proofs.Orders.{before-turned}

@@ -13,7 +13,7 @@ use Rattle.kcr_base.specs.declared.place.Role.TheVariants.{Ca, Iw}
 use Rattle.kcr_base.specs.declared.place.Place.TheVariants as Places
 use Rattle.kcr_base.specs.declared.place.Place.{Place}
 use Rattle.kcr_base.specs.declared.place.Role.{Role}
-use Rattle.kcr_room.proofs.Lists.{any-same}
+use Rattle.kcr_base.proofs.ListLemmas.{any-same, still}
 use Rattle.kcr_script.specs.declared.seat.Seat.{Seat}
 use Rattle.kcr_script.specs.declared.seat.Seat.TheVariants.{Staff, AnyCo, AnyRksh, Co, Rksh}
 use Rattle.kcr_history.specs.declared.commands.Act.{Act}
@@ -32,7 +32,6 @@ use Rattle.kcr_history.specs.Laws.{is_seated, are_seated}
 use Rattle.kcr_laws.proofs.Accepted.{IsAnswerTo, accepted, one, each_history}
 use Rattle.kcr_laws.proofs.Stays.{trained_stays, holder_stays}
 use Rattle.kcr_laws.proofs.Rooms.{in_before, in_other}
-use Rattle.kcr_laws.proofs.Stored.{still}
 use Rattle.kcr_laws.proofs.Alone.{turns}
 
 -- MOMENTS OF THE PAST

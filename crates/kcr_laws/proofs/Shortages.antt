@@ -4,8 +4,8 @@ use Rattle.std.specs.List.{list_any, list_all}
 use Rattle.std.proofs.lemmas.Bool.{true≢false, and_from, and_cases, not-false, lt-ltb, cases_Bool}
 use Rattle.std.proofs.lemmas.Bool.Decides.{nat_tests}
 use Rattle.kcr_base.specs.Same.{same_text}
+use Rattle.kcr_base.proofs.SameLemmas.{same-is}
 use Rattle.kcr_room.specs.Laws.{are_rising}
-use Rattle.kcr_room.proofs.Agreement.{same-is}
 use Rattle.kcr_room.proofs.Lists.{any-filter}
 use Rattle.kcr_room.proofs.Rising.{present_are_rising}
 use Rattle.kcr_script.specs.declared.seat.Seat.{Seat}

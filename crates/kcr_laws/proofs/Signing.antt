@@ -1,9 +1,8 @@
 -- A signature is accepted exactly where its step is next and people can be seated.
-use Rattle.std.proofs.Common.{◌≡◌, ◌≢◌, ℕ, zero, suc, ◌<◌, true, false, ◌&&◌, List, [], ◌∷◌, map, length, Option, Some, None, is_some, inl, inr, refl, sym, ap, arith, ◌∙◌}
+use Rattle.std.proofs.Common.{◌≡◌, ◌≢◌, ℕ, zero, suc, ◌<◌, true, false, ◌&&◌, List, [], map, length, Option, Some, None, is_some, inl, inr, refl, sym, ap, arith, ◌∙◌}
 use Rattle.std.specs.Prelude.{◌==◌, option_map, unwrap_or}
 use Rattle.std.proofs.lemmas.Bool.{false≢true, and_parts, lt-leb}
 use Rattle.std.proofs.lemmas.Bool.Decides.{nat_tests}
-use Rattle.kcr_base.specs.Refuse.{first_of, NoneHolds}
 use Rattle.kcr_base.specs.declared.refusal.Refusal.{Refusal}
 use Rattle.kcr_base.specs.declared.refusal.Refusal.TheVariants.{Short}
 use Rattle.kcr_history.specs.declared.commands.Act.TheVariants.{Sign}
@@ -21,12 +20,6 @@ use Rattle.kcr_laws.proofs.Shortages.{seating_or_least}
 use Rattle.kcr_laws.proofs.Halves.{one_half}
 
 -- NEXT
-
--- where no refusal of a list holds there is no first one
-pub no_first : (os : List (Option Refusal)) → NoneHolds os → first_of os ≡ None
-no_first [] h = refl
-no_first (None ∷ os) h = no_first os h.1
-no_first (Some r ∷ os) h = absurd (let e : Some r ≡ None = h.0 in cc)
 
 -- a ceremony with a step is planned
 with_step : (o : Option Planned) (k : ℕ) → is_some (step_at (unwrap_or (option_map (λ plan. plan.steps) o) []) k) ≡ true → is_some o ≡ true

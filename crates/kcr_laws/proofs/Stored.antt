@@ -1,14 +1,14 @@
 -- What the rows of a register say of bags and boxes.
-use Rattle.std.proofs.Common.{◌≡◌, ℕ, Bool, true, false, cond, List, [], ◌∷◌, Option, Some, None, is_some, is_none, refl, subst, arith}
+use Rattle.std.proofs.Common.{◌≡◌, ℕ, Bool, true, cond, List, [], ◌∷◌, Option, Some, None, is_some, refl, subst, arith}
 use Rattle.std.specs.List.{list_any, cons_option}
-use Rattle.std.proofs.lemmas.Bool.{true≢false}
 use Rattle.kcr_base.proofs.RefuseLemmas.{unmet}
+use Rattle.kcr_base.proofs.ListLemmas.{there}
+use Rattle.kcr_base.proofs.SameLemmas.{same-is}
 use Rattle.kcr_base.specs.Rows.{or_else}
 use Rattle.kcr_base.specs.Same.{same_text}
 use Rattle.kcr_base.specs.declared.place.Facility.{Facility}
 use Rattle.kcr_base.specs.declared.refusal.Refusal.TheVariants.{Unknown}
 use Rattle.kcr_base.specs.declared.refusal.Thing.TheVariants as Things
-use Rattle.kcr_room.proofs.Agreement.{same-is}
 use Rattle.kcr_custody.specs.declared.Spot.{Spot}
 use Rattle.kcr_custody.specs.declared.Spot.TheVariants.{Table, Spent}
 use Rattle.kcr_custody.specs.Custody.{is_box, spot_of_store}
@@ -21,15 +21,6 @@ use Rattle.kcr_history.specs.Tables.{sealed_serial, boxes, box_row}
 use Rattle.kcr_history.specs.Conditions.{fault, no_bag}
 use Rattle.kcr_history.specs.Machine.{IsRegister}
 use Rattle.kcr_history.proofs.Steps.{took}
-
-pub there : {X : Type 0} (o : Option X) → is_none o ≡ false → is_some o ≡ true
-there None g = absurd (true≢false g)
-there (Some x) g = refl
-
--- what was there is there whatever is said further
-pub still : {X : Type 0} (o p : Option X) → is_some p ≡ true → is_some (or_else o p) ≡ true
-still None p h = h
-still (Some x) p h = refl
 
 -- a bag that was there before says no more than that it is there
 pub moved_there : (t s : List ℕ) (new : Spot) (old : Option Spot) (here : Bool) → (same_text t s ≡ true → is_some old ≡ true) → here ≡ is_some old

@@ -7,7 +7,7 @@ use Rattle.std.proofs.lemmas.Bool.{false≢true, and_parts, not-true, eqb-true, 
 use Rattle.kcr_base.specs.Same.{same_text}
 use Rattle.kcr_base.specs.declared.refusal.Refusal.{Refusal}
 use Rattle.kcr_base.specs.declared.refusal.Refusal.TheVariants.{Short}
-use Rattle.kcr_room.proofs.Agreement.{same-is}
+use Rattle.kcr_base.proofs.SameLemmas.{same-is}
 use Rattle.kcr_room.proofs.Keeping.{present_are_in}
 use Rattle.kcr_script.specs.declared.seat.Seat.{Seat}
 use Rattle.kcr_history.specs.declared.commands.Act.{Act}

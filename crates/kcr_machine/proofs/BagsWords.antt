@@ -1,6 +1,6 @@
 -- What the rows of a view say of bags, items, safes and boxes is what the history says.
 use Rattle.std.proofs.Common.{◌≡◌, ℕ, Bool, true, false, cond, ◌||◌, ◌&&◌, eqb, List, [], ◌∷◌, Option, Some, None, option_map, is_some, is_none, refl, sym, ap}
-use Rattle.std.proofs.Common.{◌∙◌, subst, ◌==◌, arith}
+use Rattle.std.proofs.Common.{◌∙◌, ◌==◌, arith}
 use Rattle.std.specs.Prelude.{unwrap_or}
 use Rattle.std.specs.List.{list_any, cons_option, AllByRecursion}
 use Rattle.std.specs.List.Sorted.{IsPermutation}
@@ -13,7 +13,6 @@ use Rattle.kcr_base.specs.declared.place.Facility.{Facility}
 use Rattle.kcr_base.specs.declared.place.Facility.TheVariants.{East, West}
 use Rattle.kcr_base.specs.declared.refusal.Refusal.TheVariants.{Unknown, Taken}
 use Rattle.kcr_base.specs.declared.refusal.Thing.TheVariants as Things
-use Rattle.kcr_custody.proofs.Puts.{text_same, text_refl}
 use Rattle.kcr_custody.specs.declared.Bag.{Bag}
 use Rattle.kcr_custody.specs.declared.BoxRow.{BoxRow}
 use Rattle.kcr_custody.specs.declared.Item.{Item}
@@ -35,19 +34,21 @@ use Rattle.kcr_history.specs.Views.{is_of_serial, is_item_of}
 use Rattle.kcr_history.specs.Conditions.{conditions, fault, no_item, first_with}
 use Rattle.kcr_history.specs.Machine.{IsRegister}
 use Rattle.kcr_history.proofs.Steps.{took}
-use Rattle.kcr_laws.proofs.Stored.{there, sealed_somewhere, box-there}
+use Rattle.kcr_laws.proofs.Stored.{sealed_somewhere, box-there}
 use Rattle.kcr_base.proofs.RowsLemmas.{filter-order}
+use Rattle.kcr_base.proofs.SameLemmas.{same-is}
+use Rattle.kcr_base.proofs.ListLemmas.{there}
 use Rattle.kcr_base.specs.declared.place.Place.TheVariants.{Rksh}
 use Rattle.kcr_machine.proofs.FirstRefusals.{none-first}
 use Rattle.kcr_machine.proofs.Keyed.{Shown, said-shown, said-view}
-use Rattle.kcr_machine.proofs.Members.{IsIn, any-in, in-any}
+use Rattle.kcr_base.proofs.Members.{IsIn, in-any, listed-in}
 use Rattle.kcr_machine.proofs.Scenes.{said-then, some-where}
 
 -- where the bag is, by the rows of its serial
 pub spot-shown : (A : History) → IsRegister A → (s : List ℕ) (rows : List Bag) → Shown (is_of_serial s) (bags A) rows → spot_by rows s ≡ spot A s
 spot-shown A h s rows p =
     said-view (λ row. same_text row.serial s) (is_of_serial s) (bag_row A) (bag_row A s) (λ row. row.spot) (spot A s) Spent (λ row e. e)
-    (λ k e. ap (bag_row A) (text_same k s e)) (all_said sealed_serial A) rows p
+    (λ k e. ap (bag_row A) (same-is k s e)) (all_said sealed_serial A) rows p
     (sealed_somewhere A h s) refl
 
 -- ITEMS
@@ -71,13 +72,6 @@ added_somewhere (entry ∷ A) k = added_after A entry.command.act k (added_somew
 -- each of the items that a command may list is somewhere
 pub items_known : (A : History) (k : List ℕ) (codes : List (List ℕ)) → first_with (no_item A) codes ≡ None → IsIn k codes → is_some (rest A k) ≡ true
 items_known A k codes n i = there (rest A k) (unmet (is_none (rest A k)) (Unknown (Things.Item k)) (none-first (no_item A) codes n k i))
-
--- a text that a test finds in a list is in it
-pub listed-in : (k : List ℕ) (ks : List (List ℕ)) → list_any (same_text k) ks ≡ true → IsIn k ks
-listed-in k ks h = let a = any-in (same_text k) ks h in subst (λ x. IsIn x ks) (sym (text_same k a.0 a.2)) a.1
-
-pub in-listed : (k : List ℕ) (ks : List (List ℕ)) → IsIn k ks → list_any (same_text k) ks ≡ true
-in-listed k ks i = in-any (same_text k) k ks i (text_refl k)
 
 some_rest : (S : Option (List ℕ)) (D : Option Facility) (inside : List ℕ → Rest)
     → is_some (or_else (option_map inside S) (option_map Loose D)) ≡ (is_some S || is_some D)
@@ -110,7 +104,7 @@ rest-shown : (A : History) → IsRegister A → (of : Item → Bool) (k : List �
     → Shown of (items A) rows → rest_by rows k ≡ rest A k
 rest-shown A h of k own rows p =
     said-view (λ row. same_text row.code k) of (item_row A) (item_row A k) (λ row. row.rest) (rest A k) (Loose East) own
-    (λ j e. ap (item_row A) (text_same j k e)) (all_said added_item A) rows p
+    (λ j e. ap (item_row A) (same-is j k e)) (all_said added_item A) rows p
     (added_rest A h k) refl
 
 -- the same of items that are asked for by their codes

@@ -9,11 +9,11 @@ use Rattle.std.proofs.lemmas.List.Sorted.{list_any-IsPermutation, length_permuta
 use Rattle.kcr_base.specs.Rows.{put}
 use Rattle.kcr_base.specs.Same.{same_facility}
 use Rattle.kcr_base.specs.declared.refusal.Refusal.TheVariants as Refusals
-use Rattle.kcr_base.specs.declared.refusal.Refusal.TheVariants.{Unknown, Range, Taken}
+use Rattle.kcr_base.specs.declared.refusal.Refusal.TheVariants.{Unknown, Taken}
 use Rattle.kcr_base.specs.declared.refusal.Thing.TheVariants as Things
-use Rattle.kcr_base.proofs.RefuseLemmas.{none_holds, unmet}
+use Rattle.kcr_base.proofs.RefuseLemmas.{none_holds, unmet, met}
 use Rattle.kcr_base.proofs.RowsLemmas.{filter-order}
-use Rattle.kcr_people.proofs.Orders.{any-same}
+use Rattle.kcr_base.proofs.ListLemmas.{any-same, some_if, none-there, any-map}
 use Rattle.kcr_history.specs.declared.commands.Act.{Act}
 use Rattle.kcr_history.specs.declared.commands.Act.TheVariants.{Open, Close, Plan, Sign, Except}
 use Rattle.kcr_history.specs.declared.commands.Answer.{Answer}
@@ -32,10 +32,11 @@ use Rattle.kcr_history.specs.Views.{is_of_number, is_step_of}
 use Rattle.kcr_history.specs.Conditions.{conditions, fault, no_ceremony}
 use Rattle.kcr_history.specs.Machine.{IsRegister, with_command}
 use Rattle.kcr_history.proofs.Steps.{took}
+use Rattle.kcr_history.proofs.Piled.{map-stacked}
+use Rattle.kcr_history.proofs.Words.{planned-number}
 use Rattle.kcr_scene.specs.Scene.{ceremony_by}
 use Rattle.kcr_acts.specs.CeremonyRows.{is_open_beside, is_undone, is_undone_of, lies_on_table, planned_row, undone_row, undone_rows}
 use Rattle.kcr_machine.specs.RowDecision.{new_key_row}
-use Rattle.kcr_laws.proofs.Finds.{some_if}
 use Rattle.kcr_base.specs.declared.place.Facility.{Facility}
 use Rattle.kcr_custody.specs.declared.Bag.{Bag}
 use Rattle.kcr_custody.specs.declared.SafeNumber.TheVariants.{One, Two}
@@ -48,7 +49,6 @@ use Rattle.kcr_history.specs.declared.rows.StepState.{StepState}
 use Rattle.kcr_history.specs.declared.rows.StepState.TheVariants.{Signed, Passed}
 use Rattle.kcr_history.specs.Custody.{spot}
 use Rattle.kcr_scene.specs.Signing.{is_done}
-use Rattle.kcr_laws.proofs.Done.{none-there}
 use Rattle.std.specs.Result.{result_unwrap_or}
 use Rattle.kcr_script.specs.Reading.{script_of}
 use Rattle.kcr_history.specs.declared.views.Change.{Change}
@@ -56,12 +56,11 @@ use Rattle.std.proofs.lemmas.List.Filters.{length-filter_both}
 use Rattle.kcr_room.proofs.Lists as RoomLists
 use Rattle.kcr_room.proofs.Lists.{filter-and}
 use Rattle.kcr_machine.proofs.BagsWords.{open-shown}
-use Rattle.kcr_machine.proofs.FirstRefusals.{met}
-use Rattle.kcr_machine.proofs.Keyed.{Shown, any-map, put-at, put-first, put-new}
+use Rattle.kcr_machine.proofs.Keyed.{Shown, put-at, put-first, put-new}
 use Rattle.kcr_machine.proofs.Leads.{FaultShown, Leads, command_of, entry_as, new_key}
-use Rattle.kcr_machine.proofs.Members.{IsIn, map-same-in, none-in, none-passes, same-answers}
+use Rattle.kcr_base.proofs.Members.{IsIn, map-same-in, none-in, none-passes, same-answers}
 use Rattle.kcr_machine.proofs.Scenes.{ceremony-shown, known-shown, mark-after, mark-shown, marked-opened, open-opened, open-state, opened-number}
-use Rattle.kcr_machine.proofs.Scenes.{opened-planned, planned-number, said-then, some-where, turned}
+use Rattle.kcr_machine.proofs.Scenes.{opened-planned, said-then, some-where, turned}
 use Rattle.kcr_machine.proofs.StepRows.{done-shown, keys-planned, steps-count}
 use Rattle.kcr_machine.proofs.UsedRooms.{used-shown}
 
@@ -81,7 +80,7 @@ busy-shown A c rows p =
     ∙ any-map (is_open_beside (ceremony_row A c)) (ceremony_row A) (all_said planned_number A)
     ∙ any-same (λ other. is_open_beside (ceremony_row A c) (ceremony_row A other))
     (λ other. not (eqb other c) && same_facility (facility_of A other) (facility_of A c) && is_open A other)
-    (λ other. ap (λ b. not (eqb other c) && same_facility (facility_of A other) (facility_of A c) && b) (open-state A other)) (all_said planned_number A)
+    (all_said planned_number A) (λ other. ap (λ b. not (eqb other c) && same_facility (facility_of A other) (facility_of A c) && b) (open-state A other))
 
 pub open-fault : (A : History) (c at : ℕ) → FaultShown A (Open c at)
 open-fault A c at key view v =
@@ -191,7 +190,7 @@ table-shown A facility rows p =
     sym (list_any-IsPermutation (lies_on_table facility) (bags A) rows p)
     ∙ any-map (lies_on_table facility) (bag_row A) (all_said sealed_serial A)
     ∙ any-same (λ serial. lies_on_table facility (bag_row A serial)) (λ serial. is_on_table facility (spot A serial))
-    (λ serial. spent facility (spot A serial)) (all_said sealed_serial A)
+    (all_said sealed_serial A) (λ serial. spent facility (spot A serial))
 
 -- THE KIND
 
@@ -256,10 +255,6 @@ done-planned (entry ∷ A) h c k e =
 -- what implies that a ceremony was planned is not so of one that was not
 not-planned : {X : Type 0} (o : Option X) (b : Bool) → (is_some o ≡ true → b ≡ true) → b ≡ false → o ≡ None
 not-planned o b imp e = none-there o (false_from_ne_true (is_some o) (λ i. true≢false (sym (imp i) ∙ e)))
-
-map-stacked : {X Y : Type 0} (f : X → Y) (xs ys : List X) → map f (stacked_on xs ys) ≡ stacked_on (map f xs) (map f ys)
-map-stacked f [] ys = refl
-map-stacked f (x ∷ xs) ys = map-stacked f xs (x ∷ ys)
 
 -- THE STEPS' ROWS
 

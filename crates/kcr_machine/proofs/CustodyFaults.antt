@@ -21,8 +21,8 @@ use Rattle.kcr_custody.specs.declared.SafeRow.{SafeRow}
 use Rattle.kcr_custody.specs.declared.Store.{Store}
 use Rattle.kcr_custody.specs.declared.Store.TheVariants.{SafeOne, Boxed}
 use Rattle.kcr_custody.specs.Custody
-use Rattle.kcr_custody.specs.Custody.{spot_by, rest_by, is_loose_at, is_on_table, safe_of, safe_of_store, box_of, box_of_store, place_of, not_ready}
-use Rattle.kcr_custody.specs.Custody.{seal_refusal, take_refusal, put_refusal, cut_refusal, add_item_refusal, is_box, same_safe, same_truth, is_open_by}
+use Rattle.kcr_custody.specs.Custody.{rest_by, is_loose_at, is_on_table, safe_of, safe_of_store, box_of, box_of_store, place_of, not_ready}
+use Rattle.kcr_custody.specs.Custody.{seal_refusal, take_refusal, put_refusal, cut_refusal, add_item_refusal, is_box, same_truth}
 use Rattle.kcr_custody.specs.Custody.{turn_refusal}
 use Rattle.kcr_history.specs.declared.commands.Act.TheVariants.{Seal, Take, Put, Cut, AddItem, AddBox, TurnSafe}
 use Rattle.kcr_history.specs.declared.views.View.{View}
@@ -50,7 +50,7 @@ use Rattle.kcr_machine.proofs.FirstRefusals.{first-found}
 use Rattle.kcr_machine.proofs.InRoom.{attended-shown, holder_in-shown, in-shown, trained-own}
 use Rattle.kcr_machine.proofs.Keyed.{Shown}
 use Rattle.kcr_machine.proofs.Leads.{FaultShown}
-use Rattle.kcr_machine.proofs.Members.{IsIn, all-same-in}
+use Rattle.kcr_base.proofs.Members.{IsIn, all-same-in}
 use Rattle.kcr_machine.proofs.People.{person-shown}
 use Rattle.kcr_machine.proofs.Scenes.{facility-shown, ready-by, scene-shown, scene_of}
 

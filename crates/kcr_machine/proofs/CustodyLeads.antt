@@ -4,14 +4,16 @@ use Rattle.std.proofs.Common.{sym, ap, ◌∙◌, ◌++◌, subst, arith}
 use Rattle.std.specs.Prelude.{unwrap_or}
 use Rattle.std.specs.List.{list_any}
 use Rattle.std.proofs.lemmas.List.Sorted.{IsPermutation-sym}
+use Rattle.std.proofs.lemmas.Bool.{or_parts}
 use Rattle.kcr_base.proofs.RefuseLemmas.{none_holds, unmet}
+use Rattle.kcr_base.proofs.SameLemmas.{same-itself, same-is, same-turned}
+use Rattle.kcr_base.proofs.ListLemmas.{there, still}
 use Rattle.kcr_base.specs.Refuse.{when}
 use Rattle.kcr_base.specs.Rows.{or_else, put, put_all}
 use Rattle.kcr_base.specs.Same.{same_text, same_facility}
 use Rattle.kcr_base.specs.declared.place.Facility.{Facility}
 use Rattle.kcr_base.specs.declared.place.Facility.TheVariants.{East, West}
 use Rattle.kcr_base.specs.declared.refusal.Refusal.TheVariants.{Unknown, Taken, Elsewhere}
-use Rattle.kcr_custody.proofs.Puts.{text_same, text_refl, text_flip}
 use Rattle.kcr_custody.specs.declared.Item.{Item}
 use Rattle.kcr_custody.specs.declared.Rest.{Rest}
 use Rattle.kcr_custody.specs.declared.Rest.TheVariants.{Loose, Within}
@@ -29,7 +31,7 @@ use Rattle.kcr_history.specs.Custody.{moved, spot, is_spent, sealed_in, cut_at, 
 use Rattle.kcr_history.specs.Tables.{bags, bag_row, sealed_serial, items, item_row, added_item, Tables, tables, safes, boxes}
 use Rattle.kcr_history.specs.Conditions.{conditions, fault, no_bag}
 use Rattle.kcr_history.specs.Machine.{IsRegister, with_command}
-use Rattle.kcr_laws.proofs.Stored.{there, sealed_somewhere, box-there}
+use Rattle.kcr_laws.proofs.Stored.{sealed_somewhere, box-there}
 use Rattle.kcr_custody.specs.declared.Bag.{Bag}
 use Rattle.kcr_history.specs.declared.views.Change.{Change}
 use Rattle.kcr_history.specs.declared.views.Change.TheVariants.{PutBag, PutItem, PutMark, PutKey}
@@ -40,14 +42,13 @@ use Rattle.kcr_custody.specs.declared.SafeNumber.TheVariants.{One, Two}
 use Rattle.kcr_custody.specs.declared.SafeRow.{SafeRow}
 use Rattle.kcr_base.specs.declared.place.Place.{Place}
 use Rattle.kcr_custody.specs.declared.BoxRow.{BoxRow}
-use Rattle.kcr_history.proofs.Stacked.{or_parts}
 use Rattle.kcr_room.proofs.Lists.{map-same, map-map}
 use Rattle.kcr_base.specs.declared.refusal.Thing.TheVariants as Things
-use Rattle.kcr_machine.proofs.BagsWords.{added_rest, in-listed, items_known, listed-in}
+use Rattle.kcr_machine.proofs.BagsWords.{added_rest, items_known}
 use Rattle.kcr_machine.proofs.Keyed.{Shown, put-at, put-first, put-new, put-rows}
 use Rattle.kcr_machine.proofs.Leads.{LeadsOn, changed_by-rows, command_of, entry_as, new_key}
-use Rattle.kcr_machine.proofs.Members.{IsIn, filter-in, in-any, in-filter, in-map, in-order, map-in, map-same-in, same-answers}
-use Rattle.kcr_machine.proofs.Scenes.{facility-shown, marks-put, still}
+use Rattle.kcr_base.proofs.Members.{IsIn, filter-in, in-any, in-filter, in-map, in-order, map-in, map-same-in, same-answers, listed-in, in-listed}
+use Rattle.kcr_machine.proofs.Scenes.{facility-shown, marks-put}
 
 -- the history with an act accepted after it
 abbrev then_act : History → List ℕ → Act → Answer → History
@@ -115,7 +116,7 @@ no_bag_yet A k h = grind arith
 items-added : (A : History) → IsRegister A → (key : List ℕ) (answer : Answer) (c : ℕ) (item : List ℕ) (at : ℕ) → is_some (rest A item) ≡ false
     → put same_item (record { code = item; rest = Loose (facility_of A c) }) (items A) ≡ items (with_command A (command_of key (AddItem c item at)) answer)
 items-added A h key answer c item at free =
-    put-first same_item (item_row A) (item_row B) (record { code = item; rest = Loose (facility_of A c) }) (λ k e. rw (text_flip item k ∙ e) refl)
+    put-first same_item (item_row A) (item_row B) (record { code = item; rest = Loose (facility_of A c) }) (λ k e. rw (same-turned item k ∙ e) refl)
     (all_said added_item A) (added_rest A h item ∙ free)
     ∙ ap (λ row. row ∷ map (item_row B) (all_said added_item A)) own
   where
@@ -123,7 +124,7 @@ items-added A h key answer c item at free =
     B = with_command A (command_of key (AddItem c item at)) answer
 
     own : record { code = item; rest = Loose (facility_of A c) } ≡ item_row B item
-    own = rw (no_bag_yet A item free, text_refl item) refl
+    own = rw (no_bag_yet A item free, same-itself item) refl
 
 pub add_item-leads : (A : History) → IsRegister A → (c : ℕ) (item : List ℕ) (at : ℕ) → LeadsOn A (AddItem c item at)
 add_item-leads A h c item at key view answer v k f =
@@ -146,14 +147,14 @@ bags_moved : (A : History) → IsRegister A → (t : List ℕ) (to : Spot) → n
     → put same_bag (record { serial = t; spot = to }) (bags A) ≡ map (moved_row A t to) (all_said sealed_serial A)
 bags_moved A h t to n =
     put-at same_bag (bag_row A) (moved_row A t to) (record { serial = t; spot = to })
-    (λ k e. let q : k ≡ t = text_same k t e in rw (q, text_refl t) refl) (λ k e. rw (text_flip t k ∙ e) refl)
+    (λ k e. let q : k ≡ t = same-is k t e in rw (q, same-itself t) refl) (λ k e. rw (same-turned t k ∙ e) refl)
     (all_said sealed_serial A) (sealed_somewhere A h t ∙ there (spot A t) (unmet (is_none (spot A t)) (Unknown (Things.Bag t)) n))
 
 -- the row of a new bag is put in front
 bags_sealed : (A : History) → IsRegister A → (t : List ℕ) (to : Spot) → is_some (spot A t) ≡ false
     → put same_bag (record { serial = t; spot = to }) (bags A) ≡ record { serial = t; spot = to } ∷ map (moved_row A t to) (all_said sealed_serial A)
 bags_sealed A h t to new =
-    put-first same_bag (bag_row A) (moved_row A t to) (record { serial = t; spot = to }) (λ k e. rw (text_flip t k ∙ e) refl) (all_said sealed_serial A)
+    put-first same_bag (bag_row A) (moved_row A t to) (record { serial = t; spot = to }) (λ k e. rw (same-turned t k ∙ e) refl) (all_said sealed_serial A)
     (sealed_somewhere A h t ∙ new)
 
 -- ITEMS OF A BAG THAT IS TAKEN OR PUT
@@ -167,7 +168,7 @@ in_moved A t to s = cond (is_spent (or_else (cond (same_text t s) (Some to) None
 
 -- a bag that is not spent, moved to where it is not either, leaves its items in it
 still_in : (A : History) (t : List ℕ) (to : Spot) → is_spent (spot A t) ≡ false → is_spent (Some to) ≡ false → (s : List ℕ) → rest_in A s ≡ in_moved A t to s
-still_in A t to u v s = grind (arith, text_same t s)
+still_in A t to u v s = grind (arith, same-is t s)
 
 items_stay : (A : History) (t : List ℕ) (to : Spot) → is_spent (spot A t) ≡ false → is_spent (Some to) ≡ false → (ks : List (List ℕ))
     → map (item_row A) ks ≡ map (λ k. record { code = k; rest = unwrap_or (or_else (option_map (in_moved A t to) (last_bag A k)) (added A k)) (Loose East) }) ks
@@ -191,7 +192,7 @@ stored_there facility to = grind arith
 
 sealed_spot_after : (A : History) (act : Act) (k s : List ℕ) → (last_said (sealed_in k) A ≡ Some s → is_some (spot A s) ≡ true)
     → or_else (sealed_in k act) (last_said (sealed_in k) A) ≡ Some s → is_some (or_else (moved (facility_of A) s act) (spot A s)) ≡ true
-sealed_spot_after A (Seal c serial codes at) k s ih e = grind (arith, text_refl s)
+sealed_spot_after A (Seal c serial codes at) k s ih e = grind (arith, same-itself s)
 sealed_spot_after A act k s ih e = still (moved (facility_of A) s act) (spot A s) (ih e)
 
 -- a bag that an item was sealed in is somewhere
@@ -203,7 +204,7 @@ sealed_spot (entry ∷ A) k s e = sealed_spot_after A entry.command.act k s (sea
 sealed_row : (A : History) (key : List ℕ) (c : ℕ) (serial : List ℕ) (codes : List (List ℕ)) (at : ℕ) (answer : Answer) → is_some (spot A serial) ≡ false
     → (k : List ℕ)
     → cond (list_any (same_text k) codes) (within serial k) (item_row A k) ≡ item_row (then_act A key (Seal c serial codes at) answer) k
-sealed_row A key c serial codes at answer n k = grind (arith, text_refl serial, text_same serial, sealed_spot A k)
+sealed_row A key c serial codes at answer n k = grind (arith, same-itself serial, same-is serial, sealed_spot A k)
 
 items-seal : (A : History) → IsRegister A → (key : List ℕ) (c : ℕ) (serial : List ℕ) (codes : List (List ℕ)) (at : ℕ) (answer : Answer)
     → fault A (Seal c serial codes at) ≡ None
@@ -212,7 +213,7 @@ items-seal A h key c serial codes at answer n =
     let met = none_holds (conditions A (Seal c serial codes at)) n in
     put-rows same_item (λ c k. same_text k c) (within serial) (λ c k. refl) (all_said added_item A) codes
     (λ code i. added_rest A h code ∙ items_known A code codes met.1.0 i)
-    (λ c k i j e. ap (within serial) (sym (text_same k c e))) (item_row A) (λ c k. refl)
+    (λ c k i j e. ap (within serial) (sym (same-is k c e))) (item_row A) (λ c k. refl)
     ∙ map-same (λ k. cond (list_any (same_text k) codes) (within serial k) (item_row A k)) (item_row (then_act A key (Seal c serial codes at) answer))
     (all_said added_item A)
     (sealed_row A key c serial codes at answer (unmet (is_some (spot A serial)) Taken (assumption met)))
@@ -226,7 +227,7 @@ itemed code rest = record { code = code; rest = rest }
 cut_row : (A : History) (key : List ℕ) (c : ℕ) (t : List ℕ) (at : ℕ) (answer : Answer) → is_spent (spot A t) ≡ false → (k : List ℕ)
     → cond (is_within t (unwrap_or (rest A k) (Loose East))) (itemed k (Loose (facility_of A c))) (item_row A k)
     ≡ item_row (then_act A key (Cut c t at) answer) k
-cut_row A key c t at answer n k = grind (arith, text_refl t, text_same t, text_flip t)
+cut_row A key c t at answer n k = grind (arith, same-itself t, same-is t, same-turned t)
 
 abbrev itemed_loose : Facility → List ℕ → Item
 itemed_loose facility code = record { code = code; rest = Loose facility }
@@ -262,8 +263,8 @@ items-cut A key c t at answer n rows p =
     let codes = codes_in A t rows p in
     ap (λ changes. put_all same_item changes (items A)) (sym (map-map (itemed_loose here) (λ (row : Item). row.code) (filter (lies_in t) rows)))
     ∙ put-rows same_item (λ c k. same_text k c) (itemed_loose here) (λ c k. refl) all codes
-    (λ code i. in-any (λ k. same_text k code) code all (code-in A t rows p code i).0 (text_refl code))
-    (λ c k i j e. ap (itemed_loose here) (sym (text_same k c e))) (item_row A) (λ c k. refl)
+    (λ code i. in-any (λ k. same_text k code) code all (code-in A t rows p code i).0 (same-itself code))
+    (λ c k i j e. ap (itemed_loose here) (sym (same-is k c e))) (item_row A) (λ c k. refl)
     ∙ map-same-in (λ k. cond (list_any (same_text k) codes) (itemed_loose here k) (item_row A k)) (item_row (then_act A key (Cut c t at) answer)) all
     (λ k i. ap (λ b. cond b (itemed_loose here k) (item_row A k)) (lies-told A t rows p k i)
     ∙ cut_row A key c t at answer (on_table here (spot A t) (assumption (none_holds (conditions A (Cut c t at)) n))) k)
@@ -322,7 +323,7 @@ seal-leads A h c t codes at key view answer v k f =
       items-seal A h key c t codes at answer f,
       new_key A (command_of key act) answer k,
     )
-    (rw (text_refl t) refl)
+    (rw (same-itself t) refl)
 
 pub cut-leads : (A : History) → IsRegister A → (c : ℕ) (t : List ℕ) (at : ℕ) → LeadsOn A (Cut c t at)
 cut-leads A h c t at key view answer v k f =

@@ -8,15 +8,16 @@ use Rattle.kcr_base.specs.Same.{same_text}
 use Rattle.kcr_base.specs.declared.place.Place.{Place}
 use Rattle.kcr_base.specs.declared.place.Role.{Role}
 use Rattle.kcr_base.proofs.RowsLemmas.{filter-order}
+use Rattle.kcr_base.proofs.ListLemmas.{any-same}
 use Rattle.kcr_people.specs.declared.Appointment.{Appointment}
 use Rattle.kcr_people.specs.declared.Training.{Training}
 use Rattle.kcr_people.specs.declared.Withdrawal.{Withdrawal}
 use Rattle.kcr_people.specs.People.{trained_by, holder_by, holds}
-use Rattle.kcr_people.proofs.Orders.{any-same, trained-order}
+use Rattle.kcr_people.proofs.Orders.{trained-order}
 use Rattle.kcr_room.specs.declared.Stay.{Stay}
 use Rattle.kcr_room.specs.Room.{ascending}
 use Rattle.kcr_room.specs.Stays as Stays
-use Rattle.kcr_room.specs.Stays.{lasts_at, present_in_by, stays_by}
+use Rattle.kcr_room.specs.Stays.{present_in_by, stays_by}
 use Rattle.kcr_room.proofs.Lists.{filter-kept}
 use Rattle.kcr_room.proofs.Agreement.{same-present}
 use Rattle.kcr_room.proofs.Orders.{present-order}
@@ -78,7 +79,7 @@ pub attended-shown : (A : History) → IsRegister A → (view : View) (c : ℕ) 
     → (role : Role) (t : ℕ) → is_attended_by view role c t ≡ Rooms.is_attended_by A role c t
 attended-shown A h view c s p q role t =
     any-same (λ who. trained_by view.trainings.items view.withdrawals.items who role (day_of t)) (λ who. trained A who role (day_of t))
-    (λ who. trained-all A h view.trainings.items view.withdrawals.items p q who role (day_of t)) (present_in_by view.stays.items c t)
+    (present_in_by view.stays.items c t) (λ who. trained-all A h view.trainings.items view.withdrawals.items p q who role (day_of t))
     ∙ ap (list_any (λ who. trained A who role (day_of t))) (present-shown A c view.stays.items s t)
 
 -- who holds a place, by all appointments

@@ -9,15 +9,10 @@ use Rattle.std.proofs.lemmas.List.Sorted.{list_any-IsPermutation, All-permutatio
 use Rattle.std.proofs.lemmas.List.Elements.{All-from_recursion, recursion_from_All, All-filter}
 use Rattle.kcr_base.specs.Rows.{put, put_all}
 use Rattle.kcr_base.proofs.RowsLemmas.{filter-order}
+use Rattle.kcr_base.proofs.ListLemmas.{any-same, find-none, none-find, some-find, find-all, some_if, any-map, Only, all-keys, only-order}
 use Rattle.kcr_room.proofs.Lists as RoomLists
-use Rattle.kcr_room.proofs.Lists.{any-same, map-map, filter-kept}
-use Rattle.kcr_history.proofs.Stacked.{find-none}
-use Rattle.kcr_laws.proofs.Finds.{some_if, find-all, none-find, some-find}
-use Rattle.kcr_machine.proofs.Members.{IsIn, Implies, map-same-in}
-
-pub any-map : {X Y : Type 0} (test : Y → Bool) (f : X → Y) (xs : List X) → list_any test (map f xs) ≡ list_any (λ x. test (f x)) xs
-any-map test f [] = refl
-any-map test f (x ∷ xs) = ap (λ b. test (f x) || b) (any-map test f xs)
+use Rattle.kcr_room.proofs.Lists.{map-map, filter-kept}
+use Rattle.kcr_base.proofs.Members.{IsIn, Implies, map-same-in}
 
 -- ROWS THAT ARE SHOWN: those of a table that pass `of`, in any order. Only such rows pass the test
 
@@ -49,17 +44,13 @@ unfilter P of other (x ∷ rows) a = elim (cases_Bool (of x)) [
   | inr e ↦ (other x e, unfilter P of other rows (rw e at a))
 ]
 
--- all rows that pass are this one
-abbrev pub Only : {X : Type 0} → (X → Bool) → X → List X → Type 0
-Only test v rows = AllByRecursion (λ x. test x ≡ true → x ≡ v) rows
-
 -- where all rows of the table that pass are one, that one is found
 pub found-shown : {X : Type 0} (test of : X → Bool) (v : X) → Implies test of → (table rows : List X) → Shown of table rows
     → Only test v table → find test rows ≡ some_if (list_any test table) v
 found-shown {X} test of v inside table rows p only =
     let P : X → Type 0 = λ x. test x ≡ true → x ≡ v in
-    let shown = recursion_from_All P (filter of rows)
-    (All-permutation P (filter of table) (filter of rows) p (All-filter of P table (All-from_recursion P table only))) in
+    let kept = recursion_from_All P (filter of table) (All-filter of P table (All-from_recursion P table only)) in
+    let shown = only-order test v (filter of table) (filter of rows) p kept in
     find-all test v rows (unfilter P of (λ x e t. absurd (both_ways (of x) e (inside x t))) rows shown)
     ∙ ap (λ b. some_if b v) (any-shown test of inside table rows p)
 
@@ -78,11 +69,6 @@ pub said-shown : {X Y : Type 0} (test of : X → Bool) (v : X) (says : X → Y) 
 said-shown test of v says said other inside table rows p only there own = grind (arith, found-shown test of v inside table rows p only)
 
 -- THE SAME OF ROWS THAT ARE FUNCTIONS OF THEIR KEYS
-
-all-keys : {K X : Type 0} (test : X → Bool) (row_of : K → X) (v : X) → ((k : K) → test (row_of k) ≡ true → row_of k ≡ v) → (keys : List K)
-    → Only test v (map row_of keys)
-all-keys test row_of v same [] = tt
-all-keys test row_of v same (k ∷ keys) = (same k, all-keys test row_of v same keys)
 
 pub find-view : {K X : Type 0} (test of : X → Bool) (row_of : K → X) (v : X) → Implies test of → ((k : K) → test (row_of k) ≡ true → row_of k ≡ v)
     → (keys : List K) (rows : List X) → Shown of (map row_of keys) rows → find test rows ≡ some_if (list_any (λ k. test (row_of k)) keys) v

@@ -4,6 +4,7 @@ use Rattle.std.specs.List.Sorted.{IsPermutation}
 use Rattle.std.proofs.lemmas.List.Sorted.{IsPermutation-refl}
 use Rattle.std.specs.Prelude.{Bool}
 use Rattle.kcr_base.specs.Rows.{put, put_all}
+use Rattle.kcr_base.proofs.ListLemmas.{none-find}
 use Rattle.kcr_people.specs.declared.Withdrawal.{Withdrawal}
 use Rattle.kcr_room.specs.declared.SheetRow.{SheetRow}
 use Rattle.kcr_room.specs.declared.Stay.{Stay}
@@ -22,7 +23,6 @@ use Rattle.kcr_history.specs.Views.{is_of_key, IsViewOf}
 use Rattle.kcr_history.specs.Asked.{asks_by}
 use Rattle.kcr_history.specs.Conditions.{fault, is_full}
 use Rattle.kcr_history.proofs.Words.{row_of_key-keys}
-use Rattle.kcr_laws.proofs.Finds.{none-find}
 use Rattle.kcr_acts.specs.ByRows.{changes_by, refusal_by, all_changes_by}
 use Rattle.kcr_machine.specs.RowDecision.{new_key_row}
 use Rattle.kcr_machine.proofs.Keyed.{put-new}

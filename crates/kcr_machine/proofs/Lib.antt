@@ -1,4 +1,3 @@
-pub mod Members
 pub mod FirstRefusals
 pub mod Keyed
 pub mod Leads

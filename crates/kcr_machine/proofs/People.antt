@@ -2,7 +2,7 @@
 use Rattle.std.proofs.Common.{◌≡◌, ℕ, true, false, ◌||◌, ◌&&◌, nat_le, max, List, filter, refl, sym, ap, ◌∙◌, subst, arith, [], ◌∷◌, map, None}
 use Rattle.std.specs.List.{list_any}
 use Rattle.std.specs.List.Sorted.{IsPermutation}
-use Rattle.std.proofs.lemmas.Bool.{leb-true, le-leb, or_left}
+use Rattle.std.proofs.lemmas.Bool.{leb-true, le-leb, or_left, or_parts}
 use Rattle.std.proofs.lemmas.List.Sorted.{IsPermutation-map, list_any-IsPermutation, IsPermutation-refl, IsPermutation-sym}
 use Rattle.kcr_base.specs.Same.{same_text, same_place}
 use Rattle.kcr_base.specs.declared.place.Role.{Role}
@@ -11,7 +11,6 @@ use Rattle.kcr_people.specs.declared.Withdrawal.{Withdrawal}
 use Rattle.kcr_people.specs.People.{is_of, is_withdrawn_by, covers, trains, trained_by, trained_from_by, ends_from, least_day, withdrawal_of, withdrawn_rows}
 use Rattle.kcr_people.specs.People.{is_person_by, ever_trained_by, ever_put_by, same_training, lasts_beyond, open_row_by, stands, end_of, nobody}
 use Rattle.kcr_people.specs.People.{place_held_from_by, person_holds_from_by}
-use Rattle.kcr_people.proofs.Orders.{any-same}
 use Rattle.kcr_people.proofs.Withdrawn.{is_of-true, least-day}
 use Rattle.kcr_history.specs.Views.{is_training_of, is_withdrawal_of, is_of_people, is_appointment_of, IsViewOf}
 use Rattle.std.specs.Cmp.Lexicographic.{bytes_decides}
@@ -28,7 +27,7 @@ use Rattle.kcr_history.specs.Asked.{asks_by}
 use Rattle.kcr_history.specs.Conditions.{conditions}
 use Rattle.kcr_history.specs.Machine.{IsRegister, with_command}
 use Rattle.kcr_history.proofs.Words.{is_person-people, ever_trained-trainings, is_training-trainings, ever_put-appointments}
-use Rattle.kcr_history.proofs.Stacked.{open-order, only-one, or_parts, closing, lasts-ended, no_begin, put-ended}
+use Rattle.kcr_history.proofs.Stacked.{open-order, only-one, closing, lasts-ended, no_begin, put-ended}
 use Rattle.kcr_history.proofs.Orderly.{orderly, standing}
 use Rattle.kcr_history.proofs.Settled.{settled-rows}
 use Rattle.kcr_acts.specs.ByRows.{changes_by, new_appointment}
@@ -36,6 +35,7 @@ use Rattle.kcr_base.specs.Rows.{put, put_all}
 use Rattle.kcr_base.specs.declared.refusal.Refusal.TheVariants.{Taken, Held, Range, Vacant}
 use Rattle.kcr_base.proofs.RefuseLemmas.{none_holds, unmet}
 use Rattle.kcr_base.proofs.RowsLemmas.{put_all-order}
+use Rattle.kcr_base.proofs.ListLemmas.{any-same}
 use Rattle.kcr_people.specs.Laws.{same_withdrawn}
 use Rattle.kcr_people.proofs.Keys.{same_withdrawn-keys, withdrawn_rows-apart}
 use Rattle.kcr_history.specs.declared.commands.Answer.{Answer}
@@ -46,7 +46,7 @@ use Rattle.kcr_history.proofs.Distinct.{trainings-apart}
 use Rattle.kcr_machine.specs.RowDecision.{new_key_row}
 use Rattle.kcr_machine.proofs.Keyed.{Shown, any-shown, filter-shown, find-shown, put-new}
 use Rattle.kcr_machine.proofs.Leads.{FaultShown, LeadsOn, changed_by-rows, changed_with, command_of, new_key, other-order}
-use Rattle.kcr_machine.proofs.Members.{in-filter, map-same-in}
+use Rattle.kcr_base.proofs.Members.{in-filter, map-same-in}
 
 -- WITHDRAWALS
 
@@ -74,7 +74,7 @@ trains-any : (who : List ℕ) (ts us : List Training) (ws vs : List Withdrawal) 
     → (role : Role) (on : Training → ℕ)
     → list_any (λ row. trains vs who role (on row) row) us ≡ list_any (λ row. trains ws who role (on row) row) ts
 trains-any who ts us ws vs p q role on =
-    any-same (λ row. trains vs who role (on row) row) (λ row. trains ws who role (on row) row) (λ row. trains-shown who ws vs q role (on row) row) us
+    any-same (λ row. trains vs who role (on row) row) (λ row. trains ws who role (on row) row) us (λ row. trains-shown who ws vs q role (on row) row)
     ∙ any-shown (λ row. trains ws who role (on row) row) (is_training_of who)
     (λ row h. covers-who who role (on row) row (grind arith)) ts us p
 

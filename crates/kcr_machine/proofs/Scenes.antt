@@ -9,7 +9,8 @@ use Rattle.kcr_base.specs.Refuse.{first_of}
 use Rattle.kcr_base.specs.declared.refusal.Refusal.{Refusal}
 use Rattle.kcr_base.specs.declared.refusal.Refusal.TheVariants.{Unknown, State}
 use Rattle.kcr_base.specs.declared.refusal.Thing.TheVariants as Things
-use Rattle.kcr_base.proofs.RefuseLemmas.{none_holds}
+use Rattle.kcr_base.proofs.RefuseLemmas.{none_holds, met, behind}
+use Rattle.kcr_base.proofs.ListLemmas.{some_if}
 use Rattle.kcr_custody.specs.declared.Scene.{Scene}
 use Rattle.kcr_custody.specs.Custody.{not_ready}
 use Rattle.kcr_history.specs.declared.commands.Act.{Act}
@@ -26,19 +27,14 @@ use Rattle.kcr_history.specs.Views.{is_of_number, is_mark_of}
 use Rattle.kcr_history.specs.Conditions.{conditions, fault, is_full, full, not_open, is_late, late}
 use Rattle.kcr_history.specs.Machine.{IsRegister}
 use Rattle.kcr_history.proofs.Steps.{took}
+use Rattle.kcr_history.proofs.Words.{planned-number}
 use Rattle.kcr_scene.specs.Scene.{ceremony_by, facility_by, is_open_row, mark_by, scene_by}
-use Rattle.kcr_laws.proofs.Finds.{some_if}
-use Rattle.kcr_machine.proofs.FirstRefusals.{behind, met}
 use Rattle.kcr_machine.proofs.Keyed.{Shown, find-view, put-at, said-view}
 
 pub turned : (a b : ℕ) → eqb b a ≡ false → eqb a b ≡ false
 turned a b h = false_from_ne_true (eqb a b) (λ e. true≢false (sym (eq-eqb b a (sym (eqb-true a b e))) ∙ h))
 
 -- WHAT IS SAID ONLY OF WHAT WAS SAID BEFORE
-
--- by one more command something is said still
-pub still : {X : Type 0} (o p : Option X) → is_some p ≡ true → is_some (or_else o p) ≡ true
-still o p e = grind arith
 
 -- what is said only after something else was said, by one more command as before it
 pub said-then : {X Y : Type 0} (o p : Option X) (q r : Option Y) → (is_some o ≡ true → is_some r ≡ true) → (is_some p ≡ true → is_some r ≡ true)
@@ -49,16 +45,6 @@ pub some-where : {X : Type 0} (b : Bool) (x : X) → is_some (cond b (Some x) No
 some-where b x e = grind arith
 
 -- THE CEREMONY
-
--- a ceremony has a row where it was planned
-planned_after : (act : Act) (c : ℕ) (numbers : List ℕ) (plan : Option Planned) → list_any (λ k. eqb k c) numbers ≡ is_some plan
-    → list_any (λ k. eqb k c) (cons_option (planned_number act) numbers) ≡ is_some (or_else (planned_as c act) plan)
-planned_after (Plan number facility day script) c numbers plan ih = grind arith
-planned_after act c numbers plan ih = ih
-
-pub planned-number : (A : History) (c : ℕ) → list_any (λ k. eqb k c) (all_said planned_number A) ≡ is_ceremony A c
-planned-number [] c = refl
-planned-number (entry ∷ A) c = planned_after entry.command.act c (all_said planned_number A) (plan_of A c) (planned-number A c)
 
 -- the row of the ceremony, where it was planned
 pub ceremony-shown : (A : History) (c : ℕ) (rows : List CeremonyRow) → Shown (is_of_number c) (ceremonies A) rows

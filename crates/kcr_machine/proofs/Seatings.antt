@@ -8,7 +8,6 @@ use Rattle.std.proofs.lemmas.Bool.{true_from_ne_false, true≢false}
 use Rattle.std.proofs.lemmas.List.{length-map, get_or-map}
 use Rattle.std.proofs.lemmas.List.Folds.{list_any_at, list_all_at}
 use Rattle.kcr_base.specs.Same.{same_text, is_before}
-use Rattle.kcr_room.proofs.Agreement.{same-is, same-itself}
 use Rattle.kcr_room.proofs.Orders.{before-turned}
 use Rattle.kcr_script.specs.declared.seat.Seat.{Seat}
 use Rattle.kcr_seats.specs.Seating as Search
@@ -16,6 +15,8 @@ use Rattle.kcr_seats.specs.Seating.{count_below, can_take}
 use Rattle.kcr_scene.specs.Signing.{on_seat, fits_of}
 use Rattle.std.specs.List.Sorted.{IsStrictlyIncreasing}
 use Rattle.kcr_base.specs.Days.{day_of}
+use Rattle.kcr_base.proofs.SameLemmas.{same-is, same-itself}
+use Rattle.kcr_base.proofs.ListLemmas.{any-same}
 use Rattle.kcr_room.specs.Laws.{are_rising}
 use Rattle.kcr_room.proofs.Keeping.{present_are_in}
 use Rattle.kcr_room.proofs.Rising.{present_are_rising}
@@ -24,7 +25,6 @@ use Rattle.kcr_history.specs.Ceremonies.{facility_of}
 use Rattle.kcr_history.specs.Room.{sheet, present}
 use Rattle.kcr_history.specs.Seating.{fits, eligible, is_seating, comes_first, IsFirst, is_eligible_at, who_fit, rise, is_short, IsLeast}
 use Rattle.std.proofs.lemmas.List.Elements.{filter_agree}
-use Rattle.kcr_people.proofs.Orders.{any-same}
 use Rattle.kcr_laws.proofs.Hall.{is_one}
 use Rattle.kcr_seats.proofs.Counting.{length_under, count_all}
 use Rattle.kcr_seats.proofs.Least.{rising_apart}
@@ -155,7 +155,7 @@ module _ (E F : Seat → List ℕ → Bool) (L : List Seat) (P : List (List ℕ)
   pub takers : (S : List ℕ) → count_below (can_take (fits_of F L P) S) (length P) ≡ length (filter (can_take_one E L S) P)
   takers S =
       count-agree (can_take (fits_of F L P) S) (λ p. can_take_one E L S (get_or P p [])) (length P)
-      (λ p l. any-same (λ k. fits_of F L P k p) (λ k. on_seat E (slice_get L k) (get_or P p [])) (λ k. fits-same k p l) S)
+      (λ p l. any-same (λ k. fits_of F L P k p) (λ k. on_seat E (slice_get L k) (get_or P p [])) S (λ k. fits-same k p l))
       ∙ count-people (can_take_one E L S) P
 
 -- SEATINGS, POSITION BY POSITION AND ONE AFTER THE OTHER
@@ -253,7 +253,7 @@ at-seat A c t (seat ∷ L) who (suc p) = at-seat A c t L who p
 takers-fit : (A : History) (c t : ℕ) (L : List Seat) (S : List ℕ) → who_fit A c t L S ≡ filter (can_take_one (eligible A c t) L S) (present A c t)
 takers-fit A c t L S =
     filter_agree (λ who. list_any (is_eligible_at A c t L who) S) (can_take_one (eligible A c t) L S)
-    (λ who. any-same (is_eligible_at A c t L who) (λ s. on_seat (eligible A c t) (slice_get L s) who) (at-seat A c t L who) S) (present A c t)
+    (λ who. any-same (is_eligible_at A c t L who) (λ s. on_seat (eligible A c t) (slice_get L s) who) S (at-seat A c t L who)) (present A c t)
 
 -- rising numbers in a range, position by position and one after the other
 tail-rises : (p : ℕ) (S : List ℕ) → IsStrictlyIncreasing (p ∷ S) → IsStrictlyIncreasing S

@@ -9,7 +9,7 @@ use Rattle.std.proofs.lemmas.List.Elements.{filter-append}
 use Rattle.std.proofs.lemmas.List.Sorted.{IsPermutation-refl, IsPermutation-reverse, IsPermutation-append}
 use Rattle.std.proofs.lemmas.List.Sums.{sum_by-append}
 use Rattle.kcr_base.specs.Refuse.{when, first_of}
-use Rattle.kcr_base.proofs.RefuseLemmas.{none_holds}
+use Rattle.kcr_base.proofs.RefuseLemmas.{none_holds, met, behind, nested, no_first}
 use Rattle.kcr_base.specs.Same.{same_text}
 use Rattle.kcr_base.specs.declared.refusal.Refusal.{Refusal}
 use Rattle.kcr_base.specs.declared.refusal.Refusal.TheVariants.{Unknown, State, Late, Turn, Lone, Full}
@@ -44,12 +44,11 @@ use Rattle.kcr_history.specs.Machine.{IsRegister}
 use Rattle.kcr_history.proofs.Steps.{took}
 use Rattle.kcr_history.proofs.Words.{is_person-people}
 use Rattle.kcr_acts.specs.SheetRows.{elsewhere, last_elsewhere, stays_of_request, named_twice, room_refusal}
-use Rattle.kcr_laws.proofs.Signing.{no_first}
-use Rattle.kcr_machine.proofs.FirstRefusals.{behind, first-found, met, nested}
+use Rattle.kcr_machine.proofs.FirstRefusals.{first-found}
 use Rattle.kcr_machine.proofs.Keyed.{Shown, any-shown}
 use Rattle.kcr_machine.proofs.Leads.{FaultShown}
-use Rattle.kcr_machine.proofs.Members.{IsIn, filter-in, filter-none, filter_map-in, find-same-in, in-any, in-append, in-behind, in-filter, in-filter_map}
-use Rattle.kcr_machine.proofs.Members.{in-front}
+use Rattle.kcr_base.proofs.Members.{IsIn, filter-in, filter-none, filter_map-in, find-same-in, in-any, in-append, in-behind, in-filter, in-filter_map}
+use Rattle.kcr_base.proofs.Members.{in-front}
 use Rattle.kcr_machine.proofs.Scenes.{is_open-shown, known-shown, mark-shown, marked-opened}
 use Rattle.kcr_machine.proofs.SheetStays.{IsClear, clear-order, clear-sheet, last-in, turn-last}
 

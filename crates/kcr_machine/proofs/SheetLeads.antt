@@ -18,8 +18,8 @@ use Rattle.kcr_room.specs.Stays.{stays_by}
 use Rattle.kcr_room.specs.Adding.{is_open, is_inside, is_inside_of, is_out_of_turn_in, is_out_of_turn_by, new_row, new_stay, is_among, closed, of_ceremony}
 use Rattle.kcr_room.specs.Adding.{ends_by, changed_stays, reaches, turn_refusal}
 use Rattle.kcr_base.specs.Lists.{are_apart}
+use Rattle.kcr_base.proofs.SameLemmas.{same-is, same-itself, same-turned}
 use Rattle.kcr_room.specs.Laws.{IsSheet}
-use Rattle.kcr_room.proofs.Agreement.{same-is, same-itself, same-turned}
 use Rattle.kcr_room.proofs.Keeping.{none-found}
 use Rattle.kcr_room.proofs.Sheets.{last_reaches, earlier-last, tells-sheet, same-turns, stays-append, added, added-onto}
 use Rattle.kcr_history.specs.declared.commands.Act.TheVariants.{Sheet}
@@ -40,7 +40,7 @@ use Rattle.kcr_acts.specs.SheetRows.{stays_of_request, sheet_changes_by}
 use Rattle.kcr_machine.specs.RowDecision.{new_key_row}
 use Rattle.kcr_machine.proofs.Keyed.{Shown, put-rows}
 use Rattle.kcr_machine.proofs.Leads.{changed_by-rows, changed_with, command_of, new_key, other-order}
-use Rattle.kcr_machine.proofs.Members.{IsIn, any-in, filter-in, in-any, in-filter, in-front, in-order, map-same-in, none-in, none-passes}
+use Rattle.kcr_base.proofs.Members.{IsIn, any-in, filter-in, in-any, in-filter, in-front, in-order, map-same-in, none-in, none-passes}
 use Rattle.kcr_machine.proofs.SheetFaults.{among-all, stays-shown, turns-first}
 use Rattle.kcr_machine.proofs.SheetStays.{IsClear, before-enter, clear-order, clear-sheet}
 

@@ -5,6 +5,7 @@ use Rattle.std.specs.List.{list_any}
 use Rattle.std.specs.List.Sorted.{IsPermutation}
 use Rattle.std.proofs.lemmas.Bool.{true≢false, and_parts, and_from, or_parts, not-true, leb-true, leb-false, and_right}
 use Rattle.kcr_base.specs.Same.{same_text}
+use Rattle.kcr_base.proofs.SameLemmas.{same-is, same-turned}
 use Rattle.kcr_room.specs.declared.SheetRow.{SheetRow}
 use Rattle.kcr_room.specs.declared.Stay.{Stay}
 use Rattle.kcr_room.specs.declared.Way.{Way}
@@ -13,12 +14,11 @@ use Rattle.kcr_room.specs.Stays.{stays_by}
 use Rattle.kcr_room.specs.Adding.{is_open, ends_from, reaches, is_inside, is_inside_of, is_out_of_turn_in, is_out_of_turn_by, new_stay, is_among, closed}
 use Rattle.kcr_room.specs.Adding.{turn_refusal, new_row}
 use Rattle.kcr_room.specs.Laws.{in_turn_onto, IsSheet}
-use Rattle.kcr_room.proofs.Agreement.{same-is, same-turned}
 use Rattle.kcr_room.proofs.Keeping.{in_turn-append}
 use Rattle.kcr_room.proofs.Sheets.{tells-sheet, same-turns, stays-append, added, added-onto}
 use Rattle.kcr_history.specs.Views.{later_stay, last_of, last_stay}
-use Rattle.kcr_machine.proofs.Members.{IsIn, any-in, filter-in, in-any, in-append, in-behind, in-filter, in-front, in-map, in-order, map-in, none-in}
-use Rattle.kcr_machine.proofs.Members.{same-answers}
+use Rattle.kcr_base.proofs.Members.{IsIn, any-in, filter-in, in-any, in-append, in-behind, in-filter, in-front, in-map, in-order, map-in, none-in}
+use Rattle.kcr_base.proofs.Members.{same-answers}
 
 -- THE LAST STAY OF A LIST
 

@@ -14,6 +14,7 @@ use Rattle.kcr_base.specs.declared.place.Place.TheVariants as Places
 use Rattle.kcr_base.specs.declared.place.Role.TheVariants.{Ca, Iw}
 use Rattle.kcr_base.specs.declared.refusal.Refusal.{Refusal}
 use Rattle.kcr_base.specs.declared.refusal.Refusal.TheVariants.{Short}
+use Rattle.kcr_base.proofs.ListLemmas.{any-same}
 use Rattle.kcr_script.specs.declared.seat.Seat.{Seat}
 use Rattle.kcr_script.specs.declared.seat.Seat.TheVariants.{Staff, AnyCo, AnyRksh, Co, Rksh}
 use Rattle.kcr_seats.specs.Seating as Search
@@ -42,7 +43,6 @@ use Rattle.kcr_scene.specs.Signing.{seat_changes, exception_change}
 use Rattle.kcr_machine.specs.RowDecision.{new_key_row}
 use Rattle.kcr_laws.proofs.Alone.{rooms}
 use Rattle.kcr_laws.proofs.Done.{next_signed}
-use Rattle.kcr_people.proofs.Orders.{any-same}
 use Rattle.std.proofs.lemmas.Option.{same_Some, none-some}
 use Rattle.kcr_machine.proofs.InRoom.{holder-shown, present-shown, trained-all}
 use Rattle.kcr_machine.proofs.Keyed.{Shown, put-new}
@@ -105,11 +105,11 @@ fits-shown A h view p q r f day None who = refl
 fits-shown A h view p q r f day (Some (Staff role)) who = trained-all A h view.trainings.items view.withdrawals.items p q who role day
 fits-shown A h view p q r f day (Some AnyCo) who =
     any-same (λ n. is_holder_by view.appointments.items (Places.Co f n) day who) (λ n. is_holder A (Places.Co f n) day who)
-    (λ n. is_holder-shown A h view r (Places.Co f n) day who) one_to_seven
+    one_to_seven (λ n. is_holder-shown A h view r (Places.Co f n) day who)
 fits-shown A h view p q r f day (Some (Co n)) who = is_holder-shown A h view r (Places.Co f n) day who
 fits-shown A h view p q r f day (Some AnyRksh) who =
     any-same (λ n. is_holder_by view.appointments.items (Places.Rksh n) day who) (λ n. is_holder A (Places.Rksh n) day who)
-    (λ n. is_holder-shown A h view r (Places.Rksh n) day who) one_to_seven
+    one_to_seven (λ n. is_holder-shown A h view r (Places.Rksh n) day who)
 fits-shown A h view p q r f day (Some (Rksh n)) who = is_holder-shown A h view r (Places.Rksh n) day who
 
 -- of the seats of a passing exception trainings and withdrawals are enough

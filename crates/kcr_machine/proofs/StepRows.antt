@@ -1,13 +1,12 @@
 -- Steps and exceptions: how many there are by the rows as by the history, each step once and in order, and the rows of one that is done.
-use Rattle.std.proofs.Common.{◌≡◌, ℕ, zero, suc, ◌+◌, ◌-◌, ◌≤◌, Bool, true, false, cond, ◌||◌, ◌&&◌, nat_le, List, [], ◌∷◌, map, filter, length, Option, Some}
-use Rattle.std.proofs.Common.{None, is_none, Result, Ok, Err, nat_lt, refl, sym, ap, ◌∙◌, arith, subst, ◌<◌, ◌==◌, ◌++◌, append-nil}
+use Rattle.std.proofs.Common.{◌≡◌, ℕ, zero, suc, ◌+◌, ◌-◌, ◌≤◌, Bool, true, false, cond, ◌&&◌, nat_le, List, [], ◌∷◌, map, filter, length, Option, Some}
+use Rattle.std.proofs.Common.{None, is_none, Result, Ok, Err, nat_lt, refl, sym, ap, ◌∙◌, arith, subst, ◌<◌, ◌==◌}
 use Rattle.std.specs.Prelude.{is_some, slice_get, unwrap_or, option_map}
 use Rattle.std.specs.List.{list_any}
 use Rattle.std.specs.List.Sorted.{IsPermutation}
 use Rattle.std.specs.Result.{result_unwrap_or}
 use Rattle.std.proofs.lemmas.Bool.{false≢true, le-ltb, eqb-true, eq-eqb, ne_eqb, and_parts, and_right, or_from}
-use Rattle.std.proofs.lemmas.List.Sorted.{length_permutation, list_any-IsPermutation, IsPermutation-refl, IsPermutation-trans, IsPermutation-sym}
-use Rattle.std.proofs.lemmas.List.Sorted.{IsPermutation-middle}
+use Rattle.std.proofs.lemmas.List.Sorted.{length_permutation, list_any-IsPermutation, IsPermutation-sym}
 use Rattle.std.proofs.lemmas.Option.{slice_get_past}
 use Rattle.kcr_base.specs.Rows.{or_else, put}
 use Rattle.kcr_base.specs.declared.refusal.Refusal.TheVariants.{Taken, Unknown, Order}
@@ -32,22 +31,21 @@ use Rattle.kcr_history.specs.Tables.{numbered, step_keys, step_keys_after, step_
 use Rattle.kcr_history.specs.Tables.{seating_rows, ceremony_of_step}
 use Rattle.kcr_history.specs.Views.{is_step_of, is_exception_of}
 use Rattle.kcr_history.proofs.Steps.{took}
+use Rattle.kcr_history.proofs.Piled.{any-stacked, filter-stacked, stacked-alone}
 use Rattle.kcr_scene.specs.Signing.{is_done, done_by, stated_by, step_by}
 use Rattle.kcr_laws.proofs.Done.{one_more, count-cons, next_signed, done-after, fate-done}
-use Rattle.kcr_laws.proofs.Finds.{some_if}
 use Rattle.kcr_history.specs.declared.commands.Entry.{Entry}
 use Rattle.kcr_history.specs.declared.rows.SeatingRow.{SeatingRow}
 use Rattle.kcr_history.specs.declared.views.Change.TheVariants.{PutSeating}
 use Rattle.kcr_history.specs.Changes.{same_step, same_seating, changed_by}
-use Rattle.std.proofs.lemmas.List.Folds.{list_any-append}
 use Rattle.std.proofs.lemmas.List.Elements.{filter_agree}
 use Rattle.kcr_base.proofs.RowsLemmas.{filter-order}
+use Rattle.kcr_base.proofs.ListLemmas.{any-same, some_if, there}
 use Rattle.kcr_base.specs.declared.place.Facility.{Facility}
 use Rattle.kcr_room.proofs.Lists as RoomLists
-use Rattle.kcr_room.proofs.Lists.{filter-and, any-same}
-use Rattle.kcr_laws.proofs.Stored.{there}
+use Rattle.kcr_room.proofs.Lists.{filter-and}
 use Rattle.kcr_machine.proofs.Keyed.{Shown, filter-shown, find-view, put-at, put-new}
-use Rattle.kcr_machine.proofs.Members.{Implies, same-answers}
+use Rattle.kcr_base.proofs.Members.{Implies, same-answers}
 
 -- COUNTING
 
@@ -68,15 +66,6 @@ count-map p f (x ∷ xs) = count-cons p (f x) (map f xs) ∙ ap (one_more (p (f 
 
 count-view : {X : Type 0} (test of : X → Bool) → Implies test of → (table rows : List X) → Shown of table rows → tally test rows ≡ tally test table
 count-view test of inside table rows p = length_permutation (filter test table) (filter test rows) (filter-shown test of inside table rows p)
-
-stacked-order : {X : Type 0} (xs ys : List X) → IsPermutation (xs ++ ys) (stacked_on xs ys)
-stacked-order [] ys = IsPermutation-refl ys
-stacked-order (x ∷ xs) ys =
-    IsPermutation-trans (x ∷ (xs ++ ys)) (xs ++ x ∷ ys) (stacked_on xs (x ∷ ys))
-    (IsPermutation-sym (xs ++ x ∷ ys) (x ∷ (xs ++ ys)) (IsPermutation-middle xs x ys)) (stacked-order xs (x ∷ ys))
-
-any-stacked : {X : Type 0} (p : X → Bool) (xs ys : List X) → list_any p (stacked_on xs ys) ≡ (list_any p xs || list_any p ys)
-any-stacked p xs ys = sym (list_any-IsPermutation p (xs ++ ys) (stacked_on xs ys) (stacked-order xs ys)) ∙ list_any-append p xs ys
 
 -- THE STEPS OF A CEREMONY
 
@@ -158,10 +147,6 @@ other-keys : (c d i : ℕ) (ss : List Step) → (d == c) ≡ false → filter (�
 other-keys c d i [] e = refl
 other-keys c d i (s ∷ ss) e = rw e (other-keys c d (suc i) ss e)
 
-filter-stacked : {X : Type 0} (p : X → Bool) (xs ys : List X) → filter p (stacked_on xs ys) ≡ stacked_on (filter p xs) (filter p ys)
-filter-stacked p [] ys = refl
-filter-stacked p (x ∷ xs) ys = grind (arith, filter-stacked p xs (x ∷ ys))
-
 -- the keys of a ceremony's steps in the table are those of its script
 keys-stacked : (A : History) → IsRegister A → (c : ℕ) → filter (λ key. key.0 == c) (step_keys A) ≡ stacked_on (numbered c 0 (steps_of A c)) []
 keys-stacked [] h c = refl
@@ -180,7 +165,7 @@ keys-order : (A : History) → IsRegister A → (c : ℕ) → IsPermutation (fil
 keys-order A h c =
     let all = numbered c 0 (steps_of A c) in
     rw (keys-stacked A h c) (IsPermutation-sym all (stacked_on all [])
-    (subst (λ keys. IsPermutation keys (stacked_on all [])) (append-nil all) (stacked-order all [])))
+    (stacked-alone all))
 
 keys-any : (A : History) → IsRegister A → (c : ℕ) (g : ℕ → Bool)
     → list_any (λ key. key.0 == c && g key.1) (step_keys A) ≡ list_any (λ key. g key.1) (numbered c 0 (steps_of A c))

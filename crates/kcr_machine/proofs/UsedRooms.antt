@@ -3,6 +3,7 @@ use Rattle.std.proofs.Common.{◌≡◌, ℕ, true, not, ◌&&◌, ◌==◌, nat
 use Rattle.std.specs.List.{list_any}
 use Rattle.std.proofs.lemmas.Bool.{lt-ltb, or_left, or_right, cases_Bool, or_cases}
 use Rattle.std.proofs.lemmas.List.Sorted.{list_any-IsPermutation, IsPermutation-reverse}
+use Rattle.kcr_base.proofs.ListLemmas.{any-more}
 use Rattle.kcr_room.specs.declared.SheetRow.{SheetRow}
 use Rattle.kcr_room.specs.declared.Stay.{Stay}
 use Rattle.kcr_room.specs.Room.{present_by}
@@ -16,7 +17,7 @@ use Rattle.kcr_history.specs.Machine.{IsRegister}
 use Rattle.kcr_history.specs.Views.{is_stay_of}
 use Rattle.kcr_acts.specs.CeremonyRows.{is_unended}
 use Rattle.kcr_machine.proofs.Keyed.{Shown, any-shown}
-use Rattle.kcr_machine.proofs.Members.{any-imp, any-in, in-any, same-answers}
+use Rattle.kcr_base.proofs.Members.{any-in, in-any, same-answers}
 use Rattle.kcr_machine.proofs.SheetFaults.{sheet-made}
 use Rattle.kcr_machine.proofs.SheetStays.{row-bounds, stay-begun}
 
@@ -47,7 +48,7 @@ unended-used A h c t e =
 -- the stay of somebody in the room has not ended, nor one that a later row begins or ends
 used-unended : (A : History) → IsRegister A → (c t : ℕ) → is_room_used A c t ≡ true → list_any (is_unended c t) (stays_by (sheet A)) ≡ true
 used-unended A h c t e = elim (or_cases (not (is_empty (present A c t))) (list_any (λ row. (row.ceremony == c) && nat_lt t row.at) (sheet A)) e) [
-  | inl p ↦ any-imp (holds c t) (is_unended c t) here (stays_by (sheet A)) (sym (present-held (sheet A) c t) ∙ p)
+  | inl p ↦ any-more (holds c t) (is_unended c t) (stays_by (sheet A)) here (sym (present-held (sheet A) c t) ∙ p)
   | inr l ↦ let a = any-in (λ row. (row.ceremony == c) && nat_lt t row.at) (sheet A) l in
       let b = row-bounds (sheet A) (sheet-made A h) a.0 a.1 in
       in-any (is_unended c t) b.0 (stays_by (sheet A)) b.1 (grind arith)

@@ -9,13 +9,13 @@ use Rattle.std.proofs.lemmas.List.Sums.{sum_by-cons}
 use Rattle.std.proofs.lemmas.List.Sorted.{IsPermutation-refl, IsPermutation-sym, IsPermutation-trans, IsPermutation-reverse}
 use Rattle.kcr_base.specs.Rows.{put_all}
 use Rattle.kcr_base.specs.Same.{same_text}
+use Rattle.kcr_base.proofs.SameLemmas.{same-itself}
 use Rattle.kcr_room.specs.declared.SheetRow.{SheetRow}
 use Rattle.kcr_room.specs.declared.Stay.{Stay}
 use Rattle.kcr_room.specs.Room.{is_enter}
 use Rattle.kcr_room.specs.Stays.{stay_from, stays_by}
 use Rattle.kcr_room.specs.Ends.{steps_by}
 use Rattle.kcr_room.specs.Laws.{ShareNoMoment}
-use Rattle.kcr_room.proofs.Agreement.{same-itself}
 use Rattle.kcr_room.proofs.Lists.{none-counted}
 use Rattle.kcr_room.proofs.Ends.{step_at, until_in, told_from, stays-told}
 use Rattle.kcr_history.specs.Changes.{same_stay, changed_by}

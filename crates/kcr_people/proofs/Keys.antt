@@ -1,5 +1,5 @@
 -- Trainings and withdrawals by their keys: no two rows of one withdrawal are of one training.
-use Rattle.std.proofs.Common.{◌≡◌, ℕ, Bool, true, false, List, [], refl, sym, ◌∙◌, subst}
+use Rattle.std.proofs.Common.{◌≡◌, ℕ, Bool, true, false, List, [], refl, sym, ◌∙◌, subst, arith}
 use Rattle.std.proofs.lemmas.Bool.{false≢true}
 use Rattle.kcr_base.proofs.RowsLemmas.{IsKeyTest, Apart, filter-apart, map-apart}
 use Rattle.kcr_base.specs.declared.place.Role.{Role}
@@ -19,15 +19,10 @@ same_withdrawn-keys =
 
 -- a training's row has the training's key
 its-key : (withdrawn : List Withdrawal) (day : ℕ) (a b : Training) → same_withdrawn (withdrawal_of withdrawn day a) (withdrawal_of withdrawn day b) ≡ same_training a b
-its-key withdrawn day a b = by_tests (same_training b a) (same_training a b) refl refl
+its-key withdrawn day a b = grind (arith, turn a b, turn b a)
   where
     turn : (a b : Training) → same_training a b ≡ true → same_training b a ≡ true
     turn a b h = subst (λ c. same_training c a ≡ true) (is_of-true b (withdrawal_of [] 0 a) h) (is_of-own (withdrawal_of [] 0 a))
-
-    by_tests : (x y : Bool) → same_training b a ≡ x → same_training a b ≡ y → same_training b a ≡ same_training a b
-    by_tests true y e f = e ∙ sym (turn b a e)
-    by_tests false true e f = absurd (false≢true (sym e ∙ turn a b f))
-    by_tests false false e f = e ∙ sym f
 
 -- of trainings that are all different a withdrawal makes rows of different keys
 pub withdrawn_rows-apart : (ts : List Training) (ws : List Withdrawal) (who : List ℕ) (role : Role) (day : ℕ) → Apart same_training ts → Apart same_withdrawn (withdrawn_rows ts ws who role day)

@@ -8,13 +8,14 @@ use Rattle.std.proofs.Math.Bool.{or-false}
 use Rattle.std.proofs.lemmas.List.{length-append}
 use Rattle.std.proofs.lemmas.List.Sums.{sum_by-append}
 use Rattle.std.proofs.lemmas.List.Sorted.{IsPermutation-map, sum_by-IsPermutation, list_any-IsPermutation}
+use Rattle.kcr_base.proofs.RowsLemmas.{filter-order}
 use Rattle.kcr_room.specs.Moments.{IsFirst, IsEver}
 use Rattle.kcr_room.specs.Room.{is_enter, is_ahead, later, last_onto, last_row_of, present_by, crowd_by}
 use Rattle.kcr_room.specs.Stays.{sooner, next_onto, stay_from, stays_by}
 use Rattle.kcr_room.specs.Ends.{steps_from, steps_by, follows}
 use Rattle.kcr_room.specs.Laws.{IsSheet, ShareNoMoment}
 use Rattle.kcr_room.proofs.Words.{nat_tests, same_text, SheetRow, Stay}
-use Rattle.kcr_room.proofs.Lists.{any-filter, map-same, count-cons, none-behind, IsPermutation-filter}
+use Rattle.kcr_room.proofs.Lists.{any-filter, map-same, count-cons, none-behind}
 use Rattle.kcr_room.proofs.Agreement.{begun, same-is, same-itself, of_person, next-lasts, same-present, same-crowd}
 use Rattle.kcr_room.proofs.Ends.{step_at, until_in, end-unique, told_from, stays-told}
 use Rattle.kcr_room.proofs.Refusals.{first-unique, ever-unique}
@@ -103,7 +104,7 @@ stays-order xs ys p h =
     (λ row. ap (stay_from row) (next-order xs ys p row)) in
     subst (λ stays. IsPermutation stays (stays_by ys)) (sym (stays-plain xs h))
     (subst (IsPermutation (plain xs xs)) (same ∙ sym (stays-plain ys (share-order xs ys p h)))
-    (IsPermutation-map (λ row. stay_from row (next_onto None row xs)) _ _ (IsPermutation-filter (λ row. is_enter row.way) xs ys p)))
+    (IsPermutation-map (λ row. stay_from row (next_onto None row xs)) _ _ (filter-order (λ row. is_enter row.way) xs ys p)))
 
 pub rows-crowd : (xs ys : List SheetRow) → IsPermutation xs ys → ShareNoMoment xs → (c t : ℕ) → crowd_by ys c t ≡ crowd_by xs c t
 rows-crowd xs ys p h c t = sym (same-crowd ys c t) ∙ crowd-order (stays_by xs) (stays_by ys) (stays-order xs ys p h) c t ∙ same-crowd xs c t

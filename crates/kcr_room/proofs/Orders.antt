@@ -2,7 +2,7 @@
 use Rattle.std.proofs.Common.{◌≡◌, ℕ, Bool, true, false, cond, nat_le, nat_lt, List, [], ◌∷◌, map, refl, sym, ap, ◌∙◌, arith}
 use Rattle.std.specs.List.{filter, find}
 use Rattle.std.specs.List.Sorted.{IsPermutation}
-use Rattle.kcr_base.proofs.RowsLemmas.{Shuffled, shuffled}
+use Rattle.kcr_base.proofs.RowsLemmas.{Shuffled, shuffled, filter-order}
 use Rattle.std.proofs.lemmas.List.Sorted.{IsPermutation-refl, IsPermutation-map, IsPermutation-append_left, length_permutation, sum_by-IsPermutation}
 use Rattle.std.proofs.lemmas.List.Sorted.{list_any-IsPermutation}
 use Rattle.kcr_base.specs.Refuse.{when, first_of}
@@ -12,7 +12,6 @@ use Rattle.kcr_room.specs.Stays.{holds, crowd_in_by, present_in_by, first_lone_i
 use Rattle.kcr_room.specs.Adding.{reaches, is_inside, is_inside_of, is_out_of_turn_in, new_stay, closed, of_ceremony, after, ends_by, changed_stays}
 use Rattle.kcr_room.specs.Adding.{turn_refusal, is_overfull, later_refusal, stays_refusal}
 use Rattle.kcr_room.proofs.Words.{nat_tests, is_before, Way, Enter, Leave, Stay}
-use Rattle.kcr_room.proofs.Lists.{IsPermutation-filter}
 use Rattle.kcr_room.proofs.Agreement.{same-is}
 use Rattle.kcr_room.proofs.Refusals.{lone-same, crowded-same, refused-same, find-same}
 use Rattle.kcr_room.proofs.Rising.{ranked, other-before}
@@ -53,13 +52,13 @@ same-ascending (Shuffled.after xs ys zs s t) done = same-ascending s done ∙ sa
 
 pub present-order : (xs ys : List Stay) → IsPermutation xs ys → (c t : ℕ) → present_in_by ys c t ≡ present_in_by xs c t
 present-order xs ys p c t =
-    let moved = IsPermutation-map (λ stay. stay.who) (filter (holds c t) xs) (filter (holds c t) ys) (IsPermutation-filter (holds c t) xs ys p) in
+    let moved = IsPermutation-map (λ stay. stay.who) (filter (holds c t) xs) (filter (holds c t) ys) (filter-order (holds c t) xs ys p) in
     sym (same-ascending (shuffled _ _ moved) [])
 
 after-order : (xs ys : List Stay) → IsPermutation xs ys → (c : ℕ) (way : Way) (people : List (List ℕ)) (at : ℕ)
     → IsPermutation (after xs c way people at) (after ys c way people at)
-after-order xs ys p c Enter people at = IsPermutation-append_left (map (new_stay c at) people) _ _ (IsPermutation-filter (of_ceremony c) xs ys p)
-after-order xs ys p c Leave people at = IsPermutation-map (closed people at) _ _ (IsPermutation-filter (of_ceremony c) xs ys p)
+after-order xs ys p c Enter people at = IsPermutation-append_left (map (new_stay c at) people) _ _ (filter-order (of_ceremony c) xs ys p)
+after-order xs ys p c Leave people at = IsPermutation-map (closed people at) _ _ (filter-order (of_ceremony c) xs ys p)
 
 overfull-order : (xs ys : List Stay) → IsPermutation xs ys → (way : Way) → is_overfull ys way ≡ is_overfull xs way
 overfull-order xs ys p Enter = ap (λ n. nat_lt 1000 n) (length_permutation xs ys p)
@@ -85,4 +84,4 @@ pub changes-order : (xs ys : List Stay) → IsPermutation xs ys → (c : ℕ) (w
     → IsPermutation (changed_stays xs c way people at) (changed_stays ys c way people at)
 changes-order xs ys p c Enter people at = IsPermutation-refl (map (new_stay c at) people)
 changes-order xs ys p c Leave people at =
-    IsPermutation-map (closed people at) (filter (ends_by c people) xs) (filter (ends_by c people) ys) (IsPermutation-filter (ends_by c people) xs ys p)
+    IsPermutation-map (closed people at) (filter (ends_by c people) xs) (filter (ends_by c people) ys) (filter-order (ends_by c people) xs ys p)

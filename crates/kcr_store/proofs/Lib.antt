@@ -4,4 +4,3 @@ pub mod OpenLemmas
 pub mod ShownLemmas
 pub mod QuestionLemmas
 pub mod ListingLemmas
-pub mod PastWalks

@@ -12,6 +12,7 @@ use Rattle.kcr_base.specs.Same.{is_before}
 use Rattle.kcr_base.specs.declared.refusal.Refusal.TheVariants.{Unknown}
 use Rattle.kcr_base.specs.declared.refusal.Thing.TheVariants as Things
 use Rattle.kcr_base.proofs.RowsLemmas.{filter-order}
+use Rattle.kcr_base.proofs.ListLemmas.{any-map}
 use Rattle.kcr_people.specs.People.{holder_by}
 use Rattle.kcr_custody.specs.declared.Bag.{Bag}
 use Rattle.kcr_custody.specs.Custody.{spot_by, lies_in}
@@ -28,14 +29,14 @@ use Rattle.kcr_history.specs.Tables.{tables, items, bags, ceremonies, ceremony_r
 use Rattle.kcr_history.specs.Views.{is_of_serial, is_of_number, is_stay_of}
 use Rattle.kcr_machine.proofs.BagsWords.{spot-shown}
 use Rattle.kcr_machine.proofs.InRoom.{holder-shown, present-shown}
-use Rattle.kcr_machine.proofs.Keyed.{any-map}
-use Rattle.kcr_machine.proofs.Scenes.{planned-number, ceremony-shown}
+use Rattle.kcr_machine.proofs.Scenes.{ceremony-shown}
 use Rattle.kcr_tables.specs.Held.{Tables}
 use Rattle.kcr_tables.specs.Joint.{Stands}
 use Rattle.kcr_tables.proofs.JointLemmas.{Rises}
 use Rattle.kcr_tables.proofs.ViewLemmas.{asked_shows}
 use Rattle.kcr_history.specs.declared.questions.BagShown.{BagShown}
 use Rattle.kcr_history.specs.Questions.{holders_by, holders_on, IsBagShown}
+use Rattle.kcr_history.proofs.Words.{planned-number}
 use Rattle.kcr_store.specs.Rows.{IsRowOf, HasNoRow}
 use Rattle.kcr_store.proofs.StoreLemmas.{all_pairs, by_code}
 

@@ -23,7 +23,7 @@ use Rattle.kcr_people.specs.declared.Training.{Training}
 use Rattle.kcr_people.specs.declared.Withdrawal.{Withdrawal}
 use Rattle.kcr_people.specs.People.{is_of, same_training}
 use Rattle.kcr_people.specs.Laws.{AtMostOne, same_withdrawn}
-use Rattle.kcr_people.proofs.Orders.{find-order}
+use Rattle.kcr_people.proofs.Orders.{find-one}
 use Rattle.kcr_people.proofs.Withdrawn.{is_of-true}
 use Rattle.kcr_history.specs.History.{History}
 use Rattle.kcr_history.specs.Tables.{people, trainings, withdrawals, tables}
@@ -157,7 +157,7 @@ same_shown table rows p up row =
     let one = at_most_one row rows (other_training rows up) in
     ap
     (λ (found : Option Withdrawal). record { since = row.since; role = row.role; until = row.until; withdrawn = option_map (λ w. w.day) found })
-    (find-order (is_of row) rows table (IsPermutation-sym table rows p) one)
+    (find-one (is_of row) rows table (IsPermutation-sym table rows p) one)
 
 -- ---- what a register shows
 

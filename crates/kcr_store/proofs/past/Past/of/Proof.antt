@@ -1,8 +1,8 @@
 use contract.Running.{tables, tables_of}
-use Rattle.kcr_store.proofs.PastWalks.{refl, [], ◌∷◌, Ura, vstruct, vnil, SProp, ent, emp, via, fst∗, Memory, Routine, Calls, Loops, WpFn, Logic, Fun}
-use Rattle.kcr_store.proofs.PastWalks.{WpFn-mono, ‵, raw, ◌$◌, ◌∵◌, !, qed, move, suffices, done, no_more, returns, enter, agg, alloc_all, pass_all, free_all}
-use Rattle.kcr_store.proofs.PastWalks.{look_at, sets, owns, pure_i, on_entry, alive, triple_of, entered, says, Stays, walk_of, Walks, ends_at, walked}
-use Rattle.kcr_store.proofs.PastWalks.{walk_Meets}
+use Rattle.kcr_base.proofs.Walks.{refl, [], ◌∷◌, Ura, vstruct, vnil, SProp, ent, emp, via, fst∗, Memory, Routine, Calls, Loops, WpFn, Logic, Fun}
+use Rattle.kcr_base.proofs.Walks.{WpFn-mono, ‵, raw, ◌$◌, ◌∵◌, !, qed, move, suffices, done, no_more, returns, enter, agg, alloc_all, pass_all, free_all}
+use Rattle.kcr_base.proofs.Walks.{look_at, sets, owns, pure_i, on_entry, alive, triple_of, entered, says, Stays, walk_of, Walks, ends_at, walked}
+use Rattle.kcr_base.proofs.Walks.{walk_Meets}
 use Rattle.kcr_store.specs.contracts.past.Past.of.Key.{name as key}
 use Rattle.kcr_store.specs.contracts.past.Past.of as f
 use Rattle.kcr_store.proofs.past.Past.of.Statement as stated

@@ -1,8 +1,8 @@
 use contract.Running.{tables, tables_of}
-use Rattle.kcr_store.proofs.PastWalks.{refl, [], ◌∷◌, Ura, named, Val, vptr, vstruct, vnil, SProp, ent, emp, via, fst∗, Fml, Memory, Routine, Calls, Loops}
-use Rattle.kcr_store.proofs.PastWalks.{WpFn, Logic, Lfts, Shares, Fun, WpFn-mono, ‵, raw, ◌$◌, ◌∵◌, !, qed, move, suffices, done, no_more, returns, enter, agg}
-use Rattle.kcr_store.proofs.PastWalks.{alloc_all, pass_all, free_all, look_at, sets, yes, owns, shr_vals, shr_Tells, pure_i, plain, types_at, on_entry, alive}
-use Rattle.kcr_store.proofs.PastWalks.{Args, triple_of, entered, says, stay_none_ref, Stays, walk_of, Walks, ends_at, walked, Goes-none_ref, walk_Meets}
+use Rattle.kcr_base.proofs.Walks.{refl, [], ◌∷◌, Ura, named, Val, vptr, vstruct, vnil, SProp, ent, emp, via, fst∗, Fml, Memory, Routine, Calls, Loops}
+use Rattle.kcr_base.proofs.Walks.{WpFn, Logic, Lfts, Shares, Fun, WpFn-mono, ‵, raw, ◌$◌, ◌∵◌, !, qed, move, suffices, done, no_more, returns, enter, agg}
+use Rattle.kcr_base.proofs.Walks.{alloc_all, pass_all, free_all, look_at, sets, yes, owns, shr_vals, shr_Tells, pure_i, plain, types_at, on_entry, alive}
+use Rattle.kcr_base.proofs.Walks.{Args, triple_of, entered, says, stay_none_ref, Stays, walk_of, Walks, ends_at, walked, Goes-none_ref, walk_Meets}
 use Rattle.kcr_store.specs.contracts.past.Past.same.Key.{name as key}
 use Rattle.kcr_store.specs.contracts.past.Past.same as f
 use Rattle.kcr_store.proofs.past.Past.same.Statement as stated

@@ -1,4 +1,4 @@
--- The names that the walks over a history of proofs cite, passed on from one place. Declares nothing.
+-- The names that proofs of ghost data cite, which walk the code, passed on from one place. Declares nothing.
 pub use mathlib.Core.Path.{refl}
 pub use mathlib.Core.List.{[], ◌∷◌}
 pub use seplogic.Ra.Ura.{Ura}

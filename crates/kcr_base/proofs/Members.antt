@@ -1,10 +1,11 @@
 -- What is in a list.
-use Rattle.std.proofs.Common.{◌≡◌, Bool, true, false, List, [], ◌∷◌, ◌++◌, map, filter, find, Option, Some, refl, sym, ap, ◌∙◌, subst, ◌⊎◌, inl, inr, arith}
-use Rattle.std.specs.List.{list_any, list_all, AllByRecursion, filter_map}
+use Rattle.std.proofs.Common.{◌≡◌, ℕ, Bool, true, false, List, [], ◌∷◌, ◌++◌, map, filter, find, Option, Some, refl, sym, ap, ◌∙◌, subst, ◌⊎◌, inl, inr, arith}
+use Rattle.std.specs.List.{list_any, list_all, filter_map}
 use Rattle.std.specs.List.Sorted.{IsPermutation}
 use Rattle.std.proofs.lemmas.Bool.{true≢false, false≢true, or_left, or_right, false_from_ne_true}
-use Rattle.std.proofs.lemmas.List.Sorted.{All-permutation}
-use Rattle.std.proofs.lemmas.List.Elements.{All-from_recursion, recursion_from_All}
+use Rattle.kcr_base.specs.Same.{same_text}
+use Rattle.kcr_base.proofs.RowsLemmas.{Shuffled, nothing, under, flipped, after, shuffled}
+use Rattle.kcr_base.proofs.SameLemmas.{same-is, same-itself}
 
 -- the value is in the list
 abbrev pub IsIn : {X : Type 0} → X → List X → Type 0
@@ -64,13 +65,16 @@ in-any test x [] i t = absurd i
 in-any test x (z ∷ xs) (inl e) t = or_left (test z) (list_any test xs) (sym (ap test e) ∙ t)
 in-any test x (z ∷ xs) (inr i) t = or_right (test z) (list_any test xs) (in-any test x xs i t)
 
+-- a text that a test finds in a list is in it
+pub listed-in : (k : List ℕ) (ks : List (List ℕ)) → list_any (same_text k) ks ≡ true → IsIn k ks
+listed-in k ks h = let a = any-in (same_text k) ks h in subst (λ x. IsIn x ks) (sym (same-is k a.0 a.2)) a.1
+
+pub in-listed : (k : List ℕ) (ks : List (List ℕ)) → IsIn k ks → list_any (same_text k) ks ≡ true
+in-listed k ks i = in-any (same_text k) k ks i (same-itself k)
+
 -- what passes a test passes another
 abbrev pub Implies : {X : Type 0} → (X → Bool) → (X → Bool) → Type 0
 Implies {X} p q = (x : X) → p x ≡ true → q x ≡ true
-
--- a test that implies another finds no more
-pub any-imp : {X : Type 0} (p q : X → Bool) → Implies p q → (xs : List X) → list_any p xs ≡ true → list_any q xs ≡ true
-any-imp p q imp xs h = let a = any-in p xs h in in-any q a.0 xs a.1 (imp a.0 a.2)
 
 -- what no test finds does not pass it
 pub none-in : {X : Type 0} (test : X → Bool) (x : X) (xs : List X) → list_any test xs ≡ false → IsIn x xs → test x ≡ false
@@ -103,17 +107,15 @@ find-same-in p q (x ∷ xs) h = rw (h x (inl refl), find-same-in p q xs (λ y i.
 
 -- ANOTHER ORDER
 
-each : {X : Type 0} (P : X → Type 0) (xs : List X) → ((x : X) → IsIn x xs → P x) → AllByRecursion P xs
-each P [] f = tt
-each P (x ∷ xs) f = (f x (inl refl), each P xs (λ y i. f y (inr i)))
-
-one-of : {X : Type 0} (P : X → Type 0) (x : X) (xs : List X) → AllByRecursion P xs → IsIn x xs → P x
-one-of P x [] a i = absurd i
-one-of P x (z ∷ xs) a (inl e) = subst P (sym e) a.0
-one-of P x (z ∷ xs) a (inr i) = one-of P x xs a.1 i
+pub in-shuffled : {X : Type 0} (x : X) {xs ys : List X} → Shuffled xs ys → IsIn x ys → IsIn x xs
+in-shuffled x nothing i = i
+in-shuffled x (under y xs ys s) (inl e) = inl e
+in-shuffled x (under y xs ys s) (inr i) = inr (in-shuffled x s i)
+in-shuffled x (flipped y z xs) (inl e) = inr (inl e)
+in-shuffled x (flipped y z xs) (inr (inl e)) = inl e
+in-shuffled x (flipped y z xs) (inr (inr i)) = inr (inr i)
+in-shuffled x (after xs ys zs s t) i = in-shuffled x s (in-shuffled x t i)
 
 -- what is in a list is in it in any order
 pub in-order : {X : Type 0} (x : X) (xs ys : List X) → IsPermutation xs ys → IsIn x ys → IsIn x xs
-in-order {X} x xs ys p i =
-    let P : X → Type 0 = λ y. IsIn y xs in
-    one-of P x ys (recursion_from_All P ys (All-permutation P xs ys p (All-from_recursion P xs (each P xs (λ y j. j))))) i
+in-order x xs ys p i = in-shuffled x (shuffled xs ys p) i

@@ -1,0 +1,112 @@
+-- What tests find in lists.
+use Rattle.std.proofs.Common.{◌≡◌, Bool, true, false, List, [], ◌∷◌, ◌++◌, map, find, Option, Some, None, is_some, is_none, refl, arith, ◌⊎◌, cond, inl, inr, subst, sym, ◌∙◌}
+use Rattle.std.specs.List.{list_any, list_all, AllByRecursion}
+use Rattle.std.proofs.lemmas.Bool.{false≢true}
+use Rattle.std.proofs.lemmas.Bool.Decides.{nat_tests}
+use Rattle.std.specs.List.Sorted.{IsPermutation}
+use Rattle.std.proofs.lemmas.List.Elements.{All-from_recursion, recursion_from_All}
+use Rattle.std.proofs.lemmas.List.Sorted.{All-permutation, list_any-IsPermutation}
+use Rattle.kcr_base.specs.Rows.{or_else}
+
+-- WHETHER SOME OR ALL PASS
+
+pub any-map : {X Y : Type 0} (p : Y → Bool) (f : X → Y) (xs : List X) → list_any p (map f xs) ≡ list_any (λ x. p (f x)) xs
+any-map p f [] = refl
+any-map p f (x ∷ xs) = rw (any-map p f xs)
+
+-- two tests that answer alike
+pub any-same : {X : Type 0} (p q : X → Bool) (xs : List X) → ((x : X) → p x ≡ q x) → list_any p xs ≡ list_any q xs
+any-same p q [] f = refl
+any-same p q (x ∷ xs) f = rw (f x, any-same p q xs f)
+
+-- what passes one test passes the other
+pub any-more : {X : Type 0} (p q : X → Bool) (xs : List X) → ((x : X) → p x ≡ true → q x ≡ true) → list_any p xs ≡ true → list_any q xs ≡ true
+any-more p q [] f h = absurd (false≢true h)
+any-more p q (x ∷ xs) f h = grind (arith, nat_tests, h, f x, any-more p q xs f)
+
+pub all-more : {X : Type 0} (p q : X → Bool) (xs : List X) → ((x : X) → p x ≡ true → q x ≡ true) → list_all p xs ≡ true → list_all q xs ≡ true
+all-more p q [] f h = refl
+all-more p q (x ∷ xs) f h = grind (arith, nat_tests, h, f x, all-more p q xs f)
+
+pub each-append : {X : Type 0} (P : X → Type 0) (xs ys : List X) → AllByRecursion P xs → AllByRecursion P ys → AllByRecursion P (xs ++ ys)
+each-append P [] ys h k = k
+each-append P (x ∷ xs) ys h k = (h.0, each-append P xs ys h.1 k)
+
+-- THE FIRST THAT PASSES
+
+pub find-none : {X : Type 0} (test : X → Bool) (xs : List X) → list_any test xs ≡ false → find test xs ≡ None
+find-none test [] h = refl
+find-none test (x ∷ xs) h = grind (arith, nat_tests, h, find-none test xs)
+
+pub none-find : {X : Type 0} (test : X → Bool) (xs : List X) → find test xs ≡ None → list_any test xs ≡ false
+none-find test [] h = refl
+none-find test (x ∷ xs) h = grind (arith, none-find test xs)
+
+-- one passes where the first that does is found
+pub any-find : {X : Type 0} (test : X → Bool) (xs : List X) → list_any test xs ≡ is_some (find test xs)
+any-find test [] = refl
+any-find test (x ∷ xs) = grind (arith, any-find test xs)
+
+pub some-find : {X : Type 0} (test : X → Bool) (x : X) (xs : List X) → find test xs ≡ Some x → list_any test xs ≡ true
+some-find test x xs h = grind (arith, any-find test xs)
+
+-- the first that passes a test is the head, or is in the tail
+pub find-cases : {X : Type 0} (b : Bool) (x y : X) (rest : Option X) → cond b (Some x) rest ≡ Some y → ((b ≡ true) × (x ≡ y)) ⊎ ((b ≡ false) × (rest ≡ Some y))
+find-cases b x y rest h = grind arith
+
+-- the first that passes a test does, and what holds of each holds of it
+pub first-is : {X : Type 0} (test : X → Bool) (P : X → Type 0) (y : X) (xs : List X) → AllByRecursion P xs → find test xs ≡ Some y → (test y ≡ true) × P y
+first-is test P y [] a h = absurd (let e : None ≡ Some y = h in cc)
+first-is test P y (x ∷ xs) a h = elim (find-cases (test x) x y (find test xs) h) [
+  | inl (p, e) ↦ subst (λ z. (test z ≡ true) × P z) e (p, a.0)
+  | inr (p, e) ↦ first-is test P y xs a.1 e
+]
+
+-- the value, where the test holds
+abbrev pub some_if : {X : Type 0} → Bool → X → Option X
+some_if true x = Some x
+some_if false x = None
+
+-- all that passes is this one
+abbrev pub Only : {X : Type 0} → (X → Bool) → X → List X → Type 0
+Only test v xs = AllByRecursion (λ x. test x ≡ true → x ≡ v) xs
+
+-- it is the one that is found
+pub find-all : {X : Type 0} (test : X → Bool) (v : X) (xs : List X) → Only test v xs → find test xs ≡ some_if (list_any test xs) v
+find-all test v [] a = refl
+find-all test v (x ∷ xs) a = grind (arith, a.0, find-all test v xs a.1)
+
+pub find-only : {X : Type 0} (test : X → Bool) (v : X) (xs : List X) → Only test v xs → list_any test xs ≡ true → find test xs ≡ Some v
+find-only test v xs a h = grind (arith, h, find-all test v xs a)
+
+-- the same in any order
+pub only-order : {X : Type 0} (test : X → Bool) (v : X) (xs ys : List X) → IsPermutation xs ys → Only test v xs → Only test v ys
+only-order {X} test v xs ys p a =
+    let P : X → Type 0 = λ x. test x ≡ true → x ≡ v in
+    recursion_from_All P ys (All-permutation P xs ys p (All-from_recursion P xs a))
+
+pub find-order : {X : Type 0} (test : X → Bool) (xs ys : List X) → IsPermutation xs ys → ((x : X) → find test xs ≡ Some x → Only test x xs)
+    → find test ys ≡ find test xs
+find-order {X} test xs ys p only = by_first (find test xs) refl
+  where
+    by_first : (o : Option X) → find test xs ≡ o → find test ys ≡ o
+    by_first None e = find-none test ys (sym (list_any-IsPermutation test xs ys p) ∙ none-find test xs e)
+    by_first (Some x) e = find-only test x ys (only-order test x xs ys p (only x e)) (sym (list_any-IsPermutation test xs ys p) ∙ some-find test x xs e)
+
+-- rows that are functions of their keys
+pub all-keys : {K X : Type 0} (test : X → Bool) (row_of : K → X) (v : X) → ((k : K) → test (row_of k) ≡ true → row_of k ≡ v) → (keys : List K)
+    → Only test v (map row_of keys)
+all-keys test row_of v same [] = tt
+all-keys test row_of v same (k ∷ keys) = (same k, all-keys test row_of v same keys)
+
+-- VALUES THAT MAY BE THERE
+
+pub there : {X : Type 0} (o : Option X) → is_none o ≡ false → is_some o ≡ true
+there o h = grind arith
+
+-- what was there is there whatever is said further
+pub still : {X : Type 0} (o p : Option X) → is_some p ≡ true → is_some (or_else o p) ≡ true
+still o p h = grind arith
+
+pub none-there : {X : Type 0} (o : Option X) → is_some o ≡ false → o ≡ None
+none-there o h = grind arith

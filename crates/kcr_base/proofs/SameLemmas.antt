@@ -1,0 +1,26 @@
+-- Tests that find two codes, roles or places the same find them equal.
+use Rattle.std.proofs.Common.{◌≡◌, ℕ, true, List, arith}
+use Rattle.std.specs.Cmp.Lexicographic.{bytes_decides}
+use Rattle.std.proofs.lemmas.Bool.Decides.{nat_tests}
+use Rattle.std.proofs.lemmas.Cmp.{nat_list_eq_equiv}
+use Rattle.kcr_base.specs.Same.{same_text, same_place, same_role}
+use Rattle.kcr_base.specs.declared.place.Place.{Place}
+use Rattle.kcr_base.specs.declared.place.Role.{Role}
+
+pub same-is : (a b : List ℕ) → same_text a b ≡ true → a ≡ b
+same-is a b h = (bytes_decides a b).0 h
+
+pub same-itself : (a : List ℕ) → same_text a a ≡ true
+same-itself a = nat_list_eq_equiv.refl a
+
+pub same-turned : (a b : List ℕ) → same_text a b ≡ same_text b a
+same-turned a b = nat_list_eq_equiv.symm a b
+
+pub role-same : (a b : Role) → same_role a b ≡ true → a ≡ b
+role-same a b h = grind (arith, nat_tests)
+
+pub place-same : (a b : Place) → same_place a b ≡ true → a ≡ b
+place-same a b h = grind (arith, nat_tests)
+
+pub place-itself : (a : Place) → same_place a a ≡ true
+place-itself a = grind (arith, nat_tests)
