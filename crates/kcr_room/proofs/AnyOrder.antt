@@ -9,17 +9,15 @@ use Rattle.std.proofs.lemmas.List.{length-append}
 use Rattle.std.proofs.lemmas.List.Sums.{sum_by-append}
 use Rattle.std.proofs.lemmas.List.Sorted.{IsPermutation-map, sum_by-IsPermutation, list_any-IsPermutation}
 use Rattle.kcr_base.proofs.RowsLemmas.{filter-order}
-use Rattle.kcr_room.specs.Moments.{IsFirst, IsEver}
-use Rattle.kcr_room.specs.Room.{is_enter, is_ahead, later, last_onto, last_row_of, present_by, crowd_by}
+use Rattle.kcr_room.specs.Room.{is_enter, is_ahead, later, last_onto, last_row_of, present_by}
 use Rattle.kcr_room.specs.Stays.{sooner, next_onto, stay_from, stays_by}
 use Rattle.kcr_room.specs.Ends.{steps_from, steps_by, follows}
 use Rattle.kcr_room.specs.Laws.{IsSheet, ShareNoMoment}
 use Rattle.kcr_room.proofs.Words.{nat_tests, same_text, SheetRow, Stay}
 use Rattle.kcr_room.proofs.Lists.{any-filter, map-same, count-cons, none-behind}
-use Rattle.kcr_room.proofs.Agreement.{begun, same-is, same-itself, of_person, next-lasts, same-present, same-crowd}
+use Rattle.kcr_room.proofs.Agreement.{begun, same-is, same-itself, of_person, next-lasts, same-present}
 use Rattle.kcr_room.proofs.Ends.{step_at, until_in, end-unique, told_from, stays-told}
-use Rattle.kcr_room.proofs.Refusals.{first-unique, ever-unique}
-use Rattle.kcr_room.proofs.Orders.{crowd-order, present-order}
+use Rattle.kcr_room.proofs.Orders.{present-order}
 use Rattle.kcr_room.proofs.Sheets.{made, InTurn, last_reaches, earlier-last}
 
 -- the row is this person's and has this moment
@@ -106,21 +104,8 @@ stays-order xs ys p h =
     (subst (IsPermutation (plain xs xs)) (same ∙ sym (stays-plain ys (share-order xs ys p h)))
     (IsPermutation-map (λ row. stay_from row (next_onto None row xs)) _ _ (filter-order (λ row. is_enter row.way) xs ys p)))
 
-pub rows-crowd : (xs ys : List SheetRow) → IsPermutation xs ys → ShareNoMoment xs → (c t : ℕ) → crowd_by ys c t ≡ crowd_by xs c t
-rows-crowd xs ys p h c t = sym (same-crowd ys c t) ∙ crowd-order (stays_by xs) (stays_by ys) (stays-order xs ys p h) c t ∙ same-crowd xs c t
-
 pub rows-present : (xs ys : List SheetRow) → IsPermutation xs ys → ShareNoMoment xs → (c t : ℕ) → present_by ys c t ≡ present_by xs c t
 rows-present xs ys p h c t = sym (same-present ys c t) ∙ present-order (stays_by xs) (stays_by ys) (stays-order xs ys p h) c t ∙ same-present xs c t
-
-pub rows-lone : (xs ys : List SheetRow) → IsPermutation xs ys → ShareNoMoment xs → (c : ℕ) (first other : Option ℕ) → IsFirst (λ t. crowd_by xs c t == 1) first
-    → IsFirst (λ t. crowd_by ys c t == 1) other → other ≡ first
-rows-lone xs ys p h c first other f g =
-    first-unique (λ t. crowd_by ys c t == 1) (λ t. crowd_by xs c t == 1) (λ t. ap (λ n. n == 1) (rows-crowd xs ys p h c t)) other first g f
-
-pub rows-crowded : (xs ys : List SheetRow) → IsPermutation xs ys → ShareNoMoment xs → (c : ℕ) (ever other : Bool)
-    → IsEver (λ t. nat_lt 128 (crowd_by xs c t)) ever → IsEver (λ t. nat_lt 128 (crowd_by ys c t)) other → other ≡ ever
-rows-crowded xs ys p h c ever other f g =
-    ever-unique (λ t. nat_lt 128 (crowd_by ys c t)) (λ t. nat_lt 128 (crowd_by xs c t)) (λ t. ap (λ n. nat_lt 128 n) (rows-crowd xs ys p h c t)) other ever g f
 
 -- a list of rows has one not earlier than m exactly where its last is
 reached : (m : ℕ) (rows : List SheetRow) (last : Option SheetRow)

@@ -1,54 +1,30 @@
 -- What holds of every sheet that requests have made.
-use Rattle.std.proofs.Common.{◌≡◌, ℕ, Bool, true, false, not, ◌||◌, ◌&&◌, nat_le, List, [], ◌∷◌, ◌++◌, map, Option, Some, None, refl, sym, ap, ◌∙◌, subst}
+use Rattle.std.proofs.Common.{◌≡◌, ℕ, Bool, true, false, not, ◌||◌, ◌&&◌, nat_le, List, [], ◌∷◌, ◌++◌, map, Option, Some, None, refl, sym, ap, ◌∙◌}
 use Rattle.std.proofs.Common.{arith, append-nil, append_assoc}
 use Rattle.std.specs.List.{list_any, filter, find}
-use Rattle.std.proofs.lemmas.Bool.{both_ways, ltb-false, eq-eqb, and_parts, and_from, or_parts, not-true}
+use Rattle.std.proofs.lemmas.Bool.{and_parts, and_from, or_parts, not-true}
 use Rattle.std.proofs.Math.Bool.{or-false}
 use Rattle.std.proofs.lemmas.List.Elements.{filter-append}
-use Rattle.kcr_base.specs.Refuse.{when, first_of}
-use Rattle.kcr_base.specs.declared.refusal.Refusal.{Refusal}
-use Rattle.kcr_base.specs.declared.refusal.Refusal.TheVariants.{Late, Crowd, Lone}
-use Rattle.kcr_room.specs.Moments.{IsFirst, IsEver}
+use Rattle.kcr_base.specs.Refuse.{when}
+use Rattle.kcr_base.specs.declared.refusal.Refusal.TheVariants.{Late}
 use Rattle.kcr_room.specs.Room.{enters, last_row, last_enters, last_row_of, is_of, in_force, ascending_onto, put_person}
-use Rattle.kcr_room.specs.Stays.{crowd_in_by, is_lone_in_by, is_crowd_in_by, first_lone_in_by, is_crowded_in_by, stays_by}
-use Rattle.kcr_room.specs.Adding.{turn_refusal, lone_refusal, sheet_refusal, after, is_out_of_turn, is_out_of_turn_by, new_row, rows_refusal}
+use Rattle.kcr_room.specs.Stays.{stays_by}
+use Rattle.kcr_room.specs.Adding.{turn_refusal, sheet_refusal, is_out_of_turn, is_out_of_turn_by, new_row, rows_refusal}
 use Rattle.kcr_base.specs.Lists.{are_apart}
-use Rattle.kcr_room.specs.Laws.{IsAllowed, in_turn_onto, RowsKeep, StaysKeep, TurnsKeep, PresentAreIn}
+use Rattle.kcr_room.specs.Laws.{in_turn_onto, TurnsKeep, PresentAreIn}
 use Rattle.kcr_base.proofs.RefuseLemmas.{none_holds}
-use Rattle.kcr_room.proofs.Words.{nat_tests, same_text, SheetRow, Way, Stay}
+use Rattle.kcr_room.proofs.Words.{nat_tests, same_text, SheetRow, Way}
 use Rattle.kcr_room.proofs.Lists.{any-filter, any-same}
-use Rattle.kcr_room.proofs.Agreement.{same-crowd, same-turned, listed, of_person, force-last}
-use Rattle.kcr_room.proofs.Moments.{first_lone-is_first, crowded-is_ever}
+use Rattle.kcr_room.proofs.Agreement.{same-turned, listed, of_person, force-last}
 
 pub and-assoc : (a b c : Bool) → ((a && b) && c) ≡ (a && (b && c))
 and-assoc a b c = grind (arith, nat_tests)
-
--- where no crowd and nobody alone is found, each moment is allowed
-allowed : (stays : List Stay) (c : ℕ) (last : Option Refusal)
-    → first_of (when (is_crowded_in_by stays c) Crowd ∷ lone_refusal (first_lone_in_by stays c) ∷ last ∷ []) ≡ None → (t : ℕ)
-    → IsAllowed (crowd_in_by stays c t)
-allowed stays c last h = by_answers (is_crowded_in_by stays c) (crowded-is_ever stays c) (first_lone_in_by stays c) (first_lone-is_first stays c) h
-  where
-    by_answers : (b : Bool) → IsEver (is_crowd_in_by stays c) b → (o : Option ℕ) → IsFirst (is_lone_in_by stays c) o
-        → first_of (when b Crowd ∷ lone_refusal o ∷ last ∷ []) ≡ None → (t : ℕ) → IsAllowed (crowd_in_by stays c t)
-    by_answers true e o f h t = absurd (let k : Some Crowd ≡ None = h in cc)
-    by_answers false e (Some m) f h t = absurd (let k : Some (Lone m) ≡ None = h in cc)
-    by_answers false e None f h t =
-        (λ k. both_ways (is_lone_in_by stays c t) (f t) (eq-eqb (crowd_in_by stays c t) 1 k), ltb-false 128 (crowd_in_by stays c t) (e t))
-
-pub stays_keep : StaysKeep
-stays_keep stays c mark full way people at h = allowed (after stays c way people at) c _ (none_holds (when (nat_le at mark) (Late mark) ∷ _ ∷ _ ∷ []) h).1.1.0
 
 -- rows that are not refused: everybody has the turn, and nothing is against the sheet that they make
 pub taken : (rows : List SheetRow) (c mark : ℕ) (full : Bool) (way : Way) (people : List (List ℕ)) (at : ℕ) → rows_refusal rows c mark full way people at ≡ None
     → (turn_refusal (find (is_out_of_turn_by rows c way at) people) ≡ None) ×
     (sheet_refusal (stays_by (rows ++ map (new_row c way at) people)) c full way ≡ None)
 taken rows c mark full way people at h = let n = none_holds (when (nat_le at mark) (Late mark) ∷ _ ∷ _ ∷ []) h in (n.1.0, n.1.1.0)
-
-pub rows_keep : RowsKeep
-rows_keep rows c mark full way people at h t =
-    let all : List SheetRow = rows ++ map (new_row c way at) people in
-    subst IsAllowed (same-crowd all c t) (allowed (stays_by all) c _ (taken rows c mark full way people at h).1 t)
 
 -- nobody's turn is missed where no first such person is found
 pub none-found : (p : List ℕ → Bool) (who : List ℕ) (rest : List (List ℕ)) → turn_refusal (find p (who ∷ rest)) ≡ None

@@ -6,11 +6,9 @@ pub mod Moments
 pub mod Keeping
 pub mod Sheets
 pub mod Refusals
-pub mod Others
 pub mod Rising
 pub mod Orders
 pub mod Listed
-pub mod Alone
 pub mod Ends
 pub mod Steps
 pub mod AnyOrder

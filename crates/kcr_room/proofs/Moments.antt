@@ -1,8 +1,8 @@
 -- Who is in a room by stays changes at the moments of the stays alone.
 use Rattle.std.proofs.Common.{◌≡◌, ℕ, ◌+◌, ◌≤◌, Bool, true, false, cond, ◌&&◌, ◌==◌, nat_le, nat_lt, List, [], ◌∷◌, ◌++◌, map, Option, Some, None, refl, sym}
 use Rattle.std.proofs.Common.{ap, ◌∙◌, arith, subst}
-use Rattle.std.specs.List.{AllByRecursion, list_any, count_by, filter, filter_map}
-use Rattle.std.proofs.lemmas.Bool.{ltb-true, ltb-false, le-ltb}
+use Rattle.std.specs.List.{AllByRecursion, list_any, filter, filter_map}
+use Rattle.std.proofs.lemmas.Bool.{ltb-false, le-ltb}
 use Rattle.std.proofs.lemmas.List.Sums.{sum_by-cons}
 use Rattle.kcr_room.specs.Adding.{of_ceremony}
 use Rattle.kcr_room.specs.Comings.{is_held, comings_by, goings_by, count_until}
@@ -137,18 +137,3 @@ crowded-is_ever stays c = subst (IsEver (is_crowd_in_by stays c)) (crowded-since
 pub crowded-by_rows : (rows : List SheetRow) (c : ℕ) (b : Bool) → IsEver (is_crowd_in_by (stays_by rows) c) b → IsEver (λ t. nat_lt 128 (crowd_by rows c t)) b
 crowded-by_rows rows c true h = (h.0, subst (λ n. nat_lt 128 n ≡ true) (same-crowd rows c h.0) h.1)
 crowded-by_rows rows c false h = λ t. subst (λ n. nat_lt 128 n ≡ false) (same-crowd rows c t) (h t)
-
--- where the ceremony has few stays no crowd can be there
-crowd-few : (stays : List Stay) (c t : ℕ) → crowd_in_by stays c t ≤ count_by (of_ceremony c) stays
-crowd-few [] c t = omega arith
-crowd-few (stay ∷ stays) c t =
-    grind (arith, nat_tests, crowd-cons stay stays c t, sum_by-cons (λ s. cond (of_ceremony c s) 1 0) stay stays, crowd-few stays c t)
-
-pub crowded-some : (stays : List Stay) (c : ℕ) → (nat_lt 128 (count_by (of_ceremony c) stays) && is_crowded_in_by stays c) ≡ is_crowded_in_by stays c
-crowded-some stays c = by_answers (nat_lt 128 (count_by (of_ceremony c) stays)) refl (is_crowded_in_by stays c) (crowded-is_ever stays c)
-  where
-    by_answers : (b : Bool) → nat_lt 128 (count_by (of_ceremony c) stays) ≡ b → (d : Bool) → IsEver (is_crowd_in_by stays c) d → (b && d) ≡ d
-    by_answers true e d f = refl
-    by_answers false e false f = refl
-    by_answers false e true f =
-        absurd (omega (arith, ltb-false 128 (count_by (of_ceremony c) stays) e, ltb-true 128 (crowd_in_by stays c f.0) f.1, crowd-few stays c f.0))

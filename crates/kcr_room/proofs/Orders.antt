@@ -3,27 +3,21 @@ use Rattle.std.proofs.Common.{◌≡◌, ℕ, Bool, true, false, cond, nat_le, n
 use Rattle.std.specs.List.{filter, find}
 use Rattle.std.specs.List.Sorted.{IsPermutation}
 use Rattle.kcr_base.proofs.RowsLemmas.{Shuffled, shuffled, filter-order}
-use Rattle.std.proofs.lemmas.List.Sorted.{IsPermutation-refl, IsPermutation-map, IsPermutation-append_left, length_permutation, sum_by-IsPermutation}
+use Rattle.std.proofs.lemmas.List.Sorted.{IsPermutation-map, IsPermutation-append_left, length_permutation, sum_by-IsPermutation}
 use Rattle.std.proofs.lemmas.List.Sorted.{list_any-IsPermutation}
 use Rattle.kcr_base.specs.Refuse.{when, first_of}
 use Rattle.kcr_base.specs.declared.refusal.Refusal.TheVariants.{Late}
 use Rattle.kcr_room.specs.Room.{ascending_onto, put_person}
-use Rattle.kcr_room.specs.Stays.{holds, crowd_in_by, present_in_by, first_lone_in_by, is_crowded_in_by}
-use Rattle.kcr_room.specs.Adding.{reaches, is_inside, is_inside_of, is_out_of_turn_in, new_stay, closed, of_ceremony, after, ends_by, changed_stays}
+use Rattle.kcr_room.specs.Stays.{holds, crowd_in_by, present_in_by}
+use Rattle.kcr_room.specs.Adding.{reaches, is_inside, is_inside_of, is_out_of_turn_in, new_stay, closed, of_ceremony, after}
 use Rattle.kcr_room.specs.Adding.{turn_refusal, is_overfull, later_refusal, stays_refusal}
 use Rattle.kcr_room.proofs.Words.{nat_tests, is_before, Way, Enter, Leave, Stay}
 use Rattle.kcr_room.proofs.Agreement.{same-is}
-use Rattle.kcr_room.proofs.Refusals.{lone-same, crowded-same, refused-same, find-same}
+use Rattle.kcr_room.proofs.Refusals.{refused-same, find-same}
 use Rattle.kcr_room.proofs.Rising.{ranked, other-before}
 
 pub crowd-order : (xs ys : List Stay) → IsPermutation xs ys → (c t : ℕ) → crowd_in_by ys c t ≡ crowd_in_by xs c t
 crowd-order xs ys p c t = sum_by-IsPermutation (λ s. cond (holds c t s) 1 0) xs ys p
-
-pub lone-order : (xs ys : List Stay) → IsPermutation xs ys → (c : ℕ) → first_lone_in_by ys c ≡ first_lone_in_by xs c
-lone-order xs ys p c = lone-same ys xs c (crowd-order xs ys p c)
-
-pub crowded-order : (xs ys : List Stay) → IsPermutation xs ys → (c : ℕ) → is_crowded_in_by ys c ≡ is_crowded_in_by xs c
-crowded-order xs ys p c = crowded-same ys xs c (crowd-order xs ys p c)
 
 -- WHO
 
@@ -79,9 +73,3 @@ refusal-order xs ys p c mark full way people at =
     (find-same (is_out_of_turn_in ys c way at) (is_out_of_turn_in xs c way at) (turn-order xs ys p c way at) people)
     ∙ ap (λ x. first_of (when (nat_le at mark) (Late mark) ∷ turn_refusal (find (is_out_of_turn_in xs c way at) people) ∷ x ∷ []))
     (later-order _ _ (after-order xs ys p c way people at) c full way)
-
-pub changes-order : (xs ys : List Stay) → IsPermutation xs ys → (c : ℕ) (way : Way) (people : List (List ℕ)) (at : ℕ)
-    → IsPermutation (changed_stays xs c way people at) (changed_stays ys c way people at)
-changes-order xs ys p c Enter people at = IsPermutation-refl (map (new_stay c at) people)
-changes-order xs ys p c Leave people at =
-    IsPermutation-map (closed people at) (filter (ends_by c people) xs) (filter (ends_by c people) ys) (filter-order (ends_by c people) xs ys p)

@@ -1,5 +1,5 @@
 -- Who is in a room, by stays with a beginning and an end.
-use Rattle.std.specs.Prelude.{ℕ, ◌==◌, Bool, true, false, not, ◌&&◌, ◌||◌, nat_lt, nat_le, List, [], ◌∷◌, ◌++◌, map}
+use Rattle.std.specs.Prelude.{ℕ, ◌==◌, Bool, true, not, ◌&&◌, ◌||◌, nat_lt, nat_le, List, [], ◌∷◌, ◌++◌, map}
 use Rattle.std.specs.Prelude.{filter, Option, Some, None, if◌then◌else◌}
 use Rattle.std.specs.List.{list_any, list_all, count_by}
 use Rattle.kcr_base.specs.Same.{same_text, is_before}
@@ -64,13 +64,6 @@ crowd_in_by stays ceremony t = count_by (holds ceremony t) stays
 -- exactly one person is in the room at t
 abbrev pub is_lone_in_by : List Stay → ℕ → ℕ → Bool
 is_lone_in_by stays ceremony t = crowd_in_by stays ceremony t == 1
-
--- exactly one person is in the room, of whom `one` says whether one was found before; a second one decides it
-abbrev pub is_one_onto : ℕ → ℕ → Bool → List Stay → Bool
-is_one_onto ceremony t one [] = one
-is_one_onto ceremony t one (stay ∷ stays) =
-    if holds ceremony t stay then
-    (if one then false else is_one_onto ceremony t true stays) else is_one_onto ceremony t one stays
 
 -- more than 128 people are in the room at t
 abbrev pub is_crowd_in_by : List Stay → ℕ → ℕ → Bool

@@ -64,9 +64,9 @@ fn is_inside_this(stays: &[Stay], ceremony: u32, who: Initials) -> bool
     stays.iter().any(|stay| is_inside_of(ceremony, who, stay))
 }
 
-/// Whether it is not the person's turn: a row of the person is at the moment or later, or for `in` the
-/// person is in some room, or for `out` not in the room of the ceremony.
-pub fn is_out_of_turn_in(stays: &[Stay], ceremony: u32, way: Way, at: Moment, who: Initials) -> bool
+// Whether it is not the person's turn: a row of the person is at the moment or later, or for `in` the
+// person is in some room, or for `out` not in the room of the ceremony.
+fn is_out_of_turn_in(stays: &[Stay], ceremony: u32, way: Way, at: Moment, who: Initials) -> bool
     ensures { result ≡ Adding.is_out_of_turn_in stays.now ceremony way at who }
 {
     match way {

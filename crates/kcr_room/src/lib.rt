@@ -4,9 +4,7 @@
 
 pub mod adding;
 pub mod laws;
-pub mod listing;
 pub mod presence;
-pub mod sheet;
 pub mod stays;
 mod traffic;
 
@@ -14,13 +12,9 @@ ghost use Rattle.std.specs.Prelude.{⊤, codes, ◌≡◌};
 ghost use Rattle.kcr_base.specs.Reads.{Found, Only};
 ghost use Rattle.kcr_room.specs.Room.{way_text};
 
-pub use adding::{add_stays, is_out_of_turn_in};
+pub use adding::add_stays;
 use kcr_base::{Initials, Moment};
-pub use listing::{attendance, attendance_in};
-pub use presence::{
-    first_lone, first_lone_in, holds, is_crowded, is_crowded_in, present, present_in,
-};
-pub use sheet::{add_rows, last_row_of};
+pub use presence::{first_lone, holds, is_crowded, present_in};
 pub use stays::stays_of;
 
 /// Whether people come into a room or go out of it.

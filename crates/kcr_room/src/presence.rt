@@ -1,11 +1,9 @@
 //! Who is in a room at a moment, the first moment with one person alone there, and whether it is
 //! ever too full.
-ghost use Rattle.std.specs.Prelude.{List, false, ◌==◌, ◌&&◌, nat_lt, ◌≡◌, ◌≤◌, ◌∷◌, ◌++◌, IfOk, length, take, drop};
-ghost use Rattle.kcr_room.specs.Adding;
+ghost use Rattle.std.specs.Prelude.{◌==◌, nat_lt, ◌≡◌, ◌≤◌, ◌∷◌, ◌++◌, IfOk, length, take, drop};
 ghost use Rattle.kcr_room.specs.Moments;
 ghost use Rattle.kcr_room.specs.Room;
 ghost use Rattle.kcr_room.specs.Stays;
-ghost use Rattle.kcr_room.specs.declared.SheetRow.{SheetRow};
 
 use crate::traffic::crowding_of;
 use crate::{SheetRow, Stay, stays_of};
@@ -42,21 +40,8 @@ fn place_of(who: Initials, people: &[Initials]) -> usize
 }
 
 /// Those in the room of the ceremony at the moment, in byte order. The stays may hold more than the
-/// ceremony's, in any order; those of a sheet answer as its rows do.
+/// ceremony's, in any order.
 pub fn present_in(
-    alloc: Global,
-    stays: &[Stay],
-    ceremony: u32,
-    at: Moment,
-) -> Result<Vec<Initials>, AllocError>
-    ensures by_stays { IfOk result (λ people. people.items ≡ Stays.present_in_by stays.now ceremony at) }
-    ensures by_rows { (rows : List SheetRow) → stays.now ≡ Stays.stays_by rows
-        → IfOk result (λ people. people.items ≡ Room.present_by rows ceremony at) }
-{
-    people_in(alloc, stays, ceremony, at)
-}
-
-fn people_in(
     alloc: Global,
     stays: &[Stay],
     ceremony: u32,
@@ -72,151 +57,6 @@ fn people_in(
         }
     }
     Ok(people)
-}
-
-// How many people are in the room at the moment.
-fn crowd_in(stays: &[Stay], ceremony: u32, at: Moment) -> usize
-    ensures { result ≡ Stays.crowd_in_by stays.now ceremony at }
-{
-    stays
-        .iter()
-        .filter(|stay| holds(ceremony, at, **stay))
-        .count()
-}
-
-pub(crate) fn is_sooner(at: Moment, found: &Option<Moment>) -> bool
-    ensures { result ≡ Moments.is_sooner at found.now }
-{
-    match found {
-        None => true,
-        Some(found) => is_earlier(at, *found),
-    }
-}
-
-fn is_lone(stays: &[Stay], ceremony: u32, at: Moment) -> bool
-    ensures { result ≡ Stays.is_lone_in_by stays.now ceremony at }
-{
-    has_one(stays, ceremony, at)
-}
-
-// The same: looks no further than the second person.
-fn has_one(stays: &[Stay], ceremony: u32, at: Moment) -> bool
-    ensures { result ≡ Stays.is_one_onto ceremony at false stays.now }
-{
-    let mut one = false;
-    for stay in stays {
-        if holds(ceremony, at, *stay) {
-            if one {
-                return false;
-            }
-            one = true;
-        }
-    }
-    one
-}
-
-fn try_moment(stays: &[Stay], ceremony: u32, found: Option<Moment>, at: Moment) -> Option<Moment>
-    ensures { result ≡ Moments.try (Stays.is_lone_in_by stays.now ceremony) found at }
-{
-    if is_sooner(at, &found) && is_lone(stays, ceremony, at) {
-        Some(at)
-    } else {
-        found
-    }
-}
-
-fn try_end(
-    stays: &[Stay],
-    ceremony: u32,
-    found: Option<Moment>,
-    until: Option<Moment>,
-) -> Option<Moment>
-    ensures { result ≡ Moments.try_all (Stays.is_lone_in_by stays.now ceremony) found (Stays.ends until) }
-{
-    match until {
-        None => found,
-        Some(until) => try_moment(stays, ceremony, found, until),
-    }
-}
-
-/// The first of all moments at which exactly one person is in the room of the ceremony, or None where
-/// there is none. The stays may hold more than the ceremony's, in any order. It takes no memory: it goes
-/// through the stays for each moment at which somebody comes or goes and which is sooner than what was
-/// found, up to the second person there.
-pub fn first_lone_in(stays: &[Stay], ceremony: u32) -> Option<Moment>
-    ensures value { result ≡ Stays.first_lone_in_by stays.now ceremony }
-    ensures first { Moments.IsFirst (Stays.is_lone_in_by stays.now ceremony) result }
-{
-    seek_lone(stays, ceremony)
-}
-
-// Seeks it at the moments of the ceremony's stays.
-fn seek_lone(stays: &[Stay], ceremony: u32) -> Option<Moment>
-    ensures { result ≡ Stays.first_lone_in_by stays.now ceremony }
-{
-    let mut found = None;
-    for stay in stays {
-        if stay.ceremony == ceremony {
-            let soonest = try_moment(stays, ceremony, found, stay.since);
-            found = try_end(stays, ceremony, soonest, stay.until);
-        }
-    }
-    found
-}
-
-fn is_crowd_at(stays: &[Stay], ceremony: u32, stay: &Stay) -> bool
-    ensures { result ≡ Stays.is_crowd_at stays.now ceremony stay.now }
-{
-    stay.ceremony == ceremony && crowd_in(stays, ceremony, stay.since) > 128
-}
-
-/// How many stays the ceremony has.
-pub(crate) fn entries(stays: &[Stay], ceremony: u32) -> usize
-    ensures { result ≡ Adding.entries stays.now ceremony }
-{
-    stays
-        .iter()
-        .filter(|stay| stay.ceremony == ceremony)
-        .count()
-}
-
-/// Whether at any moment more than 128 people are in the room of the ceremony. The stays may hold more
-/// than the ceremony's, in any order. It takes no memory: where the ceremony has more than 128 stays, it
-/// goes through the stays for each of them.
-pub fn is_crowded_in(stays: &[Stay], ceremony: u32) -> bool
-    ensures value { result ≡ Stays.is_crowded_in_by stays.now ceremony }
-    ensures ever { Moments.IsEver (Stays.is_crowd_in_by stays.now ceremony) result }
-{
-    seek_crowd(stays, ceremony)
-}
-
-// Seeks it where the ceremony has stays enough.
-fn seek_crowd(stays: &[Stay], ceremony: u32) -> bool
-    ensures { result ≡ (nat_lt 128 (Adding.entries stays.now ceremony) && Stays.is_crowded_in_by stays.now ceremony) }
-{
-    entries(stays, ceremony) > 128 && has_crowd(stays, ceremony)
-}
-
-// Seeks it at the beginnings of the ceremony's stays.
-fn has_crowd(stays: &[Stay], ceremony: u32) -> bool
-    ensures { result ≡ Stays.is_crowded_in_by stays.now ceremony }
-{
-    stays.iter().any(|stay| is_crowd_at(stays, ceremony, stay))
-}
-
-/// Those in the room of the ceremony at the moment, in byte order: of a person's rows with moments at
-/// most this one, over all ceremonies, the one with the greatest moment is `in` for the ceremony. Of
-/// two rows of one person at one moment the later listed counts.
-pub fn present(
-    alloc: Global,
-    rows: &[SheetRow],
-    ceremony: u32,
-    at: Moment,
-) -> Result<Vec<Initials>, AllocError>
-    ensures { IfOk result (λ people. people.items ≡ Room.present_by rows.now ceremony at) }
-{
-    let stays = stays_of(alloc, rows)?;
-    present_in(alloc, &stays, ceremony, at)
 }
 
 /// The first of all moments at which exactly one person is in the room of the ceremony, or None where

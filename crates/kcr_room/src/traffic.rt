@@ -3,11 +3,12 @@
 ghost use Rattle.std.specs.Prelude.{◌≡◌, IfOk};
 ghost use Rattle.std.specs.List.Sorted.{IsNonDecreasing, IsPermutation};
 ghost use Rattle.kcr_room.specs.Comings;
+ghost use Rattle.kcr_room.specs.Moments;
 ghost use Rattle.kcr_room.specs.Stays;
 
 use crate::Stay;
-use crate::presence::{is_sooner, lasts_at};
-use kcr_base::{Moment, not_later};
+use crate::presence::lasts_at;
+use kcr_base::{Moment, is_earlier, not_later};
 use std::alloc::{AllocError, Global};
 
 // Whether the stay is of the ceremony and holds at some moment.
@@ -54,6 +55,15 @@ fn count_until(moments: &[Moment], at: Moment) -> usize
     ensures { result ≡ Comings.count_until moments.now at }
 {
     moments.partition_point(|moment| not_later(*moment, at))
+}
+
+fn is_sooner(at: Moment, found: &Option<Moment>) -> bool
+    ensures { result ≡ Moments.is_sooner at found.now }
+{
+    match found {
+        None => true,
+        Some(found) => is_earlier(at, *found),
+    }
 }
 
 /// The moments at which people come to the room of a ceremony and those at which they go, each in order.

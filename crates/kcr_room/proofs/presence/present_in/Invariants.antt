@@ -2,7 +2,7 @@ use Rattle.std.proofs.Common.{◌≡◌, [], map, drop}
 use Rattle.std.specs.List.{filter}
 use Rattle.kcr_room.specs.Room.{ascending_onto}
 use Rattle.kcr_room.specs.Stays.{holds}
-use Rattle.kcr_room.proofs.presence.people_in.Given as goal
+use Rattle.kcr_room.proofs.presence.present_in.Given as goal
 
 abbrev pub invariant-loop-stay : goal.invariant-loop-stay
 invariant-loop-stay l =
