@@ -1,24 +1,24 @@
 -- In a ceremony that has no rows nobody is in the room.
-use Rattle.std.proofs.Common.{◌≡◌, ℕ, ◌≤◌, Bool, true, false, cond, ◌||◌, ◌==◌, nat_lt, List, [], ◌∷◌, ◌++◌, map, Option, Some, None, refl, sym, ap, subst, ◌∙◌, arith, option_map, inl, inr}
+use Rattle.std.proofs.Common.{◌≡◌, ℕ, ◌≤◌, Bool, true, false, ◌==◌, nat_lt, List, [], ◌∷◌, map, Option, Some, None, refl, sym, ap, subst, ◌∙◌, arith, option_map}
 use Rattle.std.specs.Prelude.{find}
 use Rattle.std.specs.List.{Contains, list_any}
-use Rattle.std.proofs.lemmas.Bool.{true≢false, ltb-false, and_parts, or_cases, or_left, or_right, eqb-true, eq-eqb}
+use Rattle.std.proofs.lemmas.Bool.{true≢false, ltb-false, and_parts, eqb-true, eq-eqb}
 use Rattle.std.proofs.lemmas.List.Elements.{All-contains}
-use Rattle.std.proofs.lemmas.List.Folds.{list_any-append}
 use Rattle.std.proofs.lemmas.Map.Views.{Contains-from_any}
 use Rattle.kcr_base.proofs.ListLemmas.{none-find, any-map, any-more}
 use Rattle.kcr_room.specs.declared.SheetRow.{SheetRow}
 use Rattle.kcr_room.specs.declared.Stay.{Stay}
-use Rattle.kcr_room.specs.Room.{crowd_by, is_enter}
+use Rattle.kcr_room.specs.Room.{crowd_by, Followed, followed_rows}
 use Rattle.kcr_room.specs.Moments.{IsEver}
-use Rattle.kcr_room.specs.Stays.{holds, cut, stay_from, next_onto, stays_next, stays_onto, stays_by, crowd_in_by, is_crowd_in_by, is_crowd_at}
+use Rattle.kcr_room.specs.Stays.{holds, stays_of, stays_by, crowd_in_by, is_crowd_in_by, comings_by}
+use Rattle.kcr_room.proofs.Followed.{followed-same}
 use Rattle.kcr_room.proofs.Agreement.{same-crowd}
 use Rattle.kcr_room.proofs.Moments.{crowded-is_ever}
 use Rattle.kcr_history.specs.declared.views.Finding.{Finding}
 use Rattle.kcr_history.specs.declared.views.Finding.TheVariants as Findings
 use Rattle.kcr_history.specs.declared.views.View.{View}
 use Rattle.kcr_history.specs.Audit.{IsTrueOf, rank}
-use Rattle.kcr_audit.specs.Rooms.{IsSometime, IsSoughtAmong, is_lone, is_crowd}
+use Rattle.kcr_audit.specs.Rooms.{IsSometime, IsSoughtAmong, is_lone, is_crowd, is_crowd_at}
 use Rattle.kcr_audit.proofs.Found.{is-found, counted-any}
 
 -- the stay, the row is of the ceremony
@@ -28,26 +28,10 @@ of_stay c stay = stay.ceremony == c
 abbrev of_row : ℕ → SheetRow → Bool
 of_row c row = row.ceremony == c
 
-new-listed : (c : ℕ) (row : SheetRow) (until : Option ℕ) (b : Bool) → list_any (of_stay c) (cond b (stay_from row until ∷ []) []) ≡ true → of_row c row ≡ true
-new-listed c row until false h = absurd (true≢false (sym h))
-new-listed c row until true h = elim (or_cases (of_row c row) false h) [ inl g ↦ g | inr g ↦ absurd (true≢false (sym g)) ]
-
 -- a stay is of a ceremony that has a row
-stays-listed : (c : ℕ) (rows before : List SheetRow) (stays : List Stay) → list_any (of_stay c) (stays_onto before stays rows) ≡ true → (list_any (of_stay c) stays || list_any (of_row c) rows) ≡ true
-stays-listed c [] before stays h = or_left (list_any (of_stay c) stays) false h
-stays-listed c (row ∷ rows) before stays h =
-    elim (or_cases (list_any (of_stay c) (stays_next before stays row)) (list_any (of_row c) rows) (stays-listed c rows (before ++ (row ∷ [])) (stays_next before stays row) h)) [
-      | inr g ↦ or_right (list_any (of_stay c) stays) (of_row c row || list_any (of_row c) rows) (or_right (of_row c row) (list_any (of_row c) rows) g)
-      | inl g ↦ elim (or_cases (list_any (of_stay c) (map (cut row) stays)) (list_any (of_stay c) new) (sym (list_any-append (of_stay c) (map (cut row) stays) new) ∙ g)) [
-        | inl k ↦ or_left (list_any (of_stay c) stays) (of_row c row || list_any (of_row c) rows) (sym (any-map (of_stay c) (cut row) stays) ∙ k)
-        | inr k ↦
-            or_right (list_any (of_stay c) stays) (of_row c row || list_any (of_row c) rows)
-            (or_left (of_row c row) (list_any (of_row c) rows) (new-listed c row (next_onto None row before) (is_enter row.way) k))
-      ]
-    ]
-  where
-    new : List Stay
-    new = cond (is_enter row.way) (stay_from row (next_onto None row before) ∷ []) []
+stays-listed : (c : ℕ) (all : List Followed) → list_any (of_stay c) (stays_of all) ≡ true → list_any (of_row c) (map (λ followed. followed.row) all) ≡ true
+stays-listed c [] h = h
+stays-listed c (followed ∷ all) h = grind (arith, h, stays-listed c all)
 
 -- where somebody is in the room the ceremony has a row
 crowd-listed : (rows : List SheetRow) (c t : ℕ) → 1 ≤ crowd_by rows c t → Contains (map (λ row. row.ceremony) rows) c
@@ -56,7 +40,7 @@ crowd-listed rows c t h =
     let held : list_any (holds c t) (stays_by rows) ≡ true = counted-any (holds c t) (stays_by rows) (let k : 1 ≤ crowd_in_by (stays_by rows) c t = omega arith in k) in
     let some : list_any (of_stay c) (stays_by rows) ≡ true = any-more (holds c t) (of_stay c) (stays_by rows) (λ stay g. (and_parts (of_stay c stay) (_) (and_parts _ _ g).0).0) held in
     Contains-from_any {eq = λ m n. n == m} (λ x y e. sym (eqb-true y x e)) c (map (λ row. row.ceremony) rows)
-    (any-map (λ n. n == c) (λ row. row.ceremony) rows ∙ stays-listed c rows [] [] some)
+    (any-map (λ n. n == c) (λ row. row.ceremony) rows ∙ subst (λ all. list_any (of_row c) all ≡ true) (followed-same [] rows) (stays-listed c (followed_rows rows) some))
 
 -- a test that fails for all ceremonies that have rows fails wherever somebody is in the room
 pub none-listed : (test : List SheetRow → ℕ → ℕ → Bool) (sheet all rows : List SheetRow) (numbers list : List ℕ) (found : Option (ℕ × ℕ)) → all ≡ sheet → rows ≡ sheet → list ≡ numbers → found ≡ None
@@ -74,6 +58,11 @@ pub none-crowd : (view : View) → ((c t : ℕ) → 1 ≤ crowd_by view.sheet.it
 none-crowd view none (Findings.Crowd c t) r h = let few = ltb-false 128 (crowd_by view.sheet.items c t) (none c t (omega (arith, h))) in omega (arith, h, few)
 none-crowd view none other r h = omega (arith, r)
 
+-- where there are not too many at the beginning of any stay there are not where somebody comes
+none-coming : (all stays : List Stay) (c : ℕ) → list_any (is_crowd_at all c) stays ≡ false → list_any (is_crowd_in_by all c) (comings_by stays c) ≡ false
+none-coming all [] c h = refl
+none-coming all (stay ∷ stays) c h = grind (arith, h, none-coming all stays c)
+
 -- the stay at whose beginning there are too many tells of such a moment
 pub crowded : (rows : List SheetRow) (c : ℕ) (stays : List Stay) (found : Option ℕ) → stays ≡ stays_by rows → found ≡ option_map (λ stay. stay.since) (find (is_crowd_at stays c) stays) → IsSometime (is_crowd rows c) found
 crowded rows c stays found e f = subst (IsSometime (is_crowd rows c)) (sym f) (by_find (find (is_crowd_at stays c) stays) refl)
@@ -83,4 +72,4 @@ crowded rows c stays found e f = subst (IsSometime (is_crowd rows c)) (sym f) (b
 
     by_find : (o : Option Stay) → find (is_crowd_at stays c) stays ≡ o → IsSometime (is_crowd rows c) (option_map (λ stay. stay.since) o)
     by_find (Some stay) h = sym (here stay.since) ∙ (and_parts (stay.ceremony == c) (is_crowd_in_by stays c stay.since) (is-found (is_crowd_at stays c) stays stay h).passes).1
-    by_find None h = λ t. sym (here t) ∙ subst (IsEver (is_crowd_in_by stays c)) (none-find (is_crowd_at stays c) stays h) (crowded-is_ever stays c) t
+    by_find None h = λ t. sym (here t) ∙ subst (IsEver (is_crowd_in_by stays c)) (none-coming stays stays c (none-find (is_crowd_at stays c) stays h)) (crowded-is_ever stays c) t

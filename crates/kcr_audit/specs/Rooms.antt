@@ -1,8 +1,10 @@
 -- Moments of rooms.
-use Rattle.std.specs.Prelude.{◌≡◌, ℕ, ◌==◌, Bool, true, false, nat_lt, List, Option, Some, None}
+use Rattle.std.specs.Prelude.{◌≡◌, ℕ, ◌==◌, Bool, true, false, ◌&&◌, nat_lt, List, Option, Some, None}
 use Rattle.std.specs.List.{All}
 use Rattle.kcr_room.specs.declared.SheetRow.{SheetRow}
+use Rattle.kcr_room.specs.declared.Stay.{Stay}
 use Rattle.kcr_room.specs.Room.{crowd_by}
+use Rattle.kcr_room.specs.Stays.{is_crowd_in_by}
 
 -- exactly one person is in the room
 abbrev pub is_lone : List SheetRow → ℕ → ℕ → Bool
@@ -11,6 +13,10 @@ is_lone rows ceremony t = crowd_by rows ceremony t == 1
 -- more than 128 people are in the room
 abbrev pub is_crowd : List SheetRow → ℕ → ℕ → Bool
 is_crowd rows ceremony t = nat_lt 128 (crowd_by rows ceremony t)
+
+-- at the beginning of this stay of the ceremony more than 128 people are in its room
+abbrev pub is_crowd_at : List Stay → ℕ → Stay → Bool
+is_crowd_at stays ceremony stay = stay.ceremony == ceremony && is_crowd_in_by stays ceremony stay.since
 
 -- a moment that passes; None where none does
 abbrev pub IsSometime : (ℕ → Bool) → Option ℕ → Type 0

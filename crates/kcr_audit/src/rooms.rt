@@ -77,14 +77,14 @@ fn crowd(stays: &[Stay], ceremony: u32, at: Moment) -> usize
 
 /// Whether with this stay of the ceremony too many people are in the room.
 fn is_crowd_at(stays: &[Stay], ceremony: u32, stay: Stay) -> bool
-    ensures { result ≡ Stays.is_crowd_at stays.now ceremony stay }
+    ensures { result ≡ Rooms.is_crowd_at stays.now ceremony stay }
 {
     stay.ceremony == ceremony && crowd(stays, ceremony, stay.since) > MOST_PEOPLE
 }
 
 /// When the first such stay begins.
 fn first_crowd(stays: &[Stay], ceremony: u32) -> Option<Moment>
-    ensures { result ≡ option_map (λ stay. stay.since) (find (Stays.is_crowd_at stays.now ceremony) stays.now) }
+    ensures { result ≡ option_map (λ stay. stay.since) (find (Rooms.is_crowd_at stays.now ceremony) stays.now) }
 {
     stays
         .iter()

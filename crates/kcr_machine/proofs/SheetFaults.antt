@@ -1,5 +1,5 @@
 -- The first refusal of a request of the sheet by the rows of a view is its fault by the history, and so the sheet of a register was made in turn.
-use Rattle.std.proofs.Common.{◌≡◌, ℕ, ◌+◌, Bool, true, false, cond, not, ◌||◌, ◌&&◌, ◌==◌, nat_le, nat_lt, List, [], ◌∷◌, ◌++◌, map, filter, find, reverse}
+use Rattle.std.proofs.Common.{◌≡◌, ℕ, Bool, true, false, cond, not, ◌||◌, ◌&&◌, ◌==◌, nat_le, nat_lt, List, [], ◌∷◌, ◌++◌, map, filter, find, reverse}
 use Rattle.std.proofs.Common.{Option, Some, None, option_map, is_none, refl, sym, ap, ◌∙◌, subst, arith, append-nil, inl, inr}
 use Rattle.std.specs.Prelude.{is_some, count_by}
 use Rattle.std.specs.List.{cons_option}
@@ -7,7 +7,6 @@ use Rattle.std.specs.List.Sorted.{IsPermutation}
 use Rattle.std.proofs.lemmas.Bool.{true≢false}
 use Rattle.std.proofs.lemmas.List.Elements.{filter-append}
 use Rattle.std.proofs.lemmas.List.Sorted.{IsPermutation-refl, IsPermutation-reverse, IsPermutation-append}
-use Rattle.std.proofs.lemmas.List.Sums.{sum_by-append}
 use Rattle.kcr_base.specs.Refuse.{when, first_of}
 use Rattle.kcr_base.proofs.RefuseLemmas.{none_holds, met, behind, nested, no_first}
 use Rattle.kcr_base.specs.Same.{same_text}
@@ -20,8 +19,9 @@ use Rattle.kcr_room.specs.declared.SheetRow.{SheetRow}
 use Rattle.kcr_room.specs.declared.Stay.{Stay}
 use Rattle.kcr_room.specs.declared.Way.{Way}
 use Rattle.kcr_room.specs.declared.Way.TheVariants as Ways
-use Rattle.kcr_room.specs.Room.{is_enter, enters, entries_by}
-use Rattle.kcr_room.specs.Stays.{cut, stay_from, next_onto, stays_next, stays_onto, stays_by, first_lone_in_by}
+use Rattle.kcr_room.specs.Room.{enters, entries_by, Followed, followed_rows}
+use Rattle.kcr_room.specs.Stays.{stay_from, next_of, stays_of, stays_by, first_lone_in_by}
+use Rattle.kcr_room.proofs.Followed.{followed-same}
 use Rattle.kcr_room.specs.Adding.{is_out_of_turn_in, is_out_of_turn_by, new_row, new_stay, closed, of_ceremony, after, stays_refusal, rows_refusal}
 use Rattle.kcr_room.specs.Adding.{turn_refusal, lone_refusal, entries, is_overfull_by}
 use Rattle.kcr_base.specs.Lists.{are_apart}
@@ -134,38 +134,16 @@ request-refusal rows s shown c m full way people at p l a =
 
 -- HOW MANY HAVE COME
 
-cut-entries : (c : ℕ) (row : SheetRow) (stays : List Stay) → count_by (of_ceremony c) (map (cut row) stays) ≡ count_by (of_ceremony c) stays
-cut-entries c row [] = refl
-cut-entries c row (stay ∷ stays) =
-    count-cons (of_ceremony c) (cut row stay) (map (cut row) stays) (stay.ceremony == c) refl
-    ∙ ap (λ n. cond (stay.ceremony == c) 1 0 + n) (cut-entries c row stays)
-    ∙ sym (count-cons (of_ceremony c) stay stays (stay.ceremony == c) refl)
-
-next-entries : (c : ℕ) (before : List SheetRow) (stays : List Stay) (row : SheetRow)
-    → count_by (of_ceremony c) (stays_next before stays row) ≡ count_by (of_ceremony c) stays + cond (enters c row) 1 0
-next-entries c before stays row =
-    sum_by-append (λ s. cond (of_ceremony c s) 1 0) (map (cut row) stays) (cond (is_enter row.way) (new ∷ []) [])
-    ∙ ap (λ n. n + count_by (of_ceremony c) (cond (is_enter row.way) (new ∷ []) [])) (cut-entries c row stays)
-    ∙ ap (λ n. count_by (of_ceremony c) stays + n) (by_way (is_enter row.way))
-  where
-    new : Stay
-    new = stay_from row (next_onto None row before)
-
-    by_way : (b : Bool) → count_by (of_ceremony c) (cond b (new ∷ []) []) ≡ cond (b && row.ceremony == c) 1 0
-    by_way true = count-cons (of_ceremony c) new [] (row.ceremony == c) refl ∙ omega arith
-    by_way false = refl
-
-entries-onto : (c : ℕ) (rows before : List SheetRow) (stays : List Stay)
-    → count_by (of_ceremony c) (stays_onto before stays rows) ≡ count_by (of_ceremony c) stays + count_by (enters c) rows
-entries-onto c [] before stays = omega arith
-entries-onto c (row ∷ rows) before stays =
-    let ih = entries-onto c rows (before ++ (row ∷ [])) (stays_next before stays row) in
-    let one = next-entries c before stays row in
-    let both = count-cons (enters c) row rows (enters c row) refl in
-    omega (arith, ih, one, both)
+entries-of : (c : ℕ) (all : List Followed) → count_by (of_ceremony c) (stays_of all) ≡ count_by (enters c) (map (λ followed. followed.row) all)
+entries-of c [] = refl
+entries-of c (followed ∷ all) =
+    let row = followed.row in
+    let one = count-cons (of_ceremony c) (stay_from row (next_of followed)) (stays_of all) (row.ceremony == c) refl in
+    let both = count-cons (enters c) row (map (λ followed. followed.row) all) (enters c row) refl in
+    grind (arith, one, both, entries-of c all)
 
 entries-stays : (rows : List SheetRow) (c : ℕ) → entries (stays_by rows) c ≡ entries_by rows c
-entries-stays rows c = let e = entries-onto c rows [] [] in omega (arith, e)
+entries-stays rows c = entries-of c (followed_rows rows) ∙ ap (count_by (enters c)) (followed-same [] rows)
 
 overfull-stays : (rows : List SheetRow) (c : ℕ) (way : Way) → is_overfull_by (stays_by rows) c way ≡ is_overfull way rows c
 overfull-stays rows c Ways.Enter = ap (nat_lt 1000) (entries-stays rows c)

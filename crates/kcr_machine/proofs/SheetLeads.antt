@@ -21,7 +21,7 @@ use Rattle.kcr_base.specs.Lists.{are_apart}
 use Rattle.kcr_base.proofs.SameLemmas.{same-is, same-itself, same-turned}
 use Rattle.kcr_room.specs.Laws.{IsSheet}
 use Rattle.kcr_room.proofs.Keeping.{none-found}
-use Rattle.kcr_room.proofs.Sheets.{last_reaches, earlier-last, tells-sheet, same-turns, stays-append, added, added-onto}
+use Rattle.kcr_room.proofs.Sheets.{last_reaches, earlier-last, same-turns, added, rows-added}
 use Rattle.kcr_history.specs.declared.commands.Act.TheVariants.{Sheet}
 use Rattle.kcr_history.specs.declared.commands.Answer.{Answer}
 use Rattle.kcr_history.specs.declared.commands.Command.{Command}
@@ -201,7 +201,7 @@ stays-put : (rows : List SheetRow) → IsSheet rows → (shown : List Stay) (c :
 stays-put rows s shown c way at people a p l h =
     subst (λ stays. IsPermutation (put_all same_stay (changed_stays (stays_of_request shown c people) c way people at) (reverse (stays_by rows)))
     (reverse stays))
-    (sym (stays-append rows (map (new_row c way at) people) [] [] ∙ added-onto c way at people rows (stays_by rows) (tells-sheet rows s) a h))
+    (sym (rows-added c way at people rows s a h))
     (by_way way (λ who i. sym (same-turns rows s c way at who) ∙ turns-each (is_out_of_turn_by rows c way at) people h who i))
   where
     table : List Stay

@@ -1,9 +1,9 @@
 -- The stays of a sheet made in turn: of a person's stays each ended before the next began, so the last one tells whose turn it is.
-use Rattle.std.proofs.Common.{◌≡◌, ℕ, ◌<◌, ◌≤◌, Bool, true, false, cond, not, ◌&&◌, nat_le, List, [], ◌∷◌, ◌++◌, map, filter, Option, Some, None, refl, sym, ap}
-use Rattle.std.proofs.Common.{◌∙◌, subst, arith, append-nil, append_assoc, ◌⊎◌, inl, inr}
+use Rattle.std.proofs.Common.{◌≡◌, ℕ, ◌<◌, ◌≤◌, Bool, true, false, cond, ◌&&◌, nat_le, List, [], ◌∷◌, ◌++◌, map, filter, Option, Some, None, refl, sym, ap}
+use Rattle.std.proofs.Common.{◌∙◌, subst, arith, ◌⊎◌, inl, inr}
 use Rattle.std.specs.List.{list_any}
 use Rattle.std.specs.List.Sorted.{IsPermutation}
-use Rattle.std.proofs.lemmas.Bool.{true≢false, and_parts, and_from, or_parts, not-true, leb-true, leb-false, and_right}
+use Rattle.std.proofs.lemmas.Bool.{true≢false, or_parts, leb-true, leb-false, and_right}
 use Rattle.kcr_base.specs.Same.{same_text}
 use Rattle.kcr_base.proofs.SameLemmas.{same-is, same-turned}
 use Rattle.kcr_room.specs.declared.SheetRow.{SheetRow}
@@ -11,11 +11,10 @@ use Rattle.kcr_room.specs.declared.Stay.{Stay}
 use Rattle.kcr_room.specs.declared.Way.{Way}
 use Rattle.kcr_room.specs.declared.Way.TheVariants.{Enter, Leave}
 use Rattle.kcr_room.specs.Stays.{stays_by}
-use Rattle.kcr_room.specs.Adding.{is_open, ends_from, reaches, is_inside, is_inside_of, is_out_of_turn_in, is_out_of_turn_by, new_stay, is_among, closed}
-use Rattle.kcr_room.specs.Adding.{turn_refusal, new_row}
-use Rattle.kcr_room.specs.Laws.{in_turn_onto, IsSheet}
-use Rattle.kcr_room.proofs.Keeping.{in_turn-append}
-use Rattle.kcr_room.proofs.Sheets.{tells-sheet, same-turns, stays-append, added, added-onto}
+use Rattle.kcr_room.specs.Adding.{is_open, ends_from, reaches, is_inside, is_inside_of, is_out_of_turn_in, new_stay, is_among, closed}
+use Rattle.kcr_room.specs.Adding.{new_row}
+use Rattle.kcr_room.specs.Laws.{IsSheet}
+use Rattle.kcr_room.proofs.Sheets.{same-turns, added, row-added, made-in-turn}
 use Rattle.kcr_history.specs.Views.{later_stay, last_of, last_stay}
 use Rattle.kcr_base.proofs.Members.{IsIn, any-in, filter-in, in-any, in-append, in-behind, in-filter, in-front, in-map, in-order, map-in, none-in}
 use Rattle.kcr_base.proofs.Members.{same-answers}
@@ -132,25 +131,12 @@ clear-leave stays at people clear = record { apart = λ r s i j. both r s (in-ma
 
 -- SHEETS MADE IN TURN, ROW BY ROW
 
-module _ (P : List SheetRow → Type 0)
-    (next : (before : List SheetRow) (row : SheetRow) → is_out_of_turn_in (stays_by before) row.ceremony row.way row.at row.who ≡ false
-    → stays_by (before ++ row ∷ []) ≡ added row.ceremony row.way row.at (row.who ∷ []) (stays_by before) → P before → P (before ++ row ∷ [])) where
-  made-onto : (rows before : List SheetRow) → IsSheet before → in_turn_onto before rows ≡ true → P before → P (before ++ rows)
-  made-onto [] before s t p = subst P (sym (append-nil before)) p
-  made-onto (row ∷ rows) before s t p =
-      let out = is_out_of_turn_by before row.ceremony row.way row.at row.who in
-      let q = and_parts (not out) (in_turn_onto (before ++ (row ∷ [])) rows) t in
-      let turn : out ≡ false = not-true out q.0 in
-      let told : turn_refusal (cond out (Some row.who) None) ≡ None = rw turn refl in
-      let stays = stays-append before (row ∷ []) [] [] ∙ added-onto row.ceremony row.way row.at (row.who ∷ []) before (stays_by before)
-      (tells-sheet before s) refl told in
-      let more : IsSheet (before ++ (row ∷ [])) = in_turn-append [] before (row ∷ []) ∙ and_from (in_turn_onto [] before) (in_turn_onto before (row ∷ [])) s
-      (ap (λ b. b && true) q.0) in
-      subst P (append_assoc before (row ∷ []) rows)
-      (made-onto rows (before ++ (row ∷ [])) more q.1 (next before row (sym (same-turns before s row.ceremony row.way row.at row.who) ∙ turn) stays p))
-
-  pub made-in-turn : P [] → (rows : List SheetRow) → IsSheet rows → P rows
-  made-in-turn none rows s = made-onto rows [] refl s none
+stays-in-turn : (P : List SheetRow → Type 0)
+    → ((before : List SheetRow) (row : SheetRow) → is_out_of_turn_in (stays_by before) row.ceremony row.way row.at row.who ≡ false
+    → stays_by (before ++ row ∷ []) ≡ added row.ceremony row.way row.at (row.who ∷ []) (stays_by before) → P before → P (before ++ row ∷ []))
+    → P [] → (rows : List SheetRow) → IsSheet rows → P rows
+stays-in-turn P next = made-in-turn P (λ before row s turn p.
+    next before row (sym (same-turns before s row.ceremony row.way row.at row.who) ∙ turn) (row-added before row s turn) p)
 
 -- the stays of a sheet made in turn
 clear-row : (c : ℕ) (way : Way) (at : ℕ) (who : List ℕ) (stays : List Stay) → is_out_of_turn_in stays c way at who ≡ false → IsClear stays
@@ -160,7 +146,7 @@ clear-row c Leave at who stays h clear = clear-leave stays at (who ∷ []) clear
 
 pub clear-sheet : (rows : List SheetRow) → IsSheet rows → IsClear (stays_by rows)
 clear-sheet =
-    made-in-turn (λ rows. IsClear (stays_by rows))
+    stays-in-turn (λ rows. IsClear (stays_by rows))
     (λ before row turn e clear. rw e (clear-row row.ceremony row.way row.at row.who (stays_by before) turn clear)) (record { apart = λ r t i. absurd i })
 
 -- a stay of the row's ceremony begins or ends at its moment
@@ -183,7 +169,7 @@ bounds-new c Leave at who stays h =
 
 -- each row of a sheet made in turn begins or ends a stay
 pub row-bounds : (rows : List SheetRow) → IsSheet rows → (row : SheetRow) → IsIn row rows → Bounds (stays_by rows) row
-row-bounds = made-in-turn (λ rows. (row : SheetRow) → IsIn row rows → Bounds (stays_by rows) row) next (λ row i. absurd i)
+row-bounds = stays-in-turn (λ rows. (row : SheetRow) → IsIn row rows → Bounds (stays_by rows) row) next (λ row i. absurd i)
   where
     next : (before : List SheetRow) (row : SheetRow) → is_out_of_turn_in (stays_by before) row.ceremony row.way row.at row.who ≡ false
         → stays_by (before ++ row ∷ []) ≡ added row.ceremony row.way row.at (row.who ∷ []) (stays_by before)
@@ -199,7 +185,7 @@ abbrev Begun : List SheetRow → Stay → Type 0
 Begun rows s = (row : SheetRow) × IsIn row rows × (row.ceremony ≡ s.ceremony) × (row.at ≡ s.since)
 
 pub stay-begun : (rows : List SheetRow) → IsSheet rows → (s : Stay) → IsIn s (stays_by rows) → Begun rows s
-stay-begun = made-in-turn (λ rows. (s : Stay) → IsIn s (stays_by rows) → Begun rows s) next (λ s i. absurd i)
+stay-begun = stays-in-turn (λ rows. (s : Stay) → IsIn s (stays_by rows) → Begun rows s) next (λ s i. absurd i)
   where
     by_way : (before : List SheetRow) (c : ℕ) (way : Way) (at : ℕ) (who : List ℕ) → ((s : Stay) → IsIn s (stays_by before) → Begun before s)
         → (s : Stay) → IsIn s (added c way at (who ∷ []) (stays_by before)) → Begun (before ++ new_row c way at who ∷ []) s

@@ -1,7 +1,7 @@
 -- The stays of a sheet, put one after the other into a table without rows.
-use Rattle.std.proofs.Common.{rules, ◌≡◌, ℕ, suc, ◌+◌, ◌≤◌, ◌==◌, ◌&&◌, Bool, true, false, cond, List, [], ◌∷◌, ◌++◌, map, refl, sym, ap, subst, ◌∙◌}
-use Rattle.std.proofs.Common.{arith, append-nil, eq-eqb, None, reverse}
-use Rattle.std.specs.List.{list_any, count_by}
+use Rattle.std.proofs.Common.{rules, ◌≡◌, ℕ, ◌+◌, ◌≤◌, ◌==◌, ◌&&◌, Bool, true, false, cond, List, [], ◌∷◌, ◌++◌, map, refl, sym, ap, subst, ◌∙◌}
+use Rattle.std.proofs.Common.{arith, append-nil, eq-eqb, reverse}
+use Rattle.std.specs.List.{list_any, count_by, filter}
 use Rattle.std.specs.List.Sorted.{IsPermutation}
 use Rattle.std.proofs.lemmas.List.Elements.{All-from_recursion}
 use Rattle.std.proofs.lemmas.List.Folds.{list_any_none}
@@ -12,12 +12,10 @@ use Rattle.kcr_base.specs.Same.{same_text}
 use Rattle.kcr_base.proofs.SameLemmas.{same-itself}
 use Rattle.kcr_room.specs.declared.SheetRow.{SheetRow}
 use Rattle.kcr_room.specs.declared.Stay.{Stay}
-use Rattle.kcr_room.specs.Room.{is_enter}
-use Rattle.kcr_room.specs.Stays.{stay_from, stays_by}
-use Rattle.kcr_room.specs.Ends.{steps_by}
+use Rattle.kcr_room.specs.Room.{is_enter, following, Followed, followed_rows_behind}
+use Rattle.kcr_room.specs.Stays.{stay_from, next_of, stays_of, stays_by}
 use Rattle.kcr_room.specs.Laws.{ShareNoMoment}
 use Rattle.kcr_room.proofs.Lists.{none-counted}
-use Rattle.kcr_room.proofs.Ends.{step_at, until_in, told_from, stays-told}
 use Rattle.kcr_history.specs.Changes.{same_stay, changed_by}
 use Rattle.kcr_history.specs.declared.views.Change.TheVariants.{PutStay}
 use Rattle.kcr_history.specs.History.{History}
@@ -66,16 +64,22 @@ none-any who t stays h =
     list_any_none test stays (All-from_recursion _ stays (none-counted test stays h))
 
 -- of a sheet no two rows of which share person and moment, each stay has a key of its own
-told-fresh : (all : List SheetRow) (place : ℕ) (rows front : List SheetRow) (old : List Stay)
+told-fresh : (before rows front : List SheetRow) (old : List Stay)
     → ((who : List ℕ) (t : ℕ) → rows_at who t front + rows_at who t rows ≤ 1) → ((who : List ℕ) (t : ℕ) → stays_at who t old ≤ rows_at who t front)
-    → IsFresh same_stay (told_from (steps_by all) place rows) old
-told-fresh all place [] front old free within = tt
-told-fresh all place (row ∷ rows) front old free within =
-    by_way (is_enter row.way) (told-fresh all (suc place) rows (row ∷ front) (x ∷ old) more with_stay)
-    (told-fresh all (suc place) rows (row ∷ front) old more without_stay)
+    → IsFresh same_stay (stays_of (followed_rows_behind before rows)) old
+told-fresh before [] front old free within = tt
+told-fresh before (row ∷ rows) front old free within =
+    by_way (is_enter row.way) (told-fresh (before ++ (row ∷ [])) rows (row ∷ front) (x ∷ old) more with_stay)
+    (told-fresh (before ++ (row ∷ [])) rows (row ∷ front) old more without_stay)
   where
+    told : Followed
+    told = record { row = row; by = following before row rows }
+
     x : Stay
-    x = stay_from row (until_in None (step_at place row) (steps_by all))
+    x = stay_from row (next_of told)
+
+    of_way : List Followed
+    of_way = filter (λ followed. is_enter followed.row.way) (followed_rows_behind (before ++ (row ∷ [])) rows)
 
     more : (who : List ℕ) (t : ℕ) → rows_at who t (row ∷ front) + rows_at who t rows ≤ 1
     more who t = omega (arith, row-counted who t row front, row-counted who t row rows, free who t)
@@ -94,17 +98,16 @@ told-fresh all place (row ∷ rows) front old free within =
     without_stay : (who : List ℕ) (t : ℕ) → stays_at who t old ≤ rows_at who t (row ∷ front)
     without_stay who t = omega (arith, row-counted who t row front, within who t)
 
-    by_way : (b : Bool) → IsFresh same_stay (told_from (steps_by all) (suc place) rows) (x ∷ old)
-        → IsFresh same_stay (told_from (steps_by all) (suc place) rows) old
-        → IsFresh same_stay (cond b (x ∷ []) [] ++ told_from (steps_by all) (suc place) rows) old
+    by_way : (b : Bool) → IsFresh same_stay (stays_of (followed_rows_behind (before ++ (row ∷ [])) rows)) (x ∷ old)
+        → IsFresh same_stay (stays_of (followed_rows_behind (before ++ (row ∷ [])) rows)) old
+        → IsFresh same_stay (map (λ followed. stay_from followed.row (next_of followed)) (cond b (told ∷ of_way) of_way)) old
     by_way true here there = (fresh, here)
     by_way false here there = there
 
 stays-put : (rows : List SheetRow) → ShareNoMoment rows → IsPermutation (put_all same_stay (stays_by rows) []) (stays_by rows)
 stays-put rows h =
     put-fresh same_stay (stays_by rows) []
-    (subst (λ stays. IsFresh same_stay stays []) (sym (stays-told rows))
-    (told-fresh rows 0 rows [] [] (λ who t. omega (arith, h who t)) (λ who t. omega arith)))
+    (told-fresh [] rows [] [] (λ who t. omega (arith, h who t)) (λ who t. omega arith))
 
 other-stays : (t : Tables) (stays : List Stay) → IsPermutation stays t.stays → SameTables (record t { stays = stays }) t
 other-stays t stays p = search (rules, IsPermutation-refl, p)

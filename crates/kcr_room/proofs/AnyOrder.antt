@@ -1,94 +1,68 @@
 -- Rows of which no two of one person share a moment tell the same in any order.
-use Rattle.std.proofs.Common.{◌≡◌, ℕ, suc, ◌+◌, ◌≤◌, Bool, true, false, cond, not, ◌||◌, ◌&&◌, ◌==◌, nat_le, nat_lt, List, [], ◌∷◌, ◌++◌, map, length, Option}
+use Rattle.std.proofs.Common.{◌≡◌, ℕ, Bool, true, false, cond, not, ◌||◌, ◌&&◌, ◌==◌, nat_le, nat_lt, List, [], ◌∷◌, ◌++◌, map, Option}
 use Rattle.std.proofs.Common.{Some, None, refl, sym, ap, ◌∙◌, subst, arith, append_assoc}
 use Rattle.std.specs.List.{list_any, filter, count_by, AllByRecursion}
 use Rattle.std.specs.List.Sorted.{IsPermutation}
 use Rattle.std.proofs.lemmas.Bool.{eqb-true, and_parts}
 use Rattle.std.proofs.Math.Bool.{or-false}
-use Rattle.std.proofs.lemmas.List.{length-append}
+use Rattle.std.proofs.lemmas.List.Elements.{filter-append}
 use Rattle.std.proofs.lemmas.List.Sums.{sum_by-append}
 use Rattle.std.proofs.lemmas.List.Sorted.{IsPermutation-map, sum_by-IsPermutation, list_any-IsPermutation}
 use Rattle.kcr_base.proofs.RowsLemmas.{filter-order}
-use Rattle.kcr_room.specs.Room.{is_enter, is_ahead, later, last_onto, last_row_of, present_by}
-use Rattle.kcr_room.specs.Stays.{sooner, next_onto, stay_from, stays_by}
-use Rattle.kcr_room.specs.Ends.{steps_from, steps_by, follows}
+use Rattle.kcr_room.specs.Room.{is_enter, is_ahead, is_as_late, following, Followed, followed_rows_behind, later, last_onto, last_row_of, present_by}
+use Rattle.kcr_room.specs.Stays.{next_of, stays_of, stays_by}
 use Rattle.kcr_room.specs.Laws.{IsSheet, ShareNoMoment}
-use Rattle.kcr_room.proofs.Words.{nat_tests, same_text, SheetRow, Stay}
-use Rattle.kcr_room.proofs.Lists.{any-filter, map-same, count-cons, none-behind}
-use Rattle.kcr_room.proofs.Agreement.{begun, same-is, same-itself, of_person, next-lasts, same-present}
-use Rattle.kcr_room.proofs.Ends.{step_at, until_in, end-unique, told_from, stays-told}
+use Rattle.kcr_room.proofs.Words.{nat_tests, same_text, SheetRow}
+use Rattle.kcr_room.proofs.Lists.{any-filter, count-cons, none-behind}
+use Rattle.kcr_room.proofs.Firsts.{end-unique}
+use Rattle.kcr_room.proofs.Followed.{lasts-next}
+use Rattle.kcr_room.proofs.Agreement.{same-is, same-itself, of_person, same-present}
 use Rattle.kcr_room.proofs.Orders.{present-order}
-use Rattle.kcr_room.proofs.Sheets.{made, InTurn, last_reaches, earlier-last}
+use Rattle.kcr_room.proofs.Sheets.{made-in-turn, InTurn, last_reaches, earlier-last}
 
 -- the row is this person's and has this moment
 abbrev is_at : List ℕ → ℕ → SheetRow → Bool
 is_at who t row = same_text row.who who && row.at == t
 
--- of rows behind a row's place, none of which has its person's moment too, the next one is told by the moments alone
-told-back : (i : ℕ) (row : SheetRow) (place : ℕ) (back : List SheetRow) (found : Option ℕ) → AllByRecursion (λ other. is_at row.who row.at other ≡ false) back
-    → until_in found (step_at i row) (steps_from place back) ≡ next_onto found row back
-told-back i row place [] found a = refl
-told-back i row place (other ∷ back) found a =
-    ap (λ b. until_in (cond b (Some (sooner other.at found)) found) (step_at i row) (steps_from (suc place) back)) tied
-    ∙ told-back i row (suc place) back (cond (is_ahead row other) (Some (sooner other.at found)) found) a.1
-  where
-    tied : follows (step_at i row) (step_at place other) ≡ is_ahead row other
-    tied = grind (arith, nat_tests, a.0)
+-- of rows none of which has a row's person and moment those that are as late are ahead
+late-ahead : (row : SheetRow) (rows : List SheetRow) → AllByRecursion (λ other. is_at row.who row.at other ≡ false) rows
+    → filter (is_as_late row) rows ≡ filter (is_ahead row) rows
+late-ahead row [] a = refl
+late-ahead row (other ∷ rows) a = grind (arith, nat_tests, a.0, late-ahead row rows a.1)
 
-untied : (i : ℕ) (row other : SheetRow) (place : ℕ) → place ≤ i → follows (step_at i row) (step_at place other) ≡ is_ahead row other
-untied i row other place h = grind (arith, nat_tests)
-
--- and so it is of those in front, and of the row itself
-told-at : (i : ℕ) (row : SheetRow) (place : ℕ) (front back : List SheetRow) (found : Option ℕ) → place + length front ≡ i
-    → AllByRecursion (λ other. is_at row.who row.at other ≡ false) back
-    → until_in found (step_at i row) (steps_from place (front ++ (row ∷ back))) ≡ next_onto found row (front ++ (row ∷ back))
-told-at i row place [] back found e a =
-    ap (λ b. until_in (cond b (Some (sooner row.at found)) found) (step_at i row) (steps_from (suc place) back)) (untied i row row place (omega arith))
-    ∙ told-back i row (suc place) back (cond (is_ahead row row) (Some (sooner row.at found)) found) a
-told-at i row place (other ∷ front) back found e a =
-    ap (λ b. until_in (cond b (Some (sooner other.at found)) found) (step_at i row) (steps_from (suc place) (front ++ (row ∷ back))))
-    (untied i row other place (omega arith))
-    ∙ told-at i row (suc place) front back (cond (is_ahead row other) (Some (sooner other.at found)) found) (omega arith) a
-
--- of such rows the next one is told by the moments alone
-next-told : (front back : List SheetRow) (row : SheetRow) → ShareNoMoment (front ++ (row ∷ back))
-    → until_in None (step_at (length front) row) (steps_by (front ++ (row ∷ back))) ≡ next_onto None row (front ++ (row ∷ back))
-next-told front back row h =
-    told-at (length front) row 0 front back None (omega arith) (none-behind (is_at row.who row.at) front back row own (h row.who row.at))
+-- so the rows that follow are all that are ahead
+following-ahead : (front back : List SheetRow) (row : SheetRow) → ShareNoMoment (front ++ (row ∷ back))
+    → following front row back ≡ filter (is_ahead row) (front ++ (row ∷ back))
+following-ahead front back row h =
+    ap (λ behind. filter (is_ahead row) front ++ behind)
+    (late-ahead row back (none-behind (is_at row.who row.at) front back row own (h row.who row.at)) ∙ grind (arith, nat_tests))
+    ∙ sym (filter-append (is_ahead row) front (row ∷ back))
   where
     own : is_at row.who row.at row ≡ true
     own = grind (arith, nat_tests, same-itself row.who)
 
--- the stays of some of the rows, each with the moment of the person's next row among all
-abbrev plain : List SheetRow → List SheetRow → List Stay
-plain all rows = map (λ row. stay_from row (next_onto None row all)) (filter (λ row. is_enter row.way) rows)
+-- a row with those of all rows that are ahead
+abbrev plain : List SheetRow → SheetRow → Followed
+plain all row = record { row = row; by = filter (is_ahead row) all }
 
-plain-from : (front back : List SheetRow) → ShareNoMoment (front ++ back)
-    → told_from (steps_by (front ++ back)) (length front) back ≡ plain (front ++ back) back
-plain-from front [] h = refl
-plain-from front (row ∷ back) h =
+followed-plain : (front back : List SheetRow) → ShareNoMoment (front ++ back) → followed_rows_behind front back ≡ map (plain (front ++ back)) back
+followed-plain front [] h = refl
+followed-plain front (row ∷ back) h =
     let all : List SheetRow = front ++ (row ∷ back) in
-    let more : List SheetRow = front ++ (row ∷ []) in
-    ap (λ until. begun row until ++ told_from (steps_by all) (suc (length front)) back) (next-told front back row h)
-    ∙ ap (λ rest. begun row (next_onto None row all) ++ rest)
-    (rest more (append_assoc front (row ∷ []) back) (omega (arith, length-append front (row ∷ []))) (plain-from more back))
-    ∙ grind (arith, nat_tests)
-  where
-    rest : (more : List SheetRow) → more ++ back ≡ front ++ (row ∷ back) → length more ≡ suc (length front)
-        → (ShareNoMoment (more ++ back) → told_from (steps_by (more ++ back)) (length more) back ≡ plain (more ++ back) back)
-        → told_from (steps_by (front ++ (row ∷ back))) (suc (length front)) back ≡ plain (front ++ (row ∷ back)) back
-    rest more e n ih =
-        ap (λ k. told_from (steps_by (front ++ (row ∷ back))) k back) (sym n)
-        ∙ subst (λ all. told_from (steps_by all) (length more) back ≡ plain all back) e (ih (subst ShareNoMoment (sym e) h))
+    let e : (front ++ (row ∷ [])) ++ back ≡ all = append_assoc front (row ∷ []) back in
+    ap (λ by. record { row = row; by = by } ∷ followed_rows_behind (front ++ (row ∷ [])) back) (following-ahead front back row h)
+    ∙ ap (λ rest. plain all row ∷ rest)
+    (followed-plain (front ++ (row ∷ [])) back (subst ShareNoMoment (sym e) h) ∙ ap (λ all. map (plain all) back) e)
 
-stays-plain : (rows : List SheetRow) → ShareNoMoment rows → stays_by rows ≡ plain rows rows
-stays-plain rows h = stays-told rows ∙ plain-from [] rows h
-
-next-order : (xs ys : List SheetRow) → IsPermutation xs ys → (row : SheetRow) → next_onto None row xs ≡ next_onto None row ys
+next-order : (xs ys : List SheetRow) → IsPermutation xs ys → (row : SheetRow) → next_of (plain xs row) ≡ next_of (plain ys row)
 next-order xs ys p row =
-    end-unique (next_onto None row xs) (next_onto None row ys)
-    (λ t. next-lasts t row xs None
-    ∙ ap not (list_any-IsPermutation (λ other. is_ahead row other && nat_le other.at t) xs ys p) ∙ sym (next-lasts t row ys None))
+    let same = λ (t : ℕ). list_any-IsPermutation (λ other. nat_le other.at t) _ _ (filter-order (is_ahead row) xs ys p) in
+    end-unique (next_of (plain xs row)) (next_of (plain ys row)) (λ t. lasts-next t (plain xs row) ∙ ap not (same t) ∙ sym (lasts-next t (plain ys row)))
+
+-- the stays with the ends that all rows give
+stays-plain : (xs ys : List SheetRow) → IsPermutation xs ys → (rows : List SheetRow) → stays_of (map (plain xs) rows) ≡ stays_of (map (plain ys) rows)
+stays-plain xs ys p [] = refl
+stays-plain xs ys p (row ∷ rows) = grind (arith, nat_tests, next-order xs ys p row, stays-plain xs ys p rows)
 
 pub share-order : (xs ys : List SheetRow) → IsPermutation xs ys → ShareNoMoment xs → ShareNoMoment ys
 share-order xs ys p h =
@@ -97,12 +71,11 @@ share-order xs ys p h =
 -- the stays of such rows are the same in any order, up to their own order
 pub stays-order : (xs ys : List SheetRow) → IsPermutation xs ys → ShareNoMoment xs → IsPermutation (stays_by xs) (stays_by ys)
 stays-order xs ys p h =
-    let same : plain xs ys ≡ plain ys ys =
-    map-same (λ row. stay_from row (next_onto None row xs)) (λ row. stay_from row (next_onto None row ys)) (filter (λ row. is_enter row.way) ys)
-    (λ row. ap (stay_from row) (next-order xs ys p row)) in
-    subst (λ stays. IsPermutation stays (stays_by ys)) (sym (stays-plain xs h))
-    (subst (IsPermutation (plain xs xs)) (same ∙ sym (stays-plain ys (share-order xs ys p h)))
-    (IsPermutation-map (λ row. stay_from row (next_onto None row xs)) _ _ (filter-order (λ row. is_enter row.way) xs ys p)))
+    let moved = IsPermutation-map (plain xs) xs ys p in
+    let same = stays-plain xs ys p ys ∙ ap stays_of (sym (followed-plain [] ys (share-order xs ys p h))) in
+    subst (λ all. IsPermutation (stays_of all) (stays_by ys)) (sym (followed-plain [] xs h))
+    (subst (IsPermutation (stays_of (map (plain xs) xs))) same
+    (IsPermutation-map _ _ _ (filter-order (λ followed. is_enter followed.row.way) (map (plain xs) xs) (map (plain xs) ys) moved)))
 
 pub rows-present : (xs ys : List SheetRow) → IsPermutation xs ys → ShareNoMoment xs → (c t : ℕ) → present_by ys c t ≡ present_by xs c t
 rows-present xs ys p h c t = sym (same-present ys c t) ∙ present-order (stays_by xs) (stays_by ys) (stays-order xs ys p h) c t ∙ same-present xs c t
@@ -125,9 +98,9 @@ uncounted : (who : List ℕ) (t : ℕ) (rows : List SheetRow) → list_any (λ r
 uncounted who t [] h = refl
 uncounted who t (row ∷ rows) h = grind (arith, nat_tests, h, count-cons (is_at who t) row rows (is_at who t row) refl, uncounted who t rows)
 
-share-next : (before : List SheetRow) (stays : List Stay) (row : SheetRow) → InTurn before row → ShareNoMoment before
+share-next : (before : List SheetRow) (row : SheetRow) → IsSheet before → InTurn before row → ShareNoMoment before
     → ShareNoMoment (before ++ (row ∷ []))
-share-next before stays row turn h who t =
+share-next before row s turn h who t =
     let k = sum_by-append (λ other. cond (is_at who t other) 1 0) before (row ∷ []) in
     grind (arith, nat_tests, k, count-cons (is_at who t) row [] (is_at who t row) refl, h who t, alone)
   where
@@ -145,4 +118,4 @@ share-next before stays row turn h who t =
 
 -- rows made in turn share no moment
 pub sheet-shares : (rows : List SheetRow) → IsSheet rows → ShareNoMoment rows
-sheet-shares rows s = made (λ rows stays. ShareNoMoment rows) share-next (λ who t. omega arith) rows s
+sheet-shares = made-in-turn ShareNoMoment share-next (λ who t. omega arith)

@@ -1,19 +1,19 @@
 -- The moments at which people come and go tell how many are in a room.
-use Rattle.std.proofs.Common.{◌≡◌, ℕ, zero, suc, ◌-◌, ◌≤◌, Bool, true, false, cond, ◌==◌, nat_le, List, [], ◌∷◌, ◌++◌, length, Option, None, refl, sym, ap, ◌∙◌}
-use Rattle.std.proofs.Common.{subst, arith}
-use Rattle.std.specs.List.{count_by, AllByRecursion, list_any}
-use Rattle.std.specs.List.Sorted.{IsPermutation, IsPartitionPoint}
-use Rattle.std.proofs.lemmas.Bool.{ltb-false, le-ltb}
-use Rattle.std.proofs.lemmas.List.Sorted.{sum_by-IsPermutation}
+use Rattle.std.proofs.Common.{◌≡◌, ℕ, zero, suc, ◌≤◌, Bool, true, false, cond, not, ◌&&◌, ◌==◌, nat_le, nat_lt, List, [], ◌∷◌, ◌++◌}
+use Rattle.std.proofs.Common.{length, find, refl, sym, ap, ◌∙◌, arith}
+use Rattle.std.specs.List.{count_by, AllByRecursion, list_any, filter}
+use Rattle.std.specs.List.Sorted.{IsPartitionPoint, IsNonDecreasing}
+use Rattle.std.proofs.lemmas.List.Elements.{recursion_from_All}
+use Rattle.std.proofs.lemmas.List.Folds.{list_any-append}
+use Rattle.std.proofs.lemmas.List.Sorted.{sum_by-IsPermutation, list_any-IsPermutation, IsPermutation-append}
 use Rattle.kcr_room.specs.declared.traffic.Traffic.{Traffic}
-use Rattle.kcr_room.specs.Moments.{IsFirst, IsEver, try, try_all}
-use Rattle.kcr_room.specs.Stays.{crowd_in_by}
-use Rattle.kcr_room.specs.Comings.{comings_by, goings_by, count_until}
-use Rattle.kcr_room.specs.Traffic.{crowd_of, is_crowd_of, is_lone_of}
-use Rattle.kcr_room.proofs.Words.{Stay}
-use Rattle.kcr_room.proofs.Lists.{count-cons}
-use Rattle.kcr_room.proofs.Firsts.{SameSide, Behind, IsSteady, is_first, is_ever}
-use Rattle.kcr_room.proofs.Moments.{balance, count-steady, count-behind, count-rises}
+use Rattle.kcr_room.specs.Moments.{sooner, least}
+use Rattle.kcr_room.specs.Stays.{lasts_at, crowd_in_by, is_lone_in_by, is_crowd_in_by, comings_by, goings_by, first_lone_in_by, is_crowded_in_by}
+use Rattle.kcr_room.specs.Traffic.{crowd_of, is_crowd_of, is_lone_of, Tells}
+use Rattle.kcr_room.proofs.Words.{nat_tests, Stay}
+use Rattle.kcr_room.proofs.Lists.{any-same, count-cons}
+use Rattle.kcr_room.proofs.Firsts.{end-unique, lasts-sooner, lasts-passing}
+use Rattle.kcr_room.proofs.Moments.{balance}
 
 -- of moments in order the point up to which they are not later is their number
 pub parted-count : (test : ℕ → Bool) (moments : List ℕ) (i : ℕ) → i ≤ length moments → IsPartitionPoint (λ m. test m ≡ true) (λ m. test m ≡ false) moments i
@@ -32,48 +32,44 @@ parted-count test (m ∷ moments) (suc i) h point =
     omega (arith, k, n)
 
 -- those who have come without those who have gone are there
-pub told-crowd : (stays : List Stay) (c : ℕ) (comings goings : List ℕ) → IsPermutation (comings_by stays c) comings → IsPermutation (goings_by stays c) goings
-    → (t : ℕ) → count_until comings t - count_until goings t ≡ crowd_in_by stays c t
-told-crowd stays c comings goings p q t =
-    let m = sum_by-IsPermutation (λ moment. cond (nat_le moment t) 1 0) (comings_by stays c) comings p in
-    let n = sum_by-IsPermutation (λ moment. cond (nat_le moment t) 1 0) (goings_by stays c) goings q in
+pub told-crowd : (traffic : Traffic) (stays : List Stay) (c : ℕ) → Tells traffic stays c → (t : ℕ) → crowd_of traffic t ≡ crowd_in_by stays c t
+told-crowd traffic stays c told t =
+    let m = sum_by-IsPermutation (λ moment. cond (nat_le moment t) 1 0) (comings_by stays c) traffic.comings.items told.0 in
+    let n = sum_by-IsPermutation (λ moment. cond (nat_le moment t) 1 0) (goings_by stays c) traffic.goings.items told.1 in
     let b = balance stays c t in
     omega (arith, m, n, b)
 
-all-parts : {X : Type 0} (P : X → Type 0) (xs ys : List X) → AllByRecursion P (xs ++ ys) → AllByRecursion P xs × AllByRecursion P ys
-all-parts P [] ys a = (tt, a)
-all-parts P (x ∷ xs) ys a = let d = all-parts P xs ys a.1 in ((a.0, d.0), d.1)
+-- of moments in order the first that passes is the least
+none-sooner : (test : ℕ → Bool) (t m : ℕ) (ts : List ℕ) → AllByRecursion (λ n. m ≤ n) ts → nat_lt t m ≡ true → list_any (λ n. test n && nat_le n t) ts ≡ false
+none-sooner test t m [] a h = refl
+none-sooner test t m (n ∷ ts) a h = grind (arith, nat_tests, a.0, h, none-sooner test t m ts a.1)
 
-lone-steady : (traffic : Traffic) → IsSteady (is_lone_of traffic) (traffic.comings.items ++ traffic.goings.items)
-lone-steady traffic = record {
-  quiet = λ t a.
-      let d = all-parts (Behind t) traffic.comings.items traffic.goings.items a in
-      ap (λ n. n - count_until traffic.goings.items t == 1) (count-behind t traffic.comings.items d.0)
-      ∙ ap (λ n. 0 - n == 1) (count-behind t traffic.goings.items d.1);
-  steady = λ m t a.
-      let d = all-parts (SameSide m t) traffic.comings.items traffic.goings.items a in
-      ap (λ n. n - count_until traffic.goings.items m == 1) (count-steady m t traffic.comings.items d.0)
-      ∙ ap (λ n. count_until traffic.comings.items t - n == 1) (count-steady m t traffic.goings.items d.1);
-}
+lasts-found : (test : ℕ → Bool) (t : ℕ) (ts : List ℕ) → IsNonDecreasing ts → lasts_at t (find test ts) ≡ not (list_any (λ n. test n && nat_le n t) ts)
+lasts-found test t [] rising = refl
+lasts-found test t (m ∷ ts) rising =
+    let behind = recursion_from_All (λ n. m ≤ n) ts (λ k d l. rising 0 (suc k) d (omega arith) (omega (arith, l))) in
+    let rest = lasts-found test t ts (λ i j d k l. rising (suc i) (suc j) d (omega (arith, k)) (omega (arith, l))) in
+    grind (arith, nat_tests, rest, none-sooner test t m ts behind)
 
-try_all-append : (test : ℕ → Bool) (found : Option ℕ) (ms ns : List ℕ) → try_all test found (ms ++ ns) ≡ try_all test (try_all test found ms) ns
-try_all-append test found [] ns = refl
-try_all-append test found (m ∷ ms) ns = try_all-append test (try test found m) ms ns
+pub found-least : (test : ℕ → Bool) (ms ns : List ℕ) → IsNonDecreasing ms → IsNonDecreasing ns
+    → sooner (find test ms) (find test ns) ≡ least (filter test (ms ++ ns))
+found-least test ms ns f g = end-unique _ _ (λ t.
+    lasts-sooner t (find test ms) (find test ns)
+    ∙ grind (arith, nat_tests, lasts-found test t ms f, lasts-found test t ns g, list_any-append (λ n. test n && nat_le n t) ms ns)
+    ∙ sym (lasts-passing test t (ms ++ ns)))
 
-pub lone-is_first : (traffic : Traffic)
-    → IsFirst (is_lone_of traffic) (try_all (is_lone_of traffic) (try_all (is_lone_of traffic) None traffic.comings.items) traffic.goings.items)
-lone-is_first traffic =
-    subst (IsFirst (is_lone_of traffic)) (try_all-append (is_lone_of traffic) None traffic.comings.items traffic.goings.items)
-    (is_first (is_lone_of traffic) (traffic.comings.items ++ traffic.goings.items) (lone-steady traffic))
+-- the traffic of a room is crowded, and has its first moment with one person, as the stays have
+pub told-crowded : (traffic : Traffic) (stays : List Stay) (c : ℕ) → Tells traffic stays c
+    → list_any (is_crowd_of traffic) traffic.comings.items ≡ is_crowded_in_by stays c
+told-crowded traffic stays c told =
+    any-same (is_crowd_of traffic) (is_crowd_in_by stays c) traffic.comings.items (λ t. ap (nat_lt 128) (told-crowd traffic stays c told t))
+    ∙ sym (list_any-IsPermutation (is_crowd_in_by stays c) (comings_by stays c) traffic.comings.items told.0)
 
--- where nobody comes later no more are there
-pub crowd-is_ever : (traffic : Traffic) (b : Bool) → b ≡ list_any (is_crowd_of traffic) traffic.comings.items → IsEver (is_crowd_of traffic) b
-crowd-is_ever traffic b e = subst (IsEver (is_crowd_of traffic)) (sym e) (is_ever (is_crowd_of traffic) traffic.comings.items quiet falls)
-  where
-    quiet : (t : ℕ) → AllByRecursion (Behind t) traffic.comings.items → is_crowd_of traffic t ≡ false
-    quiet t a = le-ltb 128 (crowd_of traffic t) (omega (arith, count-behind t traffic.comings.items a))
-
-    falls : (m t : ℕ) → m ≤ t → AllByRecursion (SameSide m t) traffic.comings.items → is_crowd_of traffic m ≡ false → is_crowd_of traffic t ≡ false
-    falls m t l a h =
-        let k = ltb-false 128 (crowd_of traffic m) h in
-        le-ltb 128 (crowd_of traffic t) (omega (arith, k, count-steady m t traffic.comings.items a, count-rises m t traffic.goings.items l))
+pub told-lone : (traffic : Traffic) (stays : List Stay) (c : ℕ) → Tells traffic stays c
+    → least (filter (is_lone_of traffic) (traffic.comings.items ++ traffic.goings.items)) ≡ first_lone_in_by stays c
+told-lone traffic stays c told = end-unique _ _ (λ t.
+    lasts-passing (is_lone_of traffic) t (traffic.comings.items ++ traffic.goings.items)
+    ∙ ap not (any-same _ (λ n. is_lone_in_by stays c n && nat_le n t) (traffic.comings.items ++ traffic.goings.items)
+    (λ n. ap (λ crowd. crowd == 1 && nat_le n t) (told-crowd traffic stays c told n))
+    ∙ sym (list_any-IsPermutation (λ n. is_lone_in_by stays c n && nat_le n t) _ _ (IsPermutation-append _ _ _ _ told.0 told.1)))
+    ∙ sym (lasts-passing (is_lone_in_by stays c) t (comings_by stays c ++ goings_by stays c)))

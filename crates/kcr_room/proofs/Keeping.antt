@@ -7,7 +7,7 @@ use Rattle.std.proofs.Math.Bool.{or-false}
 use Rattle.std.proofs.lemmas.List.Elements.{filter-append}
 use Rattle.kcr_base.specs.Refuse.{when}
 use Rattle.kcr_base.specs.declared.refusal.Refusal.TheVariants.{Late}
-use Rattle.kcr_room.specs.Room.{enters, last_row, last_enters, last_row_of, is_of, in_force, ascending_onto, put_person}
+use Rattle.kcr_room.specs.Room.{enters, last_row, last_enters, last_row_of, is_of, in_force, ascending, put_person}
 use Rattle.kcr_room.specs.Stays.{stays_by}
 use Rattle.kcr_room.specs.Adding.{turn_refusal, sheet_refusal, is_out_of_turn, is_out_of_turn_by, new_row, rows_refusal}
 use Rattle.kcr_base.specs.Lists.{are_apart}
@@ -74,9 +74,9 @@ pub any-put : (p : List ℕ → Bool) (who : List ℕ) (people : List (List ℕ)
 any-put p who [] = refl
 any-put p who (other ∷ rest) = grind (arith, nat_tests, any-put p who rest)
 
-any-ascending : (p : List ℕ → Bool) (people done : List (List ℕ)) → list_any p (ascending_onto done people) ≡ (list_any p done || list_any p people)
-any-ascending p [] done = sym (or-false (list_any p done))
-any-ascending p (who ∷ rest) done = grind (arith, nat_tests, any-ascending p rest (put_person who done), any-put p who done)
+pub any-ascending : (p : List ℕ → Bool) (people : List (List ℕ)) → list_any p (ascending people) ≡ list_any p people
+any-ascending p [] = refl
+any-ascending p (who ∷ rest) = any-put p who (ascending rest) ∙ ap (λ b. p who || b) (any-ascending p rest)
 
 any-map : (p : List ℕ → Bool) (rows : List SheetRow) → list_any p (map (λ row. row.who) rows) ≡ list_any (λ row. p row.who) rows
 any-map p [] = refl
@@ -88,12 +88,12 @@ any-listed c (Some row) = or-false (enters c row)
 
 pub present_are_in : PresentAreIn
 present_are_in rows who c t =
-    any-ascending (same_text who) (map (λ row. row.who) (filter (enters c) (in_force t rows))) []
+    any-ascending (same_text who) (map (λ row. row.who) (filter (enters c) (in_force t rows)))
     ∙ any-map (same_text who) (filter (enters c) (in_force t rows))
     ∙ any-filter (enters c) (λ row. same_text who row.who) (in_force t rows)
     ∙ any-same (λ row. enters c row && same_text who row.who) (λ row. same_text row.who who && enters c row) (in_force t rows) turned
     ∙ sym (any-filter (of_person who) (enters c) (in_force t rows))
-    ∙ ap (list_any (enters c)) (force-last who t rows [] None refl)
+    ∙ ap (list_any (enters c)) (force-last who t rows)
     ∙ any-listed c (last_row (filter (is_of who t) rows))
   where
     turned : (row : SheetRow) → (enters c row && same_text who row.who) ≡ (same_text row.who who && enters c row)

@@ -1,5 +1,6 @@
 pub mod Words
 pub mod Lists
+pub mod Followed
 pub mod Agreement
 pub mod Firsts
 pub mod Moments

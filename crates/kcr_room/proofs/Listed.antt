@@ -1,10 +1,9 @@
 -- The stays of a ceremony by beginning, then initials.
-use Rattle.std.proofs.Common.{◌≡◌, ℕ, Bool, true, false, cond, not, ◌==◌, List, [], ◌∷◌, ◌++◌, refl, arith, subst, append-nil}
+use Rattle.std.proofs.Common.{◌≡◌, ℕ, Bool, true, false, cond, not, ◌==◌, List, [], ◌∷◌, refl, arith}
 use Rattle.std.specs.List.{list_all, filter}
 use Rattle.std.specs.List.Sorted.{IsPermutation}
-use Rattle.std.proofs.lemmas.List.Sorted.{IsPermutation-refl, IsPermutation-sym, IsPermutation-cons, IsPermutation-trans, IsPermutation-middle}
-use Rattle.std.proofs.lemmas.List.Sorted.{IsPermutation-append_right}
-use Rattle.kcr_room.specs.Stays.{is_listed_before, put_stay, listed_onto, attendance_in_by, are_listed}
+use Rattle.std.proofs.lemmas.List.Sorted.{IsPermutation-refl, IsPermutation-cons, IsPermutation-trans, IsPermutation-middle}
+use Rattle.kcr_room.specs.Stays.{is_listed_before, put_stay, in_order, attendance_in_by, are_listed}
 use Rattle.kcr_room.proofs.Words.{nat_tests, Stay}
 use Rattle.kcr_room.proofs.Orders.{before-turned, behind}
 
@@ -19,19 +18,14 @@ put-moves stay (other ∷ rest) = by_order (is_listed_before other stay) (put-mo
         (IsPermutation-middle (stay ∷ []) other rest) (IsPermutation-cons other (stay ∷ rest) (put_stay stay rest) ih)
     by_order false ih = IsPermutation-refl (stay ∷ other ∷ rest)
 
-listed-moves : (stays done : List Stay) → IsPermutation (stays ++ done) (listed_onto done stays)
-listed-moves [] done = IsPermutation-refl done
-listed-moves (stay ∷ stays) done =
-    IsPermutation-trans (stay ∷ (stays ++ done)) (stays ++ (stay ∷ done)) (listed_onto (put_stay stay done) stays)
-    (IsPermutation-sym (stays ++ (stay ∷ done)) (stay ∷ (stays ++ done)) (IsPermutation-middle stays stay done))
-    (IsPermutation-trans (stays ++ (stay ∷ done)) (stays ++ put_stay stay done) (listed_onto (put_stay stay done) stays)
-    (IsPermutation-append_right stays (stay ∷ done) (put_stay stay done) (put-moves stay done))
-    (listed-moves stays (put_stay stay done)))
+order-moves : (stays : List Stay) → IsPermutation stays (in_order stays)
+order-moves [] = IsPermutation-refl []
+order-moves (stay ∷ rest) =
+    IsPermutation-trans (stay ∷ rest) (stay ∷ in_order rest) (put_stay stay (in_order rest))
+    (IsPermutation-cons stay rest (in_order rest) (order-moves rest)) (put-moves stay (in_order rest))
 
 pub attendance-moves : (stays : List Stay) (c : ℕ) → IsPermutation (filter (λ stay. stay.ceremony == c) stays) (attendance_in_by stays c)
-attendance-moves stays c =
-    subst (λ xs. IsPermutation xs (attendance_in_by stays c)) (append-nil (filter (λ stay. stay.ceremony == c) stays))
-    (listed-moves (filter (λ stay. stay.ceremony == c) stays) [])
+attendance-moves stays c = order-moves (filter (λ stay. stay.ceremony == c) stays)
 
 listed-turned : (a b : Stay) → is_listed_before a b ≡ true → is_listed_before b a ≡ false
 listed-turned a b h = grind (arith, nat_tests, before-turned a.who b.who)
@@ -55,9 +49,9 @@ listed-put stay (other ∷ rest) r =
     let put = all-put (λ s. not (is_listed_before s other)) stay rest in
     grind (arith, nat_tests, r, listed-put stay rest, listed-turned other stay, put, all-behind stay other rest)
 
-listed-onto : (stays done : List Stay) → are_listed done ≡ true → are_listed (listed_onto done stays) ≡ true
-listed-onto [] done r = r
-listed-onto (stay ∷ stays) done r = listed-onto stays (put_stay stay done) (listed-put stay done r)
+order-listed : (stays : List Stay) → are_listed (in_order stays) ≡ true
+order-listed [] = refl
+order-listed (stay ∷ rest) = listed-put stay (in_order rest) (order-listed rest)
 
 pub attendance-listed : (stays : List Stay) (c : ℕ) → are_listed (attendance_in_by stays c) ≡ true
-attendance-listed stays c = listed-onto (filter (λ stay. stay.ceremony == c) stays) [] refl
+attendance-listed stays c = order-listed (filter (λ stay. stay.ceremony == c) stays)

@@ -1,13 +1,16 @@
 -- Stays in another order: who is in the room, and what a request is refused for.
-use Rattle.std.proofs.Common.{◌≡◌, ℕ, Bool, true, false, cond, nat_le, nat_lt, List, [], ◌∷◌, map, refl, sym, ap, ◌∙◌, arith}
+use Rattle.std.proofs.Common.{append-nil, get_or, length, take, ◌+◌, ◌<◌}
+use Rattle.std.proofs.Common.{◌≡◌, ℕ, Bool, true, false, cond, nat_le, nat_lt, List, [], ◌∷◌, ◌++◌, map, refl, sym, ap, ◌∙◌, arith}
 use Rattle.std.specs.List.{filter, find}
+use Rattle.std.proofs.lemmas.List.{take_more, map-append}
+use Rattle.std.proofs.lemmas.List.Elements.{filter-append}
 use Rattle.std.specs.List.Sorted.{IsPermutation}
 use Rattle.kcr_base.proofs.RowsLemmas.{Shuffled, shuffled, filter-order}
 use Rattle.std.proofs.lemmas.List.Sorted.{IsPermutation-map, IsPermutation-append_left, length_permutation, sum_by-IsPermutation}
 use Rattle.std.proofs.lemmas.List.Sorted.{list_any-IsPermutation}
 use Rattle.kcr_base.specs.Refuse.{when, first_of}
 use Rattle.kcr_base.specs.declared.refusal.Refusal.TheVariants.{Late}
-use Rattle.kcr_room.specs.Room.{ascending_onto, put_person}
+use Rattle.kcr_room.specs.Room.{ascending, put_person}
 use Rattle.kcr_room.specs.Stays.{holds, crowd_in_by, present_in_by}
 use Rattle.kcr_room.specs.Adding.{reaches, is_inside, is_inside_of, is_out_of_turn_in, new_stay, closed, of_ceremony, after}
 use Rattle.kcr_room.specs.Adding.{turn_refusal, is_overfull, later_refusal, stays_refusal}
@@ -38,16 +41,33 @@ put-put a b [] = grind (arith, nat_tests, before-turned a b, level a b)
 put-put a b (x ∷ rest) = grind (arith, nat_tests, before-turned a b, level a b, behind x a b, behind x b a, put-put a b rest)
 
 -- people in another order are one in byte order
-same-ascending : {xs ys : List (List ℕ)} → Shuffled xs ys → (done : List (List ℕ)) → ascending_onto done xs ≡ ascending_onto done ys
-same-ascending Shuffled.nothing done = refl
-same-ascending (Shuffled.under x xs ys s) done = same-ascending s (put_person x done)
-same-ascending (Shuffled.flipped x y xs) done = ap (λ l. ascending_onto l xs) (put-put y x done)
-same-ascending (Shuffled.after xs ys zs s t) done = same-ascending s done ∙ same-ascending t done
+same-ascending : {xs ys : List (List ℕ)} → Shuffled xs ys → ascending xs ≡ ascending ys
+same-ascending Shuffled.nothing = refl
+same-ascending (Shuffled.under x xs ys s) = ap (put_person x) (same-ascending s)
+same-ascending (Shuffled.flipped x y xs) = put-put x y (ascending xs)
+same-ascending (Shuffled.after xs ys zs s t) = same-ascending s ∙ same-ascending t
+
+-- the last of some people is put among the others
+pub put-last : (people : List (List ℕ)) (who : List ℕ) → ascending (people ++ (who ∷ [])) ≡ put_person who (ascending people)
+put-last [] who = refl
+put-last (first ∷ rest) who = ap (put_person first) (put-last rest who) ∙ put-put first who (ascending rest)
+
+-- one stay more
+pub present-more : (stays : List Stay) (i c t : ℕ) (d : Stay) → i < length stays
+    → present_in_by (take (i + 1) stays) c t
+    ≡ cond (holds c t (get_or stays i d)) (put_person (get_or stays i d).who (present_in_by (take i stays) c t)) (present_in_by (take i stays) c t)
+present-more stays i c t d h =
+    let stay : Stay = get_or stays i d in
+    let own = map (λ (stay : Stay). stay.who) (filter (holds c t) (take i stays)) in
+    ap (λ xs. present_in_by xs c t) (take_more stays i d h)
+    ∙ ap (λ xs. ascending (map (λ stay. stay.who) xs)) (filter-append (holds c t) (take i stays) (stay ∷ []))
+    ∙ ap ascending (map-append (λ stay. stay.who) (filter (holds c t) (take i stays)) (filter (holds c t) (stay ∷ [])))
+    ∙ grind (arith, nat_tests, put-last own stay.who, append-nil own)
 
 pub present-order : (xs ys : List Stay) → IsPermutation xs ys → (c t : ℕ) → present_in_by ys c t ≡ present_in_by xs c t
 present-order xs ys p c t =
     let moved = IsPermutation-map (λ stay. stay.who) (filter (holds c t) xs) (filter (holds c t) ys) (filter-order (holds c t) xs ys p) in
-    sym (same-ascending (shuffled _ _ moved) [])
+    sym (same-ascending (shuffled _ _ moved))
 
 after-order : (xs ys : List Stay) → IsPermutation xs ys → (c : ℕ) (way : Way) (people : List (List ℕ)) (at : ℕ)
     → IsPermutation (after xs c way people at) (after ys c way people at)

@@ -1,5 +1,5 @@
 -- Those present are listed in byte order, each once.
-use Rattle.std.proofs.Common.{◌≡◌, ℕ, ◌≤◌, Bool, true, false, not, ◌&&◌, nat_eq, List, [], ◌∷◌, map, length, Option, Some, None, refl, sym, ap, ◌∙◌, arith}
+use Rattle.std.proofs.Common.{◌≡◌, ℕ, ◌≤◌, Bool, true, false, not, nat_eq, List, [], ◌∷◌, map, length, Option, Some, None, refl, sym, ap, ◌∙◌, arith}
 use Rattle.std.specs.List.{list_any, list_all, filter}
 use Rattle.std.specs.declared.cmp.Ordering.{Ordering}
 use Rattle.std.specs.declared.cmp.Ordering.TheVariants.{Less, Equal, Greater}
@@ -9,12 +9,12 @@ use Rattle.std.proofs.lemmas.Bool.{both_ways, and_parts, not-true}
 use Rattle.std.specs.Cmp.{IsStrictWeakOrder}
 use Rattle.std.proofs.lemmas.List.Sorted.{ranks_by}
 use Rattle.std.proofs.lemmas.Cmp.{nat_list_cmp_total, same_from_slice_cmp}
-use Rattle.kcr_room.specs.Room.{enters, in_force, last_row, is_of, ascending_onto, put_person}
+use Rattle.kcr_room.specs.Room.{enters, in_force, last_row, is_of, ascending, put_person}
 use Rattle.kcr_base.specs.Lists.{are_apart}
 use Rattle.kcr_room.specs.Laws.{are_rising, PresentAreRising}
 use Rattle.kcr_room.proofs.Words.{nat_tests, same_text, is_before, SheetRow}
 use Rattle.kcr_room.proofs.Agreement.{same-turned, same-itself, listed, of_person, force-last}
-use Rattle.kcr_room.proofs.Keeping.{any-put}
+use Rattle.kcr_room.proofs.Keeping.{any-ascending}
 
 tied-same : (a b : List ℕ) (o : Ordering) → o ≡ slice_cmp nat_cmp a b → is_eq o ≡ same_text a b
 tied-same = same_from_slice_cmp nat_cmp is_eq (pointwise nat_eq) refl (λ _ _. refl) (λ _ _. refl) (λ x y xs ys o h. grind (arith, nat_tests))
@@ -50,28 +50,11 @@ rising-put who (other ∷ rest) r n =
     let after = other-before other who in
     grind (arith, nat_tests, r, n, same-turned other who, after, all-put (is_before other) who rest, all-trans who other rest, rising-put who rest)
 
--- none of the people is in the list
-abbrev are_new : List (List ℕ) → List (List ℕ) → Bool
-are_new done [] = true
-are_new done (who ∷ rest) = not (list_any (same_text who) done) && are_new done rest
-
-new-put : (who : List ℕ) (done rest : List (List ℕ)) → list_any (same_text who) rest ≡ false → are_new done rest ≡ true
-    → are_new (put_person who done) rest ≡ true
-new-put who done [] n a = refl
-new-put who done (other ∷ rest) n a = grind (arith, nat_tests, n, a, any-put (same_text other) who done, same-turned other who, new-put who done rest)
-
-rising-onto : (people done : List (List ℕ)) → are_apart people ≡ true → are_new done people ≡ true → are_rising done ≡ true
-    → are_rising (ascending_onto done people) ≡ true
-rising-onto [] done a n r = r
-rising-onto (who ∷ rest) done a n r =
+rising-ascending : (people : List (List ℕ)) → are_apart people ≡ true → are_rising (ascending people) ≡ true
+rising-ascending [] a = refl
+rising-ascending (who ∷ rest) a =
     let d = and_parts (not (list_any (same_text who) rest)) (are_apart rest) a in
-    let m = and_parts (not (list_any (same_text who) done)) (are_new done rest) n in
-    rising-onto rest (put_person who done) d.1 (new-put who done rest (not-true (list_any (same_text who) rest) d.0) m.1)
-    (rising-put who done r (not-true (list_any (same_text who) done) m.0))
-
-all-new : (people : List (List ℕ)) → are_new [] people ≡ true
-all-new [] = refl
-all-new (who ∷ rest) = all-new rest
+    rising-put who (ascending rest) (rising-ascending rest d.1) (any-ascending (same_text who) rest ∙ not-true (list_any (same_text who) rest) d.0)
 
 none-like : (c : ℕ) (who : List ℕ) (rows : List SheetRow) → length (filter (of_person who) rows) ≡ 0
     → list_any (same_text who) (map (λ row. row.who) (filter (enters c) rows)) ≡ false
@@ -96,7 +79,5 @@ one-listed (Some row) = omega arith
 
 pub present_are_rising : PresentAreRising
 present_are_rising rows c t =
-    let people : List (List ℕ) = map (λ row. row.who) (filter (enters c) (in_force t rows)) in
-    rising-onto people []
-    (apart-single c (in_force t rows) (λ who. rw (force-last who t rows [] None refl) (one-listed (last_row (filter (is_of who t) rows)))))
-    (all-new people) refl
+    rising-ascending (map (λ row. row.who) (filter (enters c) (in_force t rows)))
+    (apart-single c (in_force t rows) (λ who. rw (force-last who t rows) (one-listed (last_row (filter (is_of who t) rows)))))

@@ -2,18 +2,20 @@
 use Rattle.std.proofs.Common.{◌≡◌, ℕ, Bool, true, false, cond, not, ◌||◌, ◌&&◌, ◌==◌, nat_le, nat_lt, List, [], ◌∷◌, ◌++◌, map, Option, Some, None, refl, sym}
 use Rattle.std.proofs.Common.{ap, ◌∙◌, arith, subst, append-nil, append_assoc}
 use Rattle.std.specs.List.{list_any, filter, find}
-use Rattle.std.proofs.lemmas.Bool.{true≢false, and_parts, or_parts, not-true}
+use Rattle.std.proofs.lemmas.Bool.{true≢false, and_parts, and_from, or_parts, not-true}
 use Rattle.std.proofs.lemmas.List.Elements.{filter-append}
 use Rattle.std.proofs.lemmas.List.Folds.{list_any-append}
-use Rattle.kcr_room.specs.Room.{is_enter, later, last_onto, last_row, last_enters, last_row_of, is_ahead}
-use Rattle.kcr_room.specs.Stays.{sooner, cut, next_onto, stays_next, stays_onto, stays_by}
+use Rattle.kcr_room.specs.Room.{is_enter, later, last_row, last_enters, last_row_of, is_ahead}
+use Rattle.kcr_room.specs.Stays.{stays_by}
+use Rattle.kcr_room.proofs.Followed.{cut, stays_next, stays-snoc}
 use Rattle.kcr_room.specs.Adding.{is_open, ends_from, reaches, is_inside, is_inside_of, is_out_of_turn_in, is_among, new_stay, closed, of_ceremony, after}
 use Rattle.kcr_room.specs.Adding.{turn_refusal, is_no_turn, is_out_of_turn, is_out_of_turn_by, new_row}
 use Rattle.kcr_base.specs.Lists.{are_apart}
 use Rattle.kcr_room.specs.Laws.{in_turn_onto, IsSheet}
+use Rattle.kcr_room.specs.Moments.{sooner}
 use Rattle.kcr_room.proofs.Words.{nat_tests, same_text, SheetRow, Way, Enter, Leave, Stay}
 use Rattle.kcr_room.proofs.Lists.{any-filter}
-use Rattle.kcr_room.proofs.Agreement.{onto, same-is, same-itself, same-turned, listed, of_person, last-above}
+use Rattle.kcr_room.proofs.Agreement.{same-is, same-itself, same-turned, listed, of_person, last-above, last-snoc}
 use Rattle.kcr_room.proofs.Keeping.{in_turn-append, last-other, none-found, turn-others, and-assoc}
 
 -- an `in` in its turn cuts nothing
@@ -22,7 +24,7 @@ cut-enter-one row stay r i = ap (λ until. record stay { until = until }) (ended
   where
     ended : (until : Option ℕ) → (same_text stay.who row.who && (nat_le row.at stay.since || ends_from row.at until)) ≡ false
         → (same_text stay.who row.who && is_open until) ≡ false
-        → cond (same_text stay.who row.who && nat_le stay.since row.at) (Some (sooner row.at until)) until ≡ until
+        → cond (same_text stay.who row.who && nat_le stay.since row.at) (sooner (Some row.at) until) until ≡ until
     ended None r i = grind (arith, nat_tests, i)
     ended (Some u) r i = grind (arith, nat_tests, r)
 
@@ -36,7 +38,7 @@ cut-leave-one : (row : SheetRow) (stay : Stay) → reaches row.who row.at stay �
 cut-leave-one row stay r = ap (λ until. record stay { until = until }) (ended stay.until r)
   where
     ended : (until : Option ℕ) → (same_text stay.who row.who && (nat_le row.at stay.since || ends_from row.at until)) ≡ false
-        → cond (same_text stay.who row.who && nat_le stay.since row.at) (Some (sooner row.at until)) until
+        → cond (same_text stay.who row.who && nat_le stay.since row.at) (sooner (Some row.at) until) until
         ≡ cond ((same_text stay.who row.who || false) && is_open until) (Some row.at) until
     ended None r = grind (arith, nat_tests, r)
     ended (Some u) r = grind (arith, nat_tests, r)
@@ -47,9 +49,9 @@ cut-leave row [] r = refl
 cut-leave row (stay ∷ stays) r = grind (arith, nat_tests, r, cut-leave-one row stay, cut-leave row stays)
 
 -- where no row before is ahead there is no next one
-no-next : (row : SheetRow) (before : List SheetRow) (found : Option ℕ) → list_any (is_ahead row) before ≡ false → next_onto found row before ≡ found
-no-next row [] found h = refl
-no-next row (other ∷ before) found h = grind (arith, nat_tests, h, no-next row before found)
+none-ahead : (row : SheetRow) (before : List SheetRow) → list_any (is_ahead row) before ≡ false → filter (is_ahead row) before ≡ []
+none-ahead row [] h = refl
+none-ahead row (other ∷ before) h = grind (arith, nat_tests, h, none-ahead row before)
 
 -- by the last row: not earlier than a moment; in some room
 abbrev pub last_reaches : ℕ → Option SheetRow → Bool
@@ -109,7 +111,7 @@ next-added before stays row tells h Enter w =
     let t : is_out_of_turn_in stays row.ceremony Enter row.at row.who ≡ false =
     same-turn row.who last stays tells row.ceremony Enter row.at ∙ ap (λ way. is_out_of_turn way row.ceremony row.at last) (sym w) ∙ h in
     let d = or_parts (list_any (reaches row.who row.at) stays) (list_any (is_inside row.who) stays) t in
-    rw (cut-enter row stays d.0 d.1, no-next row before None (no-ahead row before (earlier-last row.way row.ceremony row.at last h)), w)
+    rw (cut-enter row stays d.0 d.1, none-ahead row before (no-ahead row before (earlier-last row.way row.ceremony row.at last h)), w)
 next-added before stays row tells h Leave w =
     let r : list_any (reaches row.who row.at) stays ≡ false = tells.moments row.at ∙ earlier-last row.way row.ceremony row.at (last_row_of before row.who) h in
     rw (cut-leave row stays r, w) (append-nil (map (closed (row.who ∷ []) row.at) stays))
@@ -161,10 +163,6 @@ enters-inside c (Some row) = grind (arith, nat_tests)
 inside-some : (c : ℕ) (who : List ℕ) (stays : List Stay) → list_any (is_inside who) stays ≡ false → list_any (is_inside_of c who) stays ≡ false
 inside-some c who [] h = refl
 inside-some c who (stay ∷ stays) h = grind (arith, nat_tests, h, inside-some c who stays)
-
-last-snoc : (last : Option SheetRow) (rows : List SheetRow) (row : SheetRow) → last_onto last (rows ++ (row ∷ [])) ≡ later (last_onto last rows) row
-last-snoc last [] row = refl
-last-snoc last (other ∷ rows) row = last-snoc (later last other) rows row
 
 -- the person's own row is the last one then
 last-own : (before : List SheetRow) (row : SheetRow) → last_reaches row.at (last_row_of before row.who) ≡ false
@@ -254,37 +252,45 @@ tells-next before stays row h tells who = by_same (same_text row.who who) refl
         (tells-own before stays row (tells row.who) h)
     by_same false e = tells-other before stays row who e (tells row.who) h (tells who)
 
--- what one row more in its turn keeps holds of every sheet
-pub made : (P : List SheetRow → List Stay → Type 0)
-    → ((before : List SheetRow) (stays : List Stay) (row : SheetRow) → InTurn before row → P before stays
-    → P (before ++ (row ∷ [])) (stays_next before stays row))
-    → P [] [] → (rows : List SheetRow) → IsSheet rows → P rows (stays_by rows)
-made P step none rows s = onto (λ rows stays. IsSheet rows → P rows stays) next rows [] [] (λ s. none) s
-  where
-    turn : (x : Bool) → (not x && true) ≡ true → x ≡ false
-    turn x h = grind (arith, nat_tests, h)
+-- one row more in its turn
+pub in-turn-more : (before : List SheetRow) (row : SheetRow) → IsSheet before → InTurn before row → IsSheet (before ++ (row ∷ []))
+in-turn-more before row s h =
+    in_turn-append [] before (row ∷ [])
+    ∙ and_from (in_turn_onto [] before) (in_turn_onto before (row ∷ [])) s (ap (λ out. not out && true) h)
 
-    next : (before : List SheetRow) (stays : List Stay) (row : SheetRow) → (IsSheet before → P before stays)
-        → IsSheet (before ++ (row ∷ [])) → P (before ++ (row ∷ [])) (stays_next before stays row)
-    next before stays row h s =
-        let p = and_parts (in_turn_onto [] before) (in_turn_onto before (row ∷ [])) (sym (in_turn-append [] before (row ∷ [])) ∙ s) in
-        step before stays row (turn (is_out_of_turn_by before row.ceremony row.way row.at row.who) p.1) (h p.0)
+-- what one row more in its turn keeps holds of every sheet
+pub made-in-turn : (P : List SheetRow → Type 0)
+    → ((before : List SheetRow) (row : SheetRow) → IsSheet before → InTurn before row → P before → P (before ++ (row ∷ [])))
+    → P [] → (rows : List SheetRow) → IsSheet rows → P rows
+made-in-turn P step none rows s = onto rows [] refl s none
+  where
+    onto : (rows before : List SheetRow) → IsSheet before → in_turn_onto before rows ≡ true → P before → P (before ++ rows)
+    onto [] before s t p = subst P (sym (append-nil before)) p
+    onto (row ∷ rows) before s t p =
+        let out = is_out_of_turn_by before row.ceremony row.way row.at row.who in
+        let q = and_parts (not out) (in_turn_onto (before ++ (row ∷ [])) rows) t in
+        let turn : out ≡ false = not-true out q.0 in
+        subst P (append_assoc before (row ∷ []) rows)
+        (onto rows (before ++ (row ∷ [])) (in-turn-more before row s turn) q.1 (step before row s turn p))
 
 -- the stays of a sheet tell of each person what the last row tells
 pub tells-sheet : (rows : List SheetRow) → IsSheet rows → (who : List ℕ) → Tells who (last_row_of rows who) (stays_by rows)
-tells-sheet rows s who = made AllTell tells-next (λ who. record { moments = λ at. refl; inside = refl; inside_of = λ c. refl }) rows s who
+tells-sheet = made-in-turn (λ rows. AllTell rows (stays_by rows)) next (λ who. record { moments = λ at. refl; inside = refl; inside_of = λ c. refl })
+  where
+    next : (before : List SheetRow) (row : SheetRow) → IsSheet before → InTurn before row → AllTell before (stays_by before)
+        → AllTell (before ++ (row ∷ [])) (stays_by (before ++ (row ∷ [])))
+    next before row s h tells =
+        subst (AllTell (before ++ (row ∷ []))) (sym (stays-snoc before row)) (tells-next before (stays_by before) row h tells)
+
+-- a further row in its turn
+pub row-added : (before : List SheetRow) (row : SheetRow) → IsSheet before → InTurn before row
+    → stays_by (before ++ (row ∷ [])) ≡ added row.ceremony row.way row.at (row.who ∷ []) (stays_by before)
+row-added before row s h = stays-snoc before row ∙ next-added before (stays_by before) row (tells-sheet before s row.who) h row.way refl
 
 -- it is somebody's turn by the stays of a sheet where it is by its rows
 pub same-turns : (rows : List SheetRow) → IsSheet rows → (c : ℕ) (way : Way) (at : ℕ) (who : List ℕ)
     → is_out_of_turn_by rows c way at who ≡ is_out_of_turn_in (stays_by rows) c way at who
 same-turns rows s c way at who = sym (same-turn who (last_row_of rows who) (stays_by rows) (tells-sheet rows s who) c way at)
-
-pub stays-append : (rows more before : List SheetRow) (stays : List Stay)
-    → stays_onto before stays (rows ++ more) ≡ stays_onto (before ++ rows) (stays_onto before stays rows) more
-stays-append [] more before stays = ap (λ all. stays_onto all stays more) (sym (append-nil before))
-stays-append (row ∷ rows) more before stays =
-    stays-append rows more (before ++ (row ∷ [])) (stays_next before stays row)
-    ∙ ap (λ all. stays_onto all (stays_onto (before ++ (row ∷ [])) (stays_next before stays row) rows) more) (append_assoc before (row ∷ []) rows)
 
 closed-none : (at : ℕ) (stays : List Stay) → map (closed [] at) stays ≡ stays
 closed-none at [] = refl
@@ -313,19 +319,20 @@ added-more : (c : ℕ) (way : Way) (at : ℕ) (who : List ℕ) (rest : List (Lis
 added-more c Enter at who rest stays = append_assoc stays (new_stay c at who ∷ []) (map (new_stay c at) rest)
 added-more c Leave at who rest stays = closed-more who rest at stays
 
-pub added-onto : (c : ℕ) (way : Way) (at : ℕ) (people : List (List ℕ)) (before : List SheetRow) (stays : List Stay)
-    → ((who : List ℕ) → Tells who (last_row_of before who) stays)
-    → are_apart people ≡ true → turn_refusal (find (is_out_of_turn_by before c way at) people) ≡ None
-    → stays_onto before stays (map (new_row c way at) people) ≡ added c way at people stays
-added-onto c way at [] before stays tells a h = sym (added-none c way at stays)
-added-onto c way at (who ∷ rest) before stays tells a h =
+-- the rows of a request whose people all have the turn
+pub rows-added : (c : ℕ) (way : Way) (at : ℕ) (people : List (List ℕ)) (before : List SheetRow) → IsSheet before → are_apart people ≡ true
+    → turn_refusal (find (is_out_of_turn_by before c way at) people) ≡ None
+    → stays_by (before ++ map (new_row c way at) people) ≡ added c way at people (stays_by before)
+rows-added c way at [] before s a h = ap stays_by (append-nil before) ∙ sym (added-none c way at (stays_by before))
+rows-added c way at (who ∷ rest) before s a h =
     let d = and_parts (not (list_any (same_text who) rest)) (are_apart rest) a in
     let n = none-found (is_out_of_turn_by before c way at) who rest h in
     let row : SheetRow = new_row c way at who in
     let turns = turn-others before c way at who rest (not-true (list_any (same_text who) rest) d.0) n.1 in
-    added-onto c way at rest (before ++ (row ∷ [])) (stays_next before stays row) (tells-next before stays row n.0 tells) d.1 turns
-    ∙ ap (added c way at rest) (next-added before stays row (tells who) n.0 way refl)
-    ∙ added-more c way at who rest stays
+    ap stays_by (sym (append_assoc before (row ∷ []) (map (new_row c way at) rest)))
+    ∙ rows-added c way at rest (before ++ (row ∷ [])) (in-turn-more before row s n.0) d.1 turns
+    ∙ ap (added c way at rest) (row-added before row s n.0)
+    ∙ added-more c way at who rest (stays_by before)
 
 filter-new : (c at : ℕ) (people : List (List ℕ)) → filter (of_ceremony c) (map (new_stay c at) people) ≡ map (new_stay c at) people
 filter-new c at [] = refl
@@ -342,8 +349,7 @@ pub same-added : (rows : List SheetRow) → IsSheet rows → (c : ℕ) (way : Wa
     → filter (of_ceremony c) (stays_by (rows ++ map (new_row c way at) people)) ≡ after (stays_by rows) c way people at
 same-added rows s c way at people a h =
     ap (filter (of_ceremony c))
-    (stays-append rows (map (new_row c way at) people) [] [] ∙ added-onto c way at people rows (stays_by rows) (tells-sheet rows s) a h)
-    ∙ by_way way
+    (rows-added c way at people rows s a h) ∙ by_way way
   where
     by_way : (way : Way) → filter (of_ceremony c) (added c way at people (stays_by rows)) ≡ after (stays_by rows) c way people at
     by_way Enter =

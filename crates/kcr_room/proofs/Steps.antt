@@ -1,5 +1,5 @@
 -- Steps in order, gone through from the last one back, tell each row's end.
-use Rattle.std.proofs.Common.{◌≡◌, ℕ, suc, ◌+◌, ◌<◌, ◌≤◌, Bool, false, cond, not, ◌||◌, ◌&&◌, ◌==◌, nat_le, nat_lt, List, [], ◌∷◌, ◌++◌, length, get_or}
+use Rattle.std.proofs.Common.{◌≡◌, ℕ, suc, ◌+◌, ◌<◌, ◌≤◌, Bool, false, cond, not, ◌||◌, ◌&&◌, ◌==◌, nat_le, nat_lt, List, [], ◌∷◌, ◌++◌, length, get_or, map}
 use Rattle.std.proofs.Common.{set, drop, Option, Some, None, refl, sym, ap, ◌∙◌, subst, arith, append-nil, append_assoc}
 use Rattle.std.specs.List.{list_any, count_by, AllByRecursion}
 use Rattle.std.specs.List.Sorted.{IsPermutation, IsSortedBy}
@@ -14,10 +14,12 @@ use Rattle.std.proofs.lemmas.List.Elements.{All-from_recursion, recursion_from_A
 use Rattle.std.proofs.lemmas.List.Folds.{list_any-append}
 use Rattle.std.proofs.lemmas.List.Sorted.{ranks_by, sorted_far, All-permutation, IsPermutation-sym, sum_by-IsPermutation, list_any-IsPermutation}
 use Rattle.kcr_room.specs.declared.stays.Step.{Step}
-use Rattle.kcr_room.specs.Stays.{lasts_at}
+use Rattle.kcr_room.specs.Stays.{lasts_at, next_of}
 use Rattle.kcr_room.proofs.Words.{nat_tests, same_text, SheetRow}
 use Rattle.kcr_room.proofs.Lists.{count-cons, none-behind}
-use Rattle.kcr_room.specs.Ends.{steps_from, steps_by, follows, IsEnd, AreEnds}
+use Rattle.kcr_room.specs.Room.{followed_rows}
+use Rattle.kcr_room.specs.Ends.{steps_from, steps_by}
+use Rattle.kcr_room.proofs.Ends.{follows, IsEnd, ends-next}
 
 -- THE ORDER OF STEPS
 
@@ -206,11 +208,11 @@ module _ (rows : List SheetRow) (all front : List Step) (step : Step) (next : Li
       many = length-set ends step.place (next step.who) ∙ told.many;
     }
 
--- where no step is left each has its end
+-- where no step is left each row has its end
 pub told-all : (rows : List SheetRow) (all : List Step) (next : List ℕ → Option ℕ) (ends : List (Option ℕ)) → IsPermutation (steps_by rows) all
-    → Told rows all [] next ends → AreEnds rows ends
-told-all rows all next ends moved told = (
-  told.many,
-  All-permutation (λ step. IsEnd (steps_by rows) step (get_or ends step.place None)) all (steps_by rows) (IsPermutation-sym (steps_by rows) all moved)
-      (All-from_recursion (λ step. IsEnd (steps_by rows) step (get_or ends step.place None)) all told.ended),
-)
+    → Told rows all [] next ends → ends ≡ map next_of (followed_rows rows)
+told-all rows all next ends moved told =
+    ends-next rows ends 0 [] rows refl refl (omega (arith, told.many))
+    (recursion_from_All (λ step. IsEnd (steps_by rows) step (get_or ends step.place None)) (steps_by rows)
+    (All-permutation (λ step. IsEnd (steps_by rows) step (get_or ends step.place None)) all (steps_by rows) (IsPermutation-sym (steps_by rows) all moved)
+    (All-from_recursion (λ step. IsEnd (steps_by rows) step (get_or ends step.place None)) all told.ended)))

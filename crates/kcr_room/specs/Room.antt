@@ -51,39 +51,50 @@ last_enters ceremony (Some row) = enters ceremony row
 abbrev pub in_by : List SheetRow → List ℕ → ℕ → ℕ → Bool
 in_by rows who ceremony t = last_enters ceremony (last_row (filter (is_of who t) rows))
 
--- the row is of the same person, and not later
-abbrev pub is_replaced : SheetRow → SheetRow → Bool
-is_replaced row other = same_text other.who row.who && nat_le other.at row.at
-
 -- the row is of the same person, and later
 abbrev pub is_ahead : SheetRow → SheetRow → Bool
 is_ahead row other = same_text other.who row.who && nat_lt row.at other.at
 
--- a further row takes the place of its person's last row, unless that one is later
-abbrev pub force_next : List SheetRow → SheetRow → List SheetRow
-force_next lasts row =
-    filter (λ other. not (is_replaced row other)) lasts ++ (if list_any (is_ahead row) lasts then [] else row ∷ [])
+-- the row is of the same person, and not earlier
+abbrev pub is_as_late : SheetRow → SheetRow → Bool
+is_as_late row other = same_text other.who row.who && nat_le row.at other.at
+
+-- the rows that follow a row: the person's later ones, and of those listed behind it the ones at its moment too
+abbrev pub following : List SheetRow → SheetRow → List SheetRow → List SheetRow
+following before row behind = filter (is_ahead row) before ++ filter (is_as_late row) behind
+
+-- a row of a sheet, with the rows that follow it
+pub record Followed : Type 0 where
+  pub row : SheetRow
+  pub by : List SheetRow
+
+-- the rows that are listed behind others, each with the rows that follow it
+abbrev pub followed_rows_behind : List SheetRow → List SheetRow → List Followed
+followed_rows_behind before [] = []
+followed_rows_behind before (row ∷ rows) =
+    record { row = row; by = following before row rows } ∷ followed_rows_behind (before ++ (row ∷ [])) rows
+
+-- the rows of a sheet, each with the rows that follow it
+abbrev pub followed_rows : List SheetRow → List Followed
+followed_rows rows = followed_rows_behind [] rows
+
+-- the row is not later than t, and each that follows it is
+abbrev pub is_last_at : ℕ → Followed → Bool
+is_last_at t followed = nat_le followed.row.at t && not (list_any (λ other. nat_le other.at t) followed.by)
 
 -- each person's last row, of those with moments at most t
-abbrev pub force_onto : ℕ → List SheetRow → List SheetRow → List SheetRow
-force_onto t lasts [] = lasts
-force_onto t lasts (row ∷ rows) = force_onto t (if nat_le row.at t then force_next lasts row else lasts) rows
-
 abbrev pub in_force : ℕ → List SheetRow → List SheetRow
-in_force t rows = force_onto t [] rows
+in_force t rows = map (λ followed. followed.row) (filter (is_last_at t) (followed_rows rows))
 
 -- a person put into a list in byte order
 abbrev pub put_person : List ℕ → List (List ℕ) → List (List ℕ)
 put_person who [] = who ∷ []
 put_person who (other ∷ rest) = if is_before other who then other ∷ put_person who rest else who ∷ other ∷ rest
 
-abbrev pub ascending_onto : List (List ℕ) → List (List ℕ) → List (List ℕ)
-ascending_onto done [] = done
-ascending_onto done (who ∷ rest) = ascending_onto (put_person who done) rest
-
 -- the people in byte order
 abbrev pub ascending : List (List ℕ) → List (List ℕ)
-ascending people = ascending_onto [] people
+ascending [] = []
+ascending (who ∷ rest) = put_person who (ascending rest)
 
 -- those in the room at t, in byte order
 abbrev pub present_by : List SheetRow → ℕ → ℕ → List (List ℕ)

@@ -1,9 +1,10 @@
 -- What the traffic of a room tells.
-use Rattle.std.specs.Prelude.{◌≡◌, ℕ, ◌-◌, ◌==◌, Bool, nat_lt, List}
+use Rattle.std.specs.Prelude.{ℕ, ◌-◌, ◌==◌, Bool, nat_lt, List}
+use Rattle.std.specs.List.Sorted.{IsPermutation}
 use Rattle.kcr_room.specs.declared.Stay.{Stay}
 use Rattle.kcr_room.specs.declared.traffic.Traffic.{Traffic}
-use Rattle.kcr_room.specs.Stays.{crowd_in_by}
-use Rattle.kcr_room.specs.Comings.{count_until}
+use Rattle.kcr_room.specs.Moments.{count_until}
+use Rattle.kcr_room.specs.Stays.{comings_by, goings_by}
 
 -- how many people are in the room at t: those who have come, without those who have gone
 abbrev pub crowd_of : Traffic → ℕ → ℕ
@@ -17,6 +18,8 @@ is_crowd_of traffic t = nat_lt 128 (crowd_of traffic t)
 abbrev pub is_lone_of : Traffic → ℕ → Bool
 is_lone_of traffic t = crowd_of traffic t == 1
 
--- at each moment it tells how many people are in the room by the stays
+-- it has the moments of the stays, in some order
 abbrev pub Tells : Traffic → List Stay → ℕ → Type 0
-Tells traffic stays ceremony = (t : ℕ) → crowd_of traffic t ≡ crowd_in_by stays ceremony t
+Tells traffic stays ceremony =
+    IsPermutation (comings_by stays ceremony) traffic.comings.items
+    × IsPermutation (goings_by stays ceremony) traffic.goings.items

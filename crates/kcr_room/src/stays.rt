@@ -1,5 +1,5 @@
 //! The stays of a sheet: one for each `in` row.
-ghost use Rattle.std.specs.Prelude.{◌≡◌, IfOk, length};
+ghost use Rattle.std.specs.Prelude.{◌≡◌, IfOk, length, map};
 ghost use Rattle.kcr_room.specs.Ends;
 ghost use Rattle.kcr_room.specs.Room;
 ghost use Rattle.kcr_room.specs.Stays;
@@ -45,7 +45,7 @@ fn steps_of(alloc: Global, rows: &[SheetRow]) -> Result<Vec<Step>, AllocError>
 // The end of each row, if a stay began with it: the moment of the person's next row. It goes through
 // the rows from the last moment back, and keeps for each person the row that comes next.
 fn ends_of(alloc: Global, rows: &[SheetRow]) -> Result<Vec<Option<Moment>>, AllocError>
-    ensures { IfOk result (λ ends. Ends.AreEnds rows.now ends.items) }
+    ensures { IfOk result (λ ends. ends.items ≡ map Stays.next_of (Room.followed_rows rows.now)) }
 {
     let mut steps = steps_of(alloc, rows)?;
     steps.sort_unstable();

@@ -2,7 +2,6 @@
 //! which they come and go.
 ghost use Rattle.std.specs.Prelude.{◌≡◌, IfOk};
 ghost use Rattle.std.specs.List.Sorted.{IsNonDecreasing, IsPermutation};
-ghost use Rattle.kcr_room.specs.Comings;
 ghost use Rattle.kcr_room.specs.Moments;
 ghost use Rattle.kcr_room.specs.Stays;
 
@@ -13,14 +12,14 @@ use std::alloc::{AllocError, Global};
 
 // Whether the stay is of the ceremony and holds at some moment.
 fn is_held(ceremony: u32, stay: &Stay) -> bool
-    ensures { result ≡ Comings.is_held ceremony stay.now }
+    ensures { result ≡ Stays.is_held ceremony stay.now }
 {
     stay.ceremony == ceremony && lasts_at(stay.since, stay.until)
 }
 
 // The moments at which somebody comes.
 fn comings(alloc: Global, stays: &[Stay], ceremony: u32) -> Result<Vec<Moment>, AllocError>
-    ensures { IfOk result (λ moments. moments.items ≡ Comings.comings_by stays.now ceremony) }
+    ensures { IfOk result (λ moments. moments.items ≡ Stays.comings_by stays.now ceremony) }
 {
     stays
         .iter()
@@ -31,7 +30,7 @@ fn comings(alloc: Global, stays: &[Stay], ceremony: u32) -> Result<Vec<Moment>, 
 
 // The moments at which somebody goes.
 fn goings(alloc: Global, stays: &[Stay], ceremony: u32) -> Result<Vec<Moment>, AllocError>
-    ensures { IfOk result (λ moments. moments.items ≡ Comings.goings_by stays.now ceremony) }
+    ensures { IfOk result (λ moments. moments.items ≡ Stays.goings_by stays.now ceremony) }
 {
     stays
         .iter()
@@ -52,17 +51,19 @@ fn sorted(mut moments: Vec<Moment>) -> Vec<Moment>
 // How many of the moments are not later than this one.
 fn count_until(moments: &[Moment], at: Moment) -> usize
     requires { IsNonDecreasing moments.now }
-    ensures { result ≡ Comings.count_until moments.now at }
+    ensures { result ≡ Moments.count_until moments.now at }
 {
     moments.partition_point(|moment| not_later(*moment, at))
 }
 
-fn is_sooner(at: Moment, found: &Option<Moment>) -> bool
-    ensures { result ≡ Moments.is_sooner at found.now }
+// The sooner of two moments, where they are there.
+fn sooner(at: Option<Moment>, other: Option<Moment>) -> Option<Moment>
+    ensures { result ≡ Moments.sooner at other }
 {
-    match found {
-        None => true,
-        Some(found) => is_earlier(at, *found),
+    match (at, other) {
+        (Some(at), Some(other)) => Some(if is_earlier(at, other) { at } else { other }),
+        (Some(at), None) => Some(at),
+        (None, other) => other,
     }
 }
 
@@ -76,8 +77,8 @@ struct Traffic {
 }
 
 impl Traffic {
-    ghost use Rattle.std.specs.List.{list_any};
-    ghost use Rattle.kcr_room.specs.Moments.{IsEver, IsFirst, try, try_all};
+    ghost use Rattle.std.specs.Prelude.{◌++◌, find};
+    ghost use Rattle.std.specs.List.{filter, list_any};
     ghost use Rattle.kcr_room.specs.Traffic.{crowd_of, is_crowd_of, is_lone_of, Tells};
 
     // The traffic of the ceremony's room by these stays.
@@ -110,46 +111,28 @@ impl Traffic {
         self.crowd(at) == 1
     }
 
-    // Seeks a moment with more than 128 people in the room where somebody comes.
-    fn seek_crowd(&self) -> bool
+    // Whether at any moment more than 128 people are in the room: at one at which somebody comes.
+    fn is_crowded(&self) -> bool
         ensures { result ≡ list_any (is_crowd_of self.now) self.now.comings.items }
     {
         self.comings.iter().any(|at| self.is_crowd(*at))
     }
 
-    // Whether at any moment more than 128 people are in the room.
-    fn is_crowded(&self) -> bool
-        ensures { IsEver (is_crowd_of self.now) result }
+    // The first of these moments at which exactly one person is in the room.
+    fn first_lone_of(&self, moments: &[Moment]) -> Option<Moment>
+        ensures { result ≡ find (is_lone_of self.now) moments.now }
     {
-        self.seek_crowd()
-    }
-
-    fn try_moment(&self, found: Option<Moment>, at: Moment) -> Option<Moment>
-        ensures { result ≡ try (is_lone_of self.now) found at }
-    {
-        if is_sooner(at, &found) && self.is_lone(at) {
-            Some(at)
-        } else {
-            found
-        }
-    }
-
-    fn seek_lone(&self, moments: &[Moment], sooner_than: Option<Moment>) -> Option<Moment>
-        ensures { result ≡ try_all (is_lone_of self.now) sooner_than moments.now }
-    {
-        let mut found = sooner_than;
-        for at in moments {
-            found = self.try_moment(found, *at);
-        }
-        found
+        moments.iter().copied().find(|at| self.is_lone(*at))
     }
 
     // The first moment at which exactly one person is in the room, or None where there is none.
     fn first_lone(&self) -> Option<Moment>
-        ensures { IsFirst (is_lone_of self.now) result }
+        ensures { result ≡ Moments.least
+            (filter (is_lone_of self.now) (self.now.comings.items ++ self.now.goings.items)) }
     {
-        let at_coming = self.seek_lone(&self.comings, None);
-        self.seek_lone(&self.goings, at_coming)
+        let at_coming = self.first_lone_of(&self.comings);
+        let at_going = self.first_lone_of(&self.goings);
+        sooner(at_coming, at_going)
     }
 }
 

@@ -1,10 +1,7 @@
-use Rattle.std.proofs.Common.{◌≡◌, [], map, drop}
-use Rattle.std.specs.List.{filter}
-use Rattle.kcr_room.specs.Room.{ascending_onto}
-use Rattle.kcr_room.specs.Stays.{holds}
+use Rattle.std.proofs.Common.{◌≡◌, take}
+use Rattle.kcr_room.specs.Stays.{present_in_by}
 use Rattle.kcr_room.proofs.presence.present_in.Given as goal
 
+-- those of the stays so far
 abbrev pub invariant-loop-stay : goal.invariant-loop-stay
-invariant-loop-stay l =
-    ascending_onto l.people.items (map (λ stay. stay.who) (filter (holds l.ceremony l.at) (drop l.stay-index l.stays))) ≡ ascending_onto []
-    (map (λ stay. stay.who) (filter (holds l.ceremony l.at) l.stays))
+invariant-loop-stay l = l.people.items ≡ present_in_by (take l.stay-index l.stays) l.ceremony l.at

@@ -1,12 +1,10 @@
-use Rattle.std.proofs.Common.{◌==◌, nat_lt, ap}
-use Rattle.kcr_room.proofs.Moments.{first_lone-is_first, crowded-is_ever}
-use Rattle.kcr_room.proofs.Refusals.{first-unique, ever-unique}
+use Rattle.std.proofs.Common.{◌∙◌}
+use Rattle.kcr_room.proofs.Counting.{told-crowded, told-lone}
 use Rattle.kcr_room.proofs.traffic.crowding_of.Goals as goal
 
 pub returns-clause-crowded : goal.returns-clause-crowded
 returns-clause-crowded c =
-    ever-unique _ _ (λ t. ap (λ n. nat_lt 128 n) (c.in_ok-traffic.ensures t)) _ _ c.is_crowded.ensures (crowded-is_ever c.args.stays.now c.args.ceremony)
+    c.is_crowded.ensures ∙ told-crowded c.in_ok-traffic.traffic c.args.stays.now c.args.ceremony c.in_ok-traffic.ensures
 
 pub returns-clause-lone : goal.returns-clause-lone
-returns-clause-lone c =
-    first-unique _ _ (λ t. ap (λ n. n == 1) (c.in_ok-traffic.ensures t)) _ _ c.first_lone.ensures (first_lone-is_first c.args.stays.now c.args.ceremony)
+returns-clause-lone c = c.first_lone.ensures ∙ told-lone c.in_ok-traffic.traffic c.args.stays.now c.args.ceremony c.in_ok-traffic.ensures
