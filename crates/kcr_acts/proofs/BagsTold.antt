@@ -4,6 +4,8 @@ use Rattle.kcr_base.specs.Refuse.{unless}
 use Rattle.kcr_base.specs.declared.place.Role.TheVariants.{Ca}
 use Rattle.kcr_base.specs.declared.refusal.Refusal.{Refusal}
 use Rattle.kcr_custody.specs.declared.Bag.{Bag}
+use Rattle.kcr_custody.specs.declared.BoxRow.{BoxRow}
+use Rattle.kcr_custody.specs.declared.SafeRow.{SafeRow}
 use Rattle.kcr_custody.specs.declared.Scene.{Scene}
 use Rattle.kcr_custody.specs.declared.Spot.TheVariants.{Table}
 use Rattle.kcr_custody.specs.declared.Store.{Store}
@@ -13,29 +15,31 @@ use Rattle.kcr_scene.specs.Scene.{scene_by, is_attended_by}
 use Rattle.kcr_acts.specs.CustodyRows.{facility_in, scene_in, has_keeper_by, place_to_take, place_to_put, take_refusal_in, put_refusal_in}
 use Rattle.kcr_acts.proofs.Unless.{refused, accepted}
 
-module _ (view : View) (full : Bool) (c : ℕ) (t : List ℕ) (at : ℕ) (has_ca has_holder : Bool) (scene : Scene) (result : Result Bag Refusal)
-    (ca : has_ca ≡ is_attended_by view Ca c at) (holder : has_holder ≡ has_keeper_by view c at (place_to_take view c t)) (e : scene ≡ scene_by view c at full has_ca)
-    (g : result ≡ unless (take_refusal scene view.safes.items view.boxes.items view.bags.items t has_holder) (record { serial = t; spot = Table scene.facility })) where
-  told_take : result ≡ unless (take_refusal_in view full c t at) (record { serial = t; spot = Table (facility_in view c) })
-  told_take =
-      g
-      ∙ ap (λ s. unless (take_refusal s view.safes.items view.boxes.items view.bags.items t has_holder) (record { serial = t; spot = Table s.facility })) (e ∙ ap (scene_by view c at full) ca)
-      ∙ ap (λ b. unless (take_refusal (scene_in view full c at) view.safes.items view.boxes.items view.bags.items t b) (record { serial = t; spot = Table (facility_in view c) })) holder
+module _ (view : View) (full : Bool) (c : ℕ) (t : List ℕ) (at : ℕ) (has_ca has_holder : Bool) (scene : Scene) (safes : List SafeRow) (boxes : List BoxRow)
+    (bags : List Bag) (result : Result Bag Refusal)
+    (ca : has_ca ≡ is_attended_by view Ca c at) (e : scene ≡ scene_by view c at full has_ca)
+    (of_safes : safes ≡ view.safes.items) (of_boxes : boxes ≡ view.boxes.items) (of_bags : bags ≡ view.bags.items) where
+  here : scene ≡ scene_in view full c at
+  here = e ∙ ap (scene_by view c at full) ca
 
-  pub take-refused : (r : Refusal) → result ≡ Err r → take_refusal_in view full c t at ≡ Some r
-  take-refused r h = refused _ _ result r told_take h
+  module _ (holder : has_holder ≡ has_keeper_by view c at (place_to_take view c t))
+      (g : result ≡ unless (take_refusal scene safes boxes bags t has_holder) (record { serial = t; spot = Table scene.facility })) where
+    told_take : result ≡ unless (take_refusal_in view full c t at) (record { serial = t; spot = Table (facility_in view c) })
+    told_take = g ∙ (λ i. unless (take_refusal (here i) (of_safes i) (of_boxes i) (of_bags i) t (holder i)) (record { serial = t; spot = Table (here i).facility }))
 
-module _ (view : View) (full : Bool) (c : ℕ) (t : List ℕ) (to : Store) (at : ℕ) (has_ca has_holder : Bool) (scene : Scene) (result : Result Bag Refusal)
-    (ca : has_ca ≡ is_attended_by view Ca c at) (holder : has_holder ≡ has_keeper_by view c at (place_to_put view c to)) (e : scene ≡ scene_by view c at full has_ca)
-    (g : result ≡ unless (put_refusal scene view.safes.items view.boxes.items view.bags.items t to has_holder) (record { serial = t; spot = spot_of_store scene.facility to })) where
-  told_put : result ≡ unless (put_refusal_in view full c t to at) (record { serial = t; spot = spot_of_store (facility_in view c) to })
-  told_put =
-      g
-      ∙ ap (λ s. unless (put_refusal s view.safes.items view.boxes.items view.bags.items t to has_holder) (record { serial = t; spot = spot_of_store s.facility to })) (e ∙ ap (scene_by view c at full) ca)
-      ∙ ap (λ b. unless (put_refusal (scene_in view full c at) view.safes.items view.boxes.items view.bags.items t to b) (record { serial = t; spot = spot_of_store (facility_in view c) to })) holder
+    pub take-refused : (r : Refusal) → result ≡ Err r → take_refusal_in view full c t at ≡ Some r
+    take-refused r h = refused _ _ result r told_take h
 
-  pub put-refused : (r : Refusal) → result ≡ Err r → put_refusal_in view full c t to at ≡ Some r
-  put-refused r h = refused _ _ result r told_put h
+    pub take-accepted : (bag : Bag) → result ≡ Ok bag → (take_refusal_in view full c t at ≡ None) × (bag ≡ record { serial = t; spot = Table (facility_in view c) })
+    take-accepted bag h = accepted _ _ result bag told_take h
 
-  pub put-accepted : (bag : Bag) → result ≡ Ok bag → (put_refusal_in view full c t to at ≡ None) × (bag ≡ record { serial = t; spot = spot_of_store (facility_in view c) to })
-  put-accepted bag h = accepted _ _ result bag told_put h
+  module _ (to : Store) (holder : has_holder ≡ has_keeper_by view c at (place_to_put view c to))
+      (g : result ≡ unless (put_refusal scene safes boxes bags t to has_holder) (record { serial = t; spot = spot_of_store scene.facility to })) where
+    told_put : result ≡ unless (put_refusal_in view full c t to at) (record { serial = t; spot = spot_of_store (facility_in view c) to })
+    told_put = g ∙ (λ i. unless (put_refusal (here i) (of_safes i) (of_boxes i) (of_bags i) t to (holder i)) (record { serial = t; spot = spot_of_store (here i).facility to }))
+
+    pub put-refused : (r : Refusal) → result ≡ Err r → put_refusal_in view full c t to at ≡ Some r
+    put-refused r h = refused _ _ result r told_put h
+
+    pub put-accepted : (bag : Bag) → result ≡ Ok bag → (put_refusal_in view full c t to at ≡ None) × (bag ≡ record { serial = t; spot = spot_of_store (facility_in view c) to })
+    put-accepted bag h = accepted _ _ result bag told_put h

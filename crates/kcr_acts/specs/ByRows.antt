@@ -1,5 +1,5 @@
 -- What an act comes to, by the rows of a view.
-use Rattle.std.specs.Prelude.{◌≡◌, ◌≢◌, suc, ◌+◌, ℕ, Bool, true, false, nat_lt, List, [], ◌∷◌, ◌++◌, map, Option, Some}
+use Rattle.std.specs.Prelude.{◌≡◌, ◌≢◌, suc, ℕ, Bool, true, false, nat_lt, List, [], ◌∷◌, ◌++◌, map, Option, Some}
 use Rattle.std.specs.Prelude.{None, option_map, MatchOption}
 use Rattle.kcr_base.specs.Days.{day_of}
 use Rattle.kcr_base.specs.declared.place.Place.{Place}

@@ -1,7 +1,6 @@
 -- Which kinds of acts are told apart together.
 use Rattle.std.specs.Prelude.{Bool, true, false}
 use Rattle.kcr_history.specs.declared.commands.Act.{Act}
-use Rattle.kcr_history.specs.declared.commands.Act.TheVariants.{Enter, Train, Withdraw, Appoint, Replace, Release}
 use Rattle.kcr_history.specs.declared.commands.Act.TheVariants.{AddBox, AddItem, Plan, Open, Close, Sheet, TurnSafe}
 use Rattle.kcr_history.specs.declared.commands.Act.TheVariants.{Sign, Except, Seal, Take, Put, Cut}
 

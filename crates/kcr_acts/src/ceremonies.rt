@@ -19,13 +19,6 @@ use kcr_scene::scene::ceremony_row;
 use kcr_script::{Script, Step, read_script};
 use std::alloc::{AllocError, Global};
 
-/// The row of a box, by the rows of the view.
-fn new_box(view: &View, full: bool, row: BoxRow) -> Result<BoxRow, Refusal>
-    ensures { result ≡ unless (Custody.add_box_refusal view.now.boxes.items full row) row }
-{
-    kcr_custody::add_box(&view.boxes, full, row)
-}
-
 /// Adds a box.
 #[tactic(auto, using(crate::proofs::Unless::refused, crate::proofs::Unless::accepted))]
 pub(crate) fn add_box(
@@ -45,10 +38,8 @@ pub(crate) fn add_box(
         number,
         place,
     };
-    match new_box(view, full, row) {
-        Ok(row) => Ok(only(alloc, Change::PutBox(row))?),
-        Err(refusal) => Err(refusal),
-    }
+    let row = kcr_custody::add_box(&view.boxes, full, row)?;
+    Ok(only(alloc, Change::PutBox(row))?)
 }
 
 /// Whether the ceremony is open.
@@ -94,13 +85,6 @@ fn open_refusal(rows: &[CeremonyRow], full: bool, at: Moment, row: CeremonyRow) 
     None
 }
 
-/// Why the ceremony of the row is not opened, among those of the view.
-fn refusal_to_open(view: &View, full: bool, at: Moment, row: CeremonyRow) -> Option<Refusal>
-    ensures { result ≡ CeremonyRows.open_refusal view.now.ceremonies.items full at row }
-{
-    open_refusal(&view.ceremonies, full, at, row)
-}
-
 /// Opens a planned ceremony.
 pub(crate) fn open(
     alloc: Global,
@@ -118,7 +102,7 @@ pub(crate) fn open(
             thing: Thing::Ceremony(ceremony),
         });
     };
-    if let Some(refusal) = refusal_to_open(view, full, at, row) {
+    if let Some(refusal) = open_refusal(&view.ceremonies, full, at, row) {
         return Err(refusal);
     }
     let opened = CeremonyRow {
@@ -187,14 +171,6 @@ fn planned(
     push_steps(changes, number, script.as_slice())
 }
 
-/// The script that the text is.
-fn script_in(alloc: Global, text: &Text) -> Result<Script, Refusal>
-    ensures { MatchResult result (λ script. script_of text.now ≡ Ok script)
-        (IfRow (λ row. script_of text.now ≡ Err row)) }
-{
-    read_script(alloc, text.as_bytes())
-}
-
 /// Plans a ceremony with the steps of its script.
 pub(crate) fn plan(
     alloc: Global,
@@ -212,10 +188,7 @@ pub(crate) fn plan(
     if ceremony_row(view, number).is_some() {
         return Err(Refusal::Taken);
     }
-    let steps = match script_in(alloc, script) {
-        Ok(steps) => steps,
-        Err(refusal) => return Err(refusal),
-    };
+    let steps = read_script(alloc, script.as_bytes())?;
     if full {
         return Err(Refusal::Full);
     }

@@ -62,27 +62,6 @@ fn moved_changes(
     Ok(changes)
 }
 
-/// The rows of a seal, by the rows of the view.
-fn sealed(
-    alloc: Global,
-    view: &View,
-    scene: &Scene,
-    serial: Serial,
-    items: &Items,
-) -> Result<Moved, Refusal>
-    ensures { Decides (Custody.seal_refusal scene.now view.now.bags.items view.now.items.items serial items.now)
-        (record { bag = record { serial = serial; spot = Table scene.now.facility }; items = Custody.packed serial items.now }) result }
-{
-    kcr_custody::seal(
-        alloc,
-        scene,
-        &view.bags,
-        &view.items,
-        serial,
-        items.as_slice(),
-    )
-}
-
 /// Seals items into a new bag.
 pub(crate) fn seal(
     alloc: Global,
@@ -99,18 +78,15 @@ pub(crate) fn seal(
 {
     let has_ca = scene::is_attended(alloc, view, Role::Ca, ceremony, at)?;
     let scene = scene::scene(view, ceremony, at, full, has_ca);
-    match sealed(alloc, view, &scene, serial, items) {
-        Ok(moved) => Ok(moved_changes(alloc, &moved, ceremony, at)?),
-        Err(refusal) => Err(refusal),
-    }
-}
-
-/// The place of the box in which a bag is.
-fn place_to_take(view: &View, facility: Facility, serial: Serial) -> Option<Place>
-    ensures { result ≡ Custody.place_of view.now.boxes.items facility
-        (Custody.box_of (Custody.spot_by view.now.bags.items serial)) }
-{
-    kcr_custody::place_for_take(&view.boxes, &view.bags, facility, serial)
+    let moved = kcr_custody::seal(
+        alloc,
+        &scene,
+        &view.bags,
+        &view.items,
+        serial,
+        items.as_slice(),
+    )?;
+    Ok(moved_changes(alloc, &moved, ceremony, at)?)
 }
 
 /// Whether the holder of the place of a bag's box is in the room; false where the bag is in no box.
@@ -124,24 +100,9 @@ fn has_keeper_to_take(
     ensures { IfOk result (λ answer. answer ≡ CustodyRows.has_keeper_by view.now ceremony at
         (CustodyRows.place_to_take view.now ceremony serial)) }
 {
-    let place = place_to_take(view, facility_in(view, ceremony), serial);
+    let facility = facility_in(view, ceremony);
+    let place = kcr_custody::place_for_take(&view.boxes, &view.bags, facility, serial);
     has_keeper(alloc, view, ceremony, at, place)
-}
-
-/// The row of a bag that is taken, by the rows of the view.
-fn taken(view: &View, scene: &Scene, serial: Serial, has_holder: bool) -> Result<Bag, Refusal>
-    ensures { result ≡ unless
-        (Custody.take_refusal scene.now view.now.safes.items view.now.boxes.items view.now.bags.items serial has_holder)
-        (record { serial = serial; spot = Table scene.now.facility }) }
-{
-    kcr_custody::take(
-        scene,
-        &view.safes,
-        &view.boxes,
-        &view.bags,
-        serial,
-        has_holder,
-    )
 }
 
 /// Takes a bag out of a safe.
@@ -161,17 +122,15 @@ pub(crate) fn take(
     let has_holder = has_keeper_to_take(alloc, view, ceremony, serial, at)?;
     let has_ca = scene::is_attended(alloc, view, Role::Ca, ceremony, at)?;
     let scene = scene::scene(view, ceremony, at, full, has_ca);
-    match taken(view, &scene, serial, has_holder) {
-        Ok(bag) => Ok(scene::with_mark(alloc, Change::PutBag(bag), ceremony, at)?),
-        Err(refusal) => Err(refusal),
-    }
-}
-
-/// The place of the box into which a bag is put.
-fn place_to_put(view: &View, facility: Facility, to: Store) -> Option<Place>
-    ensures { result ≡ Custody.place_of view.now.boxes.items facility (Custody.box_of_store to) }
-{
-    kcr_custody::place_for_put(&view.boxes, facility, &to)
+    let bag = kcr_custody::take(
+        &scene,
+        &view.safes,
+        &view.boxes,
+        &view.bags,
+        serial,
+        has_holder,
+    )?;
+    Ok(scene::with_mark(alloc, Change::PutBag(bag), ceremony, at)?)
 }
 
 /// Whether the holder of the place of the box that a bag is put into is in the room; false where it is put into no box.
@@ -185,31 +144,8 @@ fn has_keeper_to_put(
     ensures { IfOk result (λ answer. answer ≡ CustodyRows.has_keeper_by view.now ceremony at
         (CustodyRows.place_to_put view.now ceremony to)) }
 {
-    let place = place_to_put(view, facility_in(view, ceremony), to);
+    let place = kcr_custody::place_for_put(&view.boxes, facility_in(view, ceremony), &to);
     has_keeper(alloc, view, ceremony, at, place)
-}
-
-/// The row of a bag that is put away, by the rows of the view.
-fn put_away(
-    view: &View,
-    scene: &Scene,
-    serial: Serial,
-    to: Store,
-    has_holder: bool,
-) -> Result<Bag, Refusal>
-    ensures { result ≡ unless
-        (Custody.put_refusal scene.now view.now.safes.items view.now.boxes.items view.now.bags.items serial to has_holder)
-        (record { serial = serial; spot = Custody.spot_of_store scene.now.facility to }) }
-{
-    kcr_custody::put(
-        scene,
-        &view.safes,
-        &view.boxes,
-        &view.bags,
-        serial,
-        to,
-        has_holder,
-    )
 }
 
 /// Puts a bag into safe 1 or into a box.
@@ -230,18 +166,16 @@ pub(crate) fn put(
     let has_holder = has_keeper_to_put(alloc, view, ceremony, to, at)?;
     let has_ca = scene::is_attended(alloc, view, Role::Ca, ceremony, at)?;
     let scene = scene::scene(view, ceremony, at, full, has_ca);
-    match put_away(view, &scene, serial, to, has_holder) {
-        Ok(bag) => Ok(scene::with_mark(alloc, Change::PutBag(bag), ceremony, at)?),
-        Err(refusal) => Err(refusal),
-    }
-}
-
-/// The rows of a cut, by the rows of the view.
-fn cut_open(alloc: Global, view: &View, scene: &Scene, serial: Serial) -> Result<Moved, Refusal>
-    ensures { Decides (Custody.cut_refusal scene.now view.now.bags.items serial)
-        (record { bag = record { serial = serial; spot = Spent }; items = Custody.loosened view.now.items.items serial scene.now.facility }) result }
-{
-    kcr_custody::cut(alloc, scene, &view.bags, &view.items, serial)
+    let bag = kcr_custody::put(
+        &scene,
+        &view.safes,
+        &view.boxes,
+        &view.bags,
+        serial,
+        to,
+        has_holder,
+    )?;
+    Ok(scene::with_mark(alloc, Change::PutBag(bag), ceremony, at)?)
 }
 
 /// Cuts a bag open.
@@ -259,8 +193,6 @@ pub(crate) fn cut(
 {
     let has_ca = scene::is_attended(alloc, view, Role::Ca, ceremony, at)?;
     let scene = scene::scene(view, ceremony, at, full, has_ca);
-    match cut_open(alloc, view, &scene, serial) {
-        Ok(moved) => Ok(moved_changes(alloc, &moved, ceremony, at)?),
-        Err(refusal) => Err(refusal),
-    }
+    let moved = kcr_custody::cut(alloc, &scene, &view.bags, &view.items, serial)?;
+    Ok(moved_changes(alloc, &moved, ceremony, at)?)
 }

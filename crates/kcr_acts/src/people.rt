@@ -82,21 +82,6 @@ pub(crate) fn enter(
     Ok(changes)
 }
 
-/// The row of a training, by the rows of the view.
-fn new_training(view: &View, full: bool, training: Training) -> Result<Training, Refusal>
-    ensures { result ≡ unless
-        (People.train_refusal view.now.people.items view.now.trainings.items view.now.appointments.items full training)
-        training }
-{
-    kcr_people::train(
-        &view.people,
-        &view.trainings,
-        &view.appointments,
-        full,
-        training,
-    )
-}
-
 /// Trains a person.
 #[tactic(auto, using(crate::proofs::Unless::refused, crate::proofs::Unless::accepted))]
 pub(crate) fn train(
@@ -118,10 +103,14 @@ pub(crate) fn train(
         since,
         until,
     };
-    match new_training(view, full, training) {
-        Ok(row) => Ok(only(alloc, Change::PutTraining(row))?),
-        Err(refusal) => Err(refusal),
-    }
+    let row = kcr_people::train(
+        &view.people,
+        &view.trainings,
+        &view.appointments,
+        full,
+        training,
+    )?;
+    Ok(only(alloc, Change::PutTraining(row))?)
 }
 
 /// The rows of withdrawals as changes.
@@ -163,31 +152,6 @@ pub(crate) fn withdraw(
     Ok(changes)
 }
 
-/// The row of an appointment, by the rows of the view.
-fn new_holder(
-    view: &View,
-    settled: Option<Day>,
-    full: bool,
-    place: Place,
-    who: Initials,
-    day: Day,
-) -> Result<Appointment, Refusal>
-    ensures { result ≡ unless
-        (People.appoint_refusal view.now.people.items view.now.trainings.items view.now.appointments.items settled full place who day)
-        (new_appointment place who day) }
-{
-    kcr_people::appoint(
-        &view.people,
-        &view.trainings,
-        &view.appointments,
-        settled,
-        full,
-        place,
-        who,
-        day,
-    )
-}
-
 /// Puts a person in a vacant place.
 #[tactic(auto, using(crate::proofs::Unless::refused, crate::proofs::Unless::accepted))]
 pub(crate) fn appoint(
@@ -202,36 +166,17 @@ pub(crate) fn appoint(
         (λ changes. HasChanges view.now full (Kinds.Appoint place who day) changes.items)
         (λ refusal. HasRefusal view.now full (Kinds.Appoint place who day) refusal) }
 {
-    let last = settled(&view.marks);
-    match new_holder(view, last, full, place, who, day) {
-        Ok(row) => Ok(only(alloc, Change::PutAppointment(row))?),
-        Err(refusal) => Err(refusal),
-    }
-}
-
-/// The rows of a replacement, by the rows of the view: the old one with its end, and the new one.
-fn next_holder(
-    view: &View,
-    settled: Option<Day>,
-    full: bool,
-    place: Place,
-    who: Initials,
-    day: Day,
-) -> Result<(Appointment, Appointment), Refusal>
-    ensures { result ≡ unless
-        (People.replace_refusal view.now.people.items view.now.trainings.items view.now.appointments.items settled full place who day)
-        (People.end_of (People.open_row_by view.now.appointments.items place) day (new_appointment place who day), new_appointment place who day) }
-{
-    kcr_people::replace(
+    let row = kcr_people::appoint(
         &view.people,
         &view.trainings,
         &view.appointments,
-        settled,
+        settled(&view.marks),
         full,
         place,
         who,
         day,
-    )
+    )?;
+    Ok(only(alloc, Change::PutAppointment(row))?)
 }
 
 /// Puts a person in the place of its holder.
@@ -248,30 +193,21 @@ pub(crate) fn replace(
         (λ changes. HasChanges view.now full (Kinds.Replace place who day) changes.items)
         (λ refusal. HasRefusal view.now full (Kinds.Replace place who day) refusal) }
 {
-    let last = settled(&view.marks);
-    match next_holder(view, last, full, place, who, day) {
-        Ok((ended, row)) => Ok(both(
-            alloc,
-            Change::PutAppointment(ended),
-            Change::PutAppointment(row),
-        )?),
-        Err(refusal) => Err(refusal),
-    }
-}
-
-/// The row of a release, by the rows of the view: the old one with its end.
-fn last_holder(
-    view: &View,
-    settled: Option<Day>,
-    full: bool,
-    place: Place,
-    day: Day,
-) -> Result<Appointment, Refusal>
-    ensures { result ≡ unless
-        (People.release_refusal view.now.appointments.items settled full place day)
-        (People.end_of (People.open_row_by view.now.appointments.items place) day (People.nobody place day)) }
-{
-    kcr_people::release(&view.appointments, settled, full, place, day)
+    let (ended, row) = kcr_people::replace(
+        &view.people,
+        &view.trainings,
+        &view.appointments,
+        settled(&view.marks),
+        full,
+        place,
+        who,
+        day,
+    )?;
+    Ok(both(
+        alloc,
+        Change::PutAppointment(ended),
+        Change::PutAppointment(row),
+    )?)
 }
 
 /// Makes a place vacant.
@@ -288,8 +224,6 @@ pub(crate) fn release(
         (λ refusal. HasRefusal view.now full (Kinds.Release place day) refusal) }
 {
     let last = settled(&view.marks);
-    match last_holder(view, last, full, place, day) {
-        Ok(ended) => Ok(only(alloc, Change::PutAppointment(ended))?),
-        Err(refusal) => Err(refusal),
-    }
+    let ended = kcr_people::release(&view.appointments, last, full, place, day)?;
+    Ok(only(alloc, Change::PutAppointment(ended))?)
 }

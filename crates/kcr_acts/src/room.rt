@@ -69,18 +69,8 @@ pub(crate) fn turn_safe(
 {
     let scene = scene::scene(view, ceremony, at, full, false);
     let keeper = keeper(alloc, view, ceremony, by, at)?;
-    match turned(view, &scene, safe, is_open, &keeper) {
-        Ok(row) => Ok(scene::with_mark(alloc, Change::PutSafe(row), ceremony, at)?),
-        Err(refusal) => Err(refusal),
-    }
-}
-
-/// The row of an item that is added, by the rows of the view.
-fn added(view: &View, scene: &Scene, item: ItemCode) -> Result<Item, Refusal>
-    ensures { result ≡ unless (Custody.add_item_refusal scene.now view.now.items.items item)
-        (record { code = item; rest = Loose scene.now.facility }) }
-{
-    kcr_custody::add_item(scene, &view.items, item)
+    let row = turned(view, &scene, safe, is_open, &keeper)?;
+    Ok(scene::with_mark(alloc, Change::PutSafe(row), ceremony, at)?)
 }
 
 /// Adds an item, loose at the ceremony's facility.
@@ -99,8 +89,6 @@ pub(crate) fn add_item(
 {
     let has_ca = scene::is_attended(alloc, view, Role::Ca, ceremony, at)?;
     let scene = scene::scene(view, ceremony, at, full, has_ca);
-    match added(view, &scene, item) {
-        Ok(row) => Ok(scene::with_mark(alloc, Change::PutItem(row), ceremony, at)?),
-        Err(refusal) => Err(refusal),
-    }
+    let row = kcr_custody::add_item(&scene, &view.items, item)?;
+    Ok(scene::with_mark(alloc, Change::PutItem(row), ceremony, at)?)
 }

@@ -1,5 +1,11 @@
 use Rattle.kcr_acts.proofs.RoomTold.{add_item-refused}
+use Rattle.kcr_acts.proofs.Unless.{refuses}
 use Rattle.kcr_acts.proofs.room.add_item.Goals as goal
 
-pub returns-in-Err : goal.returns-in-Err
-returns-in-Err c = λ ne. add_item-refused c.args.view.now c.args.full c.args.ceremony c.args.item c.args.at c.in_ok-has_ca.has_ca c.scene-scene.result c.added.result c.in_ok-has_ca.ensures c.scene-scene.ensures c.added.ensures c.in-Err.refusal c.in-Err.is
+pub returns-in_err-row : goal.returns-in_err-row
+returns-in_err-row c =
+    let told = rw c.deref.ensures.value at c.add_item.ensures in
+    refuses _ _ _ c.from_residual-in_err-row.result
+    (add_item-refused c.args.view.now c.args.full c.args.ceremony c.args.item c.args.at c.in_ok-has_ca.has_ca c.scene-scene.result c.add_item.result
+    c.in_ok-has_ca.ensures c.scene-scene.ensures told _ c.in_err-row.was)
+    c.from_residual-in_err-row.ensures.1
