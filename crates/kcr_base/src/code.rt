@@ -84,8 +84,9 @@ impl<const N: usize> PartialEq for Code<N> {
 
     ghost laws = { partial_equiv_from_equiv nat_list_eq_equiv };
 
+    // The cells behind the bytes are zero, so whole cells are compared, whose number is fixed.
     fn eq(&self, other: &Self) -> bool {
-        self.as_bytes() == other.as_bytes()
+        self.len == other.len && self.cells == other.cells
     }
 }
 
