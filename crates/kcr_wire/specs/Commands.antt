@@ -21,144 +21,122 @@ use Rattle.kcr_wire.specs.declared.method.Method.TheVariants as method
 use Rattle.kcr_wire.specs.declared.target.Target.{Target}
 use Rattle.kcr_wire.specs.declared.target.Target.TheVariants as target
 
--- a command under its key
-abbrev pub keyed : List ℕ → Act → Command
-keyed key does = record { key = key; act = does }
+-- the act that enters a person: `who`, `name`
+abbrev pub entering : Data → Result Act Refusal
+entering d = after (who_at d) (λ who. after (name_at d) (λ name. Ok (act.Enter who name)))
 
--- the command that enters a person: `key`, `who`, `name`
-abbrev pub entering : Data → Result Command Refusal
-entering d =
-    after (key_at d) (λ key. after (who_at d) (λ who. after (name_at d) (λ name. Ok (keyed key (act.Enter who name)))))
-
--- the command that trains a person: `key`, `role`, `from`, `until`
-abbrev pub training : List ℕ → Data → Result Command Refusal
+-- the act that trains a person: `role`, `from`, `until`
+abbrev pub training : List ℕ → Data → Result Act Refusal
 training who d =
-    after (key_at d) (λ key. after
-    (role_at d) (λ role. after
-    (from_at d) (λ since. after (until_at d) (λ until. Ok (keyed key (act.Train who role since until))))))
+    after (role_at d) (λ role. after
+    (from_at d) (λ since. after (until_at d) (λ until. Ok (act.Train who role since until))))
 
--- the command that withdraws the trainings of a person: `key`, `role`, `day`
-abbrev pub withdrawing : List ℕ → Data → Result Command Refusal
-withdrawing who d =
-    after (key_at d) (λ key. after
-    (role_at d) (λ role. after (day_at d) (λ day. Ok (keyed key (act.Withdraw who role day)))))
+-- the act that withdraws the trainings of a person: `role`, `day`
+abbrev pub withdrawing : List ℕ → Data → Result Act Refusal
+withdrawing who d = after (role_at d) (λ role. after (day_at d) (λ day. Ok (act.Withdraw who role day)))
 
--- the command that appoints a custodian: `key`, `place`, `who`, `day`
-abbrev pub appointing : Data → Result Command Refusal
+-- the act that appoints a custodian: `place`, `who`, `day`
+abbrev pub appointing : Data → Result Act Refusal
 appointing d =
-    after (key_at d) (λ key. after
-    (place_at d) (λ place. after
-    (who_at d) (λ who. after (day_at d) (λ day. Ok (keyed key (act.Appoint place who day))))))
+    after (place_at d) (λ place. after (who_at d) (λ who. after (day_at d) (λ day. Ok (act.Appoint place who day))))
 
--- the command that replaces a custodian: `key`, `who`, `day`
-abbrev pub replacing : Place → Data → Result Command Refusal
-replacing place d =
-    after (key_at d) (λ key. after
-    (who_at d) (λ who. after (day_at d) (λ day. Ok (keyed key (act.Replace place who day)))))
+-- the act that replaces a custodian: `who`, `day`
+abbrev pub replacing : Place → Data → Result Act Refusal
+replacing place d = after (who_at d) (λ who. after (day_at d) (λ day. Ok (act.Replace place who day)))
 
--- the command that releases a custodian: `key`, `day`
-abbrev pub releasing : Place → Data → Result Command Refusal
-releasing place d = after (key_at d) (λ key. after (day_at d) (λ day. Ok (keyed key (act.Release place day))))
+-- the act that releases a custodian: `day`
+abbrev pub releasing : Place → Data → Result Act Refusal
+releasing place d = after (day_at d) (λ day. Ok (act.Release place day))
 
--- the command that adds a box: `key`, `facility`, `box`, `place`
-abbrev pub adding_box : Data → Result Command Refusal
+-- the act that adds a box: `facility`, `box`, `place`
+abbrev pub adding_box : Data → Result Act Refusal
 adding_box d =
-    after (key_at d) (λ key. after
-    (facility_at d) (λ facility. after
-    (box_at d) (λ number. after (place_at d) (λ place. Ok (keyed key (act.AddBox facility number place))))))
+    after (facility_at d) (λ facility. after
+    (box_at d) (λ number. after (place_at d) (λ place. Ok (act.AddBox facility number place))))
 
--- the command that adds an item: `key`, `ceremony`, `item`, `at`
-abbrev pub adding_item : Data → Result Command Refusal
+-- the act that adds an item: `ceremony`, `item`, `at`
+abbrev pub adding_item : Data → Result Act Refusal
 adding_item d =
-    after (key_at d) (λ key. after
-    (ceremony_at d) (λ ceremony. after
-    (item_at d) (λ item. after (at_at d) (λ at. Ok (keyed key (act.AddItem ceremony item at))))))
+    after (ceremony_at d) (λ ceremony. after
+    (item_at d) (λ item. after (at_at d) (λ at. Ok (act.AddItem ceremony item at))))
 
--- the command that plans a ceremony: `key`, `number`, `facility`, `day`, `script`
-abbrev pub planning : Data → Result Command Refusal
+-- the act that plans a ceremony: `number`, `facility`, `day`, `script`
+abbrev pub planning : Data → Result Act Refusal
 planning d =
-    after (key_at d) (λ key. after
-    (number_at d) (λ number. after
-    (facility_at d) (λ facility. after
-    (day_at d) (λ day. after (script_at d) (λ script. Ok (keyed key (act.Plan number facility day script)))))))
+    after (number_at d) (λ number. after (facility_at d) (λ facility. after
+    (day_at d) (λ day. after (script_at d) (λ script. Ok (act.Plan number facility day script)))))
 
--- the command that opens a ceremony: `key`, `at`
-abbrev pub opening : ℕ → Data → Result Command Refusal
-opening ceremony d = after (key_at d) (λ key. after (at_at d) (λ at. Ok (keyed key (act.Open ceremony at))))
+-- the act that opens a ceremony: `at`
+abbrev pub opening : ℕ → Data → Result Act Refusal
+opening ceremony d = after (at_at d) (λ at. Ok (act.Open ceremony at))
 
--- the command that closes a ceremony: `key`, `at`
-abbrev pub closing : ℕ → Data → Result Command Refusal
-closing ceremony d = after (key_at d) (λ key. after (at_at d) (λ at. Ok (keyed key (act.Close ceremony at))))
+-- the act that closes a ceremony: `at`
+abbrev pub closing : ℕ → Data → Result Act Refusal
+closing ceremony d = after (at_at d) (λ at. Ok (act.Close ceremony at))
 
--- the command that lists people on the sheet: `key`, `way`, `who`, `at`
-abbrev pub listing : ℕ → Data → Result Command Refusal
+-- the act that lists people on the sheet: `way`, `who`, `at`
+abbrev pub listing : ℕ → Data → Result Act Refusal
 listing ceremony d =
-    after (key_at d) (λ key. after
-    (way_at d) (λ way. after
-    (people_at d) (λ who. after (at_at d) (λ at. Ok (keyed key (act.Sheet ceremony way who at))))))
+    after (way_at d) (λ way. after (people_at d) (λ who. after (at_at d) (λ at. Ok (act.Sheet ceremony way who at))))
 
--- the command that signs a step: `key`, `at`
-abbrev pub signing : ℕ → ℕ → Data → Result Command Refusal
-signing ceremony step d = after (key_at d) (λ key. after (at_at d) (λ at. Ok (keyed key (act.Sign ceremony step at))))
+-- the act that signs a step: `at`
+abbrev pub signing : ℕ → ℕ → Data → Result Act Refusal
+signing ceremony step d = after (at_at d) (λ at. Ok (act.Sign ceremony step at))
 
--- the command that states an exception: `key`, `text`, `pass`, `at`
-abbrev pub excepting : ℕ → Data → Result Command Refusal
+-- the act that states an exception: `text`, `pass`, `at`
+abbrev pub excepting : ℕ → Data → Result Act Refusal
 excepting ceremony d =
-    after (key_at d) (λ key. after
-    (remark_at d) (λ text. after
-    (pass_at d) (λ pass. after (at_at d) (λ at. Ok (keyed key (act.Except ceremony text pass at))))))
+    after (remark_at d) (λ text. after
+    (pass_at d) (λ pass. after (at_at d) (λ at. Ok (act.Except ceremony text pass at))))
 
--- the command that opens or shuts a safe: `key`, `open`, `by`, `at`
-abbrev pub turning_safe : ℕ → SafeNumber → Data → Result Command Refusal
+-- the act that opens or shuts a safe: `open`, `by`, `at`
+abbrev pub turning_safe : ℕ → SafeNumber → Data → Result Act Refusal
 turning_safe ceremony safe d =
-    after (key_at d) (λ key. after
-    (open_at d) (λ is_open. after
-    (by_at d) (λ by. after (at_at d) (λ at. Ok (keyed key (act.TurnSafe ceremony safe is_open by at))))))
+    after (open_at d) (λ is_open. after
+    (by_at d) (λ by. after (at_at d) (λ at. Ok (act.TurnSafe ceremony safe is_open by at))))
 
--- the command that seals a bag: `key`, `items`, `at`
-abbrev pub sealing : ℕ → List ℕ → Data → Result Command Refusal
-sealing ceremony serial d =
-    after (key_at d) (λ key. after
-    (items_at d) (λ items. after (at_at d) (λ at. Ok (keyed key (act.Seal ceremony serial items at)))))
+-- the act that seals a bag: `items`, `at`
+abbrev pub sealing : ℕ → List ℕ → Data → Result Act Refusal
+sealing ceremony serial d = after (items_at d) (λ items. after (at_at d) (λ at. Ok (act.Seal ceremony serial items at)))
 
--- the command that takes a bag: `key`, `at`
-abbrev pub taking : ℕ → List ℕ → Data → Result Command Refusal
-taking ceremony serial d =
-    after (key_at d) (λ key. after (at_at d) (λ at. Ok (keyed key (act.Take ceremony serial at))))
+-- the act that takes a bag: `at`
+abbrev pub taking : ℕ → List ℕ → Data → Result Act Refusal
+taking ceremony serial d = after (at_at d) (λ at. Ok (act.Take ceremony serial at))
 
--- the command that puts a bag away: `key`, `to`, `at`
-abbrev pub putting : ℕ → List ℕ → Data → Result Command Refusal
-putting ceremony serial d =
-    after (key_at d) (λ key. after
-    (to_at d) (λ to. after (at_at d) (λ at. Ok (keyed key (act.Put ceremony serial to at)))))
+-- the act that puts a bag away: `to`, `at`
+abbrev pub putting : ℕ → List ℕ → Data → Result Act Refusal
+putting ceremony serial d = after (to_at d) (λ to. after (at_at d) (λ at. Ok (act.Put ceremony serial to at)))
 
--- the command that cuts a bag: `key`, `at`
-abbrev pub cutting : ℕ → List ℕ → Data → Result Command Refusal
-cutting ceremony serial d =
-    after (key_at d) (λ key. after (at_at d) (λ at. Ok (keyed key (act.Cut ceremony serial at))))
+-- the act that cuts a bag: `at`
+abbrev pub cutting : ℕ → List ℕ → Data → Result Act Refusal
+cutting ceremony serial d = after (at_at d) (λ at. Ok (act.Cut ceremony serial at))
 
--- the command that a path takes, with its members in their order, or that it takes inquiries alone
+-- the act that a path takes, with its members in their order, or that it takes inquiries alone
+abbrev pub act_by : Target → Data → Result Act Refusal
+act_by target.People d = entering d
+act_by (target.Roles who) d = training who d
+act_by (target.Withdrawals who) d = withdrawing who d
+act_by target.Custodians d = appointing d
+act_by (target.Replacement place) d = replacing place d
+act_by (target.Release place) d = releasing place d
+act_by target.Boxes d = adding_box d
+act_by target.Items d = adding_item d
+act_by target.Ceremonies d = planning d
+act_by (target.Opening ceremony) d = opening ceremony d
+act_by (target.Closing ceremony) d = closing ceremony d
+act_by (target.Sheet ceremony) d = listing ceremony d
+act_by (target.Signature ceremony step) d = signing ceremony step d
+act_by (target.Exceptions ceremony) d = excepting ceremony d
+act_by (target.Safe ceremony safe) d = turning_safe ceremony safe d
+act_by (target.Seal ceremony serial) d = sealing ceremony serial d
+act_by (target.Take ceremony serial) d = taking ceremony serial d
+act_by (target.Put ceremony serial) d = putting ceremony serial d
+act_by (target.Cut ceremony serial) d = cutting ceremony serial d
+act_by _ d = Err refusal.Method
+
+-- the command of a path: its key, which is read before all other members, and its act
 abbrev pub command_by : Target → Data → Result Command Refusal
-command_by target.People d = entering d
-command_by (target.Roles who) d = training who d
-command_by (target.Withdrawals who) d = withdrawing who d
-command_by target.Custodians d = appointing d
-command_by (target.Replacement place) d = replacing place d
-command_by (target.Release place) d = releasing place d
-command_by target.Boxes d = adding_box d
-command_by target.Items d = adding_item d
-command_by target.Ceremonies d = planning d
-command_by (target.Opening ceremony) d = opening ceremony d
-command_by (target.Closing ceremony) d = closing ceremony d
-command_by (target.Sheet ceremony) d = listing ceremony d
-command_by (target.Signature ceremony step) d = signing ceremony step d
-command_by (target.Exceptions ceremony) d = excepting ceremony d
-command_by (target.Safe ceremony safe) d = turning_safe ceremony safe d
-command_by (target.Seal ceremony serial) d = sealing ceremony serial d
-command_by (target.Take ceremony serial) d = taking ceremony serial d
-command_by (target.Put ceremony serial) d = putting ceremony serial d
-command_by (target.Cut ceremony serial) d = cutting ceremony serial d
-command_by _ d = Err refusal.Method
+command_by t d = after (key_at d) (λ key. after (act_by t d) (λ does. Ok (record { key = key; act = does })))
 
 -- the method is one that may carry a command to such a path
 abbrev pub may_post : Method → Allow → Bool

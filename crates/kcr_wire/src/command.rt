@@ -5,7 +5,7 @@ ghost use Rattle.kcr_wire.specs.OrMemory.{OrMemory};
 ghost use Rattle.kcr_wire.specs.Commands.{entering, training, withdrawing, appointing, replacing, releasing};
 ghost use Rattle.kcr_wire.specs.Commands.{adding_box, adding_item, planning, opening, closing, listing, signing};
 ghost use Rattle.kcr_wire.specs.Commands.{excepting, turning_safe, sealing, taking, putting, cutting, may_post};
-ghost use Rattle.kcr_wire.specs.Commands.{command_by, command_of};
+ghost use Rattle.kcr_wire.specs.Commands.{act_by, command_by, command_of};
 
 use crate::allow::Allow;
 use crate::amount::{box_in, ceremony_in, items_in, number_in, open_in, pass_in, people_in};
@@ -21,312 +21,236 @@ use kcr_history::{Act, Command};
 use serde_json::Value;
 use std::alloc::Global;
 
-// The command that enters a person: `key`, `who`, `name`.
-fn enter(alloc: Global, body: &Value) -> Result<Command, Refusal>
+// The act that enters a person: `who`, `name`.
+fn enter(alloc: Global, body: &Value) -> Result<Act, Refusal>
     ensures { OrMemory result (entering (view body.now)) }
 {
-    let key = key_in(body)?;
     let who = who_in(body)?;
     let name = name_in(alloc, body)?;
-    Ok(Command {
-        key,
-        act: Act::Enter { who, name },
-    })
+    Ok(Act::Enter { who, name })
 }
 
-// The command that trains a person: `key`, `role`, `from`, `until`.
-fn train(who: Initials, body: &Value) -> Result<Command, Refusal>
+// The act that trains a person: `role`, `from`, `until`.
+fn train(who: Initials, body: &Value) -> Result<Act, Refusal>
     ensures { result ≡ training who (view body.now) }
 {
-    let key = key_in(body)?;
     let role = role_in(body)?;
     let since = from_in(body)?;
     let until = until_in(body)?;
-    Ok(Command {
-        key,
-        act: Act::Train {
-            who,
-            role,
-            since,
-            until,
-        },
+    Ok(Act::Train {
+        who,
+        role,
+        since,
+        until,
     })
 }
 
-// The command that withdraws the trainings of a person: `key`, `role`, `day`.
-fn withdraw(who: Initials, body: &Value) -> Result<Command, Refusal>
+// The act that withdraws the trainings of a person: `role`, `day`.
+fn withdraw(who: Initials, body: &Value) -> Result<Act, Refusal>
     ensures { result ≡ withdrawing who (view body.now) }
 {
-    let key = key_in(body)?;
     let role = role_in(body)?;
     let day = day_in(body)?;
-    Ok(Command {
-        key,
-        act: Act::Withdraw { who, role, day },
-    })
+    Ok(Act::Withdraw { who, role, day })
 }
 
-// The command that appoints a custodian: `key`, `place`, `who`, `day`.
-fn appoint(body: &Value) -> Result<Command, Refusal>
+// The act that appoints a custodian: `place`, `who`, `day`.
+fn appoint(body: &Value) -> Result<Act, Refusal>
     ensures { result ≡ appointing (view body.now) }
 {
-    let key = key_in(body)?;
     let place = place_in(body)?;
     let who = who_in(body)?;
     let day = day_in(body)?;
-    Ok(Command {
-        key,
-        act: Act::Appoint { place, who, day },
-    })
+    Ok(Act::Appoint { place, who, day })
 }
 
-// The command that replaces a custodian: `key`, `who`, `day`.
-fn replace(place: Place, body: &Value) -> Result<Command, Refusal>
+// The act that replaces a custodian: `who`, `day`.
+fn replace(place: Place, body: &Value) -> Result<Act, Refusal>
     ensures { result ≡ replacing place (view body.now) }
 {
-    let key = key_in(body)?;
     let who = who_in(body)?;
     let day = day_in(body)?;
-    Ok(Command {
-        key,
-        act: Act::Replace { place, who, day },
-    })
+    Ok(Act::Replace { place, who, day })
 }
 
-// The command that releases a custodian: `key`, `day`.
-fn release(place: Place, body: &Value) -> Result<Command, Refusal>
+// The act that releases a custodian: `day`.
+fn release(place: Place, body: &Value) -> Result<Act, Refusal>
     ensures { result ≡ releasing place (view body.now) }
 {
-    let key = key_in(body)?;
     let day = day_in(body)?;
-    Ok(Command {
-        key,
-        act: Act::Release { place, day },
-    })
+    Ok(Act::Release { place, day })
 }
 
-// The command that adds a box: `key`, `facility`, `box`, `place`.
-fn add_box(body: &Value) -> Result<Command, Refusal>
+// The act that adds a box: `facility`, `box`, `place`.
+fn add_box(body: &Value) -> Result<Act, Refusal>
     ensures { result ≡ adding_box (view body.now) }
 {
-    let key = key_in(body)?;
     let facility = facility_in(body)?;
     let number = box_in(body)?;
     let place = place_in(body)?;
-    Ok(Command {
-        key,
-        act: Act::AddBox {
-            facility,
-            number,
-            place,
-        },
+    Ok(Act::AddBox {
+        facility,
+        number,
+        place,
     })
 }
 
-// The command that adds an item: `key`, `ceremony`, `item`, `at`.
-fn add_item(body: &Value) -> Result<Command, Refusal>
+// The act that adds an item: `ceremony`, `item`, `at`.
+fn add_item(body: &Value) -> Result<Act, Refusal>
     ensures { result ≡ adding_item (view body.now) }
 {
-    let key = key_in(body)?;
     let ceremony = ceremony_in(body)?;
     let item = item_in(body)?;
     let at = moment_in(body)?;
-    Ok(Command {
-        key,
-        act: Act::AddItem { ceremony, item, at },
-    })
+    Ok(Act::AddItem { ceremony, item, at })
 }
 
-// The command that plans a ceremony: `key`, `number`, `facility`, `day`, `script`.
-fn plan(alloc: Global, body: &Value) -> Result<Command, Refusal>
+// The act that plans a ceremony: `number`, `facility`, `day`, `script`.
+fn plan(alloc: Global, body: &Value) -> Result<Act, Refusal>
     ensures { OrMemory result (planning (view body.now)) }
 {
-    let key = key_in(body)?;
     let number = number_in(body)?;
     let facility = facility_in(body)?;
     let day = day_in(body)?;
     let script = script_in(alloc, body)?;
-    Ok(Command {
-        key,
-        act: Act::Plan {
-            number,
-            facility,
-            day,
-            script,
-        },
+    Ok(Act::Plan {
+        number,
+        facility,
+        day,
+        script,
     })
 }
 
-// The command that opens a ceremony: `key`, `at`.
-fn open(ceremony: CeremonyNumber, body: &Value) -> Result<Command, Refusal>
+// The act that opens a ceremony: `at`.
+fn open(ceremony: CeremonyNumber, body: &Value) -> Result<Act, Refusal>
     ensures { result ≡ opening ceremony (view body.now) }
 {
-    let key = key_in(body)?;
     let at = moment_in(body)?;
-    Ok(Command {
-        key,
-        act: Act::Open { ceremony, at },
-    })
+    Ok(Act::Open { ceremony, at })
 }
 
-// The command that closes a ceremony: `key`, `at`.
-fn close(ceremony: CeremonyNumber, body: &Value) -> Result<Command, Refusal>
+// The act that closes a ceremony: `at`.
+fn close(ceremony: CeremonyNumber, body: &Value) -> Result<Act, Refusal>
     ensures { result ≡ closing ceremony (view body.now) }
 {
-    let key = key_in(body)?;
     let at = moment_in(body)?;
-    Ok(Command {
-        key,
-        act: Act::Close { ceremony, at },
-    })
+    Ok(Act::Close { ceremony, at })
 }
 
-// The command that lists people on the sheet: `key`, `way`, `who`, `at`.
-fn list(alloc: Global, ceremony: CeremonyNumber, body: &Value) -> Result<Command, Refusal>
+// The act that lists people on the sheet: `way`, `who`, `at`.
+fn list(alloc: Global, ceremony: CeremonyNumber, body: &Value) -> Result<Act, Refusal>
     ensures { OrMemory result (listing ceremony (view body.now)) }
 {
-    let key = key_in(body)?;
     let way = way_in(body)?;
     let who = people_in(alloc, body)?;
     let at = moment_in(body)?;
-    Ok(Command {
-        key,
-        act: Act::Sheet {
-            ceremony,
-            way,
-            who,
-            at,
-        },
+    Ok(Act::Sheet {
+        ceremony,
+        way,
+        who,
+        at,
     })
 }
 
-// The command that signs a step: `key`, `at`.
-fn sign(ceremony: CeremonyNumber, step: StepNumber, body: &Value) -> Result<Command, Refusal>
+// The act that signs a step: `at`.
+fn sign(ceremony: CeremonyNumber, step: StepNumber, body: &Value) -> Result<Act, Refusal>
     ensures { result ≡ signing ceremony step (view body.now) }
 {
-    let key = key_in(body)?;
     let at = moment_in(body)?;
-    Ok(Command {
-        key,
-        act: Act::Sign { ceremony, step, at },
-    })
+    Ok(Act::Sign { ceremony, step, at })
 }
 
-// The command that states an exception: `key`, `text`, `pass`, `at`.
-fn except(alloc: Global, ceremony: CeremonyNumber, body: &Value) -> Result<Command, Refusal>
+// The act that states an exception: `text`, `pass`, `at`.
+fn except(alloc: Global, ceremony: CeremonyNumber, body: &Value) -> Result<Act, Refusal>
     ensures { OrMemory result (excepting ceremony (view body.now)) }
 {
-    let key = key_in(body)?;
     let text = remark_in(alloc, body)?;
     let pass = pass_in(body)?;
     let at = moment_in(body)?;
-    Ok(Command {
-        key,
-        act: Act::Except {
-            ceremony,
-            text,
-            pass,
-            at,
-        },
+    Ok(Act::Except {
+        ceremony,
+        text,
+        pass,
+        at,
     })
 }
 
-// The command that opens or shuts a safe: `key`, `open`, `by`, `at`.
-fn turn_safe(ceremony: CeremonyNumber, safe: SafeNumber, body: &Value) -> Result<Command, Refusal>
+// The act that opens or shuts a safe: `open`, `by`, `at`.
+fn turn_safe(ceremony: CeremonyNumber, safe: SafeNumber, body: &Value) -> Result<Act, Refusal>
     ensures { result ≡ turning_safe ceremony safe (view body.now) }
 {
-    let key = key_in(body)?;
     let is_open = open_in(body)?;
     let by = by_in(body)?;
     let at = moment_in(body)?;
-    Ok(Command {
-        key,
-        act: Act::TurnSafe {
-            ceremony,
-            safe,
-            is_open,
-            by,
-            at,
-        },
+    Ok(Act::TurnSafe {
+        ceremony,
+        safe,
+        is_open,
+        by,
+        at,
     })
 }
 
-// The command that seals a bag: `key`, `items`, `at`.
+// The act that seals a bag: `items`, `at`.
 fn seal(
     alloc: Global,
     ceremony: CeremonyNumber,
     serial: Serial,
     body: &Value,
-) -> Result<Command, Refusal>
+) -> Result<Act, Refusal>
     ensures { OrMemory result (sealing ceremony serial (view body.now)) }
 {
-    let key = key_in(body)?;
     let items = items_in(alloc, body)?;
     let at = moment_in(body)?;
-    Ok(Command {
-        key,
-        act: Act::Seal {
-            ceremony,
-            serial,
-            items,
-            at,
-        },
+    Ok(Act::Seal {
+        ceremony,
+        serial,
+        items,
+        at,
     })
 }
 
-// The command that takes a bag: `key`, `at`.
-fn take(ceremony: CeremonyNumber, serial: Serial, body: &Value) -> Result<Command, Refusal>
+// The act that takes a bag: `at`.
+fn take(ceremony: CeremonyNumber, serial: Serial, body: &Value) -> Result<Act, Refusal>
     ensures { result ≡ taking ceremony serial (view body.now) }
 {
-    let key = key_in(body)?;
     let at = moment_in(body)?;
-    Ok(Command {
-        key,
-        act: Act::Take {
-            ceremony,
-            serial,
-            at,
-        },
+    Ok(Act::Take {
+        ceremony,
+        serial,
+        at,
     })
 }
 
-// The command that puts a bag away: `key`, `to`, `at`.
-fn put(ceremony: CeremonyNumber, serial: Serial, body: &Value) -> Result<Command, Refusal>
+// The act that puts a bag away: `to`, `at`.
+fn put(ceremony: CeremonyNumber, serial: Serial, body: &Value) -> Result<Act, Refusal>
     ensures { result ≡ putting ceremony serial (view body.now) }
 {
-    let key = key_in(body)?;
     let to = store_in(body)?;
     let at = moment_in(body)?;
-    Ok(Command {
-        key,
-        act: Act::Put {
-            ceremony,
-            serial,
-            to,
-            at,
-        },
+    Ok(Act::Put {
+        ceremony,
+        serial,
+        to,
+        at,
     })
 }
 
-// The command that cuts a bag: `key`, `at`.
-fn cut(ceremony: CeremonyNumber, serial: Serial, body: &Value) -> Result<Command, Refusal>
+// The act that cuts a bag: `at`.
+fn cut(ceremony: CeremonyNumber, serial: Serial, body: &Value) -> Result<Act, Refusal>
     ensures { result ≡ cutting ceremony serial (view body.now) }
 {
-    let key = key_in(body)?;
     let at = moment_in(body)?;
-    Ok(Command {
-        key,
-        act: Act::Cut {
-            ceremony,
-            serial,
-            at,
-        },
+    Ok(Act::Cut {
+        ceremony,
+        serial,
+        at,
     })
 }
 
-// The command that a body is at this path, or the refusal of a path that takes inquiries alone.
-fn command_at(alloc: Global, target: &Target, body: &Value) -> Result<Command, Refusal>
-    ensures { OrMemory result (command_by target.now (view body.now)) }
+// The act that a body is at this path, or the refusal of a path that takes inquiries alone.
+fn act_at(alloc: Global, target: &Target, body: &Value) -> Result<Act, Refusal>
+    ensures { OrMemory result (act_by target.now (view body.now)) }
 {
     match *target {
         Target::People => enter(alloc, body),
@@ -354,6 +278,15 @@ fn command_at(alloc: Global, target: &Target, body: &Value) -> Result<Command, R
         | Target::Script(_)
         | Target::Attendance(_) => Err(Refusal::Method),
     }
+}
+
+// The command that a body is at this path: its key, and then its act.
+fn command_at(alloc: Global, target: &Target, body: &Value) -> Result<Command, Refusal>
+    ensures { OrMemory result (command_by target.now (view body.now)) }
+{
+    let key = key_in(body)?;
+    let act = act_at(alloc, target, body)?;
+    Ok(Command { key, act })
 }
 
 // Whether a request with this method may carry a command to a path that takes these methods.
