@@ -31,7 +31,7 @@ use Rattle.kcr_again.proofs.Readers.{Tells, one, two, three, four}
 pub entry : Tells (λ (p : List ℕ × List ℕ). IsInitials p.0 × IsLine 120 p.1) (λ p. Enter p.0 p.1) (codes "/people") (of_two Enter initials_of name_of)
 entry = two initials names Enter (codes "/people") (λ a b. refl)
 
-pub training : (who : List ℕ) → Tells (λ (p : Role × ℕ × ℕ). ⊤ × IsDay p.1 × IsDay p.2) (λ p. Train who p.0 p.1 p.2) (at_person who (codes "roles"))
+pub training : (who : List ℕ) → Tells (λ (p : Role × (ℕ × ℕ)). ⊤ × (IsDay p.1.0 × IsDay p.1.1)) (λ p. Train who p.0 p.1.0 p.1.1) (at_person who (codes "roles"))
     (of_three (Train who) role_of day_of day_of)
 training who = three roles days days.reads (Train who) (at_person who (codes "roles")) (λ a b c. refl)
 
@@ -39,7 +39,7 @@ pub withdrawal : (who : List ℕ) → Tells (λ (p : Role × ℕ). ⊤ × IsDay 
     (of_two (Withdraw who) role_of day_of)
 withdrawal who = two roles days.reads (Withdraw who) (at_person who (codes "withdrawals")) (λ a b. refl)
 
-pub appointment : Tells (λ (p : Place × List ℕ × ℕ). IsPlace p.0 × IsInitials p.1 × IsDay p.2) (λ p. Appoint p.0 p.1 p.2) (codes "/custodians")
+pub appointment : Tells (λ (p : Place × (List ℕ × ℕ)). IsPlace p.0 × (IsInitials p.1.0 × IsDay p.1.1)) (λ p. Appoint p.0 p.1.0 p.1.1) (codes "/custodians")
     (of_three Appoint place_of initials_of day_of)
 appointment = three places-read initials days.reads Appoint (codes "/custodians") (λ a b c. refl)
 
@@ -51,15 +51,15 @@ pub release : (place : Place) → Tells IsDay (Release place) (at_place (place_t
     (λ values. option_map (Release place) (day_of values))
 release place = one days.reads (Release place) (at_place (place_text place) (codes "release")) (λ a. refl)
 
-pub new_box : Tells (λ (p : Facility × ℕ × Place). ⊤ × IsNumber 9999 p.1 × IsPlace p.2) (λ p. AddBox p.0 p.1 p.2) (codes "/boxes")
+pub new_box : Tells (λ (p : Facility × (ℕ × Place)). ⊤ × (IsNumber 9999 p.1.0 × IsPlace p.1.1)) (λ p. AddBox p.0 p.1.0 p.1.1) (codes "/boxes")
     (of_three AddBox facility_of box_of place_of)
 new_box = three facilities boxes places-read.reads AddBox (codes "/boxes") (λ a b c. refl)
 
-pub new_item : Tells (λ (p : ℕ × List ℕ × ℕ). IsNumber 9999 p.0 × IsSerial p.1 × IsMoment p.2) (λ p. AddItem p.0 p.1 p.2) (codes "/items")
+pub new_item : Tells (λ (p : ℕ × (List ℕ × ℕ)). IsNumber 9999 p.0 × (IsSerial p.1.0 × IsMoment p.1.1)) (λ p. AddItem p.0 p.1.0 p.1.1) (codes "/items")
     (of_three AddItem ceremony_of item_of moment_of)
 new_item = three ceremonies items moments AddItem (codes "/items") (λ a b c. refl)
 
-pub plan : Tells (λ (p : ℕ × Facility × ℕ × List ℕ). IsNumber 9999 p.0 × ⊤ × IsDay p.2 × IsUtf8 p.3) (λ p. Plan p.0 p.1 p.2 p.3) (codes "/ceremonies")
+pub plan : Tells (λ (p : ℕ × (Facility × (ℕ × List ℕ))). IsNumber 9999 p.0 × (⊤ × (IsDay p.1.1.0 × IsUtf8 p.1.1.1))) (λ p. Plan p.0 p.1.0 p.1.1.0 p.1.1.1) (codes "/ceremonies")
     (of_four Plan ceremony_of facility_of day_of script_of)
 plan = four ceremonies facilities days scripts Plan (codes "/ceremonies") (λ a b c d. refl)
 
@@ -70,11 +70,11 @@ module _ (ceremony : ℕ) where
   pub closing : Tells IsMoment (Close ceremony) (at_ceremony ceremony (codes "closing")) (λ values. option_map (Close ceremony) (moment_of values))
   closing = one moments (Close ceremony) (at_ceremony ceremony (codes "closing")) (λ a. refl)
 
-  pub sheet : Tells (λ (p : Way × List (List ℕ) × ℕ). ⊤ × ArePeople p.1 × IsMoment p.2) (λ p. Sheet ceremony p.0 p.1 p.2) (at_ceremony ceremony (codes "sheet"))
+  pub sheet : Tells (λ (p : Way × (List (List ℕ) × ℕ)). ⊤ × (ArePeople p.1.0 × IsMoment p.1.1)) (λ p. Sheet ceremony p.0 p.1.0 p.1.1) (at_ceremony ceremony (codes "sheet"))
       (of_three (Sheet ceremony) way_of people_of moment_of)
   sheet = three ways people moments (Sheet ceremony) (at_ceremony ceremony (codes "sheet")) (λ a b c. refl)
 
-  pub exception : Tells (λ (p : List ℕ × Bool × ℕ). IsLine 1000 p.0 × ⊤ × IsMoment p.2) (λ p. Except ceremony p.0 p.1 p.2)
+  pub exception : Tells (λ (p : List ℕ × (Bool × ℕ)). IsLine 1000 p.0 × (⊤ × IsMoment p.1.1)) (λ p. Except ceremony p.0 p.1.0 p.1.1)
       (at_ceremony ceremony (codes "exceptions"))
       (of_three (Except ceremony) remark_of truth_of moment_of)
   exception = three remarks truths moments (Except ceremony) (at_ceremony ceremony (codes "exceptions")) (λ a b c. refl)
@@ -82,7 +82,7 @@ module _ (ceremony : ℕ) where
   pub signature : (step : ℕ) → Tells IsMoment (Sign ceremony step) (at_step ceremony step) (λ values. option_map (Sign ceremony step) (moment_of values))
   signature step = one moments (Sign ceremony step) (at_step ceremony step) (λ a. refl)
 
-  pub turning : (safe : SafeNumber) → Tells (λ (p : Bool × List ℕ × ℕ). ⊤ × IsInitials p.1 × IsMoment p.2) (λ p. TurnSafe ceremony safe p.0 p.1 p.2)
+  pub turning : (safe : SafeNumber) → Tells (λ (p : Bool × (List ℕ × ℕ)). ⊤ × (IsInitials p.1.0 × IsMoment p.1.1)) (λ p. TurnSafe ceremony safe p.0 p.1.0 p.1.1)
       (at_safe ceremony safe)
       (of_three (TurnSafe ceremony safe) truth_of initials_of moment_of)
   turning safe = three truths initials moments (TurnSafe ceremony safe) (at_safe ceremony safe) (λ a b c. refl)

@@ -1,5 +1,5 @@
 -- Days and moments with one text are one.
-use Rattle.std.proofs.Common.{◌≡◌, ℕ, ◌+◌, ◌/◌, ◌%◌, ◌≤◌, List, [], ◌∷◌, ◌++◌, get_or, refl, sym, ap, subst, ◌∙◌, arith, pos}
+use Rattle.std.proofs.Common.{◌≡◌, ℕ, ◌+◌, ◌/◌, ◌%◌, ◌≤◌, List, [], ◌∷◌, ◌++◌, get_or, refl, sym, ap, subst, ◌∙◌, arith, pos, rules}
 use Rattle.std.proofs.lemmas.List.Elements.{All-from_recursion}
 use Rattle.kcr_base.specs.Day.{IsDay, IsDayOf, date_text, day_text}
 use Rattle.kcr_base.specs.Moment.{IsMoment, clock_text, moment_text}
@@ -50,19 +50,4 @@ moment-same s t is_s is_t e =
 
 pub day-printing : (n : ℕ) → AtLeast 32 (day_text n)
 unfolding day_text
-day-printing n = All-from_recursion (λ b. 32 ≤ b) (day_text n) (
-  omega arith,
-  (
-    omega arith,
-    (
-      omega arith,
-      (
-        omega arith,
-        (
-          omega arith,
-          (omega arith, (omega arith, (omega arith, (omega arith, (omega arith, tt))))),
-        ),
-      ),
-    ),
-  ),
-)
+day-printing n = All-from_recursion (λ b. 32 ≤ b) (day_text n) (search (rules, arith))

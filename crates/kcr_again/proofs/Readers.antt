@@ -1,9 +1,9 @@
 -- Readers of values, and the acts that are made of the values that they read.
 use Rattle.std.proofs.Common.{◌≡◌, ℕ, ◌≤◌, ◌<◌, Bool, true, false, if◌then◌else◌, eqb, List, ◌∷◌, ◌++◌, Option, Some, None, refl, sym, ap, ◌∙◌}
-use Rattle.std.proofs.Common.{append_assoc, arith, All}
+use Rattle.std.proofs.Common.{append_assoc, arith, subst, All}
 use Rattle.std.specs.Cmp.Lexicographic.{same_text as equal_texts}
 use Rattle.kcr_base.specs.Same.{same_text}
-use Rattle.std.specs.Option.{option_map}
+use Rattle.std.specs.Option.{option_map, option_and_then}
 use Rattle.std.proofs.lemmas.Bool.{ne_eqb}
 use Rattle.std.proofs.lemmas.List.Elements.{All-weaker}
 use Rattle.std.proofs.lemmas.Option.{option_and_then_some}
@@ -67,28 +67,42 @@ pub record Tells {A : Type 0} (IsA : A → Type 0) (make : A → Act) (path : Li
   pub found : (values : List ℕ) (act : Act) → read values ≡ Some act → command_text act ≡ path ++ 10 ∷ values
   pub again : (a : A) → IsA a → read (lines a) ≡ Some (make a)
 
-three-lines-found : (text : List ℕ) (p : List ℕ × List ℕ × List ℕ) → three_lines text ≡ Some p → text ≡ p.0 ++ 10 ∷ (p.1 ++ 10 ∷ p.2)
-unfolding three_lines
-three-lines-found text p e =
-    option_and_then_some (λ line. option_map (λ q. (line.0, q.0, q.1)) (two_lines line.1)) (two_lines text) p e (λ line cut all.
-    option_map_some (λ (q : List ℕ × List ℕ). (line.0, q.0, q.1)) (two_lines line.1) p all (λ q again same.
-    cut-found 10 text line cut ∙ ap (λ (t : List ℕ). line.0 ++ 10 ∷ t) (cut-found 10 line.1 q again)
-    ∙ (λ j. (same j).0 ++ 10 ∷ ((same j).1 ++ 10 ∷ (same j).2))))
+-- a value on the first line, and then what the lines after it tell
+abbrev line_then : {A X : Type 0} → (List ℕ → Option A) → (A → List ℕ → Option X) → List ℕ → Option X
+line_then read next text = option_and_then (λ line. option_and_then (λ x. next x line.1) (read line.0)) (two_lines text)
 
-four-lines-found : (text : List ℕ) (p : List ℕ × List ℕ × List ℕ × List ℕ) → four_lines text ≡ Some p
-    → text ≡ p.0 ++ 10 ∷ (p.1 ++ 10 ∷ (p.2 ++ 10 ∷ p.3))
-unfolding four_lines
-four-lines-found text p e =
-    option_and_then_some (λ line. option_map (λ q. (line.0, q.0, q.1, q.2)) (three_lines line.1)) (two_lines text) p e (λ line cut all.
-    option_map_some (λ (q : List ℕ × List ℕ × List ℕ). (line.0, q.0, q.1, q.2)) (three_lines line.1) p all (λ q again same.
-    cut-found 10 text line cut ∙ ap (λ (t : List ℕ). line.0 ++ 10 ∷ t) (three-lines-found line.1 q again)
-    ∙ (λ j. (same j).0 ++ 10 ∷ ((same j).1 ++ 10 ∷ ((same j).2 ++ 10 ∷ (same j).3)))))
+-- that all lines are there before the first is read makes no difference
+lines-read : {A L M X : Type 0} (first : Option (List ℕ × List ℕ)) (rest : List ℕ → Option L) (join : List ℕ → L → M) (read : List ℕ → Option A)
+    (part : M → Option A) (make : M → A → Option X) → ((t : List ℕ) (l : L) → part (join t l) ≡ read t)
+    → option_and_then (λ m. option_and_then (make m) (part m)) (option_and_then (λ p. option_map (join p.0) (rest p.1)) first)
+    ≡ option_and_then (λ p. option_and_then (λ x. option_and_then (λ l. make (join p.0 l) x) (rest p.1)) (read p.0)) first
+lines-read None rest join read part make same = refl
+lines-read {A} {L} (Some p) rest join read part make same = by (rest p.1) (read p.0) (same p.0)
+  where
+    by : (o : Option L) (x : Option A) → ((l : L) → part (join p.0 l) ≡ x)
+        → option_and_then (λ m. option_and_then (make m) (part m)) (option_map (join p.0) o)
+        ≡ option_and_then (λ x. option_and_then (λ l. make (join p.0 l) x) o) x
+    by None None is = refl
+    by None (Some x) is = refl
+    by (Some l) x is = ap (option_and_then (make (join p.0 l))) (is l)
+
+module _ {A B C X : Type 0} (a : List ℕ → Option A) (b : List ℕ → Option B) (c : List ℕ → Option C) where
+  three-read : (make : A → B → C → X) (text : List ℕ) → line_then a (λ x. of_two (make x) b c) text ≡ of_three make a b c text
+  unfolding of_two of_three three_lines
+  three-read make text = sym (lines-read (two_lines text) (λ t. two_lines t) (λ first q. (first, q.0, q.1)) a (λ m. a m.0)
+      (λ (m : List ℕ × List ℕ × List ℕ) (x : A). made_of_two (make x) (b m.1) (c m.2)) (λ t l. refl))
+
+  four-read : {D : Type 0} (d : List ℕ → Option D) (make : A → B → C → D → X) (text : List ℕ)
+      → line_then a (λ x. of_three (make x) b c d) text ≡ of_four make a b c d text
+  unfolding of_three of_four four_lines
+  four-read d make text = sym (lines-read (two_lines text) three_lines (λ first q. (first, q.0, q.1, q.2)) a (λ m. a m.0)
+      (λ (m : List ℕ × List ℕ × List ℕ × List ℕ) (x : A). made_of_three (make x) (b m.1) (c m.2) (d m.3)) (λ t l. refl))
 
 -- acts of one value to four; all but the last stand on lines of their own
-module _ {A : Type 0} {IsA : A → Type 0} {text_a : A → List ℕ} {read_a : List ℕ → Option A} (a : Reads IsA text_a read_a) where
-  pub one : (make : A → Act) (path : List ℕ) → ((x : A) → command_text (make x) ≡ path ++ 10 ∷ text_a x)
+module _ {A : Type 0} {IsA : A → Type 0} {text_a : A → List ℕ} {read_a : List ℕ → Option A} where
+  pub one : Reads IsA text_a read_a → (make : A → Act) (path : List ℕ) → ((x : A) → command_text (make x) ≡ path ++ 10 ∷ text_a x)
       → Tells IsA make path (λ values. option_map make (read_a values))
-  one make path told = record {
+  one a make path told = record {
     lines = text_a;
     told = told;
     found = λ values act e. option_map_some make (read_a values) act e (λ x is same.
@@ -96,84 +110,43 @@ module _ {A : Type 0} {IsA : A → Type 0} {text_a : A → List ℕ} {read_a : L
     again = λ x is. rw (a.again x is) refl;
   }
 
-module _ {A : Type 0} {IsA : A → Type 0} {text_a : A → List ℕ} {read_a : List ℕ → Option A} (a : Value IsA text_a read_a) where
-  pub two : {B : Type 0} {IsB : B → Type 0} {text_b : B → List ℕ} {read_b : List ℕ → Option B} → Reads IsB text_b read_b
-      → (make : A → B → Act) (path : List ℕ) → ((x : A) (y : B) → command_text (make x y) ≡ path ++ 10 ∷ text_a x ++ 10 ∷ text_b y)
+  line : {B : Type 0} {IsB : B → Type 0} {next : A → List ℕ → Option Act} → Value IsA text_a read_a → (make : A → B → Act) (path : List ℕ)
+      → ((x : A) → Tells IsB (make x) (path ++ 10 ∷ text_a x) (next x))
+      → Tells (λ (p : A × B). IsA p.0 × IsB p.1) (λ p. make p.0 p.1) path (line_then read_a next)
+  line {next = next} a make path tells = record {
+    lines = λ p. text_a p.0 ++ 10 ∷ (tells p.0).lines p.1;
+    told = λ p. (tells p.0).told p.1 ∙ append_assoc path (10 ∷ text_a p.0) (10 ∷ (tells p.0).lines p.1);
+    found = λ values act e.
+        option_and_then_some (λ line. option_and_then (λ x. next x line.1) (read_a line.0)) (two_lines values) act e (λ line cut all.
+        option_and_then_some (λ x. next x line.1) (read_a line.0) act all (λ x is rest.
+        (tells x).found line.1 act rest ∙ append_assoc path (10 ∷ text_a x) (10 ∷ line.1)
+        ∙ (λ j. path ++ 10 ∷ (a.reads.found line.0 x is j ++ 10 ∷ line.1)) ∙ ap (λ (t : List ℕ). path ++ 10 ∷ t) (sym (cut-found 10 values line cut))));
+    again = λ p is.
+        rw (cut-again 10 (text_a p.0) ((tells p.0).lines p.1) (no-feed a p.0 is.0), a.reads.again p.0 is.0) ((tells p.0).again p.1 is.1);
+  }
+
+module _ {A B : Type 0} {IsA : A → Type 0} {IsB : B → Type 0} {text_a : A → List ℕ} {text_b : B → List ℕ} {read_a : List ℕ → Option A} {read_b : List ℕ → Option B} where
+  pub two : Value IsA text_a read_a → Reads IsB text_b read_b → (make : A → B → Act) (path : List ℕ)
+      → ((x : A) (y : B) → command_text (make x y) ≡ path ++ 10 ∷ text_a x ++ 10 ∷ text_b y)
       → Tells (λ (p : A × B). IsA p.0 × IsB p.1) (λ p. make p.0 p.1) path (of_two make read_a read_b)
   unfolding of_two
-  two {B} {IsB} {text_b} {read_b} b make path told =
-      let text : A → B → List ℕ = λ (x : A) (y : B). text_a x ++ 10 ∷ text_b y in
-      let whole : (x : A) (y : B) → command_text (make x y) ≡ path ++ 10 ∷ text x y =
-      λ (x : A) (y : B). told x y ∙ append_assoc path (10 ∷ text_a x) (10 ∷ text_b y) in
-      record {
-        lines = λ p. text p.0 p.1;
-        told = λ p. whole p.0 p.1;
-        found = λ values act e.
-            option_and_then_some (λ line. made_of_two make (read_a line.0) (read_b line.1)) (two_lines values) act e (λ line cut all.
-            option_and_then_some (λ x. option_map (make x) (read_b line.1)) (read_a line.0) act all (λ x x-is rest.
-            option_map_some (make x) (read_b line.1) act rest (λ y y-is same.
-            ap command_text (sym same) ∙ whole x y ∙ (λ j. path ++ 10 ∷ (a.reads.found line.0 x x-is j ++ 10 ∷ b.found line.1 y y-is j))
-            ∙ ap (λ (t : List ℕ). path ++ 10 ∷ t) (sym (cut-found 10 values line cut)))));
-        again = λ p is. rw (cut-again 10 (text_a p.0) (text_b p.1) (no-feed a p.0 is.0), a.reads.again p.0 is.0, b.again p.1 is.1) refl;
-      }
+  two a b make path told = line a make path (λ x. one b (make x) (path ++ 10 ∷ text_a x) (told x))
 
-  module _ {B : Type 0} {IsB : B → Type 0} {text_b : B → List ℕ} {read_b : List ℕ → Option B} (b : Value IsB text_b read_b) where
-    pub three : {C : Type 0} {IsC : C → Type 0} {text_c : C → List ℕ} {read_c : List ℕ → Option C} → Reads IsC text_c read_c
-        → (make : A → B → C → Act) (path : List ℕ)
-        → ((x : A) (y : B) (z : C) → command_text (make x y z) ≡ path ++ 10 ∷ text_a x ++ 10 ∷ text_b y ++ 10 ∷ text_c z)
-        → Tells (λ (p : A × B × C). IsA p.0 × IsB p.1 × IsC p.2) (λ p. make p.0 p.1 p.2) path (of_three make read_a read_b read_c)
-    unfolding of_three three_lines
-    three {C} {IsC} {text_c} {read_c} c make path told =
-        let text : A → B → C → List ℕ = λ (x : A) (y : B) (z : C). text_a x ++ 10 ∷ (text_b y ++ 10 ∷ text_c z) in
-        let whole : (x : A) (y : B) (z : C) → command_text (make x y z) ≡ path ++ 10 ∷ text x y z =
-        λ (x : A) (y : B) (z : C). told x y z ∙ append_assoc (path ++ 10 ∷ text_a x) (10 ∷ text_b y) (10 ∷ text_c z)
-        ∙ append_assoc path (10 ∷ text_a x) (10 ∷ (text_b y ++ 10 ∷ text_c z)) in
-        record {
-          lines = λ p. text p.0 p.1 p.2;
-          told = λ p. whole p.0 p.1 p.2;
-          found = λ values act e.
-              option_and_then_some (λ line. made_of_three make (read_a line.0) (read_b line.1) (read_c line.2)) (three_lines values) act e (λ line cut all.
-              option_and_then_some (λ x. made_of_two (make x) (read_b line.1) (read_c line.2)) (read_a line.0) act all (λ x x-is rest.
-              option_and_then_some (λ y. option_map (make x y) (read_c line.2)) (read_b line.1) act rest (λ y y-is last.
-              option_map_some (make x y) (read_c line.2) act last (λ z z-is same.
-              ap command_text (sym same) ∙ whole x y z
-              ∙ (λ j. path ++ 10 ∷ (a.reads.found line.0 x x-is j ++ 10 ∷ (b.reads.found line.1 y y-is j ++ 10 ∷ c.found line.2 z z-is j)))
-              ∙ ap (λ (t : List ℕ). path ++ 10 ∷ t) (sym (three-lines-found values line cut))))));
-          again = λ p is.
-              let first = cut-again 10 (text_a p.0) (text_b p.1 ++ 10 ∷ text_c p.2) (no-feed a p.0 is.0) in
-              let second = cut-again 10 (text_b p.1) (text_c p.2) (no-feed b p.1 is.1) in
-              rw (first, second, a.reads.again p.0 is.0, b.reads.again p.1 is.1, c.again p.2 is.2) refl;
-        }
+module _ {A B C : Type 0} {IsA : A → Type 0} {IsB : B → Type 0} {IsC : C → Type 0} {text_a : A → List ℕ} {text_b : B → List ℕ} {text_c : C → List ℕ}
+    {read_a : List ℕ → Option A} {read_b : List ℕ → Option B} {read_c : List ℕ → Option C} where
+  pub three : Value IsA text_a read_a → Value IsB text_b read_b → Reads IsC text_c read_c → (make : A → B → C → Act) (path : List ℕ)
+      → ((x : A) (y : B) (z : C) → command_text (make x y z) ≡ path ++ 10 ∷ text_a x ++ 10 ∷ text_b y ++ 10 ∷ text_c z)
+      → Tells (λ (p : A × (B × C)). IsA p.0 × (IsB p.1.0 × IsC p.1.1)) (λ p. make p.0 p.1.0 p.1.1) path (of_three make read_a read_b read_c)
+  three a b c make path told = subst (Tells _ _ path) (λ i text. three-read read_a read_b read_c make text i)
+      (line a (λ (x : A) (p : B × C). make x p.0 p.1) path (λ x. two b c (make x) (path ++ 10 ∷ text_a x) (told x)))
 
-    pub four : {C : Type 0} {IsC : C → Type 0} {text_c : C → List ℕ} {read_c : List ℕ → Option C}
-        {D : Type 0} {IsD : D → Type 0} {text_d : D → List ℕ} {read_d : List ℕ → Option D} → Value IsC text_c read_c → Reads IsD text_d read_d
-        → (make : A → B → C → D → Act) (path : List ℕ)
-        → ((x : A) (y : B) (z : C) (w : D) → command_text (make x y z w) ≡ path ++ 10 ∷ text_a x ++ 10 ∷ text_b y ++ 10 ∷ text_c z ++ 10 ∷ text_d w)
-        → Tells (λ (p : A × B × C × D). IsA p.0 × IsB p.1 × IsC p.2 × IsD p.3) (λ p. make p.0 p.1 p.2 p.3) path (of_four make read_a read_b read_c read_d)
-    unfolding of_four four_lines three_lines
-    four {C} {IsC} {text_c} {read_c} {D} {IsD} {text_d} {read_d} c d make path told =
-        let text : A → B → C → D → List ℕ = λ (x : A) (y : B) (z : C) (w : D). text_a x ++ 10 ∷ (text_b y ++ 10 ∷ (text_c z ++ 10 ∷ text_d w)) in
-        let whole : (x : A) (y : B) (z : C) (w : D) → command_text (make x y z w) ≡ path ++ 10 ∷ text x y z w =
-        λ (x : A) (y : B) (z : C) (w : D). told x y z w ∙ append_assoc (path ++ 10 ∷ text_a x ++ 10 ∷ text_b y) (10 ∷ text_c z) (10 ∷ text_d w)
-        ∙ append_assoc (path ++ 10 ∷ text_a x) (10 ∷ text_b y) (10 ∷ (text_c z ++ 10 ∷ text_d w))
-        ∙ append_assoc path (10 ∷ text_a x) (10 ∷ (text_b y ++ 10 ∷ (text_c z ++ 10 ∷ text_d w))) in
-        record {
-          lines = λ p. text p.0 p.1 p.2 p.3;
-          told = λ p. whole p.0 p.1 p.2 p.3;
-          found = λ values act e.
-              option_and_then_some (λ line. made_of_four make (read_a line.0) (read_b line.1) (read_c line.2) (read_d line.3)) (four_lines values) act e
-              (λ line cut all.
-              option_and_then_some (λ x. made_of_three (make x) (read_b line.1) (read_c line.2) (read_d line.3)) (read_a line.0) act all (λ x x-is rest.
-              option_and_then_some (λ y. made_of_two (make x y) (read_c line.2) (read_d line.3)) (read_b line.1) act rest (λ y y-is more.
-              option_and_then_some (λ z. option_map (make x y z) (read_d line.3)) (read_c line.2) act more (λ z z-is last.
-              option_map_some (make x y z) (read_d line.3) act last (λ w w-is same.
-              ap command_text (sym same) ∙ whole x y z w
-              ∙ (λ j. path ++ 10 ∷ (a.reads.found line.0 x x-is j
-              ++ 10 ∷ (b.reads.found line.1 y y-is j ++ 10 ∷ (c.reads.found line.2 z z-is j ++ 10 ∷ d.found line.3 w w-is j))))
-              ∙ ap (λ (t : List ℕ). path ++ 10 ∷ t) (sym (four-lines-found values line cut)))))));
-          again = λ p is.
-              let first = cut-again 10 (text_a p.0) (text_b p.1 ++ 10 ∷ (text_c p.2 ++ 10 ∷ text_d p.3)) (no-feed a p.0 is.0) in
-              let second = cut-again 10 (text_b p.1) (text_c p.2 ++ 10 ∷ text_d p.3) (no-feed b p.1 is.1) in
-              let third = cut-again 10 (text_c p.2) (text_d p.3) (no-feed c p.2 is.2) in
-              rw (first, second, third, a.reads.again p.0 is.0, b.reads.again p.1 is.1, c.reads.again p.2 is.2, d.again p.3 is.3) refl;
-        }
+module _ {A B C D : Type 0} {IsA : A → Type 0} {IsB : B → Type 0} {IsC : C → Type 0} {IsD : D → Type 0}
+    {text_a : A → List ℕ} {text_b : B → List ℕ} {text_c : C → List ℕ} {text_d : D → List ℕ}
+    {read_a : List ℕ → Option A} {read_b : List ℕ → Option B} {read_c : List ℕ → Option C} {read_d : List ℕ → Option D} where
+  pub four : Value IsA text_a read_a → Value IsB text_b read_b → Value IsC text_c read_c → Reads IsD text_d read_d
+      → (make : A → B → C → D → Act) (path : List ℕ)
+      → ((x : A) (y : B) (z : C) (w : D) → command_text (make x y z w) ≡ path ++ 10 ∷ text_a x ++ 10 ∷ text_b y ++ 10 ∷ text_c z ++ 10 ∷ text_d w)
+      → Tells (λ (p : A × (B × (C × D))). IsA p.0 × (IsB p.1.0 × (IsC p.1.1.0 × IsD p.1.1.1))) (λ p. make p.0 p.1.0 p.1.1.0 p.1.1.1) path
+      (of_four make read_a read_b read_c read_d)
+  four a b c d make path told = subst (Tells _ _ path) (λ i text. four-read read_a read_b read_c read_d make text i)
+      (line a (λ (x : A) (p : B × (C × D)). make x p.0 p.1.0 p.1.1) path (λ x. three b c d (make x) (path ++ 10 ∷ text_a x) (told x)))
