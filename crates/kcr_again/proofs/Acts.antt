@@ -59,8 +59,8 @@ pub new_item : Tells (λ (p : ℕ × (List ℕ × ℕ)). IsNumber 9999 p.0 × (I
     (of_three AddItem ceremony_of item_of moment_of)
 new_item = three ceremonies items moments AddItem (codes "/items") (λ a b c. refl)
 
-pub plan : Tells (λ (p : ℕ × (Facility × (ℕ × List ℕ))). IsNumber 9999 p.0 × (⊤ × (IsDay p.1.1.0 × IsUtf8 p.1.1.1))) (λ p. Plan p.0 p.1.0 p.1.1.0 p.1.1.1) (codes "/ceremonies")
-    (of_four Plan ceremony_of facility_of day_of script_of)
+pub plan : Tells (λ (p : ℕ × (Facility × (ℕ × List ℕ))). IsNumber 9999 p.0 × (⊤ × (IsDay p.1.1.0 × IsUtf8 p.1.1.1))) (λ p. Plan p.0 p.1.0 p.1.1.0 p.1.1.1)
+    (codes "/ceremonies") (of_four Plan ceremony_of facility_of day_of script_of)
 plan = four ceremonies facilities days scripts Plan (codes "/ceremonies") (λ a b c d. refl)
 
 module _ (ceremony : ℕ) where
@@ -70,8 +70,8 @@ module _ (ceremony : ℕ) where
   pub closing : Tells IsMoment (Close ceremony) (at_ceremony ceremony (codes "closing")) (λ values. option_map (Close ceremony) (moment_of values))
   closing = one moments (Close ceremony) (at_ceremony ceremony (codes "closing")) (λ a. refl)
 
-  pub sheet : Tells (λ (p : Way × (List (List ℕ) × ℕ)). ⊤ × (ArePeople p.1.0 × IsMoment p.1.1)) (λ p. Sheet ceremony p.0 p.1.0 p.1.1) (at_ceremony ceremony (codes "sheet"))
-      (of_three (Sheet ceremony) way_of people_of moment_of)
+  pub sheet : Tells (λ (p : Way × (List (List ℕ) × ℕ)). ⊤ × (ArePeople p.1.0 × IsMoment p.1.1)) (λ p. Sheet ceremony p.0 p.1.0 p.1.1)
+      (at_ceremony ceremony (codes "sheet")) (of_three (Sheet ceremony) way_of people_of moment_of)
   sheet = three ways people moments (Sheet ceremony) (at_ceremony ceremony (codes "sheet")) (λ a b c. refl)
 
   pub exception : Tells (λ (p : List ℕ × (Bool × ℕ)). IsLine 1000 p.0 × (⊤ × IsMoment p.1.1)) (λ p. Except ceremony p.0 p.1.0 p.1.1)

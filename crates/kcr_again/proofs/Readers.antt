@@ -125,7 +125,8 @@ module _ {A : Type 0} {IsA : A → Type 0} {text_a : A → List ℕ} {read_a : L
         rw (cut-again 10 (text_a p.0) ((tells p.0).lines p.1) (no-feed a p.0 is.0), a.reads.again p.0 is.0) ((tells p.0).again p.1 is.1);
   }
 
-module _ {A B : Type 0} {IsA : A → Type 0} {IsB : B → Type 0} {text_a : A → List ℕ} {text_b : B → List ℕ} {read_a : List ℕ → Option A} {read_b : List ℕ → Option B} where
+module _ {A B : Type 0} {IsA : A → Type 0} {IsB : B → Type 0} {text_a : A → List ℕ} {text_b : B → List ℕ}
+    {read_a : List ℕ → Option A} {read_b : List ℕ → Option B} where
   pub two : Value IsA text_a read_a → Reads IsB text_b read_b → (make : A → B → Act) (path : List ℕ)
       → ((x : A) (y : B) → command_text (make x y) ≡ path ++ 10 ∷ text_a x ++ 10 ∷ text_b y)
       → Tells (λ (p : A × B). IsA p.0 × IsB p.1) (λ p. make p.0 p.1) path (of_two make read_a read_b)
