@@ -1,5 +1,5 @@
 -- A text is cut at its first such byte in one way.
-use Rattle.std.proofs.Common.{◌≡◌, ℕ, ◌+◌, ◌<◌, Bool, true, false, not, cond, eqb, ltb, List, ◌∷◌, ◌++◌, length, get_or, take, drop, Option, Some}
+use Rattle.std.proofs.Common.{◌≡◌, ℕ, ◌+◌, ◌<◌, true, false, not, eqb, List, ◌∷◌, ◌++◌, length, get_or, take, drop, Option, Some}
 use Rattle.std.proofs.Common.{None, refl, sym, ap, ◌∙◌, arith, add-one, All, length-append}
 use Rattle.std.specs.List.{position, position_or_len, list_all}
 use Rattle.std.specs.Option.{option_map}
@@ -16,14 +16,10 @@ use Rattle.kcr_again.specs.Cuts.{cut_at}
 abbrev pub Lacks : ℕ → List ℕ → Type 0
 Lacks byte text = All (λ b. eqb b byte ≡ false) text
 
-not-true : (b : Bool) → not b ≡ true → b ≡ false
-not-true true h = cc
-not-true false h = refl
-
 -- the same, by a test that computes
 pub lacks-literal : (byte : ℕ) (text : List ℕ) → list_all (λ b. not (eqb b byte)) text ≡ true → Lacks byte text
 lacks-literal byte text test =
-    All-weaker (λ b. not (eqb b byte) ≡ true) (λ b. eqb b byte ≡ false) (λ b h. not-true (eqb b byte) h) text
+    All-weaker (λ b. not (eqb b byte) ≡ true) (λ b. eqb b byte ≡ false) (λ b h. grind (arith, h)) text
     (AllPass-from_list_all (λ b. not (eqb b byte)) text test)
 
 -- a word of a path: no slash is in it and no line feed
@@ -61,9 +57,7 @@ pub cut-again : (byte : ℕ) (x y : List ℕ) → Lacks byte x → cut_at byte (
 unfolding cut_at
 cut-again byte x y lacks =
     let within : length x < length (x ++ byte ∷ y) = omega (arith, length-append x (byte ∷ y)) in
-    let at : position (λ b. eqb b byte) (x ++ byte ∷ y) ≡ Some (length x) =
-    ap (λ (i : ℕ). cond (ltb i (length (x ++ byte ∷ y))) (Some i) None) (first-place byte x y lacks)
-    ∙ ap (λ (t : Bool). cond t (Some (length x)) None) (lt-ltb (length x) (length (x ++ byte ∷ y)) within) in
+    let at : position (λ b. eqb b byte) (x ++ byte ∷ y) ≡ Some (length x) = rw (first-place byte x y lacks, lt-ltb (length x) (length (x ++ byte ∷ y)) within) refl in
     ap (option_map (λ i. (take i (x ++ byte ∷ y), drop (i + 1) (x ++ byte ∷ y)))) at
     ∙ (λ j. Some (take-append_seam x (byte ∷ y) j, drop-append-add x (byte ∷ y) 1 j))
 
@@ -73,7 +67,5 @@ cut-none byte text lacks =
     let past : position_or_len (λ b. eqb b byte) text ≡ length text =
     position_or_len_is (λ b. eqb b byte) text (length text) 0 (omega arith) (λ k h. All-get_or (λ b. eqb b byte ≡ false) text k 0 h lacks)
     (λ h. absurd (omega (arith, h))) in
-    let at : position (λ b. eqb b byte) text ≡ None =
-    ap (λ (i : ℕ). cond (ltb i (length text)) (Some i) None) past
-    ∙ ap (λ (t : Bool). cond t (Some (length text)) None) (le-ltb (length text) (length text) (omega arith)) in
+    let at : position (λ b. eqb b byte) text ≡ None = rw (past, le-ltb (length text) (length text) (omega arith)) refl in
     ap (option_map (λ i. (take i text, drop (i + 1) text))) at

@@ -1,8 +1,8 @@
 -- The act that a text tells has that text.
-use Rattle.std.proofs.Common.{◌≡◌, ℕ, Bool, true, false, eqb, List, [], ◌∷◌, ◌++◌, codes, Option, Some, None, refl, sym, ap, ◌∙◌, append_assoc}
+use Rattle.std.proofs.Common.{◌≡◌, ℕ, List, [], ◌∷◌, ◌++◌, codes, Option, Some, None, refl, sym, ap, ◌∙◌, append_assoc, arith}
 use Rattle.std.specs.Option.{IfSome, option_and_then}
 use Rattle.std.specs.Fmt.{decimal}
-use Rattle.std.proofs.lemmas.Bool.{eqb-true}
+use Rattle.std.proofs.lemmas.Bool.Decides.{nat_tests}
 use Rattle.std.proofs.lemmas.Option.{option_and_then_some}
 use Rattle.kcr_base.specs.Place.{place_text}
 use Rattle.kcr_base.specs.declared.place.Place.{Place}
@@ -128,11 +128,7 @@ path-found path values act e = by (cut_at 47 path) refl
 
 slash-first : (text path : List ℕ) → after_slash text ≡ Some path → text ≡ 47 ∷ path
 slash-first [] path e = cc
-slash-first (b ∷ bytes) path e = by (eqb b 47) refl
-  where
-    by : (v : Bool) → eqb b 47 ≡ v → b ∷ bytes ≡ 47 ∷ path
-    by true is = let some : Some bytes ≡ Some path = rw is at e in let same : bytes ≡ path = cc in λ j. eqb-true b 47 is j ∷ same j
-    by false is = let none : ◌≡◌ {A = Option (List ℕ)} None (Some path) = rw is at e in cc
+slash-first (b ∷ bytes) path e = grind (arith, nat_tests, e)
 
 pub act-found : (text : List ℕ) (act : Act) → act_of text ≡ Some act → command_text act ≡ text
 unfolding act_of

@@ -9,7 +9,7 @@ use Rattle.std.proofs.lemmas.List.Elements.{All-weaker}
 use Rattle.std.proofs.lemmas.Option.{option_and_then_some}
 use Rattle.kcr_history.specs.declared.commands.Act.{Act}
 use Rattle.kcr_history.specs.Texts.{command_text}
-use Rattle.kcr_again.specs.Cuts.{two_lines, three_lines, four_lines, made_of_two, made_of_three, made_of_four, of_two, of_three, of_four}
+use Rattle.kcr_again.specs.Cuts.{two_lines, three_lines, four_lines, made_of_two, made_of_three, of_two, of_three, of_four}
 use Rattle.kcr_again.proofs.Cutting.{Lacks, cut-found, cut-again}
 
 -- a reader reads the texts of the values and no others
@@ -77,14 +77,7 @@ lines-read : {A L M X : Type 0} (first : Option (List ℕ × List ℕ)) (rest : 
     → option_and_then (λ m. option_and_then (make m) (part m)) (option_and_then (λ p. option_map (join p.0) (rest p.1)) first)
     ≡ option_and_then (λ p. option_and_then (λ x. option_and_then (λ l. make (join p.0 l) x) (rest p.1)) (read p.0)) first
 lines-read None rest join read part make same = refl
-lines-read {A} {L} (Some p) rest join read part make same = by (rest p.1) (read p.0) (same p.0)
-  where
-    by : (o : Option L) (x : Option A) → ((l : L) → part (join p.0 l) ≡ x)
-        → option_and_then (λ m. option_and_then (make m) (part m)) (option_map (join p.0) o)
-        ≡ option_and_then (λ x. option_and_then (λ l. make (join p.0 l) x) o) x
-    by None None is = refl
-    by None (Some x) is = refl
-    by (Some l) x is = ap (option_and_then (make (join p.0 l))) (is l)
+lines-read (Some p) rest join read part make same = let at = same p.0 in grind (arith, at)
 
 module _ {A B C X : Type 0} (a : List ℕ → Option A) (b : List ℕ → Option B) (c : List ℕ → Option C) where
   three-read : (make : A → B → C → X) (text : List ℕ) → line_then a (λ x. of_two (make x) b c) text ≡ of_three make a b c text
