@@ -1,5 +1,5 @@
 -- Bytes that are text, and a body as JSON.
-use Rattle.std.proofs.Common.{◌≡◌, ℕ, List, Bool, true, false, Some, None, option_and_then, refl, ap, ◌∙◌}
+use Rattle.std.proofs.Common.{◌≡◌, ℕ, List, Bool, true, false, Some, None, option_and_then, refl, ap, ◌∙◌, arith}
 use Rattle.std.specs.Str.{IsUtf8, is_utf8}
 use Rattle.std.proofs.lemmas.Str.{is_utf8-from_IsUtf8, IsUtf8-from_is_utf8}
 use Rattle.serde_json.specs.Data.{Data}
@@ -13,11 +13,7 @@ text_in-some bytes h = rw (is_utf8-from_IsUtf8 bytes h) refl
 
 pub text_in-none : (bytes : List ℕ) → (IsUtf8 bytes → ⊥) → text_in bytes ≡ None
 unfolding text_in
-text_in-none bytes h = at (is_utf8 bytes) refl
-  where
-    at : (v : Bool) → is_utf8 bytes ≡ v → text_in bytes ≡ None
-    at true e = elim (h (IsUtf8-from_is_utf8 bytes e)) [ ]
-    at false e = rw e refl
+text_in-none bytes h = let is = IsUtf8-from_is_utf8 bytes in grind (arith, is, h)
 
 pub json-some : (body : List ℕ) (d : Data) → IsUtf8 body × (read body ≡ Some d) → json_of body ≡ Some d
 unfolding json_of

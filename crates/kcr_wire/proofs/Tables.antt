@@ -1,14 +1,14 @@
 -- What an insert leaves, and that over these routes only memory can be wanting.
-use Rattle.std.proofs.Common.{◌≡◌, ◌<◌, ◌≤◌, ◌+◌, ◌∙◌, ℕ, Ok, Err, Result, List, [], ◌∷◌, Bool, true, false, ◌&&◌, refl, sym, ap, length, drop, get_or}
-use Rattle.std.proofs.lemmas.Bool.{true≢false, and_parts}
+use Rattle.std.proofs.Common.{◌≡◌, ◌<◌, ◌≤◌, ◌+◌, ◌∙◌, ℕ, Ok, Err, Result, List, [], ◌∷◌, true, ◌&&◌, refl, sym, ap, length, drop, get_or, arith}
+use Rattle.std.proofs.lemmas.Bool.{and_parts}
 use Rattle.std.proofs.lemmas.List.{drop_more, drop_all}
 use Rattle.matchit.specs.Route.{parse_route, Scan}
 use Rattle.matchit.specs.Router.{InsertsRead}
 use Rattle.matchit.proofs.OnLiterals.{matchit_on_literals}
 use Rattle.matchit.specs.declared.error.InsertError.{InsertError}
-use Rattle.matchit.specs.declared.error.InsertError.TheVariants.{Conflict, InvalidParam, InvalidParamSegment, InvalidCatchAll, OutOfMemory}
+use Rattle.matchit.specs.declared.error.InsertError.TheVariants.{OutOfMemory}
 use Rattle.kcr_wire.specs.declared.route.Route.{Route}
-use Rattle.kcr_wire.specs.Routes.{Held, add, added, add_all, all_routes, fits, is_free, can_add, can_add_all, route_text}
+use Rattle.kcr_wire.specs.Routes.{Held, add, added, add_all, all_routes, fits, can_add, can_add_all, route_text}
 
 -- an insert that answers `Ok` adds the route
 added-inserted : (p : Result Scan InsertError) (route : Route) (old new : Held) → InsertsRead p route old new (Ok tt) → new ≡ added p route old
@@ -40,12 +40,7 @@ add_all-end held routes i le = rw (drop_all i routes le) refl
 
 -- an insert of a route that fits fails only when out of memory
 fitting-fails : (p : Result Scan InsertError) (route : Route) (old new : Held) (error : InsertError) → fits p old ≡ true → InsertsRead p route old new (Err error) → error ≡ OutOfMemory
-fitting-fails (Err e) route old new error fit h = absurd (true≢false (sym fit))
-fitting-fails (Ok s) route old new OutOfMemory fit h = refl
-fitting-fails (Ok s) route old new (Conflict with) fit h = absurd (true≢false (sym fit ∙ ap is_free h.1.1))
-fitting-fails (Ok s) route old new InvalidParam fit h = absurd h.1
-fitting-fails (Ok s) route old new InvalidParamSegment fit h = absurd h.1
-fitting-fails (Ok s) route old new InvalidCatchAll fit h = absurd h.1
+fitting-fails p route old new error fit h = grind (arith, fit, h)
 
 pub only-memory : (route : Route) (old new : Held) (text : List ℕ) (error : InsertError) → text ≡ route_text route → can_add old route ≡ true
     → InsertsRead (parse_route text) route old new (Err error) → error ≡ OutOfMemory
