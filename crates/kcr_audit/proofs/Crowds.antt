@@ -16,7 +16,7 @@ use Rattle.kcr_room.proofs.Agreement.{same-crowd}
 use Rattle.kcr_room.proofs.Moments.{crowded-is_ever}
 use Rattle.kcr_history.specs.declared.views.Finding.{Finding}
 use Rattle.kcr_history.specs.declared.views.Finding.TheVariants as Findings
-use Rattle.kcr_history.specs.declared.views.View.{View}
+use Rattle.kcr_history.specs.declared.views.WholeView.{WholeView}
 use Rattle.kcr_history.specs.Audit.{IsTrueOf, rank}
 use Rattle.kcr_audit.specs.Rooms.{IsSometime, IsSoughtAmong, is_lone, is_crowd, is_crowd_at}
 use Rattle.kcr_audit.proofs.Found.{is-found, counted-any}
@@ -50,11 +50,11 @@ none-listed test sheet all rows numbers list found e f g h listed none c t some 
     let among = rw (f, g, h) at none in
     All-contains (λ c. (t : ℕ) → test sheet c t ≡ false) numbers c among (listed c (rw e (crowd-listed sheet c t some))) t
 
-pub none-lone : (view : View) → ((c t : ℕ) → 1 ≤ crowd_by view.sheet.items c t → is_lone view.sheet.items c t ≡ false) → (finding : Finding) → rank finding ≡ 4 → IsTrueOf view finding → ⊥
+pub none-lone : (view : WholeView) → ((c t : ℕ) → 1 ≤ crowd_by view.sheet.items c t → is_lone view.sheet.items c t ≡ false) → (finding : Finding) → rank finding ≡ 4 → IsTrueOf view finding → ⊥
 none-lone view none (Findings.Lone c t) r h = true≢false (sym (eq-eqb (crowd_by view.sheet.items c t) 1 h) ∙ none c t (omega (arith, h)))
 none-lone view none other r h = omega (arith, r)
 
-pub none-crowd : (view : View) → ((c t : ℕ) → 1 ≤ crowd_by view.sheet.items c t → is_crowd view.sheet.items c t ≡ false) → (finding : Finding) → rank finding ≡ 5 → IsTrueOf view finding → ⊥
+pub none-crowd : (view : WholeView) → ((c t : ℕ) → 1 ≤ crowd_by view.sheet.items c t → is_crowd view.sheet.items c t ≡ false) → (finding : Finding) → rank finding ≡ 5 → IsTrueOf view finding → ⊥
 none-crowd view none (Findings.Crowd c t) r h = let few = ltb-false 128 (crowd_by view.sheet.items c t) (none c t (omega (arith, h))) in omega (arith, h, few)
 none-crowd view none other r h = omega (arith, r)
 

@@ -32,7 +32,7 @@ use Rattle.std.specs.List.Sorted.{IsPermutation}
 use Rattle.std.proofs.lemmas.List.Sorted.{list_any-IsPermutation, IsPermutation-trans}
 use Rattle.kcr_history.specs.declared.rows.StepRow.{StepRow}
 use Rattle.kcr_history.specs.declared.views.Finding.TheVariants as Findings
-use Rattle.kcr_history.specs.declared.views.View.{View}
+use Rattle.kcr_history.specs.declared.views.WholeView.{WholeView}
 use Rattle.kcr_history.specs.Audit.{IsTrueOf, is_done, are_numbered, is_well_seated, is_seating_by, ceremony_in, is_ill_seated}
 use Rattle.kcr_history.specs.Prints.{seatings_at, seated_at, seats_filled}
 use Rattle.kcr_laws.proofs.Seated.{seated}
@@ -194,7 +194,7 @@ rows-placed table shown p c k people e =
 abbrev row_with : History → ℕ × ℕ → Option (StepState × ℕ) → StepRow
 row_with A key fate = record (step_row A key) { state = unwrap_or (option_map (λ said. said.0) fate) Undone; at = option_map (λ said. said.1) fate }
 
-module _ (A : History) (h : IsRegister A) (view : View) (same : SameTables (tables A) (tables_of view)) where
+module _ (A : History) (h : IsRegister A) (view : WholeView) (same : SameTables (tables A) (tables_of view)) where
   -- a step that is done is well seated, where its seats are those that its state asks for
   well : (key : ℕ × ℕ) (state : StepState) (at : ℕ) → fate_of A key.0 key.1 ≡ Some (state, at)
       → seats_filled (row_with A key (Some (state, at))) ≡ seats_for state (seats_at (steps_of A key.0) key.1)

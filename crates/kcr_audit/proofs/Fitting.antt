@@ -21,7 +21,7 @@ use Rattle.kcr_script.specs.declared.seat.Seat.TheVariants.{Staff, AnyCo, AnyRks
 use Rattle.kcr_history.specs.declared.commands.Act.{Act}
 use Rattle.kcr_history.specs.declared.commands.Act.TheVariants.{Plan}
 use Rattle.kcr_history.specs.declared.rows.CeremonyRow.{CeremonyRow}
-use Rattle.kcr_history.specs.declared.views.View.{View}
+use Rattle.kcr_history.specs.declared.views.WholeView.{WholeView}
 use Rattle.kcr_history.specs.Audit.{eligible_by, is_seating_by, ceremony_in}
 use Rattle.kcr_history.specs.Fitting.{is_holder_by, fits_by}
 use Rattle.kcr_history.specs.History.{History, all_said}
@@ -39,7 +39,7 @@ use Rattle.kcr_audit.proofs.Alike.{shown-in}
 use Rattle.kcr_laws.proofs.Finds.{only-holder}
 
 -- the row of a planned ceremony
-pub ceremony-found : (A : History) (view : View) → IsPermutation (ceremonies A) view.ceremonies.items → (c : ℕ) → is_ceremony A c ≡ true → ceremony_in view c ≡ Some (ceremony_row A c)
+pub ceremony-found : (A : History) (view : WholeView) → IsPermutation (ceremonies A) view.ceremonies.items → (c : ℕ) → is_ceremony A c ≡ true → ceremony_in view c ≡ Some (ceremony_row A c)
 ceremony-found A view p c k =
     let numbers = all_said planned_number A in
     let own = all-keys (λ row. row.number == c) (ceremony_row A) (ceremony_row A c) (λ n e. ap (ceremony_row A) (eqb-true n c e)) numbers in
@@ -54,7 +54,7 @@ holder-same A h rows p place day =
 
 -- SEATS
 
-module _ (A : History) (h : IsRegister A) (view : View) (same : SameTables (tables A) (tables_of view)) where
+module _ (A : History) (h : IsRegister A) (view : WholeView) (same : SameTables (tables A) (tables_of view)) where
   held : (place : Place) (day : ℕ) (who : List ℕ) → is_holder_by view.appointments.items place day who ≡ is_holder A place day who
   held place day who = ap (is_this who) (holder-same A h view.appointments.items same.appointments place day)
 

@@ -9,7 +9,7 @@ use Rattle.kcr_base.proofs.ListLemmas.{none-find, any-more}
 use Rattle.kcr_room.proofs.Lists.{count-cons}
 use Rattle.kcr_history.specs.declared.views.Finding.{Finding}
 use Rattle.kcr_history.specs.declared.views.Finding.TheVariants as Findings
-use Rattle.kcr_history.specs.declared.views.View.{View}
+use Rattle.kcr_history.specs.declared.views.WholeView.{WholeView}
 use Rattle.kcr_history.specs.declared.rows.StepRow.{StepRow}
 use Rattle.kcr_history.specs.Audit.{IsTrueOf, rank, is_ill_seated, is_done, is_well_seated, ceremony_in, is_doubled, is_lost, is_unboxed}
 use Rattle.kcr_audit.specs.Sought.{IsSought}
@@ -62,7 +62,7 @@ text-any {X} key bad wrong text xs e f = any-more same (λ x. wrong (key x)) xs 
     ]
 
 -- the first row that passes the test, by its finding
-sought : {X : Type 0} (view : View) (kind : ℕ) (test : X → Bool) (name : X → Finding) (xs : List X) (found : Option Finding)
+sought : {X : Type 0} (view : WholeView) (kind : ℕ) (test : X → Bool) (name : X → Finding) (xs : List X) (found : Option Finding)
     → ((x : X) → rank (name x) ≡ kind)
     → ((x : X) → IsFound test xs x → IsTrueOf view (name x))
     → ((finding : Finding) → rank finding ≡ kind → IsTrueOf view finding → list_any test xs ≡ true)
@@ -74,10 +74,10 @@ sought view kind test name xs found ranked true_of any e = subst (IsSought view 
     by_find None h = λ finding r t. true≢false (sym (any finding r t) ∙ none-find test xs h)
     by_find (Some x) h = (ranked x, true_of x (is-found test xs x h))
 
-step-is_ill : (view : View) (row : StepRow) → is_step_wrong view row ≡ true → is_ill_seated view row.ceremony row.step row ≡ true
+step-is_ill : (view : WholeView) (row : StepRow) → is_step_wrong view row ≡ true → is_ill_seated view row.ceremony row.step row ≡ true
 step-is_ill view row h = rw (eq-eqb row.ceremony row.ceremony refl, eq-eqb row.step row.step refl) h
 
-pub steps : (view : View) (found : Option Finding) → found ≡ option_map (λ row. Findings.Seating row.ceremony row.step) (find (is_step_wrong view) view.steps.items) → IsSought view 0 found
+pub steps : (view : WholeView) (found : Option Finding) → found ≡ option_map (λ row. Findings.Seating row.ceremony row.step) (find (is_step_wrong view) view.steps.items) → IsSought view 0 found
 steps view found e =
     sought view 0 (is_step_wrong view) (λ row. Findings.Seating row.ceremony row.step) view.steps.items found (λ row. refl)
     (λ row f. f.any (is_ill_seated view row.ceremony row.step) (step-is_ill view row f.passes)) by_kind e
@@ -89,7 +89,7 @@ steps view found e =
         and_from (is_done row.state) (not (is_well_seated view row (ceremony_in view row.ceremony) row.at)) (and_parts (row.ceremony == c && row.step == s) (is_done row.state) p.0).1 p.1)) t
     by_kind other r t = absurd (omega (arith, r))
 
-pub items : (view : View) (found : Option Finding) → found ≡ option_map (λ row. Findings.Custody row.code) (find (λ row. is_item_wrong view row.code) view.items.items) → IsSought view 1 found
+pub items : (view : WholeView) (found : Option Finding) → found ≡ option_map (λ row. Findings.Custody row.code) (find (λ row. is_item_wrong view row.code) view.items.items) → IsSought view 1 found
 items view found e =
     sought view 1 (λ row. is_item_wrong view row.code) (λ row. Findings.Custody row.code) view.items.items found (λ row. refl) (λ row f. f.passes) by_kind e
   where
@@ -97,7 +97,7 @@ items view found e =
     by_kind (Findings.Custody item) r t = text-any (λ row. row.code) (λ row. is_lost view row.rest) (is_item_wrong view) item view.items.items t t
     by_kind other r t = absurd (omega (arith, r))
 
-pub bags : (view : View) (found : Option Finding) → found ≡ option_map (λ row. Findings.Bag row.serial) (find (λ row. is_bag_wrong view row.serial) view.bags.items) → IsSought view 2 found
+pub bags : (view : WholeView) (found : Option Finding) → found ≡ option_map (λ row. Findings.Bag row.serial) (find (λ row. is_bag_wrong view row.serial) view.bags.items) → IsSought view 2 found
 bags view found e =
     sought view 2 (λ row. is_bag_wrong view row.serial) (λ row. Findings.Bag row.serial) view.bags.items found (λ row. refl) (λ row f. f.passes) by_kind e
   where

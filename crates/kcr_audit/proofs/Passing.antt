@@ -19,7 +19,7 @@ use Rattle.kcr_base.proofs.SameLemmas.{same-is, same-itself, same-turned}
 use Rattle.kcr_base.proofs.ListLemmas.{any-same, any-map, any-more}
 use Rattle.kcr_history.specs.declared.rows.KeyRow.{KeyRow}
 use Rattle.kcr_history.specs.declared.views.Finding.TheVariants as Findings
-use Rattle.kcr_history.specs.declared.views.View.{View}
+use Rattle.kcr_history.specs.declared.views.WholeView.{WholeView}
 use Rattle.kcr_room.specs.Room.{crowd_by}
 use Rattle.kcr_history.specs.declared.views.Finding.{Finding}
 use Rattle.kcr_history.specs.Audit.{IsTrueOf, is_doubled, is_bag_there, is_lost, is_unboxed}
@@ -101,7 +101,7 @@ holding : (o : Option Spot) → holds_items o ≡ true → (is_some o ≡ true) 
 holding None h = absurd (true≢false (sym h))
 holding (Some s) h = (refl, h)
 
-module _ (A : History) (h : IsRegister A) (view : View) (same : SameTables (tables A) (tables_of view)) where
+module _ (A : History) (h : IsRegister A) (view : WholeView) (same : SameTables (tables A) (tables_of view)) where
   -- a bag of the register is in a box that is there
   boxed-bag : (o : Option Spot) → has_its_box A o ≡ true → is_unboxed view (unwrap_or o Spent) ≡ false
   boxed-bag (Some (InBox f n)) e = ap not (sym (list_any-IsPermutation (is_box f n) (boxes A) view.boxes.items same.boxes) ∙ box-there A f n ∙ e)

@@ -10,7 +10,7 @@ use Rattle.kcr_base.proofs.SameLemmas.{same-is, same-itself}
 use Rattle.kcr_history.specs.declared.rows.KeyRow.{KeyRow}
 use Rattle.kcr_history.specs.declared.views.Finding.{Finding}
 use Rattle.kcr_history.specs.declared.views.Finding.TheVariants as Findings
-use Rattle.kcr_history.specs.declared.views.View.{View}
+use Rattle.kcr_history.specs.declared.views.WholeView.{WholeView}
 use Rattle.kcr_history.specs.Audit.{IsTrueOf, rank}
 use Rattle.kcr_audit.specs.Wrongs.{is_key_doubled}
 use Rattle.kcr_audit.proofs.Found.{none-counted, some-counted}
@@ -62,6 +62,6 @@ pub seen-all : (rows : List KeyRow) (seen : List ℕ → Bool) → Seen rows see
 seen-all rows seen s key = le-ltb 1 (count_by (has key) rows) (s.once key)
 
 -- where no key is doubled, there is none to be found
-pub none-doubled : (view : View) → ((key : List ℕ) → is_key_doubled view.keys.items key ≡ false) → (finding : Finding) → rank finding ≡ 3 → IsTrueOf view finding → ⊥
+pub none-doubled : (view : WholeView) → ((key : List ℕ) → is_key_doubled view.keys.items key ≡ false) → (finding : Finding) → rank finding ≡ 3 → IsTrueOf view finding → ⊥
 none-doubled view none (Findings.Key key) r h = true≢false (sym h ∙ none key)
 none-doubled view none other r h = omega (arith, r)

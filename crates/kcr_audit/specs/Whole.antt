@@ -1,9 +1,9 @@
 -- The rows of a view as tables.
-use Rattle.kcr_history.specs.declared.views.View.{View}
+use Rattle.kcr_history.specs.declared.views.WholeView.{WholeView}
 use Rattle.kcr_history.specs.Tables.{Tables}
 
 -- the rows of each table
-abbrev pub tables_of : View → Tables
+abbrev pub tables_of : WholeView → Tables
 tables_of view =
     record {
       people = view.people.items;

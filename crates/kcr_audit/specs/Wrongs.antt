@@ -7,12 +7,12 @@ use Rattle.kcr_custody.specs.declared.Item.{Item}
 use Rattle.kcr_history.specs.declared.rows.KeyRow.{KeyRow}
 use Rattle.kcr_history.specs.declared.rows.SeatingRow.{SeatingRow}
 use Rattle.kcr_history.specs.declared.rows.StepRow.{StepRow}
-use Rattle.kcr_history.specs.declared.views.View.{View}
+use Rattle.kcr_history.specs.declared.views.WholeView.{WholeView}
 use Rattle.kcr_history.specs.Audit.{is_done, is_well_seated, ceremony_in, is_lost, is_unboxed, is_doubled}
 use Rattle.kcr_history.specs.Prints.{put_in_order, in_order}
 
 -- the step was signed or passed, and its recorded people are no seating
-abbrev pub is_step_wrong : View → StepRow → Bool
+abbrev pub is_step_wrong : WholeView → StepRow → Bool
 is_step_wrong view row = is_done row.state && not (is_well_seated view row (ceremony_in view row.ceremony) row.at)
 
 -- a row of a seating put in its place by its seat
@@ -39,17 +39,17 @@ IsRepeated rows None = (key : List ℕ) → is_key_doubled rows key ≡ false
 IsRepeated rows (Some key) = is_key_doubled rows key ≡ true
 
 -- the item is lost by one of its rows
-abbrev pub is_item_lost : View → List ℕ → Bool
+abbrev pub is_item_lost : WholeView → List ℕ → Bool
 is_item_lost view item = list_any (λ row. same_text row.code item && is_lost view row.rest) view.items.items
 
 -- the item stands in more than one row, or is lost by one
-abbrev pub is_item_wrong : View → List ℕ → Bool
+abbrev pub is_item_wrong : WholeView → List ℕ → Bool
 is_item_wrong view item = is_item_doubled view.items.items item || is_item_lost view item
 
 -- by one of its rows the bag is in a box that is not there
-abbrev pub is_bag_boxless : View → List ℕ → Bool
+abbrev pub is_bag_boxless : WholeView → List ℕ → Bool
 is_bag_boxless view serial = list_any (λ row. same_text row.serial serial && is_unboxed view row.spot) view.bags.items
 
 -- the serial stands in more than one row, or by one is in a box that is not there
-abbrev pub is_bag_wrong : View → List ℕ → Bool
+abbrev pub is_bag_wrong : WholeView → List ℕ → Bool
 is_bag_wrong view serial = is_bag_doubled view.bags.items serial || is_bag_boxless view serial

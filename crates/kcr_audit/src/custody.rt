@@ -10,7 +10,7 @@ ghost use Rattle.kcr_audit.specs.Wrongs;
 
 use kcr_base::{Facility, ItemCode, Serial};
 use kcr_custody::{Bag, BoxRow, Item, Rest, Spot};
-use kcr_history::{Finding, View};
+use kcr_history::{Finding, WholeView};
 
 /// Whether a bag at this spot can hold items: a spent one holds none.
 fn holds_items(spot: Spot) -> bool
@@ -23,7 +23,7 @@ fn holds_items(spot: Spot) -> bool
 }
 
 /// Whether some row of the bag says that it is not spent.
-fn is_bag_there(view: &View, serial: Serial) -> bool
+fn is_bag_there(view: &WholeView, serial: Serial) -> bool
     ensures { result ≡ Audit.is_bag_there view.now serial }
 {
     view.bags
@@ -32,7 +32,7 @@ fn is_bag_there(view: &View, serial: Serial) -> bool
 }
 
 /// Whether an item that rests there is within a bag that is spent or not there.
-fn is_lost(view: &View, rest: Rest) -> bool
+fn is_lost(view: &WholeView, rest: Rest) -> bool
     ensures { result ≡ Audit.is_lost view.now rest }
 {
     match rest {
@@ -49,7 +49,7 @@ fn is_item_doubled(rows: &[Item], code: ItemCode) -> bool
 }
 
 /// Whether the item is lost by one of its rows.
-fn is_item_lost(view: &View, code: ItemCode) -> bool
+fn is_item_lost(view: &WholeView, code: ItemCode) -> bool
     ensures { result ≡ Wrongs.is_item_lost view.now code }
 {
     view.items
@@ -58,14 +58,14 @@ fn is_item_lost(view: &View, code: ItemCode) -> bool
 }
 
 /// Whether the item stands in more than one row, or is lost by one.
-fn is_item_wrong(view: &View, code: ItemCode) -> bool
+fn is_item_wrong(view: &WholeView, code: ItemCode) -> bool
     ensures { result ≡ Wrongs.is_item_wrong view.now code }
 {
     is_item_doubled(&view.items, code) || is_item_lost(view, code)
 }
 
 /// The first row whose item stands in another one too, or is lost.
-fn first_lost(view: &View) -> Option<Finding>
+fn first_lost(view: &WholeView) -> Option<Finding>
     ensures { result ≡ option_map (λ row. Findings.Custody row.code)
         (find (λ row. Wrongs.is_item_wrong view.now row.code) view.now.items.items) }
 {
@@ -77,7 +77,7 @@ fn first_lost(view: &View) -> Option<Finding>
 
 /// An item that stands in two rows, or lies within a bag that is spent or not there.
 #[tactic(auto, using(crate::proofs::Found::items))]
-pub(crate) fn lost_item(view: &View) -> Option<Finding>
+pub(crate) fn lost_item(view: &WholeView) -> Option<Finding>
     ensures { IsSought view.now 1 result }
 {
     first_lost(view)
@@ -98,7 +98,7 @@ fn has_box(boxes: &[BoxRow], facility: Facility, number: u32) -> bool
 }
 
 /// Whether the spot is in a box that is not there.
-fn is_unboxed(view: &View, spot: Spot) -> bool
+fn is_unboxed(view: &WholeView, spot: Spot) -> bool
     ensures { result ≡ Audit.is_unboxed view.now spot }
 {
     match spot {
@@ -115,7 +115,7 @@ fn is_bag_doubled(rows: &[Bag], serial: Serial) -> bool
 }
 
 /// Whether by one of its rows the bag is in a box that is not there.
-fn is_bag_boxless(view: &View, serial: Serial) -> bool
+fn is_bag_boxless(view: &WholeView, serial: Serial) -> bool
     ensures { result ≡ Wrongs.is_bag_boxless view.now serial }
 {
     view.bags
@@ -124,14 +124,14 @@ fn is_bag_boxless(view: &View, serial: Serial) -> bool
 }
 
 /// Whether the serial stands in more than one row, or is in a box that is not there by one.
-fn is_bag_wrong(view: &View, serial: Serial) -> bool
+fn is_bag_wrong(view: &WholeView, serial: Serial) -> bool
     ensures { result ≡ Wrongs.is_bag_wrong view.now serial }
 {
     is_bag_doubled(&view.bags, serial) || is_bag_boxless(view, serial)
 }
 
 /// The first row whose serial stands in another one too, or whose box is not there.
-fn first_boxless(view: &View) -> Option<Finding>
+fn first_boxless(view: &WholeView) -> Option<Finding>
     ensures { result ≡ option_map (λ row. Findings.Bag row.serial)
         (find (λ row. Wrongs.is_bag_wrong view.now row.serial) view.now.bags.items) }
 {
@@ -143,7 +143,7 @@ fn first_boxless(view: &View) -> Option<Finding>
 
 /// A serial that stands in two rows, or a bag in a box that is not there.
 #[tactic(auto, using(crate::proofs::Found::bags))]
-pub(crate) fn boxless_bag(view: &View) -> Option<Finding>
+pub(crate) fn boxless_bag(view: &WholeView) -> Option<Finding>
     ensures { IsSought view.now 2 result }
 {
     first_boxless(view)

@@ -6,12 +6,12 @@ use crate::custody::{boxless_bag, lost_item};
 use crate::keys::doubled_key;
 use crate::rooms::{crowded_room, lone_person};
 use crate::seating::ill_seated_step;
-use kcr_history::{Finding, View};
+use kcr_history::{Finding, WholeView};
 use std::alloc::{AllocError, Global};
 
 /// What an audit of the rows finds: a finding of the first kind that has one, or None where nothing is to be found. Of
 /// two rows of the sheet with one person and moment the later listed counts.
-pub fn audit(alloc: Global, view: &View) -> Result<Option<Finding>, AllocError>
+pub fn audit(alloc: Global, view: &WholeView) -> Result<Option<Finding>, AllocError>
     ensures { IfOk result (IsAudit view.now) }
 {
     if let Some(found) = ill_seated_step(alloc, view)? {

@@ -4,7 +4,7 @@ ghost use Rattle.kcr_audit.specs.Sought.{IsSought};
 ghost use Rattle.kcr_audit.specs.Wrongs;
 
 use kcr_base::Key;
-use kcr_history::{Finding, KeyRow, View};
+use kcr_history::{Finding, KeyRow, WholeView};
 use std::alloc::{AllocError, Global};
 use std::collections::HashSet;
 
@@ -22,7 +22,7 @@ fn repeated(alloc: Global, rows: &[KeyRow]) -> Result<Option<Key>, AllocError>
 }
 
 /// A key that stands in two rows.
-pub(crate) fn doubled_key(alloc: Global, view: &View) -> Result<Option<Finding>, AllocError>
+pub(crate) fn doubled_key(alloc: Global, view: &WholeView) -> Result<Option<Finding>, AllocError>
     ensures { IfOk result (IsSought view.now 3) }
 {
     match repeated(alloc, &view.keys)? {

@@ -1,7 +1,7 @@
 //! What an audit finds in the tables of a register, in whatever order: functions that do nothing, whose contracts are
 //! the laws.
 ghost use Rattle.std.specs.Prelude.{None};
-ghost use Rattle.kcr_history.specs.declared.views.View.{View};
+ghost use Rattle.kcr_history.specs.declared.views.WholeView.{WholeView};
 ghost use Rattle.kcr_history.specs.Audit.{IsAudit};
 ghost use Rattle.kcr_history.specs.History.{History};
 ghost use Rattle.kcr_history.specs.Machine.{IsRegister};
@@ -12,6 +12,6 @@ ghost use Rattle.kcr_audit.specs.Whole.{tables_of};
 /// seats ask for, no key is doubled, no bag doubled or in a box that is not there, no item doubled or lost, and at no
 /// moment is somebody alone in a room, or are too many in one.
 pub fn registers_pass()
-    ensures { (A : History) → IsRegister A → (view : View) → SameTables (tables A) (tables_of view)
+    ensures { (A : History) → IsRegister A → (view : WholeView) → SameTables (tables A) (tables_of view)
         → IsAudit view None }
 {}

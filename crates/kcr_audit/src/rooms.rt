@@ -6,7 +6,7 @@ ghost use Rattle.kcr_audit.specs.Sought.{IsSought};
 ghost use Rattle.kcr_audit.specs.Rooms;
 
 use kcr_base::Moment;
-use kcr_history::{Finding, View};
+use kcr_history::{Finding, WholeView};
 use kcr_room::{SheetRow, Stay, first_lone, holds, is_crowded, stays_of};
 use std::alloc::{AllocError, Global};
 
@@ -55,7 +55,7 @@ fn lone_among(
 }
 
 /// A moment with exactly one person in the room of a ceremony.
-pub(crate) fn lone_person(alloc: Global, view: &View) -> Result<Option<Finding>, AllocError>
+pub(crate) fn lone_person(alloc: Global, view: &WholeView) -> Result<Option<Finding>, AllocError>
     ensures { IfOk result (IsSought view.now 4) }
 {
     let numbers = ceremonies_of(alloc, &view.sheet)?;
@@ -121,7 +121,7 @@ fn crowd_among(
 }
 
 /// A moment with more than 128 people in the room of a ceremony.
-pub(crate) fn crowded_room(alloc: Global, view: &View) -> Result<Option<Finding>, AllocError>
+pub(crate) fn crowded_room(alloc: Global, view: &WholeView) -> Result<Option<Finding>, AllocError>
     ensures { IfOk result (IsSought view.now 5) }
 {
     let numbers = ceremonies_of(alloc, &view.sheet)?;

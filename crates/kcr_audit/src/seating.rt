@@ -12,7 +12,7 @@ ghost use Rattle.kcr_audit.specs.Sought.{IsSought};
 ghost use Rattle.kcr_audit.specs.Wrongs;
 
 use kcr_base::{Initials, Moment, Role, not_later, same_person};
-use kcr_history::{CeremonyRow, Finding, SeatingRow, StepRow, StepState, View, fits};
+use kcr_history::{CeremonyRow, Finding, SeatingRow, StepRow, StepState, WholeView, fits};
 use kcr_room::{SheetRow, Way};
 use kcr_script::Seat;
 use std::alloc::{AllocError, Global};
@@ -64,7 +64,13 @@ fn is_in(rows: &[SheetRow], who: Initials, ceremony: u32, at: Moment) -> bool
 }
 
 /// Whether the person is in the room of the ceremony at the moment and fits the seat on its day.
-fn is_eligible(view: &View, ceremony: &CeremonyRow, at: Moment, seat: Seat, who: Initials) -> bool
+fn is_eligible(
+    view: &WholeView,
+    ceremony: &CeremonyRow,
+    at: Moment,
+    seat: Seat,
+    who: Initials,
+) -> bool
     ensures { result ≡ Audit.eligible_by view.now ceremony.now at seat who }
 {
     is_in(&view.sheet, who, ceremony.number, at)
@@ -88,7 +94,7 @@ fn is_among(people: &[Initials], who: Initials) -> bool
 
 /// Whether the people, all distinct, are each eligible for the seat in their position.
 fn is_seating(
-    view: &View,
+    view: &WholeView,
     ceremony: &CeremonyRow,
     at: Moment,
     seats: &[Seat],
@@ -204,7 +210,7 @@ fn is_done(state: StepState) -> bool
 }
 
 /// The row of the ceremony.
-fn ceremony_in(view: &View, number: u32) -> Option<CeremonyRow>
+fn ceremony_in(view: &WholeView, number: u32) -> Option<CeremonyRow>
     ensures { result ≡ Audit.ceremony_in view.now number }
 {
     view.ceremonies
@@ -215,7 +221,7 @@ fn ceremony_in(view: &View, number: u32) -> Option<CeremonyRow>
 
 /// Whether the recorded seats are numbered from 1, and the recorded people fill the step's seats, in its ceremony and
 /// at its moment.
-fn is_well_seated(alloc: Global, view: &View, row: &StepRow) -> Result<bool, AllocError>
+fn is_well_seated(alloc: Global, view: &WholeView, row: &StepRow) -> Result<bool, AllocError>
     ensures { IfOk result (λ well. well ≡ Audit.is_well_seated view.now row.now
         (Audit.ceremony_in view.now row.now.ceremony) row.now.at) }
 {
@@ -230,7 +236,7 @@ fn is_well_seated(alloc: Global, view: &View, row: &StepRow) -> Result<bool, All
 }
 
 /// Whether the step was signed or passed, and its recorded people are no seating.
-fn is_ill_seated(alloc: Global, view: &View, row: &StepRow) -> Result<bool, AllocError>
+fn is_ill_seated(alloc: Global, view: &WholeView, row: &StepRow) -> Result<bool, AllocError>
     ensures { IfOk result (λ ill. ill ≡ Wrongs.is_step_wrong view.now row.now) }
 {
     if !is_done(row.state) {
@@ -241,7 +247,7 @@ fn is_ill_seated(alloc: Global, view: &View, row: &StepRow) -> Result<bool, Allo
 }
 
 /// The first step that was signed or passed and whose recorded people are no seating.
-fn first_ill_seated(alloc: Global, view: &View) -> Result<Option<Finding>, AllocError>
+fn first_ill_seated(alloc: Global, view: &WholeView) -> Result<Option<Finding>, AllocError>
     ensures { IfOk result (λ found. found ≡ option_map (λ row. Findings.Seating row.ceremony row.step)
         (find (Wrongs.is_step_wrong view.now) view.now.steps.items)) }
 {
@@ -255,7 +261,10 @@ fn first_ill_seated(alloc: Global, view: &View) -> Result<Option<Finding>, Alloc
 
 /// A step that was signed or passed and whose recorded people are no seating of its seats.
 #[tactic(auto, using(crate::proofs::Found::steps))]
-pub(crate) fn ill_seated_step(alloc: Global, view: &View) -> Result<Option<Finding>, AllocError>
+pub(crate) fn ill_seated_step(
+    alloc: Global,
+    view: &WholeView,
+) -> Result<Option<Finding>, AllocError>
     ensures { IfOk result (IsSought view.now 0) }
 {
     first_ill_seated(alloc, view)

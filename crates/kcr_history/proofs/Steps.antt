@@ -1,11 +1,13 @@
 -- What an accepted entry tells of the history before it.
-use Rattle.std.proofs.Common.{◌≡◌, ℕ, ◌+◌, List, ◌∷◌, length, Option, Some, None, refl, ap, arith, inl, inr, MatchOption}
+use Rattle.std.proofs.Common.{◌≡◌, ℕ, ◌+◌, List, [], ◌∷◌, length, Option, Some, None, refl, ap, arith, inl, inr, MatchOption}
 use Rattle.kcr_base.specs.declared.refusal.Refusal.{Refusal}
 use Rattle.kcr_history.specs.declared.commands.Act.{Act}
 use Rattle.kcr_history.specs.declared.commands.Answer.{Answer}
 use Rattle.kcr_history.specs.declared.commands.Entry.{Entry}
 use Rattle.kcr_history.specs.History.{History, entry_of}
 use Rattle.kcr_history.specs.Conditions.{fault}
+use Rattle.kcr_history.specs.Tables.{keys}
+use Rattle.kcr_history.specs.Views.{greatest_number}
 use Rattle.kcr_history.specs.Machine.{Accepts, Sitting, sitting, answer_to, acts, repeats, seats, accepts, machine, IsRegister}
 
 -- the key was new, no condition held, and the answer is the machine's, with the people who were seated where seats were needed
@@ -55,4 +57,12 @@ pub numbers : (A : History) (entry : Entry) → IsRegister (entry ∷ A) → ent
 numbers A entry h =
     let t = took A entry h.0 in
     let e : entry.answer.accepted ≡ length A + 1 = rw t.answer (number_of_answer A entry.command.act t.people) in
+    omega arith
+
+-- the greatest number in the table of keys is how many have been accepted
+pub greatest-keys : (A : History) → IsRegister A → greatest_number (keys A) ≡ length A
+greatest-keys [] h = refl
+greatest-keys (entry ∷ A) h =
+    let number : entry.answer.accepted ≡ length (entry ∷ A) = numbers A entry h in
+    let below : greatest_number (keys A) ≡ length A = greatest-keys A h.1 in
     omega arith

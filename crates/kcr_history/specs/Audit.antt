@@ -20,20 +20,20 @@ use Rattle.kcr_history.specs.declared.rows.StepState.{StepState}
 use Rattle.kcr_history.specs.declared.rows.StepState.TheVariants.{Undone}
 use Rattle.kcr_history.specs.declared.views.Finding.{Finding}
 use Rattle.kcr_history.specs.declared.views.Finding.TheVariants as Findings
-use Rattle.kcr_history.specs.declared.views.View.{View}
+use Rattle.kcr_history.specs.declared.views.WholeView.{WholeView}
 use Rattle.kcr_history.specs.Prints.{seatings_at, seated_at, seats_filled}
 use Rattle.kcr_history.specs.Fitting.{fits_by}
 
 -- SEATINGS, BY THE ROWS
 
 -- the person is in the room of the ceremony at t and fits the seat on its day
-abbrev pub eligible_by : View → CeremonyRow → ℕ → Seat → List ℕ → Bool
+abbrev pub eligible_by : WholeView → CeremonyRow → ℕ → Seat → List ℕ → Bool
 eligible_by view ceremony t seat who =
     in_by view.sheet.items who ceremony.number t
     && fits_by view.trainings.items view.withdrawals.items view.appointments.items ceremony.facility (day_of t) seat who
 
 -- the people, all distinct, are each eligible for the seat in their position
-abbrev pub is_seating_by : View → CeremonyRow → ℕ → List Seat → List (List ℕ) → Bool
+abbrev pub is_seating_by : WholeView → CeremonyRow → ℕ → List Seat → List (List ℕ) → Bool
 is_seating_by view ceremony t [] [] = true
 is_seating_by view ceremony t (seat ∷ seats) (who ∷ people) =
     eligible_by view ceremony t seat who && not (list_any (same_text who) people)
@@ -52,18 +52,18 @@ are_numbered seat (row ∷ rows) = row.seat == seat && are_numbered (suc seat) r
 
 -- the recorded seats are numbered from 1, and the recorded people fill the step's seats, in its ceremony and at its
 -- moment
-abbrev pub is_well_seated : View → StepRow → Option CeremonyRow → Option ℕ → Bool
+abbrev pub is_well_seated : WholeView → StepRow → Option CeremonyRow → Option ℕ → Bool
 is_well_seated view row (Some ceremony) (Some t) =
     are_numbered 1 (seatings_at view.seatings.items row.ceremony row.step)
     && is_seating_by view ceremony t (seats_filled row) (seated_at view.seatings.items row.ceremony row.step)
 is_well_seated view row ceremony at = false
 
 -- the row of the ceremony
-abbrev pub ceremony_in : View → ℕ → Option CeremonyRow
+abbrev pub ceremony_in : WholeView → ℕ → Option CeremonyRow
 ceremony_in view number = find (λ row. row.number == number) view.ceremonies.items
 
 -- the row is of this step, which was signed or passed, and its recorded people are no seating
-abbrev pub is_ill_seated : View → ℕ → ℕ → StepRow → Bool
+abbrev pub is_ill_seated : WholeView → ℕ → ℕ → StepRow → Bool
 is_ill_seated view ceremony step row =
     row.ceremony == ceremony && row.step == step && is_done row.state
     && not (is_well_seated view row (ceremony_in view row.ceremony) row.at)
@@ -71,16 +71,16 @@ is_ill_seated view ceremony step row =
 -- CUSTODY, BY THE ROWS
 
 -- there is a row of the bag that says it is not spent
-abbrev pub is_bag_there : View → List ℕ → Bool
+abbrev pub is_bag_there : WholeView → List ℕ → Bool
 is_bag_there view serial = list_any (λ bag. same_text bag.serial serial && holds_items (Some bag.spot)) view.bags.items
 
 -- the item is within a bag that is spent or not there
-abbrev pub is_lost : View → Rest → Bool
+abbrev pub is_lost : WholeView → Rest → Bool
 is_lost view (Loose facility) = false
 is_lost view (Within serial) = not (is_bag_there view serial)
 
 -- the bag is in a box that is not there
-abbrev pub is_unboxed : View → Spot → Bool
+abbrev pub is_unboxed : WholeView → Spot → Bool
 is_unboxed view (InBox facility number) = not (list_any (is_box facility number) view.boxes.items)
 is_unboxed view spot = false
 
@@ -91,7 +91,7 @@ is_doubled test rows = nat_lt 1 (count_by test rows)
 -- FINDINGS
 
 -- the finding is true of the rows
-abbrev pub IsTrueOf : View → Finding → Type 0
+abbrev pub IsTrueOf : WholeView → Finding → Type 0
 IsTrueOf view (Findings.Seating ceremony step) = IsTrue (list_any (is_ill_seated view ceremony step) view.steps.items)
 IsTrueOf view (Findings.Custody item) =
     IsTrue (is_doubled (λ row. same_text row.code item) view.items.items
@@ -113,7 +113,7 @@ rank (Findings.Lone ceremony moment) = 4
 rank (Findings.Crowd ceremony moment) = 5
 
 -- what an audit answers: a finding that is true of the rows, while none of an earlier kind is; None where none is true
-abbrev pub IsAudit : View → Option Finding → Type 0
+abbrev pub IsAudit : WholeView → Option Finding → Type 0
 IsAudit view None = (finding : Finding) → IsTrueOf view finding → ⊥
 IsAudit view (Some found) =
     IsTrueOf view found × ((other : Finding) → rank other < rank found → IsTrueOf view other → ⊥)

@@ -5,12 +5,12 @@ ghost use Rattle.kcr_history.specs.Asked;
 use crate::commands::{Act, Command};
 use crate::lists::{InitialsList, ItemList};
 use crate::views::{AppointmentsOf, Asks, ItemsOf, Selection, StaysOf};
-use kcr_base::{CeremonyNumber, Initials, ItemCode, Items, Key, People, Place, Serial};
+use kcr_base::{CeremonyNumber, Initials, ItemCode, Items, People, Place, Serial};
 use std::alloc::{AllocError, Global};
 
-/// No rows but those of the key.
-fn asks_nothing(key: &Key) -> Asks
-    ensures { result ≡ Asked.asks_nothing key.now }
+/// No rows.
+fn asks_nothing() -> Asks
+    ensures { result ≡ Asked.asks_nothing }
 {
     Asks {
         people: Selection::Nothing,
@@ -26,7 +26,6 @@ fn asks_nothing(key: &Key) -> Asks
         steps: Selection::Nothing,
         exceptions: Selection::Nothing,
         stays: Selection::Nothing,
-        key: *key,
     }
 }
 
@@ -49,10 +48,10 @@ fn only_item(alloc: Global, item: ItemCode) -> Result<ItemList, AllocError>
 }
 
 /// The ceremony with its mark, the stays in its room, and of these people the last stay anywhere.
-fn asks_room(key: &Key, ceremony: CeremonyNumber, people: InitialsList) -> Asks
-    ensures { result ≡ Asked.asks_room key.now ceremony people }
+fn asks_room(ceremony: CeremonyNumber, people: InitialsList) -> Asks
+    ensures { result ≡ Asked.asks_room ceremony people }
 {
-    let mut asks = asks_nothing(key);
+    let mut asks = asks_nothing();
     asks.ceremonies = Selection::Under(ceremony.get());
     asks.marks = Selection::Under(ceremony.get());
     asks.stays = Selection::Under(StaysOf {
@@ -63,20 +62,20 @@ fn asks_room(key: &Key, ceremony: CeremonyNumber, people: InitialsList) -> Asks
 }
 
 /// The same of nobody in particular, and whatever tells who in the room is trained.
-fn asks_trained(alloc: Global, key: &Key, ceremony: CeremonyNumber) -> Asks
-    ensures { result ≡ Asked.asks_trained key.now ceremony }
+fn asks_trained(alloc: Global, ceremony: CeremonyNumber) -> Asks
+    ensures { result ≡ Asked.asks_trained ceremony }
 {
-    let mut asks = asks_room(key, ceremony, InitialsList::new(Vec::new(alloc)));
+    let mut asks = asks_room(ceremony, InitialsList::new(Vec::new(alloc)));
     asks.trainings = Selection::All;
     asks.withdrawals = Selection::All;
     asks
 }
 
 /// The bag, the safes, the boxes and the holders of their places.
-fn asks_bag(alloc: Global, key: &Key, ceremony: CeremonyNumber, serial: Serial) -> Asks
-    ensures { result ≡ Asked.asks_bag key.now ceremony serial }
+fn asks_bag(alloc: Global, ceremony: CeremonyNumber, serial: Serial) -> Asks
+    ensures { result ≡ Asked.asks_bag ceremony serial }
 {
-    let mut asks = asks_trained(alloc, key, ceremony);
+    let mut asks = asks_trained(alloc, ceremony);
     asks.bags = Selection::Under(serial);
     asks.safes = true;
     asks.boxes = true;
@@ -85,29 +84,29 @@ fn asks_bag(alloc: Global, key: &Key, ceremony: CeremonyNumber, serial: Serial) 
 }
 
 /// The person.
-fn asks_person(alloc: Global, key: &Key, who: Initials) -> Result<Asks, AllocError>
-    ensures { IfOk result (λ asks. asks ≡ Asked.asks_person key.now who) }
+fn asks_person(alloc: Global, who: Initials) -> Result<Asks, AllocError>
+    ensures { IfOk result (λ asks. asks ≡ Asked.asks_person who) }
 {
-    let mut asks = asks_nothing(key);
+    let mut asks = asks_nothing();
     asks.people = Selection::Under(only(alloc, who)?);
     Ok(asks)
 }
 
 /// The person, their trainings and their appointments.
-fn asks_to_train(alloc: Global, key: &Key, who: Initials) -> Result<Asks, AllocError>
-    ensures { IfOk result (λ asks. asks ≡ Asked.asks_to_train key.now who) }
+fn asks_to_train(alloc: Global, who: Initials) -> Result<Asks, AllocError>
+    ensures { IfOk result (λ asks. asks ≡ Asked.asks_to_train who) }
 {
-    let mut asks = asks_person(alloc, key, who)?;
+    let mut asks = asks_person(alloc, who)?;
     asks.trainings = Selection::Under(who);
     asks.appointments = Selection::Under(AppointmentsOf::Person(who));
     Ok(asks)
 }
 
 /// The person, their trainings and withdrawals, and the marks, which settle days.
-fn asks_to_withdraw(alloc: Global, key: &Key, who: Initials) -> Result<Asks, AllocError>
-    ensures { IfOk result (λ asks. asks ≡ Asked.asks_to_withdraw key.now who) }
+fn asks_to_withdraw(alloc: Global, who: Initials) -> Result<Asks, AllocError>
+    ensures { IfOk result (λ asks. asks ≡ Asked.asks_to_withdraw who) }
 {
-    let mut asks = asks_person(alloc, key, who)?;
+    let mut asks = asks_person(alloc, who)?;
     asks.trainings = Selection::Under(who);
     asks.withdrawals = Selection::Under(who);
     asks.marks = Selection::All;
@@ -115,10 +114,10 @@ fn asks_to_withdraw(alloc: Global, key: &Key, who: Initials) -> Result<Asks, All
 }
 
 /// The person and their trainings, the appointments and the marks.
-fn asks_to_appoint(alloc: Global, key: &Key, who: Initials) -> Result<Asks, AllocError>
-    ensures { IfOk result (λ asks. asks ≡ Asked.asks_to_appoint key.now who) }
+fn asks_to_appoint(alloc: Global, who: Initials) -> Result<Asks, AllocError>
+    ensures { IfOk result (λ asks. asks ≡ Asked.asks_to_appoint who) }
 {
-    let mut asks = asks_person(alloc, key, who)?;
+    let mut asks = asks_person(alloc, who)?;
     asks.trainings = Selection::Under(who);
     asks.appointments = Selection::All;
     asks.marks = Selection::All;
@@ -126,52 +125,47 @@ fn asks_to_appoint(alloc: Global, key: &Key, who: Initials) -> Result<Asks, Allo
 }
 
 /// The appointments of the place, and the marks.
-fn asks_to_release(key: &Key, place: Place) -> Asks
-    ensures { result ≡ Asked.asks_to_release key.now place }
+fn asks_to_release(place: Place) -> Asks
+    ensures { result ≡ Asked.asks_to_release place }
 {
-    let mut asks = asks_nothing(key);
+    let mut asks = asks_nothing();
     asks.appointments = Selection::Under(AppointmentsOf::Place(place));
     asks.marks = Selection::All;
     asks
 }
 
 /// All boxes.
-fn asks_boxes(key: &Key) -> Asks
-    ensures { result ≡ Asked.asks_boxes key.now }
+fn asks_boxes() -> Asks
+    ensures { result ≡ Asked.asks_boxes }
 {
-    let mut asks = asks_nothing(key);
+    let mut asks = asks_nothing();
     asks.boxes = true;
     asks
 }
 
 /// The item, beside who in the room is trained.
-fn asks_to_add(
-    alloc: Global,
-    key: &Key,
-    ceremony: CeremonyNumber,
-    item: ItemCode,
-) -> Result<Asks, AllocError>
-    ensures { IfOk result (λ asks. asks ≡ Asked.asks_to_add key.now ceremony item) }
+fn asks_to_add(alloc: Global, ceremony: CeremonyNumber, item: ItemCode) -> Result<Asks, AllocError>
+    ensures { IfOk result (λ asks. asks ≡ Asked.asks_to_add ceremony item) }
 {
-    let mut asks = asks_trained(alloc, key, ceremony);
+    let mut asks = asks_trained(alloc, ceremony);
     asks.items = Selection::Under(ItemsOf::Codes(only_item(alloc, item)?));
     Ok(asks)
 }
 
 /// The ceremonies that are asked for, alone.
-fn asks_ceremonies(key: &Key, ceremonies: Selection<u32>) -> Asks
-    ensures { result ≡ Asked.asks_ceremonies key.now ceremonies }
+fn asks_ceremonies(ceremonies: Selection<u32>) -> Asks
+    ensures { result ≡ Asked.asks_ceremonies ceremonies }
 {
-    let mut asks = asks_nothing(key);
+    let mut asks = asks_nothing();
     asks.ceremonies = ceremonies;
     asks
 }
 
 /// The room, the steps, the safes and the bags.
-fn asks_to_close(alloc: Global, key: &Key, ceremony: CeremonyNumber) -> Asks
-    ensures { result ≡ Asked.asks_to_close key.now ceremony }
+fn asks_to_close(alloc: Global, ceremony: CeremonyNumber) -> Asks
+    ensures { result ≡ Asked.asks_to_close ceremony }
 {
-    let mut asks = asks_room(key, ceremony, InitialsList::new(Vec::new(alloc)));
+    let mut asks = asks_room(ceremony, InitialsList::new(Vec::new(alloc)));
     asks.steps = Selection::Under(ceremony.get());
     asks.safes = true;
     asks.bags = Selection::All;
@@ -179,50 +173,40 @@ fn asks_to_close(alloc: Global, key: &Key, ceremony: CeremonyNumber) -> Asks
 }
 
 /// The people, with the room and their last stays anywhere.
-fn asks_sheet(
-    alloc: Global,
-    key: &Key,
-    ceremony: CeremonyNumber,
-    people: &People,
-) -> Result<Asks, AllocError>
-    ensures { IfOk result (λ asks. asks ≡ Asked.asks_sheet key.now ceremony people.now) }
+fn asks_sheet(alloc: Global, ceremony: CeremonyNumber, people: &People) -> Result<Asks, AllocError>
+    ensures { IfOk result (λ asks. asks ≡ Asked.asks_sheet ceremony people.now) }
 {
     let people = people.as_slice();
-    let mut asks = asks_room(key, ceremony, InitialsList::copy_of(alloc, people)?);
+    let mut asks = asks_room(ceremony, InitialsList::copy_of(alloc, people)?);
     asks.people = Selection::Under(InitialsList::copy_of(alloc, people)?);
     Ok(asks)
 }
 
 /// The steps and the appointments, beside who in the room is trained.
-fn asks_to_sign(alloc: Global, key: &Key, ceremony: CeremonyNumber) -> Asks
-    ensures { result ≡ Asked.asks_to_sign key.now ceremony }
+fn asks_to_sign(alloc: Global, ceremony: CeremonyNumber) -> Asks
+    ensures { result ≡ Asked.asks_to_sign ceremony }
 {
-    let mut asks = asks_trained(alloc, key, ceremony);
+    let mut asks = asks_trained(alloc, ceremony);
     asks.steps = Selection::Under(ceremony.get());
     asks.appointments = Selection::All;
     asks
 }
 
 /// The steps and the exceptions, beside who in the room is trained.
-fn asks_to_except(alloc: Global, key: &Key, ceremony: CeremonyNumber) -> Asks
-    ensures { result ≡ Asked.asks_to_except key.now ceremony }
+fn asks_to_except(alloc: Global, ceremony: CeremonyNumber) -> Asks
+    ensures { result ≡ Asked.asks_to_except ceremony }
 {
-    let mut asks = asks_trained(alloc, key, ceremony);
+    let mut asks = asks_trained(alloc, ceremony);
     asks.steps = Selection::Under(ceremony.get());
     asks.exceptions = Selection::Under(ceremony.get());
     asks
 }
 
 /// Who opens or shuts a safe, with their trainings, the room and the safes.
-fn asks_to_turn(
-    alloc: Global,
-    key: &Key,
-    ceremony: CeremonyNumber,
-    by: Initials,
-) -> Result<Asks, AllocError>
-    ensures { IfOk result (λ asks. asks ≡ Asked.asks_to_turn key.now ceremony by) }
+fn asks_to_turn(alloc: Global, ceremony: CeremonyNumber, by: Initials) -> Result<Asks, AllocError>
+    ensures { IfOk result (λ asks. asks ≡ Asked.asks_to_turn ceremony by) }
 {
-    let mut asks = asks_room(key, ceremony, InitialsList::new(Vec::new(alloc)));
+    let mut asks = asks_room(ceremony, InitialsList::new(Vec::new(alloc)));
     asks.people = Selection::Under(only(alloc, by)?);
     asks.trainings = Selection::Under(by);
     asks.withdrawals = Selection::Under(by);
@@ -231,16 +215,10 @@ fn asks_to_turn(
 }
 
 /// The bag and the items asked for, beside who in the room is trained.
-fn asks_items(
-    alloc: Global,
-    key: &Key,
-    ceremony: CeremonyNumber,
-    serial: Serial,
-    items: ItemsOf,
-) -> Asks
-    ensures { result ≡ Asked.asks_items key.now ceremony serial items }
+fn asks_items(alloc: Global, ceremony: CeremonyNumber, serial: Serial, items: ItemsOf) -> Asks
+    ensures { result ≡ Asked.asks_items ceremony serial items }
 {
-    let mut asks = asks_trained(alloc, key, ceremony);
+    let mut asks = asks_trained(alloc, ceremony);
     asks.bags = Selection::Under(serial);
     asks.items = Selection::Under(items);
     asks
@@ -249,58 +227,57 @@ fn asks_items(
 /// The same with these items.
 fn asks_sealed(
     alloc: Global,
-    key: &Key,
     ceremony: CeremonyNumber,
     serial: Serial,
     items: &Items,
 ) -> Result<Asks, AllocError>
-    ensures { IfOk result (λ asks. asks ≡ Asked.asks_sealed key.now ceremony serial items.now) }
+    ensures { IfOk result (λ asks. asks ≡ Asked.asks_sealed ceremony serial items.now) }
 {
     let codes = ItemsOf::Codes(ItemList::copy_of(alloc, items.as_slice())?);
-    Ok(asks_items(alloc, key, ceremony, serial, codes))
+    Ok(asks_items(alloc, ceremony, serial, codes))
 }
 
-/// What an act asks for, under its key.
-fn asks_by(alloc: Global, key: &Key, act: &Act) -> Result<Asks, AllocError>
-    ensures { IfOk result (λ asks. asks ≡ Asked.asks_by key.now act.now) }
+/// What an act asks for.
+fn asks_by(alloc: Global, act: &Act) -> Result<Asks, AllocError>
+    ensures { IfOk result (λ asks. asks ≡ Asked.asks_by act.now) }
 {
     match act {
-        Act::Enter { who, .. } => asks_person(alloc, key, *who),
-        Act::Train { who, .. } => asks_to_train(alloc, key, *who),
-        Act::Withdraw { who, .. } => asks_to_withdraw(alloc, key, *who),
-        Act::Appoint { who, .. } => asks_to_appoint(alloc, key, *who),
-        Act::Replace { who, .. } => asks_to_appoint(alloc, key, *who),
-        Act::Release { place, .. } => Ok(asks_to_release(key, *place)),
-        Act::AddBox { .. } => Ok(asks_boxes(key)),
-        Act::AddItem { ceremony, item, .. } => asks_to_add(alloc, key, *ceremony, *item),
-        Act::Plan { number, .. } => Ok(asks_ceremonies(key, Selection::Under(number.get()))),
-        Act::Open { .. } => Ok(asks_ceremonies(key, Selection::All)),
-        Act::Close { ceremony, .. } => Ok(asks_to_close(alloc, key, *ceremony)),
-        Act::Sheet { ceremony, who, .. } => asks_sheet(alloc, key, *ceremony, who),
-        Act::Sign { ceremony, .. } => Ok(asks_to_sign(alloc, key, *ceremony)),
-        Act::Except { ceremony, .. } => Ok(asks_to_except(alloc, key, *ceremony)),
-        Act::TurnSafe { ceremony, by, .. } => asks_to_turn(alloc, key, *ceremony, *by),
+        Act::Enter { who, .. } => asks_person(alloc, *who),
+        Act::Train { who, .. } => asks_to_train(alloc, *who),
+        Act::Withdraw { who, .. } => asks_to_withdraw(alloc, *who),
+        Act::Appoint { who, .. } => asks_to_appoint(alloc, *who),
+        Act::Replace { who, .. } => asks_to_appoint(alloc, *who),
+        Act::Release { place, .. } => Ok(asks_to_release(*place)),
+        Act::AddBox { .. } => Ok(asks_boxes()),
+        Act::AddItem { ceremony, item, .. } => asks_to_add(alloc, *ceremony, *item),
+        Act::Plan { number, .. } => Ok(asks_ceremonies(Selection::Under(number.get()))),
+        Act::Open { .. } => Ok(asks_ceremonies(Selection::All)),
+        Act::Close { ceremony, .. } => Ok(asks_to_close(alloc, *ceremony)),
+        Act::Sheet { ceremony, who, .. } => asks_sheet(alloc, *ceremony, who),
+        Act::Sign { ceremony, .. } => Ok(asks_to_sign(alloc, *ceremony)),
+        Act::Except { ceremony, .. } => Ok(asks_to_except(alloc, *ceremony)),
+        Act::TurnSafe { ceremony, by, .. } => asks_to_turn(alloc, *ceremony, *by),
         Act::Seal {
             ceremony,
             serial,
             items,
             ..
-        } => { asks_sealed(alloc, key, *ceremony, *serial, items) }
+        } => { asks_sealed(alloc, *ceremony, *serial, items) }
         Act::Take {
             ceremony,
             serial,
             ..
-        } => Ok(asks_bag(alloc, key, *ceremony, *serial)),
+        } => Ok(asks_bag(alloc, *ceremony, *serial)),
         Act::Put {
             ceremony,
             serial,
             ..
-        } => Ok(asks_bag(alloc, key, *ceremony, *serial)),
+        } => Ok(asks_bag(alloc, *ceremony, *serial)),
         Act::Cut {
             ceremony,
             serial,
             ..
-        } => { Ok(asks_items(alloc, key, *ceremony, *serial, ItemsOf::Bag(*serial))) }
+        } => { Ok(asks_items(alloc, *ceremony, *serial, ItemsOf::Bag(*serial))) }
     }
 }
 
@@ -311,5 +288,5 @@ fn asks_by(alloc: Global, key: &Key, act: &Act) -> Result<Asks, AllocError>
 pub fn asks(alloc: Global, command: &Command) -> Result<Asks, AllocError>
     ensures { IfOk result (λ asks. asks ≡ Asked.asks_of command.now) }
 {
-    asks_by(alloc, &command.key, &command.act)
+    asks_by(alloc, &command.act)
 }

@@ -39,5 +39,5 @@ pub use rows::{
 };
 pub use texts::command_text;
 pub use views::{
-    AppointmentsOf, Asks, Change, Finding, ItemsOf, Selection, StaysOf, Verdict, View,
+    AppointmentsOf, Asks, Change, Finding, ItemsOf, Selection, StaysOf, Verdict, View, WholeView,
 };

@@ -1,4 +1,4 @@
-//! The rows that a decision reads, and those that it puts.
+//! The rows that a decision reads, and those that it puts; all rows, which an audit reads.
 use crate::commands::{Answer, Reply};
 use crate::lists::{InitialsList, ItemList};
 use crate::rows::{CeremonyRow, ExceptionRow, KeyRow, MarkRow, SeatingRow, StepRow};
@@ -7,9 +7,29 @@ use kcr_custody::{Bag, BoxRow, Item, SafeRow};
 use kcr_people::{Appointment, Person, Training, Withdrawal};
 use kcr_room::{SheetRow, Stay};
 
-/// Rows of the register's tables, one list for each table, each in any order.
+/// Rows that a decision reads, one list for each table, each in any order; and how many commands were accepted, as the
+/// number of the last one, 0 where there is none.
 #[derive(Drop)]
 pub struct View {
+    pub people: Vec<Person>,
+    pub trainings: Vec<Training>,
+    pub withdrawals: Vec<Withdrawal>,
+    pub appointments: Vec<Appointment>,
+    pub boxes: Vec<BoxRow>,
+    pub safes: Vec<SafeRow>,
+    pub bags: Vec<Bag>,
+    pub items: Vec<Item>,
+    pub ceremonies: Vec<CeremonyRow>,
+    pub marks: Vec<MarkRow>,
+    pub steps: Vec<StepRow>,
+    pub stays: Vec<Stay>,
+    pub exceptions: Vec<ExceptionRow>,
+    pub accepted: u32,
+}
+
+/// All rows of the register's tables, one list for each table, each in any order.
+#[derive(Drop)]
+pub struct WholeView {
     pub people: Vec<Person>,
     pub trainings: Vec<Training>,
     pub withdrawals: Vec<Withdrawal>,
@@ -62,8 +82,7 @@ pub struct StaysOf {
     pub people: InitialsList,
 }
 
-/// The rows that a decision reads. Of the accepted commands these are always two: the row of the key, if there is
-/// one, and the row with the greatest number.
+/// Which rows a decision reads.
 #[derive(Drop)]
 pub struct Asks {
     /// People, under their initials.
@@ -89,8 +108,6 @@ pub struct Asks {
     /// The exceptions of a ceremony.
     pub exceptions: Selection<u32>,
     pub stays: Selection<StaysOf>,
-    /// The key of the command.
-    pub key: Key,
 }
 
 /// A whole row that is put into its table, new or in place of the row that has its key. No row is ever removed.
