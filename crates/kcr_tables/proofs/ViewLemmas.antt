@@ -1,7 +1,9 @@
 -- The rows that are read are those that a decision asks for.
-use Rattle.std.proofs.Common.{◌≡◌, inl, inr, ◌≤◌, Bool, true, false, ℕ, List, [], ◌∷◌, ◌++◌, filter, refl, sym, ap, subst, ◌∙◌, arith, IsPermutation}
+use Rattle.std.proofs.Common.{◌≡◌, inl, inr, ◌≤◌, Bool, true, false, cond, ℕ, List, [], ◌∷◌, filter, find, slice_get, Option, Some, None, refl, sym, ap, subst, ◌∙◌, arith}
+use Rattle.std.proofs.Common.{IsPermutation}
 use Rattle.std.proofs.lemmas.Slice.Eq.{bytes_eq-Decides}
 use Rattle.std.proofs.lemmas.List.Sorted.{IsPermutation-sym, IsPermutation-trans}
+use Rattle.sqlite.specs.Effect.{Database}
 use Rattle.sqlite_rules.specs.Lists.{Has}
 use Rattle.sqlite_rules.proofs.ListLemmas.{all_has}
 use Rattle.sqlite_trees.proofs.ListLemmas.{IsPermutation-filter}
@@ -16,9 +18,9 @@ use Rattle.kcr_history.specs.Tables as machine
 use Rattle.kcr_cells.specs.Rows.{key_row}
 use Rattle.kcr_tables.specs.Held.{Tables}
 use Rattle.kcr_tables.specs.Asked.{asked_of, asked_all}
-use Rattle.kcr_tables.specs.Joint.{Stands}
-use Rattle.kcr_tables.proofs.JointLemmas.{Rises, key_of_keys}
-use Rattle.kcr_tables.proofs.HasLemmas.{find_same, one_key_of, has_append, has_left, has_right, filter_from, filter_to}
+use Rattle.kcr_tables.specs.Joint.{HoldsTables}
+use Rattle.kcr_tables.proofs.JointLemmas.{kept_rises, key_of_keys}
+use Rattle.kcr_tables.proofs.HasLemmas.{find_same, one_key_of}
 use Rattle.kcr_tables.proofs.NamedLemmas.{twice}
 
 -- ---- rows under a key, or all
@@ -62,44 +64,50 @@ no_rows (x ∷ xs) h = absurd (h x (inl refl))
 same_texts : (key a b : List ℕ) → same_text a key ≡ true → same_text b key ≡ true → same_text a b ≡ true
 same_texts key a b p q = (bytes_eq-Decides a b).1 ((bytes_eq-Decides a key).0 p ∙ sym ((bytes_eq-Decides b key).0 q))
 
--- ---- the row of the key, and the greatest number
+-- the first that passes is the first of those that pass
+first_passing : {X : Type 0} (p : X → Bool) (xs : List X) → slice_get (filter p xs) 0 ≡ find p xs
+first_passing p [] = refl
+first_passing p (x ∷ xs) = elim (p x) as (λ b. slice_get (cond b (x ∷ filter p xs) (filter p xs)) 0 ≡ cond b (Some x) (find p xs)) [
+  | true ↦ refl
+  | false ↦ first_passing p xs
+]
 
-module _ (m : machine.Tables) (t : Tables) (stands : Stands m t) (rises : Rises t) (key : List ℕ) (last : List KeyRow) (greatest : IsGreatest (λ x. x.accepted) t.keys last) where
-  abbrev shown : List KeyRow
-  shown = filter (is_of_key key) t.keys ++ last
+-- ---- the row of a key, and the greatest number
 
-  last_there : (x : KeyRow) → Has last x → Has t.keys x
-  last_there x h = elim greatest [
-    | inl none ↦ absurd (subst (λ l. Has l x) none.1 h)
-    | inr some ↦ elim (subst (λ l. Has l x) some.1 h) [ inl same ↦ subst (Has t.keys) (sym same) some.2 | inr none ↦ absurd none ]
-  ]
+-- the number that the row of the last command tells, 0 where there is none
+abbrev pub told : Option KeyRow → ℕ
+told None = 0
+told (Some row) = row.accepted
 
-  shown_there : (x : KeyRow) → Has shown x → Has t.keys x
-  shown_there x h = elim (has_append (filter (is_of_key key) t.keys) last x h) [ inl a ↦ filter_from (is_of_key key) t.keys x a | inr b ↦ last_there x b ]
+module _ (m : machine.Tables) (db : Database) (h : HoldsTables m db) where
+  abbrev t : Tables
+  t = h.tables.t
 
   mine : (x : KeyRow) → Has t.keys x → Has m.keys x
-  mine x h = has_same t.keys m.keys x (IsPermutation-sym _ _ stands.keys) h
+  mine x there = has_same t.keys m.keys x (IsPermutation-sym _ _ h.tables.stands.keys) there
 
   theirs : (x : KeyRow) → Has m.keys x → Has t.keys x
-  theirs x h = has_same m.keys t.keys x stands.keys h
+  theirs x there = has_same m.keys t.keys x h.tables.stands.keys there
 
   -- two rows under the key are one
-  one_row : (x y : KeyRow) → Has t.keys x → Has t.keys y → is_of_key key x ≡ true → is_of_key key y ≡ true → x ≡ y
-  one_row x y h k p q = one_key_of 1 key_row t.keys rises.keys x y h k (sym (key_of_keys y x) ∙ same_texts key x.key y.key p q)
+  one_row : (key : List ℕ) (x y : KeyRow) → Has t.keys x → Has t.keys y → is_of_key key x ≡ true → is_of_key key y ≡ true → x ≡ y
+  one_row key x y a b p q =
+      one_key_of 1 key_row t.keys (kept_rises db.trees t h.tables.kept).keys x y a b (sym (key_of_keys y x) ∙ same_texts key x.key y.key p q)
 
-  pub key_row_is : row_of_key key shown ≡ row_of_key key m.keys
-  key_row_is =
-      find_same (is_of_key key) shown m.keys (λ x h is. mine x (shown_there x h)) (λ y h is. has_left (filter (is_of_key key) t.keys) last y (filter_to (is_of_key key) t.keys y (theirs y h) is))
-      (λ x y h k p q. one_row x y (theirs x h) (theirs y k) p q)
+  -- of the rows under a key the first is the key's
+  pub row_under : (key : List ℕ) (rows : List KeyRow) → rows ≡ filter (is_of_key key) t.keys → slice_get rows 0 ≡ row_of_key key m.keys
+  row_under key rows is =
+      ap (λ (l : List KeyRow). slice_get l 0) is ∙ first_passing (is_of_key key) t.keys
+      ∙ find_same (is_of_key key) t.keys m.keys (λ x a _. mine x a) (λ y a _. theirs y a)
+      (λ x y a b p q. one_row key x y (theirs x a) (theirs y b) p q)
 
-  pub greatest_same : greatest_number shown ≡ greatest_number m.keys
-  greatest_same = elim greatest [
+  -- the row with the greatest number tells that number
+  pub greatest_told : (last : List KeyRow) → IsGreatest (λ x. x.accepted) t.keys last → told (slice_get last 0) ≡ greatest_number m.keys
+  greatest_told last greatest = elim greatest [
     | inl none ↦ (
-        let bare : shown ≡ [] = no_rows shown (λ x h. subst (λ l. Has l x) none.0 (shown_there x h)) in
-        let mines : m.keys ≡ [] = no_rows m.keys (λ x h. subst (λ l. Has l x) none.0 (theirs x h)) in
-        ap greatest_number bare ∙ sym (ap greatest_number mines))
+        let bare : m.keys ≡ [] = no_rows m.keys (λ x a. subst (λ l. Has l x) none.0 (theirs x a)) in
+        ap (λ (l : List KeyRow). told (slice_get l 0)) none.1 ∙ sym (ap greatest_number bare))
     | inr some ↦ (
-        let top = λ (x : KeyRow) (h : Has t.keys x). all_has (λ (y : KeyRow). y.accepted ≤ some.0.accepted) t.keys x some.3 h in
-        let here : Has shown some.0 = has_right (filter (is_of_key key) t.keys) last some.0 (subst (λ l. Has l some.0) (sym some.1) (inl refl)) in
-        greatest_is shown some.0 here (λ x h. top x (shown_there x h)) ∙ sym (greatest_is m.keys some.0 (mine some.0 some.2) (λ x h. top x (theirs x h))))
+        let top = λ (x : KeyRow) (a : Has t.keys x). all_has (λ (y : KeyRow). y.accepted ≤ some.0.accepted) t.keys x some.3 a in
+        ap (λ (l : List KeyRow). told (slice_get l 0)) some.1 ∙ sym (greatest_is m.keys some.0 (mine some.0 some.2) (λ x a. top x (theirs x a))))
   ]

@@ -21,7 +21,6 @@ use Rattle.kcr_history.specs.declared.rows.CeremonyRow.{CeremonyRow}
 use Rattle.kcr_history.specs.declared.rows.MarkRow.{MarkRow}
 use Rattle.kcr_history.specs.declared.rows.StepRow.{StepRow}
 use Rattle.kcr_history.specs.declared.rows.ExceptionRow.{ExceptionRow}
-use Rattle.kcr_history.specs.declared.rows.KeyRow.{KeyRow}
 use Rattle.kcr_history.specs.declared.views.AppointmentsOf.{AppointmentsOf}
 use Rattle.kcr_history.specs.declared.views.AppointmentsOf.TheVariants as Appointments
 use Rattle.kcr_history.specs.declared.views.Asks.{Asks}
@@ -33,11 +32,11 @@ use Rattle.kcr_history.specs.declared.views.View.{View}
 use Rattle.kcr_rows.specs.Keyed.{Place, cells}
 use Rattle.kcr_rows.proofs.FilterLemmas.{has_value}
 use Rattle.kcr_cells.specs.Rows.{person_row, training_row, appointment_row, box_row, safe_row, bag_row, item_row}
-use Rattle.kcr_cells.specs.Rows.{ceremony_row, mark_row, step_row, exception_row, key_row, stay_row, withdrawal_row}
+use Rattle.kcr_cells.specs.Rows.{ceremony_row, mark_row, step_row, exception_row, stay_row, withdrawal_row}
 use Rattle.kcr_tables.specs.Asked.{asked_of, asked_all}
 use Rattle.kcr_tables.specs.Held.{people_place, trainings_place, appointments_place, boxes_place, safes_place}
 use Rattle.kcr_tables.specs.Held.{bags_place, items_place, ceremonies_place, marks_place, steps_place, exceptions_place}
-use Rattle.kcr_tables.specs.Held.{keys_place, stays_place, withdrawals_place}
+use Rattle.kcr_tables.specs.Held.{stays_place, withdrawals_place}
 
 -- the rows of a table, whatever they are
 abbrev pub rows_at : Place → Trees → List Row
@@ -112,13 +111,8 @@ pub record CeremoniesAreShown (asks : Asks) (ceremonies : List CeremonyRow) (mar
   pub exceptions_are : AskedAreShown exception_row exceptions_place (has_number 0) asks.exceptions exceptions db
   pub stays_are : AskedAreShown stay_row stays_place is_stay_row asks.stays stays db
 
--- the rows under the key of the command
-abbrev pub KeyIsShown : List ℕ → List KeyRow → Trees → Type 0
-KeyIsShown key shown db = AreShown key_row shown (filter (has_text 0 key) (rows_at keys_place db))
-
 -- every row asked for, of each table, is the row of a value in the view
 pub record NoneIsStrange (asks : Asks) (view : View) (db : Trees) : Type 0 where
-  pub keys : KeyIsShown asks.key view.keys.items db
   pub staff : StaffIsShown asks view.people.items view.trainings.items view.withdrawals.items view.appointments.items db
   pub custody : CustodyIsShown asks view.boxes.items view.safes.items view.bags.items view.items.items db
   pub ceremonies : CeremoniesAreShown asks view.ceremonies.items view.marks.items view.steps.items view.exceptions.items view.stays.items db

@@ -1,29 +1,26 @@
 //! The rows that a decision reads.
 
-ghost use Rattle.std.specs.Prelude.{◌≡◌, ◌++◌, List, filter, IfOk, OnOk, IsTrue, IfErr};
+ghost use Rattle.std.specs.Prelude.{◌≡◌, IfOk, OnOk, IsTrue, IfErr};
 ghost use Rattle.sqlite.specs.Held.{state};
 ghost use Rattle.sqlite.specs.State.{HasCleanDisk, KeepsCommit, Survives};
 ghost use Rattle.kcr_history.specs.Views.{IsViewOf, Shows, ShowsStays, is_of_people, is_training_of, is_withdrawal_of};
 ghost use Rattle.kcr_history.specs.Views.{is_appointment_of, is_of_serial, is_item_of, is_of_number, is_mark_of};
-ghost use Rattle.kcr_history.specs.Views.{is_step_of, is_exception_of, is_of_key};
+ghost use Rattle.kcr_history.specs.Views.{is_step_of, is_exception_of, greatest_number};
 ghost use Rattle.kcr_history.specs.Tables as machine;
-ghost use Rattle.kcr_history.specs.declared.rows.KeyRow.{KeyRow};
 ghost use Rattle.kcr_rows.specs.Refusals.{IsFault};
-ghost use Rattle.kcr_rows.specs.Greatest.{IsGreatest};
 ghost use Rattle.kcr_tables.specs.Asked.{asked_of, asked_all};
-ghost use Rattle.kcr_tables.specs.Exact.{KeyIsShown, StaffIsShown, CustodyIsShown, CeremoniesAreShown, NoneIsStrange};
+ghost use Rattle.kcr_tables.specs.Exact.{StaffIsShown, CustodyIsShown, CeremoniesAreShown, NoneIsStrange};
 ghost use Rattle.kcr_tables.specs.Frame.{Reads};
 ghost use Rattle.kcr_tables.specs.Held.{Tables, Holds};
 ghost use Rattle.kcr_tables.specs.Joint.{HoldsTables};
 ghost use Rattle.kcr_tables.specs.Schema.{register_schema};
 
-use crate::last::last_key_row;
 use crate::rooms::asked_stays;
 use crate::several::{asked_appointments, asked_items, asked_people};
-use crate::table::{asked_rows, asked_whole, rows_under};
-use kcr_base::{Key, Refusal};
+use crate::table::{asked_rows, asked_whole};
+use kcr_base::Refusal;
 use kcr_custody::{Bag, BoxRow, Item, SafeRow};
-use kcr_history::{Asks, CeremonyRow, ExceptionRow, KeyRow, MarkRow, StepRow, View};
+use kcr_history::{Asks, CeremonyRow, ExceptionRow, MarkRow, StepRow, View};
 use kcr_people::{Appointment, Person, Training, Withdrawal};
 use kcr_room::Stay;
 use sqlite::{Alter, Transaction};
@@ -55,30 +52,6 @@ struct CeremonyRows {
     steps: Vec<StepRow>,
     exceptions: Vec<ExceptionRow>,
     stays: Vec<Stay>,
-}
-
-/// The row of the key, if there is one, and then the row with the greatest number, if there is a row.
-fn asked_keys<S: Alter>(
-    alloc: Global,
-    tx: &mut Transaction<'_, S>,
-    key: &Key,
-) -> Result<Vec<KeyRow>, Refusal>
-    ensures same_reference { tx.new.conn.ghost_name ≡ tx.old.conn.ghost_name }
-    ensures rows { HasCleanDisk (state S.Store tx.new.conn.now) → (t : Tables)
-        → Holds (state S.Store tx.old.conn.now).now t
-        → IfOk result (λ all. (last : List KeyRow) × IsGreatest (λ x. x.accepted) t.keys last
-        × (all.items ≡ filter (is_of_key key.now) t.keys ++ last)) }
-    ensures exact { HasCleanDisk (state S.Store tx.new.conn.now)
-        → (state S.Store tx.old.conn.now).now.schema ≡ register_schema
-        → IfOk result (λ all. KeyIsShown key.now all.items (state S.Store tx.old.conn.now).now.trees) }
-    ensures opened { HasCleanDisk (state S.Store tx.new.conn.now)
-        → OnOk result (IsTrue (state S.Store tx.old.conn.now).is_open) }
-    ensures frame { Reads (state S.Store tx.old.conn.now) (state S.Store tx.new.conn.now) result }
-{
-    let mut rows: Vec<KeyRow> = rows_under(alloc, tx, key)?;
-    let mut last = last_key_row(alloc, tx)?;
-    rows.append(&mut last)?;
-    Ok(rows)
 }
 
 /// The rows asked for of people and their offices.
@@ -200,18 +173,17 @@ fn rows_asked<S: Alter>(
     alloc: Global,
     tx: &mut Transaction<'_, S>,
     asks: &Asks,
+    accepted: u32,
 ) -> Result<View, Refusal>
     ensures same_reference { tx.new.conn.ghost_name ≡ tx.old.conn.ghost_name }
     ensures view { HasCleanDisk (state S.Store tx.new.conn.now) → (m : machine.Tables)
-        → HoldsTables m (state S.Store tx.old.conn.now).now → IfOk result (IsViewOf asks.now m) }
+        → HoldsTables m (state S.Store tx.old.conn.now).now → accepted ≡ greatest_number m.keys
+        → IfOk result (IsViewOf asks.now m) }
     ensures exact { HasCleanDisk (state S.Store tx.new.conn.now)
         → (state S.Store tx.old.conn.now).now.schema ≡ register_schema
         → IfOk result (λ view. NoneIsStrange asks.now view (state S.Store tx.old.conn.now).now.trees) }
-    ensures opened { HasCleanDisk (state S.Store tx.new.conn.now)
-        → OnOk result (IsTrue (state S.Store tx.old.conn.now).is_open) }
     ensures frame { Reads (state S.Store tx.old.conn.now) (state S.Store tx.new.conn.now) result }
 {
-    let keys = asked_keys(alloc, tx, &asks.key)?;
     let staff = staff_rows(alloc, tx, asks)?;
     let custody = custody_rows(alloc, tx, asks)?;
     let ceremony = ceremony_rows(alloc, tx, asks)?;
@@ -227,25 +199,25 @@ fn rows_asked<S: Alter>(
         ceremonies: ceremony.ceremonies,
         marks: ceremony.marks,
         steps: ceremony.steps,
-        seatings: Vec::new(alloc),
-        sheet: Vec::new(alloc),
         stays: ceremony.stays,
         exceptions: ceremony.exceptions,
-        keys,
+        accepted,
     })
 }
 
-/// The rows asked for, of each table: of the accepted commands always the row of the key, if there is one, and the row
-/// with the greatest number. Of a table that is not asked for nothing is read. Nothing is changed. The error is
-/// `Memory` when out of memory, and else `Disk`: the device failed, or a row asked for is one that no register stores.
+/// The rows asked for, of each table, and beside them the number of the last accepted command, which the caller gives.
+/// Of a table that is not asked for nothing is read. Nothing is changed. The error is `Memory` when out of memory, and
+/// else `Disk`: the device failed, or a row asked for is one that no register stores.
 pub fn view_of<S: Alter>(
     alloc: Global,
     tx: &mut Transaction<'_, S>,
     asks: &Asks,
+    accepted: u32,
 ) -> Result<View, Refusal>
     ensures same_reference { tx.new.conn.ghost_name ≡ tx.old.conn.ghost_name }
     ensures view { HasCleanDisk (state S.Store tx.new.conn.now) → (m : machine.Tables)
-        → HoldsTables m (state S.Store tx.old.conn.now).now → IfOk result (IsViewOf asks.now m) }
+        → HoldsTables m (state S.Store tx.old.conn.now).now → accepted ≡ greatest_number m.keys
+        → IfOk result (IsViewOf asks.now m) }
     ensures exact { HasCleanDisk (state S.Store tx.new.conn.now)
         → (state S.Store tx.old.conn.now).now.schema ≡ register_schema
         → IfOk result (λ view. NoneIsStrange asks.now view (state S.Store tx.old.conn.now).now.trees) }
@@ -254,8 +226,6 @@ pub fn view_of<S: Alter>(
         → OnOk result (HoldsTables m (state S.Store tx.new.conn.now).now) }
     ensures holds { HasCleanDisk (state S.Store tx.new.conn.now) → (t : Tables)
         → Holds (state S.Store tx.old.conn.now).now t → OnOk result (Holds (state S.Store tx.new.conn.now).now t) }
-    ensures opened { HasCleanDisk (state S.Store tx.new.conn.now)
-        → OnOk result (IsTrue (state S.Store tx.old.conn.now).is_open) }
     ensures inside { HasCleanDisk (state S.Store tx.new.conn.now)
         → IsTrue (state S.Store tx.old.conn.now).in_transaction
         → OnOk result (IsTrue (state S.Store tx.new.conn.now).in_transaction) }
@@ -264,5 +234,5 @@ pub fn view_of<S: Alter>(
     ensures survives { Survives (state S.Store tx.old.conn.now) (state S.Store tx.new.conn.now) (λ _. ⊥) }
     ensures cause { IfErr result IsFault }
 {
-    rows_asked(alloc, tx, asks)
+    rows_asked(alloc, tx, asks, accepted)
 }

@@ -1,59 +1,49 @@
-use Rattle.std.proofs.Common.{rules, ap, ◌∙◌}
+use Rattle.std.proofs.Common.{rules}
 use Rattle.sqlite.specs.Held.{state}
 use Rattle.sqlite.specs.State.{HasCleanDisk}
-use Rattle.kcr_history.specs.Views.{is_of_people, is_training_of, is_withdrawal_of, is_appointment_of, is_of_serial, is_item_of, is_of_number, is_mark_of, is_step_of, is_exception_of, row_of_key, greatest_number}
+use Rattle.kcr_history.specs.Views.{is_of_people, is_training_of, is_withdrawal_of, is_appointment_of, is_of_serial, is_item_of, is_of_number, is_mark_of, is_step_of, is_exception_of}
 use Rattle.kcr_rows.proofs.InsideLemmas.{was_clean}
-use Rattle.kcr_tables.specs.Exact.{StaffIsShown, CustodyIsShown, CeremoniesAreShown}
+use Rattle.kcr_tables.specs.Exact.{CustodyIsShown, CeremoniesAreShown}
 use Rattle.kcr_tables.proofs.FrameLemmas.{reads_on, fails_as, reads_then, reads_to, read_later}
 use Rattle.kcr_tables.proofs.HoldLemmas.{held_of}
-use Rattle.kcr_tables.proofs.JointLemmas.{kept_rises}
 use Rattle.kcr_tables.proofs.StayLemmas.{stays_shown, apart_of}
-use Rattle.kcr_tables.proofs.ViewLemmas.{shows_on, asked_shows, all_shows, key_row_is, greatest_same}
+use Rattle.kcr_tables.proofs.ViewLemmas.{shows_on, asked_shows, all_shows}
 use Rattle.kcr_tables.proofs.view.rows_asked.Goals as goal
 
-pub returns-in_err-keys-clause-frame : goal.returns-in_err-keys-clause-frame
-returns-in_err-keys-clause-frame g c = fails_as c.from_residual.ensures.1 c.in_err-keys.ensures.frame
-
 pub returns-in_err-staff-clause-frame : goal.returns-in_err-staff-clause-frame
-returns-in_err-staff-clause-frame g c = reads_on c.in_ok-keys.ensures.frame (fails_as c.from_residual-in_err-staff.ensures.1 c.in_err-staff.ensures.frame)
+returns-in_err-staff-clause-frame g c = fails_as c.from_residual.ensures.1 c.in_err-staff.ensures.frame
 
 pub returns-in_err-custody-clause-frame : goal.returns-in_err-custody-clause-frame
-returns-in_err-custody-clause-frame g c = reads_on (reads_on c.in_ok-keys.ensures.frame c.in_ok-staff.ensures.frame) (fails_as c.from_residual-in_err-custody.ensures.1 c.in_err-custody.ensures.frame)
+returns-in_err-custody-clause-frame g c = reads_on c.in_ok-staff.ensures.frame (fails_as c.from_residual-in_err-custody.ensures.1 c.in_err-custody.ensures.frame)
 
 pub returns-in_err-ceremony-clause-frame : goal.returns-in_err-ceremony-clause-frame
-returns-in_err-ceremony-clause-frame g c = reads_on (reads_on (reads_on c.in_ok-keys.ensures.frame c.in_ok-staff.ensures.frame) c.in_ok-custody.ensures.frame) (fails_as c.from_residual-in_err-ceremony.ensures.1 c.in_err-ceremony.ensures.frame)
+returns-in_err-ceremony-clause-frame g c = reads_on (reads_on c.in_ok-staff.ensures.frame c.in_ok-custody.ensures.frame) (fails_as c.from_residual-in_err-ceremony.ensures.1 c.in_err-ceremony.ensures.frame)
 
 pub returns : goal.returns
 returns g c =
     let old = state g.S.Store c.args.tx.now.conn.now in
-    let s0 = state g.S.Store c.asked_keys.new.tx.conn.now in
     let s1 = state g.S.Store c.staff_rows.new.tx.conn.now in
     let s2 = state g.S.Store c.custody_rows.new.tx.conn.now in
     let s3 = state g.S.Store c.ceremony_rows.new.tx.conn.now in
-    let to0 = c.in_ok-keys.ensures.frame in
-    let to1 = reads_then old s0 s1 _ _ to0 c.in_ok-staff.ensures.frame in
+    let to1 = c.in_ok-staff.ensures.frame in
     let to2 = reads_then old s1 s2 _ _ to1 c.in_ok-custody.ensures.frame in
     let clean2 : HasCleanDisk s3 → HasCleanDisk s2 = λ clean. was_clean s2 s3 _ c.in_ok-ceremony.ensures.frame.survives clean in
-    let clean1 : HasCleanDisk s3 → HasCleanDisk s1 = λ clean. was_clean s1 s2 _ c.in_ok-custody.ensures.frame.survives (clean2 clean) in
-    let clean0 : HasCleanDisk s3 → HasCleanDisk s0 = λ clean. was_clean s0 s1 _ c.in_ok-staff.ensures.frame.survives (clean1 clean) in record {
+    let clean1 : HasCleanDisk s3 → HasCleanDisk s1 = λ clean. was_clean s1 s2 _ c.in_ok-custody.ensures.frame.survives (clean2 clean) in record {
       same_reference = search rules;
-      view = λ clean m h.
+      view = λ clean m h number.
           let t = h.tables.t in
           let asks = c.args.asks.now in
           let s = h.tables.stands in
           let held = held_of m old.now h in
-          let held1 = to0.holds (clean0 clean) t held in
           let held2 = to1.holds (clean1 clean) t held in
           let held3 = to2.holds (clean2 clean) t held in
-          let keys = c.in_ok-keys.ensures.rows (clean0 clean) t held in
           let staff = c.in_ok-staff.ensures in
           let custody = c.in_ok-custody.ensures in
-          let ceremony = c.in_ok-ceremony.ensures in
-          let rises = kept_rises old.now.trees t h.tables.kept in record {
-            people = shows_on is_of_people asks.people m.people t.people _ s.people (staff.people (clean1 clean) t held1);
-            trainings = asked_shows is_training_of asks.trainings m.trainings t.trainings _ s.trainings (staff.trainings (clean1 clean) t held1);
-            withdrawals = asked_shows is_withdrawal_of asks.withdrawals m.withdrawals t.withdrawals _ s.withdrawals (staff.withdrawals (clean1 clean) t held1);
-            appointments = asked_shows is_appointment_of asks.appointments m.appointments t.appointments _ s.appointments (staff.appointments (clean1 clean) t held1);
+          let ceremony = c.in_ok-ceremony.ensures in record {
+            people = shows_on is_of_people asks.people m.people t.people _ s.people (staff.people (clean1 clean) t held);
+            trainings = asked_shows is_training_of asks.trainings m.trainings t.trainings _ s.trainings (staff.trainings (clean1 clean) t held);
+            withdrawals = asked_shows is_withdrawal_of asks.withdrawals m.withdrawals t.withdrawals _ s.withdrawals (staff.withdrawals (clean1 clean) t held);
+            appointments = asked_shows is_appointment_of asks.appointments m.appointments t.appointments _ s.appointments (staff.appointments (clean1 clean) t held);
             boxes = all_shows asks.boxes m.boxes t.boxes _ s.boxes (custody.boxes (clean2 clean) t held2);
             safes = all_shows asks.safes m.safes t.safes _ s.safes (custody.safes (clean2 clean) t held2);
             bags = asked_shows is_of_serial asks.bags m.bags t.bags _ s.bags (custody.bags (clean2 clean) t held2);
@@ -63,16 +53,13 @@ returns g c =
             steps = asked_shows is_step_of asks.steps m.steps t.steps _ s.steps (ceremony.steps clean t held3);
             exceptions = asked_shows is_exception_of asks.exceptions m.exceptions t.exceptions _ s.exceptions (ceremony.exceptions clean t held3);
             stays = stays_shown asks.stays m.stays t.stays _ (apart_of t.stays h.tables.kept.stays.rising) s.stays (ceremony.stays clean t held3);
-            key_row = ap (row_of_key asks.key) keys.2 ∙ key_row_is m t s rises asks.key keys.0 keys.1;
-            greatest = ap greatest_number keys.2 ∙ greatest_same m t s rises asks.key keys.0 keys.1;
+            accepted = number;
           };
       exact = λ clean has.
           let asks = c.args.asks.now in record {
-            keys = c.in_ok-keys.ensures.exact (clean0 clean) has;
-            staff = read_later (StaffIsShown asks c.in_ok-staff.staff.people.items c.in_ok-staff.staff.trainings.items c.in_ok-staff.staff.withdrawals.items c.in_ok-staff.staff.appointments.items) old s0 _ to0 (clean0 clean) has (c.in_ok-staff.ensures.exact (clean1 clean));
+            staff = c.in_ok-staff.ensures.exact (clean1 clean) has;
             custody = read_later (CustodyIsShown asks c.in_ok-custody.custody.boxes.items c.in_ok-custody.custody.safes.items c.in_ok-custody.custody.bags.items c.in_ok-custody.custody.items.items) old s1 _ to1 (clean1 clean) has (c.in_ok-custody.ensures.exact (clean2 clean));
             ceremonies = read_later (CeremoniesAreShown asks c.in_ok-ceremony.ceremony.ceremonies.items c.in_ok-ceremony.ceremony.marks.items c.in_ok-ceremony.ceremony.steps.items c.in_ok-ceremony.ceremony.exceptions.items c.in_ok-ceremony.ceremony.stays.items) old s2 _ to2 (clean2 clean) has (c.in_ok-ceremony.ensures.exact clean);
           };
-      opened = search rules;
       frame = reads_to old s3 _ _ tt (reads_then old s2 s3 _ _ to2 c.in_ok-ceremony.ensures.frame);
     }
