@@ -1,10 +1,12 @@
 //! Who is seated: the people in the room, the seats that each of them fits, and the search over both.
 ghost use Rattle.std.specs.Prelude.{◌≡◌, ◌≢◌, ◌&&◌, [], ◌<◌, ◌≤◌, nat_le, MatchResult, IfOk, EachIndex, slice_index};
-ghost use Rattle.std.specs.Prelude.{get_or, length, map};
+ghost use Rattle.std.specs.Prelude.{get_or, length, map, filter};
 ghost use Rattle.kcr_base.specs.declared.refusal.Refusal.TheVariants.{Memory};
 ghost use Rattle.kcr_seats.specs.Outcome.{IsOutcome};
 ghost use Rattle.kcr_history.specs.Fitting.{fits_by};
 ghost use Rattle.kcr_history.specs.Machine.{Sitting};
+ghost use Rattle.kcr_history.specs.Views.{is_training_of};
+ghost use Rattle.kcr_scene.specs.Own.{own_of};
 ghost use Rattle.kcr_scene.specs.Signing;
 
 use crate::scene;
@@ -18,16 +20,19 @@ use std::alloc::{AllocError, Global};
 /// At most this many people are in a room.
 const MOST_PEOPLE: usize = 128;
 
-/// The seats and people of one search, with the rows that tell who fits what.
+/// The seats and people of one search, with the rows that tell who fits what. Each person's trainings stand by
+/// themselves, since the search asks for every seat and person.
 #[derive(Drop)]
 struct Room<'a> {
     seats: &'a [Seat],
     people: &'a [Initials],
     trainings: &'a [Training],
+    own: &'a [Vec<Training>],
     withdrawals: &'a [Withdrawal],
     rows: &'a [Appointment],
     facility: Facility,
     day: Day,
+    ghost split: { map (λ rows. rows.items) own.now ≡ own_of trainings.now people.now },
 }
 
 impl Fits for Room<'_> {
@@ -35,7 +40,8 @@ impl Fits for Room<'_> {
 
     ghost person_count = { λ room. length room.people.now };
 
-    ghost relation = { λ room. Signing.fits_of (fits_by room.trainings.now room.withdrawals.now room.rows.now room.facility room.day) room.seats.now room.people.now };
+    ghost relation = { λ room. Signing.fits_of
+        (fits_by room.trainings.now room.withdrawals.now room.rows.now room.facility room.day) room.seats.now room.people.now };
 
     fn seats(&self) -> usize {
         self.seats.len()
@@ -47,7 +53,7 @@ impl Fits for Room<'_> {
 
     fn fits(&self, seat: usize, person: usize) -> bool {
         fits(
-            self.trainings,
+            &self.own[person],
             self.withdrawals,
             self.rows,
             self.facility,
@@ -56,6 +62,38 @@ impl Fits for Room<'_> {
             self.people[person],
         )
     }
+}
+
+/// The trainings of a person.
+fn trainings_of(
+    alloc: Global,
+    trainings: &[Training],
+    who: Initials,
+) -> Result<Vec<Training>, AllocError>
+    ensures { IfOk result (λ own. own.items ≡ filter (is_training_of who) trainings.now) }
+{
+    let mut own = Vec::new(alloc);
+    for row in trainings {
+        if row.who == who {
+            own.push(*row)?;
+        }
+    }
+    Ok(own)
+}
+
+/// The trainings of each of the people.
+fn own_trainings(
+    alloc: Global,
+    trainings: &[Training],
+    people: &[Initials],
+) -> Result<Vec<Vec<Training>>, AllocError>
+    ensures { IfOk result (λ own. map (λ rows. rows.items) own.items ≡ own_of trainings.now people.now) }
+{
+    let mut own = Vec::new(alloc);
+    for who in people {
+        own.push(trainings_of(alloc, trainings, *who)?)?;
+    }
+    Ok(own)
 }
 
 /// Seats these people by their numbers, or names seats that too few of them fit.
@@ -72,10 +110,12 @@ fn search(
     ensures { IfOk result (λ answer. IsOutcome (Signing.fits_of (fits_by view.now.trainings.items view.now.withdrawals.items view.now.appointments.items facility day) seats.now people.now)
         (length seats.now) (length people.now) answer) }
 {
+    let own = own_trainings(alloc, &view.trainings, people)?;
     let room = Room {
         seats,
         people,
         trainings: &view.trainings,
+        own: &own,
         withdrawals: &view.withdrawals,
         rows: &view.appointments,
         facility,
