@@ -1,5 +1,5 @@
 -- The values of the register that are found by their texts.
-use Rattle.std.proofs.Common.{◌≡◌, ℕ, ◌+◌, ◌*◌, inl, inr, List, [], ◌∷◌, ◌++◌, map, Option, Some, None, IfSome, refl, arith}
+use Rattle.std.proofs.Common.{◌≡◌, ℕ, ◌+◌, ◌*◌, List, [], ◌∷◌, ◌++◌, map, Option, Some, None, IfSome, arith}
 use Rattle.std.specs.Bool.{⊤}
 use Rattle.std.specs.Fmt.{decimal}
 use Rattle.std.specs.List.{AllByRecursion, range_with_len}
@@ -16,11 +16,13 @@ use Rattle.kcr_base.specs.declared.place.Place.{Place}
 use Rattle.kcr_base.specs.declared.place.Place.TheVariants.{Co, Rksh}
 use Rattle.kcr_base.specs.declared.place.Role.{Role}
 use Rattle.kcr_base.specs.declared.place.Role.TheVariants.{Ca, Iw, Sa, Ssc1, Ssc2, Rkos, Sw}
+use Rattle.kcr_base.proofs.ListLemmas.{each-append}
+use Rattle.kcr_base.proofs.Members.{IsIn, in-front, in-behind, map-in}
 use Rattle.kcr_room.specs.declared.Way.{Way}
 use Rattle.kcr_room.specs.declared.Way.TheVariants.{Enter, Leave}
 use Rattle.kcr_room.specs.Room.{way_text}
 use Rattle.kcr_forms.specs.Forms.{number_by_text, day_of, moment_of, ceremony_of, box_of, step_of, role_of, facility_of, way_of, places, place_of}
-use Rattle.kcr_forms.proofs.TextLemmas.{Among, among-left, among-right, among-map, among-range, each-append, each-map, each-range, by_text-read, number-read}
+use Rattle.kcr_forms.proofs.TextLemmas.{in-range, each-map, each-range, by_text-read, number-read}
 
 pub day-read : (bytes : List ℕ) (r : Option ℕ) → Found IsDay day_text bytes r → Only IsDay day_text bytes r → r ≡ day_of bytes
 unfolding day_of
@@ -46,7 +48,8 @@ decimal-read limit bytes r found only =
     parts None h = tt
     parts (Some n) h = (h.number, h.text)
 
-pub ceremony-read : (bytes : List ℕ) (r : Option ℕ) → IfSome r (IsNumberText 9999 bytes) → ((n : ℕ) → IsNumberText 9999 bytes n → r ≡ Some n) → r ≡ ceremony_of bytes
+pub ceremony-read : (bytes : List ℕ) (r : Option ℕ) → IfSome r (IsNumberText 9999 bytes) → ((n : ℕ) → IsNumberText 9999 bytes n → r ≡ Some n)
+    → r ≡ ceremony_of bytes
 unfolding ceremony_of
 ceremony-read bytes r found only = decimal-read 9999 bytes r found only
 
@@ -58,59 +61,53 @@ pub step-read : (bytes : List ℕ) (r : Option ℕ) → IfSome r (IsNumberText 4
 unfolding step_of
 step-read bytes r found only = decimal-read 400 bytes r found only
 
-among-roles : (v : Role) → Among (Ca ∷ Iw ∷ Sa ∷ Ssc1 ∷ Ssc2 ∷ Rkos ∷ Sw ∷ []) v
-among-roles Ca = inl refl
-among-roles Iw = inr (inl refl)
-among-roles Sa = inr (inr (inl refl))
-among-roles Ssc1 = inr (inr (inr (inl refl)))
-among-roles Ssc2 = inr (inr (inr (inr (inl refl))))
-among-roles Rkos = inr (inr (inr (inr (inr (inl refl)))))
-among-roles Sw = inr (inr (inr (inr (inr (inr (inl refl))))))
+in-roles : (v : Role) → IsIn v (Ca ∷ Iw ∷ Sa ∷ Ssc1 ∷ Ssc2 ∷ Rkos ∷ Sw ∷ [])
+in-roles v = grind arith
 
 pub role-read : (bytes : List ℕ) (r : Option Role) → Found (λ _. ⊤) role_text bytes r → Only (λ _. ⊤) role_text bytes r → r ≡ role_of bytes
 unfolding role_of
 role-read bytes r found only =
-    by_text-read (λ _. ⊤) role_text bytes r (Ca ∷ Iw ∷ Sa ∷ Ssc1 ∷ Ssc2 ∷ Rkos ∷ Sw ∷ []) (tt, (tt, (tt, (tt, (tt, (tt, (tt, tt))))))) (λ v _. among-roles v) found only
+    by_text-read (λ _. ⊤) role_text bytes r (Ca ∷ Iw ∷ Sa ∷ Ssc1 ∷ Ssc2 ∷ Rkos ∷ Sw ∷ []) (tt, (tt, (tt, (tt, (tt, (tt, (tt, tt))))))) (λ v _. in-roles v) found only
 
-among-facilities : (v : Facility) → Among (East ∷ West ∷ []) v
-among-facilities East = inl refl
-among-facilities West = inr (inl refl)
+in-facilities : (v : Facility) → IsIn v (East ∷ West ∷ [])
+in-facilities v = grind arith
 
 pub facility-read : (bytes : List ℕ) (r : Option Facility) → Found (λ _. ⊤) facility_text bytes r → Only (λ _. ⊤) facility_text bytes r → r ≡ facility_of bytes
 unfolding facility_of
-facility-read bytes r found only = by_text-read (λ _. ⊤) facility_text bytes r (East ∷ West ∷ []) (tt, (tt, tt)) (λ v _. among-facilities v) found only
+facility-read bytes r found only = by_text-read (λ _. ⊤) facility_text bytes r (East ∷ West ∷ []) (tt, (tt, tt)) (λ v _. in-facilities v) found only
 
-among-ways : (v : Way) → Among (Enter ∷ Leave ∷ []) v
-among-ways Enter = inl refl
-among-ways Leave = inr (inl refl)
+in-ways : (v : Way) → IsIn v (Enter ∷ Leave ∷ [])
+in-ways v = grind arith
 
 pub way-read : (bytes : List ℕ) (r : Option Way) → Found (λ _. ⊤) way_text bytes r → Only (λ _. ⊤) way_text bytes r → r ≡ way_of bytes
 unfolding way_of
-way-read bytes r found only = by_text-read (λ _. ⊤) way_text bytes r (Enter ∷ Leave ∷ []) (tt, (tt, tt)) (λ v _. among-ways v) found only
+way-read bytes r found only = by_text-read (λ _. ⊤) way_text bytes r (Enter ∷ Leave ∷ []) (tt, (tt, tt)) (λ v _. in-ways v) found only
 
 -- the numbers 1 to 7 are those of places
-place-numbers : AllByRecursion IsPlaceNumber (range_with_len 1 7)
-place-numbers = each-range IsPlaceNumber 1 7 (λ k low high. (low, omega (arith, high)))
+abbrev seven : List ℕ
+seven = range_with_len 1 7
 
 each-place : AllByRecursion IsPlace places
 each-place =
-    each-append IsPlace (map (Co East) (range_with_len 1 7)) (map (Co West) (range_with_len 1 7) ++ map Rksh (range_with_len 1 7))
-    (each-map IsPlace (Co East) (range_with_len 1 7) place-numbers)
-    (each-append IsPlace (map (Co West) (range_with_len 1 7)) (map Rksh (range_with_len 1 7))
-    (each-map IsPlace (Co West) (range_with_len 1 7) place-numbers) (each-map IsPlace Rksh (range_with_len 1 7) place-numbers))
+    let each : AllByRecursion IsPlaceNumber seven = each-range IsPlaceNumber 1 7 (λ k low high. (low, omega (arith, high))) in
+    each-append IsPlace (map (Co East) seven) (map (Co West) seven ++ map Rksh seven) (each-map IsPlace (Co East) seven each)
+    (each-append IsPlace (map (Co West) seven) (map Rksh seven) (each-map IsPlace (Co West) seven each) (each-map IsPlace Rksh seven each))
 
-among-number : (n : ℕ) → IsPlaceNumber n → Among (range_with_len 1 7) n
-among-number n h = among-range 1 7 n h.0 (omega (arith, h.1))
+in-seven : (n : ℕ) → IsPlaceNumber n → IsIn n seven
+in-seven n h = in-range 1 7 n h.0 (omega (arith, h.1))
 
-among-places : (v : Place) → IsPlace v → Among places v
-among-places (Co East n) h = among-left (map (Co East) (range_with_len 1 7)) (map (Co West) (range_with_len 1 7) ++ map Rksh (range_with_len 1 7)) (Co East n) (among-map (Co East) (range_with_len 1 7) n (among-number n h))
-among-places (Co West n) h =
-    among-right (map (Co East) (range_with_len 1 7)) (map (Co West) (range_with_len 1 7) ++ map Rksh (range_with_len 1 7)) (Co West n)
-    (among-left (map (Co West) (range_with_len 1 7)) (map Rksh (range_with_len 1 7)) (Co West n) (among-map (Co West) (range_with_len 1 7) n (among-number n h)))
-among-places (Rksh n) h =
-    among-right (map (Co East) (range_with_len 1 7)) (map (Co West) (range_with_len 1 7) ++ map Rksh (range_with_len 1 7)) (Rksh n)
-    (among-right (map (Co West) (range_with_len 1 7)) (map Rksh (range_with_len 1 7)) (Rksh n) (among-map Rksh (range_with_len 1 7) n (among-number n h)))
+in-places : (v : Place) → IsPlace v → IsIn v places
+in-places (Co East n) h = in-front _ (map (Co East) seven) (map (Co West) seven ++ map Rksh seven) (map-in (Co East) n seven (in-seven n h))
+in-places (Co West n) h =
+    in-behind _ (map (Co East) seven) (map (Co West) seven ++ map Rksh seven)
+    (in-front _ (map (Co West) seven) (map Rksh seven) (map-in (Co West) n seven (in-seven n h)))
+in-places (Rksh n) h =
+    in-behind _ (map (Co East) seven) (map (Co West) seven ++ map Rksh seven)
+    (in-behind _ (map (Co West) seven) (map Rksh seven) (map-in Rksh n seven (in-seven n h)))
 
 pub place-read : (bytes : List ℕ) (r : Option Place) → Found IsPlace place_text bytes r → Only IsPlace place_text bytes r → r ≡ place_of bytes
 unfolding place_of
-place-read bytes r found only = by_text-read IsPlace place_text bytes r places each-place among-places found only
+place-read bytes r found only = by_text-read IsPlace place_text bytes r places each-place in-places found only
+
+-- what answers of readers cite
+pub ruleset value_readings = (day-read, moment-read, ceremony-read, box-read, step-read, role-read, facility-read, way-read, place-read)

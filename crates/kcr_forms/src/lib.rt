@@ -1,7 +1,7 @@
 //! The forms of the register: which text, which whole number and which list is which value. Each reader answers exactly
 //! what a definition in `Forms` says of the text, so that whoever reads requests can say what they mean without looking
 //! into the values.
-#![tactic(auto)]
+#![tactic(auto, using(crate::proofs::FormLemmas::form_readings, crate::proofs::ValueLemmas::value_readings))]
 
 ghost use Rattle.std.specs.Prelude.{◌≡◌, IfOk};
 ghost use Rattle.kcr_forms.specs.Forms.{initials_of, key_of, serial_of, item_of, name_of, remark_of, day_of, moment_of};
