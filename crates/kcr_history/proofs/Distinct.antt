@@ -14,7 +14,8 @@ use Rattle.kcr_history.specs.Machine.{IsRegister}
 use Rattle.kcr_history.proofs.Steps.{took}
 use Rattle.kcr_history.proofs.Words.{is_training-trainings}
 
-apart_after : (A : History) (act : Act) → fault A act ≡ None → Apart same_training (trainings A) → Apart same_training (cons_option (training_row act) (trainings A))
+apart_after : (A : History) (act : Act) → fault A act ≡ None → Apart same_training (trainings A)
+    → Apart same_training (cons_option (training_row act) (trainings A))
 apart_after A (Train who role since until) f a =
     let new : Training = record { who = who; role = role; since = since; until = until } in
     let absent : some_command (is_training who role since until) A ≡ false = grind arith in

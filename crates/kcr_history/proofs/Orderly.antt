@@ -1,5 +1,6 @@
 -- The appointments of a register: each begins where the older ones of its place have ended. So the holder by rows is the holder by history.
-use Rattle.std.proofs.Common.{◌≡◌, ℕ, ◌<◌, Bool, true, false, cond, ◌&&◌, nat_le, List, [], ◌∷◌, map, find, Option, Some, None, option_map, is_none, refl, ◌∙◌, subst, arith}
+use Rattle.std.proofs.Common.{◌≡◌, ℕ, ◌<◌, Bool, true, false, cond, ◌&&◌, nat_le, List, [], ◌∷◌, map, find, Option, Some, None, option_map, is_none}
+use Rattle.std.proofs.Common.{refl, ◌∙◌, subst, arith}
 use Rattle.std.specs.Prelude.{unwrap_or}
 use Rattle.std.specs.List.{list_all}
 use Rattle.std.proofs.lemmas.Bool.{true≢false, leb-true, leb-false, and_parts}
@@ -64,7 +65,8 @@ abbrev told_holder : Option (Option (List ℕ)) → Option (Option (List ℕ)) �
 told_holder now before = unwrap_or (or_else now before) None
 
 -- the row of a command that puts somebody in the place, before the older rows
-first-row : (b : Bool) (new : Appointment) (older : Option Appointment) (said : Option (Option (List ℕ))) → option_map (λ row. row.who) older ≡ unwrap_or said None
+first-row : (b : Bool) (new : Appointment) (older : Option Appointment) (said : Option (Option (List ℕ)))
+    → option_map (λ row. row.who) older ≡ unwrap_or said None
     → option_map (λ row. row.who) (cond (b && true) (Some new) older) ≡ told_holder (cond b (Some (Some new.who)) None) said
 first-row b new older said h = grind arith
 

@@ -1,5 +1,6 @@
 -- The settled day by the rows of marks, in any order, is the settled day by history.
-use Rattle.std.proofs.Common.{◌≡◌, ℕ, Bool, true, false, cond, ◌||◌, eqb, List, [], ◌∷◌, map, filter, Option, Some, None, option_map, is_some, refl, ap, ◌∙◌, arith}
+use Rattle.std.proofs.Common.{◌≡◌, ℕ, Bool, true, false, cond, ◌||◌, eqb, List, [], ◌∷◌, map, filter, Option, Some, None, option_map, is_some, refl}
+use Rattle.std.proofs.Common.{ap, ◌∙◌, arith}
 use Rattle.std.specs.Prelude.{unwrap_or}
 use Rattle.std.specs.List.{list_any, list_all, filter_map, cons_option}
 use Rattle.std.specs.List.Sorted.{IsPermutation}
@@ -34,14 +35,16 @@ greatest-order xs ys p = greatest-shuffled (shuffled xs ys p)
 abbrev has_mark : History → ℕ → Bool
 has_mark A ceremony = list_any (λ m. eqb m.0 ceremony) (all_said marked A)
 
-some_mark : (ceremony : ℕ) (ms : List (ℕ × ℕ)) → list_any (λ m. eqb m.0 ceremony) ms ≡ true → is_some (greatest (map (λ m. m.1) (filter (λ m. eqb m.0 ceremony) ms))) ≡ true
+some_mark : (ceremony : ℕ) (ms : List (ℕ × ℕ)) → list_any (λ m. eqb m.0 ceremony) ms ≡ true
+    → is_some (greatest (map (λ m. m.1) (filter (λ m. eqb m.0 ceremony) ms))) ≡ true
 some_mark ceremony [] h = absurd (false≢true h)
 some_mark ceremony (m ∷ ms) h =
     (elim (eqb m.0 ceremony) as (λ b. (b || list_any (λ m. eqb m.0 ceremony) ms) ≡ true
     → is_some (greatest (map (λ m. m.1) (cond b (m ∷ filter (λ m. eqb m.0 ceremony) ms) (filter (λ m. eqb m.0 ceremony) ms)))) ≡ true)
     [ true ↦ λ _. refl | false ↦ some_mark ceremony ms ]) h
 
-all_more : (o : Option (ℕ × ℕ)) (ms : List (ℕ × ℕ)) (cs : List ℕ) → list_all (λ c. list_any (λ m. eqb m.0 c) ms) cs ≡ true → list_all (λ c. list_any (λ m. eqb m.0 c) (cons_option o ms)) cs ≡ true
+all_more : (o : Option (ℕ × ℕ)) (ms : List (ℕ × ℕ)) (cs : List ℕ) → list_all (λ c. list_any (λ m. eqb m.0 c) ms) cs ≡ true
+    → list_all (λ c. list_any (λ m. eqb m.0 c) (cons_option o ms)) cs ≡ true
 all_more None ms cs h = h
 all_more (Some m) ms cs h = all-more (λ c. list_any (λ m. eqb m.0 c) ms) _ cs (λ c. or_right (eqb m.0 c) _) h
 

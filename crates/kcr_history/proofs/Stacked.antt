@@ -1,8 +1,10 @@
 -- The appointments of one place: each begins where the older ones have ended.
-use Rattle.std.proofs.Common.{◌≡◌, ℕ, ◌<◌, ◌≤◌, Bool, true, false, cond, not, ◌&&◌, nat_le, eqb, List, [], ◌∷◌, map, find, Option, Some, None, option_map, is_none, refl, sym, ap, ◌∙◌, arith, subst, inl, inr}
+use Rattle.std.proofs.Common.{◌≡◌, ℕ, ◌<◌, ◌≤◌, Bool, true, false, cond, not, ◌&&◌, nat_le, eqb, List, [], ◌∷◌, map, find, Option, Some, None}
+use Rattle.std.proofs.Common.{option_map, is_none, refl, sym, ap, ◌∙◌, arith, subst, inl, inr}
 use Rattle.std.specs.List.{list_any, list_all, AllByRecursion}
 use Rattle.std.specs.List.Sorted.{IsPermutation}
-use Rattle.std.proofs.lemmas.Bool.{both_ways, leb-false, eq-eqb, not-true, not_from_false, and_left, and_parts, and_from, or_from, or_left, or_right, false_from_ne_true, or_parts}
+use Rattle.std.proofs.lemmas.Bool.{both_ways, leb-false, eq-eqb, not-true, not_from_false, and_left, and_parts, and_from, or_from, or_left, or_right}
+use Rattle.std.proofs.lemmas.Bool.{false_from_ne_true, or_parts}
 use Rattle.std.proofs.lemmas.Bool.Decides.{nat_tests}
 use Rattle.kcr_base.specs.Same.{same_place}
 use Rattle.kcr_base.specs.declared.place.Place.{Place}
@@ -65,7 +67,8 @@ stacked-ended place day (row ∷ rows) s =
     until t s u e = grind (arith, nat_tests)
 
 -- where the place has no holder from the day on, no row of the place begins on it
-pub no_begin : (place : Place) (day : ℕ) (rows : List Appointment) → list_all lasts rows ≡ true → place_held_from_by rows place day ≡ false → list_any (λ row. same_place row.place place && eqb row.since day) rows ≡ false
+pub no_begin : (place : Place) (day : ℕ) (rows : List Appointment) → list_all lasts rows ≡ true → place_held_from_by rows place day ≡ false
+    → list_any (λ row. same_place row.place place && eqb row.since day) rows ≡ false
 no_begin place day [] l h = refl
 no_begin place day (row ∷ rows) l h =
     let p = or_parts (same_place row.place place && lasts_beyond day row) (place_held_from_by rows place day) h in
@@ -134,7 +137,8 @@ lasts-ended place day r rows s t h l = let it = opened place r rows s h in subst
         and_from (lasts (ended r.place day row)) _ (rw (end-other (same_place row.place r.place) row.until day apart) q.0) (still o q.1)
 
 -- the row with its end under its key is the list with the end
-pub put-ended : (place : Place) (day : ℕ) (r : Appointment) (rows : List Appointment) → stacked rows ≡ true → list_all lasts rows ≡ true → open_row_by rows place ≡ Some r
+pub put-ended : (place : Place) (day : ℕ) (r : Appointment) (rows : List Appointment) → stacked rows ≡ true → list_all lasts rows ≡ true
+    → open_row_by rows place ≡ Some r
     → put same_appointment (record r { until = Some day }) rows ≡ map (ended place day) rows
 put-ended place day r rows s t h = let it = opened place r rows s h in rw (keyed it.1, ← it.0) (replaced it.1 t)
   where
@@ -177,7 +181,8 @@ none-stands r first (row ∷ rows) h =
     let one : (s : Bool) (u : Option ℕ) → (s && ends_after u first) ≡ false → (s && is_none u) ≡ true → ⊥ = λ s u e q. grind arith in
     (λ q. absurd (one (same_place row.place r.place) row.until p.0 q), none-stands r first rows p.1)
 
-pub only-one : (place : Place) (r : Appointment) (rows : List Appointment) → stacked rows ≡ true → open_row_by rows place ≡ Some r → AllByRecursion (IsOnly place r) rows
+pub only-one : (place : Place) (r : Appointment) (rows : List Appointment) → stacked rows ≡ true → open_row_by rows place ≡ Some r
+    → AllByRecursion (IsOnly place r) rows
 only-one place r rows s h = let it = opened place r rows s h in subst (λ p. AllByRecursion (IsOnly p r) rows) it.0 (only it.1)
   where
     only : {rows : List Appointment} → IsOpen r rows → AllByRecursion (IsOnly r.place r) rows
@@ -185,13 +190,15 @@ only-one place r rows s h = let it = opened place r rows s h in subst (λ p. All
     only (below row rows apart o) = (λ q. absurd (both_ways _ apart (and_parts (same_place row.place r.place) (is_none row.until) q).0), only o)
 
 -- rows in another order have the same open row
-pub open-order : (place : Place) (rows others : List Appointment) → stacked rows ≡ true → IsPermutation rows others → open_row_by others place ≡ open_row_by rows place
+pub open-order : (place : Place) (rows others : List Appointment) → stacked rows ≡ true → IsPermutation rows others
+    → open_row_by others place ≡ open_row_by rows place
 open-order place rows others s p = find-order (stands place) rows others p (λ r e. only-one place r rows s e)
 
 -- THE HOLDER
 
 -- an end by a command that says nothing of the place on day d leaves what the row says of it
-holds-ended : (at place : Place) (since d : ℕ) (row : Appointment) → (same_place at place && nat_le since d) ≡ false → holds place d (ended at since row) ≡ holds place d row
+holds-ended : (at place : Place) (since d : ℕ) (row : Appointment) → (same_place at place && nat_le since d) ≡ false
+    → holds place d (ended at since row) ≡ holds place d row
 holds-ended at place since d row h =
     by_places (same_place row.place place) (same_place row.place at) (nat_le row.since d) row.until
     (λ p q. let here : same_place at place ≡ true = rw (sym (place-same row.place at q) ∙ place-same row.place place p) (place-itself place) in
@@ -200,7 +207,8 @@ holds-ended at place since d row h =
     by_places : (s t b : Bool) (u : Option ℕ) → (s ≡ true → t ≡ true → d < since) → ((s && b) && ends_after (end_at t u since) d) ≡ ((s && b) && ends_after u d)
     by_places s t b u f = grind (arith, nat_tests)
 
-pub find-ended : (at place : Place) (since d : ℕ) (rows : List Appointment) → (same_place at place && nat_le since d) ≡ false → holder_by (map (ended at since) rows) place d ≡ holder_by rows place d
+pub find-ended : (at place : Place) (since d : ℕ) (rows : List Appointment) → (same_place at place && nat_le since d) ≡ false
+    → holder_by (map (ended at since) rows) place d ≡ holder_by rows place d
 find-ended at place since d [] h = refl
 find-ended at place since d (row ∷ rows) h =
     rw (holds-ended at place since d row h) (elim (holds place d row) as (λ b.
@@ -209,7 +217,8 @@ find-ended at place since d (row ∷ rows) h =
     [ true ↦ refl | false ↦ find-ended at place since d rows h ])
 
 -- a place that is free from a day on has no holder on a later one
-pub free-none : (place : Place) (since d : ℕ) (rows : List Appointment) → since ≤ d → place_held_from_by rows place since ≡ false → list_any (holds place d) rows ≡ false
+pub free-none : (place : Place) (since d : ℕ) (rows : List Appointment) → since ≤ d → place_held_from_by rows place since ≡ false
+    → list_any (holds place d) rows ≡ false
 free-none place since d rows l h = none-weaker _ (holds place d) (λ row. past (same_place row.place place) (nat_le row.since d) row.until) rows h
   where
     past : (s b : Bool) (u : Option ℕ) → (s && ends_after u since) ≡ false → ((s && b) && ends_after u d) ≡ false

@@ -63,7 +63,8 @@ one_training : (new row : Training) (w : Withdrawal) → is_of new w ≡ true �
 one_training new row w a b = subst (λ x. same_training new x ≡ true) (sym (is_of-true new w a) ∙ is_of-true row w b) (is_of-own (withdrawal_of [] 0 new))
 
 -- of a training that is not there no withdrawal is
-not_withdrawn : (new : Training) (day : ℕ) (rows : List Training) (ws : List Withdrawal) → list_any (same_training new) rows ≡ false → list_all (has_its_training rows) ws ≡ true → is_withdrawn_by ws new day ≡ false
+not_withdrawn : (new : Training) (day : ℕ) (rows : List Training) (ws : List Withdrawal) → list_any (same_training new) rows ≡ false
+    → list_all (has_its_training rows) ws ≡ true → is_withdrawn_by ws new day ≡ false
 not_withdrawn new day rows [] n h = refl
 not_withdrawn new day rows (w ∷ ws) n h =
     let p = and_parts (has_its_training rows w) (list_all (has_its_training rows) ws) h in
@@ -73,7 +74,8 @@ not_withdrawn new day rows (w ∷ ws) n h =
 
 -- TRAINED
 
-trained_after : (A : History) (act : Act) (who : List ℕ) (role : Role) (day : ℕ) → fault A act ≡ None → trained_by (trainings A) (withdrawals A) who role day ≡ trained A who role day
+trained_after : (A : History) (act : Act) (who : List ℕ) (role : Role) (day : ℕ) → fault A act ≡ None
+    → trained_by (trainings A) (withdrawals A) who role day ≡ trained A who role day
     → trained_by (cons_option (training_row act) (trainings A)) (withdrawals_after act (trainings A) (withdrawals A)) who role day
     ≡ unwrap_or (or_else (says_of_training who role day act) (last_said (says_of_training who role day) A)) false
 trained_after A (Train p r since until) who role day f ih =
@@ -91,6 +93,7 @@ trained_after A (Withdraw p r from) who role day f ih =
 trained_after A act who role day f ih = ih
 
 -- by the rows of a register somebody is trained exactly where the history says so
-pub trained-rows : (A : History) → IsRegister A → (who : List ℕ) (role : Role) (day : ℕ) → trained_by (trainings A) (withdrawals A) who role day ≡ trained A who role day
+pub trained-rows : (A : History) → IsRegister A → (who : List ℕ) (role : Role) (day : ℕ)
+    → trained_by (trainings A) (withdrawals A) who role day ≡ trained A who role day
 trained-rows [] h who role day = refl
 trained-rows (entry ∷ A) h who role day = trained_after A entry.command.act who role day (took A entry h.0).no_fault (trained-rows A h.1 who role day)

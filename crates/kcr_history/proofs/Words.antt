@@ -36,7 +36,8 @@ ever_trained-trainings A who = some_row training_row (λ row. same_text row.who 
     told act rows = grind arith
 
 -- the very same training
-pub is_training-trainings : (A : History) (row : Training) → list_any (same_training row) (trainings A) ≡ some_command (is_training row.who row.role row.since row.until) A
+pub is_training-trainings : (A : History) (row : Training)
+    → list_any (same_training row) (trainings A) ≡ some_command (is_training row.who row.role row.since row.until) A
 is_training-trainings A row = some_row training_row (same_training row) (is_training row.who row.role row.since row.until) entered A
   where
     entered : (act : Act) (rows : List Training)

@@ -1,7 +1,9 @@
 -- Days on which the rows say something, and days from which on they do.
-use Rattle.std.proofs.Common.{◌≡◌, ℕ, ◌≤◌, Bool, true, false, not, ◌||◌, ◌&&◌, cond, nat_le, max, is_some, inl, inr, List, [], ◌∷◌, find, Option, Some, None, option_map, refl, ◌∙◌, arith}
+use Rattle.std.proofs.Common.{◌≡◌, ℕ, ◌≤◌, Bool, true, false, not, ◌||◌, ◌&&◌, cond, nat_le, max, is_some, inl, inr, List, [], ◌∷◌, find, Option}
+use Rattle.std.proofs.Common.{Some, None, option_map, refl, ◌∙◌, arith}
 use Rattle.std.specs.List.{list_any, list_all}
-use Rattle.std.proofs.lemmas.Bool.{false≢true, both_ways, not-true, not_from_false, false_from_ne_true, and_parts, and_from, or_cases, or_left, or_right, leb-true, le-leb, ltb-true, lt-ltb}
+use Rattle.std.proofs.lemmas.Bool.{false≢true, both_ways, not-true, not_from_false, false_from_ne_true, and_parts, and_from, or_cases, or_left}
+use Rattle.std.proofs.lemmas.Bool.{or_right, leb-true, le-leb, ltb-true, lt-ltb}
 use Rattle.std.proofs.lemmas.Bool.Decides.{nat_tests}
 use Rattle.kcr_base.specs.Same.{same_text, same_role, same_place}
 use Rattle.kcr_base.specs.declared.place.Place.{Place}
@@ -10,7 +12,8 @@ use Rattle.kcr_base.proofs.ListLemmas.{any-more}
 use Rattle.kcr_people.specs.declared.Appointment.{Appointment}
 use Rattle.kcr_people.specs.declared.Training.{Training}
 use Rattle.kcr_people.specs.declared.Withdrawal.{Withdrawal}
-use Rattle.kcr_people.specs.People.{covers, is_of, is_withdrawn_by, trains, trained_by, trained_from_by, ends_after, lasts, lasts_beyond, holds, holder_by, place_held_from_by}
+use Rattle.kcr_people.specs.People.{covers, is_of, is_withdrawn_by, trains, trained_by, trained_from_by, ends_after, lasts, lasts_beyond, holds}
+use Rattle.kcr_people.specs.People.{holder_by, place_held_from_by}
 
 -- TRAININGS
 
@@ -23,7 +26,8 @@ still-withdrawn ws row day d l h =
     later b n e = grind (arith, nat_tests)
 
 -- a training that counts on a day counts on the first one that it covers from an earlier day on
-trains-first : (ws : List Withdrawal) (who : List ℕ) (role : Role) (day d : ℕ) (row : Training) → day ≤ d → trains ws who role d row ≡ true → trains ws who role (max row.since day) row ≡ true
+trains-first : (ws : List Withdrawal) (who : List ℕ) (role : Role) (day d : ℕ) (row : Training) → day ≤ d → trains ws who role d row ≡ true
+    → trains ws who role (max row.since day) row ≡ true
 trains-first ws who role day d row l h =
     by_parts (same_text row.who who && same_role row.role role) (is_withdrawn_by ws row d) (is_withdrawn_by ws row (max row.since day)) h
     (still-withdrawn ws row (max row.since day) d)
@@ -41,7 +45,8 @@ trained_on_some_day (row ∷ rows) ws who role day h =
       | inr e ↦ let w = trained_on_some_day rows ws who role day e in (w.0, w.1, or_right (trains ws who role w.0 row) (trained_by rows ws who role w.0) w.2)
     ]
 
-pub trained_on_no_other : (ts : List Training) (ws : List Withdrawal) (who : List ℕ) (role : Role) (day d : ℕ) → day ≤ d → trained_by ts ws who role d ≡ true → trained_from_by ts ws who role day ≡ true
+pub trained_on_no_other : (ts : List Training) (ws : List Withdrawal) (who : List ℕ) (role : Role) (day d : ℕ) → day ≤ d → trained_by ts ws who role d ≡ true
+    → trained_from_by ts ws who role day ≡ true
 trained_on_no_other ts ws who role day d l h =
     any-more (trains ws who role d) (λ row. trains ws who role (max row.since day) row) ts (λ row e. trains-first ws who role day d row l e) h
 
@@ -73,7 +78,8 @@ module _ (s : Appointment → Bool) where
         | inr e ↦ let w = held_on_some_day rows day q.1 e in (w.0, w.1, or_right (held_on w.0 row) (list_any (held_on w.0) rows) w.2)
       ]
 
-  pub held_on_no_other : (rows : List Appointment) (day d : ℕ) → day ≤ d → list_any (held_on d) rows ≡ true → list_any (λ row. s row && lasts_beyond day row) rows ≡ true
+  pub held_on_no_other : (rows : List Appointment) (day d : ℕ) → day ≤ d → list_any (held_on d) rows ≡ true
+      → list_any (λ row. s row && lasts_beyond day row) rows ≡ true
   held_on_no_other rows day d l h =
       any-more (held_on d) (λ row. s row && lasts_beyond day row) rows (λ row e. (let last = earlier_end row.until day d l in grind (arith, nat_tests))) h
 
@@ -88,6 +94,7 @@ place_on_some_day rows l place day h =
     let w = held_on_some_day (λ row. same_place row.place place) rows day l h in
     (w.0, w.1, some-find (λ row. row.who) (holds place w.0) rows ∙ w.2)
 
-pub place_on_no_other : (rows : List Appointment) (place : Place) (day d : ℕ) → day ≤ d → is_some (holder_by rows place d) ≡ true → place_held_from_by rows place day ≡ true
+pub place_on_no_other : (rows : List Appointment) (place : Place) (day d : ℕ) → day ≤ d → is_some (holder_by rows place d) ≡ true
+    → place_held_from_by rows place day ≡ true
 place_on_no_other rows place day d l h =
     held_on_no_other (λ row. same_place row.place place) rows day d l (rw some-find at h)

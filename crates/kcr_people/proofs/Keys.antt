@@ -18,13 +18,15 @@ same_withdrawn-keys =
     }
 
 -- a training's row has the training's key
-its-key : (withdrawn : List Withdrawal) (day : ℕ) (a b : Training) → same_withdrawn (withdrawal_of withdrawn day a) (withdrawal_of withdrawn day b) ≡ same_training a b
+its-key : (withdrawn : List Withdrawal) (day : ℕ) (a b : Training)
+    → same_withdrawn (withdrawal_of withdrawn day a) (withdrawal_of withdrawn day b) ≡ same_training a b
 its-key withdrawn day a b = grind (arith, turn a b, turn b a)
   where
     turn : (a b : Training) → same_training a b ≡ true → same_training b a ≡ true
     turn a b h = subst (λ c. same_training c a ≡ true) (is_of-true b (withdrawal_of [] 0 a) h) (is_of-own (withdrawal_of [] 0 a))
 
 -- of trainings that are all different a withdrawal makes rows of different keys
-pub withdrawn_rows-apart : (ts : List Training) (ws : List Withdrawal) (who : List ℕ) (role : Role) (day : ℕ) → Apart same_training ts → Apart same_withdrawn (withdrawn_rows ts ws who role day)
+pub withdrawn_rows-apart : (ts : List Training) (ws : List Withdrawal) (who : List ℕ) (role : Role) (day : ℕ) → Apart same_training ts
+    → Apart same_withdrawn (withdrawn_rows ts ws who role day)
 withdrawn_rows-apart ts ws who role day a =
     map-apart (withdrawal_of ws day) same_training same_withdrawn (its-key ws day) _ (filter-apart same_training (ends_from who role day) ts a)

@@ -1,5 +1,6 @@
 -- Rows in another order.
-use Rattle.std.proofs.Common.{◌≡◌, ℕ, Bool, true, false, not, ◌&&◌, cond, nat_le, max, List, [], ◌∷◌, find, Option, Some, None, refl, sym, ap, ◌∙◌, inl, inr, subst}
+use Rattle.std.proofs.Common.{◌≡◌, ℕ, Bool, true, false, not, ◌&&◌, cond, nat_le, max, List, [], ◌∷◌, find, Option, Some, None, refl, sym, ap, ◌∙◌}
+use Rattle.std.proofs.Common.{inl, inr, subst}
 use Rattle.std.specs.List.{list_any, All, AllByRecursion}
 use Rattle.std.specs.List.Sorted.{IsPermutation}
 use Rattle.std.proofs.lemmas.List.Sorted.{list_any-IsPermutation, All-permutation}
@@ -13,16 +14,19 @@ use Rattle.kcr_people.specs.Laws.{AtMostOne}
 
 -- TRAININGS
 
-trains-order : (ws vs : List Withdrawal) → IsPermutation ws vs → (who : List ℕ) (role : Role) (day : ℕ) (row : Training) → trains vs who role day row ≡ trains ws who role day row
+trains-order : (ws vs : List Withdrawal) → IsPermutation ws vs → (who : List ℕ) (role : Role) (day : ℕ) (row : Training)
+    → trains vs who role day row ≡ trains ws who role day row
 trains-order ws vs p who role day row =
     ap (λ b. covers who role day row && not b) (sym (list_any-IsPermutation (λ w. is_of row w && nat_le w.day day) ws vs p))
 
-pub trained-order : (ts us : List Training) (ws vs : List Withdrawal) → IsPermutation ts us → IsPermutation ws vs → (who : List ℕ) (role : Role) (day : ℕ) → trained_by us vs who role day ≡ trained_by ts ws who role day
+pub trained-order : (ts us : List Training) (ws vs : List Withdrawal) → IsPermutation ts us → IsPermutation ws vs → (who : List ℕ) (role : Role) (day : ℕ)
+    → trained_by us vs who role day ≡ trained_by ts ws who role day
 trained-order ts us ws vs p q who role day =
     any-same (trains vs who role day) (trains ws who role day) us (trains-order ws vs q who role day)
     ∙ sym (list_any-IsPermutation (trains ws who role day) ts us p)
 
-pub trained_from-order : (ts us : List Training) (ws vs : List Withdrawal) → IsPermutation ts us → IsPermutation ws vs → (who : List ℕ) (role : Role) (day : ℕ) → trained_from_by us vs who role day ≡ trained_from_by ts ws who role day
+pub trained_from-order : (ts us : List Training) (ws vs : List Withdrawal) → IsPermutation ts us → IsPermutation ws vs → (who : List ℕ) (role : Role) (day : ℕ)
+    → trained_from_by us vs who role day ≡ trained_from_by ts ws who role day
 trained_from-order ts us ws vs p q who role day =
     any-same (λ row. trains vs who role (max row.since day) row) (λ row. trains ws who role (max row.since day) row) us (λ row. trains-order ws vs q who role (max row.since day) row)
     ∙ sym (list_any-IsPermutation (λ row. trains ws who role (max row.since day) row) ts us p)

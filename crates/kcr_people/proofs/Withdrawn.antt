@@ -1,5 +1,6 @@
 -- After a withdrawal: whose training counts on which day.
-use Rattle.std.proofs.Common.{◌≡◌, ℕ, ◌≤◌, Bool, true, false, not, ◌||◌, ◌&&◌, cond, nat_le, eqb, min, List, [], ◌∷◌, map, filter, refl, sym, ap, ◌∙◌, subst, arith, inl, inr}
+use Rattle.std.proofs.Common.{◌≡◌, ℕ, ◌≤◌, Bool, true, false, not, ◌||◌, ◌&&◌, cond, nat_le, eqb, min, List, [], ◌∷◌, map, filter, refl, sym, ap, ◌∙◌}
+use Rattle.std.proofs.Common.{subst, arith, inl, inr}
 use Rattle.std.specs.Prelude.{fold}
 use Rattle.std.specs.List.{list_any, AllByRecursion}
 use Rattle.std.specs.Cmp.Lexicographic.{bytes_decides}
@@ -65,7 +66,8 @@ module _ {X : Type 0} (of counts same : X → Bool) (new : X) where
 put-bears : (row : Training) (d : ℕ) (new : Withdrawal) (ws : List Withdrawal)
     → is_withdrawn_by (put same_withdrawn new ws) row d ≡ cond (is_of row new) (nat_le new.day d) (is_withdrawn_by ws row d)
 put-bears row d new ws =
-    any-put (is_of row) (λ w. nat_le w.day d) (same_withdrawn new) new (λ h x. ap (λ t. is_of t x) (is_of-true row new h)) (λ h x e. ap test (is_of-true (training_of new) x e) ∙ h) ws
+    any-put (is_of row) (λ w. nat_le w.day d) (same_withdrawn new) new (λ h x. ap (λ t. is_of t x) (is_of-true row new h))
+    (λ h x e. ap test (is_of-true (training_of new) x e) ∙ h) ws
   where
     test : Training → Bool
     test t = same_text t.who row.who && same_role t.role row.role && eqb t.since row.since && eqb t.until row.until
@@ -111,7 +113,8 @@ least-day (w ∷ ws) row day d = by_test (is_of row w) (λ from. least-day ws ro
 -- WHO IS TRAINED AFTERWARDS
 
 -- each element of a list is found in it by a test that finds itself
-each-own : {X : Type 0} (own : X → X → Bool) → ((x : X) → own x x ≡ true) → (ys xs : List X) → ((x : X) → list_any (own x) xs ≡ true → list_any (own x) ys ≡ true)
+each-own : {X : Type 0} (own : X → X → Bool) → ((x : X) → own x x ≡ true) → (ys xs : List X)
+    → ((x : X) → list_any (own x) xs ≡ true → list_any (own x) ys ≡ true)
     → AllByRecursion (λ x. list_any (own x) ys ≡ true) xs
 each-own own r ys [] f = tt
 each-own own r ys (x ∷ xs) f =
@@ -127,7 +130,8 @@ any-and p g [] = refl
 any-and p g (x ∷ xs) = grind (arith, any-and p g xs)
 
 -- whether a training that the table has is withdrawn afterwards
-withdrawn-after : (ts : List Training) (ws : List Withdrawal) (who : List ℕ) (role : Role) (day : ℕ) (t : Training) (d : ℕ) → list_any (is_row_of ws day t) ts ≡ true
+withdrawn-after : (ts : List Training) (ws : List Withdrawal) (who : List ℕ) (role : Role) (day : ℕ) (t : Training) (d : ℕ)
+    → list_any (is_row_of ws day t) ts ≡ true
     → is_withdrawn_by (put_all same_withdrawn (withdrawn_rows ts ws who role day) ws) t d ≡ ((ends_from who role day t && nat_le day d) || is_withdrawn_by ws t d)
 withdrawn-after ts ws who role day t d own =
     put_all-bears t d day ws (filter (ends_from who role day) ts) ws
@@ -147,7 +151,8 @@ withdrawn-after ts ws who role day t d own =
     by_end false = refl
 
 -- for a training that covers the day it makes no difference that a withdrawal passes over those that end before its own
-covered : (who p : List ℕ) (role r : Role) (day d : ℕ) (t : Training) → covers p r d t ≡ true → (ends_from who role day t && nat_le day d) ≡ (same_text p who && same_role r role && nat_le day d)
+covered : (who p : List ℕ) (role r : Role) (day d : ℕ) (t : Training) → covers p r d t ≡ true
+    → (ends_from who role day t && nat_le day d) ≡ (same_text p who && same_role r role && nat_le day d)
 covered who p role r day d t h =
     let person : t.who ≡ p = same-is t.who p (grind (arith, nat_tests)) in
     let same : t.role ≡ r = role-same t.role r (grind (arith, nat_tests)) in
@@ -157,7 +162,8 @@ covered who p role r day d t h =
     by_day : (s : Bool) → d ≤ t.until → ((s && nat_le day t.until) && nat_le day d) ≡ (s && nat_le day d)
     by_day s l = grind (arith, nat_tests)
 
-trains-after : (ts : List Training) (ws : List Withdrawal) (who : List ℕ) (role : Role) (day : ℕ) (p : List ℕ) (r : Role) (d : ℕ) (t : Training) → list_any (is_row_of ws day t) ts ≡ true
+trains-after : (ts : List Training) (ws : List Withdrawal) (who : List ℕ) (role : Role) (day : ℕ) (p : List ℕ) (r : Role) (d : ℕ) (t : Training)
+    → list_any (is_row_of ws day t) ts ≡ true
     → trains (put_all same_withdrawn (withdrawn_rows ts ws who role day) ws) p r d t ≡ (trains ws p r d t && not (same_text p who && same_role r role && nat_le day d))
 trains-after ts ws who role day p r d t own =
     ap (λ b. covers p r d t && not b) (withdrawn-after ts ws who role day t d own) ∙ by_cover (covers p r d t) refl
