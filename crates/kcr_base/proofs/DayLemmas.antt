@@ -1,5 +1,6 @@
 -- A day number and its date name each other.
-use Rattle.std.proofs.Common.{◌≡◌, All, ℕ, zero, suc, ◌+◌, ◌-◌, ◌*◌, ◌/◌, ◌%◌, ◌<◌, ◌≤◌, inl, inr, Option, Some, List, [], ◌∷◌, ◌++◌, length, take, drop, refl, sym, ap, ◌∙◌, arith, ℤ, pos, ◌+ℤ◌, subst}
+use Rattle.std.proofs.Common.{◌≡◌, All, ℕ, cond, nat_lt, zero, suc, ◌+◌, ◌-◌, ◌*◌, ◌/◌, ◌%◌, ◌<◌, ◌≤◌, inl, inr, Option, Some, List, [], ◌∷◌, ◌++◌}
+use Rattle.std.proofs.Common.{length, take, drop, refl, sym, ap, ◌∙◌, arith, ℤ, pos, ◌+ℤ◌, subst}
 use Rattle.std.specs.List.{AllByRecursion}
 use Rattle.std.proofs.lemmas.List.Elements.{All-append, All-from_recursion}
 use Rattle.std.proofs.lemmas.List.{take-append-drop}
@@ -7,7 +8,9 @@ use Rattle.std.proofs.lemmas.Bool.{cases_lt, cases_order, lt-ltb, le-ltb}
 use Rattle.jiff_core.specs.Calendar.{IsCivilDate, day_count, day_of_year, days_of_months, days_from_civil, days_in_year, days_in_month}
 use Rattle.jiff_core.proofs.SignedLemmas.{signed_arith}
 use Rattle.jiff_core.proofs.MarchLemmas.{day_count-early}
-use Rattle.jiff_core.proofs.CalendarLemmas.{days_from_civil-day_count, day_count-day_of_year, day_count-next_year, day_count-later_year, days_of_months_more, days_of_months_all, days_of_months-zero, days_of_months_mono, day_of_year_bound, days_in_month_bounds}
+use Rattle.jiff_core.proofs.CalendarLemmas.{days_from_civil-day_count, day_count-day_of_year, day_count-next_year, day_count-later_year}
+use Rattle.jiff_core.proofs.CalendarLemmas.{days_of_months_more, days_of_months_all, days_of_months-zero, days_of_months_mono, day_of_year_bound}
+use Rattle.jiff_core.proofs.CalendarLemmas.{days_in_month_bounds}
 use Rattle.jiff_core.specs.declared.civil.date.Date.{Date}
 use Rattle.jiff_core.specs.Date.{epoch_day}
 use Rattle.jiff_core.proofs.DateLemmas.{civil, epoch_day_injective}
@@ -33,100 +36,72 @@ next_year y = day_count-next_year (pos y) (pos (y + 1)) (omega (arith, signed_ar
 later_year : (y later : ℕ) → y < later → day_count (pos y) 1 1 + days_in_year (pos y) ≤ day_count (pos later) 1 1
 later_year y later h = day_count-later_year (pos y) (pos later) (omega (arith, signed_arith)) (omega (arith, signed_arith))
 
--- ---- the year
+-- ---- years and months, one after the other
 
--- r is the year in which day n after 1 January of year y lies, and how many days of it are gone
-record IsYearFrom (k y n : ℕ) (r : ℕ × ℕ) : Type 0 where
+-- periods of so many days, of which each starts where the one before ends, and the walk over them that looks for a day
+record IsWalk (days start : ℕ → ℕ) (first : ℕ) (walk : ℕ → ℕ → ℕ → ℕ × ℕ) : Type 0 where
+  next : (y : ℕ) → first ≤ y → start (y + 1) ≡ start y + days y
+  later : (y z : ℕ) → first ≤ y → y < z → start y + days y ≤ start z
+  stop : (y n : ℕ) → walk 0 y n ≡ (y, n)
+  step : (k y n : ℕ) → walk (suc k) y n ≡ cond (nat_lt n (days y)) (y, n) (walk k (y + 1) (n - days y))
+
+-- r is the period in which day n after the start of y lies, and how many days of it are gone
+record IsFrom (days start : ℕ → ℕ) (k y n : ℕ) (r : ℕ × ℕ) : Type 0 where
   from : y ≤ r.0
   until : r.0 ≤ y + k
-  within : r.1 < days_in_year (pos r.0)
-  same_day : r.1 + day_count (pos r.0) 1 1 ≡ n + day_count (pos y) 1 1
+  within : r.1 < days r.0
+  same_day : r.1 + start r.0 ≡ n + start y
 
-year_from_is : (k y n : ℕ) → n + day_count (pos y) 1 1 < day_count (pos (y + k + 1)) 1 1 → IsYearFrom k y n (year_from k y n)
-unfolding year_from
-year_from_is zero y n h =
+walk-is : {days start : ℕ → ℕ} {first : ℕ} {walk : ℕ → ℕ → ℕ → ℕ × ℕ} → IsWalk days start first walk
+    → (k y n : ℕ) → first ≤ y → n + start y < start (y + k + 1) → IsFrom days start k y n (walk k y n)
+walk-is w zero y n low h =
     let e : y + 0 + 1 ≡ y + 1 = omega arith in
     let h' = rw e at h in
-    record { from = omega arith; until = omega arith; within = omega (arith, next_year y); same_day = refl }
-year_from_is (suc k) y n h =
-    let days = days_in_year (pos y) in
-    elim (cases_lt n (days_in_year (pos y))) [
-      | inl lt ↦ rw (lt-ltb n (days_in_year (pos y)) lt) (record { from = omega arith; until = omega arith; within = lt; same_day = refl })
+    rw (w.stop y n) (record { from = omega arith; until = omega arith; within = omega (arith, w.next y low); same_day = refl })
+walk-is {days} w (suc k) y n low h =
+    let e : y + suc k + 1 ≡ y + 1 + k + 1 = omega arith in
+    let h' = rw e at h in
+    rw (w.step k y n) (elim (cases_lt n (days y)) [
+      | inl lt ↦ rw (lt-ltb n (days y) lt) (record { from = omega arith; until = omega arith; within = lt; same_day = refl })
       | inr le ↦
-          let e : y + suc k + 1 ≡ y + 1 + k + 1 = omega arith in
-          let h' = rw e at h in
-          let r = year_from_is k (y + 1) (n - days) (omega (arith, next_year y)) in
-          rw (le-ltb n (days_in_year (pos y)) le) (record { from = omega (arith, r.from); until = omega (arith, r.until); within = r.within; same_day = omega (arith, r.same_day, next_year y) })
-    ]
+          let r = walk-is w k (y + 1) (n - days y) (omega arith) (omega (arith, w.next y low)) in
+          rw (le-ltb n (days y) le)
+          (record { from = omega (arith, r.from); until = omega (arith, r.until); within = r.within; same_day = omega (arith, r.same_day, w.next y low) })
+    ])
 
 -- and no other
-year_from_only : (k y n year rest : ℕ) → y ≤ year → year ≤ y + k → rest < days_in_year (pos year) → n + day_count (pos y) 1 1 ≡ day_count (pos year) 1 1 + rest → year_from k y n ≡ (year, rest)
+walk-only : {days start : ℕ → ℕ} {first : ℕ} {walk : ℕ → ℕ → ℕ → ℕ × ℕ} → IsWalk days start first walk
+    → (k y n z rest : ℕ) → first ≤ y → y ≤ z → z ≤ y + k → rest < days z → n + start y ≡ start z + rest → walk k y n ≡ (z, rest)
+walk-only w zero y n z rest low from until within e =
+    let same : y ≡ z = omega arith in
+    let gone : n ≡ rest = omega (arith, rw same at e) in
+    w.stop y n ∙ (λ i. (same i, gone i))
+walk-only {days} w (suc k) y n z rest low from until within e =
+    rw (w.step k y n) (elim (cases_order y z) [
+      | inl same ↦
+          let gone : n ≡ rest = omega (arith, rw same at e) in
+          let lt : n < days y = rw (same, gone) within in
+          rw (lt-ltb n (days y) lt) (λ i. (same i, gone i))
+      | inr (inl lt) ↦
+          let le : days y ≤ n = omega (arith, w.later y z low lt) in
+          rw (le-ltb n (days y) le)
+          (walk-only w k (y + 1) (n - days y) z rest (omega arith) (omega arith) (omega arith) within (omega (arith, w.next y low, e)))
+      | inr (inr gt) ↦ absurd (omega arith)
+    ])
+
+years : IsWalk (λ y. days_in_year (pos y)) (λ y. day_count (pos y) 1 1) 0 year_from
 unfolding year_from
-year_from_only zero y n year rest low high within e =
-    let same : y ≡ year = omega arith in
-    let gone : n ≡ rest = omega (arith, rw same at e) in
-    λ i. (same i, gone i)
-year_from_only (suc k) y n year rest low high within e =
-    let days = days_in_year (pos y) in
-    elim (cases_order y year) [
-      | inl same ↦
-          let gone : n ≡ rest = omega (arith, rw same at e) in
-          let lt : n < days_in_year (pos y) = rw (same, gone) within in
-          rw (lt-ltb n (days_in_year (pos y)) lt) (λ i. (same i, gone i))
-      | inr (inl lt) ↦
-          let le : days_in_year (pos y) ≤ n = omega (arith, later_year y year lt) in
-          rw (le-ltb n (days_in_year (pos y)) le) (year_from_only k (y + 1) (n - days) year rest (omega arith) (omega arith) within (omega (arith, next_year y, e)))
-      | inr (inr gt) ↦ absurd (omega arith)
-    ]
+years = record { next = λ y low. next_year y; later = λ y z low l. later_year y z l; stop = λ y n. refl; step = λ k y n. refl }
 
--- ---- the month
-
-record IsMonthFrom (k y m n : ℕ) (r : ℕ × ℕ) : Type 0 where
-  from : m ≤ r.0
-  until : r.0 ≤ m + k
-  within : r.1 < days_in_month (pos y) r.0
-  same_day : r.1 + days_of_months (pos y) (r.0 - 1) ≡ n + days_of_months (pos y) (m - 1)
-
-month_from_is : (k y m n : ℕ) → 1 ≤ m → n + days_of_months (pos y) (m - 1) < days_of_months (pos y) (m + k) → IsMonthFrom k y m n (month_from k y m n)
+months : (y : ℕ) → IsWalk (days_in_month (pos y)) (λ m. days_of_months (pos y) (m - 1)) 1 (λ k m n. month_from k y m n)
 unfolding month_from
-month_from_is zero y m n low h =
-    let e : m + 0 ≡ m = omega arith in
-    let h' = rw e at h in
-    record { from = omega arith; until = omega arith; within = omega (arith, days_of_months_more (pos y) m low); same_day = refl }
-month_from_is (suc k) y m n low h =
-    let days = days_in_month (pos y) m in
-    elim (cases_lt n (days_in_month (pos y) m)) [
-      | inl lt ↦ rw (lt-ltb n (days_in_month (pos y) m) lt) (record { from = omega arith; until = omega arith; within = lt; same_day = refl })
-      | inr le ↦
-          let e : m + suc k ≡ m + 1 + k = omega arith in
-          let h' = rw e at h in
-          let back : m + 1 - 1 ≡ m = omega arith in
-          let r = month_from_is k y (m + 1) (n - days) (omega arith) (rw back (omega (arith, days_of_months_more (pos y) m low))) in
-          let same = rw back at r.same_day in
-          rw (le-ltb n (days_in_month (pos y) m) le) (record { from = omega (arith, r.from); until = omega (arith, r.until); within = r.within; same_day = omega (arith, same, days_of_months_more (pos y) m low) })
-    ]
-
-month_from_only : (k y m n month rest : ℕ) → 1 ≤ m → m ≤ month → month ≤ m + k → rest < days_in_month (pos y) month → n + days_of_months (pos y) (m - 1) ≡ days_of_months (pos y) (month - 1) + rest → month_from k y m n ≡ (month, rest)
-unfolding month_from
-month_from_only zero y m n month rest one low high within e =
-    let same : m ≡ month = omega arith in
-    let gone : n ≡ rest = omega (arith, rw same at e) in
-    λ i. (same i, gone i)
-month_from_only (suc k) y m n month rest one low high within e =
-    let days = days_in_month (pos y) m in
-    elim (cases_order m month) [
-      | inl same ↦
-          let gone : n ≡ rest = omega (arith, rw same at e) in
-          let lt : n < days_in_month (pos y) m = rw (same, gone) within in
-          rw (lt-ltb n (days_in_month (pos y) m) lt) (λ i. (same i, gone i))
-      | inr (inl lt) ↦
-          let back : m + 1 - 1 ≡ m = omega arith in
-          let more = days_of_months_more (pos y) m one in
-          let later = days_of_months_mono (pos y) m (month - 1) (omega arith) in
-          let le : days_in_month (pos y) m ≤ n = omega (arith, more, later, e) in
-          rw (le-ltb n (days_in_month (pos y) m) le) (month_from_only k y (m + 1) (n - days) month rest (omega arith) (omega arith) (omega arith) within (rw back (omega (arith, more, later, e))))
-      | inr (inr gt) ↦ absurd (omega arith)
-    ]
+months y =
+    record {
+      next = λ m low. (let back : m + 1 - 1 ≡ m = omega arith in rw back (omega (arith, days_of_months_more (pos y) m low)));
+      later = λ m z low l. omega (arith, days_of_months_more (pos y) m low, days_of_months_mono (pos y) m (z - 1) (omega arith));
+      stop = λ m n. refl;
+      step = λ k m n. refl;
+    }
 
 -- ---- the date
 
@@ -134,16 +109,21 @@ month_from_only (suc k) y m n month rest one low high within e =
 pub date_of_number : (n : ℕ) → IsDay n → IsDayOf (year_of n) (month_of n) (day_of_month n) n
 unfolding year_of month_of day_of_month
 date_of_number n h =
-    let year = year_from_is 99 2000 (n - 10957) (omega (arith, h.from, h.until, day_count-2000, day_count-2100)) in
+    let year = walk-is years 99 2000 (n - 10957) (omega arith) (omega (arith, h.from, h.until, day_count-2000, day_count-2100)) in
     let y = year_of n in
     let gone = (year_from 99 2000 (n - 10957)).1 in
-    let month = month_from_is 11 y 1 gone (omega arith) (omega (arith, year.within, days_of_months_all (pos y), days_of_months-zero (pos y))) in
+    let month = walk-is (months y) 11 1 gone (omega arith) (omega (arith, year.within, days_of_months_all (pos y), days_of_months-zero (pos y))) in
     let m = month_of n in
     record {
-      civil = ((omega (arith, signed_arith, year.until), omega (arith, signed_arith, year.until)), (month.from, omega (arith, month.until)), (omega arith, omega (arith, month.within)));
+      civil = (
+        (omega (arith, signed_arith, year.until), omega (arith, signed_arith, year.until)),
+        (month.from, omega (arith, month.until)),
+        (omega arith, omega (arith, month.within)),
+      );
       from = year.from;
       until = omega (arith, year.until);
-      number = number_of_count y m (day_of_month n) n (omega (arith, h.from, year.same_day, month.same_day, day_count-2000, days_of_months-zero (pos y), day_count-day_of_year (pos y) m (day_of_month n) (omega arith)));
+      number = number_of_count y m (day_of_month n) n
+          (omega (arith, h.from, year.same_day, month.same_day, day_count-2000, days_of_months-zero (pos y), day_count-day_of_year (pos y) m (day_of_month n) (omega arith)));
     }
 
 from_2000 : (y : ℕ) → 2000 ≤ y → day_count (pos 2000) 1 1 ≤ day_count (pos y) 1 1
@@ -172,16 +152,19 @@ number_of_date y m d n h =
     let range = number_in_range y m d n h in
     let bound = day_of_year_bound (pos y) m d h.civil in
     let year : year_from 99 2000 (n - 10957) ≡ (y, day_of_year (pos y) m d - 1) =
-    year_from_only 99 2000 (n - 10957) y (day_of_year (pos y) m d - 1) h.from (omega (arith, h.until)) (omega (arith, h.civil.2.0, bound)) (omega (arith, count, place, range.from, day_count-2000, h.civil.2.0)) in
+    walk-only years 99 2000 (n - 10957) y (day_of_year (pos y) m d - 1) (omega arith) h.from
+    (omega (arith, h.until)) (omega (arith, h.civil.2.0, bound)) (omega (arith, count, place, range.from, day_count-2000, h.civil.2.0)) in
     let month : month_from 11 y 1 (day_of_year (pos y) m d - 1) ≡ (m, d - 1) =
-    month_from_only 11 y 1 (day_of_year (pos y) m d - 1) m (d - 1) (omega arith) h.civil.1.0 (omega (arith, h.civil.1.1)) (omega (arith, h.civil.2.0, h.civil.2.1)) (omega (arith, h.civil.2.0, days_of_months-zero (pos y))) in
+    walk-only (months y) 11 1 (day_of_year (pos y) m d - 1) m (d - 1) (omega arith) h.civil.1.0
+    (omega (arith, h.civil.1.1)) (omega (arith, h.civil.2.0, h.civil.2.1)) (omega (arith, h.civil.2.0, days_of_months-zero (pos y))) in
     let both : month_from 11 (year_of n) 1 (year_from 99 2000 (n - 10957)).1 ≡ (m, d - 1) = ap (λ (r : ℕ × ℕ). month_from 11 r.0 1 r.1) year ∙ month in
     (ap (λ (r : ℕ × ℕ). r.0) year, ap (λ (r : ℕ × ℕ). r.0) both, ap (λ (r : ℕ × ℕ). r.1 + 1) both ∙ omega (arith, h.civil.2.0))
 
 -- ---- the calendar's answer
 
 -- the date that was found has the day's number
-pub date_found : (y m d : ℕ) (date : Date) (z : ℤ) → 2000 ≤ y → y ≤ 2099 → date.year ≡ pos y → pos date.month ≡ pos m → pos date.day ≡ pos d → z ≡ epoch_day date → (n : ℕ) × (z ≡ pos n) × IsDayOf y m d n
+pub date_found : (y m d : ℕ) (date : Date) (z : ℤ) → 2000 ≤ y → y ≤ 2099 → date.year ≡ pos y → pos date.month ≡ pos m → pos date.day ≡ pos d
+    → z ≡ epoch_day date → (n : ℕ) × (z ≡ pos n) × IsDayOf y m d n
 date_found y m d date z from until year month day e =
     let month' : date.month ≡ m = cc in
     let day' : date.day ≡ d = cc in
@@ -201,7 +184,8 @@ day_text_of_date y m d n h =
     λ i. date_text (e.0 i) (e.1 i) (e.2 i)
 
 -- a day's text is that of a date
-pub parts_of_day : (n : ℕ) → IsDay n → IsDateParts (year_of n) (month_of n) (day_of_month n) × (date_text (year_of n) (month_of n) (day_of_month n) ≡ day_text n)
+pub parts_of_day : (n : ℕ) → IsDay n
+    → IsDateParts (year_of n) (month_of n) (day_of_month n) × (date_text (year_of n) (month_of n) (day_of_month n) ≡ day_text n)
 unfolding day_text
 parts_of_day n h =
     let date = date_of_number n h in
@@ -219,7 +203,8 @@ date_at n h =
     let d = date_of_number n h in
     record { year = pos (year_of n); month = month_of n; day = day_of_month n; year_in = d.civil.0; month_in = d.civil.1; day_in = d.civil.2 }
 
-pub date_is : (n : ℕ) (date : Date) → IsDay n → epoch_day date +ℤ pos 4_371_587 ≡ pos (n + 4_371_587) → (date.year ≡ pos (year_of n)) × (date.month ≡ month_of n) × (date.day ≡ day_of_month n)
+pub date_is : (n : ℕ) (date : Date) → IsDay n → epoch_day date +ℤ pos 4_371_587 ≡ pos (n + 4_371_587)
+    → (date.year ≡ pos (year_of n)) × (date.month ≡ month_of n) × (date.day ≡ day_of_month n)
 unfolding date_at
 date_is n date h e =
     let d = date_of_number n h in
@@ -229,11 +214,13 @@ date_is n date h e =
 -- ---- moments
 
 -- the two parts of a moment's text
-pub moment_parts : (t : ℕ) (bytes : List ℕ) → moment_text t ≡ bytes → (length bytes ≡ 20) × (day_text (t / 86400) ≡ take 10 bytes) × (84 ∷ clock_text (t % 86400) ++ 90 ∷ [] ≡ drop 10 bytes)
+pub moment_parts : (t : ℕ) (bytes : List ℕ) → moment_text t ≡ bytes
+    → (length bytes ≡ 20) × (day_text (t / 86400) ≡ take 10 bytes) × (84 ∷ clock_text (t % 86400) ++ 90 ∷ [] ≡ drop 10 bytes)
 unfolding moment_text day_text
 moment_parts t bytes e = (ap length (sym e), ap (λ (xs : List ℕ). take 10 xs) e, ap (λ (xs : List ℕ). drop 10 xs) e)
 
-pub moment_whole : (day second : ℕ) (bytes : List ℕ) → second < 86400 → day_text day ≡ take 10 bytes → 84 ∷ clock_text second ++ 90 ∷ [] ≡ drop 10 bytes → moment_text (day * 86400 + second) ≡ bytes
+pub moment_whole : (day second : ℕ) (bytes : List ℕ) → second < 86400 → day_text day ≡ take 10 bytes → 84 ∷ clock_text second ++ 90 ∷ [] ≡ drop 10 bytes
+    → moment_text (day * 86400 + second) ≡ bytes
 unfolding moment_text day_text
 moment_whole day second bytes h date clock =
     let d : (day * 86400 + second) / 86400 ≡ day = omega arith in

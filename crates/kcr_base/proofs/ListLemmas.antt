@@ -1,5 +1,6 @@
 -- What tests find in lists.
-use Rattle.std.proofs.Common.{◌≡◌, Bool, true, false, List, [], ◌∷◌, ◌++◌, map, find, Option, Some, None, is_some, is_none, refl, arith, ◌⊎◌, cond, inl, inr, subst, sym, ◌∙◌}
+use Rattle.std.proofs.Common.{◌≡◌, Bool, true, false, List, [], ◌∷◌, ◌++◌, map, find, Option, Some, None, is_some, is_none, refl, arith, ◌⊎◌, cond}
+use Rattle.std.proofs.Common.{inl, inr, subst, sym, ◌∙◌}
 use Rattle.std.specs.List.{list_any, list_all, AllByRecursion}
 use Rattle.std.proofs.lemmas.Bool.{false≢true}
 use Rattle.std.proofs.lemmas.Bool.Decides.{nat_tests}

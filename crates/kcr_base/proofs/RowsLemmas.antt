@@ -4,7 +4,8 @@ use Rattle.std.specs.List.{list_any, swap}
 use Rattle.std.specs.List.Sorted.{IsPermutation}
 use Rattle.std.proofs.lemmas.Bool.{or_parts}
 use Rattle.std.proofs.lemmas.Bool.Decides.{nat_tests}
-use Rattle.std.proofs.lemmas.List.Sorted.{IsPermutation-refl, IsPermutation-trans, IsPermutation-cons, IsPermutation-map, IsPermutation-middle, IsPermutation-keeps, list_any-IsPermutation}
+use Rattle.std.proofs.lemmas.List.Sorted.{IsPermutation-refl, IsPermutation-trans, IsPermutation-cons, IsPermutation-map, IsPermutation-middle}
+use Rattle.std.proofs.lemmas.List.Sorted.{IsPermutation-keeps, list_any-IsPermutation}
 use Rattle.kcr_base.specs.Rows.{put, put_all}
 use Rattle.kcr_base.proofs.ListLemmas.{any-map, any-same}
 
@@ -27,7 +28,8 @@ with_first x (y ∷ xs) zero d h = flipped x y xs
 with_first x (y ∷ xs) (suc j) d h =
     let z = get_or xs j d in
     after (x ∷ y ∷ xs) (y ∷ x ∷ xs) (z ∷ y ∷ set xs j x) (flipped x y xs)
-    (after (y ∷ x ∷ xs) (y ∷ z ∷ set xs j x) (z ∷ y ∷ set xs j x) (under y (x ∷ xs) (z ∷ set xs j x) (with_first x xs j d (omega arith))) (flipped y z (set xs j x)))
+    (after (y ∷ x ∷ xs) (y ∷ z ∷ set xs j x) (z ∷ y ∷ set xs j x)
+    (under y (x ∷ xs) (z ∷ set xs j x) (with_first x xs j d (omega arith))) (flipped y z (set xs j x)))
 
 exchanged : {X : Type 0} (xs : List X) (i j : ℕ) (d : X) → i < length xs → j < length xs → Shuffled xs (set (set xs i (get_or xs j d)) j (get_or xs i d))
 exchanged [] i j d p q = absurd (omega arith)
@@ -48,7 +50,8 @@ flip x y xs = IsPermutation-middle (x ∷ []) y xs
 
 -- WHAT A TEST KEEPS
 
-keep_two : {X : Type 0} (b c : Bool) (x y : X) (xs : List X) → IsPermutation (cond b (x ∷ cond c (y ∷ xs) xs) (cond c (y ∷ xs) xs)) (cond c (y ∷ cond b (x ∷ xs) xs) (cond b (x ∷ xs) xs))
+keep_two : {X : Type 0} (b c : Bool) (x y : X) (xs : List X)
+    → IsPermutation (cond b (x ∷ cond c (y ∷ xs) xs) (cond c (y ∷ xs) xs)) (cond c (y ∷ cond b (x ∷ xs) xs) (cond b (x ∷ xs) xs))
 keep_two true true x y xs = flip x y xs
 keep_two true false x y xs = IsPermutation-refl (x ∷ xs)
 keep_two false c x y xs = IsPermutation-refl (cond c (y ∷ xs) xs)
@@ -85,7 +88,8 @@ filter-apart same test [] a = tt
 filter-apart same test (x ∷ xs) a = grind (arith, any-kept (same x) test xs a.0, filter-apart same test xs a.1)
 
 -- nor do rows that are made of them, where their keys are the same as before
-pub map-apart : {X Y : Type 0} (f : X → Y) (same : X → X → Bool) (also : Y → Y → Bool) → ((x y : X) → also (f x) (f y) ≡ same x y) → (xs : List X) → Apart same xs → Apart also (map f xs)
+pub map-apart : {X Y : Type 0} (f : X → Y) (same : X → X → Bool) (also : Y → Y → Bool) → ((x y : X) → also (f x) (f y) ≡ same x y) → (xs : List X)
+    → Apart same xs → Apart also (map f xs)
 map-apart f same also h [] a = tt
 map-apart f same also h (x ∷ xs) a =
     (any-map (also (f x)) f xs ∙ any-same (λ y. also (f x) (f y)) (same x) xs (h x) ∙ a.0, map-apart f same also h xs a.1)

@@ -6,13 +6,15 @@ use Rattle.kcr_base.proofs.DayLemmas.{date_found, number_in_range}
 use Rattle.kcr_base.proofs.day.Day.from_date.Goals as goal
 
 -- the number that the calendar gave, and its cast
-found : (c : goal.After-to_unix_epoch_day) → (n : ℕ) × (to_z w32 (of_z w32 c.to_unix_epoch_day.result) ≡ pos n) × IsDayOf c.args.year c.args.month c.args.day n × IsDay n
+found : (c : goal.After-to_unix_epoch_day)
+    → (n : ℕ) × (to_z w32 (of_z w32 c.to_unix_epoch_day.result) ≡ pos n) × IsDayOf c.args.year c.args.month c.args.day n × IsDay n
 found c =
     let h = c.in-Ok.ensures.value in
     let year = h.0 ∙ to_z_pos w16 c.args.year (omega arith) in
     let month = h.1 ∙ to_z_pos w8 c.args.month (omega arith) in
     let day = h.2 ∙ to_z_pos w8 c.args.day (omega arith) in
-    let r = date_found c.args.year c.args.month c.args.day c.in-Ok.date c.to_unix_epoch_day.result (omega arith) (omega arith) year month day c.to_unix_epoch_day.ensures.value in
+    let r = date_found c.args.year c.args.month c.args.day c.in-Ok.date c.to_unix_epoch_day.result (omega arith) (omega arith) year month day
+    c.to_unix_epoch_day.ensures.value in
     let range = number_in_range c.args.year c.args.month c.args.day r.0 r.2 in
     let fits : FitsSigned w32 c.to_unix_epoch_day.result = rw r.1 (omega (arith, signed_arith, range.until)) in
     (r.0, to_z-of_z w32 _ fits ∙ r.1, r.2, range)
