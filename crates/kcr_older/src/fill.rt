@@ -5,7 +5,8 @@ ghost use Rattle.sqlite.specs.Held.{state};
 ghost use Rattle.sqlite.specs.State.{HasCleanDisk};
 ghost use Rattle.kcr_history.specs.declared.views.Change.TheVariants.{PutStay};
 ghost use Rattle.kcr_room.specs.Stays.{stays_by};
-ghost use Rattle.kcr_tables.specs.Frame.{Writes};
+ghost use Rattle.kcr_rows.specs.Refusals.{IsFault};
+ghost use Rattle.kcr_cells.specs.Frame.{StaysWithin};
 ghost use Rattle.kcr_tables.specs.Held.{Tables, Holds};
 ghost use Rattle.kcr_older.specs.Filled.{with_stays};
 
@@ -44,7 +45,7 @@ pub(crate) fn fill_stays<S: Alter>(
     ensures holds { HasCleanDisk (state S.Store tx.new.conn.now) → (t : Tables)
         → Holds (state S.Store tx.old.conn.now).now t
         → OnOk result (Holds (state S.Store tx.new.conn.now).now (with_stays t)) }
-    ensures frame { Writes (state S.Store tx.old.conn.now) (state S.Store tx.new.conn.now) result }
+    ensures frame { StaysWithin IsFault (state S.Store tx.old.conn.now) (state S.Store tx.new.conn.now) result }
 {
     let rows = all_rows::<_, SheetRow>(alloc, tx)?;
     match stay_changes(alloc, rows.as_slice()) {

@@ -3,7 +3,8 @@
 ghost use Rattle.std.specs.Prelude.{◌≡◌, ℕ, [], OnOk};
 ghost use Rattle.sqlite.specs.Held.{state};
 ghost use Rattle.sqlite.specs.State.{HasCleanDisk};
-ghost use Rattle.kcr_tables.specs.Frame.{Writes};
+ghost use Rattle.kcr_rows.specs.Refusals.{IsFault};
+ghost use Rattle.kcr_cells.specs.Frame.{StaysWithin};
 ghost use Rattle.kcr_tables.specs.Held.{Tables, Holds};
 ghost use Rattle.kcr_tables.specs.Made.{first};
 ghost use Rattle.kcr_tables.specs.Schema.{stays, withdrawals};
@@ -20,7 +21,7 @@ fn create_stays<S: Alter>(tx: &mut Transaction<'_, S>) -> Result<(), Refusal>
     ensures same_reference { tx.new.conn.ghost_name ≡ tx.old.conn.ghost_name }
     ensures gains { HasCleanDisk (state S.Store tx.new.conn.now) → (state S.Store tx.old.conn.now).now.schema ≡ first 15
         → OnOk result (Gains 15 stays (state S.Store tx.old.conn.now).now (state S.Store tx.new.conn.now).now) }
-    ensures frame { Writes (state S.Store tx.old.conn.now) (state S.Store tx.new.conn.now) result }
+    ensures frame { StaysWithin IsFault (state S.Store tx.old.conn.now) (state S.Store tx.new.conn.now) result }
 {
     let text = create_text(15);
     write(tx, text, &[])
@@ -31,7 +32,7 @@ fn create_withdrawals<S: Alter>(tx: &mut Transaction<'_, S>) -> Result<(), Refus
     ensures same_reference { tx.new.conn.ghost_name ≡ tx.old.conn.ghost_name }
     ensures gains { HasCleanDisk (state S.Store tx.new.conn.now) → (state S.Store tx.old.conn.now).now.schema ≡ first 16
         → OnOk result (Gains 16 withdrawals (state S.Store tx.old.conn.now).now (state S.Store tx.new.conn.now).now) }
-    ensures frame { Writes (state S.Store tx.old.conn.now) (state S.Store tx.new.conn.now) result }
+    ensures frame { StaysWithin IsFault (state S.Store tx.old.conn.now) (state S.Store tx.new.conn.now) result }
 {
     let text = create_text(16);
     write(tx, text, &[])
@@ -44,7 +45,7 @@ pub(crate) fn grow_from_1<S: Alter>(tx: &mut Transaction<'_, S>) -> Result<(), R
     ensures holds { HasCleanDisk (state S.Store tx.new.conn.now) → (t : Tables)
         → HoldsUpTo 15 (state S.Store tx.old.conn.now).now t
         → OnOk result (Holds (state S.Store tx.new.conn.now).now (record t { stays = []; withdrawals = [] })) }
-    ensures frame { Writes (state S.Store tx.old.conn.now) (state S.Store tx.new.conn.now) result }
+    ensures frame { StaysWithin IsFault (state S.Store tx.old.conn.now) (state S.Store tx.new.conn.now) result }
 {
     create_stays(tx)?;
     create_withdrawals(tx)
@@ -57,7 +58,7 @@ pub(crate) fn grow_from_2<S: Alter>(tx: &mut Transaction<'_, S>) -> Result<(), R
     ensures holds { HasCleanDisk (state S.Store tx.new.conn.now) → (t : Tables)
         → HoldsUpTo 16 (state S.Store tx.old.conn.now).now t
         → OnOk result (Holds (state S.Store tx.new.conn.now).now (record t { withdrawals = [] })) }
-    ensures frame { Writes (state S.Store tx.old.conn.now) (state S.Store tx.new.conn.now) result }
+    ensures frame { StaysWithin IsFault (state S.Store tx.old.conn.now) (state S.Store tx.new.conn.now) result }
 {
     create_withdrawals(tx)
 }
@@ -69,7 +70,7 @@ pub(crate) fn set_version<S: Alter>(tx: &mut Transaction<'_, S>) -> Result<(), R
     ensures holds { HasCleanDisk (state S.Store tx.new.conn.now) → (number : ℕ) → (t : Tables)
         → t.versions ≡ numbered number → Holds (state S.Store tx.old.conn.now).now t
         → OnOk result (Holds (state S.Store tx.new.conn.now).now (record t { versions = numbered 3 })) }
-    ensures frame { Writes (state S.Store tx.old.conn.now) (state S.Store tx.new.conn.now) result }
+    ensures frame { StaysWithin IsFault (state S.Store tx.old.conn.now) (state S.Store tx.new.conn.now) result }
 {
     write(tx, "UPDATE versions SET number = 3", &[])
 }

@@ -5,7 +5,9 @@ ghost use Rattle.sqlite.specs.Held.{state};
 ghost use Rattle.sqlite.specs.State.{HasCleanDisk};
 ghost use Rattle.kcr_history.specs.History.{History};
 ghost use Rattle.kcr_history.specs.Tables.{tables};
-ghost use Rattle.kcr_tables.specs.Frame.{Reads, Writes};
+ghost use Rattle.kcr_rows.specs.Refusals.{IsFault};
+ghost use Rattle.kcr_cells.specs.Frame.{StaysWithin};
+ghost use Rattle.kcr_tables.specs.Frame.{Reads};
 ghost use Rattle.kcr_tables.specs.Held.{Tables, Holds};
 ghost use Rattle.kcr_tables.specs.Joint.{HoldsTables};
 ghost use Rattle.kcr_older.specs.Brought.{brought};
@@ -72,7 +74,7 @@ fn bring_first<S: Alter>(alloc: Global, tx: &mut Transaction<'_, S>) -> Result<b
         → HoldsUpTo 15 (state S.Store tx.old.conn.now).now t
         → IfOk result (λ is_brought. IsTrue is_brought
         → Holds (state S.Store tx.new.conn.now).now (brought Older.First t)) }
-    ensures frame { Writes (state S.Store tx.old.conn.now) (state S.Store tx.new.conn.now) result }
+    ensures frame { StaysWithin IsFault (state S.Store tx.old.conn.now) (state S.Store tx.new.conn.now) result }
 {
     grow_from_1(tx)?;
     if !has_number(alloc, tx, Older::First)? {
@@ -96,7 +98,7 @@ fn bring_second<S: Alter>(alloc: Global, tx: &mut Transaction<'_, S>) -> Result<
         → HoldsUpTo 16 (state S.Store tx.old.conn.now).now t
         → IfOk result (λ is_brought. IsTrue is_brought
         → Holds (state S.Store tx.new.conn.now).now (brought Older.Second t)) }
-    ensures frame { Writes (state S.Store tx.old.conn.now) (state S.Store tx.new.conn.now) result }
+    ensures frame { StaysWithin IsFault (state S.Store tx.old.conn.now) (state S.Store tx.new.conn.now) result }
 {
     grow_from_2(tx)?;
     if !has_number(alloc, tx, Older::Second)? {
@@ -127,7 +129,7 @@ pub fn bring<S: Alter>(
     ensures rows { HasCleanDisk (state S.Store tx.new.conn.now) → (t : Tables)
         → HoldsUpTo (14 + number_of from) (state S.Store tx.old.conn.now).now t
         → IfOk result (λ is_brought. IsTrue is_brought → Holds (state S.Store tx.new.conn.now).now (brought from t)) }
-    ensures frame { Writes (state S.Store tx.old.conn.now) (state S.Store tx.new.conn.now) result }
+    ensures frame { StaysWithin IsFault (state S.Store tx.old.conn.now) (state S.Store tx.new.conn.now) result }
 {
     match from {
         Older::First => bring_first(alloc, tx),

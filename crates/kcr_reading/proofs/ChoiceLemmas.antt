@@ -1,13 +1,12 @@
 -- Rows of a table, read one at a time: what a text chooses, and which of them comes next.
 use Rattle.std.proofs.Common.{◌≡◌, ℕ, ◌^◌, ◌&&◌, nat_le, Bool, true, false, List, [], ◌∷◌, map, filter, take, slice_get, Option, Some, Ordering, Less, Result}
-use Rattle.std.proofs.Common.{Ok, sym, ap, subst, ◌∙◌}
+use Rattle.std.proofs.Common.{sym, ap, subst, ◌∙◌}
 use Rattle.std.specs.Prelude.{IfOk}
 use Rattle.std.specs.List.{list_all}
 use Rattle.std.specs.Cmp.{IsTotalOrder}
 use Rattle.sqlite.specs.declared.types.Value.TheVariants.{Null}
 use Rattle.sqlite.specs.Effect.{Database}
 use Rattle.sqlite.specs.Order.{Row}
-use Rattle.sqlite.specs.State.{State, HasCleanDisk}
 use Rattle.sqlite.specs.Query.{output, output_cmp}
 use Rattle.sqlite.specs.Command.TheVariants.{Select}
 use Rattle.sqlite.specs.Listing.{understood, reads_listing}
@@ -22,11 +21,10 @@ use Rattle.kcr_rows.proofs.FailLemmas.{if_ok}
 use Rattle.kcr_rows.proofs.FilterLemmas.{filter_as}
 use Rattle.kcr_room.proofs.Lists.{filter-and}
 use Rattle.kcr_history.specs.Tables as machine
-use Rattle.kcr_tables.specs.Frame.{Reads}
 use Rattle.kcr_tables.specs.Held.{Tables, Holds}
 use Rattle.kcr_tables.specs.Joint.{HoldsTables, KeepsTables}
 use Rattle.kcr_tables.specs.Schema.{register_schema}
-use Rattle.kcr_tables.proofs.HoldLemmas.{held_of, tables_of}
+use Rattle.kcr_tables.proofs.HoldLemmas.{held_of}
 use Rattle.kcr_reading.specs.First.{Choice, ShowsFirst, IsFirst, first_of}
 use Rattle.kcr_reading.specs.ToCome.{Gives}
 use Rattle.kcr_reading.proofs.NumberLemmas.{rises_among}
@@ -66,11 +64,6 @@ pub by_tables : {A Clean : Type 0} {db : Database} (r : Result A Refusal) (Found
     → (Clean → (t : Tables) → Holds db t → IfOk r (Found t)) → ((m : machine.Tables) (k : KeepsTables m db.trees) (a : A) → Found k.t a → Says m a)
     → Clean → (m : machine.Tables) → HoldsTables m db → IfOk r (Says m)
 by_tables {db = db} r Found Says found says clean m h = if_ok _ _ (says m h.tables) r (found clean h.tables.t (held_of m db h))
-
--- the tables that were held are held after a call that read them
-pub still_held : {A : Type 0} (m : machine.Tables) (old mid : State) (a : A) → Reads old mid (Ok a) → HasCleanDisk mid → HoldsTables m old.now
-    → HoldsTables m mid.now
-still_held m old mid a read clean h = tables_of m mid.now h.tables.t h.tables.stands (read.holds clean h.tables.t (held_of m old.now h))
 
 -- what is made of the row that was found is the next of what is made of the rows
 pub gives_made : {X Y : Type 0} (make : X → Y) (all rest : List X) (found : Option X) (row : X) → found ≡ Some row → Gives all found rest

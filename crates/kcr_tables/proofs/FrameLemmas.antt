@@ -1,63 +1,58 @@
--- One call after the other in a transaction, by what each leaves.
-use Rattle.std.proofs.Common.{◌≡◌, ℕ, List, refl, sym, ap, subst, ◌∙◌, Result, Ok, Err, OnOk, IfErr, IsErrAnd, IsTrue}
+-- One reading after the other in a transaction, by what each leaves.
+use Rattle.std.proofs.Common.{◌≡◌, ℕ, List, refl, sym, ap, subst, ◌∙◌, Result, Ok, Err, OnOk, IfErr, IsErrAnd}
 use Rattle.sqlite.specs.Effect.{Database}
 use Rattle.sqlite.specs.Listing.{understood}
-use Rattle.sqlite.specs.State.{State, HasCleanDisk, IsUnchanged, KeepsCommit, Survives}
+use Rattle.sqlite.specs.State.{State, HasCleanDisk, IsUnchanged, Survives}
 use Rattle.sqlite.specs.Tree.{Trees}
 use Rattle.sqlite.proofs.Callers.{IsPlain}
 use Rattle.kcr_base.specs.declared.refusal.Refusal.{Refusal}
 use Rattle.kcr_rows.specs.Refusals.{IsFault}
 use Rattle.kcr_rows.proofs.FailLemmas.{on_ok, on_ok_then, plain_in}
-use Rattle.kcr_rows.proofs.InsideLemmas.{was_clean, survives_on, keeps_then}
+use Rattle.kcr_rows.proofs.InsideLemmas.{was_clean}
+use Rattle.kcr_cells.specs.Frame.{StaysWithin}
+use Rattle.kcr_cells.proofs.FrameLemmas.{within_then, within_to, within_fails}
 use Rattle.kcr_tables.specs.Schema.{register_schema}
-use Rattle.kcr_tables.specs.Held.{Tables, Holds}
-use Rattle.kcr_tables.specs.Frame.{Writes, Reads}
-
--- ---- calls that read
+use Rattle.kcr_tables.specs.Held.{Holds}
+use Rattle.kcr_tables.specs.Joint.{HoldsTables}
+use Rattle.kcr_tables.specs.Frame.{Reads}
 
 -- what leaves the database as it is leaves the tables
-pub same_holds : {A : Type 0} (old new : State) (r : Result A Refusal) → (HasCleanDisk new → old.now.schema ≡ register_schema → OnOk r (new.now ≡ old.now))
-    → HasCleanDisk new → (t : Tables) → Holds old.now t → OnOk r (Holds new.now t)
-same_holds old new r same clean t held = on_ok_then _ _ (λ is. subst (λ (d : Database). Holds d t) (sym is) held) r (same clean held.schema)
-
 pub reads_of : {A : Type 0} (old new : State) (r : Result A Refusal) → (HasCleanDisk new → old.now.schema ≡ register_schema → OnOk r (new.now ≡ old.now))
-    → (HasCleanDisk new → IsTrue old.in_transaction → OnOk r (IsTrue new.in_transaction)) → (HasCleanDisk new → IsTrue old.in_transaction → KeepsCommit old new)
-    → Survives old new (λ _. ⊥) → IfErr r IsFault → Reads old new r
-reads_of old new r same inside kept survives cause =
-    record { same = same; holds = same_holds old new r same; inside = inside; kept = kept; survives = survives; cause = cause }
+    → StaysWithin IsFault old new r → Reads old new r
+reads_of old new r same within = record {
+  same = same;
+  holds = λ clean t held. on_ok_then _ _ (λ is. subst (λ (d : Database). Holds d t) (sym is) held) r (same clean held.schema);
+  tables = λ clean m held. on_ok_then _ _ (λ is. subst (λ (d : Database). HoldsTables m d) (sym is) held) r (same clean held.schema);
+  within = within;
+}
 
 -- a text that changes nothing leaves the database as it is
-pub same_by : {A : Type 0} (sql : List ℕ) (old new : State) (r : Result A Refusal) → IsPlain (understood register_schema sql)
-    → (HasCleanDisk new → IsPlain (understood old.now.schema sql) → OnOk r (IsUnchanged old new)) → HasCleanDisk new → old.now.schema ≡ register_schema → OnOk r (new.now ≡ old.now)
-same_by sql old new r plain same clean has = on_ok_then _ _ (λ unchanged. unchanged.0.now_is) r (same clean (plain_in register_schema sql plain old has))
-
 pub reads_by : {A : Type 0} (sql : List ℕ) (old new : State) (r : Result A Refusal) → IsPlain (understood register_schema sql)
-    → (HasCleanDisk new → IsPlain (understood old.now.schema sql) → OnOk r (IsUnchanged old new))
-    → (HasCleanDisk new → IsTrue old.in_transaction → OnOk r (IsTrue new.in_transaction)) → (HasCleanDisk new → IsTrue old.in_transaction → KeepsCommit old new)
-    → Survives old new (λ _. ⊥) → IfErr r IsFault → Reads old new r
-reads_by sql old new r plain same = reads_of old new r (same_by sql old new r plain same)
+    → (HasCleanDisk new → IsPlain (understood old.now.schema sql) → OnOk r (IsUnchanged old new)) → StaysWithin IsFault old new r → Reads old new r
+reads_by sql old new r plain same =
+    reads_of old new r (λ clean has. on_ok_then _ _ (λ unchanged. unchanged.0.now_is) r (same clean (plain_in register_schema sql plain old has)))
 
 pub reads_none : {A : Type 0} (old : State) (a : A) → Survives old old (λ _. ⊥) → Reads old old (Ok a)
-reads_none old a s = reads_of old old (Ok a) (λ clean has. refl) (λ clean inside. inside) (λ clean inside. record { was_open = λ live. live; committed = λ live. refl }) s tt
+reads_none old a s =
+    reads_of old old (Ok a) (λ clean has. refl)
+    (record { inside = λ clean inside. inside; kept = λ clean inside. record { was_open = λ live. live; committed = λ live. refl }; survives = s; cause = tt })
 
 pub reads_then : {A B : Type 0} (old mid new : State) (a : A) (r : Result B Refusal) → Reads old mid (Ok a) → Reads mid new r → Reads old new r
 reads_then old mid new a r one two =
-    let before = was_clean mid new _ two.survives in
     reads_of old new r (λ clean has.
-    let first = one.same (before clean) has in
+    let first = one.same (was_clean mid new _ two.within.survives clean) has in
     on_ok_then _ _ (λ is. is ∙ first) r (two.same clean (ap (λ (d : Database). d.schema) first ∙ has)))
-    (λ clean inside. two.inside clean (one.inside (before clean) inside))
-    (λ clean inside. keeps_then old mid new (one.kept (before clean) inside) (two.kept clean (one.inside (before clean) inside))) (survives_on old mid new one.survives two.survives) two.cause
+    (within_then one.within two.within)
 
 -- another answer after a call that went well
 pub reads_to : {A B : Type 0} (old new : State) (a : A) (r : Result B Refusal) → IfErr r IsFault → Reads old new (Ok a) → Reads old new r
-reads_to old new a r cause one =
-    reads_of old new r (λ clean has. on_ok _ r (one.same clean has)) (λ clean inside. on_ok _ r (one.inside clean inside)) one.kept one.survives cause
+reads_to old new a r cause one = reads_of old new r (λ clean has. on_ok _ r (one.same clean has)) (within_to r cause one.within)
 
 -- the error of a call, as the error of the one around it
-pub reads_fails : {A B : Type 0} (old new : State) (e : Refusal) (r : Result B Refusal) → IsErrAnd r (λ y. y ≡ e) → Reads {A = A} old new (Err e) → Reads old new r
+pub reads_fails : {A B : Type 0} (old new : State) (e : Refusal) (r : Result B Refusal) → IsErrAnd r (λ y. y ≡ e)
+    → Reads {A = A} old new (Err e) → Reads old new r
 reads_fails old new e (Ok x) is one = absurd is
-reads_fails old new e (Err y) is one = reads_of old new (Err y) (λ clean has. tt) (λ clean inside. tt) one.kept one.survives (subst IsFault (sym is) one.cause)
+reads_fails old new e (Err y) is one = reads_of old new (Err y) (λ clean has. tt) (within_fails (Err y) is (λ cause. cause) one.within)
 
 -- the same two, where the calls tell the states
 pub reads_on : {A B : Type 0} {old mid new : State} {a : A} {r : Result B Refusal} → Reads old mid (Ok a) → Reads mid new r → Reads old new r
@@ -71,18 +66,3 @@ pub read_later : {A : Type 0} (P : Trees → Type 0) (old mid : State) (a : A) �
     → (mid.now.schema ≡ register_schema → P mid.now.trees) → P old.now.trees
 read_later P old mid a one clean has found =
     let is = one.same clean has in subst (λ (d : Database). P d.trees) is (found (ap (λ (d : Database). d.schema) is ∙ has))
-
--- ---- calls that write
-
-pub writes_then : {A B : Type 0} (old mid new : State) (a : A) (r : Result B Refusal) → Writes old mid (Ok a) → Writes mid new r → Writes old new r
-writes_then old mid new a r one two =
-    let before = was_clean mid new _ two.survives in record {
-      inside = λ clean inside. two.inside clean (one.inside (before clean) inside);
-      kept = λ clean inside. keeps_then old mid new (one.kept (before clean) inside) (two.kept clean (one.inside (before clean) inside));
-      survives = survives_on old mid new one.survives two.survives;
-      cause = two.cause;
-    }
-
-pub writes_fails : {A B : Type 0} (old new : State) (e : Refusal) (r : Result B Refusal) → IsErrAnd r (λ y. y ≡ e) → Writes {A = A} old new (Err e) → Writes old new r
-writes_fails old new e (Ok x) is one = absurd is
-writes_fails old new e (Err y) is one = record { inside = λ clean inside. tt; kept = one.kept; survives = one.survives; cause = subst IsFault (sym is) one.cause }

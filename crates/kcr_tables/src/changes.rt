@@ -1,12 +1,12 @@
 //! Changes of the tables.
 
-ghost use Rattle.std.specs.Prelude.{◌≡◌, OnOk, IsTrue, IfErr};
+ghost use Rattle.std.specs.Prelude.{◌≡◌, OnOk};
 ghost use Rattle.sqlite.specs.Held.{state};
-ghost use Rattle.sqlite.specs.State.{HasCleanDisk, KeepsCommit, Survives};
+ghost use Rattle.sqlite.specs.State.{HasCleanDisk};
 ghost use Rattle.kcr_history.specs.Tables as machine;
 ghost use Rattle.kcr_history.specs.Changes.{changed_by};
 ghost use Rattle.kcr_rows.specs.Refusals.{IsFault};
-ghost use Rattle.kcr_tables.specs.Frame.{Writes};
+ghost use Rattle.kcr_cells.specs.Frame.{StaysWithin};
 ghost use Rattle.kcr_tables.specs.Held.{Tables, Holds};
 ghost use Rattle.kcr_tables.specs.Changed.{changed, changed_all};
 ghost use Rattle.kcr_tables.specs.Joint.{HoldsTables};
@@ -27,7 +27,7 @@ fn make_change<S: Alter>(
     ensures holds { HasCleanDisk (state S.Store tx.new.conn.now) → (t : Tables)
         → Holds (state S.Store tx.old.conn.now).now t
         → OnOk result (Holds (state S.Store tx.new.conn.now).now (changed change.now t)) }
-    ensures frame { Writes (state S.Store tx.old.conn.now) (state S.Store tx.new.conn.now) result }
+    ensures frame { StaysWithin IsFault (state S.Store tx.old.conn.now) (state S.Store tx.new.conn.now) result }
 {
     match change {
         Change::PutPerson(row) => row.put(tx),
@@ -64,13 +64,7 @@ pub fn make_changes<S: Alter>(
     ensures tables { HasCleanDisk (state S.Store tx.new.conn.now) → (m : machine.Tables)
         → HoldsTables m (state S.Store tx.old.conn.now).now
         → OnOk result (HoldsTables (changed_by changes.now m) (state S.Store tx.new.conn.now).now) }
-    ensures inside { HasCleanDisk (state S.Store tx.new.conn.now)
-        → IsTrue (state S.Store tx.old.conn.now).in_transaction
-        → OnOk result (IsTrue (state S.Store tx.new.conn.now).in_transaction) }
-    ensures kept { HasCleanDisk (state S.Store tx.new.conn.now) → IsTrue (state S.Store tx.old.conn.now).in_transaction
-        → KeepsCommit (state S.Store tx.old.conn.now) (state S.Store tx.new.conn.now) }
-    ensures survives { Survives (state S.Store tx.old.conn.now) (state S.Store tx.new.conn.now) (λ _. ⊥) }
-    ensures cause { IfErr result IsFault }
+    ensures frame { StaysWithin IsFault (state S.Store tx.old.conn.now) (state S.Store tx.new.conn.now) result }
 {
     for change in changes {
         make_change(alloc, tx, change)?;

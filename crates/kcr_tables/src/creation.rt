@@ -1,15 +1,15 @@
 //! The tables of a new register.
 
-ghost use Rattle.std.specs.Prelude.{◌≡◌, ◌+◌, ◌<◌, [], take, IfErr, OnOk, IsTrue};
+ghost use Rattle.std.specs.Prelude.{◌≡◌, ◌+◌, ◌<◌, [], take, OnOk};
 ghost use Rattle.sqlite.specs.Held.{state};
-ghost use Rattle.sqlite.specs.State.{HasCleanDisk, KeepsCommit, Survives};
+ghost use Rattle.sqlite.specs.State.{HasCleanDisk};
 ghost use Rattle.sqlite_catalog.specs.Listing.{IsSound};
 ghost use Rattle.kcr_history.specs.Tables.{tables};
 ghost use Rattle.kcr_rows.specs.Refusals.{IsFault};
 ghost use Rattle.kcr_rows.specs.Columns.{AreEmpty};
 ghost use Rattle.kcr_rows.specs.Keyed.{put_in};
 ghost use Rattle.kcr_cells.specs.Rows.{safe_row};
-ghost use Rattle.kcr_tables.specs.Frame.{Writes};
+ghost use Rattle.kcr_cells.specs.Frame.{StaysWithin};
 ghost use Rattle.kcr_tables.specs.Held.{Tables, Holds};
 ghost use Rattle.kcr_tables.specs.First.{empty_tables, first_tables, shut};
 ghost use Rattle.kcr_tables.specs.Joint.{HoldsTables};
@@ -44,7 +44,7 @@ fn create_one<S: Alter>(tx: &mut Transaction<'_, S>, at: usize) -> Result<(), Re
         → (state S.Store tx.old.conn.now).now.schema ≡ first at
         → AreEmpty (take at all_tables) (state S.Store tx.old.conn.now).now.trees
         → OnOk result (IsSound (first (at + 1)) (state S.Store tx.new.conn.now).now.trees) }
-    ensures frame { Writes (state S.Store tx.old.conn.now) (state S.Store tx.new.conn.now) result }
+    ensures frame { StaysWithin IsFault (state S.Store tx.old.conn.now) (state S.Store tx.new.conn.now) result }
 {
     let text = create_text(at);
     write(tx, text, &[])
@@ -55,7 +55,7 @@ fn create_all<S: Alter>(tx: &mut Transaction<'_, S>) -> Result<(), Refusal>
     ensures same_reference { tx.new.conn.ghost_name ≡ tx.old.conn.ghost_name }
     ensures holds { HasCleanDisk (state S.Store tx.new.conn.now) → (state S.Store tx.old.conn.now).now.schema ≡ first 0
         → OnOk result (Holds (state S.Store tx.new.conn.now).now empty_tables) }
-    ensures frame { Writes (state S.Store tx.old.conn.now) (state S.Store tx.new.conn.now) result }
+    ensures frame { StaysWithin IsFault (state S.Store tx.old.conn.now) (state S.Store tx.new.conn.now) result }
 {
     for at in 0..COUNT {
         create_one(tx, at)?;
@@ -71,7 +71,7 @@ fn put_pair<S: Alter>(tx: &mut Transaction<'_, S>, facility: Facility) -> Result
         → OnOk result
         (Holds (state S.Store tx.new.conn.now).now
         (record t { safes = put_in 2 safe_row (shut facility Two) (put_in 2 safe_row (shut facility One) t.safes) })) }
-    ensures frame { Writes (state S.Store tx.old.conn.now) (state S.Store tx.new.conn.now) result }
+    ensures frame { StaysWithin IsFault (state S.Store tx.old.conn.now) (state S.Store tx.new.conn.now) result }
 {
     let equipment = SafeRow {
         facility,
@@ -92,7 +92,7 @@ fn make_rows<S: Alter>(tx: &mut Transaction<'_, S>) -> Result<(), Refusal>
     ensures same_reference { tx.new.conn.ghost_name ≡ tx.old.conn.ghost_name }
     ensures holds { HasCleanDisk (state S.Store tx.new.conn.now) → (state S.Store tx.old.conn.now).now.schema ≡ first 0
         → OnOk result (Holds (state S.Store tx.new.conn.now).now first_tables) }
-    ensures frame { Writes (state S.Store tx.old.conn.now) (state S.Store tx.new.conn.now) result }
+    ensures frame { StaysWithin IsFault (state S.Store tx.old.conn.now) (state S.Store tx.new.conn.now) result }
 {
     create_all(tx)?;
     put_pair(tx, Facility::East)?;
@@ -110,13 +110,7 @@ pub fn make<S: Alter>(tx: &mut Transaction<'_, S>) -> Result<(), Refusal>
         → OnOk result (Holds (state S.Store tx.new.conn.now).now first_tables) }
     ensures made { HasCleanDisk (state S.Store tx.new.conn.now) → (state S.Store tx.old.conn.now).now.schema ≡ first 0
         → OnOk result (HoldsTables (tables []) (state S.Store tx.new.conn.now).now) }
-    ensures inside { HasCleanDisk (state S.Store tx.new.conn.now)
-        → IsTrue (state S.Store tx.old.conn.now).in_transaction
-        → OnOk result (IsTrue (state S.Store tx.new.conn.now).in_transaction) }
-    ensures kept { HasCleanDisk (state S.Store tx.new.conn.now) → IsTrue (state S.Store tx.old.conn.now).in_transaction
-        → KeepsCommit (state S.Store tx.old.conn.now) (state S.Store tx.new.conn.now) }
-    ensures survives { Survives (state S.Store tx.old.conn.now) (state S.Store tx.new.conn.now) (λ _. ⊥) }
-    ensures cause { IfErr result IsFault }
+    ensures frame { StaysWithin IsFault (state S.Store tx.old.conn.now) (state S.Store tx.new.conn.now) result }
 {
     make_rows(tx)
 }

@@ -1,8 +1,8 @@
 //! What a table of the register is, and the calls that read and change any of them inside a transaction.
 
-ghost use Rattle.std.specs.Prelude.{◌≡◌, map, filter, IsPermutation, IfOk, IfErr, OnOk, IsTrue};
+ghost use Rattle.std.specs.Prelude.{◌≡◌, map, filter, IsPermutation, IfOk, OnOk, IsTrue};
 ghost use Rattle.sqlite.specs.Held.{state};
-ghost use Rattle.sqlite.specs.State.{HasCleanDisk, KeepsCommit, Survives};
+ghost use Rattle.sqlite.specs.State.{HasCleanDisk};
 ghost use Rattle.sqlite.specs.declared.types.Value.{Value as Cell};
 ghost use Rattle.sqlite.specs.declared.types.Value.TheVariants.{Int, Text};
 ghost use Rattle.std.specs.Prelude.{pos};
@@ -14,7 +14,8 @@ ghost use Rattle.kcr_rows.specs.Refusals.{IsFault};
 ghost use Rattle.kcr_rows.proofs.FilterLemmas.{has_value};
 ghost use Rattle.kcr_tables.specs.Schema.{register_schema};
 ghost use Rattle.kcr_tables.specs.Held.{Tables, Holds};
-ghost use Rattle.kcr_tables.specs.Frame.{Writes, Reads};
+ghost use Rattle.kcr_cells.specs.Frame.{StaysWithin};
+ghost use Rattle.kcr_tables.specs.Frame.{Reads};
 ghost use Rattle.kcr_tables.specs.Asked.{asked_of, asked_all};
 ghost use Rattle.kcr_tables.specs.Exact.{rows_at, AskedAreShown, WholeIsShown};
 ghost use Rattle.kcr_tables.specs.Joint.{HoldsTables};
@@ -126,7 +127,7 @@ pub trait Put: Listed {
             → (t : Tables) → Holds (state S.Store tx.old.conn.now).now t
             → OnOk result (Holds (state S.Store tx.new.conn.now).now
             (with_put Self.Listed.table Self.Stored.row_of self.now t)) }
-        ensures frame { Writes (state S.Store tx.old.conn.now) (state S.Store tx.new.conn.now) result };
+        ensures frame { StaysWithin IsFault (state S.Store tx.old.conn.now) (state S.Store tx.new.conn.now) result };
 }
 
 /// A table in which a row is put the same way, where words of the row are made in memory first.
@@ -138,7 +139,7 @@ pub trait PutWords: Listed {
             → (t : Tables) → Holds (state S.Store tx.old.conn.now).now t
             → OnOk result (Holds (state S.Store tx.new.conn.now).now
             (with_put Self.Listed.table Self.Stored.row_of self.now t)) }
-        ensures frame { Writes (state S.Store tx.old.conn.now) (state S.Store tx.new.conn.now) result };
+        ensures frame { StaysWithin IsFault (state S.Store tx.old.conn.now) (state S.Store tx.new.conn.now) result };
 }
 
 /// All rows of a table, in the order of their keys. Nothing is changed. The error is `Memory` when out of memory, and
@@ -154,28 +155,14 @@ pub fn all_rows<S: Alter, T: Listed>(
     ensures machine { HasCleanDisk (state S.Store tx.new.conn.now)
         → (m : machine.Tables) → HoldsTables m (state S.Store tx.old.conn.now).now
         → IfOk result (λ all. IsPermutation (T.table.machine_rows m) all.items) }
-    ensures tables { HasCleanDisk (state S.Store tx.new.conn.now) → (m : machine.Tables)
-        → HoldsTables m (state S.Store tx.old.conn.now).now
-        → OnOk result (HoldsTables m (state S.Store tx.new.conn.now).now) }
     ensures exact { HasCleanDisk (state S.Store tx.new.conn.now)
         → (state S.Store tx.old.conn.now).now.schema ≡ register_schema
         → IfOk result (λ all. IsPermutation
         (map (cells 1 T.table.place.width) ((state S.Store tx.old.conn.now).now.trees T.table.place.tree))
         (map T.row_of all.items)) }
-    ensures same { HasCleanDisk (state S.Store tx.new.conn.now)
-        → (state S.Store tx.old.conn.now).now.schema ≡ register_schema
-        → OnOk result ((state S.Store tx.new.conn.now).now ≡ (state S.Store tx.old.conn.now).now) }
-    ensures holds { HasCleanDisk (state S.Store tx.new.conn.now) → (t : Tables)
-        → Holds (state S.Store tx.old.conn.now).now t → OnOk result (Holds (state S.Store tx.new.conn.now).now t) }
     ensures opened { HasCleanDisk (state S.Store tx.new.conn.now)
         → OnOk result (IsTrue (state S.Store tx.old.conn.now).is_open) }
-    ensures inside { HasCleanDisk (state S.Store tx.new.conn.now)
-        → IsTrue (state S.Store tx.old.conn.now).in_transaction
-        → OnOk result (IsTrue (state S.Store tx.new.conn.now).in_transaction) }
-    ensures kept { HasCleanDisk (state S.Store tx.new.conn.now) → IsTrue (state S.Store tx.old.conn.now).in_transaction
-        → KeepsCommit (state S.Store tx.old.conn.now) (state S.Store tx.new.conn.now) }
-    ensures survives { Survives (state S.Store tx.old.conn.now) (state S.Store tx.new.conn.now) (λ _. ⊥) }
-    ensures cause { IfErr result IsFault }
+    ensures frame { Reads (state S.Store tx.old.conn.now) (state S.Store tx.new.conn.now) result }
 {
     rows_of(alloc, tx, T::all_text(), &[])
 }
@@ -197,20 +184,9 @@ pub fn rows_under<S: Alter, K: AsCell, T: Finds<K>>(
         (filter (has_value T.finding.column (K.value_of key.now))
         (rows_at T.table.place (state S.Store tx.old.conn.now).now.trees))
         (map T.row_of all.items)) }
-    ensures same { HasCleanDisk (state S.Store tx.new.conn.now)
-        → (state S.Store tx.old.conn.now).now.schema ≡ register_schema
-        → OnOk result ((state S.Store tx.new.conn.now).now ≡ (state S.Store tx.old.conn.now).now) }
-    ensures holds { HasCleanDisk (state S.Store tx.new.conn.now) → (t : Tables)
-        → Holds (state S.Store tx.old.conn.now).now t → OnOk result (Holds (state S.Store tx.new.conn.now).now t) }
     ensures opened { HasCleanDisk (state S.Store tx.new.conn.now)
         → OnOk result (IsTrue (state S.Store tx.old.conn.now).is_open) }
-    ensures inside { HasCleanDisk (state S.Store tx.new.conn.now)
-        → IsTrue (state S.Store tx.old.conn.now).in_transaction
-        → OnOk result (IsTrue (state S.Store tx.new.conn.now).in_transaction) }
-    ensures kept { HasCleanDisk (state S.Store tx.new.conn.now) → IsTrue (state S.Store tx.old.conn.now).in_transaction
-        → KeepsCommit (state S.Store tx.old.conn.now) (state S.Store tx.new.conn.now) }
-    ensures survives { Survives (state S.Store tx.old.conn.now) (state S.Store tx.new.conn.now) (λ _. ⊥) }
-    ensures cause { IfErr result IsFault }
+    ensures frame { Reads (state S.Store tx.old.conn.now) (state S.Store tx.new.conn.now) result }
 {
     rows_of(alloc, tx, T::find_text(), &[key.cell()])
 }
@@ -278,7 +254,7 @@ pub fn put_cells<S: Alter, T: Listed>(
     ensures holds { HasCleanDisk (state S.Store tx.new.conn.now)
         → (t : Tables) → Holds (state S.Store tx.old.conn.now).now t
         → OnOk result (Holds (state S.Store tx.new.conn.now).now (with_put T.table T.row_of row.now t)) }
-    ensures frame { Writes (state S.Store tx.old.conn.now) (state S.Store tx.new.conn.now) result }
+    ensures frame { StaysWithin IsFault (state S.Store tx.old.conn.now) (state S.Store tx.new.conn.now) result }
 {
     let _value = row;
     write(tx, sql, cells)

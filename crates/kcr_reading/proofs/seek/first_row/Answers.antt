@@ -25,4 +25,4 @@ returns-clause-frame g c choice shows =
     let old = state g.S.Store c.args.tx.now.conn.now in
     let new = state g.S.Store c.rows_of.new.tx.conn.now in
     let did = c.in_ok-rows.ensures in
-    reads_to old new c.in_ok-rows.rows _ tt (reads_by c.args.sql.now old new _ shows.bare did.same did.inside did.kept did.survives tt)
+    reads_to old new c.in_ok-rows.rows _ tt (reads_by c.args.sql.now old new _ shows.bare did.same did.frame)

@@ -20,4 +20,4 @@ returns-clause-rows g c clean m h =
 pub returns-clause-frame : goal.returns-clause-frame
 returns-clause-frame g c =
     let did = c.rows_of.ensures in
-    reads_by seating_text _ _ c.rows_of.result (seating_shows c.args.ceremony c.args.step).bare did.same did.inside did.kept did.survives did.cause
+    reads_by seating_text _ _ c.rows_of.result (seating_shows c.args.ceremony c.args.step).bare did.same did.frame

@@ -1,4 +1,4 @@
-use Rattle.std.proofs.Common.{rules, arith, ◌≡◌, ◌+◌, ◌<◌, ◌∙◌, length, get_or, sym, ap, subst}
+use Rattle.std.proofs.Common.{rules, arith, ◌≡◌, ◌<◌, ◌∙◌, length, get_or, sym, ap, subst}
 use Rattle.std.proofs.lemmas.List.{take_all}
 use Rattle.std.proofs.lemmas.List.Sums.{fold_more}
 use Rattle.sqlite.specs.Held.{state}
@@ -6,7 +6,7 @@ use Rattle.kcr_history.specs.declared.views.Change.{Change}
 use Rattle.kcr_tables.specs.Held.{Tables, Holds}
 use Rattle.kcr_tables.specs.Changed.{changed, changed_all}
 use Rattle.kcr_rows.proofs.InsideLemmas.{was_clean}
-use Rattle.kcr_tables.proofs.FrameLemmas.{writes_then}
+use Rattle.kcr_cells.proofs.FrameLemmas.{within_then}
 use Rattle.kcr_tables.proofs.HoldLemmas.{held_of}
 use Rattle.kcr_tables.proofs.JointLemmas.{changes_hold}
 use Rattle.kcr_tables.proofs.changes.make_changes.Goals as goal
@@ -19,7 +19,7 @@ loop-change-preserved g c =
     let had = c.loop-change.invariant in
     let step = c.in_ok-make_change.ensures in record {
       same_reference = step.same_reference ∙ had.same_reference;
-      frame = writes_then old mid new tt _ had.frame step.frame;
+      frame = within_then had.frame step.frame;
       built = λ clean t held.
           let changes = c.args.changes.now in
           let i = c.loop-change.change-index in

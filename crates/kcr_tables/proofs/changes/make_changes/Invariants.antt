@@ -1,7 +1,8 @@
 use Rattle.std.proofs.Common.{◌≡◌, Ok, take}
 use Rattle.sqlite.specs.Held.{state}
 use Rattle.sqlite.specs.State.{HasCleanDisk}
-use Rattle.kcr_tables.specs.Frame.{Writes}
+use Rattle.kcr_rows.specs.Refusals.{IsFault}
+use Rattle.kcr_cells.specs.Frame.{StaysWithin}
 use Rattle.kcr_tables.specs.Held.{Tables, Holds}
 use Rattle.kcr_tables.specs.Changed.{changed_all}
 use Rattle.kcr_tables.proofs.changes.make_changes.Given as goal
@@ -11,6 +12,6 @@ invariant-loop-change g l =
     let old = state g.S.Store l.fn.tx.conn.now in
     let now = state g.S.Store l.tx.conn.now in record {
       same_reference : l.tx.conn.ghost_name ≡ l.fn.tx.conn.ghost_name;
-      frame : Writes {A = Unit {0}} old now (Ok tt);
+      frame : StaysWithin {A = Unit {0}} IsFault old now (Ok tt);
       built : HasCleanDisk now → (t : Tables) → Holds old.now t → Holds now.now (changed_all (take l.change-index l.changes) t);
     }

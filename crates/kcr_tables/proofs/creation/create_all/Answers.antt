@@ -4,7 +4,7 @@ use Rattle.sqlite_catalog.specs.Listing.{IsSound}
 use Rattle.kcr_tables.specs.Schema.{all_tables}
 use Rattle.kcr_tables.specs.Made.{first}
 use Rattle.kcr_rows.specs.Columns.{AreEmpty}
-use Rattle.kcr_tables.proofs.FrameLemmas.{writes_then}
+use Rattle.kcr_cells.proofs.FrameLemmas.{within_then}
 use Rattle.kcr_tables.proofs.FirstLemmas.{holds_nothing}
 use Rattle.kcr_rows.proofs.InsideLemmas.{was_clean}
 use Rattle.kcr_tables.proofs.creation.create_all.Goals as goal
@@ -17,7 +17,7 @@ loop-at-preserved g c =
     let had = c.loop-at.invariant in
     let step = c.in_ok-create_one.ensures in record {
       same_reference = step.same_reference ∙ had.same_reference;
-      frame = writes_then old mid new tt _ had.frame step.frame;
+      frame = within_then had.frame step.frame;
       built = λ clean has.
           let was = had.built (was_clean mid new _ step.frame.survives clean) has in
           (step.schema clean was.0 was.1, step.empty clean was.0 was.1, λ _. step.sound clean was.0 was.1);

@@ -2,7 +2,8 @@ use Rattle.std.proofs.Common.{◌≡◌, ◌<◌, Ok, take}
 use Rattle.sqlite.specs.Held.{state}
 use Rattle.sqlite.specs.State.{HasCleanDisk}
 use Rattle.sqlite_catalog.specs.Listing.{IsSound}
-use Rattle.kcr_tables.specs.Frame.{Writes}
+use Rattle.kcr_rows.specs.Refusals.{IsFault}
+use Rattle.kcr_cells.specs.Frame.{StaysWithin}
 use Rattle.kcr_tables.specs.Schema.{all_tables}
 use Rattle.kcr_tables.specs.Made.{first}
 use Rattle.kcr_rows.specs.Columns.{AreEmpty}
@@ -13,6 +14,6 @@ invariant-loop-at g l =
     let old = state g.S.Store l.fn.tx.conn.now in
     let now = state g.S.Store l.tx.conn.now in record {
       same_reference : l.tx.conn.ghost_name ≡ l.fn.tx.conn.ghost_name;
-      frame : Writes {A = Unit {0}} old now (Ok tt);
+      frame : StaysWithin {A = Unit {0}} IsFault old now (Ok tt);
       built : HasCleanDisk now → old.now.schema ≡ first 0 → (now.now.schema ≡ first l.at) × AreEmpty (take l.at all_tables) now.now.trees × (0 < l.at → IsSound (first l.at) now.now.trees);
     }

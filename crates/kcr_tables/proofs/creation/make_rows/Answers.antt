@@ -3,7 +3,7 @@ use Rattle.sqlite.specs.Held.{state}
 use Rattle.sqlite.specs.State.{HasCleanDisk}
 use Rattle.kcr_tables.specs.Held.{Tables, Holds}
 use Rattle.kcr_rows.proofs.InsideLemmas.{was_clean}
-use Rattle.kcr_tables.proofs.FrameLemmas.{writes_then, writes_fails}
+use Rattle.kcr_cells.proofs.FrameLemmas.{within_then, within_fails}
 use Rattle.kcr_tables.proofs.SafeLemmas.{first_is}
 use Rattle.kcr_tables.proofs.creation.make_rows.Goals as goal
 
@@ -23,20 +23,13 @@ returns-clause-holds g c clean has =
 
 pub returns-in_err-put_pair-clause-frame : goal.returns-in_err-put_pair-clause-frame
 returns-in_err-put_pair-clause-frame g c =
-    writes_then (state g.S.Store c.args.tx.now.conn.now) (state g.S.Store c.create_all.new.tx.conn.now) (state g.S.Store c.put_pair.new.tx.conn.now) _ _ c.in_ok-create_all.ensures.frame (writes_fails _ _ _ _ c.from_residual-in_err-put_pair.ensures.1 c.in_err-put_pair.ensures.frame)
+    within_then c.in_ok-create_all.ensures.frame (within_fails _ c.from_residual-in_err-put_pair.ensures.1 (λ cause. cause) c.in_err-put_pair.ensures.frame)
 
 pub returns-in_err-put_pair-2-clause-frame : goal.returns-in_err-put_pair-2-clause-frame
 returns-in_err-put_pair-2-clause-frame g c =
-    let old = state g.S.Store c.args.tx.now.conn.now in
-    let one = state g.S.Store c.create_all.new.tx.conn.now in
-    let two = state g.S.Store c.put_pair.new.tx.conn.now in
-    writes_then old two (state g.S.Store c.put_pair-2.new.tx.conn.now) _ _ (writes_then old one two _ _ c.in_ok-create_all.ensures.frame c.in_ok-put_pair.ensures.frame) (writes_fails _ _ _ _ c.from_residual-in_err-put_pair-2.ensures.1 c.in_err-put_pair-2.ensures.frame)
+    within_then (within_then c.in_ok-create_all.ensures.frame c.in_ok-put_pair.ensures.frame)
+    (within_fails _ c.from_residual-in_err-put_pair-2.ensures.1 (λ cause. cause) c.in_err-put_pair-2.ensures.frame)
 
 pub returns-clause-frame : goal.returns-clause-frame
 returns-clause-frame g c =
-    let old = state g.S.Store c.args.tx.now.conn.now in
-    let one = state g.S.Store c.create_all.new.tx.conn.now in
-    let two = state g.S.Store c.put_pair.new.tx.conn.now in
-    let three = state g.S.Store c.put_pair-2.new.tx.conn.now in
-    writes_then old three (state g.S.Store c.put.new.tx.conn.now) _ _
-    (writes_then old two three _ _ (writes_then old one two _ _ c.in_ok-create_all.ensures.frame c.in_ok-put_pair.ensures.frame) c.in_ok-put_pair-2.ensures.frame) c.put.ensures.frame
+    within_then (within_then (within_then c.in_ok-create_all.ensures.frame c.in_ok-put_pair.ensures.frame) c.in_ok-put_pair-2.ensures.frame) c.put.ensures.frame

@@ -1,7 +1,7 @@
 use Rattle.sqlite.specs.Held.{state}
 use Rattle.sqlite.specs.State.{HasCleanDisk}
-use Rattle.kcr_tables.proofs.FrameLemmas.{writes_then}
 use Rattle.kcr_rows.proofs.InsideLemmas.{was_clean}
+use Rattle.kcr_cells.proofs.FrameLemmas.{within_then}
 use Rattle.kcr_tables.proofs.creation.put_pair.Goals as goal
 
 pub returns-clause-holds : goal.returns-clause-holds
@@ -12,4 +12,4 @@ returns-clause-holds g c clean t held =
     c.put-2.ensures.holds clean _ (c.in_ok-put.ensures.holds before t held)
 
 pub returns-clause-frame : goal.returns-clause-frame
-returns-clause-frame g c = writes_then (state g.S.Store c.args.tx.now.conn.now) (state g.S.Store c.put.new.tx.conn.now) (state g.S.Store c.put-2.new.tx.conn.now) _ _ c.in_ok-put.ensures.frame c.put-2.ensures.frame
+returns-clause-frame g c = within_then c.in_ok-put.ensures.frame c.put-2.ensures.frame

@@ -22,4 +22,4 @@ returns-clause-exact g c clean has =
 pub returns-clause-frame : goal.returns-clause-frame
 returns-clause-frame g c =
     let did = c.rows_of.ensures in
-    reads_by key_sql (state g.S.Store c.args.tx.now.conn.now) (state g.S.Store c.rows_of.new.tx.conn.now) c.rows_of.result key_plain did.same did.inside did.kept did.survives did.cause
+    reads_by key_sql (state g.S.Store c.args.tx.now.conn.now) (state g.S.Store c.rows_of.new.tx.conn.now) c.rows_of.result key_plain did.same did.frame

@@ -15,7 +15,7 @@ pub loop-who-init : goal.loop-who-init
 loop-who-init g c =
     let e = c.in_ok-rows.ensures in record {
       same_reference = e.same_reference;
-      frame = record { same = e.same; holds = e.holds; inside = e.inside; kept = e.kept; survives = e.survives; cause = tt };
+      frame = reads_to _ _ _ _ tt e.frame;
       rows = search rules;
       exact = λ clean has. are_shown stay_row _ c.in_ok-rows.rows.items (e.exact clean has);
     }
@@ -30,7 +30,7 @@ loop-who-preserved g c =
       same_reference = step.same_reference ∙ had.same_reference;
       frame = reads_to old new c.in_ok-last.last _ tt (reads_then old mid new tt _ had.frame step.frame);
       rows = λ clean t held.
-          let before = was_clean mid new _ step.frame.survives clean in
+          let before = was_clean mid new _ step.frame.within.survives clean in
           let i = c.loop-who.who-index in
           let people = c.as_slice-people.result.now in
           let who = c.who-item.result in
@@ -41,7 +41,7 @@ loop-who-preserved g c =
           subst₂ (λ (ks : List (List ℕ)) (l : List Stay). Gathered c.args.asked.now.ceremony ks t.stays l) (sym more) (sym c.in_ok-append.ensures.items)
           (more_gathered c.args.asked.now.ceremony (take i people) t.stays c.loop-who.rows.items last.0 c.in_ok-last.last.items who (had.rows before t held) last.1 last.2);
       exact = λ clean has.
-          let was = had.exact (was_clean mid new _ step.frame.survives clean) has in
+          let was = had.exact (was_clean mid new _ step.frame.within.survives clean) has in
           subst (λ (l : List Stay). AreShown stay_row l (filter (is_stay_row c.args.asked.now) (rows_at stays_place old.now.trees))) (sym c.in_ok-append.ensures.items) (shown_left stay_row c.loop-who.rows.items c.in_ok-last.last.items _ was);
     }
 

@@ -40,11 +40,11 @@ loop-at-preserved g c =
       same_reference = step.same_reference ∙ had.same_reference;
       frame = reads_to old new c.in_ok-found.found _ tt (reads_then old mid new tt _ had.frame step.frame);
       rows = λ clean t held.
-          let before = was_clean mid new _ step.frame.survives clean in
+          let before = was_clean mid new _ step.frame.within.survives clean in
           subst₂ (λ ks l. IsPermutation (filter (is_under_any is_under ks) (T.rows_in t)) l) (sym more) (sym c.in_ok-append.ensures.items)
           (named_more same is_under laws.apart (take i keys) key (T.rows_in t) c.loop-at.rows.items found (had.rows before t held) (step.rows clean t (had.frame.holds before t held)));
       exact = λ clean has.
-          let before = was_clean mid new _ step.frame.survives clean in
+          let before = was_clean mid new _ step.frame.within.survives clean in
           let rows = rows_at T.place old.now.trees in
           subst₂ (λ l ks. EachAreShown g.T.Stored.row_of under rows l ks) (sym c.in_ok-append.ensures.items) (sym more)
           (each_next g.T.Stored.row_of under rows same laws.one (take i keys) key c.loop-at.rows.items found (had.exact before has)

@@ -3,11 +3,11 @@ use Rattle.sqlite.specs.Held.{state}
 use Rattle.sqlite.specs.State.{HasCleanDisk, IsUnchanged, Shown}
 use Rattle.sqlite.specs.Given.{IsPlain}
 use Rattle.sqlite.specs.Listing.{understood}
-use Rattle.kcr_rows.proofs.FailLemmas.{if_both, if_ok, on_ok_then}
+use Rattle.kcr_rows.proofs.FailLemmas.{if_both, if_ok}
 use Rattle.kcr_rows.proofs.TableLemmas.{filter_every}
 use Rattle.kcr_tables.specs.Exact.{rows_at}
-use Rattle.kcr_tables.proofs.FrameLemmas.{same_by, same_holds}
-use Rattle.kcr_tables.proofs.HoldLemmas.{held_of, tables_of}
+use Rattle.kcr_tables.proofs.FrameLemmas.{reads_by}
+use Rattle.kcr_tables.proofs.HoldLemmas.{held_of}
 use Rattle.kcr_tables.proofs.StatementLemmas.{rows_shown, every_row}
 use Rattle.kcr_tables.proofs.table.all_rows.Goals as goal
 
@@ -37,16 +37,8 @@ returns-clause-machine g c clean m h =
     if_ok _ _ (λ all is. subst (IsPermutation (g.T.Listed.table.machine_rows m)) (sym is) (g.met.T.Listed.table_laws.stands m h.tables.t h.tables.stands)) c.rows_of.result
     (returns-clause-rows g c clean h.tables.t (held_of m (state g.S.Store c.args.tx.now.conn.now).now h))
 
-pub returns-clause-same : goal.returns-clause-same
-returns-clause-same g c =
+pub returns-clause-frame : goal.returns-clause-frame
+returns-clause-frame g c =
     let old = state g.S.Store c.args.tx.now.conn.now in
     let new = state g.S.Store c.rows_of.new.tx.conn.now in
-    same_by g.T.Listed.table.all_sql old new c.rows_of.result g.met.T.Listed.table_laws.lists.bare (subst (λ (sql : List ℕ). HasCleanDisk new → IsPlain (understood old.now.schema sql) → OnOk c.rows_of.result (IsUnchanged old new)) c.all_text.ensures c.rows_of.ensures.same)
-
-pub returns-clause-holds : goal.returns-clause-holds
-returns-clause-holds g c = same_holds (state g.S.Store c.args.tx.now.conn.now) (state g.S.Store c.rows_of.new.tx.conn.now) c.rows_of.result (returns-clause-same g c)
-
-pub returns-clause-tables : goal.returns-clause-tables
-returns-clause-tables g c clean m h =
-    on_ok_then _ _ (tables_of m (state g.S.Store c.rows_of.new.tx.conn.now).now h.tables.t h.tables.stands) c.rows_of.result
-    (returns-clause-holds g c clean h.tables.t (held_of m (state g.S.Store c.args.tx.now.conn.now).now h))
+    reads_by g.T.Listed.table.all_sql old new c.rows_of.result g.met.T.Listed.table_laws.lists.bare (subst (λ (sql : List ℕ). HasCleanDisk new → IsPlain (understood old.now.schema sql) → OnOk c.rows_of.result (IsUnchanged old new)) c.all_text.ensures c.rows_of.ensures.same) c.rows_of.ensures.frame

@@ -6,7 +6,7 @@ use Rattle.sqlite.specs.Given.{IsPlain}
 use Rattle.sqlite.specs.Listing.{understood}
 use Rattle.kcr_rows.proofs.FailLemmas.{if_both, if_ok}
 use Rattle.kcr_rows.proofs.FilterLemmas.{has_value}
-use Rattle.kcr_tables.proofs.FrameLemmas.{same_by, same_holds}
+use Rattle.kcr_tables.proofs.FrameLemmas.{reads_by}
 use Rattle.kcr_tables.proofs.StatementLemmas.{rows_shown, every_row}
 use Rattle.kcr_tables.proofs.table.rows_under.Goals as goal
 
@@ -34,11 +34,8 @@ returns-clause-exact g c clean has =
     let shown = subst₂ (λ (sql : List ℕ) (v : Row). IfOk c.rows_of.result (λ all. Shown sql v old new (map g.T.Stored.row_of all.items))) c.find_text.ensures (λ i. c.cell.ensures i ∷ []) (c.rows_of.ensures.shown clean) in
     if_ok _ _ (λ all h. every_row g.T.Finds.finding.find_sql T.place (value ∷ []) (has_value g.T.Finds.finding.column value) (g.met.T.Finds.finding_laws.finds key) g.T.Stored.row_of old new all.items has h) c.rows_of.result shown
 
-pub returns-clause-same : goal.returns-clause-same
-returns-clause-same g c =
+pub returns-clause-frame : goal.returns-clause-frame
+returns-clause-frame g c =
     let old = state g.S.Store c.args.tx.now.conn.now in
     let new = state g.S.Store c.rows_of.new.tx.conn.now in
-    same_by g.T.Finds.finding.find_sql old new c.rows_of.result (g.met.T.Finds.finding_laws.finds c.args.key.now).bare (subst (λ (sql : List ℕ). HasCleanDisk new → IsPlain (understood old.now.schema sql) → OnOk c.rows_of.result (IsUnchanged old new)) c.find_text.ensures c.rows_of.ensures.same)
-
-pub returns-clause-holds : goal.returns-clause-holds
-returns-clause-holds g c = same_holds (state g.S.Store c.args.tx.now.conn.now) (state g.S.Store c.rows_of.new.tx.conn.now) c.rows_of.result (returns-clause-same g c)
+    reads_by g.T.Finds.finding.find_sql old new c.rows_of.result (g.met.T.Finds.finding_laws.finds c.args.key.now).bare (subst (λ (sql : List ℕ). HasCleanDisk new → IsPlain (understood old.now.schema sql) → OnOk c.rows_of.result (IsUnchanged old new)) c.find_text.ensures c.rows_of.ensures.same) c.rows_of.ensures.frame

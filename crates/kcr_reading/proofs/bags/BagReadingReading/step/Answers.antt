@@ -3,14 +3,14 @@ use Rattle.kcr_rows.proofs.InsideLemmas.{was_clean}
 use Rattle.kcr_custody.specs.declared.Item.{Item}
 use Rattle.kcr_reading.specs.ToCome.{with_items, items_by_code}
 use Rattle.kcr_reading.specs.declared.bags.PackedBag.{PackedBag}
-use Rattle.kcr_reading.proofs.ChoiceLemmas.{still_held, gives_made}
+use Rattle.kcr_reading.proofs.ChoiceLemmas.{gives_made}
 use Rattle.kcr_reading.proofs.bags.BagReadingReading.step.Goals as goal
 
 pub returns-clause-gives : goal.returns-clause-gives
 returns-clause-gives g c clean m live =
-    let before = was_clean _ _ _ c.items_within.ensures.frame.survives clean in
+    let before = was_clean _ _ _ c.items_within.ensures.frame.within.survives clean in
     let h = live (c.in_ok-bag.ensures.opened before) in
-    let still = still_held m _ _ _ c.in_ok-bag.ensures.frame before h in
+    let still = c.in_ok-bag.ensures.frame.tables before m h in
     let made : List (List ℕ) → PackedBag = λ codes. record { bag = c.in-Some.bag; codes = codes } in
     gives_made (with_items (items_by_code m)) _ _ _ _ c.in-Some.is (c.in_ok-bag.ensures.gives before m h) _
     (ap made (c.in_ok-codes.ensures ∙ ap (map (λ (item : Item). item.code)) (c.as_slice.ensures.value ∙ c.in_ok-items.ensures.rows clean m still)))
