@@ -389,11 +389,11 @@ def findings(program, room):
 
 
 def doubled_key(program, room):
-    """A key in two rows, in a table that sqlite3 makes without a primary key, is found."""
+    """A key in two rows, in a table that sqlite3 makes without a unique key, is found."""
     file = filled(program, room, "003")
     keys = kcr.kept_tables(stream("003"))["keys"]
     key, _, command, reply = keys[20]
-    audited(program, made_anew(file, room / "doubled", unsaid=', PRIMARY KEY ("key")',
+    audited(program, made_anew(file, room / "doubled", unsaid=" NOT NULL UNIQUE",
                                keys=[*keys, (key, 1_000, command, reply)]), f"key {key}")
 
 

@@ -1,15 +1,11 @@
 """Writes what a table proves of its texts, and of its place among the others."""
 from table_list import TABLES
 from table_specs import uses
-from table_writer import write, codes
+from table_writer import write, codes, listed
 
 
 ONES = {"one_number", "one_facility", "one_role", "one_place"}
 ALL_PARTS = {"text_in", "number_in"}
-
-
-def listed(values):
-    return " ∷ ".join([*values, "[]"])
 
 
 def record(**fields):
@@ -70,7 +66,7 @@ def puts(t):
     fields = {
         "at": t.at,
         "name": codes(t.name),
-        "columns": listed(f"{c.kind.column} ({codes(c.name)})" for c in cols),
+        "columns": listed(t.schema_columns()),
         "others": others,
         "terms": listed(["lit Null", *given]),
         "test": f"op2 (Compare Eq Binary) (col 1 0) (col 0 {len(cols)}) ∷ []",
@@ -112,7 +108,7 @@ def finds(t, r):
         own = f"place_text x.{field}" if r.ty == "Place" else f"x.{field}"
         own = f"({own})" if " " in own else own
         proof = f"value_is ({cols[place].value('x')}) ({value}) refl refl ∙ sym ({ties} {own} {r.arg})"
-    test = f"op2 (Compare Eq Binary) (col 1 {place + 1}) (col 0 0) ∷ []"
+    test = f"op2 (Compare Eq Binary) (col 1 {t.places()[place]}) (col 0 0) ∷ []"
     value_of = "(λ n. Int (pos n))" if r.ty == "u32" else "Text"
     way = record(is_under=is_under_of(t, r), column=place, find_sql=codes(t.text_of(r)))
     return f"""
@@ -228,8 +224,8 @@ use Rattle.kcr_base.specs.Place.{place_text}
         out += f"use Rattle.kcr_cells.specs.States.{{{', '.join(facts)}}}\n"
     out += f"use Rattle.kcr_tables.specs.Schema.{{register_schema}}\nuse Rattle.kcr_tables.specs.Held.{{Tables, Kept, {', '.join(u.place for u in TABLES)}}}\n"
     out += "use Rattle.kcr_tables.specs.First.{first_tables}\nuse Rattle.kcr_tables.specs.Parts.{text_in, number_in}\nuse Rattle.kcr_tables.specs.Statements.{ShowsRows, PutsRow}\nuse Rattle.kcr_tables.specs.Table.{Table, IsTable, Finding, IsFinding}\n"
-    out += f"\nabbrev pub project : List Term\nproject = {listed(f'col 1 {i + 1}' for i in range(len(cols)))}\n"
-    out += f"\nabbrev order : List (Term × Key)\norder = {listed(f'(col 1 {i + 1}, ascending Binary)' for i in range(t.keys))}\n"
+    out += f"\nabbrev pub project : List Term\nproject = {listed(f'col 1 {at}' for at in t.places())}\n"
+    out += f"\nabbrev order : List (Term × Key)\norder = {listed(f'(col 1 {at}, ascending Binary)' for at in t.places()[: t.keys])}\n"
     out += f"\nabbrev pub names : List (List ℕ)\nnames = {listed(codes(c.name) for c in cols)}\n"
     out += table(t)
     out += f"\n-- no two values stand for one row\npub one : (x y : {t.type}) → {read_of('x')} → {stored_of('y')} → {t.row_of} x ≡ {t.row_of} y → x ≡ y\n"
@@ -238,7 +234,7 @@ use Rattle.kcr_base.specs.Place.{place_text}
     for r in t.readings:
         if not r.greatest:
             out += finds(t, r)
-    if not t.insert:
+    if not t.alias:
         out += puts(t)
     out += still(t) + table_laws(t)
     write(f"specs/{t.laws}.antt", out)

@@ -1,4 +1,5 @@
 """The tables of the register: the kinds of their columns, their keys, and the readings of each."""
+from table_writer import codes
 
 
 class Kind:
@@ -99,14 +100,15 @@ class Reading:
 
 
 class Table:
-    def __init__(self, name, row, type_, crate, module, columns, keys, doc, change=None, same=None, turned=False, others=(), readings=(), insert=False,
+    def __init__(self, name, row, type_, crate, module, columns, keys, doc, change=None, same=None, turned=False, others=(), readings=(), alias=None,
                  is_read=None, is_stored=None, stored_fact=None):
         self.name, self.row, self.type = name, row, type_
         self.crate = crate
         self.declared = f"Rattle.{crate}.specs.declared.{module}{type_}.{{{type_}}}"
         self.columns, self.keys, self.doc = columns, keys, doc
         self.change, self.same, self.turned = change, same, turned
-        self.others, self.readings, self.insert = others, readings, insert
+        self.others, self.readings = others, readings
+        self.alias = alias  # the column that is the row id: such a table has a key of one column, and its rows are entered and never changed
         self.is_read, self.is_stored, self.stored_fact = is_read, is_stored, stored_fact
         self.row_of = f"{row}_row"
         self.place = f"{name}_place"
@@ -131,16 +133,27 @@ class Table:
     def put_text(self):
         marks = ", ".join(f"?{i + 1}" for i in range(len(self.columns)))
         sets = ", ".join(f"{c.sql} = ?{i + 1}" for i, c in enumerate(self.columns))
-        over = "" if self.insert else f" ON CONFLICT ({self.order()}) DO UPDATE SET {sets}"
+        over = "" if self.alias else f" ON CONFLICT ({self.order()}) DO UPDATE SET {sets}"
         return f"INSERT INTO {self.name} ({self.names()}) VALUES ({marks}){over}"
 
     def create_text(self):
+        if self.alias:
+            kinds = [self.columns[0].kind.sql + " UNIQUE", *("INTEGER PRIMARY KEY" if c.name == self.alias else c.kind.sql for c in self.columns[1:])]
+            return f"CREATE TABLE {self.name} ({', '.join(f'{c.sql} {kind}' for c, kind in zip(self.columns, kinds))}) STRICT"
         columns = ", ".join(f"{c.sql} {c.kind.sql}" for c in self.columns)
         others = "".join(f", UNIQUE ({', '.join(self.columns[i].sql for i in other)})" for other in self.others)
         return f"CREATE TABLE {self.name} ({columns}, PRIMARY KEY ({self.order()}){others}) STRICT"
 
     def row_is(self, x):
         return " ∷ ".join(c.value(x) for c in self.columns) + " ∷ []"
+
+    def places(self):
+        """Where each column stands in an entry of the tree: the row id is in front of them, and an alias is there too."""
+        return [0 if c.name == self.alias else i + 1 for i, c in enumerate(self.columns)]
+
+    def schema_columns(self):
+        """The columns as the schema has them: it takes an alias for one that may be NULL, as it is in the entries."""
+        return [f"{'number_or_null' if c.name == self.alias else c.kind.column} ({codes(c.name)})" for c in self.columns]
 
     def tree_count(self):
         return 2 + len(self.others)
@@ -208,8 +221,8 @@ TABLES = [
     Table("versions", "version", "Version", "kcr_cells", "rows.", [Column("number", NUMBER)], 1,
           "one row with the number of the schema"),
     Table("keys", "key", "KeyRow", "kcr_history", "rows.", [Column("key", KEY), Column("accepted", NUMBER), Column("command", TEXT), Column("reply", TEXT)], 1,
-          "a row for each accepted command, under its key; no two rows have one number",
-          "PutKey", "same_key_row", others=[[1]], insert=True,
+          "a row for each accepted command, under its key; its number is the row id, and that of no other row",
+          "PutKey", "same_key_row", alias="accepted",
           readings=[Reading("key_row_of", "The row of this key, alone, or none", '"key"', "key", "&Key", KEY, "same_text {x}.key {v}", ask="is_of_key {v}"),
                     Reading("last_key_row", "The row with the greatest number, alone, or none where there is no row", None, greatest="accepted")]),
     Table("stays", "stay", "Stay", "kcr_room", "", [Column("who", INITIALS), Column("since", MOMENT), Column("ceremony", NUMBER), Column("until", MOMENT_OR_NULL)], 2,

@@ -1,6 +1,6 @@
 """Writes the definitions: the schema, the rows, and what the database holds."""
 from table_list import TABLES, MACHINE
-from table_writer import CELLS_CRATE, write, codes
+from table_writer import CELLS_CRATE, write, codes, listed
 
 
 HOMES = {
@@ -41,14 +41,15 @@ def spec_rows():
 
 
 def spec_schema():
-    out = "-- The schema: a table for each kind of row, with the index that its key gets; the keys of commands have a second one.\n"
-    out += "use Rattle.std.specs.Prelude.{List, [], ◌∷◌, codes}\nuse Rattle.sqlite.specs.Table.{Table}\nuse Rattle.sqlite.specs.Schema.{Schema}\nuse Rattle.kcr_rows.specs.Columns.{words, number, words_or_null, number_or_null, keyed, schema_of}\n"
+    out = "-- The schema: a table for each kind of row, with the index that its key gets.\n"
+    out += "use Rattle.std.specs.Prelude.{List, [], ◌∷◌, codes}\nuse Rattle.sqlite.specs.Table.{Table}\nuse Rattle.sqlite.specs.Schema.{Schema}\nuse Rattle.kcr_rows.specs.Columns.{words, number, words_or_null, number_or_null, keyed, aliased, schema_of}\n"
     for t in TABLES:
-        columns = " ∷ ".join(f"{c.kind.column} ({codes(c.name)})" for c in t.columns) + " ∷ []"
-        places = " ∷ ".join(str(i + 1) for i in range(t.keys)) + " ∷ []"
+        columns = listed(t.schema_columns())
+        places = listed(i + 1 for i in range(t.keys))
         others = "".join("(" + " ∷ ".join(str(i + 1) for i in other) + " ∷ []) ∷ " for other in t.others) + "[]"
         others = f"({others})" if t.others else others
-        out += f"\n-- {t.doc}\nabbrev pub {t.name} : Table\n{t.name} = keyed ({codes(t.name)}) {t.tree} ({columns}) ({places}) {others}\n"
+        made = f"aliased ({codes(t.name)}) {t.tree} ({columns}) {t.places().index(0)} (({places}) ∷ {others})" if t.alias else f"keyed ({codes(t.name)}) {t.tree} ({columns}) ({places}) {others}"
+        out += f"\n-- {t.doc}\nabbrev pub {t.name} : Table\n{t.name} = {made}\n"
     out += "\nabbrev pub all_tables : List Table\nall_tables = " + " ∷ ".join(t.name for t in TABLES) + " ∷ []\n"
     out += "\nabbrev pub register_schema : Schema\nregister_schema = schema_of all_tables\n"
     write("specs/Schema.antt", out)
@@ -56,14 +57,14 @@ def spec_schema():
 
 def spec_held():
     out = "-- The database holds the tables of a register.\n"
-    out += "use Rattle.std.specs.Prelude.{◌≡◌, List, map}\nuse Rattle.std.specs.List.{AllByRecursion}\nuse Rattle.sqlite.specs.Effect.{Database}\nuse Rattle.sqlite_catalog.specs.Listing.{IsSound}\nuse Rattle.sqlite.specs.Tree.{Trees}\n"
+    out += "use Rattle.std.specs.Prelude.{◌≡◌, List, [], ◌∷◌, map}\nuse Rattle.std.specs.List.{AllByRecursion}\nuse Rattle.sqlite.specs.Effect.{Database}\nuse Rattle.sqlite_catalog.specs.Listing.{IsSound}\nuse Rattle.sqlite.specs.Tree.{Trees}\n"
     out += "use Rattle.kcr_tables.specs.Schema.{register_schema}\nuse Rattle.kcr_rows.specs.Keyed.{Place, Keeps}\n"
     out += "use Rattle.kcr_cells.specs.Rows.{" + ", ".join(t.row_of for t in TABLES) + "}\n"
     out += "use Rattle.kcr_cells.specs.States.{" + ", ".join(t.is_stored for t in TABLES if t.is_stored) + "}\n"
     out += "".join(f"use {t.declared}\n" for t in TABLES)
     out += "\n-- where each table lies\n"
     for t in TABLES:
-        out += f"\nabbrev pub {t.place} : Place\n{t.place} = record {{ tree = {t.tree}; width = {len(t.columns)}; keys = {t.keys} }}\n"
+        out += f"\nabbrev pub {t.place} : Place\n{t.place} = record {{ tree = {t.tree}; at = {listed(t.places())}; keys = {t.keys} }}\n"
     out += "\n-- the rows of each table, in the order of their keys\npub record Tables : Type 0 where\n"
     out += "".join(f"  pub {t.name} : List {t.type}\n" for t in TABLES)
     out += "\n-- what the trees of a file hold\npub record Kept (db : Trees) (t : Tables) : Type 0 where\n  -- the catalog lists this schema, by which the file is read again\n  pub sound : IsSound register_schema db\n"

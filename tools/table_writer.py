@@ -49,5 +49,9 @@ def codes(text):
     return 'codes "' + text.replace('"', '\\"') + '"'
 
 
+def listed(values):
+    return " ∷ ".join([*map(str, values), "[]"])
+
+
 def rust_text(text):
     return '"' + text.replace('"', '\\"') + '"'

@@ -90,8 +90,8 @@ grown_from_1 old mid new t held one two =
     let still = front_of 15 (take 16 all_tables) mid.trees new.trees two.shared in
     let shared =
     shares_on (take 15 all_tables) k.whole old.trees new.trees k.shared (shares_on (take 15 all_tables) old.trees mid.trees new.trees one.shared still) in
-    let there : new.trees 32 ≡ mid.trees 32 = assumption two.shared in
-    let none : new.trees 32 ≡ [] = there ∙ one.empty in
+    let there : new.trees 31 ≡ mid.trees 31 = assumption two.shared in
+    let none : new.trees 31 ≡ [] = there ∙ one.empty in
     record {
       schema = two.schema;
       kept =
@@ -103,7 +103,7 @@ pub grown_from_2 : (old new : Database) (t : Tables) → HoldsUpTo 16 old t → 
 grown_from_2 old new t held two =
     let k = held.kept in
     let shared = shares_on (take 16 all_tables) k.whole old.trees new.trees k.shared two.shared in
-    let there : new.trees 32 ≡ k.whole 32 = assumption shared in
+    let there : new.trees 31 ≡ k.whole 31 = assumption shared in
     let own_stays = keeps_on stays_place k.whole new.trees (map stay_row t.stays) there k.kept.stays in
     record {
       schema = two.schema;

@@ -150,7 +150,7 @@ sets n old new count t one held h =
     updates old.step_limit o text w.tally new.now
     (subst (λ s. Does old.step_limit (mode_of old) [] (record old.now { schema = s }) text None Sets (Ok (w.tally, new.now))) held.schema w.changed) in
     let kept : Keeps versions_place o ((Int (pos n) ∷ []) ∷ []) = subst (λ (vs : List Version). Keeps versions_place o (map version_row vs)) one k.versions in
-    let e = one_entry (cells 1 1) (o 27) (Int (pos n) ∷ []) (one_permutation _ _ kept.same) in
+    let e = one_entry (cells versions_place) (o 27) (Int (pos n) ∷ []) (one_permutation _ _ kept.same) in
     let shaped = subst (IsShaped shape.Table) e.1 kept.shaped in
     let id : rowid e.0 ≡ Int (id_in (rowid e.0)) = int_is (rowid e.0) shaped.1.0 in
     let tree : m 27 ≡ (Int (id_in (rowid e.0)) ∷ Int (pos 3) ∷ []) ∷ [] = set_tree o m e.0 (id_in (rowid e.0)) e.1 id u.1 in
@@ -159,7 +159,7 @@ sets n old new count t one held h =
     = λ place rows. keeps_still register_schema 27 place o m rows u.1.applies.others in
     let sound : IsSound register_schema m = subst (λ s. IsSound s m) u.0 w.sound in
     let number : Keeps versions_place m ((Int (pos 3) ∷ []) ∷ []) = record {
-      same = subst (λ l. IsPermutation ((Int (pos 3) ∷ []) ∷ []) (map (cells 1 1) l)) (sym tree) (IsPermutation-refl ((Int (pos 3) ∷ []) ∷ []));
+      same = subst (λ l. IsPermutation ((Int (pos 3) ∷ []) ∷ []) (map (cells versions_place) l)) (sym tree) (IsPermutation-refl ((Int (pos 3) ∷ []) ∷ []));
       rising = (tt, tt);
       full = (refl, tt);
       shaped = subst (IsShaped shape.Table) (sym tree) ((tt, tt), (refl, tt));

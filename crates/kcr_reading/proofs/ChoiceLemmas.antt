@@ -45,8 +45,8 @@ pub shows_first : {sql : List ℕ} {place : Place} {params : Row} {choice : Choi
     → (command_of (understood register_schema sql) ≡ Select (record { lets = []; body = first_of place.tree test project order }) names)
     × (reads_listing register_schema sql ≡ false)
     → IsPlain (understood register_schema sql)
-    → ((r : Row) → output (first_of place.tree test project order) (params ∷ r ∷ []) ≡ (choice.rank (cells 1 place.width r), cells 1 place.width r))
-    → ((r : Row) → list_all (holds (params ∷ r ∷ [])) test ≡ choice.passes (cells 1 place.width r))
+    → ((r : Row) → output (first_of place.tree test project order) (params ∷ r ∷ []) ≡ (choice.rank (cells place r), cells place r))
+    → ((r : Row) → list_all (holds (params ∷ r ∷ [])) test ≡ choice.passes (cells place r))
     → ((a b : Row) → output_cmp (first_of place.tree test project order) (choice.rank a, a) (choice.rank b, b) ≡ choice.compare a b)
     → nat_le (2 ^ 31) place.tree ≡ false → ShowsFirst sql place params choice
 shows_first test project order names is bare shows tests sorts low =

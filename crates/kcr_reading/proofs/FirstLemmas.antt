@@ -34,12 +34,12 @@ module _ (sql : List ℕ) (place : Place) (params : Row) (choice : Choice) (s : 
   abbrev ranked : Row → Output
   ranked r = (choice.rank r, r)
 
-  first_rows : (db : Trees) (rows those : List Row) → IsPermutation (filter choice.passes (map (cells 1 place.width) (db place.tree))) those
+  first_rows : (db : Trees) (rows those : List Row) → IsPermutation (filter choice.passes (map (cells place) (db place.tree))) those
       → IsAscending (λ a b. choice.compare a b ≡ Less) those
       → IsAnswer q (overlay db []) params rows → rows ≡ take 1 those
   first_rows db rows those same up a =
       let entries = db place.tree in
-      let shown = cells 1 place.width in
+      let shown = cells place in
       let p = λ (r : Row). list_all (holds (params ∷ r ∷ [])) s.test in
       let staged : a.staged ≡ map (λ r. params ∷ r ∷ []) (filter p (overlay db [] place.tree)) = a.grouped
       ∙ matched p (λ r. params ∷ r ∷ []) (overlay db [] place.tree) in
@@ -69,7 +69,7 @@ module _ (sql : List ℕ) (place : Place) (params : Row) (choice : Choice) (s : 
         → IsAscending (λ a b. choice.compare (row_of a) (row_of b) ≡ Less) those → xs ≡ take 1 those
     shown_first IsRead IsStored one old new xs has h read ys held keeps those same up =
         let it = reads_as sql params old new register_schema has _ s.is.0 s.bare s.is.1 (map row_of xs) h in
-        let stored : IsPermutation (filter choice.passes (map (cells 1 place.width) (old.now.trees place.tree))) (map row_of those) =
+        let stored : IsPermutation (filter choice.passes (map (cells place) (old.now.trees place.tree))) (map row_of those) =
         IsPermutation-trans _ _ _ (IsPermutation-sym _ _ (IsPermutation-filter choice.passes _ _ keeps.same))
         (subst (λ l. IsPermutation l (map row_of those)) (sym (filter-map choice.passes row_of ys)) (IsPermutation-map row_of _ _ same)) in
         let rows = first_rows old.now.trees (map row_of xs) (map row_of those) stored (ascending-map (λ a b. choice.compare a b ≡ Less) row_of those up)

@@ -48,8 +48,8 @@ pub record ShowsFirst (sql : List ℕ) (place : Place) (params : Row) (choice : 
   pub bare : IsPlain (understood register_schema sql)
   pub shows : (r : Row)
       → output (first_of place.tree test project order) (params ∷ r ∷ []) ≡
-      (choice.rank (cells 1 place.width r), cells 1 place.width r)
-  pub tests : (r : Row) → list_all (holds (params ∷ r ∷ [])) test ≡ choice.passes (cells 1 place.width r)
+      (choice.rank (cells place r), cells place r)
+  pub tests : (r : Row) → list_all (holds (params ∷ r ∷ [])) test ≡ choice.passes (cells place r)
   pub sorts : (a b : Row)
       → output_cmp (first_of place.tree test project order) (choice.rank a, a) (choice.rank b, b) ≡ choice.compare a b
   pub low : nat_le (2 ^ 31) place.tree ≡ false

@@ -53,7 +53,7 @@ module _ (schema : Schema) (text : List ℕ) (table : Table) (after : Schema)
 -- a tree without entries keeps no rows
 pub bare : (place : Place) (db : Trees) → db place.tree ≡ [] → Keeps place db []
 bare place db none = record {
-  same = IsPermutation-same [] _ (sym (ap (map (cells 1 place.width)) none));
+  same = IsPermutation-same [] _ (sym (ap (map (cells place)) none));
   rising = tt;
   full = tt;
   shaped = subst (IsShaped shape.Table) (sym none) (tt, tt);

@@ -1,5 +1,5 @@
 -- A query for the row with the greatest number, among those that pass a test.
-use Rattle.std.proofs.Common.{◌≡◌, inl, inr, None, ℕ, suc, ◌+◌, ◌≤◌, ◌^◌, nat_le, pos, length, List, [], ◌∷◌, map, filter, take, true, false, Bool, Ordering, Less, Equal, Greater, is_lt, IsSorted, refl, sym, ap, subst, ◌∙◌, arith}
+use Rattle.std.proofs.Common.{◌≡◌, inl, inr, None, ℕ, suc, ◌+◌, ◌≤◌, ◌^◌, nat_le, pos, length, List, [], ◌∷◌, map, filter, take, slice_index_or, true, false, Bool, Ordering, Less, Equal, Greater, is_lt, IsSorted, refl, sym, ap, subst, ◌∙◌, arith}
 use Rattle.std.specs.Bool.{⊤}
 use Rattle.std.specs.List.{AllByRecursion, list_all}
 use Rattle.std.specs.List.Sorted.{IsPermutation}
@@ -32,8 +32,9 @@ use Rattle.kcr_rows.proofs.TableLemmas.{same_values, each_is}
 use Rattle.kcr_rows.proofs.PutLemmas.{mapped_from, has_same}
 
 -- the query on one table that shows the row with the greatest number in a column, counted from 0
-abbrev pub greatest : ℕ → List Term → List Term → ℕ → Query
-greatest tree test project at = asking tree test project ((col 1 (suc at), record { collation = Binary; descending = true }) ∷ []) (pos 1)
+abbrev pub greatest : Place → List Term → List Term → ℕ → Query
+greatest place test project at =
+    asking place.tree test project ((col 1 (slice_index_or place.at at 0), record { collation = Binary; descending = true }) ∷ []) (pos 1)
 
 abbrev pub with_number : ℕ → Row → Output
 with_number at row = (column row at ∷ [], row)
@@ -57,14 +58,14 @@ none_from : {X Y : Type 0} (f : X → Y) (xs : List X) → map f xs ≡ [] → x
 none_from f xs h = nil_from_length xs (sym (length-map xs f) ∙ ap length h)
 
 module _ (place : Place) (schema : Schema) (sql : List ℕ) (params : Row) (test project : List Term) (at : ℕ) (names : List (List ℕ)) (passes : Row → Bool)
-    (is : (command_of (understood schema sql) ≡ Select (record { lets = []; body = greatest place.tree test project at }) names) × (reads_listing schema sql ≡ false))
+    (is : (command_of (understood schema sql) ≡ Select (record { lets = []; body = greatest place test project at }) names) × (reads_listing schema sql ≡ false))
     (bare : IsPlain (understood schema sql))
-    (shows : (r : Row) → output (greatest place.tree test project at) (params ∷ r ∷ []) ≡ with_number at (cells 1 place.width r))
-    (tests : (r : Row) → list_all (holds (params ∷ r ∷ [])) test ≡ passes (cells 1 place.width r))
+    (shows : (r : Row) → output (greatest place test project at) (params ∷ r ∷ []) ≡ with_number at (cells place r))
+    (tests : (r : Row) → list_all (holds (params ∷ r ∷ [])) test ≡ passes (cells place r))
     (low : nat_le (2 ^ 31) place.tree ≡ false)
     {X : Type 0} (row_of : X → Row) (one : (x y : X) → row_of x ≡ row_of y → x ≡ y) (number : X → ℕ) (numbered : (x : X) → column (row_of x) at ≡ Int (pos (number x))) where
   abbrev q : Query
-  q = greatest place.tree test project at
+  q = greatest place test project at
 
   abbrev out : Row → Output
   out = with_number at
@@ -106,7 +107,7 @@ module _ (place : Place) (schema : Schema) (sql : List ℕ) (params : Row) (test
       let read = reads_as sql params old new schema has _ is.0 bare is.1 (map row_of xs) h in
       let a : IsAnswer q (overlay old.now.trees []) params (map row_of xs) = read.answer Null in
       let entries = old.now.trees place.tree in
-      let shown = cells 1 place.width in
+      let shown = cells place in
       let outs : a.kept ≡ map out (filter passes (map shown entries)) =
       kept_cells place test project _ (pos 1) params passes out shows tests low old.now.trees (map row_of xs) a in
       let passed : IsPermutation (map row_of (filter (λ y. passes (row_of y)) ys)) (filter passes (map shown entries)) =

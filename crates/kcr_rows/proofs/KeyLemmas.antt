@@ -18,7 +18,7 @@ use Rattle.sqlite_rules.specs.Edit.{id_in, is_taken}
 use Rattle.sqlite.specs.Table.{Table}
 use Rattle.sqlite_schema.specs.declared.schema.Index.{Index}
 use Rattle.sqlite_rules.specs.Keys.{conflicts, shares, aims}
-use Rattle.kcr_rows.specs.Keyed.{cells, by_key, is_full}
+use Rattle.kcr_rows.specs.Keyed.{Place, cells, by_key, is_full}
 
 abbrev pub places_from : ℕ → ℕ → List ℕ
 places_from at zero = []
@@ -65,37 +65,45 @@ alone : (a b : Bool) → (a && b) ≡ false → b ≡ true → a ≡ false
 alone a b none h = grind arith
 
 -- a row that does not clash with the new one has another key
-module _ (keys width : ℕ) (entries : List Row) (id : ℤ) (values : Row)
-    (compares : (a b : Row) → by_key keys (cells 1 width a) (cells 1 width b) ≡ key_cmp 1 (rising keys []) a b)
-    (fulls : (a : Row) → is_full keys (cells 1 width a) ≡ full 1 keys a)
-    (shown : cells 1 width (Int id ∷ values) ≡ values)
-    (free : is_taken entries (Int id ∷ values) ≡ false) where
-  -- no entry has the rowid of the new one
-  apart : (r : Row) → Has entries r → is_eq (value_cmp (rowid r) (Int id)) ≡ false
-  apart r h = not_any (λ x. is_eq (value_cmp (rowid x) (rowid (Int id ∷ values)))) entries r free h
+module _ (place : Place) (entries : List Row) (entry : Row) (id : ℤ) (values : Row)
+    (compares : (a b : Row) → by_key place.keys (cells place a) (cells place b) ≡ key_cmp 1 (rising place.keys []) a b)
+    (fulls : (a : Row) → is_full place.keys (cells place a) ≡ full 1 place.keys a)
+    (numbered : rowid entry ≡ Int id)
+    (shown : cells place entry ≡ values)
+    (free : is_taken entries entry ≡ false) where
+  abbrev target : List ℕ
+  target = places_from 1 place.keys
+
+  -- it has a row id, and no entry has the same
+  there_is : is_null (rowid entry) ≡ false
+  there_is = ap is_null numbered
+
+  apart : (r : Row) → Has entries r → is_eq (value_cmp (rowid r) (rowid entry)) ≡ false
+  apart r h = not_any (λ x. is_eq (value_cmp (rowid x) (rowid entry))) entries r free h
 
   -- an entry agrees with it on the columns of the key where it has the key
-  agrees : (r : Row) → is_full keys (cells 1 width r) ≡ true → is_full keys values ≡ true
-      → agree plain (places_from 1 keys) r (places_from 1 keys) (Int id ∷ values) ≡ is_eq (by_key keys (cells 1 width r) values)
+  agrees : (r : Row) → is_full place.keys (cells place r) ≡ true → is_full place.keys values ≡ true
+      → agree plain target r target entry ≡ is_eq (by_key place.keys (cells place r) values)
   agrees r whole filled =
-      let new_full : full 1 keys (Int id ∷ values) ≡ true = sym (fulls (Int id ∷ values)) ∙ ap (is_full keys) shown ∙ filled in
-      agree_is keys 1 r (Int id ∷ values) (sym (fulls r) ∙ whole) new_full
-      ∙ ap is_eq (sym (compares r (Int id ∷ values))) ∙ ap (λ v. is_eq (by_key keys (cells 1 width r) v)) shown
+      let new_full : full 1 place.keys entry ≡ true = sym (fulls entry) ∙ ap (is_full place.keys) shown ∙ filled in
+      agree_is place.keys 1 r entry (sym (fulls r) ∙ whole) new_full
+      ∙ ap is_eq (sym (compares r entry)) ∙ ap (λ v. is_eq (by_key place.keys (cells place r) v)) shown
 
-  pub fresh_key : (r : Row) → Has entries r → rowid r ≡ Int (id_in (rowid r)) → is_full keys (cells 1 width r) ≡ true → is_full keys values ≡ true
-      → (agree plain (places_from 1 keys) r (places_from 1 keys) (Int id ∷ values) && differ (rowid r) (rowid (Int id ∷ values))) ≡ false
-      → is_eq (by_key keys (cells 1 width r) values) ≡ false
-  fresh_key r h own whole filled none = sym (agrees r whole filled) ∙ alone _ _ none (differ_is (rowid r) (Int id) (ap is_null own) refl ∙ ap not (apart r h))
+  pub fresh_key : (r : Row) → Has entries r → rowid r ≡ Int (id_in (rowid r)) → is_full place.keys (cells place r) ≡ true → is_full place.keys values ≡ true
+      → (agree plain target r target entry && differ (rowid r) (rowid entry)) ≡ false
+      → is_eq (by_key place.keys (cells place r) values) ≡ false
+  fresh_key r h own whole filled none =
+      sym (agrees r whole filled) ∙ alone _ _ none (differ_is (rowid r) (rowid entry) (ap is_null own) there_is ∙ ap not (apart r h))
 
   -- a row conflicts with it at the key where it has the key
   pub meets_key : (indexes : List Index) (table : Table)
-      → ((a b : Row) → list_any (shares (Some (places_from 1 keys)) table a b) indexes ≡ (agree plain (places_from 1 keys) b (places_from 1 keys) a || false))
-      → (r : Row) → Has entries r → rowid r ≡ Int (id_in (rowid r)) → is_full keys (cells 1 width r) ≡ true → is_full keys values ≡ true
-      → conflicts (Some (places_from 1 keys)) indexes table (Int id ∷ values) r ≡ is_eq (by_key keys (cells 1 width r) values)
+      → ((a b : Row) → list_any (shares (Some target) table a b) indexes ≡ (agree plain target b target a || false))
+      → (r : Row) → Has entries r → rowid r ≡ Int (id_in (rowid r)) → is_full place.keys (cells place r) ≡ true → is_full place.keys values ≡ true
+      → conflicts (Some target) indexes table entry r ≡ is_eq (by_key place.keys (cells place r) values)
   meets_key indexes table shared r h own whole filled =
-      let rowids : agree plain (0 ∷ []) r (0 ∷ []) (Int id ∷ values) ≡ false =
-      rw (first_key-plain, equal_is (rowid r) (Int id) (ap is_null own) refl, apart r h) in
-      ap₂ ◌||◌ (and_right (aims (Some (places_from 1 keys)) (0 ∷ [])) _ rowids) (shared (Int id ∷ values) r ∙ or_false _ ∙ agrees r whole filled)
+      let rowids : agree plain (0 ∷ []) r (0 ∷ []) entry ≡ false =
+      rw (first_key-plain, equal_is (rowid r) (rowid entry) (ap is_null own) there_is, apart r h) in
+      ap₂ ◌||◌ (and_right (aims (Some target) (0 ∷ [])) _ rowids) (shared entry r ∙ or_false _ ∙ agrees r whole filled)
     where
       or_false : (b : Bool) → (b || false) ≡ b
       or_false b = grind arith

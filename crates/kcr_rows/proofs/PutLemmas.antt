@@ -79,12 +79,12 @@ has_same xs ys x same h = all_has (Has ys) xs x (all-permutation (Has ys) ys xs 
 -- the rows of another key are left, and the new one goes in where its rowid is free
 module _ (place : Place) (db : Trees) (new : Row) (values : Row) (rest : List Row) (shaped : IsShaped shape.Table (db place.tree)) where
   abbrev others : List Row
-  others = filter (λ r. not (is_eq (by_key place.keys (cells 1 place.width r) values))) (db place.tree)
+  others = filter (λ r. not (is_eq (by_key place.keys (cells place r) values))) (db place.tree)
 
-  pub keeps_put : rest ≡ others → (rows : List Row) → Keeps place db rows → (next : Trees) → is_full place.keys values ≡ true → cells 1 place.width new ≡ values → IsTrue (is_int (rowid new))
+  pub keeps_put : rest ≡ others → (rows : List Row) → Keeps place db rows → (next : Trees) → is_full place.keys values ≡ true → cells place new ≡ values → IsTrue (is_int (rowid new))
       → is_taken rest new ≡ false → next place.tree ≡ put_row new rest → Keeps place next (put place.keys values rows)
   keeps_put left_is rows keeps next whole shown keyed free is =
-      let shows = cells 1 place.width in
+      let shows = cells place in
       let now : next place.tree ≡ put_row new others = is ∙ ap (put_row new) left_is in
       let fresh : is_taken others new ≡ false = subst (λ l. is_taken l new ≡ false) left_is free in
       let apart : IsPermutation (filter (is_other place.keys values) rows) (map shows others) =
@@ -96,5 +96,5 @@ module _ (place : Place) (db : Trees) (new : Row) (values : Row) (rest : List Ro
             (IsPermutation-trans _ _ _ (put_same place.keys values rows keeps.rising) (IsPermutation-trans _ _ _ with_new (IsPermutation-map shows _ _ (put_row_same new others fresh))));
         full = all-put place.keys values _ rows whole keeps.full;
         rising = put_rising place.keys values rows keeps.rising;
-        shaped = subst (IsShaped shape.Table) (sym now) (IsShaped-put_row new others keyed (IsShaped-filter shape.Table (λ r. not (is_eq (by_key place.keys (cells 1 place.width r) values))) (db place.tree) shaped));
+        shaped = subst (IsShaped shape.Table) (sym now) (IsShaped-put_row new others keyed (IsShaped-filter shape.Table (λ r. not (is_eq (by_key place.keys (cells place r) values))) (db place.tree) shaped));
       }

@@ -63,12 +63,12 @@ kept_from tree test project order limit params low db rows a =
 
 -- the same where the test and what is made of an entry are told of its cells
 pub kept_cells : (place : Place) (test project : List Term) (order : List (Term × Key)) (limit : ℤ) (params : Row) (passes : Row → Bool) (out : Row → Output)
-    → ((r : Row) → output (asking place.tree test project order limit) (params ∷ r ∷ []) ≡ out (cells 1 place.width r))
-    → ((r : Row) → list_all (holds (params ∷ r ∷ [])) test ≡ passes (cells 1 place.width r)) → nat_le (2 ^ 31) place.tree ≡ false
+    → ((r : Row) → output (asking place.tree test project order limit) (params ∷ r ∷ []) ≡ out (cells place r))
+    → ((r : Row) → list_all (holds (params ∷ r ∷ [])) test ≡ passes (cells place r)) → nat_le (2 ^ 31) place.tree ≡ false
     → (db : Trees) (rows : List Row) → (a : IsAnswer (asking place.tree test project order limit) (overlay db []) params rows)
-    → a.kept ≡ map out (filter passes (map (cells 1 place.width) (db place.tree)))
+    → a.kept ≡ map out (filter passes (map (cells place) (db place.tree)))
 kept_cells place test project order limit params passes out shows tests low db rows a =
-    let shown = cells 1 place.width in
+    let shown = cells place in
     kept_from place.tree test project order limit params low db rows a
     ∙ map_same _ (λ r. out (shown r)) shows _
     ∙ ap (map (λ r. out (shown r))) (λ i. filter (λ r. tests r i) (db place.tree))
@@ -76,8 +76,8 @@ kept_cells place test project order limit params passes out shows tests low db r
     ∙ ap (map out) (sym (filter-map passes shown (db place.tree)))
 
 module _ (place : Place) (test : List Term) (project : List Term) (order : List (Term × Key)) (params : Row) (passes : Row → Bool)
-    (shows : (r : Row) → output (reading place.tree test project order) (params ∷ r ∷ []) ≡ with_key place.keys (cells 1 place.width r))
-    (tests : (r : Row) → list_all (holds (params ∷ r ∷ [])) test ≡ passes (cells 1 place.width r))
+    (shows : (r : Row) → output (reading place.tree test project order) (params ∷ r ∷ []) ≡ with_key place.keys (cells place r))
+    (tests : (r : Row) → list_all (holds (params ∷ r ∷ [])) test ≡ passes (cells place r))
     (sorts : (a b : Row) → output_cmp (reading place.tree test project order) (with_key place.keys a) (with_key place.keys b) ≡ by_key place.keys a b)
     (low : nat_le (2 ^ 31) place.tree ≡ false) where
   abbrev q : Query
@@ -87,7 +87,7 @@ module _ (place : Place) (test : List Term) (project : List Term) (order : List 
   unkeyed rows = map-map (λ (o : Output). o.1) (with_key place.keys) rows ∙ map-id rows
 
   outs : (db : Trees) (rows : List Row) → (a : IsAnswer q (overlay db []) params rows)
-      → a.kept ≡ map (with_key place.keys) (filter passes (map (cells 1 place.width) (db place.tree)))
+      → a.kept ≡ map (with_key place.keys) (filter passes (map (cells place) (db place.tree)))
   outs = kept_cells place test project order (negsuc 0) params passes (with_key place.keys) shows tests low
 
   pub reads_rows : (db : Trees) (rows kept : List Row) → Keeps place db kept → IsAnswer q (overlay db []) params rows → rows ≡ filter passes kept
@@ -102,8 +102,8 @@ module _ (place : Place) (test : List Term) (project : List Term) (order : List 
       a.shown ∙ ap (map (λ (o : Output). o.1)) ordered ∙ unkeyed (filter passes kept)
 
   -- whatever the tree has, the answer is its rows that pass
-  pub reads_exact : (db : Trees) (rows : List Row) → IsAnswer q (overlay db []) params rows → IsPermutation (filter passes (map (cells 1 place.width) (db place.tree))) rows
+  pub reads_exact : (db : Trees) (rows : List Row) → IsAnswer q (overlay db []) params rows → IsPermutation (filter passes (map (cells place) (db place.tree))) rows
   reads_exact db rows a =
       let same : IsPermutation (map (λ (o : Output). o.1) a.kept) (map (λ (o : Output). o.1) a.ordered) = IsPermutation-map (λ (o : Output). o.1) _ _ a.same in
-      let firsts = ap (map (λ (o : Output). o.1)) (outs db rows a) ∙ unkeyed (filter passes (map (cells 1 place.width) (db place.tree))) in
+      let firsts = ap (map (λ (o : Output). o.1)) (outs db rows a) ∙ unkeyed (filter passes (map (cells place) (db place.tree))) in
       subst (λ l. IsPermutation l rows) firsts (subst (IsPermutation (map (λ (o : Output). o.1) a.kept)) (sym a.shown) same)

@@ -9,14 +9,14 @@ use Rattle.sqlite.specs.declared.types.Value.TheVariants.{Null, Int}
 use Rattle.sqlite.specs.Order.{Row}
 use Rattle.sqlite.specs.Term.{Term, holds}
 use Rattle.sqlite.specs.Query.{key_cmp, output, output_cmp}
-use Rattle.sqlite.specs.Cast.{cast_all}
+use Rattle.sqlite.specs.Cast.{cast_row}
 use Rattle.sqlite.specs.Tree.{Trees, rowid, put_row}
 use Rattle.sqlite.specs.Table.{Table}
 use Rattle.sqlite.specs.Schema.{Schema}
 use Rattle.sqlite.specs.Command.{Command}
 use Rattle.sqlite.specs.Source.TheVariants.{Values}
 use Rattle.sqlite.specs.Command.TheVariants.{Insert, Select}
-use Rattle.sqlite.specs.Edit.{id_in, next_rowid, IsNoIndex}
+use Rattle.sqlite.specs.Edit.{id_in, IsNoIndex}
 use Rattle.sqlite.specs.Effect.{value_rows}
 use Rattle.sqlite.specs.Does.{Does}
 use Rattle.sqlite.specs.State.{State, mode_of, Executes, Shown}
@@ -38,12 +38,12 @@ use Rattle.sqlite_rules.specs.Lists.{Has}
 use Rattle.sqlite_rules.specs.Action.{works}
 use Rattle.sqlite_rules.proofs.ListLemmas.{all_has, all_from}
 use Rattle.sqlite_rules.proofs.TableLemmas.{int_is}
-use Rattle.kcr_rows.specs.Columns.{keyed}
+use Rattle.kcr_rows.specs.Columns.{aliased}
 use Rattle.kcr_rows.specs.Keyed.{cells, by_key, is_full, Place, Keeps, put, put_in}
 use Rattle.kcr_rows.proofs.ReadLemmas.{reading, with_key, reads_rows, reads_exact}
 use Rattle.kcr_rows.proofs.PutLemmas.{keeps_put, put_row_same, has_same}
 use Rattle.kcr_rows.proofs.KeyLemmas.{places_from, full, fresh_key, not_any}
-use Rattle.kcr_rows.proofs.WriteLemmas.{IsInserted, stored, inserts}
+use Rattle.kcr_rows.proofs.WriteLemmas.{IsInserted, inserts}
 
 -- one row was put, and what lies in other trees is as it was
 pub record Changes (place : Place) (schema : Schema) (values : Row) (old new : Trees) : Type 0 where
@@ -65,63 +65,76 @@ module _ (place : Place) (db : Trees) (rows : List Row) (keeps : Keeps place db 
   pub own_id : rowid r ≡ Int (id_in (rowid r))
   own_id = int_is (rowid r) (all_has (λ x. IsTrue (is_int (rowid x))) (db place.tree) r keeps.shaped.1 h)
 
-  pub whole : is_full place.keys (cells 1 place.width r) ≡ true
+  pub whole : is_full place.keys (cells place r) ≡ true
   whole =
-      all_has (λ x. is_full place.keys (cells 1 place.width x) ≡ true) (db place.tree) r
-      (all_from_map (λ row. is_full place.keys row ≡ true) (cells 1 place.width) (db place.tree)
+      all_has (λ x. is_full place.keys (cells place x) ≡ true) (db place.tree) r
+      (all_from_map (λ row. is_full place.keys row ≡ true) (cells place) (db place.tree)
       (all-permutation (λ row. is_full place.keys row ≡ true) _ _ keeps.same keeps.full)) h
 
-module _ (place : Place) (schema : Schema) (at : ℕ) (name : List ℕ) (columns : List Column) (others : List (List ℕ))
-    (here : slice_get schema.tables at ≡ Some (keyed name place.tree columns (places_from 1 place.keys) others))
+-- INSERT of a row with its rowid, which is refused where a row has the key or the rowid
+module _ (place : Place) (schema : Schema) (at : ℕ) (name : List ℕ) (columns : List Column) (alias : ℕ) (others : List (List ℕ))
+    (here : slice_get schema.tables at ≡ Some (aliased name place.tree columns alias others))
     (alone : (olds news : List Row) → works schema Enforced 0 place.tree olds news ≡ [])
-    (compares : (a b : Row) → by_key place.keys (cells 1 place.width a) (cells 1 place.width b) ≡ key_cmp 1 (rising place.keys []) a b)
-    (fulls : (a : Row) → is_full place.keys (cells 1 place.width a) ≡ full 1 place.keys a)
+    (compares : (a b : Row) → by_key place.keys (cells place a) (cells place b) ≡ key_cmp 1 (rising place.keys []) a b)
+    (fulls : (a : Row) → is_full place.keys (cells place a) ≡ full 1 place.keys a)
+    (rest : List Row → Row → Bool)
+    (guarded : (rows : List Row) (row : Row)
+    → list_all (λ i. not (guards i (aliased name place.tree columns alias others) && clashes i.order i.columns rows row)) schema.indexes
+    ≡ (not (clashes plain (places_from 1 place.keys) rows row) && rest rows row))
     (sql : List ℕ) (terms : List Term)
+    (is : command_of (understood schema sql) ≡ Insert at (Values terms (suc (length place.at))))
     (bare : IsPlain (understood schema sql))
-    (values : Row)
-    (given : value_rows (values ++ []) (suc place.width) (length terms / suc place.width) terms ≡ (Null ∷ values) ∷ [])
-    (casts : cast_all columns values ≡ values)
-    (shown : (id : ℤ) → cells 1 place.width (Int id ∷ values) ≡ values)
+    (values entry : Row) (id : ℤ)
+    (given : value_rows (values ++ []) (suc (length place.at)) (length terms / suc (length place.at)) terms ≡ entry ∷ [])
+    (casts : cast_row (aliased name place.tree columns alias others) entry ≡ entry)
+    (numbered : rowid entry ≡ Int id)
+    (shown : cells place entry ≡ values)
     (filled : is_full place.keys values ≡ true) where
   abbrev table : Table
-  table = keyed name place.tree columns (places_from 1 place.keys) others
+  table = aliased name place.tree columns alias others
 
-  -- ---- INSERT, which is refused where a row has the key, or agrees on other places that are unique
+  abbrev target : List ℕ
+  target = places_from 1 place.keys
 
-  module _ (rest : List Row → Row → Bool)
-      (guarded : (rows : List Row) (row : Row) → list_all (λ i. not (guards i table && clashes i.order i.columns rows row)) schema.indexes ≡ (not (clashes plain (places_from 1 place.keys) rows row) && rest rows row))
-      (is : command_of (understood schema sql) ≡ Insert at (Values terms (suc place.width))) where
-    -- no row that was there has the key
-    other_key : (old new : Trees) → IsInserted schema table old new values → (rows : List Row) → Keeps place old rows → (r : Row) → Has (old place.tree) r → is_eq (by_key place.keys (cells 1 place.width r) values) ≡ false
-    other_key old new p rows keeps r h =
-        let entries = old place.tree in
-        let id = next_rowid entries in
-        let entry = stored entries values in
-        let passed = all_has (λ row. passes Unique schema new table row ≡ true) (new place.tree) entry (rule_of Unique schema new at table here (p.fits.rules Unique (λ e. cc)))
-        (subst (λ l. Has l entry) (sym p.is) (has_same (entry ∷ entries) (put_row entry entries) entry (put_row_same entry entries p.free) (inl refl))) in
-        let clash : clashes plain (places_from 1 place.keys) (new place.tree) entry ≡ false = not-true _ (and_parts _ _ (sym (guarded (new place.tree) entry) ∙ passed)).0 in
-        let there = subst (λ l. Has l r) (sym p.is) (has_same (entry ∷ entries) (put_row entry entries) r (put_row_same entry entries p.free) (inr h)) in
-        fresh_key place.keys place.width entries id values compares fulls (shown id) p.free r h
-        (own_id place old rows keeps r h) (whole place old rows keeps r h) filled
-        (not_any (λ other. agree plain (places_from 1 place.keys) other (places_from 1 place.keys) entry && differ (rowid other) (rowid entry)) (new place.tree) r clash there)
+  abbrev IsIn : Trees → Trees → Type 0
+  IsIn old new = IsInserted schema place.tree old new entry
 
-    insert_keeps : (old new : Trees) → IsInserted schema table old new values → (rows : List Row) → Keeps place old rows → Keeps place new (put place.keys values rows)
-    insert_keeps old new p rows keeps =
-        let entries = old place.tree in
-        let left = sym (filter_all (λ r. not (is_eq (by_key place.keys (cells 1 place.width r) values))) entries (all_from _ entries (λ r h. ap not (other_key old new p rows keeps r h)))) in
-        keeps_put place old (stored entries values) values entries keeps.shaped left rows keeps new filled (shown (next_rowid entries)) refl p.free p.is
+  -- no row that was there has the key
+  other_key : (old new : Trees) → IsIn old new → (rows : List Row) → Keeps place old rows → (r : Row) → Has (old place.tree) r
+      → is_eq (by_key place.keys (cells place r) values) ≡ false
+  other_key old new p rows keeps r h =
+      let entries = old place.tree in
+      let there = λ (x : Row) (k : Has (entry ∷ entries) x).
+      subst (λ l. Has l x) (sym p.is) (has_same (entry ∷ entries) (put_row entry entries) x (put_row_same entry entries p.free) k) in
+      let passed =
+      all_has (λ row. passes Unique schema new table row ≡ true) (new place.tree) entry
+      (rule_of Unique schema new at table here (p.fits.rules Unique (λ e. cc))) (there entry (inl refl)) in
+      let clash : clashes plain target (new place.tree) entry ≡ false = not-true _ (and_parts _ _ (sym (guarded (new place.tree) entry) ∙ passed)).0 in
+      fresh_key place entries entry id values compares fulls numbered shown p.free r h
+      (own_id place old rows keeps r h) (whole place old rows keeps r h) filled
+      (not_any (λ other. agree plain target other target entry && differ (rowid other) (rowid entry)) (new place.tree) r clash (there r (inr h)))
 
-    abbrev Inserts : Command
-    Inserts = Insert at (Values terms (suc place.width))
+  insert_keeps : (old new : Trees) → IsIn old new → (rows : List Row) → Keeps place old rows → Keeps place new (put place.keys values rows)
+  insert_keeps old new p rows keeps =
+      let entries = old place.tree in
+      let none = all_from _ entries (λ r h. ap not (other_key old new p rows keeps r h)) in
+      let left = sym (filter_all (λ r. not (is_eq (by_key place.keys (cells place r) values))) entries none) in
+      keeps_put place old entry values entries keeps.shaped left rows keeps new filled shown (subst (λ v. IsTrue (is_int v)) (sym numbered) refl) p.free p.is
 
-    -- the statement makes the change
-    pub executes_insert : (old new : State) (count : ℕ) → old.now.schema ≡ schema → Executes sql values old new (Ok count) → (new.now.schema ≡ schema) × Changes place schema values old.now.trees new.now.trees
-    executes_insert old new count has h =
-        let w = runs_as sql values old new schema has Inserts is bare count h in
-        let text = statement_of sql (understood schema sql) in
-        let p = inserts schema at name place.tree columns (places_from 1 place.keys) others terms place.width values here alone given casts old.step_limit old.now.trees text w.tally new.now
-        (subst (λ s. Does old.step_limit (mode_of old) values (record old.now { schema = s }) text None Inserts (Ok (w.tally, new.now))) has w.changed) in
-        (p.0, record { sound = subst (λ s. IsSound s new.now.trees) p.0 w.sound; rows = insert_keeps old.now.trees new.now.trees p.1; others = p.1.others })
+  abbrev Inserts : Command
+  Inserts = Insert at (Values terms (suc (length place.at)))
+
+  -- the statement makes the change
+  pub executes_insert : (old new : State) (count : ℕ) → old.now.schema ≡ schema → Executes sql values old new (Ok count)
+      → (new.now.schema ≡ schema) × Changes place schema values old.now.trees new.now.trees
+  executes_insert old new count has h =
+      let w = runs_as sql values old new schema has Inserts is bare count h in
+      let text = statement_of sql (understood schema sql) in
+      let p =
+      inserts schema at name place.tree columns alias others terms (suc (length place.at)) values entry id here alone given casts numbered
+      old.step_limit old.now.trees text w.tally new.now
+      (subst (λ s. Does old.step_limit (mode_of old) values (record old.now { schema = s }) text None Inserts (Ok (w.tally, new.now))) has w.changed) in
+      (p.0, record { sound = subst (λ s. IsSound s new.now.trees) p.0 w.sound; rows = insert_keeps old.now.trees new.now.trees p.1; others = p.1.others })
 
 no_index_in : (t : ℕ) (indexes : List Index) → list_all (λ i. not (i.tree == t)) indexes ≡ true → AllByRecursion (λ i. i.tree ≢ t) indexes
 no_index_in t [] h = tt
@@ -130,7 +143,7 @@ no_index_in t (i ∷ more) h = let parts = and_parts _ _ h in ((λ e. true≢fal
 -- a tree that is no index and not the changed one keeps what it has
 pub keeps_on : (place : Place) (old new : Trees) (rows : List Row) → new place.tree ≡ old place.tree → Keeps place old rows → Keeps place new rows
 keeps_on place old new rows same k = record {
-  same = subst (λ l. IsPermutation rows (map (cells 1 place.width) l)) (sym same) k.same;
+  same = subst (λ l. IsPermutation rows (map (cells place) l)) (sym same) k.same;
   rising = k.rising;
   full = k.full;
   shaped = subst (IsShaped shape.Table) (sym same) k.shaped;
@@ -173,8 +186,8 @@ each_is (x ∷ xs) = (tt, each_is xs)
 module _ (place : Place) (schema : Schema) (sql : List ℕ) (params : Row) (test project : List Term) (order : List (Term × Key)) (names : List (List ℕ)) (passes : Row → Bool)
     (is : (command_of (understood schema sql) ≡ Select (record { lets = []; body = reading place.tree test project order }) names) × (reads_listing schema sql ≡ false))
     (bare : IsPlain (understood schema sql))
-    (shows : (r : Row) → output (reading place.tree test project order) (params ∷ r ∷ []) ≡ with_key place.keys (cells 1 place.width r))
-    (tests : (r : Row) → list_all (holds (params ∷ r ∷ [])) test ≡ passes (cells 1 place.width r))
+    (shows : (r : Row) → output (reading place.tree test project order) (params ∷ r ∷ []) ≡ with_key place.keys (cells place r))
+    (tests : (r : Row) → list_all (holds (params ∷ r ∷ [])) test ≡ passes (cells place r))
     (sorts : (a b : Row) → output_cmp (reading place.tree test project order) (with_key place.keys a) (with_key place.keys b) ≡ by_key place.keys a b)
     (low : nat_le (2 ^ 31) place.tree ≡ false)
     {X : Type 0} (row_of : X → Row) where
@@ -186,7 +199,7 @@ module _ (place : Place) (schema : Schema) (sql : List ℕ) (params : Row) (test
       same_values row_of IsRead IsStored one xs (filter (λ y. passes (row_of y)) ys) read (all_filter IsStored (λ y. passes (row_of y)) ys held) (rows ∙ filter-map passes row_of ys)
 
   -- also where the tree is no register's
-  pub shown_exact : (old new : State) (xs : List X) → old.now.schema ≡ schema → Shown sql params old new (map row_of xs) → IsPermutation (filter passes (map (cells 1 place.width) (old.now.trees place.tree))) (map row_of xs)
+  pub shown_exact : (old new : State) (xs : List X) → old.now.schema ≡ schema → Shown sql params old new (map row_of xs) → IsPermutation (filter passes (map (cells place) (old.now.trees place.tree))) (map row_of xs)
   shown_exact old new xs has h =
       let read = reads_as sql params old new schema has _ is.0 bare is.1 (map row_of xs) h in
       reads_exact place test project order params passes shows tests sorts low old.now.trees (map row_of xs) (read.answer Null)

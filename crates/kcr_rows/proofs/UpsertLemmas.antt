@@ -210,12 +210,12 @@ module _ (p : Row → Bool) (r : Row) where
 -- the row that has the key, among the entries that a tree keeps
 module _ (place : Place) (db : Trees) (rows : List Row) (keeps : Keeps place db rows) (values : Row) where
   abbrev has : Row → Bool
-  has r = has_key place.keys values (cells 1 place.width r)
+  has r = has_key place.keys values (cells place r)
 
   one_row : (x y : Row) → Has (db place.tree) x → Has (db place.tree) y → has x ≡ true → has y ≡ true → x ≡ y
   one_row x y h k p q =
       let entries = db place.tree in
-      let shows = cells 1 place.width in
+      let shows = cells place in
       let same : IsPermutation (filter (has_key place.keys values) rows) (map shows (filter has entries)) =
       subst (IsPermutation (filter (has_key place.keys values) rows)) (filter-map (has_key place.keys values) shows entries) (IsPermutation-filter (has_key place.keys values) _ _ keeps.same) in
       let long : length (filter has entries) ≡ length (filter (has_key place.keys values) rows) = sym (length-map (filter has entries) shows) ∙ length_permutation _ _ same in
@@ -225,14 +225,14 @@ module _ (place : Place) (db : Trees) (rows : List Row) (keeps : Keeps place db 
 module _ (place : Place) (schema : Schema) (at : ℕ) (name : List ℕ) (columns : List Column) (others : List (List ℕ))
     (here : slice_get schema.tables at ≡ Some (keyed name place.tree columns (places_from 1 place.keys) others))
     (alone : (olds news : List Row) → works schema Enforced 0 place.tree olds news ≡ [])
-    (compares : (a b : Row) → by_key place.keys (cells 1 place.width a) (cells 1 place.width b) ≡ key_cmp 1 (rising place.keys []) a b)
-    (fulls : (a : Row) → is_full place.keys (cells 1 place.width a) ≡ full 1 place.keys a)
+    (compares : (a b : Row) → by_key place.keys (cells place a) (cells place b) ≡ key_cmp 1 (rising place.keys []) a b)
+    (fulls : (a : Row) → is_full place.keys (cells place a) ≡ full 1 place.keys a)
     (sql : List ℕ) (terms : List Term)
     (bare : IsPlain (understood schema sql))
     (values : Row)
-    (given : value_rows (values ++ []) (suc place.width) (length terms / suc place.width) terms ≡ (Null ∷ values) ∷ [])
+    (given : value_rows (values ++ []) (suc (length place.at)) (length terms / suc (length place.at)) terms ≡ (Null ∷ values) ∷ [])
     (casts : cast_all columns values ≡ values)
-    (shown_as : (id : ℤ) → cells 1 place.width (Int id ∷ values) ≡ values)
+    (shown_as : (id : ℤ) → cells place (Int id ∷ values) ≡ values)
     (filled : is_full place.keys values ≡ true)
     (test sets : List Term)
     (tests : (entries : List Row) (there r : Row) → list_all (holds (seen (keyed name place.tree columns (places_from 1 place.keys) others) entries values there ∷ r ∷ [])) test ≡ (equal Binary (rowid r) (rowid there) && true))
@@ -241,7 +241,7 @@ module _ (place : Place) (schema : Schema) (at : ℕ) (name : List ℕ) (columns
     (shared : (a b : Row) → list_any (shares (Some (places_from 1 place.keys)) (keyed name place.tree columns (places_from 1 place.keys) others) a b) schema.indexes
     ≡ (agree plain (places_from 1 place.keys) b (places_from 1 place.keys) a || false))
     (is : command_of (understood schema sql)
-    ≡ InsertOr at Abort (Values terms (suc place.width)) (record { target = Some (places_from 1 place.keys); update = Some (record { lets = []; body = finding place.tree test sets }) } ∷ [])) where
+    ≡ InsertOr at Abort (Values terms (suc (length place.at))) (record { target = Some (places_from 1 place.keys); update = Some (record { lets = []; body = finding place.tree test sets }) } ∷ [])) where
   abbrev that : Table
   that = keyed name place.tree columns (places_from 1 place.keys) others
 
@@ -270,10 +270,10 @@ module _ (place : Place) (schema : Schema) (at : ℕ) (name : List ℕ) (columns
 
   -- a row conflicts at the key exactly where it has the key of the new one
   conflicts_is : (old : Trees) (rows : List Row) → Keeps place old rows → (r : Row) → Has (old place.tree) r
-      → conflicts (Some (places_from 1 place.keys)) schema.indexes that (stored (old place.tree) values) r ≡ is_eq (by_key place.keys (cells 1 place.width r) values)
+      → conflicts (Some (places_from 1 place.keys)) schema.indexes that (stored (old place.tree) values) r ≡ is_eq (by_key place.keys (cells place r) values)
   conflicts_is old rows keeps r h =
       let entries = old place.tree in
-      meets_key place.keys place.width entries (next_rowid entries) values compares fulls (shown_as (next_rowid entries))
+      meets_key place entries (stored entries values) (next_rowid entries) values compares fulls refl (shown_as (next_rowid entries))
       (next_is_free Chosen entries values keeps.shaped.0 keeps.shaped.1) schema.indexes that shared r h
       (own_id place old rows keeps r h) (whole place old rows keeps r h) filled
 
@@ -281,7 +281,7 @@ module _ (place : Place) (schema : Schema) (at : ℕ) (name : List ℕ) (columns
       → Goes that place.tree test sets old new values [] → Goal old new
   keeps_new old new are goes rows keeps =
       let entries = old place.tree in
-      let left = sym (filter_all (λ r. not (is_eq (by_key place.keys (cells 1 place.width r) values))) entries
+      let left = sym (filter_all (λ r. not (is_eq (by_key place.keys (cells place r) values))) entries
       (all_from _ entries (λ r h. ap not (false_from_ne_true _ (λ same. are.complete r h (conflicts_is old rows keeps r h ∙ same)))))) in
       keeps_put place old (stored entries values) values entries keeps.shaped left rows keeps new filled (shown_as (next_rowid entries)) refl goes.0 goes.1
 
@@ -303,13 +303,13 @@ module _ (place : Place) (schema : Schema) (at : ℕ) (name : List ℕ) (columns
       let free : is_taken (without_rowid id entries) (Int id ∷ values) ≡ false = not-true _ (and_parts _ _ fresh).0 in
       let is : new place.tree ≡ put_row (Int id ∷ values) (without_rowid id entries) = goes.3 ∙ ap (put_all (left_by old (edit goes.0))) news_is ∙ ap (put_row (Int id ∷ values)) left_is in
       let at_id = λ (x : Row) (h : Has entries x).
-      both_ways (has_rowid id x) (is_eq (by_key place.keys (cells 1 place.width x) values))
-      (λ yes. subst (λ y. is_eq (by_key place.keys (cells 1 place.width y) values) ≡ true)
+      both_ways (has_rowid id x) (is_eq (by_key place.keys (cells place x) values))
+      (λ yes. subst (λ y. is_eq (by_key place.keys (cells place y) values) ≡ true)
       (sym (tied_same entries x r keeps.shaped.0 h s.1 (subst (λ v. value_cmp (rowid x) v ≡ Equal) (sym id_is) (tie_is _ yes)))) has_it)
       (λ yes. subst (λ y. has_rowid id y ≡ true) (one_row place old rows keeps values r x s.1 h has_it yes)
       (subst (λ v. is_eq (value_cmp (rowid r) v) ≡ true) id_is (ap is_eq (tied_itself value_cmp_total (rowid r))))) in
-      let left : without_rowid id entries ≡ filter (λ x. not (is_eq (by_key place.keys (cells 1 place.width x) values))) entries =
-      filter_same _ (λ x. not (is_eq (by_key place.keys (cells 1 place.width x) values))) entries (all_from _ entries (λ x h. ap not (at_id x h))) in
+      let left : without_rowid id entries ≡ filter (λ x. not (is_eq (by_key place.keys (cells place x) values))) entries =
+      filter_same _ (λ x. not (is_eq (by_key place.keys (cells place x) values))) entries (all_from _ entries (λ x h. ap not (at_id x h))) in
       keeps_put place old (Int id ∷ values) values (without_rowid id entries) keeps.shaped left rows keeps new filled (shown_as id) refl free is
 
   keeps_either : (old new : Trees) (found : List Row) → AreConflicts (Some (places_from 1 place.keys)) schema.indexes that (old place.tree) (stored (old place.tree) values) found
@@ -318,13 +318,13 @@ module _ (place : Place) (schema : Schema) (at : ℕ) (name : List ℕ) (columns
   keeps_either old new (there ∷ more) are goes = keeps_over old new there more are goes
 
   abbrev Upserts_it : Command
-  Upserts_it = InsertOr at Abort (Values terms (suc place.width)) (record { target = Some (places_from 1 place.keys); update = Some (record { lets = []; body = finding place.tree test sets }) } ∷ [])
+  Upserts_it = InsertOr at Abort (Values terms (suc (length place.at))) (record { target = Some (places_from 1 place.keys); update = Some (record { lets = []; body = finding place.tree test sets }) } ∷ [])
 
   -- the statement makes the change
   pub executes_upsert : (old new : State) (count : ℕ) → old.now.schema ≡ schema → Executes sql values old new (Ok count) → (new.now.schema ≡ schema) × Changes place schema values old.now.trees new.now.trees
   executes_upsert old new count has h =
       let w = runs_as sql values old new schema has Upserts_it is bare count h in
       let text = statement_of sql (understood schema sql) in
-      let p = upserts schema at name place.tree columns (places_from 1 place.keys) others terms place.width values here alone given casts test sets old.step_limit old.now.trees text w.tally new.now
+      let p = upserts schema at name place.tree columns (places_from 1 place.keys) others terms (length place.at) values here alone given casts test sets old.step_limit old.now.trees text w.tally new.now
       (subst (λ s. Does old.step_limit (mode_of old) values (record old.now { schema = s }) text None Upserts_it (Ok (w.tally, new.now))) has w.changed) in
       (p.0, record { sound = subst (λ s. IsSound s new.now.trees) p.0 w.sound; rows = keeps_either old.now.trees new.now.trees p.1.found p.1.are p.1.goes; others = p.1.others })

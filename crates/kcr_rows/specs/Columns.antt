@@ -1,6 +1,6 @@
 -- Tables whose rows stand under a key, and their columns.
 use Rattle.sqlite.specs.Collation.TheVariants.{Binary}
-use Rattle.std.specs.Prelude.{◌≡◌, true, false, Bool, [], ◌∷◌, None, List, ℕ, ◌+◌, map, flat_map}
+use Rattle.std.specs.Prelude.{◌≡◌, true, false, Bool, [], ◌∷◌, Option, None, Some, List, ℕ, ◌+◌, map, flat_map}
 use Rattle.sqlite.specs.declared.types.Value.TheVariants.{Null}
 use Rattle.std.specs.List.{AllByRecursion}
 use Rattle.sqlite.specs.Tree.{Trees}
@@ -30,16 +30,17 @@ words_or_null = column_of Text false
 abbrev pub number_or_null : List ℕ → Column
 number_or_null = column_of Integer false
 
--- a table whose key is these places, in this tree; no two rows agree on the places of one of the others
-abbrev pub keyed : List ℕ → ℕ → List Column → List ℕ → List (List ℕ) → Table
-keyed name tree columns places others = record {
+-- a table in this tree: which column is the row id, counted from 0, if one is; the places of its primary key; and the
+-- lists of places on which no two rows agree
+abbrev pub simple : List ℕ → ℕ → List Column → Option ℕ → List ℕ → List (List ℕ) → Table
+simple name tree columns alias primary uniques = record {
   name = name;
   tree = tree;
   columns = columns;
-  key = None;
-  primary = places;
-  uniques = places ∷ others;
-  orders = map (λ _. record { digits = 0 }) (places ∷ others);
+  key = alias;
+  primary = primary;
+  uniques = uniques;
+  orders = map (λ _. record { digits = 0 }) uniques;
   checks = [];
   references = [];
   computed = [];
@@ -47,12 +48,20 @@ keyed name tree columns places others = record {
   is_counted = false;
 }
 
+-- a table whose key is these places; no two rows agree on the places of one of the others
+abbrev pub keyed : List ℕ → ℕ → List Column → List ℕ → List (List ℕ) → Table
+keyed name tree columns places others = simple name tree columns None places (places ∷ others)
+
+-- a table whose primary key is the row id, a column of its own; no two rows agree on the places of one of the others
+abbrev pub aliased : List ℕ → ℕ → List Column → ℕ → List (List ℕ) → Table
+aliased name tree columns alias others = simple name tree columns (Some alias) (0 ∷ []) others
+
 abbrev pub indexes_from : Table → ℕ → List (List ℕ) → List Index
 indexes_from table at [] = []
 indexes_from table at (places ∷ more) =
     automatic table at places (table.tree + 1 + at) ∷ indexes_from table (at + 1) more
 
--- the indexes of a table, in the trees behind its own: that of its key first
+-- the indexes of a table, in the trees behind its own
 abbrev pub indexes_for : Table → List Index
 indexes_for table = indexes_from table 0 table.uniques
 

@@ -37,18 +37,18 @@ use Rattle.kcr_tables.proofs.ExactLemmas.{one_of}
 -- ---- whatever the tree has, the row that is shown is one of its rows that pass
 
 module _ (place : Place) (sql : List ℕ) (params : Row) (test project : List Term) (at : ℕ) (names : List (List ℕ)) (passes : Row → Bool)
-    (is : (command_of (understood register_schema sql) ≡ Select (record { lets = []; body = greatest place.tree test project at }) names) × (reads_listing register_schema sql ≡ false))
+    (is : (command_of (understood register_schema sql) ≡ Select (record { lets = []; body = greatest place test project at }) names) × (reads_listing register_schema sql ≡ false))
     (bare : IsPlain (understood register_schema sql))
-    (shows : (r : Row) → output (greatest place.tree test project at) (params ∷ r ∷ []) ≡ with_number at (cells 1 place.width r))
-    (tests : (r : Row) → list_all (holds (params ∷ r ∷ [])) test ≡ passes (cells 1 place.width r))
+    (shows : (r : Row) → output (greatest place test project at) (params ∷ r ∷ []) ≡ with_number at (cells place r))
+    (tests : (r : Row) → list_all (holds (params ∷ r ∷ [])) test ≡ passes (cells place r))
     (low : nat_le (2 ^ 31) place.tree ≡ false) where
   shown_one : (old new : State) (rows : List Row) → old.now.schema ≡ register_schema → Shown sql params old new rows → IsOneOf (filter passes (rows_at place old.now.trees)) rows
   shown_one old new rows has h =
-      let q = greatest place.tree test project at in
+      let q = greatest place test project at in
       let read = reads_as sql params old new register_schema has _ is.0 bare is.1 rows h in
       let a : IsAnswer q (overlay old.now.trees []) params rows = read.answer Null in
       let entries = old.now.trees place.tree in
-      let shown = cells 1 place.width in
+      let shown = cells place in
       let out = with_number at in
       let p = λ (r : Row). list_all (holds (params ∷ r ∷ [])) test in
       let second = λ (o : Output). o.1 in
@@ -74,7 +74,8 @@ module _ (place : Place) (sql : List ℕ) (params : Row) (test project : List Te
 abbrev pub key_sql : List ℕ
 key_sql = codes "SELECT \"key\", accepted, command, reply FROM keys ORDER BY accepted DESC LIMIT 1"
 
-key_is : (command_of (understood register_schema key_sql) ≡ Select (record { lets = []; body = greatest 29 [] keys.project 1 }) keys.names) × (reads_listing register_schema key_sql ≡ false)
+key_is : (command_of (understood register_schema key_sql) ≡ Select (record { lets = []; body = greatest keys_place [] keys.project 1 }) keys.names)
+    × (reads_listing register_schema key_sql ≡ false)
 unfolding understood everything
 key_is = (refl, refl)
 
@@ -100,7 +101,8 @@ stay_test = op2 (Compare Eq Binary) (col 1 1) (col 0 0) ∷ []
 abbrev pub stay_sql : List ℕ
 stay_sql = codes "SELECT who, since, ceremony, until FROM stays WHERE who = ?1 ORDER BY since DESC LIMIT 1"
 
-stay_is : (command_of (understood register_schema stay_sql) ≡ Select (record { lets = []; body = greatest 32 stay_test stays.project 1 }) stays.names) × (reads_listing register_schema stay_sql ≡ false)
+stay_is : (command_of (understood register_schema stay_sql) ≡ Select (record { lets = []; body = greatest stays_place stay_test stays.project 1 }) stays.names)
+    × (reads_listing register_schema stay_sql ≡ false)
 unfolding understood everything
 stay_is = (refl, refl)
 

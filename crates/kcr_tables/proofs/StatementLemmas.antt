@@ -21,7 +21,7 @@ module _ {X : Type 0} (sql : List ℕ) (place : Place) (params : Row) (passes : 
       ∙ filter_as (λ y. passes (row_of y)) test same ys
 
   -- whatever the tree has, the values stand for its rows that pass
-  pub every_row : (old new : State) (xs : List X) → old.now.schema ≡ register_schema → Shown sql params old new (map row_of xs) → IsPermutation (filter passes (map (cells 1 place.width) (old.now.trees place.tree))) (map row_of xs)
+  pub every_row : (old new : State) (xs : List X) → old.now.schema ≡ register_schema → Shown sql params old new (map row_of xs) → IsPermutation (filter passes (map (cells place) (old.now.trees place.tree))) (map row_of xs)
   every_row old new xs has h = shown_exact place register_schema sql params s.test s.project s.order s.names passes s.is s.bare s.shows s.tests s.sorts s.low row_of old new xs has h
 
 pub row_put : {X : Type 0} (sql : List ℕ) (place : Place) (row_of : X → Row) → PutsRow sql place row_of → (x : X) (old new : State) (count : ℕ) → old.now.schema ≡ register_schema → Executes sql (row_of x) old new (Ok count)

@@ -40,7 +40,7 @@ use Rattle.kcr_tables.specs.Held.{stays_place, withdrawals_place}
 
 -- the rows of a table, whatever they are
 abbrev pub rows_at : Place → Trees → List Row
-rows_at place db = map (cells 1 place.width) (db place.tree)
+rows_at place db = map (cells place) (db place.tree)
 
 -- each of the rows is the row of one of the values that are shown
 abbrev pub AreShown : {X : Type 0} → (X → Row) → List X → List Row → Type 0

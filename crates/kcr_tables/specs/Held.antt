@@ -1,5 +1,5 @@
 -- The database holds the tables of a register.
-use Rattle.std.specs.Prelude.{◌≡◌, List, map}
+use Rattle.std.specs.Prelude.{◌≡◌, List, [], ◌∷◌, map}
 use Rattle.std.specs.List.{AllByRecursion}
 use Rattle.sqlite.specs.Effect.{Database}
 use Rattle.sqlite_catalog.specs.Listing.{IsSound}
@@ -31,55 +31,55 @@ use Rattle.kcr_people.specs.declared.Withdrawal.{Withdrawal}
 -- where each table lies
 
 abbrev pub people_place : Place
-people_place = record { tree = 0; width = 2; keys = 1 }
+people_place = record { tree = 0; at = 1 ∷ 2 ∷ []; keys = 1 }
 
 abbrev pub trainings_place : Place
-trainings_place = record { tree = 2; width = 4; keys = 4 }
+trainings_place = record { tree = 2; at = 1 ∷ 2 ∷ 3 ∷ 4 ∷ []; keys = 4 }
 
 abbrev pub appointments_place : Place
-appointments_place = record { tree = 4; width = 4; keys = 2 }
+appointments_place = record { tree = 4; at = 1 ∷ 2 ∷ 3 ∷ 4 ∷ []; keys = 2 }
 
 abbrev pub boxes_place : Place
-boxes_place = record { tree = 6; width = 3; keys = 2 }
+boxes_place = record { tree = 6; at = 1 ∷ 2 ∷ 3 ∷ []; keys = 2 }
 
 abbrev pub safes_place : Place
-safes_place = record { tree = 8; width = 3; keys = 2 }
+safes_place = record { tree = 8; at = 1 ∷ 2 ∷ 3 ∷ []; keys = 2 }
 
 abbrev pub bags_place : Place
-bags_place = record { tree = 10; width = 2; keys = 1 }
+bags_place = record { tree = 10; at = 1 ∷ 2 ∷ []; keys = 1 }
 
 abbrev pub items_place : Place
-items_place = record { tree = 12; width = 3; keys = 1 }
+items_place = record { tree = 12; at = 1 ∷ 2 ∷ 3 ∷ []; keys = 1 }
 
 abbrev pub ceremonies_place : Place
-ceremonies_place = record { tree = 15; width = 6; keys = 1 }
+ceremonies_place = record { tree = 15; at = 1 ∷ 2 ∷ 3 ∷ 4 ∷ 5 ∷ 6 ∷ []; keys = 1 }
 
 abbrev pub marks_place : Place
-marks_place = record { tree = 17; width = 2; keys = 1 }
+marks_place = record { tree = 17; at = 1 ∷ 2 ∷ []; keys = 1 }
 
 abbrev pub steps_place : Place
-steps_place = record { tree = 19; width = 6; keys = 2 }
+steps_place = record { tree = 19; at = 1 ∷ 2 ∷ 3 ∷ 4 ∷ 5 ∷ 6 ∷ []; keys = 2 }
 
 abbrev pub seatings_place : Place
-seatings_place = record { tree = 21; width = 4; keys = 3 }
+seatings_place = record { tree = 21; at = 1 ∷ 2 ∷ 3 ∷ 4 ∷ []; keys = 3 }
 
 abbrev pub sheet_place : Place
-sheet_place = record { tree = 23; width = 4; keys = 2 }
+sheet_place = record { tree = 23; at = 1 ∷ 2 ∷ 3 ∷ 4 ∷ []; keys = 2 }
 
 abbrev pub exceptions_place : Place
-exceptions_place = record { tree = 25; width = 5; keys = 2 }
+exceptions_place = record { tree = 25; at = 1 ∷ 2 ∷ 3 ∷ 4 ∷ 5 ∷ []; keys = 2 }
 
 abbrev pub versions_place : Place
-versions_place = record { tree = 27; width = 1; keys = 1 }
+versions_place = record { tree = 27; at = 1 ∷ []; keys = 1 }
 
 abbrev pub keys_place : Place
-keys_place = record { tree = 29; width = 4; keys = 1 }
+keys_place = record { tree = 29; at = 1 ∷ 0 ∷ 3 ∷ 4 ∷ []; keys = 1 }
 
 abbrev pub stays_place : Place
-stays_place = record { tree = 32; width = 4; keys = 2 }
+stays_place = record { tree = 31; at = 1 ∷ 2 ∷ 3 ∷ 4 ∷ []; keys = 2 }
 
 abbrev pub withdrawals_place : Place
-withdrawals_place = record { tree = 35; width = 5; keys = 4 }
+withdrawals_place = record { tree = 34; at = 1 ∷ 2 ∷ 3 ∷ 4 ∷ 5 ∷ []; keys = 4 }
 
 -- the rows of each table, in the order of their keys
 pub record Tables : Type 0 where

@@ -31,7 +31,7 @@ use Rattle.kcr_tables.specs.Statements.{ShowsRows}
 use Rattle.kcr_tables.specs.Table.{Table, IsTable, Finding, IsFinding}
 
 abbrev pub project : List Term
-project = col 1 1 ∷ col 1 2 ∷ col 1 3 ∷ col 1 4 ∷ []
+project = col 1 1 ∷ col 1 0 ∷ col 1 3 ∷ col 1 4 ∷ []
 
 abbrev order : List (Term × Key)
 order = (col 1 1, ascending Binary) ∷ []

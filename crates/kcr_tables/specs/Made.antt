@@ -21,7 +21,7 @@ texts =
     ∷ codes "CREATE TABLE sheet (who TEXT NOT NULL, at INT NOT NULL, ceremony INT NOT NULL, way INT NOT NULL, PRIMARY KEY (who, at)) STRICT"
     ∷ codes "CREATE TABLE exceptions (ceremony INT NOT NULL, exception INT NOT NULL, text TEXT NOT NULL, at INT NOT NULL, passed INT, PRIMARY KEY (ceremony, exception)) STRICT"
     ∷ codes "CREATE TABLE versions (number INT NOT NULL, PRIMARY KEY (number)) STRICT"
-    ∷ codes "CREATE TABLE keys (\"key\" TEXT NOT NULL, accepted INT NOT NULL, command TEXT NOT NULL, reply TEXT NOT NULL, PRIMARY KEY (\"key\"), UNIQUE (accepted)) STRICT"
+    ∷ codes "CREATE TABLE keys (\"key\" TEXT NOT NULL UNIQUE, accepted INTEGER PRIMARY KEY, command TEXT NOT NULL, reply TEXT NOT NULL) STRICT"
     ∷ codes "CREATE TABLE stays (who TEXT NOT NULL, since INT NOT NULL, ceremony INT NOT NULL, until INT, PRIMARY KEY (who, since), UNIQUE (ceremony, since, who)) STRICT"
     ∷ codes "CREATE TABLE withdrawals (who TEXT NOT NULL, role TEXT NOT NULL, since INT NOT NULL, until INT NOT NULL, day INT NOT NULL, PRIMARY KEY (who, role, since, until)) STRICT" ∷ []
 

@@ -1,8 +1,8 @@
--- The schema: a table for each kind of row, with the index that its key gets; the keys of commands have a second one.
+-- The schema: a table for each kind of row, with the index that its key gets.
 use Rattle.std.specs.Prelude.{List, [], ◌∷◌, codes}
 use Rattle.sqlite.specs.Table.{Table}
 use Rattle.sqlite.specs.Schema.{Schema}
-use Rattle.kcr_rows.specs.Columns.{words, number, words_or_null, number_or_null, keyed, schema_of}
+use Rattle.kcr_rows.specs.Columns.{words, number, words_or_null, number_or_null, keyed, aliased, schema_of}
 
 -- a person under their initials
 abbrev pub people : Table
@@ -77,21 +77,21 @@ exceptions = keyed (codes "exceptions") 25
 abbrev pub versions : Table
 versions = keyed (codes "versions") 27 (number (codes "number") ∷ []) (1 ∷ []) []
 
--- a row for each accepted command, under its key; no two rows have one number
+-- a row for each accepted command, under its key; its number is the row id, and that of no other row
 abbrev pub keys : Table
-keys = keyed (codes "keys") 29
-    (words (codes "key") ∷ number (codes "accepted") ∷ words (codes "command") ∷ words (codes "reply") ∷ []) (1 ∷ [])
-    ((2 ∷ []) ∷ [])
+keys = aliased (codes "keys") 29
+    (words (codes "key") ∷ number_or_null (codes "accepted") ∷ words (codes "command") ∷ words (codes "reply") ∷ []) 1
+    ((1 ∷ []) ∷ [])
 
 -- a stay of a person in the room of a ceremony, under the person and its beginning
 abbrev pub stays : Table
-stays = keyed (codes "stays") 32
+stays = keyed (codes "stays") 31
     (words (codes "who") ∷ number (codes "since") ∷ number (codes "ceremony") ∷ number_or_null (codes "until") ∷ [])
     (1 ∷ 2 ∷ []) ((3 ∷ 2 ∷ 1 ∷ []) ∷ [])
 
 -- from which day a training is withdrawn, under the training's key
 abbrev pub withdrawals : Table
-withdrawals = keyed (codes "withdrawals") 35
+withdrawals = keyed (codes "withdrawals") 34
     (words (codes "who") ∷ words (codes "role") ∷ number (codes "since") ∷ number (codes "until")
     ∷ number (codes "day") ∷ []) (1 ∷ 2 ∷ 3 ∷ 4 ∷ []) []
 

@@ -40,8 +40,8 @@ pub record ShowsRows (sql : List ℕ) (place : Place) (params : Row) (passes : R
       × (reads_listing register_schema sql ≡ false)
   pub bare : IsPlain (understood register_schema sql)
   pub shows : (r : Row)
-      → output (reading place.tree test project order) (params ∷ r ∷ []) ≡ with_key place.keys (cells 1 place.width r)
-  pub tests : (r : Row) → list_all (holds (params ∷ r ∷ [])) test ≡ passes (cells 1 place.width r)
+      → output (reading place.tree test project order) (params ∷ r ∷ []) ≡ with_key place.keys (cells place r)
+  pub tests : (r : Row) → list_all (holds (params ∷ r ∷ [])) test ≡ passes (cells place r)
   pub sorts : (a b : Row)
       → output_cmp (reading place.tree test project order) (with_key place.keys a)
       (with_key place.keys b) ≡ by_key place.keys a b
@@ -60,13 +60,14 @@ pub record PutsRow {X : Type 0} (sql : List ℕ) (place : Place) (row_of : X →
       (keyed name place.tree columns (places_from 1 place.keys) others)
   pub alone : (olds news : List Row) → works register_schema Enforced 0 place.tree olds news ≡ []
   pub compares : (a b : Row)
-      → by_key place.keys (cells 1 place.width a) (cells 1 place.width b) ≡ key_cmp 1 (rising place.keys []) a b
-  pub fulls : (a : Row) → is_full place.keys (cells 1 place.width a) ≡ full 1 place.keys a
+      → by_key place.keys (cells place a) (cells place b) ≡ key_cmp 1 (rising place.keys []) a b
+  pub fulls : (a : Row) → is_full place.keys (cells place a) ≡ full 1 place.keys a
   pub bare : IsPlain (understood register_schema sql)
   pub given : (x : X)
-      → value_rows (row_of x ++ []) (suc place.width) (length terms / suc place.width) terms ≡ (Null ∷ row_of x) ∷ []
+      → value_rows (row_of x ++ []) (suc (length place.at)) (length terms / suc (length place.at)) terms ≡
+      (Null ∷ row_of x) ∷ []
   pub casts : (x : X) → cast_all columns (row_of x) ≡ row_of x
-  pub shown : (x : X) (id : ℤ) → cells 1 place.width (Int id ∷ row_of x) ≡ row_of x
+  pub shown : (x : X) (id : ℤ) → cells place (Int id ∷ row_of x) ≡ row_of x
   pub filled : (x : X) → is_full place.keys (row_of x) ≡ true
   pub tests : (x : X) (entries : List Row) (there r : Row)
       → list_all
@@ -82,7 +83,7 @@ pub record PutsRow {X : Type 0} (sql : List ℕ) (place : Place) (row_of : X →
       (shares (Some (places_from 1 place.keys))
       (keyed name place.tree columns (places_from 1 place.keys) others) a b) register_schema.indexes
       ≡ (agree plain (places_from 1 place.keys) b (places_from 1 place.keys) a || false)
-  pub is : command_of (understood register_schema sql) ≡ InsertOr at Abort (Values terms (suc place.width))
+  pub is : command_of (understood register_schema sql) ≡ InsertOr at Abort (Values terms (suc (length place.at)))
       (record {
         target = Some (places_from 1 place.keys);
         update = Some (record { lets = []; body = finding place.tree test sets });

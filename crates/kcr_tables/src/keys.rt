@@ -1,4 +1,4 @@
-//! The table keys: a row for each accepted command, under its key; no two rows have one number.
+//! The table keys: a row for each accepted command, under its key; its number is the row id, and that of no other row.
 
 ghost use Rattle.kcr_tables.specs.KeysLaws as laws;
 

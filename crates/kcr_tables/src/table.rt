@@ -158,7 +158,7 @@ pub fn all_rows<S: Alter, T: Listed>(
     ensures exact { HasCleanDisk (state S.Store tx.new.conn.now)
         → (state S.Store tx.old.conn.now).now.schema ≡ register_schema
         → IfOk result (λ all. IsPermutation
-        (map (cells 1 T.table.place.width) ((state S.Store tx.old.conn.now).now.trees T.table.place.tree))
+        (map (cells T.table.place) ((state S.Store tx.old.conn.now).now.trees T.table.place.tree))
         (map T.row_of all.items)) }
     ensures opened { HasCleanDisk (state S.Store tx.new.conn.now)
         → OnOk result (IsTrue (state S.Store tx.old.conn.now).is_open) }

@@ -40,7 +40,7 @@ pub fn create_text(at: usize) -> &'static str
             "CREATE TABLE exceptions (ceremony INT NOT NULL, exception INT NOT NULL, text TEXT NOT NULL, at INT NOT NULL, passed INT, PRIMARY KEY (ceremony, exception)) STRICT",
         13 => "CREATE TABLE versions (number INT NOT NULL, PRIMARY KEY (number)) STRICT",
         14 =>
-            "CREATE TABLE keys (\"key\" TEXT NOT NULL, accepted INT NOT NULL, command TEXT NOT NULL, reply TEXT NOT NULL, PRIMARY KEY (\"key\"), UNIQUE (accepted)) STRICT",
+            "CREATE TABLE keys (\"key\" TEXT NOT NULL UNIQUE, accepted INTEGER PRIMARY KEY, command TEXT NOT NULL, reply TEXT NOT NULL) STRICT",
         15 =>
             "CREATE TABLE stays (who TEXT NOT NULL, since INT NOT NULL, ceremony INT NOT NULL, until INT, PRIMARY KEY (who, since), UNIQUE (ceremony, since, who)) STRICT",
         _ =>
