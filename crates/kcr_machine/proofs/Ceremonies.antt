@@ -83,7 +83,7 @@ busy-shown A c rows p =
     (all_said planned_number A) (λ other. ap (λ b. not (eqb other c) && same_facility (facility_of A other) (facility_of A c) && b) (open-state A other))
 
 pub open-fault : (A : History) (c at : ℕ) → FaultShown A (Open c at)
-open-fault A c at key view v =
+open-fault A c at view v =
     rw (row-shown A c view.ceremonies.items v.ceremonies) (grind (arith, busy-shown A c view.ceremonies.items v.ceremonies))
 
 -- only a ceremony that was opened is closed
@@ -195,7 +195,7 @@ table-shown A facility rows p =
 -- THE KIND
 
 pub close-fault : (A : History) → IsRegister A → (c at : ℕ) → FaultShown A (Close c at)
-close-fault A h c at key view v =
+close-fault A h c at view v =
     rw (ceremony-shown A c view.ceremonies.items v.ceremonies)
     (grind (
       arith,
@@ -230,7 +230,7 @@ module _ (A : History) (key : List ℕ) (answer : Answer) (c at : ℕ) (f : faul
 -- PLANNING
 
 pub plan-fault : (A : History) (number : ℕ) (facility : Facility) (day : ℕ) (script : List ℕ) → FaultShown A (Plan number facility day script)
-plan-fault A number facility day script key view v = rw (known-shown A number view.ceremonies.items v.ceremonies) refl
+plan-fault A number facility day script view v = rw (known-shown A number view.ceremonies.items v.ceremonies) refl
 
 -- ROWS OF A CEREMONY THAT WAS NOT PLANNED
 

@@ -124,7 +124,7 @@ place-there [] place = refl
 place-there (entry ∷ A) place = place_after place entry.command.act (boxes A) ∙ ap (λ b. boxes_place place entry.command.act || b) (place-there A place)
 
 pub add_box-fault : (A : History) (facility : Facility) (number : ℕ) (place : Place) → FaultShown A (AddBox facility number place)
-add_box-fault A facility number place key view v =
+add_box-fault A facility number place view v =
     rw (
       ← list_any-IsPermutation (is_box facility number) (boxes A) view.boxes.items v.boxes,
       ← list_any-IsPermutation (λ old. same_place old.place place) (boxes A) view.boxes.items v.boxes,
@@ -133,13 +133,13 @@ add_box-fault A facility number place key view v =
     )
 
 pub add_item-fault : (A : History) → IsRegister A → (c : ℕ) (item : List ℕ) (at : ℕ) → FaultShown A (AddItem c item at)
-add_item-fault A h c item at key view v =
+add_item-fault A h c item at view v =
     ap (λ scene. add_item_refusal scene view.items.items item) (ca-scene A h c at view v.ceremonies v.marks v.stays.room v.trainings v.withdrawals)
     ∙ rw (rest-coded A h (item ∷ []) view.items.items v.items item (inl refl))
     (ready-by A c at (has_ca A c at) (no_ceremony A c ∷ when (is_some (rest A item)) Taken ∷ []) (no_ca A c at ∷ []))
 
 pub turn-fault : (A : History) → IsRegister A → (c : ℕ) (safe : SafeNumber) (state : Bool) (by : List ℕ) (at : ℕ) → FaultShown A (TurnSafe c safe state by at)
-turn-fault A h c safe state by at key view v =
+turn-fault A h c safe state by at view v =
     ap (λ scene. turn_refusal scene view.safes.items safe state (keeper_by view c by at)) (scene-shown A h c at false view v.ceremonies v.marks)
     ∙ rw (
       person-shown A by view.people.items v.people,
@@ -172,13 +172,13 @@ turn-fault A h c safe state by at key view v =
     by_safe Two = refl
 
 pub cut-fault : (A : History) → IsRegister A → (c : ℕ) (t : List ℕ) (at : ℕ) → FaultShown A (Cut c t at)
-cut-fault A h c t at key view v =
+cut-fault A h c t at view v =
     ap (λ scene. cut_refusal scene view.bags.items t) (ca-scene A h c at view v.ceremonies v.marks v.stays.room v.trainings v.withdrawals)
     ∙ rw (spot-shown A h t view.bags.items v.bags)
     (ready-by A c at (has_ca A c at) (no_ceremony A c ∷ no_bag A t ∷ []) (when (not (is_on_table (facility_of A c) (spot A t))) Elsewhere ∷ no_ca A c at ∷ []))
 
 pub seal-fault : (A : History) → IsRegister A → (c : ℕ) (t : List ℕ) (codes : List (List ℕ)) (at : ℕ) → FaultShown A (Seal c t codes at)
-seal-fault A h c t codes at key view v =
+seal-fault A h c t codes at view v =
     let here = facility_of A c in
     let same = rest-coded A h codes view.items.items v.items in
     ap (λ scene. seal_refusal scene view.bags.items view.items.items t codes)
@@ -188,7 +188,7 @@ seal-fault A h c t codes at key view v =
     (when (not (list_all (λ k. is_loose_at here (rest A k)) codes)) Elsewhere ∷ no_ca A c at ∷ []))
 
 pub take-fault : (A : History) → IsRegister A → (c : ℕ) (t : List ℕ) (at : ℕ) → FaultShown A (Take c t at)
-take-fault A h c t at key view v =
+take-fault A h c t at view v =
     let here = facility_of A c in
     ap (λ scene. take_refusal scene view.safes.items view.boxes.items view.bags.items t (has_keeper_by view c at (place_to_take view c t)))
     (ca-scene A h c at view v.ceremonies v.marks v.stays.room v.trainings v.withdrawals)
@@ -203,7 +203,7 @@ take-fault A h c t at key view v =
     ∷ no_holder A here c at (box_of (spot A t)) ∷ []))
 
 pub put-fault : (A : History) → IsRegister A → (c : ℕ) (t : List ℕ) (to : Store) (at : ℕ) → FaultShown A (Put c t to at)
-put-fault A h c t to at key view v =
+put-fault A h c t to at view v =
     let here = facility_of A c in
     ap (λ scene. put_refusal scene view.safes.items view.boxes.items view.bags.items t to (has_keeper_by view c at (place_to_put view c to)))
     (ca-scene A h c at view v.ceremonies v.marks v.stays.room v.trainings v.withdrawals)

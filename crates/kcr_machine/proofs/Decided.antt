@@ -16,15 +16,17 @@ use Rattle.kcr_history.specs.History.{History, entry_of}
 use Rattle.kcr_history.specs.Texts.{command_text}
 use Rattle.kcr_history.specs.Seating.{IsFirst, IsLeast}
 use Rattle.kcr_history.specs.Tables.{keys, key_row, tables, SameTables, people}
-use Rattle.kcr_history.specs.Views.{greatest_number, row_of_key, IsViewOf}
+use Rattle.kcr_history.specs.declared.rows.KeyRow.{KeyRow}
+use Rattle.kcr_history.specs.Views.{row_of_key, IsViewOf}
 use Rattle.kcr_history.specs.Asked.{asks_by, asks_of}
 use Rattle.kcr_history.specs.Conditions.{fault, is_full, conditions}
-use Rattle.kcr_history.specs.Machine.{Accepts, Refuses, Sitting, sitting, answer_to, with_command, accepts, seats, acts, repeats, IsRegister, IsAcceptance}
+use Rattle.kcr_history.specs.Machine.{Accepts, Refuses, Sitting, sitting, answer_to, with_command, accepts, seats, acts, IsRegister, IsAcceptance}
 use Rattle.kcr_history.specs.Machine.{IsRepeat, IsDecision}
-use Rattle.kcr_history.proofs.Steps.{took, number_of_answer}
+use Rattle.kcr_history.proofs.Steps.{greatest-keys}
 use Rattle.kcr_history.proofs.Words.{row_of_key-keys}
+use Rattle.std.proofs.lemmas.Option.{same_Some, none-some}
 use Rattle.kcr_acts.specs.ByRows.{refusal_by, is_overdone, sitting_by, IsSeatedFor, IsUnseatedFor, IsRefused, all_changes_by}
-use Rattle.kcr_machine.specs.RowDecision.{is_full_by, answer_by, AcceptsNew, RepeatsRow, IsRowVerdict, IsRowDecision}
+use Rattle.kcr_machine.specs.RowDecision.{is_full_by, answer_by, AcceptsNew, RepeatsRow, IsRowDecision, IsRowRepeat}
 use Rattle.kcr_scene.specs.Signing.{IsSeatedBy, IsUnseatedBy}
 use Rattle.kcr_base.proofs.RefuseLemmas.{none_holds}
 use Rattle.kcr_machine.proofs.Ceremonies.{close-fault, close-leads, open-fault, open-leads, plan-fault, plan-leads}
@@ -38,96 +40,87 @@ use Rattle.kcr_machine.proofs.SheetLeads.{sheet-leads}
 use Rattle.kcr_machine.proofs.Signed.{except-fault, pass-leads, seated-first, seats-shown, sign-fault, sign-leads, sitting-is, state-leads, unseated-least}
 use Rattle.kcr_machine.proofs.StepRows.{done-shown, not_overdone, sign-there, stated-shown}
 
--- the greatest number is the number of entries
-greatest-keys : (A : History) → IsRegister A → greatest_number (keys A) ≡ length A
-greatest-keys [] h = refl
-greatest-keys (entry ∷ A) h =
-    let t = took A entry h.0 in
-    let e : entry.answer.accepted ≡ length A + 1 = ap (λ a. a.accepted) t.answer ∙ number_of_answer A entry.command.act t.people in
-    let below : greatest_number (keys A) ≡ length A = greatest-keys A h.1 in
-    omega arith
-
 -- the first refusal by the rows is the fault
-fault-shown : (A : History) → IsRegister A → (key : List ℕ) (act : Act) (view : View) → IsViewOf (asks_by key act) (tables A) view
+fault-shown : (A : History) → IsRegister A → (act : Act) (view : View) → IsViewOf (asks_by act) (tables A) view
     → refusal_by view (is_full A) act ≡ fault A act
-fault-shown A h key (Enter who name) view v = enter-fault A who name key view v
-fault-shown A h key (Train who role since until) view v = train-fault A who role since until key view v
-fault-shown A h key (Withdraw who role day) view v = withdraw-fault A who role day key view v
-fault-shown A h key (Appoint place who day) view v = appoint-fault A place who day key view v
-fault-shown A h key (Replace place who day) view v = replace-fault A h place who day key view v
-fault-shown A h key (Release place day) view v = release-fault A h place day key view v
-fault-shown A h key (AddBox facility number place) view v = add_box-fault A facility number place key view v
-fault-shown A h key (Plan number facility day script) view v = plan-fault A number facility day script key view v
-fault-shown A h key (Open ceremony at) view v = open-fault A ceremony at key view v
-fault-shown A h key (Close ceremony at) view v = close-fault A h ceremony at key view v
-fault-shown A h key (Seal ceremony serial items at) view v = seal-fault A h ceremony serial items at key view v
-fault-shown A h key (Take ceremony serial at) view v = take-fault A h ceremony serial at key view v
-fault-shown A h key (Put ceremony serial to at) view v = put-fault A h ceremony serial to at key view v
-fault-shown A h key (Cut ceremony serial at) view v = cut-fault A h ceremony serial at key view v
-fault-shown A h key (AddItem c item at) view v = add_item-fault A h c item at key view v
-fault-shown A h key (Sheet c way all at) view v =
-    sheet-fault A h (sheet-made A h) c way all at key view v
-fault-shown A h key (TurnSafe c safe state by at) view v = turn-fault A h c safe state by at key view v
-fault-shown A h key (Sign ceremony step at) view v = sign-fault A h ceremony step at key view v
-fault-shown A h key (Except ceremony text pass at) view v = except-fault A h ceremony text pass at key view v
+fault-shown A h (Enter who name) view v = enter-fault A who name view v
+fault-shown A h (Train who role since until) view v = train-fault A who role since until view v
+fault-shown A h (Withdraw who role day) view v = withdraw-fault A who role day view v
+fault-shown A h (Appoint place who day) view v = appoint-fault A place who day view v
+fault-shown A h (Replace place who day) view v = replace-fault A h place who day view v
+fault-shown A h (Release place day) view v = release-fault A h place day view v
+fault-shown A h (AddBox facility number place) view v = add_box-fault A facility number place view v
+fault-shown A h (Plan number facility day script) view v = plan-fault A number facility day script view v
+fault-shown A h (Open ceremony at) view v = open-fault A ceremony at view v
+fault-shown A h (Close ceremony at) view v = close-fault A h ceremony at view v
+fault-shown A h (Seal ceremony serial items at) view v = seal-fault A h ceremony serial items at view v
+fault-shown A h (Take ceremony serial at) view v = take-fault A h ceremony serial at view v
+fault-shown A h (Put ceremony serial to at) view v = put-fault A h ceremony serial to at view v
+fault-shown A h (Cut ceremony serial at) view v = cut-fault A h ceremony serial at view v
+fault-shown A h (AddItem c item at) view v = add_item-fault A h c item at view v
+fault-shown A h (Sheet c way all at) view v =
+    sheet-fault A h (sheet-made A h) c way all at view v
+fault-shown A h (TurnSafe c safe state by at) view v = turn-fault A h c safe state by at view v
+fault-shown A h (Sign ceremony step at) view v = sign-fault A h ceremony step at view v
+fault-shown A h (Except ceremony text pass at) view v = except-fault A h ceremony text pass at view v
 
 full-shown : (A : History) (x : Command) (view : View) → IsRegister A → IsViewOf (asks_of x) (tables A) view
     → refusal_by view (is_full_by view) x.act ≡ refusal_by view (is_full A) x.act
-full-shown A x view h v = ap (λ n. refusal_by view (nat_le 4000000000 n) x.act) (v.greatest ∙ greatest-keys A h)
+full-shown A x view h v = ap (λ n. refusal_by view (nat_le 4000000000 n) x.act) (v.accepted ∙ greatest-keys A h)
 
 -- SEATS
 
-sign-fine : (A : History) → IsRegister A → (key : List ℕ) (c k at : ℕ) (view : View) → IsViewOf (asks_by key (Sign c k at)) (tables A) view
+sign-fine : (A : History) → IsRegister A → (c k at : ℕ) (view : View) → IsViewOf (asks_by (Sign c k at)) (tables A) view
     → refusal_by view (is_full A) (Sign c k at) ≡ None → fault A (Sign c k at) ≡ None
-sign-fine A h key c k at view v none = sym (sign-fault A h c k at key view v) ∙ none
+sign-fine A h c k at view v none = sym (sign-fault A h c k at view v) ∙ none
 
 -- the seats that an act needs by the rows are those by the history
-sitting-shown : (A : History) → IsRegister A → (key : List ℕ) (act : Act) (view : View) → IsViewOf (asks_by key act) (tables A) view
+sitting-shown : (A : History) → IsRegister A → (act : Act) (view : View) → IsViewOf (asks_by act) (tables A) view
     → refusal_by view (is_full A) act ≡ None → sitting_by view act ≡ sitting A act
-sitting-shown A h key (Sign c k at) view v none =
+sitting-shown A h (Sign c k at) view v none =
     ap (λ seats. Some (record { ceremony = c; at = at; seats = seats }))
-    (seats-shown A h c view v.steps k (sign-there A c k at (sign-fine A h key c k at view v none)))
-sitting-shown A h key (Except c text true at) view v none = refl
-sitting-shown A h key (Except c text false at) view v none = refl
-sitting-shown A h key act view v none = refl
+    (seats-shown A h c view v.steps k (sign-there A c k at (sign-fine A h c k at view v none)))
+sitting-shown A h (Except c text true at) view v none = refl
+sitting-shown A h (Except c text false at) view v none = refl
+sitting-shown A h act view v none = refl
 
 -- the seats that lack people by the rows are a least shortage of the history
 abbrev Lacks : History → Sitting → Refusal → Type 0
 Lacks A s refusal = (positions : List ℕ) × IsLeast A s.ceremony s.at s.seats positions × (refusal ≡ Short (map suc positions))
 
 -- the rows tell of no more steps done than a script has
-not_overdone-shown : (A : History) → IsRegister A → (key : List ℕ) (act : Act) (view : View) → IsViewOf (asks_by key act) (tables A) view
+not_overdone-shown : (A : History) → IsRegister A → (act : Act) (view : View) → IsViewOf (asks_by act) (tables A) view
     → is_overdone view act ≡ false
-not_overdone-shown A h key (Sign c k at) view v = not_overdone A h c view.steps.items v.steps
-not_overdone-shown A h key (Except c text pass at) view v = not_overdone A h c view.steps.items v.steps
-not_overdone-shown A h key act view v = refl
+not_overdone-shown A h (Sign c k at) view v = not_overdone A h c view.steps.items v.steps
+not_overdone-shown A h (Except c text pass at) view v = not_overdone A h c view.steps.items v.steps
+not_overdone-shown A h act view v = refl
 
 -- ANSWERS
 
-number-shown : (A : History) (act : Act) (key : List ℕ) (view : View) → IsRegister A → IsViewOf (asks_by key act) (tables A) view
-    → greatest_number view.keys.items ≡ length A
-number-shown A act key view h v = v.greatest ∙ greatest-keys A h
+number-shown : (A : History) (act : Act) (view : View) → IsRegister A → IsViewOf (asks_by act) (tables A) view
+    → view.accepted ≡ length A
+number-shown A act view h v = v.accepted ∙ greatest-keys A h
 
 -- the answer by the rows is the one by the history
-answer-shown : (A : History) → IsRegister A → (key : List ℕ) (act : Act) (view : View) → IsViewOf (asks_by key act) (tables A) view
+answer-shown : (A : History) → IsRegister A → (act : Act) (view : View) → IsViewOf (asks_by act) (tables A) view
     → (people : Option (List (List ℕ))) → IsSeatedFor view (sitting_by view act) people → answer_by view act people ≡ answer_to A act people
-answer-shown A h key (Sign c k at) view v people g = rw (number-shown A (Sign c k at) key view h v) refl
-answer-shown A h key (Except c text true at) view v people g =
+answer-shown A h (Sign c k at) view v people g = rw (number-shown A (Sign c k at) view h v) refl
+answer-shown A h (Except c text true at) view v people g =
     rw (
-      number-shown A (Except c text true at) key view h v,
+      number-shown A (Except c text true at) view h v,
       stated-shown A h c view.exceptions.items v.exceptions,
       done-shown A h c view.steps.items v.steps,
     )
     refl
-answer-shown A h key (Except c text false at) view v people g =
-    rw (number-shown A (Except c text false at) key view h v, stated-shown A h c view.exceptions.items v.exceptions, g) refl
-answer-shown A h key act view v people g = rw (number-shown A act key view h v, g) refl
+answer-shown A h (Except c text false at) view v people g =
+    rw (number-shown A (Except c text false at) view h v, stated-shown A h c view.exceptions.items v.exceptions, g) refl
+answer-shown A h act view v people g = rw (number-shown A act view h v, g) refl
 
 -- CHANGES
 
 -- the changes of an act that has no fault, with those of its seats, lead from the tables before it to those after it
 leads : (A : History) → IsRegister A → (key : List ℕ) (act : Act) (view : View) (seats : Option (List (List ℕ))) (answer : Answer)
-    → IsViewOf (asks_by key act) (tables A) view → entry_of A key ≡ None → fault A act ≡ None
+    → IsViewOf (asks_by act) (tables A) view → entry_of A key ≡ None → fault A act ≡ None
     → IsSeatedFor view (sitting_by view act) seats → answer ≡ answer_to A act seats
     → SameTables (changed_with (all_changes_by view act seats) (command_of key act) answer (tables A)) (tables (with_command A (command_of key act) answer))
 leads A h key (Enter who name) view seats answer v k f g e = same-tables _ _ (enter-leads A who name key view answer v k f)
@@ -180,34 +173,16 @@ accepted : (A : History) (x : Command) (view : View) (verdict : Verdict) (answer
     → entry_of A x.key ≡ None → AcceptsNew view x verdict answer → IsAcceptance A x verdict answer
 accepted A x view verdict answer h v k g =
     let none : refusal_by view (is_full A) x.act ≡ None = sym (full-shown A x view h v) ∙ g.fine in
-    let fine : fault A x.act ≡ None = sym (fault-shown A h x.key x.act view v) ∙ none in
-    let next : answer ≡ answer_to A x.act answer.seating = g.next ∙ answer-shown A h x.key x.act view v answer.seating g.seated in
+    let fine : fault A x.act ≡ None = sym (fault-shown A h x.act view v) ∙ none in
+    let next : answer ≡ answer_to A x.act answer.seating = g.next ∙ answer-shown A h x.act view v answer.seating g.seated in
     let seated : IsSeatedFor view (sitting A x.act) answer.seating = subst (λ o. IsSeatedFor view o answer.seating)
-    (sitting-shown A h x.key x.act view v none) g.seated in
-    let step = by_sitting A x view answer (sitting A x.act) seated (λ s ps e. seated-first A h view s (sitting-is A h x.key x.act view v s e) ps) next in
+    (sitting-shown A h x.act view v none) g.seated in
+    let step = by_sitting A x view answer (sitting A x.act) seated (λ s ps e. seated-first A h view s (sitting-is A h x.act view v s e) ps) next in
     record {
       step = rw (k, fine) step;
       tables = rw g.changes (leads A h x.key x.act view answer.seating answer v k fine g.seated next);
       reply = g.reply;
     }
-
-repeated : (A : History) (x : Command) (view : View) (verdict : Verdict) (kept : Entry) → entry_of A x.key ≡ Some kept
-    → RepeatsRow view x verdict (key_row kept) → IsRepeat A x verdict kept
-repeated A x view verdict kept k g =
-    record {
-      found = k;
-      step = rw k (rw g.same refl, refl);
-      changes = g.changes;
-      reply = g.reply;
-    }
-
-verdict-view : (A : History) (x : Command) (view : View) (verdict : Verdict) → IsRegister A → IsViewOf (asks_of x) (tables A) view
-    → (k : Option Entry) → entry_of A x.key ≡ k → (o : Option Answer) → IsRowVerdict view x verdict (option_map key_row k) o
-    → MatchOption o ((kept : Entry) × IsRepeat A x verdict kept) (IsAcceptance A x verdict)
-verdict-view A x view verdict h v None e (Some answer) g = accepted A x view verdict answer h v e g
-verdict-view A x view verdict h v (Some kept) e None g = (kept, repeated A x view verdict kept e g)
-verdict-view A x view verdict h v None e None g = absurd g
-verdict-view A x view verdict h v (Some kept) e (Some answer) g = absurd g
 
 -- REFUSED
 
@@ -223,33 +198,63 @@ refused_new : (A : History) → IsRegister A → (x : Command) (view : View) (re
 refused_new A h x view refusal ne v e (Some first) f g = rw (sym e ∙ f) (ap Refuses g, refl)
 refused_new A h x view refusal ne v e None f g =
     let fine : fault A x.act ≡ None = sym e ∙ f in
-    let w : IsUnseatedFor view (sitting A x.act) refusal = subst (λ o. IsUnseatedFor view o refusal) (sitting-shown A h x.key x.act view v f) g in
-    rw fine (unseated A x view refusal (sitting A x.act) w (λ s e. unseated-least A h view s (sitting-is A h x.key x.act view v s e) refusal))
+    let w : IsUnseatedFor view (sitting A x.act) refusal = subst (λ o. IsUnseatedFor view o refusal) (sitting-shown A h x.act view v f) g in
+    rw fine (unseated A x view refusal (sitting A x.act) w (λ s e. unseated-least A h view s (sitting-is A h x.act view v s e) refusal))
 
-refused : (A : History) (x : Command) (view : View) (refusal : Refusal) → refusal ≢ Memory → IsRegister A → IsViewOf (asks_of x) (tables A) view
-    → (k : Option Entry)
-    → MatchOption (option_map key_row k) (IsRefused view (is_full_by view) x.act refusal)
-    (λ row. (same_text row.command (command_text x.act) ≡ false) × (refusal ≡ Key))
-    → MatchOption k (acts A x (fault A x.act) (Refuses refusal) A) (λ kept. repeats A x kept (Refuses refusal) A)
-refused A x view refusal ne h v (Some kept) g = (rw (g.0, g.1), refl)
-refused A x view refusal ne h v None g =
-    let shown = g.first (not_overdone-shown A h x.key x.act view v) in
-    refused_new A h x view refusal ne v (fault-shown A h x.key x.act view v) (refusal_by view (is_full A) x.act) refl (rw (full-shown A x view h v) at shown)
+-- A KEY WITH A ROW
 
--- a command asks for the row of its key
-asks-key : (key : List ℕ) (act : Act) → (asks_by key act).key ≡ key
-asks-key key (Enter who name) = refl
-asks-key key act = refl
+-- the row of a key is that of the entry under it
+an_entry : (A : History) (key : List ℕ) (row : KeyRow) → row_of_key key (keys A) ≡ Some row
+    → (kept : Entry) × (entry_of A key ≡ Some kept) × (key_row kept ≡ row)
+an_entry A key row there = by_entry (entry_of A key) refl (sym (row_of_key-keys A key) ∙ there)
+  where
+    by_entry : (o : Option Entry) → entry_of A key ≡ o → option_map key_row o ≡ Some row → (kept : Entry) × (entry_of A key ≡ Some kept) × (key_row kept ≡ row)
+    by_entry None e f = absurd (none-some row f)
+    by_entry (Some kept) e f = (kept, e, same_Some (key_row kept) row f)
 
-key-shown : (A : History) (x : Command) (view : View) → IsViewOf (asks_of x) (tables A) view
-    → row_of_key x.key view.keys.items ≡ option_map key_row (entry_of A x.key)
-key-shown A x view v = rw (asks-key x.key x.act) at v.key_row ∙ row_of_key-keys A x.key
+no_entry : (A : History) (key : List ℕ) → row_of_key key (keys A) ≡ None → entry_of A key ≡ None
+no_entry A key none = by_entry (entry_of A key) (sym (row_of_key-keys A key) ∙ none)
+  where
+    by_entry : (o : Option Entry) → option_map key_row o ≡ None → o ≡ None
+    by_entry None e = refl
+    by_entry (Some kept) e = absurd (none-some (key_row kept) (sym e))
+
+repeated : (A : History) (x : Command) (verdict : Verdict) (kept : Entry) → entry_of A x.key ≡ Some kept
+    → RepeatsRow (key_row kept) x verdict → IsRepeat A x verdict kept
+repeated A x verdict kept k g =
+    record {
+      found = k;
+      step = rw k (rw g.same refl, refl);
+      changes = g.changes;
+      reply = g.reply;
+    }
+
+-- a decision by the row of the key is a step of the machine
+pub repetition : (A : History) (x : Command) (row : KeyRow) (result : Result Verdict Refusal) → row_of_key x.key (keys A) ≡ Some row
+    → IsRowRepeat row x result → IsDecision A x result
+repetition A x row (Ok verdict) there g = by_answer verdict.answer g.answer
+  where
+    by_answer : (o : Option Answer) → o ≡ None → MatchOption o ((kept : Entry) × IsRepeat A x verdict kept) (IsAcceptance A x verdict)
+    by_answer None none =
+        let w = an_entry A x.key row there in (w.0, repeated A x verdict w.0 w.1 (subst (λ (r : KeyRow). RepeatsRow r x verdict) (sym w.2) g))
+    by_answer (Some answer) none = absurd (none-some answer (sym none))
+repetition A x row (Err refusal) there g = λ ne.
+    let w = an_entry A x.key row there in
+    let other = subst (λ (r : KeyRow). (same_text r.command (command_text x.act) ≡ false) × (refusal ≡ Key)) (sym w.2) (g ne) in
+    rw w.1 (rw (other.0, other.1) refl, refl)
+
+-- A NEW KEY
 
 -- a decision by the rows of a view is a step of the machine
-pub decision : (A : History) (x : Command) (view : View) (result : Result Verdict Refusal) → IsRegister A → IsViewOf (asks_of x) (tables A) view
-    → IsRowDecision view x result → IsDecision A x result
-decision A x view (Ok verdict) h v g =
-    let e = key-shown A x view v in
-    verdict-view A x view verdict h v (entry_of A x.key) refl verdict.answer (rw e at g)
-decision A x view (Err refusal) h v g =
-    λ ne. let e = key-shown A x view v in refused A x view refusal ne h v (entry_of A x.key) (rw e at (g ne))
+pub decision : (A : History) (x : Command) (view : View) (result : Result Verdict Refusal) → IsRegister A → row_of_key x.key (keys A) ≡ None
+    → IsViewOf (asks_of x) (tables A) view → IsRowDecision view x result → IsDecision A x result
+decision A x view (Ok verdict) h new v g = by_answer verdict.answer g
+  where
+    by_answer : (o : Option Answer) → MatchOption o ⊥ (AcceptsNew view x verdict)
+        → MatchOption o ((kept : Entry) × IsRepeat A x verdict kept) (IsAcceptance A x verdict)
+    by_answer None none = absurd none
+    by_answer (Some answer) a = accepted A x view verdict answer h v (no_entry A x.key new) a
+decision A x view (Err refusal) h new v g = λ ne.
+    let shown = (g ne).first (not_overdone-shown A h x.act view v) in
+    rw (no_entry A x.key new)
+    (refused_new A h x view refusal ne v (fault-shown A h x.act view v) (refusal_by view (is_full A) x.act) refl (rw (full-shown A x view h v) at shown))

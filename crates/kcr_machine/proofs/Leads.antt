@@ -45,18 +45,18 @@ Leads A view x answer = changed_with (changes_by view x.act) x answer (tables A)
 
 -- by the rows of any view of what the act asks for its first refusal is its fault
 abbrev pub FaultShown : History → Act → Type 0
-FaultShown A act = (key : List ℕ) (view : View) → IsViewOf (asks_by key act) (tables A) view → refusal_by view (is_full A) act ≡ fault A act
+FaultShown A act = (view : View) → IsViewOf (asks_by act) (tables A) view → refusal_by view (is_full A) act ≡ fault A act
 
 -- and where it has none, its changes lead on
 abbrev pub LeadsOn : History → Act → Type 0
 LeadsOn A act =
-    (key : List ℕ) (view : View) (answer : Answer) → IsViewOf (asks_by key act) (tables A) view → entry_of A key ≡ None → fault A act ≡ None
+    (key : List ℕ) (view : View) (answer : Answer) → IsViewOf (asks_by act) (tables A) view → entry_of A key ≡ None → fault A act ≡ None
     → Leads A view (command_of key act) answer
 
 -- the same of an act with those who fill its seats
 abbrev pub SeatsLeadOn : History → Act → Option (List (List ℕ)) → Type 0
 SeatsLeadOn A act people =
-    (key : List ℕ) (view : View) (answer : Answer) → IsViewOf (asks_by key act) (tables A) view → entry_of A key ≡ None → fault A act ≡ None
+    (key : List ℕ) (view : View) (answer : Answer) → IsViewOf (asks_by act) (tables A) view → entry_of A key ≡ None → fault A act ≡ None
     → answer ≡ answer_to A act people
     → changed_with (all_changes_by view act people) (command_of key act) answer (tables A) ≡ tables (with_command A (command_of key act) answer)
 

@@ -156,10 +156,10 @@ open_row-shown A h place rows p =
 -- THE FIRST REFUSAL OF AN ACT
 
 pub enter-fault : (A : History) (who name : List ℕ) → FaultShown A (Enter who name)
-enter-fault A who name key view v = rw (person-shown A who view.people.items v.people)
+enter-fault A who name view v = rw (person-shown A who view.people.items v.people)
 
 pub train-fault : (A : History) (who : List ℕ) (role : Role) (since until : ℕ) → FaultShown A (Train who role since until)
-train-fault A who role since until key view v =
+train-fault A who role since until view v =
     let new : Training = record { who = who; role = role; since = since; until = until } in
     rw (
       person-shown A who view.people.items v.people,
@@ -168,7 +168,7 @@ train-fault A who role since until key view v =
     )
 
 pub withdraw-fault : (A : History) (who : List ℕ) (role : Role) (day : ℕ) → FaultShown A (Withdraw who role day)
-withdraw-fault A who role day key view v =
+withdraw-fault A who role day view v =
     rw (
       person-shown A who view.people.items v.people,
       trained_from-shown who (trainings A) view.trainings.items (withdrawals A) view.withdrawals.items v.trainings v.withdrawals role day,
@@ -176,7 +176,7 @@ withdraw-fault A who role day key view v =
     )
 
 pub appoint-fault : (A : History) (place : Place) (who : List ℕ) (day : ℕ) → FaultShown A (Appoint place who day)
-appoint-fault A place who day key view v =
+appoint-fault A place who day view v =
     rw (
       person-shown A who view.people.items v.people,
       ever_trained-shown A who view.trainings.items v.trainings,
@@ -186,7 +186,7 @@ appoint-fault A place who day key view v =
     )
 
 pub replace-fault : (A : History) → IsRegister A → (place : Place) (who : List ℕ) (day : ℕ) → FaultShown A (Replace place who day)
-replace-fault A h place who day key view v =
+replace-fault A h place who day view v =
     rw (
       person-shown A who view.people.items v.people,
       ever_trained-shown A who view.trainings.items v.trainings,
@@ -196,7 +196,7 @@ replace-fault A h place who day key view v =
     )
 
 pub release-fault : (A : History) → IsRegister A → (place : Place) (day : ℕ) → FaultShown A (Release place day)
-release-fault A h place day key view v = rw (open_row-shown A h place view.appointments.items v.appointments, settled-rows A view.marks.items v.marks)
+release-fault A h place day view v = rw (open_row-shown A h place view.appointments.items v.appointments, settled-rows A view.marks.items v.marks)
 
 -- WHERE ITS CHANGES LEAD
 
@@ -225,7 +225,7 @@ withdrawals-put A h who role day us vs p q =
     (withdrawn_rows-apart (trainings A) (withdrawals A) who role day (trainings-apart A h)))
 
 pub withdraw-leads : (A : History) → IsRegister A → (key who : List ℕ) (role : Role) (day : ℕ) (view : View) (answer : Answer)
-    → IsViewOf (asks_by key (Withdraw who role day)) (tables A) view → entry_of A key ≡ None
+    → IsViewOf (asks_by (Withdraw who role day)) (tables A) view → entry_of A key ≡ None
     → SameTables (changed_with (changes_by view (Withdraw who role day)) (command_of key (Withdraw who role day)) answer (tables A))
     (tables (with_command A (command_of key (Withdraw who role day)) answer))
 withdraw-leads A h key who role day view answer v k =

@@ -202,7 +202,7 @@ twice-first l n r xs h = grind arith
 
 -- by the rows of a view a request is refused for its fault
 pub sheet-fault : (A : History) → IsRegister A → IsSheet (sheet A) → (c : ℕ) (way : Way) (all : List (List ℕ)) (at : ℕ) → FaultShown A (Sheet c way all at)
-sheet-fault A h s c way all at key view v =
+sheet-fault A h s c way all at view v =
     rw (
       known-shown A c view.ceremonies.items v.ceremonies,
       first-found (λ who. not (is_person_by view.people.items who)) (λ who. not (is_person A who)) (λ who. Unknown (Things.Person who)) all

@@ -234,7 +234,7 @@ changed_by-stays rows rest t = changed_by-rows PutStay same_stay (λ rows t. rec
 -- where it is the turn of each of the people, the rows that a request puts lead to the tables after it
 pub sheet-leads : (A : History) → IsSheet (sheet A) → (key : List ℕ) (c : ℕ) (way : Way) (all : List (List ℕ)) (at : ℕ) → are_apart all ≡ true
     → (view : View) (answer : Answer)
-    → IsViewOf (asks_by key (Sheet c way all at)) (tables A) view → entry_of A key ≡ None → first_with (out_of_turn A c way at) all ≡ None
+    → IsViewOf (asks_by (Sheet c way all at)) (tables A) view → entry_of A key ≡ None → first_with (out_of_turn A c way at) all ≡ None
     → SameTables (changed_with (sheet_changes_by view c way all at) (command_of key (Sheet c way all at)) answer (tables A))
     (tables (with_command A (command_of key (Sheet c way all at)) answer))
 sheet-leads A s key c way all at a view answer v k f =

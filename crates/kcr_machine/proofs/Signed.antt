@@ -59,7 +59,7 @@ no_step-shown : (A : History) → IsRegister A → (c : ℕ) (view : View) → S
 no_step-shown A h c view p k = grind (arith, step-shown A h c view.steps.items p k)
 
 pub sign-fault : (A : History) → IsRegister A → (c k at : ℕ) → FaultShown A (Sign c k at)
-sign-fault A h c k at key view v =
+sign-fault A h c k at view v =
     rw (
       known-shown A c view.ceremonies.items v.ceremonies,
       no_step-shown A h c view v.steps k,
@@ -69,7 +69,7 @@ sign-fault A h c k at key view v =
     )
 
 pub except-fault : (A : History) → IsRegister A → (c : ℕ) (text : List ℕ) (pass : Bool) (at : ℕ) → FaultShown A (Except c text pass at)
-except-fault A h c text pass at key view v =
+except-fault A h c text pass at view v =
     rw (
       known-shown A c view.ceremonies.items v.ceremonies,
       no_step-shown A h c view v.steps (next_by view.steps.items c),
@@ -130,30 +130,30 @@ pub record IsShown (A : History) (view : View) (s : Sitting) : Type 0 where
       → on_seat (by_view A view s) (slice_get s.seats k) who ≡ on_seat (fits A (facility_of A s.ceremony) (day_of s.at)) (slice_get s.seats k) who
 
 -- the sitting of an act is shown so
-sign-sitting : (A : History) → IsRegister A → (key : List ℕ) (c k at : ℕ) (view : View) → IsViewOf (asks_by key (Sign c k at)) (tables A) view
+sign-sitting : (A : History) → IsRegister A → (c k at : ℕ) (view : View) → IsViewOf (asks_by (Sign c k at)) (tables A) view
     → IsShown A view (record { ceremony = c; at = at; seats = seats_at (steps_of A c) k })
-sign-sitting A h key c k at view v =
+sign-sitting A h c k at view v =
     record {
       facility = facility-shown A c view.ceremonies.items v.ceremonies;
       room = present-shown A c view.stays.items v.stays.room at;
       fit = λ j who. fits-shown A h view v.trainings v.withdrawals v.appointments (facility_of A c) (day_of at) (slice_get (seats_at (steps_of A c) k) j) who;
     }
 
-pass-sitting : (A : History) → IsRegister A → (key : List ℕ) (c : ℕ) (text : List ℕ) (at : ℕ) (view : View)
-    → IsViewOf (asks_by key (Except c text true at)) (tables A) view → IsShown A view (record { ceremony = c; at = at; seats = staff })
-pass-sitting A h key c text at view v =
+pass-sitting : (A : History) → IsRegister A → (c : ℕ) (text : List ℕ) (at : ℕ) (view : View)
+    → IsViewOf (asks_by (Except c text true at)) (tables A) view → IsShown A view (record { ceremony = c; at = at; seats = staff })
+pass-sitting A h c text at view v =
     record {
       facility = facility-shown A c view.ceremonies.items v.ceremonies;
       room = present-shown A c view.stays.items v.stays.room at;
       fit = staff-shown A h view v.trainings v.withdrawals (facility_of A c) (day_of at);
     }
 
-pub sitting-is : (A : History) → IsRegister A → (key : List ℕ) (act : Act) (view : View) → IsViewOf (asks_by key act) (tables A) view → (s : Sitting)
+pub sitting-is : (A : History) → IsRegister A → (act : Act) (view : View) → IsViewOf (asks_by act) (tables A) view → (s : Sitting)
     → sitting A act ≡ Some s → IsShown A view s
-sitting-is A h key (Sign c k at) view v s e = subst (IsShown A view) (same_Some _ s e) (sign-sitting A h key c k at view v)
-sitting-is A h key (Except c text true at) view v s e = subst (IsShown A view) (same_Some _ s e) (pass-sitting A h key c text at view v)
-sitting-is A h key (Except c text false at) view v s e = absurd (none-some s e)
-sitting-is A h key act view v s e = absurd (none-some s e)
+sitting-is A h (Sign c k at) view v s e = subst (IsShown A view) (same_Some _ s e) (sign-sitting A h c k at view v)
+sitting-is A h (Except c text true at) view v s e = subst (IsShown A view) (same_Some _ s e) (pass-sitting A h c text at view v)
+sitting-is A h (Except c text false at) view v s e = absurd (none-some s e)
+sitting-is A h act view v s e = absurd (none-some s e)
 
 -- the people whom the search names are the first seating, and the seats that it names a least shortage
 module _ (A : History) (h : IsRegister A) (view : View) (s : Sitting) (shown : IsShown A view s) where

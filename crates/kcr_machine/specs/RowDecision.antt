@@ -1,5 +1,5 @@
--- What a decision says, by the rows of a view.
-use Rattle.std.specs.Prelude.{◌≡◌, ◌≢◌, ◌+◌, ℕ, Bool, true, false, nat_le, List, [], ◌∷◌, ◌++◌, Option, Some, None}
+-- What a decision says, by the row of its key or by the rows of a view.
+use Rattle.std.specs.Prelude.{◌≡◌, ◌≢◌, ◌+◌, ℕ, Bool, true, false, nat_le, List, [], ◌∷◌, ◌++◌, Option, None}
 use Rattle.std.specs.Prelude.{MatchOption, MatchResult, Result}
 use Rattle.kcr_base.specs.Same.{same_text}
 use Rattle.kcr_base.specs.declared.refusal.Refusal.{Refusal}
@@ -12,13 +12,12 @@ use Rattle.kcr_history.specs.declared.views.Change.TheVariants.{PutKey}
 use Rattle.kcr_history.specs.declared.views.Verdict.{Verdict}
 use Rattle.kcr_history.specs.declared.views.View.{View}
 use Rattle.kcr_history.specs.Texts.{command_text, answer_text}
-use Rattle.kcr_history.specs.Views.{row_of_key, greatest_number}
 use Rattle.kcr_acts.specs.ByRows.{refusal_by, sitting_by, IsSeatedFor, all_changes_by, exception_by, told_step_by}
 use Rattle.kcr_acts.specs.ByRows.{IsRefused}
 
 -- the register is full
 abbrev pub is_full_by : View → Bool
-is_full_by view = nat_le 4000000000 (greatest_number view.keys.items)
+is_full_by view = nat_le 4000000000 view.accepted
 
 -- the row of a command that is accepted now
 abbrev pub new_key_row : Command → Answer → KeyRow
@@ -30,7 +29,7 @@ abbrev pub answer_by : View → Act → Option (List (List ℕ)) → Answer
 answer_by view act people =
     record {
       accepted =
-          greatest_number view.keys.items + 1;
+          view.accepted + 1;
       exception = exception_by view act;
       seating = people;
       step = told_step_by view act;
@@ -44,22 +43,23 @@ pub record AcceptsNew (view : View) (x : Command) (verdict : Verdict) (answer : 
   pub changes : verdict.changes.items ≡ all_changes_by view x.act answer.seating ++ PutKey (new_key_row x answer) ∷ []
   pub reply : verdict.reply.text ≡ answer_text answer
 
--- the key has a row of the same command: its reply, and no change
-pub record RepeatsRow (view : View) (x : Command) (verdict : Verdict) (row : KeyRow) : Type 0 where
-  pub same : same_text row.command (command_text x.act) ≡ true
-  pub changes : verdict.changes.items ≡ []
-  pub reply : verdict.reply.text ≡ row.reply
-
--- a verdict, by whether the key has a row, and whether the command is accepted now
-abbrev pub IsRowVerdict : View → Command → Verdict → Option KeyRow → Option Answer → Type 0
-IsRowVerdict view x verdict None (Some answer) = AcceptsNew view x verdict answer
-IsRowVerdict view x verdict (Some row) None = RepeatsRow view x verdict row
-IsRowVerdict view x verdict row answer = ⊥
-
+-- a decision of a command whose key is new
 abbrev pub IsRowDecision : View → Command → Result Verdict Refusal → Type 0
 IsRowDecision view x result =
     MatchResult result
-    (λ verdict. IsRowVerdict view x verdict (row_of_key x.key view.keys.items) verdict.answer)
-    (λ refusal. refusal ≢ Memory → MatchOption (row_of_key x.key view.keys.items)
-    (IsRefused view (is_full_by view) x.act refusal)
-    (λ row. (same_text row.command (command_text x.act) ≡ false) × (refusal ≡ Key)))
+    (λ verdict. MatchOption verdict.answer ⊥ (AcceptsNew view x verdict))
+    (λ refusal. refusal ≢ Memory → IsRefused view (is_full_by view) x.act refusal)
+
+-- the key has a row of the same command: its reply, and no change
+pub record RepeatsRow (row : KeyRow) (x : Command) (verdict : Verdict) : Type 0 where
+  pub same : same_text row.command (command_text x.act) ≡ true
+  pub changes : verdict.changes.items ≡ []
+  pub reply : verdict.reply.text ≡ row.reply
+  pub answer : verdict.answer ≡ None
+
+-- a decision of a command whose key has this row
+abbrev pub IsRowRepeat : KeyRow → Command → Result Verdict Refusal → Type 0
+IsRowRepeat row x result =
+    MatchResult result
+    (RepeatsRow row x)
+    (λ refusal. refusal ≢ Memory → (same_text row.command (command_text x.act) ≡ false) × (refusal ≡ Key))

@@ -1,32 +1,56 @@
-//! How a command is decided.
-ghost use Rattle.std.specs.Prelude.{◌≡◌, ◌≢◌, MatchOption, MatchResult};
+//! How a command is decided: one whose key has a row, and one whose key is new.
+ghost use Rattle.std.specs.Prelude.{◌≡◌, Some, None};
 ghost use Rattle.kcr_history.specs.History.{History};
 ghost use Rattle.kcr_history.specs.Asked.{asks_of};
 ghost use Rattle.kcr_history.specs.Tables.{tables};
-ghost use Rattle.kcr_history.specs.Views.{IsViewOf};
+ghost use Rattle.kcr_history.specs.Views.{IsViewOf, row_of_key};
 ghost use Rattle.kcr_history.specs.Machine.{IsRegister, IsDecision};
-ghost use Rattle.kcr_base.specs.declared.refusal.Refusal.TheVariants.{Memory};
-ghost use Rattle.kcr_history.specs.Texts;
-ghost use Rattle.kcr_acts.specs.ByRows.{IsRefused};
-ghost use Rattle.kcr_machine.specs.RowDecision.{AcceptsNew, is_full_by, IsRowDecision};
+ghost use Rattle.kcr_machine.specs.RowDecision.{IsRowDecision, IsRowRepeat};
 
-use crate::keys::{MOST_COMMANDS, greatest_number, row_of_key};
 use kcr_acts::{Acted, perform};
-use kcr_base::{Refusal, Text};
+use kcr_base::Refusal;
 use kcr_history::{
     Answer, Change, Command, KeyRow, Reply, Verdict, View, answer_text, command_text,
 };
 use std::alloc::Global;
 
-/// The decision of a command whose key is new, by the rows.
-fn decide_new(alloc: Global, view: &View, command: &Command, text: Text) -> Result<Verdict, Refusal>
-    requires { text ≡ Texts.command_text command.now.act }
-    ensures { MatchResult result
-        (λ verdict. MatchOption verdict.answer ⊥ (AcceptsNew view.now command.now verdict))
-        (λ refusal. refusal ≢ Memory → IsRefused view.now (is_full_by view.now) command.now.act refusal) }
+/// At most this many commands are accepted.
+const MOST_COMMANDS: u32 = 4_000_000_000;
+
+/// What becomes of a command whose key has this row, by the row.
+fn repeat_by_row(alloc: Global, row: &KeyRow, command: &Command) -> Result<Verdict, Refusal>
+    ensures { IsRowRepeat row.now command.now result }
 {
-    let greatest = greatest_number(&view.keys);
-    let full = MOST_COMMANDS <= greatest;
+    let text = command_text(alloc, &command.act)?;
+    if row.command != text {
+        return Err(Refusal::Key);
+    }
+    Ok(Verdict {
+        changes: Vec::new(alloc),
+        reply: Reply {
+            text: row.reply.clone()?,
+        },
+        answer: None,
+    })
+}
+
+/// Decides a command whose key has this row, as it has where a command was accepted under it.
+///
+/// For every history A in whose tables the row is that of the key, the result is the machine's step from A: the same
+/// command gets its kept reply again and nothing changes, another command is refused (11). Want of memory (33) may be
+/// answered in place of both; it changes nothing.
+pub fn repeat(alloc: Global, row: &KeyRow, command: &Command) -> Result<Verdict, Refusal>
+    ensures { (A : History) → row_of_key command.now.key (tables A).keys ≡ Some row.now
+        → IsDecision A command.now result }
+{
+    repeat_by_row(alloc, row, command)
+}
+
+/// The decision of a command whose key is new, by the rows.
+fn decide_by_rows(alloc: Global, view: &View, command: &Command) -> Result<Verdict, Refusal>
+    ensures { IsRowDecision view.now command.now result }
+{
+    let full = MOST_COMMANDS <= view.accepted;
     let acted = perform(alloc, view, full, &command.act)?;
     let Acted {
         mut changes,
@@ -36,7 +60,7 @@ fn decide_new(alloc: Global, view: &View, command: &Command, text: Text) -> Resu
     } = acted;
     let answer = Answer {
         // A full register accepts no act, so there is a next number.
-        accepted: greatest + 1,
+        accepted: view.accepted + 1,
         exception,
         seating,
         step,
@@ -45,7 +69,7 @@ fn decide_new(alloc: Global, view: &View, command: &Command, text: Text) -> Resu
     changes.push(Change::PutKey(KeyRow {
         key: command.key,
         accepted: answer.accepted,
-        command: text,
+        command: command_text(alloc, &command.act)?,
         reply: reply.clone()?,
     }))?;
     Ok(Verdict {
@@ -55,39 +79,18 @@ fn decide_new(alloc: Global, view: &View, command: &Command, text: Text) -> Resu
     })
 }
 
-/// The decision, by the rows.
-fn decide_by_rows(alloc: Global, view: &View, command: &Command) -> Result<Verdict, Refusal>
-    ensures { IsRowDecision view.now command.now result }
-{
-    let text = command_text(alloc, &command.act)?;
-    if let Some(row) = row_of_key(&view.keys, &command.key) {
-        if row.command != text {
-            return Err(Refusal::Key);
-        }
-        return Ok(Verdict {
-            changes: Vec::new(alloc),
-            reply: Reply {
-                text: row.reply.clone()?,
-            },
-            answer: None,
-        });
-    }
-    decide_new(alloc, view, command, text)
-}
-
-/// Decides a command over the rows that it asks for.
+/// Decides a command whose key is new over the rows that it asks for.
 ///
-/// For every history A that the machine leads to: where the view holds the rows of the tables of A that the command
-/// asks for, in any order, the result is the machine's step from A, and the changes lead from the tables of A to those
-/// after it, up to the order of rows. A key that was accepted before is looked at first: with the same command its kept
-/// reply is given and nothing changes, with another command it is refused (11). Then come the act's own refusals in the
-/// order of their numbers, and 27 where 4,000,000,000 commands have been accepted. Want of memory (33) may be answered
-/// in place of all of these; it changes nothing. Over any other view there is some answer. A signature and an exception
-/// that passes a step record the first seating of the people in the room, or else are refused (32) with a least
-/// shortage.
+/// For every history A that the machine leads to, and in whose tables the key has no row: where the view holds the rows
+/// of the tables of A that the command asks for, in any order, and the number of its last command, the result is the
+/// machine's step from A, and the changes lead from the tables of A to those after it, up to the order of rows. The
+/// act's own refusals come in the order of their numbers, and 27 where 4,000,000,000 commands have been accepted. Want
+/// of memory (33) may be answered in place of all of these; it changes nothing. Over any other view there is some
+/// answer. A signature and an exception that passes a step record the first seating of the people in the room, or else
+/// are refused (32) with a least shortage.
 pub fn decide(alloc: Global, view: &View, command: &Command) -> Result<Verdict, Refusal>
-    ensures { (A : History) → IsRegister A → IsViewOf (asks_of command.now) (tables A) view.now
-        → IsDecision A command.now result }
+    ensures { (A : History) → IsRegister A → row_of_key command.now.key (tables A).keys ≡ None
+        → IsViewOf (asks_of command.now) (tables A) view.now → IsDecision A command.now result }
 {
     decide_by_rows(alloc, view, command)
 }
