@@ -1,9 +1,8 @@
 //! The bytes of a stream that were read and are no whole message yet.
-ghost use Rattle.std.specs.Prelude.{◌≡◌, ℕ, ◌+◌, ◌*◌, drop, ◌<◌, ◌≤◌, ◌⊎◌, ◌++◌, List, Some, Bool, true, false, length};
+ghost use Rattle.std.specs.Prelude.{◌≡◌, ℕ, ◌+◌, drop, ◌<◌, ◌≤◌, ◌++◌, List, true, false, length};
 ghost use Rattle.std.specs.Prelude.{vec_len, OnOk, IfOk, IsErrOf};
-ghost use Rattle.std.specs.Io.KnownBytes.{prepend_known, IsAtEnd};
-ghost use Rattle.kcr_base.specs.Counted.{inner_of, failures_of, gifts_of};
-ghost use Rattle.kcr_desk.specs.Intake.{Stays};
+ghost use Rattle.std.specs.Io.KnownBytes.{IsAtEnd};
+ghost use Rattle.kcr_base.specs.Counted.{inner_of};
 ghost use Rattle.kcr_desk.specs.declared.intake.TheConstants.{MAX_READS};
 
 use crate::fault::DeskFault;
@@ -34,22 +33,15 @@ pub(crate) struct Intake {
 
 impl Intake {
     ghost use Rattle.kcr_desk.specs.Found.{IsFound};
+    ghost use Rattle.kcr_desk.specs.Intake.{TakesIn};
 
     /// Reads once. It answers whether there was a byte.
     pub fn fill<R: Read>(&mut self, reader: &mut Counted<R>) -> Result<bool, DeskFault>
-        ensures kept { OnOk result (Stays
-            (prepend_known self.old.buffer.items (R.remaining (inner_of reader.old)))
-            (prepend_known self.new.buffer.items (R.remaining (inner_of reader.new)))) }
+        ensures takes { TakesIn R.remaining self.old self.new reader.old reader.new result }
         ensures grown { IfOk result (λ more. more ≡ true → (self.new.reads ≡ self.old.reads + 1)
             × ((bytes : List ℕ) × (self.new.buffer.items ≡ self.old.buffer.items ++ bytes) × (length bytes ≤ 4096))) }
         ensures ended { IfOk result (λ more. more ≡ false → (self.new.reads ≡ self.old.reads)
             × (self.new.buffer.items ≡ self.old.buffer.items) × IsAtEnd (R.remaining (inner_of reader.new))) }
-        ensures room { OnOk result
-            (vec_len self.new.buffer + 4096 * self.old.reads ≤ vec_len self.old.buffer + 4096 * self.new.reads) }
-        ensures calm { OnOk result (failures_of reader.new ≡ failures_of reader.old) }
-        ensures counted { gifts_of reader.new + self.old.reads ≡ gifts_of reader.old + self.new.reads }
-        ensures read_fault { IsErrOf result DeskFault.Read
-            → (failures_of reader.old < failures_of reader.new) ⊎ (self.new.reads ≡ MAX_READS) }
         ensures not_write { IsErrOf result DeskFault.Write → ⊥ }
     {
         if self.reads == MAX_READS {
@@ -70,16 +62,8 @@ impl Intake {
 
     /// Reads until the bytes begin with a whole head, or with none whatever follows.
     pub fn take_head<R: Read>(&mut self, reader: &mut Counted<R>) -> Result<Found, DeskFault>
-        ensures kept { OnOk result (Stays
-            (prepend_known self.old.buffer.items (R.remaining (inner_of reader.old)))
-            (prepend_known self.new.buffer.items (R.remaining (inner_of reader.new)))) }
+        ensures takes { TakesIn R.remaining self.old self.new reader.old reader.new result }
         ensures found { IfOk result (IsFound (R.remaining (inner_of reader.new)) self.new.buffer.items) }
-        ensures room { OnOk result
-            (vec_len self.new.buffer + 4096 * self.old.reads ≤ vec_len self.old.buffer + 4096 * self.new.reads) }
-        ensures calm { OnOk result (failures_of reader.new ≡ failures_of reader.old) }
-        ensures counted { gifts_of reader.new + self.old.reads ≡ gifts_of reader.old + self.new.reads }
-        ensures read_fault { IsErrOf result DeskFault.Read
-            → (failures_of reader.old < failures_of reader.new) ⊎ (self.new.reads ≡ MAX_READS) }
         ensures not_write { IsErrOf result DeskFault.Write → ⊥ }
     {
         'head: loop {
@@ -107,19 +91,11 @@ impl Intake {
         reader: &mut Counted<R>,
         end: usize,
     ) -> Result<bool, DeskFault>
-        ensures kept { OnOk result (Stays
-            (prepend_known self.old.buffer.items (R.remaining (inner_of reader.old)))
-            (prepend_known self.new.buffer.items (R.remaining (inner_of reader.new)))) }
+        ensures takes { TakesIn R.remaining self.old self.new reader.old reader.new result }
         ensures grown { OnOk result ((bytes : List ℕ) × (self.new.buffer.items ≡ self.old.buffer.items ++ bytes)) }
         ensures enough { IfOk result (λ enough. enough ≡ true → end ≤ vec_len self.new.buffer) }
         ensures ended { IfOk result (λ enough. enough ≡ false → (vec_len self.new.buffer < end)
             × IsAtEnd (R.remaining (inner_of reader.new))) }
-        ensures room { OnOk result
-            (vec_len self.new.buffer + 4096 * self.old.reads ≤ vec_len self.old.buffer + 4096 * self.new.reads) }
-        ensures calm { OnOk result (failures_of reader.new ≡ failures_of reader.old) }
-        ensures counted { gifts_of reader.new + self.old.reads ≡ gifts_of reader.old + self.new.reads }
-        ensures read_fault { IsErrOf result DeskFault.Read
-            → (failures_of reader.old < failures_of reader.new) ⊎ (self.new.reads ≡ MAX_READS) }
         ensures not_write { IsErrOf result DeskFault.Write → ⊥ }
     {
         'body: while self.buffer.len() < end {

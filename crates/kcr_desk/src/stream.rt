@@ -1,8 +1,7 @@
 //! Streams of messages.
-ghost use Rattle.std.specs.Prelude.{◌≡◌, ℕ, List, ◌++◌, ◌+◌, ◌*◌, ◌<◌, ◌≤◌, ◌⊎◌, vec_len, IfOk, OnOk, OnErr, IsErrOf};
-ghost use Rattle.std.specs.Io.KnownBytes.{prepend_known};
+ghost use Rattle.std.specs.Prelude.{◌≡◌, ℕ, List, ◌++◌, ◌+◌, ◌<◌, ◌≤◌, ◌⊎◌, IfOk, OnOk, OnErr, IsErrOf};
 ghost use Rattle.kcr_base.specs.Counted.{inner_of, failures_of, gifts_of};
-ghost use Rattle.kcr_desk.specs.Intake.{Stays};
+ghost use Rattle.kcr_desk.specs.Intake.{TakesIn, left};
 ghost use Rattle.kcr_desk.specs.Found.{IsReady, HasPlan};
 ghost use Rattle.kcr_desk.specs.Plans.{is_head};
 ghost use Rattle.kcr_desk.specs.Texts.{Told, answer_text};
@@ -48,22 +47,12 @@ fn take_message<R: Read, W: Write>(
     plan: Plan,
 ) -> Result<Turn, DeskFault>
     requires { HasPlan intake.old.buffer.items spans plan }
-    ensures turn { IfOk result (IsTurn
-        (prepend_known intake.old.buffer.items (R.remaining (inner_of reader.old)))
-        intake.new.buffer.items (W.contents (inner_of writer.old)) (W.contents (inner_of writer.new))) }
-    ensures kept { OnOk result (Stays
-        (prepend_known intake.old.buffer.items (R.remaining (inner_of reader.old)))
-        (prepend_known intake.new.buffer.items (R.remaining (inner_of reader.new)))) }
-    ensures breaks { OnErr result (BreaksTurn
-        (prepend_known intake.old.buffer.items (R.remaining (inner_of reader.old)))
+    ensures turn { IfOk result (IsTurn (left R.remaining intake.old reader.old) intake.new.buffer.items
         (W.contents (inner_of writer.old)) (W.contents (inner_of writer.new))) }
-    ensures room { OnOk result
-        (vec_len intake.new.buffer + 4096 * intake.old.reads ≤ vec_len intake.old.buffer + 4096 * intake.new.reads) }
-    ensures calm { OnOk result
-        ((failures_of reader.new ≡ failures_of reader.old) × (failures_of writer.new ≡ failures_of writer.old)) }
-    ensures counted { gifts_of reader.new + intake.old.reads ≡ gifts_of reader.old + intake.new.reads }
-    ensures read_fault { IsErrOf result DeskFault.Read
-        → (failures_of reader.old < failures_of reader.new) ⊎ (intake.new.reads ≡ 1000000) }
+    ensures breaks { OnErr result (BreaksTurn (left R.remaining intake.old reader.old)
+        (W.contents (inner_of writer.old)) (W.contents (inner_of writer.new))) }
+    ensures takes { TakesIn R.remaining intake.old intake.new reader.old reader.new result }
+    ensures calm { OnOk result (failures_of writer.new ≡ failures_of writer.old) }
     ensures write_fault { IsErrOf result DeskFault.Write → failures_of writer.old < failures_of writer.new }
 {
     put_continue(writer, plan)?;
@@ -81,22 +70,12 @@ fn next_turn<R: Read, W: Write>(
     reader: &mut Counted<R>,
     writer: &mut Counted<W>,
 ) -> Result<Turn, DeskFault>
-    ensures turn { IfOk result (IsTurn
-        (prepend_known intake.old.buffer.items (R.remaining (inner_of reader.old)))
-        intake.new.buffer.items (W.contents (inner_of writer.old)) (W.contents (inner_of writer.new))) }
-    ensures kept { OnOk result (Stays
-        (prepend_known intake.old.buffer.items (R.remaining (inner_of reader.old)))
-        (prepend_known intake.new.buffer.items (R.remaining (inner_of reader.new)))) }
-    ensures breaks { OnErr result (BreaksTurn
-        (prepend_known intake.old.buffer.items (R.remaining (inner_of reader.old)))
+    ensures turn { IfOk result (IsTurn (left R.remaining intake.old reader.old) intake.new.buffer.items
         (W.contents (inner_of writer.old)) (W.contents (inner_of writer.new))) }
-    ensures room { OnOk result
-        (vec_len intake.new.buffer + 4096 * intake.old.reads ≤ vec_len intake.old.buffer + 4096 * intake.new.reads) }
-    ensures calm { OnOk result
-        ((failures_of reader.new ≡ failures_of reader.old) × (failures_of writer.new ≡ failures_of writer.old)) }
-    ensures counted { gifts_of reader.new + intake.old.reads ≡ gifts_of reader.old + intake.new.reads }
-    ensures read_fault { IsErrOf result DeskFault.Read
-        → (failures_of reader.old < failures_of reader.new) ⊎ (intake.new.reads ≡ 1000000) }
+    ensures breaks { OnErr result (BreaksTurn (left R.remaining intake.old reader.old)
+        (W.contents (inner_of writer.old)) (W.contents (inner_of writer.new))) }
+    ensures takes { TakesIn R.remaining intake.old intake.new reader.old reader.new result }
+    ensures calm { OnOk result (failures_of writer.new ≡ failures_of writer.old) }
     ensures write_fault { IsErrOf result DeskFault.Write → failures_of writer.old < failures_of writer.new }
 {
     match intake.take_head(reader)? {

@@ -12,10 +12,10 @@ returns-in_err-put_refusal-in-Refused-clause-breaks g c =
     let p = err_from_is_err_and c.from_residual-in_err-put_refusal-in-Refused.result c.from_residual-in_err-put_refusal-in-Refused.ensures.1 in
     let found = rw c.in-Refused.is at c.in_ok-take_head.ensures.found in
     let e = refused c.in-Refused.refusal c.in-Refused.bare in
-    rw p.1 (breaks_ending e (ends_before _ _ e c.in_ok-take_head.ensures.kept found) c.in_err-put_refusal-in-Refused.ensures.written)
+    rw p.1 (breaks_ending e (ends_before _ _ e c.in_ok-take_head.ensures.takes.kept found) c.in_err-put_refusal-in-Refused.ensures.written)
 
 pub returns-in_ok-put_refusal-in-Refused-clause-turn : goal.returns-in_ok-put_refusal-in-Refused-clause-turn
 returns-in_ok-put_refusal-in-Refused-clause-turn g c =
     let found = rw c.in-Refused.is at c.in_ok-take_head.ensures.found in
     let e = refused c.in-Refused.refusal c.in-Refused.bare in
-    (e, ends_before _ _ e c.in_ok-take_head.ensures.kept found, c.in_ok-put_refusal-in-Refused.ensures.written)
+    (e, ends_before _ _ e c.in_ok-take_head.ensures.takes.kept found, c.in_ok-put_refusal-in-Refused.ensures.written)

@@ -19,7 +19,7 @@ returns-in_err-answer_front-in-Message-clause-broken g c =
     let turn = rw c.in-Message.is at c.in_ok-next_turn.ensures.turn in
     let told = c.in_err-answer_front-in-Message.ensures.answered in
     rw p.1 (answer_broken c.messages.invariant.serving turn.0 (g.R.Read.remaining c.next_turn.new.reader.inner)
-    c.in_ok-next_turn.ensures.kept told.0 c.answer_front.new.responder told.1
+    c.in_ok-next_turn.ensures.takes.kept told.0 c.answer_front.new.responder told.1
     (g.W.Write.contents c.next_turn.new.writer.inner) (g.W.Write.contents c.answer_front.new.writer.inner) turn.1 told.2)
 
 pub returns-then-plan-clause-served : goal.returns-then-plan-clause-served
@@ -27,7 +27,7 @@ returns-then-plan-clause-served g c =
     let turn = rw c.in-Message.is at c.in_ok-next_turn.ensures.turn in
     let told = c.in_ok-answer_front-in-Message.ensures.answered in
     closed_served c.messages.invariant.serving turn.0 (g.R.Read.remaining c.next_turn.new.reader.inner)
-    c.in_ok-next_turn.ensures.kept told.0 c.answer_front.new.responder told.1
+    c.in_ok-next_turn.ensures.takes.kept told.0 c.answer_front.new.responder told.1
     (g.W.Write.contents c.next_turn.new.writer.inner) (g.W.Write.contents c.answer_front.new.writer.inner) turn.1 c.if-plan.true told.2
 
 pub messages-preserved : goal.messages-preserved
@@ -35,13 +35,13 @@ messages-preserved g c =
     let turn = rw c.in-Message.is at c.in_ok-next_turn.ensures.turn in
     let told = c.in_ok-answer_front-in-Message.ensures.answered in
     let there = serving_then c.messages.invariant.serving turn.0 (g.R.Read.remaining c.next_turn.new.reader.inner)
-    c.in_ok-next_turn.ensures.kept told.0 c.answer_front.new.responder told.1
+    c.in_ok-next_turn.ensures.takes.kept told.0 c.answer_front.new.responder told.1
     (g.W.Write.contents c.next_turn.new.writer.inner) (g.W.Write.contents c.answer_front.new.writer.inner) turn.1 c.if-plan.false told.2 in
     let some : 0 < c.in-Message.spans.len = turn.0.front.whole.some in
     record {
       serving = rw c.drop_front.ensures.items there;
-      room = rw c.drop_front.ensures.reads (omega (arith, c.in_ok-next_turn.ensures.room, c.messages.invariant.room, c.drop_front.ensures.len));
-      calm_reader = c.in_ok-next_turn.ensures.calm.0 ∙ c.messages.invariant.calm_reader;
-      calm_writer = c.in_ok-answer_front-in-Message.ensures.calm ∙ c.in_ok-next_turn.ensures.calm.1 ∙ c.messages.invariant.calm_writer;
-      counted = rw c.drop_front.ensures.reads (omega (arith, c.next_turn.ensures.counted, c.messages.invariant.counted));
+      room = rw c.drop_front.ensures.reads (omega (arith, c.in_ok-next_turn.ensures.takes.room, c.messages.invariant.room, c.drop_front.ensures.len));
+      calm_reader = c.in_ok-next_turn.ensures.takes.calm ∙ c.messages.invariant.calm_reader;
+      calm_writer = c.in_ok-answer_front-in-Message.ensures.calm ∙ c.in_ok-next_turn.ensures.calm ∙ c.messages.invariant.calm_writer;
+      counted = rw c.drop_front.ensures.reads (omega (arith, c.next_turn.ensures.takes.counted, c.messages.invariant.counted));
     }

@@ -43,7 +43,7 @@ cut_at_end g c =
     let few : length new < c.args.spans.len + c.args.plan.length = rw c.take_body.new.self.buffer.ok.0 at ended.0 in
     let bare : c.is_head_method-bare.result ≡ is_head (span_bytes new c.args.spans.method) =
     cc (c.is_head_method-bare.ensures, c.of.ensures, c.deref.ensures.value) in
-    ends_before _ (prepend_known new (g.R.Read.remaining c.take_body.new.reader.inner)) _ c.in_ok-take_body.ensures.kept
+    ends_before _ (prepend_known new (g.R.Read.remaining c.take_body.new.reader.inner)) _ c.in_ok-take_body.ensures.takes.kept
     (rw bare (cut_ends (g.R.Read.remaining c.take_body.new.reader.inner) (plan_more grown.0 c.requires grown.1) few ended.1))
 
 pub returns-in_err-put_refusal-clause-breaks : goal.returns-in_err-put_refusal-clause-breaks

@@ -1,12 +1,10 @@
 use Rattle.std.proofs.Common.{◌≡◌, ◌≤◌, ◌-◌, ◌+◌, ◌*◌, ◌++◌, List, ℕ, vec_len}
-use Rattle.std.specs.Io.KnownBytes.{prepend_known}
-use Rattle.kcr_desk.specs.Intake.{Stays}
+use Rattle.kcr_desk.specs.Intake.{Stays, left}
 use Rattle.kcr_desk.proofs.intake.Intake.take_body.Given as goal
 
 abbrev pub invariant-body : goal.invariant-body
 invariant-body g l = record {
-  kept : Stays (prepend_known l.initial.self.buffer.items (g.R.Read.remaining l.initial.reader.inner))
-      (prepend_known l.self.buffer.items (g.R.Read.remaining l.reader.inner));
+  kept : Stays (left g.R.Read.remaining l.initial.self l.initial.reader) (left g.R.Read.remaining l.self l.reader);
   grown : (bytes : List ℕ) × (l.self.buffer.items ≡ l.initial.self.buffer.items ++ bytes);
   room : vec_len l.self.buffer + 4096 * l.initial.self.reads ≤ vec_len l.initial.self.buffer + 4096 * l.self.reads;
   calm : l.reader.failed.count ≡ l.initial.reader.failed.count;

@@ -1,12 +1,10 @@
 use Rattle.std.proofs.Common.{◌≡◌, ◌≤◌, ◌-◌, ◌+◌, ◌*◌, vec_len}
-use Rattle.std.specs.Io.KnownBytes.{prepend_known}
-use Rattle.kcr_desk.specs.Intake.{Stays}
+use Rattle.kcr_desk.specs.Intake.{Stays, left}
 use Rattle.kcr_desk.proofs.intake.Intake.take_head.Given as goal
 
 abbrev pub invariant-head : goal.invariant-head
 invariant-head g l = record {
-  kept : Stays (prepend_known l.initial.self.buffer.items (g.R.Read.remaining l.initial.reader.inner))
-      (prepend_known l.self.buffer.items (g.R.Read.remaining l.reader.inner));
+  kept : Stays (left g.R.Read.remaining l.initial.self l.initial.reader) (left g.R.Read.remaining l.self l.reader);
   room : vec_len l.self.buffer + 4096 * l.initial.self.reads ≤ vec_len l.initial.self.buffer + 4096 * l.self.reads;
   calm : l.reader.failed.count ≡ l.initial.reader.failed.count;
   counted : l.reader.given.count + l.initial.self.reads ≡ l.initial.reader.given.count + l.self.reads;
