@@ -44,24 +44,14 @@ end_by b h rest e has (is_cut k q has' why short) =
     (ap plan_of heads.0 ∙ why, ap (λ t. is_head t.method) heads.0, rw heads.1 short)
 
 pub message_not_end : (b : List ℕ) (m : Message) (r : List ℕ) (e : Ending) → IsMessage b m r → IsEnd b e → ⊥
-message_not_end b m r e x end' = by_end e (end_by b m.head (m.body ++ r) e x.head end')
-  where
-    by_end : (e : Ending) → EndsBy m.head (m.body ++ r) e → ⊥
-    by_end quiet n = n
-    by_end (refused bad bare) n = cc (n.0, x.plan)
-    by_end (cut_off plan bare) n =
-        let same : m.plan ≡ plan = cc (n.0, x.plan) in
-        let long : length m.body ≡ plan.length = x.body ∙ ap (λ t. t.length) same in
-        absurd (omega (arith, length-append m.body r, n.2))
+message_not_end b m r e x end' =
+    let by = end_by b m.head (m.body ++ r) e x.head end' in
+    let long = length-append m.body r in
+    grind (arith, by, long, x.plan, x.body)
 
 -- two ends of bytes that begin with a head
 same_ends : (h : RequestHead) (rest : List ℕ) (e f : Ending) → EndsBy h rest e → EndsBy h rest f → e ≡ f
-same_ends h rest quiet f x y = absurd x
-same_ends h rest e quiet x y = absurd y
-same_ends h rest (refused r a) (refused s b) x y = cc
-same_ends h rest (refused r a) (cut_off p b) x y = cc (x.0, y.0)
-same_ends h rest (cut_off p a) (refused r b) x y = cc (x.0, y.0)
-same_ends h rest (cut_off p a) (cut_off q b) x y = cc
+same_ends h rest e f x y = grind (arith, x, y)
 
 pub end_unique : (b : List ℕ) (e f : Ending) → IsEnd b e → IsEnd b f → e ≡ f
 end_unique b e f (fails h rest has why) y = same_ends h rest e f (why, refl) (end_by b h rest f has y)

@@ -1,24 +1,21 @@
 -- Members between commas.
-use Rattle.std.proofs.Common.{◌≡◌, ℕ, suc, zero, ◌<◌, ◌≢◌, cond, List, [], ◌∷◌, length, take, drop, get_or, map, refl, ap, ◌∙◌, arith}
+use Rattle.std.proofs.Common.{◌≡◌, ℕ, suc, zero, ◌<◌, ◌≢◌, List, [], ◌∷◌, length, take, drop, get_or, map, refl, ap, arith}
 use Rattle.std.proofs.lemmas.Bool.{eq-eqb, ne_eqb}
 use Rattle.httparse.specs.Grammar.{trim_ows}
-use Rattle.kcr_desk.specs.Members.{cons_first, split_commas, members}
+use Rattle.kcr_desk.specs.Members.{split_commas, members}
 
 -- the first piece ends at the first comma
 split_commas_at : (xs : List ℕ) (i : ℕ) → i < length xs → get_or xs i 0 ≡ 44 → ((k : ℕ) → k < i → get_or xs k 0 ≢ 44)
     → split_commas xs ≡ take i xs ∷ split_commas (drop (suc i) xs)
 split_commas_at [] i inside comma before = absurd (omega arith)
-split_commas_at (b ∷ bs) zero inside comma before =
-    ap (λ t. cond t ([] ∷ split_commas bs) (cons_first b (split_commas bs))) (eq-eqb b 44 comma)
+split_commas_at (b ∷ bs) zero inside comma before = rw (eq-eqb b 44 comma) refl
 split_commas_at (b ∷ bs) (suc i) inside comma before =
-    ap (λ t. cond t ([] ∷ split_commas bs) (cons_first b (split_commas bs))) (ne_eqb b 44 (before 0 (omega arith)))
-    ∙ ap (cons_first b) (split_commas_at bs i (omega arith) comma (λ k below. before (suc k) (omega arith)))
+    rw (ne_eqb b 44 (before 0 (omega arith)), split_commas_at bs i (omega arith) comma (λ k below. before (suc k) (omega arith))) refl
 
 split_commas_whole : (xs : List ℕ) → ((k : ℕ) → k < length xs → get_or xs k 0 ≢ 44) → split_commas xs ≡ xs ∷ []
 split_commas_whole [] none = refl
 split_commas_whole (b ∷ bs) none =
-    ap (λ t. cond t ([] ∷ split_commas bs) (cons_first b (split_commas bs))) (ne_eqb b 44 (none 0 (omega arith)))
-    ∙ ap (cons_first b) (split_commas_whole bs (λ k below. none (suc k) (omega arith)))
+    rw (ne_eqb b 44 (none 0 (omega arith)), split_commas_whole bs (λ k below. none (suc k) (omega arith))) refl
 
 pub members_at : (xs : List ℕ) (i : ℕ) → i < length xs → get_or xs i 0 ≡ 44 → ((k : ℕ) → k < i → get_or xs k 0 ≢ 44)
     → members xs ≡ trim_ows (take i xs) ∷ members (drop (suc i) xs)

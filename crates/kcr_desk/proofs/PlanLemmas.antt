@@ -1,7 +1,7 @@
 -- The tests on a head, one after the other.
-use Rattle.std.proofs.Common.{◌≡◌, ℕ, ◌<◌, List, min, refl, arith, inl, inr}
-use Rattle.std.specs.Prelude.{Bool, not, Option, Some, None, Err, codes, if◌then◌else◌}
-use Rattle.std.proofs.lemmas.Bool.{lt-ltb, cases_lt}
+use Rattle.std.proofs.lemmas.Bool.Decides.{nat_tests}
+use Rattle.std.proofs.Common.{◌≡◌, ℕ, List, refl, arith}
+use Rattle.std.specs.Prelude.{Bool, not, Option, Err, codes, if◌then◌else◌}
 use Rattle.kcr_base.specs.declared.refusal.Refusal.TheVariants.{Host}
 use Rattle.kcr_desk.specs.Members.{some_has_member}
 use Rattle.kcr_desk.specs.Plans.{planned, measured, is_hosted, values_of, length_in, bounded_length, is_empty}
@@ -9,12 +9,7 @@ use Rattle.kcr_desk.specs.Plans.{planned, measured, is_hosted, values_of, length
 -- a length that is too large is so too where it is counted as one more than the largest
 bounded_alike : (minor : ℕ) (coded closing expecting : Bool) (n : Option ℕ)
     → measured minor coded closing expecting n ≡ measured minor coded closing expecting (bounded_length n)
-bounded_alike minor coded closing expecting None = refl
-bounded_alike minor coded closing expecting (Some n) = elim (cases_lt 131072 n) [
-  | inl over ↦
-      let m : 131072 < min n 131073 = omega arith in rw (lt-ltb 131072 n over, lt-ltb 131072 (min n 131073) m) refl
-  | inr under ↦ let same : min n 131073 ≡ n = omega arith in rw same refl
-]
+bounded_alike minor coded closing expecting n = grind (arith, nat_tests)
 
 -- what is planned, with the length as it is counted
 pub planned_bounded : (minor : ℕ) (fields : List (List ℕ × List ℕ))

@@ -130,6 +130,7 @@ fn some_has_member(buf: &[u8], headers: &[HeaderSpan], name: &[u8], text: &[u8])
 
 /// What the fields ask for, or the refusal of the first test that fails: Host, Content-Length, Transfer-Encoding, and
 /// a body that is too long.
+#[tactic(auto, using(crate::proofs::PlanLemmas::planned_bounded))]
 pub(crate) fn judge(version: u8, buf: &[u8], headers: &[HeaderSpan]) -> Result<Plan, Refusal>
     requires { All (IsHeaderWithin (length buf.now)) headers.now }
     ensures value { result ≡ planned version (map (header_bytes buf.now) headers.now) }
