@@ -1,20 +1,18 @@
 -- Words that are taken give each required option of their subcommand.
-use Rattle.std.proofs.Common.{◌≡◌, ◌&&◌, ◌||◌, ◌==◌, ℕ, zero, suc, Bool, true, false, not, cond, List, [], ◌∷◌, ◌++◌, Option, Some, None, refl, sym, ap, ◌∙◌, subst, length, drop, arith}
+use Rattle.std.proofs.Common.{◌≡◌, ◌&&◌, ◌==◌, ℕ, zero, suc, Bool, true, false, not, cond, List, [], ◌∷◌, Option, Some, None, refl, sym, ap, ◌∙◌, subst, length, drop, arith, inl, inr}
 use Rattle.std.specs.Prelude.{is_some, fold, find, MatchOption, option_and_then, slice_get, encode_utf8}
 use Rattle.std.specs.List.{AllByRecursion, list_any}
 use Rattle.std.specs.Option.{option_map_or}
 use Rattle.std.specs.Str.{bytes_eq, chars}
-use Rattle.std.proofs.lemmas.Bool.{ne_eqb}
+use Rattle.std.proofs.lemmas.Bool.{both_ways, cases_Bool, ne_eqb}
 use Rattle.std.proofs.lemmas.Slice.Eq.{bytes_eq-Decides}
-use Rattle.clap.specs.Lexer.{long_of, short_of}
+use Rattle.clap.specs.Lexer.{long_of}
 use Rattle.clap.specs.Kinds.{Kinds, check_kinds, or_else, range_kinds}
 use Rattle.clap.specs.Facts.{explicit_source}
 use Rattle.clap.specs.Takes.{is_given}
-use Rattle.clap.specs.Faults.{bundle_step_fault, check_fault, defaults_fault, flags_fault, flag_word_fault, level_fault, repeat_fault, values_fault, long_fault, option_fault, other_fault, positional_fault, react_fault, settle_fault, short_fault, step_fault, stray_fault, turn_fault, use_fault, walk_fault, word_fault}
+use Rattle.clap.specs.Faults.{bundle_step_fault, check_fault, defaults_fault, flags_fault, flag_word_fault, level_fault, repeat_fault, values_fault, long_fault, option_fault, react_fault, settle_fault, short_fault, step_fault, turn_fault, use_fault, walk_fault, word_fault}
 use Rattle.clap.specs.Simple.{Shape, filled, new_rule}
-use Rattle.clap.specs.ValueTests.{is_unsigned_in}
-use Rattle.clap.specs.Walk.{Held, Names, Outcome, Row, Rule, Step, Text, Waiting, Walk, action_of, after_flag, after_step, arg_by_id, arg_by_index, arg_by_long, arg_by_short, attached_value, first_of, bundle, bundle_met, bundle_step, done, waits, plain, refused, finished, flag_met, has_row, idle, is_pending, long_met, long_or_other, next, nothing_held, option, option_met, option_word, plain_word, positional, reacted, row_text, rows_after, settled, settled_rows, short_met, short_or_plain, subcommand, subcommand_met, subcommand_or_other, takes_several, takes_values, to_positional, trailing, used, used_by_id, value, walk, walk_from, walked, walked_from, with_default, default_rows, reading_by, stronger, used_as, values_or_missing, with_values, without, word_met}
-use Rattle.clap.specs.declared.error.kind.ErrorKind.{ErrorKind}
+use Rattle.clap.specs.Walk.{Held, Names, Outcome, Row, Rule, Step, Text, Waiting, Walk, action_of, after_flag, after_step, arg_by_id, arg_by_long, arg_by_short, attached_value, first_of, bundle, bundle_met, bundle_step, done, plain, finished, has_row, long_met, long_or_other, nothing_held, option, option_met, reacted, row_text, rows_after, settled, settled_rows, short_met, used, walk, walk_from, walked, with_default, reading_by, used_as, values_or_missing, with_values, without, word_met}
 use Rattle.clap.specs.declared.error.kind.ErrorKind.TheVariants as kind
 use Rattle.clap.specs.declared.builder.action.ArgAction.{ArgAction}
 use Rattle.clap.specs.declared.builder.action.ArgAction.TheVariants.{Set, Help}
@@ -22,8 +20,6 @@ use Rattle.clap.specs.declared.parser.matches.ValueSource.TheVariants.{CommandLi
 use Rattle.clap.specs.declared.builder.value_parser.Reading.TheVariants.{AsWritten}
 use Rattle.clap.specs.declared.builder.value_parser.ValueParser.{ValueParser}
 use Rattle.clap.specs.declared.builder.value_parser.ValueParser.TheVariants.{Unsigned}
-use Rattle.clap.specs.Values.{refused_kind}
-use Rattle.std.specs.Str.Parse.{digits_value, without_leading_plus}
 use Rattle.clap.specs.declared.parser.matches.ValueSource.{ValueSource}
 use Rattle.clap.specs.declared.builder.value_parser.Reading.{Reading}
 use Rattle.kcr_tool.specs.Commands.{number_rule, text_rule}
@@ -42,11 +38,10 @@ module _ (s : Shape) (P : List Row → Type 0) where
 
   found_keeps : (f : Rule → Bool) (c : List Rule) → AllByRecursion Keeps c → (a : Rule) → find f c ≡ Some a → Keeps a
   found_keeps f [] all a e = cc
-  found_keeps f (x ∷ xs) all a e = by_test (found_keeps f xs all.1 a) (f x) e
-    where
-      by_test : (find f xs ≡ Some a → Keeps a) → (b : Bool) → cond b (Some x) (find f xs) ≡ Some a → Keeps a
-      by_test later true same = subst Keeps (let is : x ≡ a = cc in is) all.0
-      by_test later false rest = later rest
+  found_keeps f (x ∷ xs) all a e = elim (cases_Bool (f x)) [
+    | inl t ↦ (let is : Some x ≡ Some a = rw t at e in let same : x ≡ a = cc in subst Keeps same all.0)
+    | inr t ↦ found_keeps f xs all.1 a (rw t at e)
+  ]
 
   module _ (keeps : AllByRecursion Keeps s.rules) where
     -- a found option is one of the rules
@@ -57,11 +52,9 @@ module _ (s : Shape) (P : List Row → Type 0) where
         → option_map_or (λ p. option_map_or (λ a. use_fault s.args_override_self a p.1 rows) (arg_by_id s.rules p.0) []) pending [] ≡ []
         → P rows → P (settled_rows s.rules pending rows)
     settles_at None rows none p = p
-    settles_at (Some q) rows none p = by_rule (arg_by_id s.rules q.0) refl none
-      where
-        by_rule : (o : Option Rule) → arg_by_id s.rules q.0 ≡ o → option_map_or (λ a. use_fault s.args_override_self a q.1 rows) o [] ≡ [] → P (used_by_id o q.1 rows)
-        by_rule None e free = p
-        by_rule (Some a) e free = found_keeps (λ x. bytes_eq x.id q.0) s.rules keeps a e q.1 rows free p
+    settles_at (Some q) rows none p =
+        let found = λ (a : Rule) (e : arg_by_id s.rules q.0 ≡ Some a). found_keeps (λ x. bytes_eq x.id q.0) s.rules keeps a e q.1 rows in
+        grind (arith, found, p)
 
     settles : (h : Held) → settle_fault s.rules s.args_override_self h ≡ [] → P h.rows → P (settled s.rules h).rows
     settles h none p = settles_at h.pending h.rows none p
@@ -72,34 +65,27 @@ module _ (s : Shape) (P : List Row → Type 0) where
         rule values (settled s.rules h).rows each.1 (settles h each.0 p)
 
     option_keeps : (a : Rule) → Keeps a → (v : Option Text) (h : Held) → option_fault s.rules s.args_override_self a v h ≡ [] → P h.rows → P (option_met s.rules a v h).0.rows
-    option_keeps a rule (Some v) h none p = reacts a rule (v ∷ []) h none p
-    option_keeps a rule None h none p = settles h none p
+    option_keeps a rule o h none p =
+        let some = λ (v : Text). reacts a rule (v ∷ []) h in
+        let settle = settles h in
+        grind (arith, some, settle, p)
 
     long_keeps : (o : Option Rule) → IsRule o → (v : Option Text) (h : Held) → long_fault s.rules s.args_override_self o v h ≡ [] → P h.rows → P (long_met s.rules o v h).0.rows
     long_keeps None rule v h none p = p
-    long_keeps (Some a) rule v h none p = by_kind (takes_values a) v none
-      where
-        by_kind : (takes : Bool) (v : Option Text)
-            → cond takes (option_fault s.rules s.args_override_self a v h) (cond (is_some v) (kind.TooManyValues ∷ []) (react_fault s.rules s.args_override_self a [] h)) ≡ []
-            → P (cond takes (option_met s.rules a v h) (flag_met s.rules a v h)).0.rows
-        by_kind true v free = option_keeps a (rule a refl) v h free p
-        by_kind false (Some v) free = p
-        by_kind false None free = reacts a (rule a refl) [] h free p
+    long_keeps (Some a) rule v h none p =
+        let option = option_keeps a (rule a refl) v h in
+        let flag = reacts a (rule a refl) [] h in
+        grind (arith, option, flag, p)
 
     short_keeps : (o : Option Rule) → IsRule o → (rest : Text) (h : Held) (go : Held → Held × Outcome) (fault : Held → Kinds)
         → ((now : Held) → fault now ≡ [] → P now.rows → P (go now).0.rows)
         → short_fault s.rules s.args_override_self o rest h fault ≡ [] → P h.rows → P (short_met s.rules o rest h go).0.rows
     short_keeps None rule rest h go fault more none p = p
-    short_keeps (Some a) rule rest h go fault more none p = by_kind (takes_values a) none
-      where
-        by_kind : (takes : Bool)
-            → cond takes (option_fault s.rules s.args_override_self a (attached_value rest) h)
-            (or_else (react_fault s.rules s.args_override_self a [] h) (fault (reacted s.rules a [] h))) ≡ []
-            → P (cond takes (option_met s.rules a (attached_value rest) h) (go (reacted s.rules a [] h))).0.rows
-        by_kind true free = option_keeps a (rule a refl) (attached_value rest) h free p
-        by_kind false free =
-            let each = both_empty (react_fault s.rules s.args_override_self a [] h) (fault (reacted s.rules a [] h)) free in
-            more (reacted s.rules a [] h) each.1 (reacts a (rule a refl) [] h each.0 p)
+    short_keeps (Some a) rule rest h go fault more none p =
+        let option = option_keeps a (rule a refl) (attached_value rest) h in
+        let flag = reacts a (rule a refl) [] h in
+        let each = both_empty (react_fault s.rules s.args_override_self a [] h) (fault (reacted s.rules a [] h)) in
+        grind (arith, option, flag, each, more (reacted s.rules a [] h), p)
 
     bundle_keeps : (k : ℕ) (flags : Text) (skip : ℕ) (so_far : Outcome) (h : Held) → flags_fault s.rules s.args_override_self k flags skip h ≡ []
         → P h.rows → P (bundle_met s.rules k flags skip so_far h).0.rows
@@ -114,35 +100,18 @@ module _ (s : Shape) (P : List Row → Type 0) where
         by_flag later (Some x) zero free =
             let rest = drop (length (encode_utf8 x)) flags in
             short_keeps (arg_by_short s.rules x) (λ a e. found_keeps _ s.rules keeps a e) rest h (bundle_met s.rules k rest 0 done) (flags_fault s.rules s.args_override_self k rest 0)
-            (λ now calm q. later rest 0 done now calm q) free p
+            (later rest 0 done) free p
         by_flag later (Some x) (suc less) free = later (drop (length (encode_utf8 x)) flags) less so_far h free p
 
-    plain_keeps : (waiting : Waiting) (word : Text) (h : Held) → P h.rows → P (plain_word s.rules waiting word h).0.rows
-    plain_keeps idle word h p = p
-    plain_keeps positional word h p = p
-    plain_keeps (option id) word h p = by_rule (arg_by_id s.rules id)
-      where
-        by_rule : (o : Option Rule) → P (option_word o id word h).0.rows
-        by_rule None = p
-        by_rule (Some a) = p
-
     after_keeps : (waiting : Waiting) (word : Text) (h : Held) (o : Outcome) → P h.rows → P (after_flag s.rules waiting word h o).0.rows
-    after_keeps waiting word h done p = p
-    after_keeps waiting word h (waits id) p = p
-    after_keeps waiting word h plain p = plain_keeps waiting word h p
-    after_keeps waiting word h refused p = plain_keeps waiting word h p
-
-    short_word_keeps : (waiting : Waiting) (word : Text) (o : Option Text) (h : Held)
-        → option_map_or (λ flags. flags_fault s.rules s.args_override_self (length flags) flags h.skip (record h { skip = 0 })) o [] ≡ []
-        → P h.rows → P (short_or_plain s.rules waiting word o h).0.rows
-    short_word_keeps waiting word None h none p = plain_keeps waiting word h p
-    short_word_keeps waiting word (Some flags) h none p =
-        let met = bundle s.rules flags h in
-        after_keeps waiting word met.0 met.1 (bundle_keeps (length flags) flags h.skip plain (record h { skip = 0 }) none p)
+    after_keeps waiting word h o p = grind (arith, p)
 
     flag_keeps : (waiting : Waiting) (word : Text) (o : Option (Text × Option Text)) (h : Held) → flag_word_fault s.rules s.args_override_self o word h ≡ []
         → P h.rows → P (long_or_other s.rules waiting word o h).0.rows
-    flag_keeps waiting word None h none p = short_word_keeps waiting word (short_of word) h none p
+    flag_keeps waiting word None h none p =
+        let bundled = λ (flags : Text). bundle_keeps (length flags) flags h.skip plain (record h { skip = 0 }) in
+        let after = λ (flags : Text). after_keeps waiting word (bundle s.rules flags h).0 (bundle s.rules flags h).1 in
+        grind (arith, bundled, after, none, p)
     flag_keeps waiting word (Some q) h none p =
         let met = long_met s.rules (arg_by_long s.rules q.0) q.1 h in
         after_keeps waiting word met.0 met.1 (long_keeps (arg_by_long s.rules q.0) (λ a e. found_keeps _ s.rules keeps a e) q.1 h none p)
@@ -150,45 +119,19 @@ module _ (s : Shape) (P : List Row → Type 0) where
     word_keeps : (names : Names) (is_trailing : Bool) (waiting : Waiting) (position : ℕ) (word : Text) (h : Held)
         → word_fault s names is_trailing waiting word h ≡ [] → P h.rows → P (word_met s.rules names is_trailing waiting position word h).0.rows
     word_keeps names true waiting position word h none p = p
-    word_keeps names false waiting position word h none p = by_name (subcommand_met names waiting word) none
-      where
-        by_word : (b : Bool) → cond b [] (flag_word_fault s.rules s.args_override_self (long_of word) word h) ≡ []
-            → P (cond b (h, trailing position) (long_or_other s.rules waiting word (long_of word) h)).0.rows
-        by_word true free = p
-        by_word false free = flag_keeps waiting word (long_of word) h free p
-
-        by_name : (name : Option Text) → other_fault s name word h ≡ [] → P (subcommand_or_other s.rules name waiting position word h).0.rows
-        by_name (Some name) free = p
-        by_name None free = by_word (bytes_eq word (45 ∷ 45 ∷ [])) free
+    word_keeps names false waiting position word h none p = let flag = flag_keeps waiting word (long_of word) h in grind (arith, flag, p)
 
     step_keeps : (w : Walk) (word : Text) (h : Held) (step : Step) → step_fault s w.position h step ≡ [] → P h.rows → P (after_step s.rules word w h step).held.rows
-    step_keeps w word h (next waiting) none p = p
-    step_keeps w word h (trailing position) none p = p
-    step_keeps w word h (subcommand name) none p = p
-    step_keeps w word h value none p = by_argument (arg_by_index s.rules w.position) none
-      where
-        by_pending : (a : Rule) (b : Bool) → cond b [] (settle_fault s.rules s.args_override_self h) ≡ [] → P (cond b h (settled s.rules h)).rows
-        by_pending a true free = p
-        by_pending a false free = settles h free p
-
-        by_argument : (o : Option Rule) → option_map_or (λ a. positional_fault s.rules s.args_override_self a h) o (stray_fault s) ≡ []
-            → P (to_positional s.rules o word w h).held.rows
-        by_argument None free = p
-        by_argument (Some a) free = by_pending a (is_pending a h.pending && takes_several a) free
+    step_keeps w word h step none p = let settle = settles h in grind (arith, settle, p)
 
     turn_keeps : (names : Names) (w : Walk) (word : Text) → turn_fault s names w word ≡ [] → P w.held.rows → P (walked s.rules names w word).held.rows
     unfolding walked
-    turn_keeps names w word none p = by_stop w.stopped none
-      where
-        by_stop : (stopped : Option (Text × List Text))
-            → cond (is_some stopped) [] (or_else (word_fault s names w.is_trailing w.waiting word w.held)
-            (step_fault s w.position (word_met s.rules names w.is_trailing w.waiting w.position word w.held).0 (word_met s.rules names w.is_trailing w.waiting w.position word w.held).1)) ≡ []
-            → P (walked_from s.rules names stopped w word).held.rows
-        by_stop (Some q) free = p
-        by_stop None free =
-            let met = word_met s.rules names w.is_trailing w.waiting w.position word w.held in
-            let each = both_empty (word_fault s names w.is_trailing w.waiting word w.held) (step_fault s w.position met.0 met.1) free in
-            step_keeps w word met.0 met.1 each.1 (word_keeps names w.is_trailing w.waiting w.position word w.held each.0 p)
+    turn_keeps names w word none p =
+        let met = word_met s.rules names w.is_trailing w.waiting w.position word w.held in
+        let each = both_empty (word_fault s names w.is_trailing w.waiting word w.held) (step_fault s w.position met.0 met.1) in
+        let step = step_keeps w word met.0 met.1 in
+        let before = word_keeps names w.is_trailing w.waiting w.position word w.held in
+        grind (arith, each, step, before, p)
 
     walk_keeps : (names : Names) (w : Walk) (words : List Text) → walk_fault s names w words ≡ [] → P w.held.rows → P (fold (walked s.rules names) w words).held.rows
     unfolding walk_fault
@@ -221,60 +164,32 @@ apart x a b differ is = subst (λ (t : Text). bytes_eq t b ≡ false) (sym ((byt
 -- rows of another option come and go, and the row of this one stays
 without_other : (other name : Text) → bytes_eq other name ≡ false → (rows : List Row) → find (λ r. bytes_eq r.id name) (without other rows) ≡ find (λ r. bytes_eq r.id name) rows
 without_other other name differ [] = refl
-without_other other name differ (r ∷ rs) = by_row (without_other other name differ rs) (bytes_eq r.id other) refl
-  where
-    by_row : find (λ x. bytes_eq x.id name) (without other rs) ≡ find (λ x. bytes_eq x.id name) rs → (b : Bool) → bytes_eq r.id other ≡ b
-        → find (λ x. bytes_eq x.id name) (cond b ([] ++ rs) (r ∷ without other rs)) ≡ cond (bytes_eq r.id name) (Some r) (find (λ x. bytes_eq x.id name) rs)
-    by_row rest true is = sym (ap (λ (b : Bool). cond b (Some r) (find (λ x. bytes_eq x.id name) rs)) (apart r.id other name differ is))
-    by_row rest false is = ap (cond (bytes_eq r.id name) (Some r)) rest
+without_other other name differ (r ∷ rs) =
+    let rest = without_other other name differ rs in
+    let no = apart r.id other name differ in
+    grind (arith, rest, no)
 
 with_other : (other name : Text) (how : Reading) (source : ValueSource) (values : List Text) → bytes_eq other name ≡ false → (rows : List Row)
     → find (λ r. bytes_eq r.id name) (with_values other how source values rows) ≡ find (λ r. bytes_eq r.id name) rows
 with_other other name how source values differ [] =
     ap (λ (b : Bool). cond b (Some (record { id = other; values = values; count = None; source = Some source; reading = how })) None) differ
-with_other other name how source values differ (r ∷ rs) = by_row (with_other other name how source values differ rs) (bytes_eq r.id other) refl
-  where
-    changed : Row
-    changed = record r { values = r.values ++ values; source = Some (stronger r.source source) }
-
-    by_row : find (λ x. bytes_eq x.id name) (with_values other how source values rs) ≡ find (λ x. bytes_eq x.id name) rs → (b : Bool) → bytes_eq r.id other ≡ b
-        → find (λ x. bytes_eq x.id name) (cond b ((changed ∷ []) ++ rs) (r ∷ with_values other how source values rs)) ≡ cond (bytes_eq r.id name) (Some r) (find (λ x. bytes_eq x.id name) rs)
-    by_row rest true is =
-        let no = apart r.id other name differ is in
-        ap (λ (b : Bool). cond b (Some changed) (find (λ x. bytes_eq x.id name) rs)) no
-        ∙ sym (ap (λ (b : Bool). cond b (Some r) (find (λ x. bytes_eq x.id name) rs)) no)
-    by_row rest false is = ap (cond (bytes_eq r.id name) (Some r)) rest
+with_other other name how source values differ (r ∷ rs) =
+    let rest = with_other other name how source values differ rs in
+    let no = apart r.id other name differ in
+    grind (arith, rest, no)
 
 -- the first row of an option that had none
 first_row : (name : Text) (how : Reading) (source : ValueSource) (values : List Text) (rows : List Row) → has_row name rows ≡ false
     → find (λ r. bytes_eq r.id name) (with_values name how source values (without name rows)) ≡ Some (record { id = name; values = values; count = None; source = Some source; reading = how })
 first_row name how source values [] none =
     ap (λ (b : Bool). cond b (Some (record { id = name; values = values; count = None; source = Some source; reading = how })) None) (same_bytes name)
-first_row name how source values (r ∷ rs) none = by_row (first_row name how source values rs) (bytes_eq r.id name) refl none
-  where
-    added : Row
-    added = record { id = name; values = values; count = None; source = Some source; reading = how }
-
-    by_row : (has_row name rs ≡ false → find (λ x. bytes_eq x.id name) (with_values name how source values (without name rs)) ≡ Some added)
-        → (b : Bool) → bytes_eq r.id name ≡ b → (b || has_row name rs) ≡ false
-        → find (λ x. bytes_eq x.id name) (with_values name how source values (cond b ([] ++ rs) (r ∷ without name rs))) ≡ Some added
-    by_row rest true is e = cc
-    by_row rest false is e =
-        ap (λ (b : Bool). find (λ x. bytes_eq x.id name) (cond b ((record r { values = r.values ++ values; source = Some (stronger r.source source) } ∷ []) ++ without name rs) (r ∷ with_values name how source values (without name rs)))) is
-        ∙ (ap (λ (b : Bool). cond b (Some r) (find (λ x. bytes_eq x.id name) (with_values name how source values (without name rs)))) is
-        ∙ rest e)
-
-some_kind : (k : ErrorKind) (ks : Kinds) → k ∷ ks ≡ [] → ⊥
-some_kind k ks e = cc
-
-true_is_not_false : (b : Bool) → b ≡ true → b ≡ false → ⊥
-true_is_not_false b is other = let bad : true ≡ false = sym is ∙ other in cc
+first_row name how source values (r ∷ rs) none =
+    let rest = first_row name how source values rs in
+    grind (arith, rest, none)
 
 -- one value alone is in the range
 only_one : (empty one : Bool) → cond empty (kind.InvalidValue ∷ []) (cond one [] (kind.WrongNumberOfValues ∷ [])) ≡ [] → one ≡ true
-only_one true one e = cc
-only_one false true e = refl
-only_one false false e = cc
+only_one empty one e = grind arith
 
 -- an option that sets another value keeps it
 pub other_keeps : (s : Shape) (holds : Row → Bool) (name : Text) (a : Rule) → action_of a ≡ Set → bytes_eq a.id name ≡ false → Keeps s (HasRow holds name) a
@@ -309,34 +224,23 @@ given_keeps s holds name parser once plainly passes values rows none p = by_valu
     rule : Rule
     rule = filled (required_rule name parser)
 
-    unrepeated : (has again : Bool) → again ≡ false → cond (has && not again) (kind.ArgumentConflict ∷ []) [] ≡ [] → has ≡ false
-    unrepeated false again e free = refl
-    unrepeated true false e free = cc
-    unrepeated true true e free = cc
-
     by_values : (values : List Text) → use_fault s.args_override_self rule values rows ≡ [] → HasRow holds name (used rule values rows)
-    by_values [] free = absurd (some_kind _ _ free)
+    by_values [] free = cc
     by_values (v ∷ w ∷ vs) free =
         let many = length (v ∷ w ∷ vs) in
         let one : (1 == many) ≡ true = only_one (many == 0) (1 == many) (both_empty (range_kinds 1 1 many) _ free).0 in
         let other : (1 == many) ≡ false = ne_eqb 1 many (λ e. omega (arith, e)) in
-        absurd (true_is_not_false _ one other)
+        absurd (both_ways _ other one)
     by_values (v ∷ []) free =
         let each = both_empty (repeat_fault s.args_override_self name rows) (values_fault rule (v ∷ [])) free in
-        let fresh : has_row name rows ≡ false = unrepeated (has_row name rows) s.args_override_self once each.0 in
+        let fresh : has_row name rows ≡ false = grind (arith, once, each.0) in
         let row = first_row name AsWritten CommandLine (v ∷ []) rows fresh in
         let has : HasRow holds name (used_as Set name AsWritten (v ∷ []) rows) =
         subst (λ (o : Option Row). MatchOption o (Unit {0}) (λ r. holds r ≡ true)) (sym row) (passes v each.1) in
         subst (λ (how : Reading). HasRow holds name (used_as Set name how (v ∷ []) rows)) (sym plainly) has
 
 pub number_keeps : (s : Shape) (name : Text) (most : ℕ) → s.args_override_self ≡ false → Keeps s (HasRow (is_number most) name) (filled (number_rule name most))
-number_keeps s name most once = given_keeps s (is_number most) name (Some (Unsigned 1 most)) once refl (
-    λ v free. ap (λ (b : Bool). is_some (cond b (Some (digits_value 10 (without_leading_plus v))) None)) (accepted (is_unsigned_in 1 most v) free)
-    )
-  where
-    accepted : (b : Bool) → or_else (cond b [] (refused_kind (Unsigned 1 most) ∷ [])) [] ≡ [] → b ≡ true
-    accepted true e = refl
-    accepted false e = cc
+number_keeps s name most once = given_keeps s (is_number most) name (Some (Unsigned 1 most)) once refl (λ v free. grind (arith, free))
 
 pub text_keeps : (s : Shape) (name : Text) → s.args_override_self ≡ false → Keeps s (HasRow is_text name) (filled (text_rule name))
 text_keeps s name once = given_keeps s is_text name None once refl (λ v free. refl)
@@ -345,22 +249,13 @@ text_keeps s name once = given_keeps s is_text name None once refl (λ v free. r
 
 no_defaults : (c : List Rule) (rows : List Row) → AllByRecursion (λ a. a.defaults ≡ []) c → fold with_default rows c ≡ rows
 no_defaults [] rows none = refl
-no_defaults (a ∷ c) rows none = ap (λ (now : List Row). fold with_default now c) (same (has_row a.id rows)) ∙ no_defaults c rows none.1
-  where
-    empty : (defaults : List Text) → defaults ≡ [] → default_rows a.id (reading_by a) defaults rows ≡ rows
-    empty [] e = refl
-    empty (v ∷ vs) e = cc
-
-    same : (b : Bool) → cond b rows (default_rows a.id (reading_by a) a.defaults rows) ≡ rows
-    same true = refl
-    same false = empty a.defaults none.0
+no_defaults (a ∷ c) rows none =
+    let same : with_default rows a ≡ rows = grind (arith, none.0) in
+    ap (λ (now : List Row). fold with_default now c) same ∙ no_defaults c rows none.1
 
 -- nothing that is required is missing
 none_missing : (help sub missing : Bool) → check_kinds help sub missing ≡ [] → missing ≡ false
-none_missing true sub missing e = cc
-none_missing false true missing e = cc
-none_missing false false true e = cc
-none_missing false false false e = refl
+none_missing help sub missing e = grind arith
 
 required_row : (s : Shape) (holds : Row → Bool) (name : Text) → AllByRecursion (Keeps s (HasRow holds name)) s.rules → AllByRecursion (λ a. a.defaults ≡ []) s.rules
     → s.subcommand_negates_reqs ≡ false

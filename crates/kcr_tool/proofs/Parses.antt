@@ -1,7 +1,6 @@
 -- The program's command line is simple, so its matches are exact.
-use Rattle.std.proofs.Common.{◌≡◌, ◌⊎◌, ℕ, List, [], ◌∷◌, Bool, true, false, cond, codes, Option, Some, None, option_map, refl, sym, ap, inl, inr, ◌∙◌}
-use Rattle.std.specs.Prelude.{Box, IsSome, option_and_then}
-use Rattle.std.specs.Str.{bytes_eq}
+use Rattle.std.proofs.Common.{◌≡◌, ◌⊎◌, List, [], ◌∷◌, true, Option, Some, None, option_map, refl, sym, ap, inl, inr, ◌∙◌, arith}
+use Rattle.std.specs.Prelude.{Box, IsSome}
 use Rattle.std.specs.Box.{box_value}
 use Rattle.clap.specs.declared.error.kind.ErrorKind.{ErrorKind}
 use Rattle.clap.specs.declared.error.kind.ErrorKind.TheVariants.{OutOfMemory}
@@ -11,9 +10,9 @@ use Rattle.clap.specs.declared.parser.matches.SubCommand.{SubCommand}
 use Rattle.clap.specs.declared.parser.matches.ArgMatches.TheViews.{out-SubCommand}
 use Rattle.clap.proofs.OnLiterals.{clap_on_literals}
 use Rattle.kcr_tool.specs.Commands.{tool_app}
-use Rattle.kcr_tool.specs.Tasks.{met_in, faults_of, task_of, task_at, file_of, file_at, into_of, into_at, number_at, serve_at, ceremony_at}
+use Rattle.kcr_tool.specs.Tasks.{met_in, faults_of, task_of, task_at, file_of, file_at, into_of, into_at}
 use Rattle.kcr_tool.specs.declared.words.Task.{Task}
-use Rattle.kcr_tool.specs.declared.words.Task.TheVariants.{Run, Serve, Print, Attendance, Custody, Audit, Verify, Rebuild}
+use Rattle.kcr_tool.specs.declared.words.Task.TheVariants.{Rebuild}
 use Rattle.clap.specs.declared.parser.matches.ArgMatches.TheViews.{out-ArgMatches}
 
 pub tool-simple : is_simple tool_app ≡ true
@@ -77,70 +76,8 @@ pub into_is : (words : List Text) (name : Text) (rows : List Row) (file : Option
 unfolding into_of
 into_is words name rows file e h = rw e (sym h)
 
--- no other task is a rebuild
-no_serve : (port connections : Option ℕ) → option_and_then (λ p. option_map (λ c. Serve p c) connections) port ≡ Some Rebuild → ⊥
-no_serve None connections e = cc
-no_serve (Some p) None e = cc
-no_serve (Some p) (Some c) e = cc
-
-no_report : (f : ℕ → Task) → ((n : ℕ) → f n ≡ Rebuild → ⊥) → (o : Option ℕ) → option_map f o ≡ Some Rebuild → ⊥
-no_report f apart None e = cc
-no_report f apart (Some n) e = apart n (let is : f n ≡ Rebuild = cc in is)
-
-no_run : Some Run ≡ Some Rebuild → ⊥
-no_run e = cc
-
-no_custody : Some Custody ≡ Some Rebuild → ⊥
-no_custody e = cc
-
-no_audit : Some Audit ≡ Some Rebuild → ⊥
-no_audit e = cc
-
-no_verify : Some Verify ≡ Some Rebuild → ⊥
-no_verify e = cc
-
-no_task : None ≡ Some Rebuild → ⊥
-no_task e = cc
-
-no_print : (n : ℕ) → Print n ≡ Rebuild → ⊥
-no_print n e = cc
-
-no_attendance : (n : ℕ) → Attendance n ≡ Rebuild → ⊥
-no_attendance n e = cc
-
-never : (a b c d e f g h : Bool) (serve : Option Task) (print attendance : Option ℕ) → (serve ≡ Some Rebuild → ⊥)
-    → cond a (Some Run) (cond b serve (cond c (option_map Print print) (cond d (option_map Attendance attendance)
-    (cond e (Some Custody) (cond f (Some Audit) (cond g (Some Verify) (cond h None None))))))) ≡ Some Rebuild → ⊥
-never true b c d e f g h s p q other is = no_run is
-never false true c d e f g h s p q other is = other is
-never false false true d e f g h s p q other is = no_report Print no_print p is
-never false false false true e f g h s p q other is = no_report Attendance no_attendance q is
-never false false false false true f g h s p q other is = no_custody is
-never false false false false false true g h s p q other is = no_audit is
-never false false false false false false true h s p q other is = no_verify is
-never false false false false false false false true s p q other is = no_task is
-never false false false false false false false false s p q other is = no_task is
-
 -- a rebuild names one
 pub rebuild_into : {X : Type 0} (f : X → Text) (name : Text) (rows : List Row) (t : Task) (into : Option X) → task_at (name, rows) ≡ Some t → t ≡ Rebuild
     → option_map f into ≡ into_at rows → IsSome into
-rebuild_into {X} f name rows t into task is named = by_into into named
-  where
-    is_task : Option Text → Option Task
-    is_task file =
-        cond (bytes_eq name (codes "run")) (Some Run)
-        (cond (bytes_eq name (codes "serve")) (serve_at rows)
-        (cond (bytes_eq name (codes "print")) (option_map Print (ceremony_at rows))
-        (cond (bytes_eq name (codes "attendance")) (option_map Attendance (ceremony_at rows))
-        (cond (bytes_eq name (codes "custody")) (Some Custody)
-        (cond (bytes_eq name (codes "audit")) (Some Audit)
-        (cond (bytes_eq name (codes "verify")) (Some Verify)
-        (cond (bytes_eq name (codes "rebuild")) (option_map (λ into. Rebuild) file) None)))))))
-
-    by_into : (into : Option X) → option_map f into ≡ into_at rows → IsSome into
-    by_into (Some x) e = refl
-    by_into None e =
-        absurd (never (bytes_eq name (codes "run")) (bytes_eq name (codes "serve")) (bytes_eq name (codes "print")) (bytes_eq name (codes "attendance"))
-        (bytes_eq name (codes "custody")) (bytes_eq name (codes "audit")) (bytes_eq name (codes "verify")) (bytes_eq name (codes "rebuild"))
-        (serve_at rows) (ceremony_at rows) (ceremony_at rows) (no_serve (number_at 65535 (codes "port") rows) (number_at 1000000 (codes "connections") rows))
-        (ap is_task e ∙ (task ∙ ap (λ (x : Task). Some x) is)))
+rebuild_into f name rows t (Some x) task is named = refl
+rebuild_into f name rows t None task is named = grind (arith, task, is, named)

@@ -1,22 +1,22 @@
 -- Words that are taken hold a task.
-use Rattle.std.proofs.Common.{◌≡◌, ◌&&◌, ◌||◌, ℕ, zero, suc, Bool, true, false, not, cond, codes, List, [], ◌∷◌, Option, Some, None, refl, sym, ap, ◌∙◌, subst, option_map}
+use Rattle.std.proofs.Common.{◌≡◌, ◌&&◌, ℕ, zero, suc, Bool, true, false, not, codes, List, [], ◌∷◌, Option, Some, None, refl, sym, ap, ◌∙◌, subst, option_map, arith, inl, inr}
 use Rattle.std.specs.Prelude.{is_some, fold, find, MatchOption, option_and_then}
 use Rattle.std.specs.List.{AllByRecursion}
 use Rattle.std.specs.Str.{bytes_eq}
+use Rattle.std.proofs.Math.Bool.{or-false}
+use Rattle.std.proofs.lemmas.Bool.{cases_Bool}
 use Rattle.std.proofs.lemmas.Slice.Eq.{bytes_eq-Decides}
 use Rattle.clap.specs.Words.{Row, Shape, Text, subcommand_rows_of}
 use Rattle.clap.specs.declared.parser.matches.ArgMatches.{ArgMatches}
-use Rattle.clap.specs.Walk.{Held, Names, Rule, Step, Waiting, Walk, Outcome, done, waits, plain, refused, idle, option, positional, next, trailing, subcommand, value, walked, walked_from, walk, walk_from, word_met, after_step, after_flag, plain_word, long_or_other, short_or_plain, subcommand_met, subcommand_or_other, to_positional, arg_by_index, nothing_held, answers_to, bundle, long_met, arg_by_long, stop_after, finished, settled, rows_after}
-use Rattle.clap.specs.Lexer.{long_of, short_of}
+use Rattle.clap.specs.Walk.{Held, Names, Rule, Step, Waiting, Walk, next, trailing, subcommand, value, walked, walk, walk_from, word_met, after_step, nothing_held, answers_to, stop_after, finished, settled, rows_after}
 use Rattle.clap.specs.Kinds.{or_else, check_kinds}
 use Rattle.clap.specs.Takes.{is_given}
 use Rattle.clap.specs.Facts.{explicit_source}
 use Rattle.std.specs.List.{list_any}
 use Rattle.std.specs.Option.{option_map_or}
-use Rattle.clap.specs.Faults.{check_fault, defaults_fault, settle_fault, entered_fault, built_fault, level_fault, walk_fault, turn_fault, word_fault, step_fault, other_fault}
-use Rattle.clap.specs.declared.error.kind.ErrorKind.TheVariants as kind
-use Rattle.clap.specs.Simple.{App, built, names_of, label_of, entered, rows_at, argument_words, new_shape, filled, help_rule}
-use Rattle.kcr_tool.specs.Commands.{tool_app, file_rule, number_rule}
+use Rattle.clap.specs.Faults.{check_fault, defaults_fault, settle_fault, entered_fault, built_fault, level_fault, walk_fault, turn_fault, word_fault, step_fault}
+use Rattle.clap.specs.Simple.{App, built, built_leaf, names_of, label_of, entered, rows_at, argument_words, new_shape, filled, help_rule}
+use Rattle.kcr_tool.specs.Commands.{tool_app, file_rule, number_rule, of_ceremony}
 use Rattle.kcr_tool.specs.Tasks.{task_at, met_in, faults_of, number_at, ceremony_at, into_at}
 use Rattle.kcr_tool.specs.declared.words.Task.{Task}
 use Rattle.kcr_tool.specs.declared.words.Task.TheVariants.{Serve, Print, Attendance, Rebuild}
@@ -32,70 +32,23 @@ StepsPastHelp (next waiting) = Unit {0}
 StepsPastHelp (trailing position) = Unit {0}
 StepsPastHelp value = Unit {0}
 
-plain_past : (c : List Rule) (waiting : Waiting) (word : Text) (h : Held) → StepsPastHelp (plain_word c waiting word h).1
-plain_past c idle word h = tt
-plain_past c (option id) word h = tt
-plain_past c positional word h = tt
-
-flag_past : (c : List Rule) (waiting : Waiting) (word : Text) (h : Held) (o : Outcome) → StepsPastHelp (after_flag c waiting word h o).1
-flag_past c waiting word h done = tt
-flag_past c waiting word h (waits id) = tt
-flag_past c waiting word h plain = plain_past c waiting word h
-flag_past c waiting word h refused = plain_past c waiting word h
-
-short_past : (c : List Rule) (waiting : Waiting) (word : Text) (o : Option Text) (h : Held) → StepsPastHelp (short_or_plain c waiting word o h).1
-short_past c waiting word (Some flags) h = let met = bundle c flags h in flag_past c waiting word met.0 met.1
-short_past c waiting word None h = plain_past c waiting word h
-
-other_past : (c : List Rule) (waiting : Waiting) (word : Text) (long : Option (Text × Option Text)) (h : Held)
-    → StepsPastHelp (long_or_other c waiting word long h).1
-other_past c waiting word (Some p) h = let met = long_met c (arg_by_long c p.0) p.1 h in flag_past c waiting word met.0 met.1
-other_past c waiting word None h = short_past c waiting word (short_of word) h
-
 -- a word at which nothing fails
-word_past : (s : Shape) → s.disable_help_subcommand ≡ false → (name : Option Text) (waiting : Waiting) (position : ℕ) (word : Text) (h : Held)
-    → other_fault s name word h ≡ [] → StepsPastHelp (subcommand_or_other s.rules name waiting position word h).1
-word_past s helps (Some name) waiting position word h none = by_name (bytes_eq name (codes "help")) s.disable_help_subcommand helps none
-  where
-    by_name : (is off : Bool) → off ≡ false → cond (is && not off) (kind.DisplayHelp ∷ kind.InvalidSubcommand ∷ []) [] ≡ [] → is ≡ false
-    by_name false off e none = refl
-    by_name true false e none = cc
-    by_name true true e none = cc
-word_past s helps None waiting position word h none = by_word (bytes_eq word (45 ∷ 45 ∷ []))
-  where
-    by_word : (b : Bool) → StepsPastHelp (cond b (h, trailing position) (long_or_other s.rules waiting word (long_of word) h)).1
-    by_word true = tt
-    by_word false = other_past s.rules waiting word (long_of word) h
-
 met_past : (s : Shape) (names : Names) → s.disable_help_subcommand ≡ false → (is_trailing : Bool) (waiting : Waiting) (position : ℕ) (word : Text) (h : Held)
     → word_fault s names is_trailing waiting word h ≡ [] → StepsPastHelp (word_met s.rules names is_trailing waiting position word h).1
-met_past s names helps true waiting position word h none = tt
-met_past s names helps false waiting position word h none = word_past s helps (subcommand_met names waiting word) waiting position word h none
+met_past s names helps is_trailing waiting position word h none = grind (arith, helps, none)
 
 step_past : (c : List Rule) (word : Text) (w : Walk) (h : Held) (step : Step) → PastHelp w.stopped → StepsPastHelp step → PastHelp (after_step c word w h step).stopped
-step_past c word w h (next waiting) before is = before
-step_past c word w h (trailing position) before is = before
-step_past c word w h (subcommand name) before is = is
-step_past c word w h value before is = by_argument (arg_by_index c w.position)
-  where
-    by_argument : (a : Option Rule) → PastHelp (to_positional c a word w h).stopped
-    by_argument None = before
-    by_argument (Some a) = tt
+step_past c word w h step before is = grind (arith, before, is)
 
 turn_past : (s : Shape) (names : Names) → s.disable_help_subcommand ≡ false → (w : Walk) (word : Text) → turn_fault s names w word ≡ []
     → PastHelp w.stopped → PastHelp (walked s.rules names w word).stopped
 unfolding walked
-turn_past s names helps w word none before = by_stop w.stopped refl none
-  where
-    by_stop : (stopped : Option (Text × List Text)) → w.stopped ≡ stopped
-        → cond (is_some stopped) [] (or_else (word_fault s names w.is_trailing w.waiting word w.held)
-        (step_fault s w.position (word_met s.rules names w.is_trailing w.waiting w.position word w.held).0 (word_met s.rules names w.is_trailing w.waiting w.position word w.held).1)) ≡ []
-        → PastHelp (walked_from s.rules names stopped w word).stopped
-    by_stop (Some p) e passes = subst PastHelp e before
-    by_stop None e passes =
-        let met = word_met s.rules names w.is_trailing w.waiting w.position word w.held in
-        step_past s.rules word w met.0 met.1 before
-        (met_past s names helps w.is_trailing w.waiting w.position word w.held (both_empty _ _ passes).0)
+turn_past s names helps w word none before =
+    let met = word_met s.rules names w.is_trailing w.waiting w.position word w.held in
+    let each = both_empty (word_fault s names w.is_trailing w.waiting word w.held) (step_fault s w.position met.0 met.1) in
+    let past = met_past s names helps w.is_trailing w.waiting w.position word w.held in
+    let step = step_past s.rules word w met.0 met.1 before in
+    grind (arith, each, past, step, before)
 
 walk_past : (s : Shape) (names : Names) → s.disable_help_subcommand ≡ false → (w : Walk) (words : List Text) → walk_fault s names w words ≡ []
     → PastHelp w.stopped → PastHelp (fold (walked s.rules names) w words).stopped
@@ -107,10 +60,7 @@ walk_past s names helps w (word ∷ words) none before =
 
 -- of a parse that needs a subcommand and that nothing refuses: it entered one, and not `help`
 entered_there : (has needs helps some all : Bool) → needs ≡ true → helps ≡ false → check_kinds (not has && (helps && some)) (not has && needs) all ≡ [] → has ≡ true
-entered_there true needs helps some all need help none = refl
-entered_there false true false some all need help none = cc
-entered_there false false helps some all need help none = cc
-entered_there false true true some all need help none = cc
+entered_there has needs helps some all need help none = grind arith
 
 -- a parse that is not refused
 record IsEntered (a : App) (words : List Text) : Type 0 where
@@ -143,19 +93,13 @@ parse_past a words needs bare helps none =
 found_has : {X : Type 0} (f : X → Bool) (Q : X → Type 0) (xs : List X) → AllByRecursion (λ x. f x ≡ true → Q x) xs → is_some (find f xs) ≡ true
     → (x : X) × (find f xs ≡ Some x) × Q x
 found_has f Q [] all is = cc
-found_has {X} f Q (x ∷ xs) all is = by_test (found_has f Q xs all.1) (f x) refl is
-  where
-    by_test : (is_some (find f xs) ≡ true → (y : X) × (find f xs ≡ Some y) × Q y) → (b : Bool) → f x ≡ b → is_some (cond b (Some x) (find f xs)) ≡ true → (y : X) × (cond b (Some x) (find f xs) ≡ Some y) × Q y
-    by_test later true e some = (x, refl, all.0 e)
-    by_test later false e some = later some
+found_has f Q (x ∷ xs) all is = elim (cases_Bool (f x)) [
+  | inl e ↦ (x, rw e refl, all.0 e)
+  | inr e ↦ (let later = found_has f Q xs all.1 (rw e at is) in (later.0, rw e later.1, later.2))
+]
 
 some_mapped : {X Y : Type 0} (g : X → Y) (o : Option X) → is_some (option_map g o) ≡ true → is_some o ≡ true
-some_mapped g None is = is
-some_mapped g (Some x) is = refl
-
-or_alone : (b : Bool) → (b || false) ≡ true → b ≡ true
-or_alone true e = refl
-or_alone false e = e
+some_mapped g o is = grind arith
 
 not_help : (name : Text) → bytes_eq (codes "help") name ≡ true → bytes_eq name (codes "help") ≡ false → ⊥
 not_help name is past =
@@ -193,18 +137,6 @@ nine_subs : (built tool_app).subs ≡ sub 0 ∷ sub 1 ∷ sub 2 ∷ sub 3 ∷ su
 unfolding tool_app
 nine_subs = refl
 
-required_there : (b : Bool) → ((b && true) || false) ≡ false → b ≡ false
-required_there true e = cc
-required_there false e = refl
-
-given : (b : Bool) → not b ≡ false → b ≡ true
-given true e = refl
-given false e = cc
-
-either_none : (a b : Bool) → (a || b) ≡ false → (a ≡ false) × (b ≡ false)
-either_none true b e = cc
-either_none false b e = (refl, e)
-
 run_holds : HoldsTask (sub 0)
 unfolding tool_app
 run_holds words none = refl
@@ -222,32 +154,21 @@ unfolding tool_app
 verify_holds words none = refl
 
 some_task : {X : Type 0} (f : X → Task) (o : Option X) → is_some o ≡ true → is_some (option_map f o) ≡ true
-some_task f None is = is
-some_task f (Some n) is = refl
+some_task f o is = grind arith
 
 both_there : (a b : Option ℕ) → is_some a ≡ true → is_some b ≡ true → is_some (option_and_then (λ port. option_map (λ connections. Serve port connections) b) a) ≡ true
-both_there None b one two = one
-both_there (Some x) None one two = two
-both_there (Some x) (Some y) one two = refl
+both_there a b one two = grind arith
 
--- the rules of a subcommand about a ceremony: the file, the ceremony, help
-print_ceremony : (words : List Text) → level_fault (sub 2) [] nothing_held words false [] ≡ [] → is_some (ceremony_at (rows_after (sub 2).rules [] words)) ≡ true
-unfolding tool_app
-print_ceremony words none =
-    required_number (sub 2) (codes "ceremony") 9999
-    (other_keeps (sub 2) (is_number 9999) (codes "ceremony") (filled file_rule) refl refl, (number_keeps (sub 2) (codes "ceremony") 9999 refl, (help_keeps (sub 2) _ (filled help_rule) refl, tt)))
-    (refl, (refl, (refl, tt))) refl
-    (λ rows free. given (is_given (codes "ceremony") rows) (either_none (not (is_given (codes "ceremony") rows)) false free).0)
-    words none
+-- a subcommand about a ceremony, whose rules are the file, the ceremony, help
+abbrev about : Text → Shape
+about name = built_leaf (of_ceremony name).top
 
-attendance_ceremony : (words : List Text) → level_fault (sub 3) [] nothing_held words false [] ≡ [] → is_some (ceremony_at (rows_after (sub 3).rules [] words)) ≡ true
-unfolding tool_app
-attendance_ceremony words none =
-    required_number (sub 3) (codes "ceremony") 9999
-    (other_keeps (sub 3) (is_number 9999) (codes "ceremony") (filled file_rule) refl refl, (number_keeps (sub 3) (codes "ceremony") 9999 refl, (help_keeps (sub 3) _ (filled help_rule) refl, tt)))
-    (refl, (refl, (refl, tt))) refl
-    (λ rows free. given (is_given (codes "ceremony") rows) (either_none (not (is_given (codes "ceremony") rows)) false free).0)
-    words none
+ceremony_there : (name : Text) (words : List Text) → level_fault (about name) [] nothing_held words false [] ≡ []
+    → is_some (ceremony_at (rows_after (about name).rules [] words)) ≡ true
+ceremony_there name words none =
+    required_number (about name) (codes "ceremony") 9999
+    (other_keeps (about name) (is_number 9999) (codes "ceremony") (filled file_rule) refl refl, (number_keeps (about name) (codes "ceremony") 9999 refl, (help_keeps (about name) _ (filled help_rule) refl, tt)))
+    (refl, (refl, (refl, tt))) refl (λ rows free. grind arith) words none
 
 serve_port : (words : List Text) → level_fault (sub 1) [] nothing_held words false [] ≡ [] → is_some (number_at 65535 (codes "port") (rows_after (sub 1).rules [] words)) ≡ true
 unfolding tool_app
@@ -255,8 +176,7 @@ serve_port words none =
     required_number (sub 1) (codes "port") 65535
     (other_keeps (sub 1) (is_number 65535) (codes "port") (filled file_rule) refl refl, (number_keeps (sub 1) (codes "port") 65535 refl, (other_keeps (sub 1) (is_number 65535) (codes "port") (filled (number_rule (codes "connections") 1000000)) refl refl, (help_keeps (sub 1) _ (filled help_rule) refl, tt))))
     (refl, (refl, (refl, (refl, tt)))) refl
-    (λ rows free. given (is_given (codes "port") rows) (either_none (not (is_given (codes "port") rows)) _ free).0)
-    words none
+    (λ rows free. grind arith) words none
 
 serve_connections : (words : List Text) → level_fault (sub 1) [] nothing_held words false [] ≡ [] → is_some (number_at 1000000 (codes "connections") (rows_after (sub 1).rules [] words)) ≡ true
 unfolding tool_app
@@ -264,9 +184,7 @@ serve_connections words none =
     required_number (sub 1) (codes "connections") 1000000
     (other_keeps (sub 1) (is_number 1000000) (codes "connections") (filled file_rule) refl refl, (other_keeps (sub 1) (is_number 1000000) (codes "connections") (filled (number_rule (codes "port") 65535)) refl refl, (number_keeps (sub 1) (codes "connections") 1000000 refl, (help_keeps (sub 1) _ (filled help_rule) refl, tt))))
     (refl, (refl, (refl, (refl, tt)))) refl
-    (λ rows free. given (is_given (codes "connections") rows)
-    (either_none (not (is_given (codes "connections") rows)) false (either_none (not (is_given (codes "port") rows)) _ free).1).0)
-    words none
+    (λ rows free. grind arith) words none
 
 serve_holds : HoldsTask (sub 1)
 unfolding tool_app
@@ -274,11 +192,11 @@ serve_holds words none = both_there _ _ (serve_port words none) (serve_connectio
 
 print_holds : HoldsTask (sub 2)
 unfolding tool_app
-print_holds words none = some_task Print _ (print_ceremony words none)
+print_holds words none = some_task Print _ (ceremony_there (codes "print") words none)
 
 attendance_holds : HoldsTask (sub 3)
 unfolding tool_app
-attendance_holds words none = some_task Attendance _ (attendance_ceremony words none)
+attendance_holds words none = some_task Attendance _ (ceremony_there (codes "attendance") words none)
 
 -- the rules of `rebuild`: the file, the new file, help
 rebuild_into : (words : List Text) → level_fault (sub 7) [] nothing_held words false [] ≡ [] → is_some (into_at (rows_after (sub 7).rules [] words)) ≡ true
@@ -287,8 +205,7 @@ rebuild_into words none =
     required_text (sub 7) (codes "into")
     (other_keeps (sub 7) is_text (codes "into") (filled file_rule) refl refl, (text_keeps (sub 7) (codes "into") refl, (help_keeps (sub 7) _ (filled help_rule) refl, tt)))
     (refl, (refl, (refl, tt))) refl
-    (λ rows free. given (is_given (codes "into") rows) (either_none (not (is_given (codes "into") rows)) false free).0)
-    words none
+    (λ rows free. grind arith) words none
 
 rebuild_holds : HoldsTask (sub 7)
 unfolding tool_app
@@ -298,48 +215,23 @@ help_label : label_of (sub 8) ≡ (codes "help", [])
 unfolding tool_app
 help_label = refl
 
+help_holds : (name : Text) → bytes_eq name (codes "help") ≡ false → answers_to name (label_of (sub 8)) ≡ true → HoldsTask (sub 8)
+help_holds name past is = absurd (not_help name (sym (or-false (bytes_eq (codes "help") name)) ∙ sym (ap (answers_to name) help_label) ∙ is) past)
+
 subs_hold : (name : Text) → bytes_eq name (codes "help") ≡ false → AllByRecursion (λ s. answers_to name (label_of s) ≡ true → HoldsTask s) (built tool_app).subs
 subs_hold name past =
-    subst (AllByRecursion (λ s. answers_to name (label_of s) ≡ true → HoldsTask s)) (sym nine_subs) (
-      (λ _. run_holds),
-      (
-        (λ _. serve_holds),
-        (
-          (λ _. print_holds),
-          (
-            (λ _. attendance_holds),
-            (
-              (λ _. custody_holds),
-              (
-                (λ _. audit_holds),
-                (
-                  (λ _. verify_holds),
-                  ((λ _. rebuild_holds), ((λ is. absurd (not_help name (or_alone (bytes_eq (codes "help") name) (sym (ap (answers_to name) help_label) ∙ is)) past)), tt)),
-                ),
-              ),
-            ),
-          ),
-        ),
-      ),
-    )
+    let help = help_holds name past in
+    rw nine_subs (search (run_holds, serve_holds, print_holds, attendance_holds, custody_holds, audit_holds, verify_holds, rebuild_holds, help) depth 24)
 
-needs_one : (built tool_app).top.subcommand_required ≡ true
+top_is : let top = (built tool_app).top in (top.subcommand_required ≡ true) × (top.arg_required_else_help ≡ false) × (top.disable_help_subcommand ≡ false)
 unfolding tool_app
-needs_one = refl
-
-takes_none : (built tool_app).top.arg_required_else_help ≡ false
-unfolding tool_app
-takes_none = refl
-
-has_help : (built tool_app).top.disable_help_subcommand ≡ false
-unfolding tool_app
-has_help = refl
+top_is = (refl, refl, refl)
 
 -- words that are not refused hold a task
 pub task_there : (words : List Text) → faults_of words ≡ [] → (p : Text × List Row) × (met_in words ≡ Some p) × (is_some (task_at p) ≡ true)
 unfolding faults_of met_in
 task_there words none =
-    let entry = parse_past (built tool_app) (argument_words tool_app words) needs_one takes_none has_help none in
+    let entry = parse_past (built tool_app) (argument_words tool_app words) top_is.0 top_is.1 top_is.2 none in
     entered_task (built tool_app) _ entry.past entry.there entry.calm subs_hold
 
 -- so a parse that succeeds has entered a subcommand
