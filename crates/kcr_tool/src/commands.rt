@@ -44,19 +44,70 @@ fn into_option<'a>(alloc: Global) -> Arg<'a>
         .help("The file of the new register, which is not there yet, or holds nothing")
 }
 
+/// What the help says of a subcommand.
+#[derive(Clone, Copy)]
+struct Help {
+    name: &'static str,
+    about: &'static str,
+    example: &'static str,
+}
+
+const RUN: Help = Help {
+    name: "run",
+    about: "Answers the HTTP requests on standard input on standard output",
+    example: "Example: kcr run --file register.db < requests.http",
+};
+
+const SERVE: Help = Help {
+    name: "serve",
+    about: "Answers HTTP requests on a port of 127.0.0.1, one connection after the other",
+    example: "Example: kcr serve --file register.db --port 8053 --connections 100",
+};
+
+const PRINT: Help = Help {
+    name: "print",
+    about: "Prints the annotated script of a ceremony",
+    example: "Example: kcr print --file register.db --ceremony 61",
+};
+
+const ATTENDANCE: Help = Help {
+    name: "attendance",
+    about: "Prints the attendance of a ceremony as comma separated values",
+    example: "Example: kcr attendance --file register.db --ceremony 61",
+};
+
+const CUSTODY: Help = Help {
+    name: "custody",
+    about: "Prints the safes, the bags with their items, and the loose items",
+    example: "Example: kcr custody --file register.db",
+};
+
+const AUDIT: Help = Help {
+    name: "audit",
+    about: "Tells what is wrong in the rows of the register, if anything is",
+    example: "Example: kcr audit --file register.db",
+};
+
+const VERIFY: Help = Help {
+    name: "verify",
+    about: "Tells whether the register is the one of its own commands",
+    example: "Example: kcr verify --file register.db",
+};
+
+const REBUILD: Help = Help {
+    name: "rebuild",
+    about: "Makes a new register of the commands of this one, and tells whether it is the same",
+    example: "Example: kcr rebuild --file register.db --into new.db",
+};
+
 /// A subcommand over a register, with the option of its file.
-fn over_file<'a>(
-    alloc: Global,
-    name: &'a str,
-    about: &'a str,
-    example: &'a str,
-) -> Result<Command<'a>, AllocError>
-    ensures app { IfOk result (λ c. app_of c ≡ of_file name.entry.now) }
+fn over_file<'a>(alloc: Global, help: Help) -> Result<Command<'a>, AllocError>
+    ensures app { IfOk result (λ c. app_of c ≡ of_file help.name.now) }
     ensures local { IfOk result (λ c. (out-Command c).has_globals ≡ false) }
 {
-    Command::new(alloc, name)
-        .about(about)
-        .after_help(example)
+    Command::new(alloc, help.name)
+        .about(help.about)
+        .after_help(help.example)
         .arg(file_option(alloc))
 }
 
@@ -76,16 +127,11 @@ fn with_number<'a>(
 }
 
 /// A subcommand about one ceremony of a register.
-fn over_ceremony<'a>(
-    alloc: Global,
-    name: &'a str,
-    about: &'a str,
-    example: &'a str,
-) -> Result<Command<'a>, AllocError>
-    ensures app { IfOk result (λ c. app_of c ≡ of_ceremony name.entry.now) }
+fn over_ceremony<'a>(alloc: Global, help: Help) -> Result<Command<'a>, AllocError>
+    ensures app { IfOk result (λ c. app_of c ≡ of_ceremony help.name.now) }
     ensures local { IfOk result (λ c. (out-Command c).has_globals ≡ false) }
 {
-    let command = over_file(alloc, name, about, example)?;
+    let command = over_file(alloc, help)?;
     with_number(
         alloc,
         command,
@@ -95,28 +141,11 @@ fn over_ceremony<'a>(
     )
 }
 
-fn run<'a>(alloc: Global) -> Result<Command<'a>, AllocError>
-    ensures app { IfOk result (λ c. app_of c ≡ of_file (codes "run")) }
-    ensures local { IfOk result (λ c. (out-Command c).has_globals ≡ false) }
-{
-    over_file(
-        alloc,
-        "run",
-        "Answers the HTTP requests on standard input on standard output",
-        "Example: kcr run --file register.db < requests.http",
-    )
-}
-
 fn serve<'a>(alloc: Global) -> Result<Command<'a>, AllocError>
     ensures app { IfOk result (λ c. app_of c ≡ serve_app) }
     ensures local { IfOk result (λ c. (out-Command c).has_globals ≡ false) }
 {
-    let command = over_file(
-        alloc,
-        "serve",
-        "Answers HTTP requests on a port of 127.0.0.1, one connection after the other",
-        "Example: kcr serve --file register.db --port 8053 --connections 100",
-    )?;
+    let command = over_file(alloc, SERVE)?;
     let command = with_number(alloc, command, "port", 65_535, "The port, 1 to 65535")?;
     with_number(
         alloc,
@@ -127,76 +156,11 @@ fn serve<'a>(alloc: Global) -> Result<Command<'a>, AllocError>
     )
 }
 
-fn print<'a>(alloc: Global) -> Result<Command<'a>, AllocError>
-    ensures app { IfOk result (λ c. app_of c ≡ of_ceremony (codes "print")) }
-    ensures local { IfOk result (λ c. (out-Command c).has_globals ≡ false) }
-{
-    over_ceremony(
-        alloc,
-        "print",
-        "Prints the annotated script of a ceremony",
-        "Example: kcr print --file register.db --ceremony 61",
-    )
-}
-
-fn attendance<'a>(alloc: Global) -> Result<Command<'a>, AllocError>
-    ensures app { IfOk result (λ c. app_of c ≡ of_ceremony (codes "attendance")) }
-    ensures local { IfOk result (λ c. (out-Command c).has_globals ≡ false) }
-{
-    over_ceremony(
-        alloc,
-        "attendance",
-        "Prints the attendance of a ceremony as comma separated values",
-        "Example: kcr attendance --file register.db --ceremony 61",
-    )
-}
-
-fn custody<'a>(alloc: Global) -> Result<Command<'a>, AllocError>
-    ensures app { IfOk result (λ c. app_of c ≡ of_file (codes "custody")) }
-    ensures local { IfOk result (λ c. (out-Command c).has_globals ≡ false) }
-{
-    over_file(
-        alloc,
-        "custody",
-        "Prints the safes, the bags with their items, and the loose items",
-        "Example: kcr custody --file register.db",
-    )
-}
-
-fn audit<'a>(alloc: Global) -> Result<Command<'a>, AllocError>
-    ensures app { IfOk result (λ c. app_of c ≡ of_file (codes "audit")) }
-    ensures local { IfOk result (λ c. (out-Command c).has_globals ≡ false) }
-{
-    over_file(
-        alloc,
-        "audit",
-        "Tells what is wrong in the rows of the register, if anything is",
-        "Example: kcr audit --file register.db",
-    )
-}
-
-fn verify<'a>(alloc: Global) -> Result<Command<'a>, AllocError>
-    ensures app { IfOk result (λ c. app_of c ≡ of_file (codes "verify")) }
-    ensures local { IfOk result (λ c. (out-Command c).has_globals ≡ false) }
-{
-    over_file(
-        alloc,
-        "verify",
-        "Tells whether the register is the one of its own commands",
-        "Example: kcr verify --file register.db",
-    )
-}
-
 fn rebuild<'a>(alloc: Global) -> Result<Command<'a>, AllocError>
     ensures app { IfOk result (λ c. app_of c ≡ rebuild_app) }
     ensures local { IfOk result (λ c. (out-Command c).has_globals ≡ false) }
 {
-    let command = over_file(
-        alloc,
-        "rebuild",
-        "Makes a new register of the commands of this one, and tells whether it is the same",
-        "Example: kcr rebuild --file register.db --into new.db",
-    )?;
+    let command = over_file(alloc, REBUILD)?;
     command.arg(into_option(alloc))
 }
 
@@ -222,12 +186,12 @@ fn root<'a>(alloc: Global) -> Command<'a>
 pub fn tool<'a>(alloc: Global) -> Result<Command<'a>, AllocError>
     ensures { IfOk result (λ c. app_of c ≡ tool_app) }
 {
-    let tool = with(root(alloc), run(alloc)?)?;
+    let tool = with(root(alloc), over_file(alloc, RUN)?)?;
     let tool = with(tool, serve(alloc)?)?;
-    let tool = with(tool, print(alloc)?)?;
-    let tool = with(tool, attendance(alloc)?)?;
-    let tool = with(tool, custody(alloc)?)?;
-    let tool = with(tool, audit(alloc)?)?;
-    let tool = with(tool, verify(alloc)?)?;
+    let tool = with(tool, over_ceremony(alloc, PRINT)?)?;
+    let tool = with(tool, over_ceremony(alloc, ATTENDANCE)?)?;
+    let tool = with(tool, over_file(alloc, CUSTODY)?)?;
+    let tool = with(tool, over_file(alloc, AUDIT)?)?;
+    let tool = with(tool, over_file(alloc, VERIFY)?)?;
     with(tool, rebuild(alloc)?)
 }

@@ -10,11 +10,11 @@ add a b = with_subcommand a b.top
 pub returns : goal.returns
 unfolding tool_app add
 returns c =
-    let one = c.in_ok-tool.ensures ∙ ap₂ add c.root.ensures c.in_ok-run.ensures.app in
+    let one = c.in_ok-tool.ensures ∙ ap₂ add c.root.ensures c.in_ok-over_file.ensures.app in
     let two = c.in_ok-tool-2.ensures ∙ ap₂ add one c.in_ok-serve.ensures.app in
-    let three = c.in_ok-tool-3.ensures ∙ ap₂ add two c.in_ok-print.ensures.app in
-    let four = c.in_ok-tool-4.ensures ∙ ap₂ add three c.in_ok-attendance.ensures.app in
-    let five = c.in_ok-tool-5.ensures ∙ ap₂ add four c.in_ok-custody.ensures.app in
-    let six = c.in_ok-tool-6.ensures ∙ ap₂ add five c.in_ok-audit.ensures.app in
-    let seven = c.in_ok-tool-7.ensures ∙ ap₂ add six c.in_ok-verify.ensures.app in
+    let three = c.in_ok-tool-3.ensures ∙ ap₂ add two c.in_ok-over_ceremony.ensures.app in
+    let four = c.in_ok-tool-4.ensures ∙ ap₂ add three c.in_ok-over_ceremony-2.ensures.app in
+    let five = c.in_ok-tool-5.ensures ∙ ap₂ add four c.in_ok-over_file-2.ensures.app in
+    let six = c.in_ok-tool-6.ensures ∙ ap₂ add five c.in_ok-over_file-3.ensures.app in
+    let seven = c.in_ok-tool-7.ensures ∙ ap₂ add six c.in_ok-over_file-4.ensures.app in
     IfOk-weaker c.with-8.result _ _ (λ r h. h ∙ ap₂ add seven c.in_ok-rebuild.ensures.app) c.with-8.ensures
