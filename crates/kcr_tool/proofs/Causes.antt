@@ -9,7 +9,7 @@ use Rattle.kcr_base.specs.declared.counted.Counted.{Counted}
 use Rattle.kcr_desk.specs.declared.fault.DeskFault.{DeskFault}
 use Rattle.kcr_desk.specs.declared.fault.DeskFault.TheVariants as stream
 use Rattle.kcr_tool.specs.declared.fault.Fault.{Fault}
-use Rattle.kcr_tool.specs.declared.fault.Fault.TheVariants.{Open, Into, Stream, Refused, Unwritten, Net, Words}
+use Rattle.kcr_tool.specs.declared.fault.Fault.TheVariants.{Stream}
 use Rattle.kcr_tool.specs.Faults.{HasCause, StopsReading, StopsReport, StopsRebuild, StopsServing}
 
 pub stream_cause : {T R W : Type 0} (fault : DeskFault) (old_input new_input : Counted R) (old_output new_output : Counted W)
@@ -23,34 +23,16 @@ stream_cause stream.Memory old_input new_input old_output new_output read write 
 -- what stopped a report is a cause, whatever was read
 pub stops_cause : {R W : Type 0} (why : Fault) (old_input new_input : Counted R) (old_output new_output : Counted W)
     → StopsReport old_output new_output why → HasCause why old_input new_input old_output new_output
-stops_cause (Open fault) i j o p stops = absurd stops
-stops_cause (Into fault) i j o p stops = absurd stops
-stops_cause (Stream fault) i j o p stops = absurd stops
-stops_cause (Refused refusal) i j o p stops = tt
-stops_cause Unwritten i j o p stops = stops
-stops_cause Net i j o p stops = tt
-stops_cause Words i j o p stops = absurd stops
+stops_cause why i j o p stops = grind (arith, stops)
 
 -- and so is what stopped a rebuild, which reads nothing
 pub rebuild_cause : {R W : Type 0} (why : Fault) (input : Counted R) (old_output new_output : Counted W)
     → StopsRebuild old_output new_output why → HasCause why input input old_output new_output
-rebuild_cause (Into fault) i o p same = (refl, same)
-rebuild_cause (Open fault) i o p stops = absurd stops
-rebuild_cause (Stream fault) i o p stops = absurd stops
-rebuild_cause (Refused refusal) i o p stops = tt
-rebuild_cause Unwritten i o p stops = stops
-rebuild_cause Net i o p stops = absurd stops
-rebuild_cause Words i o p stops = absurd stops
+rebuild_cause why i o p stops = grind (arith, stops)
 
 -- and so is why the rows of a register were not read, after which nothing was read or written
 pub reading_cause : {R W : Type 0} (why : Fault) (input : Counted R) (output : Counted W) → StopsReading why → HasCause why input input output output
-reading_cause (Open fault) i o stops = (refl, refl)
-reading_cause (Into fault) i o stops = absurd stops
-reading_cause (Stream fault) i o stops = absurd stops
-reading_cause (Refused refusal) i o stops = tt
-reading_cause Unwritten i o stops = absurd stops
-reading_cause Net i o stops = absurd stops
-reading_cause Words i o stops = absurd stops
+reading_cause why i o stops = grind (arith, stops)
 
 -- and so is what stopped the listening
 pub serving_cause : {R W : Type 0} (why : Fault) (old_input new_input : Counted R) (old_output new_output : Counted W)

@@ -20,12 +20,10 @@ difference_told head (Whole count) old new status t is = absurd (omega (arith, t
 difference_told head (Differs difference) old new status t is = (difference, t.1)
 
 pub status_told : (head : List ℕ) (told : Verified) (old new : Option (List ℕ)) (status : ℕ) → TellsVerified head told old new status → status ≤ 1
-status_told head (Whole count) old new status t = omega (arith, t.0)
-status_told head (Differs difference) old new status t = omega (arith, t.0)
+status_told head told old new status t = grind (arith, t)
 
 pub nothing_told : (head : List ℕ) (told : Verified) (count : ℕ) (old new : Option (List ℕ)) (status : ℕ) → TellsVerified head told old new status → told ≡ Whole count → status ≡ 0
-nothing_told head (Whole other) count old new status t is = t.0
-nothing_told head (Differs difference) count old new status t is = absurd (let apart = is in cc)
+nothing_told head told count old new status t is = grind (arith, t, is)
 
 pub difference_front : (head : List ℕ) (old new : Option (List ℕ)) → TellsDifference old new → TellsVerifiedFront head old new
 difference_front head old new told = (difference_line told.0, inr (told.0, refl), whole_front old new (difference_line told.0) told.1)
