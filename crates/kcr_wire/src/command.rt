@@ -272,11 +272,7 @@ fn act_at(alloc: Global, target: &Target, body: &Value) -> Result<Act, Refusal>
         Target::Take(ceremony, serial) => take(ceremony, serial, body),
         Target::Put(ceremony, serial) => put(ceremony, serial, body),
         Target::Cut(ceremony, serial) => cut(ceremony, serial, body),
-        Target::CustodiansOn(_)
-        | Target::Bag(_)
-        | Target::Room(_, _)
-        | Target::Script(_)
-        | Target::Attendance(_) => Err(Refusal::Method),
+        _ => Err(Refusal::Method),
     }
 }
 

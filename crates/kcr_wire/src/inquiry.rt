@@ -32,24 +32,7 @@ fn inquiry_at(target: &Target) -> Result<Inquiry, Refusal>
         Target::Room(ceremony, at) => Ok(Inquiry::Question(Question::Room(ceremony, at))),
         Target::Script(ceremony) => Ok(Inquiry::Script(ceremony)),
         Target::Attendance(ceremony) => Ok(Inquiry::Attendance(ceremony)),
-        Target::Roles(_)
-        | Target::Withdrawals(_)
-        | Target::Custodians
-        | Target::Replacement(_)
-        | Target::Release(_)
-        | Target::Boxes
-        | Target::Items
-        | Target::Ceremonies
-        | Target::Opening(_)
-        | Target::Closing(_)
-        | Target::Sheet(_)
-        | Target::Signature(_, _)
-        | Target::Exceptions(_)
-        | Target::Safe(_, _)
-        | Target::Seal(_, _)
-        | Target::Take(_, _)
-        | Target::Put(_, _)
-        | Target::Cut(_, _) => Err(Refusal::Method),
+        _ => Err(Refusal::Method),
     }
 }
 

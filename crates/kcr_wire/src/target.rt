@@ -218,24 +218,7 @@ impl Target {
             | Target::Room(_, _)
             | Target::Script(_)
             | Target::Attendance(_) => Allow::GetHead,
-            Target::Roles(_)
-            | Target::Withdrawals(_)
-            | Target::Custodians
-            | Target::Replacement(_)
-            | Target::Release(_)
-            | Target::Boxes
-            | Target::Items
-            | Target::Ceremonies
-            | Target::Opening(_)
-            | Target::Closing(_)
-            | Target::Sheet(_)
-            | Target::Signature(_, _)
-            | Target::Exceptions(_)
-            | Target::Safe(_, _)
-            | Target::Seal(_, _)
-            | Target::Take(_, _)
-            | Target::Put(_, _)
-            | Target::Cut(_, _) => Allow::Post,
+            _ => Allow::Post,
         }
     }
 }
