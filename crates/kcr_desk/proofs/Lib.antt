@@ -3,6 +3,7 @@ pub mod PlanLemmas
 pub mod QuietLemmas
 pub mod HeadLemmas
 pub mod FoundLemmas
+pub mod WaitingLemmas
 pub mod TurnLemmas
 pub mod ServeLemmas
 pub mod CutLemmas

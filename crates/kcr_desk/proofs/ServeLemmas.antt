@@ -1,6 +1,7 @@
 -- The messages so far, and what is left of the stream.
-use Rattle.std.proofs.Common.{◌≡◌, ℕ, ◌+◌, ◌-◌, ◌≤◌, List, [], ◌∷◌, ◌++◌, length, take, drop, refl, sym, ap, ◌∙◌, subst, arith, length-append, length-drop}
-use Rattle.std.specs.Prelude.{⊤, Option, Some, Result, Ok, Err, Bool, true, false, MatchBool, slice_range}
+use Rattle.std.proofs.Common.{◌≡◌, ℕ, ◌+◌, ◌-◌, ◌≤◌, List, [], ◌∷◌, ◌++◌, length, take, drop, refl, sym, ap, ◌∙◌, subst, arith}
+use Rattle.std.proofs.Common.{append_assoc, length-append, length-drop}
+use Rattle.std.specs.Prelude.{Option, Some, Bool, true, false, MatchBool, slice_range}
 use Rattle.std.specs.List.{flat_map}
 use Rattle.std.specs.Io.KnownBytes.{Appends, prepend_known}
 use Rattle.std.proofs.lemmas.List.{append-nil, map-append, take-append-drop, take-append-le, drop-append-le, length-take-le, drop-drop}
@@ -14,19 +15,21 @@ use Rattle.kcr_desk.specs.Found.{EndsAs, IsReady, message_of}
 use Rattle.kcr_desk.specs.Texts.{Told, answer_text, continue_text}
 use Rattle.kcr_desk.specs.Run.{Asked, asked_of, Exchange, Run, exchange_text, messages_of, ending_text, Begins, IsServed, IsBroken, nothing}
 use Rattle.kcr_desk.specs.Turn.{BreaksTurn, asked_by}
-use Rattle.kcr_print.specs.Written.{WritesFront, Writes}
+use Rattle.kcr_desk.specs.Waiting.{Gathered}
+use Rattle.kcr_print.specs.Written.{WritesFront}
 use Rattle.kcr_desk.proofs.FoundLemmas.{known_split, head_here}
-use Rattle.kcr_print.proofs.WrittenLemmas.{appends_both, front_both, writes_then}
+use Rattle.kcr_desk.proofs.WaitingLemmas.{with_more, sent_whole, sent_front, sent_on}
+use Rattle.kcr_desk.proofs.TurnLemmas.{breaks_ending}
 
 -- what holds between two messages
 pub record Serving
     {S : Type 0} (step : S → Asked → Told → S → Type 0) (input left old_contents new_contents : Option (List ℕ))
-    (before now : S) (count : ℕ) : Type 0 where
+    (waiting : List ℕ) (before now : S) (count : ℕ) : Type 0 where
   pub exchanges : List Exchange
   pub front : (bytes : List ℕ) → input ≡ Some bytes
       → (rest : List ℕ) × (left ≡ Some rest) × IsFront bytes (messages_of exchanges) rest
   pub run : Run step before exchanges now
-  pub written : Appends old_contents new_contents (flat_map exchange_text exchanges)
+  pub written : Gathered old_contents new_contents (flat_map exchange_text exchanges) waiting
   pub requests : count ≡ length exchanges
 
 -- ---- lists of messages
@@ -91,25 +94,28 @@ asked_same buf spans plan is =
 
 -- ---- a turn
 
-module _ {S : Type 0} {step : S → Asked → Told → S → Type 0} {input left a b : Option (List ℕ)} {before now : S} {n : ℕ}
-    (so_far : Serving step input left a b before now n) where
+module _ {S : Type 0} {step : S → Asked → Told → S → Type 0} {input left a b : Option (List ℕ)} {w : List ℕ}
+    {before now : S} {n : ℕ} (so_far : Serving step input left a b w before now n) where
   abbrev messages : List Message
   messages = messages_of so_far.exchanges
 
-  pub ended_served : (e : Ending) (c : Option (List ℕ)) → EndsAs left e → Appends b c (ending_text e)
-      → IsServed step input a c before now n
-  ended_served e c end written = record {
+  abbrev texts : List ℕ
+  texts = flat_map exchange_text so_far.exchanges
+
+  pub ended_served : (e : Ending) (c d : Option (List ℕ)) {v : List ℕ} → EndsAs left e → Gathered b c (w ++ ending_text e) v
+      → Appends c d v → IsServed step input a d before now n
+  ended_served e c d end gathered written = record {
     exchanges = so_far.exchanges;
     ending = e;
     cut = λ bytes is.
         let f = so_far.front bytes is in
         subst (λ t. IsCut bytes t e) (append-nil messages) (cut_from_front e bytes messages f.0 [] f.2 (end f.0 f.1));
     run = so_far.run;
-    written = appends_both a b c (flat_map exchange_text so_far.exchanges) (ending_text e) so_far.written written;
+    written = sent_whole d (sent_on (with_more (ending_text e) so_far.written) gathered) written;
     requests = so_far.requests;
   }
 
-  pub turn_broken : {c : Option (List ℕ)} → BreaksTurn left b c → IsBroken step input a c before now
+  pub turn_broken : {c : Option (List ℕ)} → BreaksTurn left b c w → IsBroken step input a c before now
   turn_broken {c} breaks = record {
     exchanges = so_far.exchanges;
     next = breaks.next;
@@ -118,14 +124,19 @@ module _ {S : Type 0} {step : S → Asked → Told → S → Type 0} {input left
         subst (λ t. Begins bytes t breaks.next) (append-nil messages)
         (begins_from_front breaks.next bytes messages f.0 [] f.2 (breaks.is_next f.0 f.1));
     run = so_far.run;
-    written = front_both a b c (flat_map exchange_text so_far.exchanges) breaks.next so_far.written breaks.written;
+    written = sent_front c (with_more breaks.next so_far.written) breaks.written;
   }
+
+  pub ended_broken : (e : Ending) (c d : Option (List ℕ)) {v : List ℕ} → EndsAs left e → Gathered b c (w ++ ending_text e) v
+      → WritesFront c d v → IsBroken step input a d before now
+  ended_broken e c d end gathered front =
+      turn_broken {c = d} (breaks_ending e end (sent_front d gathered front))
 
   -- a message that buf begins with, and that was answered
   module _ {buf : List ℕ} {spans : RequestSpans} {plan : Plan} (is : IsReady buf spans plan) (unread : Option (List ℕ))
       (stays : Stays left (prepend_known buf unread)) (reply : Told) (after : S)
-      (told : step now (asked_by buf spans plan) reply after) (c d : Option (List ℕ))
-      (continued : Appends b c (continue_text plan)) where
+      (told : step now (asked_by buf spans plan) reply after) (c d : Option (List ℕ)) {v : List ℕ}
+      (continued : Gathered b c (w ++ continue_text plan) v) where
     abbrev exchange : Exchange
     exchange = record { message = message_of buf spans plan is; reply = reply }
 
@@ -153,18 +164,19 @@ module _ {S : Type 0} {step : S → Asked → Told → S → Type 0} {input left
         let k = known_split buf unread f.0 (stays f.0 f.1) in
         (k.0, k.1, subst (IsFront bytes messages) (sym k.2) f.2, message_is buf k.0 spans plan is)
 
-    answered : {T E : Type 0} (r : Result T E) → Writes r c d answer → Writes r a d (flat_map exchange_text exchanges_then)
-    answered r written =
-        let at = head_here buf spans is.front.head is.front.whole in
-        let texts = flat_map exchange_text so_far.exchanges in
-        let all : texts ++ (continue_text plan ++ answer) ≡ flat_map exchange_text exchanges_then =
-        rw at.method (simp (flat_map-append, append-nil)) in
-        subst (Writes r a d) all
-        (writes_then r a b d texts (continue_text plan ++ answer) so_far.written (writes_then r b c d (continue_text plan) answer continued written))
+    all_texts : (texts ++ continue_text plan) ++ answer ≡ flat_map exchange_text exchanges_then
+    all_texts =
+        let at = head_here buf spans is.front.head is.front.whole in rw at.method (simp (flat_map-append, append-nil, append_assoc))
 
-    pub serving_then : plan.closes ≡ false → Appends c d answer
-        → Serving step input (prepend_known (drop (spans.len + plan.length) buf) unread) a d before after (n + 1)
-    serving_then open' written = record {
+    -- what waits, and the answer behind it
+    answered : Gathered a c (flat_map exchange_text exchanges_then) (v ++ answer)
+    answered =
+        subst (λ t. Gathered a c t (v ++ answer)) all_texts
+        (with_more answer (sent_on (with_more (continue_text plan) so_far.written) continued))
+
+    pub serving_then : {u : List ℕ} → plan.closes ≡ false → Gathered c d (v ++ answer) u
+        → Serving step input (prepend_known (drop (spans.len + plan.length) buf) unread) a d u before after (n + 1)
+    serving_then open' gathered = record {
       exchanges = exchanges_then;
       front = λ bytes known.
           let r = rest_then bytes known in (
@@ -175,12 +187,13 @@ module _ {S : Type 0} {step : S → Asked → Told → S → Type 0} {input left
                 bytes messages (buf ++ r.0) (exchange.message ∷ []) r.2 (behind r.0, r.3, open', refl)),
           );
       run = run_then;
-      written = answered {T = ⊤} {E = ⊤} (Ok tt) written;
+      written = sent_on answered gathered;
       requests = count_then;
     }
 
-    pub closed_served : plan.closes ≡ true → Appends c d answer → IsServed step input a d before after (n + 1)
-    closed_served closed written = record {
+    pub closed_served : (e : Option (List ℕ)) {u : List ℕ} → plan.closes ≡ true → Gathered c d (v ++ answer) u → Appends d e u
+        → IsServed step input a e before after (n + 1)
+    closed_served e closed gathered written = record {
       exchanges = exchanges_then;
       ending = quiet;
       cut = λ bytes known.
@@ -189,12 +202,13 @@ module _ {S : Type 0} {step : S → Asked → Told → S → Type 0} {input left
           rw map-append (cut_from_front quiet bytes messages (buf ++ r.0) (exchange.message ∷ []) r.2
           (behind r.0, r.3, subst P (sym closed) (refl, refl)));
       run = run_then;
-      written = rw append-nil (answered {T = ⊤} {E = ⊤} (Ok tt) written);
+      written = rw append-nil (sent_whole e (sent_on answered gathered) written);
       requests = count_then;
     }
 
-    pub answer_broken : WritesFront c d answer → IsBroken step input a d before after
-    answer_broken front = record {
+    -- a beginning of what was answered was written
+    begun : (e : Option (List ℕ)) → WritesFront a e (flat_map exchange_text exchanges_then) → IsBroken step input a e before after
+    begun e front = record {
       exchanges = exchanges_then;
       next = [];
       begins = λ bytes known.
@@ -202,5 +216,12 @@ module _ {S : Type 0} {step : S → Asked → Told → S → Type 0} {input left
           rw map-append (begins_from_front [] bytes messages (buf ++ r.0) (exchange.message ∷ []) r.2
           (behind r.0, r.3, begins_last plan.closes (behind r.0)));
       run = run_then;
-      written = rw append-nil (answered {T = ⊤} {E = ⊤} (Err tt) front);
+      written = rw append-nil front;
     }
+
+    pub answer_broken : WritesFront c d (v ++ answer) → IsBroken step input a d before after
+    answer_broken front = begun d (sent_front d answered front)
+
+    pub closed_broken : (e : Option (List ℕ)) {u : List ℕ} → Gathered c d (v ++ answer) u → WritesFront d e u
+        → IsBroken step input a e before after
+    closed_broken e gathered front = begun e (sent_front e (sent_on answered gathered) front)

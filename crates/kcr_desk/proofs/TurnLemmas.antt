@@ -1,8 +1,8 @@
 -- One turn of the desk.
 use Rattle.std.proofs.Common.{◌≡◌, ℕ, ◌+◌, ◌<◌, ◌≤◌, List, [], ◌++◌, length, drop, sym, subst, arith, append_assoc, length-append, length-drop}
 use Rattle.std.specs.Prelude.{Option}
-use Rattle.std.specs.Io.KnownBytes.{prepend_known, IsAtEnd, Appends}
-use Rattle.std.proofs.Math.Seq.{take-length}
+use Rattle.std.specs.Io.KnownBytes.{prepend_known, IsAtEnd}
+use Rattle.std.proofs.lemmas.List.{append-nil}
 use Rattle.httparse.specs.Spans.{span_bytes}
 use Rattle.httparse.specs.declared.spans.RequestSpans.{RequestSpans}
 use Rattle.kcr_desk.specs.declared.head.Plan.{Plan}
@@ -13,23 +13,30 @@ use Rattle.kcr_desk.specs.Heads.{IsWhole, IsHeadAt}
 use Rattle.kcr_desk.specs.Found.{EndsAs, HasPlan}
 use Rattle.kcr_desk.specs.Texts.{continue_text}
 use Rattle.kcr_desk.specs.Run.{ending_text, IsNext, nothing, continues, ends}
-use Rattle.kcr_desk.specs.Turn.{BreaksTurn}
+use Rattle.kcr_desk.specs.declared.stream.Turn.{Turn}
+use Rattle.kcr_desk.specs.declared.stream.Turn.TheVariants.{Message, Ended}
+use Rattle.kcr_desk.specs.Turn.{IsTurn, BreaksTurn}
+use Rattle.kcr_desk.specs.Waiting.{Gathered}
 use Rattle.kcr_print.specs.Written.{WritesFront}
 use Rattle.kcr_desk.proofs.FoundLemmas.{known_split, ends_here, head_here}
 use Rattle.kcr_desk.proofs.HeadLemmas.{within_more}
-use Rattle.kcr_print.proofs.WrittenLemmas.{appends_nothing}
+use Rattle.kcr_desk.proofs.WaitingLemmas.{with_more, sent_front, sent_on}
 
-pub breaks_at_once : (left a : Option (List ℕ)) → BreaksTurn left a a
-breaks_at_once left a = record { next = []; is_next = λ bytes e. nothing; written = (0, appends_nothing a) }
+pub breaks_at_once : (left a b : Option (List ℕ)) {w : List ℕ} → WritesFront a b w → BreaksTurn left a b w
+breaks_at_once left a b {w} front = record {
+  next = [];
+  is_next = λ bytes e. nothing;
+  written = subst (WritesFront a b) (sym (append-nil w)) front;
+}
 
 pub ends_before : (old new : Option (List ℕ)) (e : Ending) → Stays old new → EndsAs new e → EndsAs old e
 ends_before old new e stays at_new bytes is = at_new bytes (stays bytes is)
 
-pub breaks_ending : {left a b : Option (List ℕ)} (e : Ending) → EndsAs left e → WritesFront a b (ending_text e) → BreaksTurn left a b
+pub breaks_ending : {left a b : Option (List ℕ)} {w : List ℕ} (e : Ending) → EndsAs left e → WritesFront a b (w ++ ending_text e) → BreaksTurn left a b w
 breaks_ending e end front = record { next = ending_text e; is_next = λ bytes is. ends e (end bytes is); written = front }
 
-pub breaks_continue : {buf : List ℕ} {left a b : Option (List ℕ)} {spans : RequestSpans} {plan : Plan} (unread : Option (List ℕ))
-    → HasPlan buf spans plan → Stays left (prepend_known buf unread) → WritesFront a b (continue_text plan) → BreaksTurn left a b
+pub breaks_continue : {buf : List ℕ} {left a b : Option (List ℕ)} {w : List ℕ} {spans : RequestSpans} {plan : Plan} (unread : Option (List ℕ))
+    → HasPlan buf spans plan → Stays left (prepend_known buf unread) → WritesFront a b (w ++ continue_text plan) → BreaksTurn left a b w
 breaks_continue {buf} {plan = plan} unread has stays front = record {
   next = continue_text plan;
   is_next = λ bytes is.
@@ -39,9 +46,20 @@ breaks_continue {buf} {plan = plan} unread has stays front = record {
   written = front;
 }
 
--- what was written whole was written up to its end
-pub front_of_whole : (a b : Option (List ℕ)) (x : List ℕ) → Appends a b x → WritesFront a b x
-front_of_whole a b x h = (length x, subst (Appends a b) (sym (take-length x)) h)
+-- a turn, behind what was read before it
+pub turn_later : {old left a b : Option (List ℕ)} {w v : List ℕ} (buf : List ℕ) (c : Option (List ℕ)) (u : List ℕ) → Stays old left
+    → Gathered a b w v → (turn : Turn) → IsTurn left buf b c v u turn → IsTurn old buf a c w u turn
+turn_later buf c u stays so_far (Message spans plan) is = (is.0, sent_on (with_more (continue_text plan) so_far) is.1)
+turn_later {old} {left} buf c u stays so_far Ended is =
+    (is.0, ends_before old left is.0 stays is.1, sent_on (with_more (ending_text is.0) so_far) is.2)
+
+pub breaks_later : {old left a b : Option (List ℕ)} {w v : List ℕ} (c : Option (List ℕ)) → Stays old left → Gathered a b w v
+    → BreaksTurn left b c v → BreaksTurn old a c w
+breaks_later c stays so_far breaks = record {
+  next = breaks.next;
+  is_next = λ bytes is. breaks.is_next bytes (stays bytes is);
+  written = sent_front c (with_more breaks.next so_far) breaks.written;
+}
 
 -- a head that more follows
 pub plan_more : {buf new : List ℕ} {spans : RequestSpans} {plan : Plan} (more : List ℕ) → HasPlan buf spans plan → new ≡ buf ++ more

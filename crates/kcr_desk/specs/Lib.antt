@@ -8,5 +8,6 @@ pub mod Quiet
 pub mod Run
 pub mod Texts
 pub mod Told
+pub mod Waiting
 pub mod Turn
 pub mod Answers

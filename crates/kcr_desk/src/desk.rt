@@ -18,7 +18,8 @@ use sqlite::Alter;
 use std::alloc::Global;
 use std::io::{Read, Write};
 
-/// Answers a stream of messages by a register, until the stream ends or a message closes it.
+/// Answers a stream of messages by a register, until the stream ends or a message closes it. Answers may go out
+/// together; each is written before another read is made.
 ///
 /// Refusals are answers. `Read` comes where a read failed or 1,000,000 reads gave a byte, `Write` where a write failed,
 /// `Memory` where the bytes of a message found no room. What was written then is a beginning of the answers, the

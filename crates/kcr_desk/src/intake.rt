@@ -1,15 +1,18 @@
 //! The bytes of a stream that were read and are no whole message yet.
-ghost use Rattle.std.specs.Prelude.{◌≡◌, ℕ, ◌+◌, drop, ◌<◌, ◌≤◌, ◌++◌, List, true, false, length};
-ghost use Rattle.std.specs.Prelude.{vec_len, OnOk, IfOk, IsErrOf};
-ghost use Rattle.std.specs.Io.KnownBytes.{IsAtEnd};
-ghost use Rattle.kcr_base.specs.Counted.{inner_of};
+ghost use Rattle.std.specs.Prelude.{◌≡◌, ℕ, ◌+◌, ◌*◌, drop, ◌<◌, ◌≤◌, ◌⊎◌, ◌++◌, List, [], Some, Bool, true, false};
+ghost use Rattle.std.specs.Prelude.{length, vec_len, OnOk, IfOk, IsErrOf};
+ghost use Rattle.std.specs.Io.KnownBytes.{prepend_known, IsAtEnd};
+ghost use Rattle.kcr_base.specs.Counted.{inner_of, failures_of, gifts_of};
+ghost use Rattle.kcr_desk.specs.Waiting.{Gathers};
 ghost use Rattle.kcr_desk.specs.declared.intake.TheConstants.{MAX_READS};
 
 use crate::fault::DeskFault;
 use crate::head::{Plan, Tried, is_head_method, is_quiet, try_head};
+use crate::page::Page;
+use crate::put::send;
 use httparse::spans::RequestSpans;
 use kcr_base::{Counted, Refusal};
-use std::io::Read;
+use std::io::{Read, Write};
 
 /// How many reads are made at most for one stream.
 pub const MAX_READS: u32 = 1_000_000;
@@ -35,18 +38,31 @@ impl Intake {
     ghost use Rattle.kcr_desk.specs.Found.{IsFound};
     ghost use Rattle.kcr_desk.specs.Intake.{TakesIn};
 
-    /// Reads once. It answers whether there was a byte.
-    pub fn fill<R: Read>(&mut self, reader: &mut Counted<R>) -> Result<bool, DeskFault>
+    /// Writes what waits and then reads once, so that nobody who waits for an answer is asked for more. It answers
+    /// whether there was a byte.
+    #[tactic(auto, using(crate::proofs::WaitingLemmas::front_of_whole))]
+    pub fn fill<R: Read, W: Write>(
+        &mut self,
+        reader: &mut Counted<R>,
+        writer: &mut Counted<W>,
+        waiting: &mut Page,
+    ) -> Result<bool, DeskFault>
+        ensures sent { OnOk result (waiting.new.items ≡ []) }
         ensures takes { TakesIn R.remaining self.old self.new reader.old reader.new result }
         ensures grown { IfOk result (λ more. more ≡ true → (self.new.reads ≡ self.old.reads + 1)
             × ((bytes : List ℕ) × (self.new.buffer.items ≡ self.old.buffer.items ++ bytes) × (length bytes ≤ 4096))) }
         ensures ended { IfOk result (λ more. more ≡ false → (self.new.reads ≡ self.old.reads)
             × (self.new.buffer.items ≡ self.old.buffer.items) × IsAtEnd (R.remaining (inner_of reader.new))) }
-        ensures not_write { IsErrOf result DeskFault.Write → ⊥ }
+        ensures gathered { Gathers result (W.contents (inner_of writer.old)) (W.contents (inner_of writer.new))
+            waiting.old.items waiting.new.items }
+        ensures calm { OnOk result (failures_of writer.new ≡ failures_of writer.old) }
+        ensures write_fault { IsErrOf result DeskFault.Write → failures_of writer.old < failures_of writer.new }
     {
+        send(writer, waiting)?;
         if self.reads == MAX_READS {
             return Err(DeskFault::Read);
         }
+        prove!(waiting.is_empty());
         let mut chunk = [0u8; 4096];
         let count = match reader.read(&mut chunk) {
             Ok(count) => count,
@@ -61,10 +77,18 @@ impl Intake {
     }
 
     /// Reads until the bytes begin with a whole head, or with none whatever follows.
-    pub fn take_head<R: Read>(&mut self, reader: &mut Counted<R>) -> Result<Found, DeskFault>
+    pub fn take_head<R: Read, W: Write>(
+        &mut self,
+        reader: &mut Counted<R>,
+        writer: &mut Counted<W>,
+        waiting: &mut Page,
+    ) -> Result<Found, DeskFault>
         ensures takes { TakesIn R.remaining self.old self.new reader.old reader.new result }
         ensures found { IfOk result (IsFound (R.remaining (inner_of reader.new)) self.new.buffer.items) }
-        ensures not_write { IsErrOf result DeskFault.Write → ⊥ }
+        ensures gathered { Gathers result (W.contents (inner_of writer.old)) (W.contents (inner_of writer.new))
+            waiting.old.items waiting.new.items }
+        ensures calm { OnOk result (failures_of writer.new ≡ failures_of writer.old) }
+        ensures write_fault { IsErrOf result DeskFault.Write → failures_of writer.old < failures_of writer.new }
     {
         'head: loop {
             match try_head(&self.buffer) {
@@ -76,7 +100,7 @@ impl Intake {
                 Tried::Nothing => return Ok(Found::Refused(Refusal::Head, false)),
                 Tried::More => {}
             }
-            if !self.fill(reader)? {
+            if !self.fill(reader, writer, waiting)? {
                 if is_quiet(&self.buffer) {
                     return Ok(Found::Quiet);
                 }
@@ -86,9 +110,11 @@ impl Intake {
     }
 
     /// Reads until there are so many bytes. It answers false where the input ends before.
-    pub fn take_body<R: Read>(
+    pub fn take_body<R: Read, W: Write>(
         &mut self,
         reader: &mut Counted<R>,
+        writer: &mut Counted<W>,
+        waiting: &mut Page,
         end: usize,
     ) -> Result<bool, DeskFault>
         ensures takes { TakesIn R.remaining self.old self.new reader.old reader.new result }
@@ -96,10 +122,13 @@ impl Intake {
         ensures enough { IfOk result (λ enough. enough ≡ true → end ≤ vec_len self.new.buffer) }
         ensures ended { IfOk result (λ enough. enough ≡ false → (vec_len self.new.buffer < end)
             × IsAtEnd (R.remaining (inner_of reader.new))) }
-        ensures not_write { IsErrOf result DeskFault.Write → ⊥ }
+        ensures gathered { Gathers result (W.contents (inner_of writer.old)) (W.contents (inner_of writer.new))
+            waiting.old.items waiting.new.items }
+        ensures calm { OnOk result (failures_of writer.new ≡ failures_of writer.old) }
+        ensures write_fault { IsErrOf result DeskFault.Write → failures_of writer.old < failures_of writer.new }
     {
         'body: while self.buffer.len() < end {
-            if !self.fill(reader)? {
+            if !self.fill(reader, writer, waiting)? {
                 return Ok(false);
             }
         }

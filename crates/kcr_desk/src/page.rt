@@ -1,13 +1,13 @@
-//! Bytes that are gathered in a fixed place, so that they go out in one write and take no memory.
+//! Bytes that are gathered in a fixed place, so that they take no memory.
 ghost use Rattle.std.specs.Prelude.{◌≡◌, ◌+◌, ◌≤◌, ◌++◌, length};
 ghost use Rattle.arrayvec.specs.ArrayVec.{array_vec_len};
 
 use arrayvec::ArrayVec;
 
-/// How many bytes are gathered at most: a whole head, and a body that is not long.
-pub(crate) const PAGE: usize = 1024;
+/// How many bytes of answers wait at most.
+pub(crate) const PAGE: usize = 4096;
 
-/// The beginning of an answer.
+/// Answers that wait, so that they go out together.
 pub(crate) type Page = ArrayVec<u8, PAGE>;
 
 /// Adds a piece behind the others.

@@ -4,16 +4,16 @@ ghost use Rattle.std.specs.Fmt.{decimal};
 ghost use Rattle.arrayvec.specs.ArrayVec.{array_vec_len};
 ghost use Rattle.kcr_base.specs.Counted.{inner_of, failures_of};
 ghost use Rattle.kcr_base.specs.Refusal.{status_of};
-ghost use Rattle.kcr_print.specs.Written.{Writes};
 ghost use Rattle.kcr_desk.specs.Texts.{phrase_of, kind_text, line, field, allow_line, close_text, head_text};
 ghost use Rattle.kcr_desk.specs.Texts.{shown_text, answer_text, plain_text, continue_text, told_of};
 ghost use Rattle.kcr_desk.specs.Told.{told};
+ghost use Rattle.kcr_desk.specs.Waiting.{Gathers};
 ghost use Rattle.kcr_desk.specs.declared.reply.Kind.TheVariants.{Json};
 
 use crate::fault::DeskFault;
 use crate::head::Plan;
 use crate::page::{PAGE, Page, add};
-use crate::put::put;
+use crate::put::{gather, make_room};
 use arrayvec::ArrayVec;
 use http::StatusCode;
 use itoa::Buffer;
@@ -125,20 +125,21 @@ fn add_close(page: &mut Page, closes: bool)
     }
 }
 
-/// The head of an answer with a body of so many bytes.
+/// The most bytes of the head of an answer.
+const MOST_OF_A_HEAD: usize = 256;
+
+/// Adds the head of an answer with a body of so many bytes.
 #[tactic(auto, unfolding(crate::specs::Texts::head_text))]
-fn make_head(heading: Heading, length: usize, closes: bool) -> Page
-    ensures items { result.items ≡ head_text closes heading length }
-    ensures len { array_vec_len result ≤ 256 }
+fn add_head(page: &mut Page, heading: Heading, length: usize, closes: bool)
+    requires { array_vec_len page.old + MOST_OF_A_HEAD ≤ PAGE }
+    ensures { page.new.items ≡ page.old.items ++ head_text closes heading length }
 {
-    let mut page = Page::new();
-    add_status(&mut page, heading.status);
-    add_field(&mut page, "content-type", kind_name(heading.kind));
-    add_field(&mut page, "content-length", Buffer::new().format(length));
-    add_allow(&mut page, heading.allow);
-    add_close(&mut page, closes);
-    add(&mut page, b"\r\n");
-    page
+    add_status(page, heading.status);
+    add_field(page, "content-type", kind_name(heading.kind));
+    add_field(page, "content-length", Buffer::new().format(length));
+    add_allow(page, heading.allow);
+    add_close(page, closes);
+    add(page, b"\r\n");
 }
 
 /// The JSON of a refusal that carries nothing: its number and its word.
@@ -182,63 +183,63 @@ fn shown_part(bare: bool, body: &[u8]) -> &[u8]
     if bare { &body[..0] } else { body }
 }
 
-/// Writes an answer, in one write where it is not long and else in two: the head and then the body.
-#[tactic(auto, unfolding(crate::specs::Texts::answer_text))]
+/// Has an answer wait. Its head is made in the page itself.
+#[tactic(auto, using(kcr_print::proofs::WrittenLemmas::front_longer))]
 fn put_parts<W: Write>(
     writer: &mut Counted<W>,
+    waiting: &mut Page,
     heading: Heading,
     body: &[u8],
     bare: bool,
     closes: bool,
 ) -> Result<(), DeskFault>
-    ensures written { Writes result (W.contents (inner_of writer.old)) (W.contents (inner_of writer.new))
-        (answer_text bare closes (record { heading = heading; body = body.now })) }
+    ensures gathered { Gathers result (W.contents (inner_of writer.old)) (W.contents (inner_of writer.new))
+        (waiting.old.items ++ answer_text bare closes (record { heading = heading; body = body.now }))
+        waiting.new.items }
     ensures calm { OnOk result (failures_of writer.new ≡ failures_of writer.old) }
     ensures fault { OnErr result ((result ≡ Err DeskFault.Write) × (failures_of writer.old < failures_of writer.new)) }
 {
-    let mut page = make_head(heading, body.len(), closes);
-    let shown = shown_part(bare, body);
-    if shown.len() <= PAGE - page.len() {
-        add(&mut page, shown);
-        return put(writer, page.as_slice());
-    }
-    put(writer, page.as_slice())?;
-    put(writer, shown)
+    make_room(writer, waiting, MOST_OF_A_HEAD)?;
+    add_head(waiting, heading, body.len(), closes);
+    gather(writer, waiting, shown_part(bare, body))
 }
 
-/// Writes an answer, without its body where it is bare.
+/// Has an answer wait, without its body where it is bare.
 pub(crate) fn put_answer<W: Write>(
     writer: &mut Counted<W>,
+    waiting: &mut Page,
     reply: &Response,
     bare: bool,
     closes: bool,
 ) -> Result<(), DeskFault>
-    ensures written { Writes result (W.contents (inner_of writer.old)) (W.contents (inner_of writer.new))
-        (answer_text bare closes (told reply.now)) }
+    ensures gathered { Gathers result (W.contents (inner_of writer.old)) (W.contents (inner_of writer.new))
+        (waiting.old.items ++ answer_text bare closes (told reply.now)) waiting.new.items }
     ensures calm { OnOk result (failures_of writer.new ≡ failures_of writer.old) }
     ensures fault { OnErr result ((result ≡ Err DeskFault.Write) × (failures_of writer.old < failures_of writer.new)) }
 {
-    match &reply.body {
-        Body::Made(text) => put_parts(writer, reply.heading, text.as_bytes(), bare, closes),
-        Body::Printed(bytes) => put_parts(writer, reply.heading, bytes.as_slice(), bare, closes),
-        Body::Fixed(text) => put_parts(writer, reply.heading, text.as_bytes(), bare, closes),
-    }
+    let body = match &reply.body {
+        Body::Made(text) => text.as_bytes(),
+        Body::Printed(bytes) => bytes.as_slice(),
+        Body::Fixed(text) => text.as_bytes(),
+    };
+    put_parts(writer, waiting, reply.heading, body, bare, closes)
 }
 
-/// Writes what is answered to a faulty item. The stream is closed after it.
+/// Has the answer to a faulty item wait. The stream is closed after it.
 pub(crate) fn put_refusal<W: Write>(
     writer: &mut Counted<W>,
+    waiting: &mut Page,
     refusal: Refusal,
     bare: bool,
 ) -> Result<(), DeskFault>
-    ensures written { Writes result (W.contents (inner_of writer.old)) (W.contents (inner_of writer.new))
-        (answer_text bare true (told_of refusal)) }
+    ensures gathered { Gathers result (W.contents (inner_of writer.old)) (W.contents (inner_of writer.new))
+        (waiting.old.items ++ answer_text bare true (told_of refusal)) waiting.new.items }
     ensures calm { OnOk result (failures_of writer.new ≡ failures_of writer.old) }
     ensures fault { OnErr result ((result ≡ Err DeskFault.Write) × (failures_of writer.old < failures_of writer.new)) }
 {
     let heading = refusal_heading(&refusal, None);
     let body = plain_body(&refusal);
-    put_parts(writer, heading, body.as_slice(), bare, true)
+    put_parts(writer, waiting, heading, body.as_slice(), bare, true)
 }
 
 /// `100 Continue`, where a head waits for it, and nothing elsewhere.
@@ -252,12 +253,16 @@ fn continue_lines(plan: Plan) -> &'static [u8]
     }
 }
 
-/// Writes `100 Continue` where a head waits for it.
-pub(crate) fn put_continue<W: Write>(writer: &mut Counted<W>, plan: Plan) -> Result<(), DeskFault>
-    ensures written { Writes result (W.contents (inner_of writer.old)) (W.contents (inner_of writer.new))
-        (continue_text plan) }
+/// Has `100 Continue` wait where a head waits for it.
+pub(crate) fn put_continue<W: Write>(
+    writer: &mut Counted<W>,
+    waiting: &mut Page,
+    plan: Plan,
+) -> Result<(), DeskFault>
+    ensures gathered { Gathers result (W.contents (inner_of writer.old)) (W.contents (inner_of writer.new))
+        (waiting.old.items ++ continue_text plan) waiting.new.items }
     ensures calm { OnOk result (failures_of writer.new ≡ failures_of writer.old) }
     ensures fault { OnErr result ((result ≡ Err DeskFault.Write) × (failures_of writer.old < failures_of writer.new)) }
 {
-    put(writer, continue_lines(plan))
+    gather(writer, waiting, continue_lines(plan))
 }

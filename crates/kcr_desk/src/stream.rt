@@ -1,11 +1,13 @@
 //! Streams of messages.
-ghost use Rattle.std.specs.Prelude.{◌≡◌, ℕ, List, ◌++◌, ◌+◌, ◌<◌, ◌≤◌, ◌⊎◌, IfOk, OnOk, OnErr, IsErrOf};
+ghost use Rattle.std.specs.Prelude.{◌≡◌, ℕ, List, ◌++◌, ◌+◌, ◌*◌, ◌<◌, ◌≤◌, ◌⊎◌, vec_len, IfOk, OnOk, OnErr, IsErrOf};
+ghost use Rattle.std.specs.Io.KnownBytes.{Appends, prepend_known};
 ghost use Rattle.kcr_base.specs.Counted.{inner_of, failures_of, gifts_of};
 ghost use Rattle.kcr_desk.specs.Intake.{TakesIn, left};
 ghost use Rattle.kcr_desk.specs.Found.{IsReady, HasPlan};
 ghost use Rattle.kcr_desk.specs.Plans.{is_head};
 ghost use Rattle.kcr_desk.specs.Texts.{Told, answer_text};
-ghost use Rattle.kcr_print.specs.Written.{Writes};
+ghost use Rattle.kcr_desk.specs.Waiting.{Gathers};
+ghost use Rattle.kcr_print.specs.Written.{WritesFront};
 ghost use Rattle.kcr_desk.specs.Run.{IsServed, IsBroken, Exchange, Begins, messages_of, exchange_text, output};
 ghost use Rattle.std.specs.List.{flat_map};
 ghost use Rattle.kcr_desk.specs.Stream.{Message, Ending, IsCut};
@@ -14,6 +16,8 @@ ghost use Rattle.kcr_desk.specs.Turn.{IsTurn, BreaksTurn, asked_by};
 use crate::fault::DeskFault;
 use crate::head::{Plan, is_head_method};
 use crate::intake::{Found, Intake};
+use crate::page::Page;
+use crate::put::send;
 use crate::reply::{put_answer, put_continue, put_refusal};
 use crate::responder::Responder;
 use httparse::spans::RequestSpans;
@@ -43,24 +47,25 @@ fn take_message<R: Read, W: Write>(
     intake: &mut Intake,
     reader: &mut Counted<R>,
     writer: &mut Counted<W>,
+    waiting: &mut Page,
     spans: RequestSpans,
     plan: Plan,
 ) -> Result<Turn, DeskFault>
     requires { HasPlan intake.old.buffer.items spans plan }
     ensures turn { IfOk result (IsTurn (left R.remaining intake.old reader.old) intake.new.buffer.items
-        (W.contents (inner_of writer.old)) (W.contents (inner_of writer.new))) }
+        (W.contents (inner_of writer.old)) (W.contents (inner_of writer.new)) waiting.old.items waiting.new.items) }
     ensures breaks { OnErr result (BreaksTurn (left R.remaining intake.old reader.old)
-        (W.contents (inner_of writer.old)) (W.contents (inner_of writer.new))) }
+        (W.contents (inner_of writer.old)) (W.contents (inner_of writer.new)) waiting.old.items) }
     ensures takes { TakesIn R.remaining intake.old intake.new reader.old reader.new result }
     ensures calm { OnOk result (failures_of writer.new ≡ failures_of writer.old) }
     ensures write_fault { IsErrOf result DeskFault.Write → failures_of writer.old < failures_of writer.new }
 {
-    put_continue(writer, plan)?;
-    if intake.take_body(reader, spans.len + plan.length)? {
+    put_continue(writer, waiting, plan)?;
+    if intake.take_body(reader, writer, waiting, spans.len + plan.length)? {
         return Ok(Turn::Message(spans, plan));
     }
     let bare = is_head_method(spans.method.of(&intake.buffer));
-    put_refusal(writer, Refusal::Cut, bare)?;
+    put_refusal(writer, waiting, Refusal::Cut, bare)?;
     Ok(Turn::Ended)
 }
 
@@ -69,22 +74,23 @@ fn next_turn<R: Read, W: Write>(
     intake: &mut Intake,
     reader: &mut Counted<R>,
     writer: &mut Counted<W>,
+    waiting: &mut Page,
 ) -> Result<Turn, DeskFault>
     ensures turn { IfOk result (IsTurn (left R.remaining intake.old reader.old) intake.new.buffer.items
-        (W.contents (inner_of writer.old)) (W.contents (inner_of writer.new))) }
+        (W.contents (inner_of writer.old)) (W.contents (inner_of writer.new)) waiting.old.items waiting.new.items) }
     ensures breaks { OnErr result (BreaksTurn (left R.remaining intake.old reader.old)
-        (W.contents (inner_of writer.old)) (W.contents (inner_of writer.new))) }
+        (W.contents (inner_of writer.old)) (W.contents (inner_of writer.new)) waiting.old.items) }
     ensures takes { TakesIn R.remaining intake.old intake.new reader.old reader.new result }
     ensures calm { OnOk result (failures_of writer.new ≡ failures_of writer.old) }
     ensures write_fault { IsErrOf result DeskFault.Write → failures_of writer.old < failures_of writer.new }
 {
-    match intake.take_head(reader)? {
+    match intake.take_head(reader, writer, waiting)? {
         Found::Quiet => Ok(Turn::Ended),
         Found::Refused(refusal, bare) => {
-            put_refusal(writer, refusal, bare)?;
+            put_refusal(writer, waiting, refusal, bare)?;
             Ok(Turn::Ended)
         }
-        Found::Whole(spans, plan) => take_message(intake, reader, writer, spans, plan),
+        Found::Whole(spans, plan) => take_message(intake, reader, writer, waiting, spans, plan),
     }
 }
 
@@ -92,6 +98,7 @@ fn next_turn<R: Read, W: Write>(
 fn answer_front<W: Write, G: Responder>(
     intake: &Intake,
     writer: &mut Counted<W>,
+    waiting: &mut Page,
     responder: &mut G,
     alloc: Global,
     paths: &mut Option<Paths>,
@@ -101,8 +108,9 @@ fn answer_front<W: Write, G: Responder>(
     requires { IsReady intake.now.buffer.items spans plan }
     ensures answered { (reply : Told)
         × G.step responder.old (asked_by intake.now.buffer.items spans plan) reply responder.new
-        × Writes result (W.contents (inner_of writer.old)) (W.contents (inner_of writer.new))
-        (answer_text (is_head (asked_by intake.now.buffer.items spans plan).method) plan.closes reply) }
+        × Gathers result (W.contents (inner_of writer.old)) (W.contents (inner_of writer.new)) (waiting.old.items
+        ++ answer_text (is_head (asked_by intake.now.buffer.items spans plan).method) plan.closes reply)
+        waiting.new.items }
     ensures calm { OnOk result (failures_of writer.new ≡ failures_of writer.old) }
     ensures fault { OnErr result ((result ≡ Err DeskFault.Write) × (failures_of writer.old < failures_of writer.new)) }
 {
@@ -110,10 +118,27 @@ fn answer_front<W: Write, G: Responder>(
     let method = spans.method.of(buffer);
     let body = &buffer[spans.len..spans.len + plan.length];
     let reply = responder.respond(alloc, paths, method, spans.path.of(buffer), body);
-    put_answer(writer, &reply, is_head_method(method), plan.closes)
+    put_answer(writer, waiting, &reply, is_head_method(method), plan.closes)
 }
 
-/// Answers a stream of messages, until it ends, or a message or a faulty item closes it.
+/// Writes what waits at the end of a stream.
+fn finish<W: Write>(
+    writer: &mut Counted<W>,
+    waiting: &mut Page,
+    requests: u64,
+) -> Result<Served, DeskFault>
+    ensures served { IfOk result (λ served. (served.requests ≡ requests)
+        × Appends (W.contents (inner_of writer.old)) (W.contents (inner_of writer.new)) waiting.old.items) }
+    ensures broken { OnErr result
+        (WritesFront (W.contents (inner_of writer.old)) (W.contents (inner_of writer.new)) waiting.old.items) }
+    ensures fault { OnErr result ((result ≡ Err DeskFault.Write) × (failures_of writer.old < failures_of writer.new)) }
+{
+    send(writer, waiting)?;
+    Ok(Served { requests })
+}
+
+/// Answers a stream of messages, until it ends, or a message or a faulty item closes it. Answers wait for one another
+/// as long as the bytes that were read have the next message whole.
 pub(crate) fn serve_stream<R: Read, W: Write, G: Responder>(
     alloc: Global,
     reader: &mut Counted<R>,
@@ -136,16 +161,26 @@ pub(crate) fn serve_stream<R: Read, W: Write, G: Responder>(
         buffer: Vec::new(alloc),
         reads: 0,
     };
+    let mut waiting = Page::new();
     let mut paths = None;
     let mut requests = 0;
     'messages: loop {
-        match next_turn(&mut intake, reader, writer)? {
-            Turn::Ended => return Ok(Served { requests }),
+        match next_turn(&mut intake, reader, writer, &mut waiting)? {
+            Turn::Ended => return finish(writer, &mut waiting, requests),
             Turn::Message(spans, plan) => {
-                answer_front(&intake, writer, responder, alloc, &mut paths, spans, plan)?;
+                answer_front(
+                    &intake,
+                    writer,
+                    &mut waiting,
+                    responder,
+                    alloc,
+                    &mut paths,
+                    spans,
+                    plan,
+                )?;
                 requests += 1;
                 if plan.closes {
-                    return Ok(Served { requests });
+                    return finish(writer, &mut waiting, requests);
                 }
                 intake.drop_front(spans.len + plan.length);
             }

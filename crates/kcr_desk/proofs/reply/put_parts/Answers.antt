@@ -1,14 +1,13 @@
-use Rattle.std.proofs.Common.{◌≡◌, ◌++◌, ◌∙◌, subst, length}
-use Rattle.kcr_base.specs.Counted.{inner_of}
-use Rattle.kcr_print.specs.Written.{Writes}
-use Rattle.kcr_desk.specs.Texts.{head_text, answer_text}
-use Rattle.kcr_print.proofs.WrittenLemmas.{writes_then}
+use Rattle.std.proofs.Common.{◌≡◌, ◌++◌, append_assoc}
+use Rattle.kcr_desk.specs.Texts.{answer_text}
+use Rattle.kcr_desk.proofs.WaitingLemmas.{with_more, gathers_on}
 use Rattle.kcr_desk.proofs.reply.put_parts.Goals as goal
 
-pub returns-clause-written : goal.returns-clause-written
+pub returns-clause-gathered : goal.returns-clause-gathered
 unfolding answer_text
-returns-clause-written g c =
-    let head : c.as_slice-2.result.now ≡ head_text c.args.closes c.args.heading (length c.args.body.now) =
-    c.as_slice-2.ensures.value ∙ c.make_head-page.ensures.items in
-    subst (Writes c.put-3.result _ _) (λ i. head i ++ c.shown_part-shown.ensures i)
-    (writes_then c.put-3.result _ (g.W.Write.contents (inner_of c.put-2.new.writer)) _ _ _ c.in_ok-put.ensures.written c.put-3.ensures.written)
+returns-clause-gathered g c =
+    let answer = answer_text c.args.bare c.args.closes record { heading = c.args.heading; body = c.args.body.now } in
+    let pieces : c.add_head.new.page.items ++ c.shown_part.result.now ≡ c.make_room.new.waiting.items ++ answer =
+    simp (c.add_head.ensures, c.shown_part.ensures, append_assoc) in
+    gathers_on c.gather.result _ c.gather.new.waiting.items (with_more answer c.in_ok-make_room.ensures.gathered)
+    (rw pieces at c.gather.ensures.gathered)

@@ -1,34 +1,12 @@
 use Rattle.std.proofs.Common.{◌<◌, ◌∙◌, arith}
-use Rattle.std.proofs.lemmas.Result.{err_from_is_err_and}
-use Rattle.kcr_desk.proofs.ServeLemmas.{ended_served, turn_broken, serving_then, closed_served, answer_broken}
+use Rattle.std.proofs.lemmas.Result.{err_from_is_err_and, IfOk-weaker, on_err_weaker}
+use Rattle.kcr_desk.proofs.ServeLemmas.{ended_served, ended_broken, turn_broken, serving_then, closed_served, closed_broken, answer_broken}
 use Rattle.kcr_desk.proofs.stream.serve_stream.Goals as goal
 
 pub returns-in_err-next_turn-clause-broken : goal.returns-in_err-next_turn-clause-broken
 returns-in_err-next_turn-clause-broken g c =
     let p = err_from_is_err_and c.from_residual.result c.from_residual.ensures.1 in
     rw p.1 (turn_broken c.messages.invariant.serving c.in_err-next_turn.ensures.breaks)
-
-pub returns-in-Ended-clause-served : goal.returns-in-Ended-clause-served
-returns-in-Ended-clause-served g c =
-    let turn = rw c.in-Ended.is at c.in_ok-next_turn.ensures.turn in
-    ended_served c.messages.invariant.serving turn.0 (g.W.Write.contents c.next_turn.new.writer.inner) turn.1 turn.2
-
-pub returns-in_err-answer_front-in-Message-clause-broken : goal.returns-in_err-answer_front-in-Message-clause-broken
-returns-in_err-answer_front-in-Message-clause-broken g c =
-    let p = err_from_is_err_and c.from_residual-in_err-answer_front-in-Message.result c.from_residual-in_err-answer_front-in-Message.ensures.1 in
-    let turn = rw c.in-Message.is at c.in_ok-next_turn.ensures.turn in
-    let told = c.in_err-answer_front-in-Message.ensures.answered in
-    rw p.1 (answer_broken c.messages.invariant.serving turn.0 (g.R.Read.remaining c.next_turn.new.reader.inner)
-    c.in_ok-next_turn.ensures.takes.kept told.0 c.answer_front.new.responder told.1
-    (g.W.Write.contents c.next_turn.new.writer.inner) (g.W.Write.contents c.answer_front.new.writer.inner) turn.1 told.2)
-
-pub returns-then-plan-clause-served : goal.returns-then-plan-clause-served
-returns-then-plan-clause-served g c =
-    let turn = rw c.in-Message.is at c.in_ok-next_turn.ensures.turn in
-    let told = c.in_ok-answer_front-in-Message.ensures.answered in
-    closed_served c.messages.invariant.serving turn.0 (g.R.Read.remaining c.next_turn.new.reader.inner)
-    c.in_ok-next_turn.ensures.takes.kept told.0 c.answer_front.new.responder told.1
-    (g.W.Write.contents c.next_turn.new.writer.inner) (g.W.Write.contents c.answer_front.new.writer.inner) turn.1 c.if-plan.true told.2
 
 pub messages-preserved : goal.messages-preserved
 messages-preserved g c =
@@ -45,3 +23,48 @@ messages-preserved g c =
       calm_writer = c.in_ok-answer_front-in-Message.ensures.calm ∙ c.in_ok-next_turn.ensures.calm ∙ c.messages.invariant.calm_writer;
       counted = rw c.drop_front.ensures.reads (omega (arith, c.next_turn.ensures.takes.counted, c.messages.invariant.counted));
     }
+
+pub returns-in-Ended-clause-served : goal.returns-in-Ended-clause-served
+returns-in-Ended-clause-served g c =
+    let turn = rw c.in-Ended.is at c.in_ok-next_turn.ensures.turn in
+    IfOk-weaker c.finish.result _ _
+    (λ served is. rw is.0 (ended_served c.messages.invariant.serving turn.0 _ (g.W.Write.contents c.finish.new.writer.inner) turn.1 turn.2 is.1))
+    c.finish.ensures.served
+
+pub returns-in-Ended-clause-broken : goal.returns-in-Ended-clause-broken
+returns-in-Ended-clause-broken g c =
+    let turn = rw c.in-Ended.is at c.in_ok-next_turn.ensures.turn in
+    on_err_weaker c.finish.result
+    (ended_broken c.messages.invariant.serving turn.0 _ (g.W.Write.contents c.finish.new.writer.inner) turn.1 turn.2)
+    c.finish.ensures.broken
+
+pub returns-in_err-answer_front-in-Message-clause-broken : goal.returns-in_err-answer_front-in-Message-clause-broken
+returns-in_err-answer_front-in-Message-clause-broken g c =
+    let p = err_from_is_err_and c.from_residual-in_err-answer_front-in-Message.result c.from_residual-in_err-answer_front-in-Message.ensures.1 in
+    let turn = rw c.in-Message.is at c.in_ok-next_turn.ensures.turn in
+    let told = c.in_err-answer_front-in-Message.ensures.answered in
+    rw p.1 (answer_broken c.messages.invariant.serving turn.0 (g.R.Read.remaining c.next_turn.new.reader.inner)
+    c.in_ok-next_turn.ensures.takes.kept told.0 c.answer_front.new.responder told.1
+    (g.W.Write.contents c.next_turn.new.writer.inner) (g.W.Write.contents c.answer_front.new.writer.inner) turn.1 told.2)
+
+pub returns-then-plan-clause-served : goal.returns-then-plan-clause-served
+returns-then-plan-clause-served g c =
+    let turn = rw c.in-Message.is at c.in_ok-next_turn.ensures.turn in
+    let told = c.in_ok-answer_front-in-Message.ensures.answered in
+    IfOk-weaker c.finish-then-plan.result _ _
+    (λ served is. rw is.0 (closed_served c.messages.invariant.serving turn.0 (g.R.Read.remaining c.next_turn.new.reader.inner)
+    c.in_ok-next_turn.ensures.takes.kept told.0 c.answer_front.new.responder told.1
+    (g.W.Write.contents c.next_turn.new.writer.inner) (g.W.Write.contents c.answer_front.new.writer.inner) turn.1
+    (g.W.Write.contents c.finish-then-plan.new.writer.inner) c.if-plan.true told.2 is.1))
+    c.finish-then-plan.ensures.served
+
+pub returns-then-plan-clause-broken : goal.returns-then-plan-clause-broken
+returns-then-plan-clause-broken g c =
+    let turn = rw c.in-Message.is at c.in_ok-next_turn.ensures.turn in
+    let told = c.in_ok-answer_front-in-Message.ensures.answered in
+    on_err_weaker c.finish-then-plan.result
+    (closed_broken c.messages.invariant.serving turn.0 (g.R.Read.remaining c.next_turn.new.reader.inner)
+    c.in_ok-next_turn.ensures.takes.kept told.0 c.answer_front.new.responder told.1
+    (g.W.Write.contents c.next_turn.new.writer.inner) (g.W.Write.contents c.answer_front.new.writer.inner) turn.1
+    (g.W.Write.contents c.finish-then-plan.new.writer.inner) told.2)
+    c.finish-then-plan.ensures.broken

@@ -7,7 +7,7 @@ abbrev pub invariant-messages : goal.invariant-messages
 invariant-messages g l = record {
   serving : Serving g.G.Responder.step (g.R.Read.remaining l.initial.reader.inner)
       (prepend_known l.intake.buffer.items (g.R.Read.remaining l.reader.inner))
-      (g.W.Write.contents l.initial.writer.inner) (g.W.Write.contents l.writer.inner)
+      (g.W.Write.contents l.initial.writer.inner) (g.W.Write.contents l.writer.inner) l.waiting.items
       l.initial.responder l.responder l.requests;
   room : l.requests + vec_len l.intake.buffer ≤ 4096 * l.intake.reads;
   calm_reader : l.reader.failed.count ≡ l.initial.reader.failed.count;

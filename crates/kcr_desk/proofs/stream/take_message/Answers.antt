@@ -1,13 +1,16 @@
-use Rattle.std.proofs.Common.{◌≡◌, ◌+◌, ◌<◌, ◌≤◌, length, arith}
+use Rattle.std.proofs.Common.{◌≡◌, ◌+◌, ◌<◌, ◌≤◌, ◌++◌, true, length, arith}
 use Rattle.std.specs.Io.KnownBytes.{prepend_known}
 use Rattle.std.proofs.lemmas.Result.{err_from_is_err_and}
 use Rattle.httparse.specs.Spans.{span_bytes}
 use Rattle.kcr_desk.specs.Plans.{is_head}
 use Rattle.kcr_desk.specs.Stream.{cut_off}
 use Rattle.kcr_desk.specs.Found.{EndsAs}
-use Rattle.kcr_desk.specs.Texts.{continue_text}
-use Rattle.kcr_desk.proofs.TurnLemmas.{ends_before, breaks_ending, breaks_continue, front_of_whole, plan_more, cut_ends}
-use Rattle.kcr_print.proofs.WrittenLemmas.{appends_both, front_both}
+use Rattle.kcr_desk.specs.Run.{ending_text}
+use Rattle.kcr_base.specs.declared.refusal.Refusal.TheVariants.{Cut}
+use Rattle.kcr_desk.specs.Texts.{continue_text, answer_text, told_of}
+use Rattle.kcr_desk.specs.Waiting.{Gathered}
+use Rattle.kcr_desk.proofs.WaitingLemmas.{with_more_behind, sent_front, sent_on}
+use Rattle.kcr_desk.proofs.TurnLemmas.{ends_before, breaks_ending, breaks_continue, plan_more, cut_ends}
 use Rattle.kcr_desk.proofs.stream.take_message.Given.{Over}
 use Rattle.kcr_desk.proofs.stream.take_message.Goals as goal
 use Rattle.kcr_desk.proofs.stream.take_message.Goals.{After-put_refusal}
@@ -15,7 +18,7 @@ use Rattle.kcr_desk.proofs.stream.take_message.Goals.{After-put_refusal}
 pub returns-in_err-put_continue-clause-breaks : goal.returns-in_err-put_continue-clause-breaks
 returns-in_err-put_continue-clause-breaks g c =
     let p = err_from_is_err_and c.from_residual.result c.from_residual.ensures.1 in
-    rw p.1 (breaks_continue (g.R.Read.remaining c.args.reader.now.inner) c.requires (λ bytes is. is) c.in_err-put_continue.ensures.written)
+    rw p.1 (breaks_continue (g.R.Read.remaining c.args.reader.now.inner) c.requires (λ bytes is. is) c.in_err-put_continue.ensures.gathered)
 
 pub overflow_add-spans : goal.overflow_add-spans
 overflow_add-spans g c = omega (arith, c.requires.fits)
@@ -24,14 +27,16 @@ pub returns-in_err-take_body-clause-breaks : goal.returns-in_err-take_body-claus
 returns-in_err-take_body-clause-breaks g c =
     let p = err_from_is_err_and c.from_residual-in_err-take_body.result c.from_residual-in_err-take_body.ensures.1 in
     rw p.1 (breaks_continue (g.R.Read.remaining c.args.reader.now.inner) c.requires (λ bytes is. is)
-    (front_of_whole _ _ (continue_text c.args.plan) c.in_ok-put_continue.ensures.written))
+    (sent_front _ c.in_ok-put_continue.ensures.gathered c.in_err-take_body.ensures.gathered))
 
 pub returns-then-branch-clause-turn : goal.returns-then-branch-clause-turn
 returns-then-branch-clause-turn g c =
     let grown = c.in_ok-take_body.ensures.grown in
     let enough : c.args.spans.len + c.args.plan.length ≤ length c.take_body.new.self.buffer.items =
-    rw c.take_body.new.self.buffer.ok.0 at (c.in_ok-take_body.ensures.enough c.if-branch.true) in
-    (record { front = plan_more grown.0 c.requires grown.1; enough = enough }, c.in_ok-put_continue.ensures.written)
+    rw c.take_body.new.self.buffer.ok.0 at (c.in_ok-take_body.ensures.enough c.if-branch.true) in (
+      record { front = plan_more grown.0 c.requires grown.1; enough = enough },
+      sent_on c.in_ok-put_continue.ensures.gathered c.in_ok-take_body.ensures.gathered,
+    )
 
 -- what the end of a stream inside a body is
 cut_at_end : (g : Over) (c : After-put_refusal g)
@@ -46,18 +51,26 @@ cut_at_end g c =
     ends_before _ (prepend_known new (g.R.Read.remaining c.take_body.new.reader.inner)) _ c.in_ok-take_body.ensures.takes.kept
     (rw bare (cut_ends (g.R.Read.remaining c.take_body.new.reader.inner) (plan_more grown.0 c.requires grown.1) few ended.1))
 
+-- what was written and what waits, with the answer behind it
+so_far : (g : Over) (c : After-put_refusal g)
+    → Gathered (g.W.Write.contents c.args.writer.now.inner) (g.W.Write.contents c.take_body.new.writer.inner)
+    (c.args.waiting.now.items ++ ending_text (cut_off c.args.plan c.is_head_method-bare.result))
+    (c.take_body.new.waiting.items ++ answer_text c.is_head_method-bare.result true (told_of Cut))
+so_far g c =
+    with_more_behind c.args.waiting.now.items (continue_text c.args.plan) (answer_text c.is_head_method-bare.result true (told_of Cut))
+    (sent_on c.in_ok-put_continue.ensures.gathered c.in_ok-take_body.ensures.gathered)
+
 pub returns-in_err-put_refusal-clause-breaks : goal.returns-in_err-put_refusal-clause-breaks
 returns-in_err-put_refusal-clause-breaks g c =
     let p = err_from_is_err_and c.from_residual-in_err-put_refusal.result c.from_residual-in_err-put_refusal.ensures.1 in
-    rw p.1 (breaks_ending (cut_off c.args.plan c.is_head_method-bare.result)
-    (cut_at_end g (goal.at.returns-in_err-put_refusal-clause-breaks g c).After-put_refusal)
-    (front_both _ (g.W.Write.contents c.put_continue.new.writer.inner) _ (continue_text c.args.plan) _
-    c.in_ok-put_continue.ensures.written c.in_err-put_refusal.ensures.written))
+    let at = (goal.at.returns-in_err-put_refusal-clause-breaks g c).After-put_refusal in
+    rw p.1 (breaks_ending (cut_off c.args.plan c.is_head_method-bare.result) (cut_at_end g at)
+    (sent_front _ (so_far g at) c.in_err-put_refusal.ensures.gathered))
 
 pub returns-clause-turn : goal.returns-clause-turn
-returns-clause-turn g c = (
-  cut_off c.args.plan c.is_head_method-bare.result,
-  cut_at_end g (goal.at.returns-clause-turn g c).After-put_refusal,
-  appends_both _ (g.W.Write.contents c.put_continue.new.writer.inner) _ (continue_text c.args.plan) _
-      c.in_ok-put_continue.ensures.written c.in_ok-put_refusal.ensures.written,
-)
+returns-clause-turn g c =
+    let at = (goal.at.returns-clause-turn g c).After-put_refusal in (
+      cut_off c.args.plan c.is_head_method-bare.result,
+      cut_at_end g at,
+      sent_on (so_far g at) c.in_ok-put_refusal.ensures.gathered,
+    )

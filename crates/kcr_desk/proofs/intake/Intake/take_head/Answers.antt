@@ -4,6 +4,8 @@ use Rattle.kcr_desk.specs.Plans.{is_head}
 use Rattle.kcr_desk.specs.Heads.{IsWhole, IsHopeless}
 use Rattle.kcr_desk.specs.Stream.{HasNoHead, IsQuiet, is_quiet, no_head}
 use Rattle.kcr_desk.proofs.FoundLemmas.{ends_all, ends_here, failed_ends}
+use Rattle.std.proofs.lemmas.Result.{err_from_is_err_and}
+use Rattle.kcr_desk.proofs.WaitingLemmas.{sent_front}
 use Rattle.kcr_desk.proofs.intake.Intake.take_head.Goals as goal
 
 pub returns-in-Whole-default-Err-clause-found : goal.returns-in-Whole-default-Err-clause-found
@@ -32,3 +34,8 @@ returns-then-not-branch-clause-found g c =
     ends_here c.fill.new.self.buffer.items _ _ ended.2
     (no_head (subst HasNoHead (c.deref.ensures.value ∙ sym ended.1) c.in-More.ensures)
     (λ q. cc (c.is_quiet.ensures.1 (subst IsQuiet (sym c.deref-then-not-branch.ensures.value) q), c.if-is_quiet.false)))
+
+pub returns-in_err-fill-clause-gathered : goal.returns-in_err-fill-clause-gathered
+returns-in_err-fill-clause-gathered g c =
+    let p = err_from_is_err_and c.from_residual.result c.from_residual.ensures.1 in
+    rw p.1 (sent_front _ c.head.invariant.gathered c.in_err-fill.ensures.gathered)
