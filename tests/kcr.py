@@ -1,8 +1,8 @@
 """What the tests of the program `kcr` share: to start it and end it, to cut streams into requests and answers, and to
 read and change a register's file with C's sqlite, by Python's module sqlite3.
 
-It tests nothing by itself: `program.py`, `server.py`, `kills.py`, `healthy.py`, `memory.py` and `stops.py` stand on it,
-and on the kept streams of `files`.
+It tests nothing by itself: `program.py`, `server.py`, `kills.py`, `healthy.py`, `memory.py` and `stops.py` stand on it
+and on the kept streams of `files`, and `streams.py` makes its requests by it.
 """
 import ast
 import contextlib

@@ -5,18 +5,23 @@
 
 Standard input is a socket that keeps the borders of its pieces, so that each piece is one read. Shown are: that no
 cut into reads and no slow reader changes a byte; what each front of a stream is answered; that an answer goes out
-before more is asked for, and `100 Continue` before the body; that a stream without end is answered up to the bound on
-reads; and what the program says and leaves where a read or a write fails. Where a read or a write fails in the middle
-is a matter of the proved tests of kcr_trials.
+before more is asked for, and `100 Continue` before the body; that answers which were asked for together go out
+together; that a stream without end is answered up to the bound on reads; and what the program says and leaves where a
+read or a write fails. Where a read or a write fails in the middle is a matter of the proved tests of kcr_trials.
 
 The last line is `N passed, M failed`, and the status is 0 where none failed.
 """
+import sys
+
+sys.dont_write_bytecode = True  # no files beside these
+
 import os
 import pathlib
 import socket
 import subprocess
-import sys
 import threading
+
+import kcr
 
 CASES = pathlib.Path(__file__).resolve().parent / "cases"
 SECONDS = 60
@@ -44,6 +49,27 @@ def send(stream, pieces):
     except OSError:
         pass
     stream.close()
+
+
+def pieces_of(stream):
+    """The pieces that come over a socket which keeps their borders, until it ends."""
+    while piece := stream.recv(1_000_000):
+        yield piece
+
+
+def written(program, pieces):
+    """What the program writes, a piece for each write, where each of these pieces is one read."""
+    ours, theirs = socket.socketpair(socket.AF_UNIX, socket.SOCK_SEQPACKET)
+    output, told = socket.socketpair(socket.AF_UNIX, socket.SOCK_SEQPACKET)
+    with theirs, told:
+        run = subprocess.Popen([program, "run"], stdin=theirs, stdout=told)
+    guard = threading.Timer(SECONDS, run.kill)
+    guard.start()
+    threading.Thread(target=send, args=(ours, pieces), daemon=True).start()
+    with output:
+        found = list(pieces_of(output))
+    guard.cancel()
+    return found, run.wait()
 
 
 def played(program, pieces):
@@ -130,6 +156,27 @@ def continue_at_once(program):
     return told_in_turn(program, [(waiting, GO_ON), (body, ACCEPTED)])
 
 
+def answers_together(program):
+    """The answers to what one read gave are one write, and those to what two reads gave are two."""
+    head, body = POST[:-41], POST[-41:]
+    waiting = head[:-2] + b"Expect: 100-continue\r\n\r\n"
+    told = {(POST + GET,): [ACCEPTED + LISTED], (POST, GET): [ACCEPTED, LISTED], (GET + b"?\r\n\r\n",): [NOBODY + HEAD],
+            (waiting + body,): [GO_ON + ACCEPTED], (waiting, body): [GO_ON, ACCEPTED], (waiting,): [GO_ON, CUT]}
+    return all(written(program, pieces) == (wanted, 0) for pieces, wanted in told.items())
+
+
+def full_pages(program):
+    """Answers that are more than a page of 4,096 bytes are several writes, where the next head or body finds no room; a
+    body that is longer than a page is one by itself."""
+    people = [(kcr.initials(number), b"%03d " % number + 100 * b"x") for number in range(40)]
+    posts = [kcr.person(b"k%d" % number, who, name) for number, (who, name) in enumerate(people)]
+    shown = b'{"people":[%s]}' % b",".join(b'{"name":"%s","roles":[],"who":"%s"}' % (name, who) for who, name in people)
+    head = kcr.answer(b"200 OK", shown)[:-len(shown)]
+    told = [kcr.accepted(number + 1) for number in range(len(people))] + [ACCEPTED + head, shown, ACCEPTED]
+    return (written(program, [120 * GET]) == ([46 * NOBODY, 46 * NOBODY, 28 * NOBODY], 0)
+            and written(program, posts + [posts[0] + GET + posts[0]]) == (told, 0))
+
+
 def endless_messages(program):
     """A message of 131,129 bytes again and again, one byte a read: seven answers, and then the bound on reads."""
     message = b"GET /people HTTP/1.1\r\nHost: l\r\nContent-Length: 131072\r\n\r\n" + bytes(131_072)
@@ -157,8 +204,8 @@ def write_fails(program):
     return (run.stderr, run.returncode) == (b"fault: write\n", 1)
 
 
-TESTS = [any_cut, any_front, slow_cases, answers_at_once, continue_at_once, endless_messages, endless_empty_lines,
-         read_fails, write_fails]
+TESTS = [any_cut, any_front, slow_cases, answers_at_once, continue_at_once, answers_together, full_pages,
+         endless_messages, endless_empty_lines, read_fails, write_fails]
 
 
 def main():
