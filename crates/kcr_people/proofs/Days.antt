@@ -1,9 +1,9 @@
 -- Days on which the rows say something, and days from which on they do.
-use Rattle.std.proofs.Common.{◌≡◌, ℕ, ◌≤◌, Bool, true, false, not, ◌||◌, ◌&&◌, cond, nat_le, max, is_some, inl, inr, List, [], ◌∷◌, find, Option}
-use Rattle.std.proofs.Common.{Some, None, option_map, refl, ◌∙◌, arith}
+use Rattle.std.proofs.Common.{◌≡◌, ℕ, ◌≤◌, Bool, true, not, ◌&&◌, nat_le, max, is_some, inl, inr, List, [], ◌∷◌, find, Option}
+use Rattle.std.proofs.Common.{option_map, refl, ◌∙◌, arith}
 use Rattle.std.specs.List.{list_any, list_all}
-use Rattle.std.proofs.lemmas.Bool.{false≢true, both_ways, not-true, not_from_false, false_from_ne_true, and_parts, and_from, or_cases, or_left}
-use Rattle.std.proofs.lemmas.Bool.{or_right, leb-true, le-leb, ltb-true, lt-ltb}
+use Rattle.std.proofs.lemmas.Bool.{false≢true, and_parts, or_cases, or_left}
+use Rattle.std.proofs.lemmas.Bool.{or_right}
 use Rattle.std.proofs.lemmas.Bool.Decides.{nat_tests}
 use Rattle.kcr_base.specs.Same.{same_text, same_role, same_place}
 use Rattle.kcr_base.specs.declared.place.Place.{Place}
@@ -12,7 +12,7 @@ use Rattle.kcr_base.proofs.ListLemmas.{any-more}
 use Rattle.kcr_people.specs.declared.Appointment.{Appointment}
 use Rattle.kcr_people.specs.declared.Training.{Training}
 use Rattle.kcr_people.specs.declared.Withdrawal.{Withdrawal}
-use Rattle.kcr_people.specs.People.{covers, is_of, is_withdrawn_by, trains, trained_by, trained_from_by, ends_after, lasts, lasts_beyond, holds}
+use Rattle.kcr_people.specs.People.{is_of, is_withdrawn_by, trains, trained_by, trained_from_by, ends_after, lasts, lasts_beyond, holds}
 use Rattle.kcr_people.specs.People.{holder_by, place_held_from_by}
 
 -- TRAININGS

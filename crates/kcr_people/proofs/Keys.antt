@@ -1,6 +1,5 @@
 -- Trainings and withdrawals by their keys: no two rows of one withdrawal are of one training.
-use Rattle.std.proofs.Common.{◌≡◌, ℕ, Bool, true, false, List, [], refl, sym, ◌∙◌, subst, arith}
-use Rattle.std.proofs.lemmas.Bool.{false≢true}
+use Rattle.std.proofs.Common.{◌≡◌, ℕ, true, List, [], sym, subst, arith}
 use Rattle.kcr_base.proofs.RowsLemmas.{IsKeyTest, Apart, filter-apart, map-apart}
 use Rattle.kcr_base.specs.declared.place.Role.{Role}
 use Rattle.kcr_people.specs.declared.Training.{Training}

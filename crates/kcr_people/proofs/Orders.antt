@@ -1,9 +1,8 @@
 -- Rows in another order.
-use Rattle.std.proofs.Common.{◌≡◌, ℕ, Bool, true, false, not, ◌&&◌, cond, nat_le, max, List, [], ◌∷◌, find, Option, Some, None, refl, sym, ap, ◌∙◌}
-use Rattle.std.proofs.Common.{inl, inr, subst}
-use Rattle.std.specs.List.{list_any, All, AllByRecursion}
+use Rattle.std.proofs.Common.{◌≡◌, ℕ, Bool, true, not, ◌&&◌, nat_le, max, List, find, Some, sym, ap, ◌∙◌}
+use Rattle.std.specs.List.{All}
 use Rattle.std.specs.List.Sorted.{IsPermutation}
-use Rattle.std.proofs.lemmas.List.Sorted.{list_any-IsPermutation, All-permutation}
+use Rattle.std.proofs.lemmas.List.Sorted.{list_any-IsPermutation}
 use Rattle.std.proofs.lemmas.List.Elements.{recursion_from_All}
 use Rattle.kcr_base.specs.declared.place.Role.{Role}
 use Rattle.kcr_base.proofs.ListLemmas.{any-same, first-is, Only, find-order}
