@@ -45,7 +45,8 @@ module _ (E : Type 0) (G : Text → Result ℕ E → Type 0) (exact : (u : Text)
           ap (λ v. Some v) is ∙ sym (at_text most name f (Some t) e ∙ found)
 
   -- one that is not comes to none
-  pub number_outside : (n : ℕ) → (one_text f name ≡ None → Some n ≡ None) → ((t : Text) → one_text f name ≡ Some t → ReadsOne G t (Some n)) → (1 ≤ n → n ≤ most → ⊥)
+  pub number_outside : (n : ℕ) → (one_text f name ≡ None → Some n ≡ None) → ((t : Text) → one_text f name ≡ Some t → ReadsOne G t (Some n))
+      → (1 ≤ n → n ≤ most → ⊥)
       → None ≡ number_at most name (rows_of f)
   number_outside n none value outside = go (one_text f name) refl
     where
@@ -64,4 +65,5 @@ module _ (E : Type 0) (G : Text → Result ℕ E → Type 0) (exact : (u : Text)
       go None e = sym (at_text most name f None e)
       go (Some t) e =
           let failed = value t e in
-          no_number most t (λ h. let narrow : digits_value 10 (without_leading_plus t) < 2 ^ 32 = omega (arith, h.3) in exact t (Err failed.0) failed.1 (h.0, narrow)) ∙ sym (at_text most name f (Some t) e)
+          no_number most t (λ h. let narrow : digits_value 10 (without_leading_plus t) < 2 ^ 32 = omega (arith, h.3) in exact t (Err failed.0) failed.1
+          (h.0, narrow)) ∙ sym (at_text most name f (Some t) e)

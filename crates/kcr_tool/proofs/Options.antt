@@ -1,5 +1,6 @@
 -- Words that are taken give each required option of their subcommand.
-use Rattle.std.proofs.Common.{◌≡◌, ◌&&◌, ◌==◌, ℕ, zero, suc, Bool, true, false, not, cond, List, [], ◌∷◌, Option, Some, None, refl, sym, ap, ◌∙◌, subst, length, drop, arith, inl, inr}
+use Rattle.std.proofs.Common.{◌≡◌, ◌&&◌, ◌==◌, ℕ, zero, suc, Bool, true, false, not, cond, List, [], ◌∷◌, Option, Some, None, refl, sym, ap, ◌∙◌, subst, length}
+use Rattle.std.proofs.Common.{drop, arith, inl, inr}
 use Rattle.std.specs.Prelude.{is_some, fold, find, MatchOption, option_and_then, slice_get, encode_utf8}
 use Rattle.std.specs.List.{AllByRecursion, list_any}
 use Rattle.std.specs.Option.{option_map_or}
@@ -10,9 +11,13 @@ use Rattle.clap.specs.Lexer.{long_of}
 use Rattle.clap.specs.Kinds.{Kinds, check_kinds, or_else, range_kinds}
 use Rattle.clap.specs.Facts.{explicit_source}
 use Rattle.clap.specs.Takes.{is_given}
-use Rattle.clap.specs.Faults.{bundle_step_fault, check_fault, defaults_fault, flags_fault, flag_word_fault, level_fault, repeat_fault, values_fault, long_fault, option_fault, react_fault, settle_fault, short_fault, step_fault, turn_fault, use_fault, walk_fault, word_fault}
+use Rattle.clap.specs.Faults.{bundle_step_fault, check_fault, defaults_fault, flags_fault, flag_word_fault, level_fault, repeat_fault, values_fault, long_fault}
+use Rattle.clap.specs.Faults.{option_fault, react_fault, settle_fault, short_fault, step_fault, turn_fault, use_fault, walk_fault, word_fault}
 use Rattle.clap.specs.Simple.{Shape, filled, new_rule}
-use Rattle.clap.specs.Walk.{Held, Names, Outcome, Row, Rule, Step, Text, Waiting, Walk, action_of, after_flag, after_step, arg_by_id, arg_by_long, arg_by_short, attached_value, first_of, bundle, bundle_met, bundle_step, done, plain, finished, has_row, long_met, long_or_other, nothing_held, option, option_met, reacted, row_text, rows_after, settled, settled_rows, short_met, used, walk, walk_from, walked, with_default, reading_by, used_as, values_or_missing, with_values, without, word_met}
+use Rattle.clap.specs.Walk.{Held, Names, Outcome, Row, Rule, Step, Text, Waiting, Walk, action_of, after_flag, after_step, arg_by_id, arg_by_long, arg_by_short}
+use Rattle.clap.specs.Walk.{attached_value, first_of, bundle, bundle_met, bundle_step, done, plain, finished, has_row, long_met, long_or_other, nothing_held}
+use Rattle.clap.specs.Walk.{option, option_met, reacted, row_text, rows_after, settled, settled_rows, short_met, used, walk, walk_from, walked, with_default}
+use Rattle.clap.specs.Walk.{reading_by, used_as, values_or_missing, with_values, without, word_met}
 use Rattle.clap.specs.declared.error.kind.ErrorKind.TheVariants as kind
 use Rattle.clap.specs.declared.builder.action.ArgAction.{ArgAction}
 use Rattle.clap.specs.declared.builder.action.ArgAction.TheVariants.{Set, Help}
@@ -59,18 +64,21 @@ module _ (s : Shape) (P : List Row → Type 0) where
     settles : (h : Held) → settle_fault s.rules s.args_override_self h ≡ [] → P h.rows → P (settled s.rules h).rows
     settles h none p = settles_at h.pending h.rows none p
 
-    reacts : (a : Rule) → Keeps a → (values : List Text) (h : Held) → react_fault s.rules s.args_override_self a values h ≡ [] → P h.rows → P (reacted s.rules a values h).rows
+    reacts : (a : Rule) → Keeps a → (values : List Text) (h : Held) → react_fault s.rules s.args_override_self a values h ≡ [] → P h.rows
+        → P (reacted s.rules a values h).rows
     reacts a rule values h none p =
         let each = both_empty (settle_fault s.rules s.args_override_self h) (use_fault s.args_override_self a values (settled s.rules h).rows) none in
         rule values (settled s.rules h).rows each.1 (settles h each.0 p)
 
-    option_keeps : (a : Rule) → Keeps a → (v : Option Text) (h : Held) → option_fault s.rules s.args_override_self a v h ≡ [] → P h.rows → P (option_met s.rules a v h).0.rows
+    option_keeps : (a : Rule) → Keeps a → (v : Option Text) (h : Held) → option_fault s.rules s.args_override_self a v h ≡ [] → P h.rows
+        → P (option_met s.rules a v h).0.rows
     option_keeps a rule o h none p =
         let some = λ (v : Text). reacts a rule (v ∷ []) h in
         let settle = settles h in
         grind (arith, some, settle, p)
 
-    long_keeps : (o : Option Rule) → IsRule o → (v : Option Text) (h : Held) → long_fault s.rules s.args_override_self o v h ≡ [] → P h.rows → P (long_met s.rules o v h).0.rows
+    long_keeps : (o : Option Rule) → IsRule o → (v : Option Text) (h : Held) → long_fault s.rules s.args_override_self o v h ≡ [] → P h.rows
+        → P (long_met s.rules o v h).0.rows
     long_keeps None rule v h none p = p
     long_keeps (Some a) rule v h none p =
         let option = option_keeps a (rule a refl) v h in
@@ -93,13 +101,15 @@ module _ (s : Shape) (P : List Row → Type 0) where
     bundle_keeps zero flags skip so_far h none p = p
     bundle_keeps (suc k) flags skip so_far h none p = by_flag (bundle_keeps k) (slice_get (chars flags) 0) skip none
       where
-        by_flag : ((flags : Text) (skip : ℕ) (so_far : Outcome) (h : Held) → flags_fault s.rules s.args_override_self k flags skip h ≡ [] → P h.rows → P (bundle_met s.rules k flags skip so_far h).0.rows)
+        by_flag : ((flags : Text) (skip : ℕ) (so_far : Outcome) (h : Held) → flags_fault s.rules s.args_override_self k flags skip h ≡ [] → P h.rows
+            → P (bundle_met s.rules k flags skip so_far h).0.rows)
             → (o : Option ℕ) (skip : ℕ) → bundle_step_fault s.rules s.args_override_self o flags skip h (flags_fault s.rules s.args_override_self k) ≡ []
             → P (bundle_step s.rules o flags skip so_far h (bundle_met s.rules k)).0.rows
         by_flag later None skip free = p
         by_flag later (Some x) zero free =
             let rest = drop (length (encode_utf8 x)) flags in
-            short_keeps (arg_by_short s.rules x) (λ a e. found_keeps _ s.rules keeps a e) rest h (bundle_met s.rules k rest 0 done) (flags_fault s.rules s.args_override_self k rest 0)
+            short_keeps (arg_by_short s.rules x) (λ a e. found_keeps _ s.rules keeps a e) rest h (bundle_met s.rules k rest 0 done)
+            (flags_fault s.rules s.args_override_self k rest 0)
             (later rest 0 done) free p
         by_flag later (Some x) (suc less) free = later (drop (length (encode_utf8 x)) flags) less so_far h free p
 
@@ -121,7 +131,8 @@ module _ (s : Shape) (P : List Row → Type 0) where
     word_keeps names true waiting position word h none p = p
     word_keeps names false waiting position word h none p = let flag = flag_keeps waiting word (long_of word) h in grind (arith, flag, p)
 
-    step_keeps : (w : Walk) (word : Text) (h : Held) (step : Step) → step_fault s w.position h step ≡ [] → P h.rows → P (after_step s.rules word w h step).held.rows
+    step_keeps : (w : Walk) (word : Text) (h : Held) (step : Step) → step_fault s w.position h step ≡ [] → P h.rows
+        → P (after_step s.rules word w h step).held.rows
     step_keeps w word h step none p = let settle = settles h in grind (arith, settle, p)
 
     turn_keeps : (names : Names) (w : Walk) (word : Text) → turn_fault s names w word ≡ [] → P w.held.rows → P (walked s.rules names w word).held.rows
@@ -133,7 +144,8 @@ module _ (s : Shape) (P : List Row → Type 0) where
         let before = word_keeps names w.is_trailing w.waiting w.position word w.held in
         grind (arith, each, step, before, p)
 
-    walk_keeps : (names : Names) (w : Walk) (words : List Text) → walk_fault s names w words ≡ [] → P w.held.rows → P (fold (walked s.rules names) w words).held.rows
+    walk_keeps : (names : Names) (w : Walk) (words : List Text) → walk_fault s names w words ≡ [] → P w.held.rows
+        → P (fold (walked s.rules names) w words).held.rows
     unfolding walk_fault
     walk_keeps names w [] none p = p
     walk_keeps names w (word ∷ words) none p =
@@ -162,7 +174,8 @@ apart : (x a b : Text) → bytes_eq a b ≡ false → bytes_eq x a ≡ true → 
 apart x a b differ is = subst (λ (t : Text). bytes_eq t b ≡ false) (sym ((bytes_eq-Decides x a).0 is)) differ
 
 -- rows of another option come and go, and the row of this one stays
-without_other : (other name : Text) → bytes_eq other name ≡ false → (rows : List Row) → find (λ r. bytes_eq r.id name) (without other rows) ≡ find (λ r. bytes_eq r.id name) rows
+without_other : (other name : Text) → bytes_eq other name ≡ false → (rows : List Row)
+    → find (λ r. bytes_eq r.id name) (without other rows) ≡ find (λ r. bytes_eq r.id name) rows
 without_other other name differ [] = refl
 without_other other name differ (r ∷ rs) =
     let rest = without_other other name differ rs in
@@ -180,7 +193,8 @@ with_other other name how source values differ (r ∷ rs) =
 
 -- the first row of an option that had none
 first_row : (name : Text) (how : Reading) (source : ValueSource) (values : List Text) (rows : List Row) → has_row name rows ≡ false
-    → find (λ r. bytes_eq r.id name) (with_values name how source values (without name rows)) ≡ Some (record { id = name; values = values; count = None; source = Some source; reading = how })
+    → find (λ r. bytes_eq r.id name) (with_values name how source values (without name rows))
+    ≡ Some (record { id = name; values = values; count = None; source = Some source; reading = how })
 first_row name how source values [] none =
     ap (λ (b : Bool). cond b (Some (record { id = name; values = values; count = None; source = Some source; reading = how })) None) (same_bytes name)
 first_row name how source values (r ∷ rs) none =
@@ -257,7 +271,8 @@ no_defaults (a ∷ c) rows none =
 none_missing : (help sub missing : Bool) → check_kinds help sub missing ≡ [] → missing ≡ false
 none_missing help sub missing e = grind arith
 
-required_row : (s : Shape) (holds : Row → Bool) (name : Text) → AllByRecursion (Keeps s (HasRow holds name)) s.rules → AllByRecursion (λ a. a.defaults ≡ []) s.rules
+required_row : (s : Shape) (holds : Row → Bool) (name : Text) → AllByRecursion (Keeps s (HasRow holds name)) s.rules
+    → AllByRecursion (λ a. a.defaults ≡ []) s.rules
     → s.subcommand_negates_reqs ≡ false
     → ((rows : List Row) → list_any (λ a. a.required && not (is_given a.id rows)) s.rules ≡ false → is_given name rows ≡ true)
     → (words : List Text) → level_fault s [] nothing_held words false [] ≡ []
@@ -275,7 +290,8 @@ required_row s holds name keeps plain-rules negates required words none =
     let has : HasRow holds name rows = subst (HasRow holds name) (sym (no_defaults s.rules (settled s.rules end).rows plain-rules)) at-end in
     let missing = list_any (λ a. a.required && not (is_given a.id rows)) s.rules in
     let all-there : (not (s.subcommand_negates_reqs && false) && missing) ≡ false = none_missing _ _ _ last.1 in
-    let there : is_given name rows ≡ true = required rows (let off : (not (s.subcommand_negates_reqs && false) && missing) ≡ missing = ap (λ (b : Bool). not (b && false) && missing) negates in sym off ∙ all-there) in
+    let off : (not (s.subcommand_negates_reqs && false) && missing) ≡ missing = ap (λ (b : Bool). not (b && false) && missing) negates in
+    let there : is_given name rows ≡ true = required rows (sym off ∙ all-there) in
     by_row (find (λ r. bytes_eq r.id name) rows) has there
   where
     by_row : (o : Option Row) → MatchOption o (Unit {0}) (λ r. holds r ≡ true) → option_map_or (λ r. explicit_source r.source) o false ≡ true
@@ -283,7 +299,8 @@ required_row s holds name keeps plain-rules negates required words none =
     by_row None has given = cc
     by_row (Some r) has given = (r, refl, has)
 
-pub required_number : (s : Shape) (name : Text) (most : ℕ) → AllByRecursion (Keeps s (HasRow (is_number most) name)) s.rules → AllByRecursion (λ a. a.defaults ≡ []) s.rules
+pub required_number : (s : Shape) (name : Text) (most : ℕ) → AllByRecursion (Keeps s (HasRow (is_number most) name)) s.rules
+    → AllByRecursion (λ a. a.defaults ≡ []) s.rules
     → s.subcommand_negates_reqs ≡ false
     → ((rows : List Row) → list_any (λ a. a.required && not (is_given a.id rows)) s.rules ≡ false → is_given name rows ≡ true)
     → (words : List Text) → level_fault s [] nothing_held words false [] ≡ [] → is_some (number_at most name (rows_after s.rules [] words)) ≡ true

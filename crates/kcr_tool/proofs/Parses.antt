@@ -4,7 +4,8 @@ use Rattle.std.specs.Prelude.{Box, IsSome}
 use Rattle.std.specs.Box.{box_value}
 use Rattle.clap.specs.declared.error.kind.ErrorKind.{ErrorKind}
 use Rattle.clap.specs.declared.error.kind.ErrorKind.TheVariants.{OutOfMemory}
-use Rattle.clap.specs.Words.{IsAmong, Kinds, App, Text, Row, is_simple, is_simple_and_free, fault_of, subcommand_of, subcommand_rows, HasMatchesOf, subcommand_rows_of}
+use Rattle.clap.specs.Words.{IsAmong, Kinds, App, Text, Row, is_simple, is_simple_and_free, fault_of, subcommand_of, subcommand_rows, HasMatchesOf}
+use Rattle.clap.specs.Words.{subcommand_rows_of}
 use Rattle.clap.specs.declared.parser.matches.ArgMatches.{ArgMatches}
 use Rattle.clap.specs.declared.parser.matches.SubCommand.{SubCommand}
 use Rattle.clap.specs.declared.parser.matches.ArgMatches.TheViews.{out-SubCommand}
@@ -42,7 +43,8 @@ not_among k [] h e = h
 not_among k (x ∷ xs) h e = cc
 
 -- the parse failed, and not when out of memory
-pub refused_in : (app : App) (words : List Text) (k : ErrorKind) → app ≡ tool_app → (is_simple_and_free app ≡ true → (k ≡ OutOfMemory) ⊎ IsAmong k (fault_of app words))
+pub refused_in : (app : App) (words : List Text) (k : ErrorKind) → app ≡ tool_app
+    → (is_simple_and_free app ≡ true → (k ≡ OutOfMemory) ⊎ IsAmong k (fault_of app words))
     → (k ≡ OutOfMemory → ⊥) → faults_of words ≡ [] → ⊥
 refused_in app words k e h not_memory none =
     elim (h (ap is_simple_and_free e ∙ tool-free)) [
@@ -62,17 +64,20 @@ pub met_is : (words : List Text) (m : ArgMatches) (name : Text) (rows : List Row
     → Some rows ≡ option_map (λ p. p.1) (subcommand_rows (out-ArgMatches m).subcommand) → met_in words ≡ Some (name, rows)
 met_is words m name rows found n r = sym found ∙ met (out-ArgMatches m).subcommand name rows n r
 
-pub task_is : (words : List Text) (name : Text) (rows : List Row) (t : Task) → met_in words ≡ Some (name, rows) → task_at (name, rows) ≡ Some t → task_of words ≡ Some t
+pub task_is : (words : List Text) (name : Text) (rows : List Row) (t : Task) → met_in words ≡ Some (name, rows) → task_at (name, rows) ≡ Some t
+    → task_of words ≡ Some t
 unfolding task_of
 task_is words name rows t e h = rw e h
 
 -- the file that they name
-pub file_is : (words : List Text) (name : Text) (rows : List Row) (file : Option Text) → met_in words ≡ Some (name, rows) → file ≡ file_at rows → file_of words ≡ file
+pub file_is : (words : List Text) (name : Text) (rows : List Row) (file : Option Text) → met_in words ≡ Some (name, rows) → file ≡ file_at rows
+    → file_of words ≡ file
 unfolding file_of
 file_is words name rows file e h = rw e (sym h)
 
 -- the file of the new register that they name
-pub into_is : (words : List Text) (name : Text) (rows : List Row) (file : Option Text) → met_in words ≡ Some (name, rows) → file ≡ into_at rows → into_of words ≡ file
+pub into_is : (words : List Text) (name : Text) (rows : List Row) (file : Option Text) → met_in words ≡ Some (name, rows) → file ≡ into_at rows
+    → into_of words ≡ file
 unfolding into_of
 into_is words name rows file e h = rw e (sym h)
 

@@ -1,5 +1,6 @@
 -- Words that are taken hold a task.
-use Rattle.std.proofs.Common.{◌≡◌, ◌&&◌, ℕ, zero, suc, Bool, true, false, not, codes, List, [], ◌∷◌, Option, Some, None, refl, sym, ap, ◌∙◌, subst, option_map, arith, inl, inr}
+use Rattle.std.proofs.Common.{◌≡◌, ◌&&◌, ℕ, zero, suc, Bool, true, false, not, codes, List, [], ◌∷◌, Option, Some, None, refl, sym, ap, ◌∙◌, subst, option_map}
+use Rattle.std.proofs.Common.{arith, inl, inr}
 use Rattle.std.specs.Prelude.{is_some, fold, find, MatchOption, option_and_then}
 use Rattle.std.specs.List.{AllByRecursion}
 use Rattle.std.specs.Str.{bytes_eq}
@@ -8,13 +9,15 @@ use Rattle.std.proofs.lemmas.Bool.{cases_Bool}
 use Rattle.std.proofs.lemmas.Slice.Eq.{bytes_eq-Decides}
 use Rattle.clap.specs.Words.{Row, Shape, Text, subcommand_rows_of}
 use Rattle.clap.specs.declared.parser.matches.ArgMatches.{ArgMatches}
-use Rattle.clap.specs.Walk.{Held, Names, Rule, Step, Waiting, Walk, next, trailing, subcommand, value, walked, walk, walk_from, word_met, after_step, nothing_held, answers_to, stop_after, finished, settled, rows_after}
+use Rattle.clap.specs.Walk.{Held, Names, Rule, Step, Waiting, Walk, next, trailing, subcommand, value, walked, walk, walk_from, word_met, after_step}
+use Rattle.clap.specs.Walk.{nothing_held, answers_to, stop_after, finished, settled, rows_after}
 use Rattle.clap.specs.Kinds.{or_else, check_kinds}
 use Rattle.clap.specs.Takes.{is_given}
 use Rattle.clap.specs.Facts.{explicit_source}
 use Rattle.std.specs.List.{list_any}
 use Rattle.std.specs.Option.{option_map_or}
-use Rattle.clap.specs.Faults.{check_fault, defaults_fault, settle_fault, entered_fault, built_fault, level_fault, walk_fault, turn_fault, word_fault, step_fault}
+use Rattle.clap.specs.Faults.{check_fault, defaults_fault, settle_fault, entered_fault, built_fault, level_fault, walk_fault, turn_fault, word_fault}
+use Rattle.clap.specs.Faults.{step_fault}
 use Rattle.clap.specs.Simple.{App, built, built_leaf, names_of, label_of, entered, rows_at, argument_words, new_shape, filled, help_rule}
 use Rattle.kcr_tool.specs.Commands.{tool_app, file_rule, number_rule, of_ceremony}
 use Rattle.kcr_tool.specs.Tasks.{task_at, met_in, faults_of, number_at, ceremony_at, into_at}
@@ -37,7 +40,8 @@ met_past : (s : Shape) (names : Names) → s.disable_help_subcommand ≡ false �
     → word_fault s names is_trailing waiting word h ≡ [] → StepsPastHelp (word_met s.rules names is_trailing waiting position word h).1
 met_past s names helps is_trailing waiting position word h none = grind (arith, helps, none)
 
-step_past : (c : List Rule) (word : Text) (w : Walk) (h : Held) (step : Step) → PastHelp w.stopped → StepsPastHelp step → PastHelp (after_step c word w h step).stopped
+step_past : (c : List Rule) (word : Text) (w : Walk) (h : Held) (step : Step) → PastHelp w.stopped → StepsPastHelp step
+    → PastHelp (after_step c word w h step).stopped
 step_past c word w h step before is = grind (arith, before, is)
 
 turn_past : (s : Shape) (names : Names) → s.disable_help_subcommand ≡ false → (w : Walk) (word : Text) → turn_fault s names w word ≡ []
@@ -59,7 +63,8 @@ walk_past s names helps w (word ∷ words) none before =
     walk_past s names helps (walked s.rules names w word) words each.1 (turn_past s names helps w word each.0 before)
 
 -- of a parse that needs a subcommand and that nothing refuses: it entered one, and not `help`
-entered_there : (has needs helps some all : Bool) → needs ≡ true → helps ≡ false → check_kinds (not has && (helps && some)) (not has && needs) all ≡ [] → has ≡ true
+entered_there : (has needs helps some all : Bool) → needs ≡ true → helps ≡ false → check_kinds (not has && (helps && some)) (not has && needs) all ≡ []
+    → has ≡ true
 entered_there has needs helps some all need help none = grind arith
 
 -- a parse that is not refused
@@ -156,7 +161,8 @@ verify_holds words none = refl
 some_task : {X : Type 0} (f : X → Task) (o : Option X) → is_some o ≡ true → is_some (option_map f o) ≡ true
 some_task f o is = grind arith
 
-both_there : (a b : Option ℕ) → is_some a ≡ true → is_some b ≡ true → is_some (option_and_then (λ port. option_map (λ connections. Serve port connections) b) a) ≡ true
+both_there : (a b : Option ℕ) → is_some a ≡ true → is_some b ≡ true
+    → is_some (option_and_then (λ port. option_map (λ connections. Serve port connections) b) a) ≡ true
 both_there a b one two = grind arith
 
 -- a subcommand about a ceremony, whose rules are the file, the ceremony, help
@@ -166,23 +172,43 @@ about name = built_leaf (of_ceremony name).top
 ceremony_there : (name : Text) (words : List Text) → level_fault (about name) [] nothing_held words false [] ≡ []
     → is_some (ceremony_at (rows_after (about name).rules [] words)) ≡ true
 ceremony_there name words none =
-    required_number (about name) (codes "ceremony") 9999
-    (other_keeps (about name) (is_number 9999) (codes "ceremony") (filled file_rule) refl refl, (number_keeps (about name) (codes "ceremony") 9999 refl, (help_keeps (about name) _ (filled help_rule) refl, tt)))
+    required_number (about name) (codes "ceremony") 9999 (
+      other_keeps (about name) (is_number 9999) (codes "ceremony") (filled file_rule) refl refl,
+      (
+        number_keeps (about name) (codes "ceremony") 9999 refl,
+        (help_keeps (about name) _ (filled help_rule) refl, tt),
+      ),
+    )
     (refl, (refl, (refl, tt))) refl (λ rows free. grind arith) words none
 
-serve_port : (words : List Text) → level_fault (sub 1) [] nothing_held words false [] ≡ [] → is_some (number_at 65535 (codes "port") (rows_after (sub 1).rules [] words)) ≡ true
+serve_port : (words : List Text) → level_fault (sub 1) [] nothing_held words false [] ≡ []
+    → is_some (number_at 65535 (codes "port") (rows_after (sub 1).rules [] words)) ≡ true
 unfolding tool_app
 serve_port words none =
-    required_number (sub 1) (codes "port") 65535
-    (other_keeps (sub 1) (is_number 65535) (codes "port") (filled file_rule) refl refl, (number_keeps (sub 1) (codes "port") 65535 refl, (other_keeps (sub 1) (is_number 65535) (codes "port") (filled (number_rule (codes "connections") 1000000)) refl refl, (help_keeps (sub 1) _ (filled help_rule) refl, tt))))
+    required_number (sub 1) (codes "port") 65535 (
+      other_keeps (sub 1) (is_number 65535) (codes "port") (filled file_rule) refl refl,
+      (
+        number_keeps (sub 1) (codes "port") 65535 refl,
+        (
+          other_keeps (sub 1) (is_number 65535) (codes "port") (filled (number_rule (codes "connections") 1000000)) refl refl,
+          (help_keeps (sub 1) _ (filled help_rule) refl, tt),
+        ),
+      ),
+    )
     (refl, (refl, (refl, (refl, tt)))) refl
     (λ rows free. grind arith) words none
 
-serve_connections : (words : List Text) → level_fault (sub 1) [] nothing_held words false [] ≡ [] → is_some (number_at 1000000 (codes "connections") (rows_after (sub 1).rules [] words)) ≡ true
+serve_connections : (words : List Text) → level_fault (sub 1) [] nothing_held words false [] ≡ []
+    → is_some (number_at 1000000 (codes "connections") (rows_after (sub 1).rules [] words)) ≡ true
 unfolding tool_app
 serve_connections words none =
-    required_number (sub 1) (codes "connections") 1000000
-    (other_keeps (sub 1) (is_number 1000000) (codes "connections") (filled file_rule) refl refl, (other_keeps (sub 1) (is_number 1000000) (codes "connections") (filled (number_rule (codes "port") 65535)) refl refl, (number_keeps (sub 1) (codes "connections") 1000000 refl, (help_keeps (sub 1) _ (filled help_rule) refl, tt))))
+    required_number (sub 1) (codes "connections") 1000000 (
+      other_keeps (sub 1) (is_number 1000000) (codes "connections") (filled file_rule) refl refl,
+      (
+        other_keeps (sub 1) (is_number 1000000) (codes "connections") (filled (number_rule (codes "port") 65535)) refl refl,
+        (number_keeps (sub 1) (codes "connections") 1000000 refl, (help_keeps (sub 1) _ (filled help_rule) refl, tt)),
+      ),
+    )
     (refl, (refl, (refl, (refl, tt)))) refl
     (λ rows free. grind arith) words none
 
@@ -202,8 +228,13 @@ attendance_holds words none = some_task Attendance _ (ceremony_there (codes "att
 rebuild_into : (words : List Text) → level_fault (sub 7) [] nothing_held words false [] ≡ [] → is_some (into_at (rows_after (sub 7).rules [] words)) ≡ true
 unfolding tool_app
 rebuild_into words none =
-    required_text (sub 7) (codes "into")
-    (other_keeps (sub 7) is_text (codes "into") (filled file_rule) refl refl, (text_keeps (sub 7) (codes "into") refl, (help_keeps (sub 7) _ (filled help_rule) refl, tt)))
+    required_text (sub 7) (codes "into") (
+      other_keeps (sub 7) is_text (codes "into") (filled file_rule) refl refl,
+      (
+        text_keeps (sub 7) (codes "into") refl,
+        (help_keeps (sub 7) _ (filled help_rule) refl, tt),
+      ),
+    )
     (refl, (refl, (refl, tt))) refl
     (λ rows free. grind arith) words none
 

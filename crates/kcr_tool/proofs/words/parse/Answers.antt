@@ -3,7 +3,8 @@ use Rattle.kcr_tool.proofs.Parses.{found_in, taken_in, refused_in}
 use Rattle.kcr_tool.proofs.words.parse.Goals as goal
 
 pub returns-in-Ok-try_get_matches_from-clause-found : goal.returns-in-Ok-try_get_matches_from-clause-found
-returns-in-Ok-try_get_matches_from-clause-found c = found_in _ _ c.in-Ok-try_get_matches_from.matches c.in-Ok.ensures c.in-Ok-try_get_matches_from.ensures.matches
+returns-in-Ok-try_get_matches_from-clause-found c =
+    found_in _ _ c.in-Ok-try_get_matches_from.matches c.in-Ok.ensures c.in-Ok-try_get_matches_from.ensures.matches
 
 pub returns-in-Ok-try_get_matches_from-clause-taken : goal.returns-in-Ok-try_get_matches_from-clause-taken
 returns-in-Ok-try_get_matches_from-clause-taken c = taken_in _ _ c.in-Ok.ensures c.in-Ok-try_get_matches_from.ensures.kinds

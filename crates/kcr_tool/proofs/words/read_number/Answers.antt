@@ -12,7 +12,8 @@ returns-in_err-number-clause-number c =
 pub returns-then-number-eq0-clause-number : goal.returns-then-number-eq0-clause-number
 returns-then-number-eq0-clause-number c =
     number_outside _ (λ bs r. ParsesUnsigned 32 10 bs r × ExplainsUnsignedError 10 bs r × HasUnsignedDigitsIfOk bs r) (λ u x g. g.0)
-    c.args.most c.args.name.now (found_of c.args.matches.now) (omega (arith, c.ranges.most.fits)) c.in_ok-number.number c.in_ok-number.ensures.none c.in_ok-number.ensures.value
+    c.args.most c.args.name.now (found_of c.args.matches.now) (omega (arith, c.ranges.most.fits))
+    c.in_ok-number.number c.in_ok-number.ensures.none c.in_ok-number.ensures.value
     (λ low high. elim c.then-number-eq0.either [ inl zero ↦ omega (arith, zero, low) | inr more ↦ omega (arith, more.1, high) ])
 
 pub returns-clause-number : goal.returns-clause-number
@@ -20,4 +21,5 @@ returns-clause-number c =
     let low : 1 ≤ c.in_ok-number.number = search rules in
     let high : c.in_ok-number.number ≤ c.args.most = search rules in
     number_read _ (λ bs r. ParsesUnsigned 32 10 bs r × ExplainsUnsignedError 10 bs r × HasUnsignedDigitsIfOk bs r) (λ u x g. g.0)
-    c.args.most c.args.name.now (found_of c.args.matches.now) (omega (arith, c.ranges.most.fits)) c.in_ok-number.number c.in_ok-number.ensures.none c.in_ok-number.ensures.value low high
+    c.args.most c.args.name.now (found_of c.args.matches.now) (omega (arith, c.ranges.most.fits))
+    c.in_ok-number.number c.in_ok-number.ensures.none c.in_ok-number.ensures.value low high
