@@ -1,6 +1,6 @@
 -- A decision by the rows of a view is a step of the machine.
-use Rattle.std.proofs.Common.{◌≡◌, ◌≢◌, ℕ, suc, ◌+◌, true, false, nat_le, List, [], ◌∷◌, map, length, Option, Some, None, option_map, refl, sym, ap, ◌∙◌, subst}
-use Rattle.std.proofs.Common.{arith, inl, inr, Result, Ok, Err, MatchOption}
+use Rattle.std.proofs.Common.{◌≡◌, ◌≢◌, ℕ, suc, true, false, nat_le, List, map, length, Option, Some, None, option_map, refl, sym, ap, ◌∙◌, subst}
+use Rattle.std.proofs.Common.{inl, inr, Result, Ok, Err, MatchOption}
 use Rattle.kcr_base.specs.Same.{same_text}
 use Rattle.kcr_base.specs.declared.refusal.Refusal.{Refusal}
 use Rattle.kcr_base.specs.declared.refusal.Refusal.TheVariants.{Key, Short, Memory}
@@ -25,7 +25,7 @@ use Rattle.kcr_history.specs.Machine.{IsRepeat, IsDecision}
 use Rattle.kcr_history.proofs.Steps.{greatest-keys}
 use Rattle.kcr_history.proofs.Words.{row_of_key-keys}
 use Rattle.std.proofs.lemmas.Option.{same_Some, none-some}
-use Rattle.kcr_acts.specs.ByRows.{refusal_by, is_overdone, sitting_by, IsSeatedFor, IsUnseatedFor, IsRefused, all_changes_by}
+use Rattle.kcr_acts.specs.ByRows.{refusal_by, is_overdone, sitting_by, IsSeatedFor, IsUnseatedFor, all_changes_by}
 use Rattle.kcr_machine.specs.RowDecision.{is_full_by, answer_by, AcceptsNew, RepeatsRow, IsRowDecision, IsRowRepeat}
 use Rattle.kcr_scene.specs.Signing.{IsSeatedBy, IsUnseatedBy}
 use Rattle.kcr_base.proofs.RefuseLemmas.{none_holds}
