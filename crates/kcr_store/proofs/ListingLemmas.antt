@@ -8,7 +8,7 @@ use Rattle.sqlite.specs.State.{State, HasCleanDisk, IsLive}
 use Rattle.kcr_base.specs.declared.refusal.Refusal.{Refusal}
 use Rattle.kcr_history.specs.History.{History}
 use Rattle.kcr_history.specs.Tables.{Tables, tables}
-use Rattle.kcr_history.specs.declared.views.View.{View}
+use Rattle.kcr_history.specs.declared.views.WholeView.{WholeView}
 use Rattle.kcr_older.specs.Older.{HoldsUpTo, numbered}
 use Rattle.kcr_older.specs.Standing.{StandsAs, IsStrange}
 use Rattle.kcr_older.specs.Versions.{number_of}
@@ -31,18 +31,18 @@ use Rattle.kcr_tables.specs.Schema.{register_schema}
 
 -- ---- the rows that are given are those that were read
 
-module _ (Other : Type 0) (Is : View → Type 0) where
-  pub given_rows : (rows : Result (Option View) Refusal) (result : Result View OpenFault) → IfOk result (λ view. rows ≡ Ok (Some view))
+module _ (Other : Type 0) (Is : WholeView → Type 0) where
+  pub given_rows : (rows : Result (Option WholeView) Refusal) (result : Result WholeView OpenFault) → IfOk result (λ view. rows ≡ Ok (Some view))
       → IfErr result (λ fault. fault ≡ Version → rows ≡ Ok None) → IfOk rows (λ view. MatchOption view Other Is) → GivesOr Other Is result
-  given_rows rows (Ok view) is none h = subst (λ (r : Result (Option View) Refusal). IfOk r (λ view. MatchOption view Other Is)) is h
+  given_rows rows (Ok view) is none h = subst (λ (r : Result (Option WholeView) Refusal). IfOk r (λ view. MatchOption view Other Is)) is h
   given_rows rows (Err fault) is none h =
-      λ version. subst (λ (r : Result (Option View) Refusal). IfOk r (λ view. MatchOption view Other Is)) (none version) h
+      λ version. subst (λ (r : Result (Option WholeView) Refusal). IfOk r (λ view. MatchOption view Other Is)) (none version) h
 
-  pub is_given : (result : Result View OpenFault) → GivesOr Other Is result → IfOk result Is
+  pub is_given : (result : Result WholeView OpenFault) → GivesOr Other Is result → IfOk result Is
   is_given (Ok view) h = h
   is_given (Err fault) h = tt
 
-pub taken_by : (Is : View → Type 0) (result : Result View OpenFault) → GivesOr ⊥ Is result → IfErr result (λ fault. fault ≡ opening.Foreign → ⊥)
+pub taken_by : (Is : WholeView → Type 0) (result : Result WholeView OpenFault) → GivesOr ⊥ Is result → IfErr result (λ fault. fault ≡ opening.Foreign → ⊥)
     → IfErr result (λ fault. (fault ≡ opening.Memory) ⊎ (fault ≡ opening.Disk))
 taken_by Is (Ok view) version foreign = tt
 taken_by Is (Err opening.Memory) version foreign = inl refl
@@ -50,14 +50,14 @@ taken_by Is (Err opening.Disk) version foreign = inr refl
 taken_by Is (Err opening.Foreign) version foreign = absurd (foreign refl)
 taken_by Is (Err Version) version foreign = absurd (version refl)
 
-pub given_open : (P : Type 0) (rows : Result (Option View) Refusal) (result : Result View OpenFault) → IfOk result (λ view. rows ≡ Ok (Some view))
+pub given_open : (P : Type 0) (rows : Result (Option WholeView) Refusal) (result : Result WholeView OpenFault) → IfOk result (λ view. rows ≡ Ok (Some view))
     → IfOk rows (λ view. MatchOption view (Unit {0}) (λ _. P)) → OnOk result P
-given_open P rows (Ok view) is h = subst (λ (r : Result (Option View) Refusal). IfOk r (λ view. MatchOption view (Unit {0}) (λ _. P))) is h
+given_open P rows (Ok view) is h = subst (λ (r : Result (Option WholeView) Refusal). IfOk r (λ view. MatchOption view (Unit {0}) (λ _. P))) is h
 given_open P rows (Err e) is h = tt
 
 -- ---- by the standing of the database
 
-pub version_by : (standing : Standing) (db : Database) (result : Result View OpenFault) → StandsAs db.schema standing → Gives standing db result
+pub version_by : (standing : Standing) (db : Database) (result : Result WholeView OpenFault) → StandsAs db.schema standing → Gives standing db result
     → (t : held.Tables) → held.Holds db t → GivesOr (t.versions ≢ numbered 3) (IsNumberedView t) result
 version_by Empty db result stands gives t h = absurd (let e : 0 ≡ 17 = ap count (sym stands ∙ h.schema) in omega (arith, e))
 version_by Current db result stands gives t h = gives t h
@@ -65,7 +65,7 @@ version_by Second db result stands gives t h = absurd (let e : 17 ≡ 16 = apart
 version_by First db result stands gives t h = absurd (let e : 17 ≡ 15 = apart 1 db.schema register_schema stands h.schema in omega (arith, e))
 version_by _ db result stands gives t h = absurd (none_strange 3 db.schema stands.0 h.schema (inr (inr refl)))
 
-pub rows_by : (standing : Standing) (db : Database) (result : Result View OpenFault) → StandsAs db.schema standing → Gives standing db result
+pub rows_by : (standing : Standing) (db : Database) (result : Result WholeView OpenFault) → StandsAs db.schema standing → Gives standing db result
     → (m : Tables) → HoldsTables m db → IfOk result (IsListed m)
 rows_by standing db result stands gives m h =
     IfOk-weaker result _ _ (λ view k. listed k.1.kept h.tables.stands k.1.lists)
@@ -76,7 +76,7 @@ pub not_strange : (from : Older) (t : held.Tables) (db : Database) → IsStrange
 not_strange older.First t db strange h = none_strange 1 db.schema strange h.schema (inl refl)
 not_strange older.Second t db strange h = none_strange 2 db.schema strange h.schema (inr (inl refl))
 
-pub older_by : (standing : Standing) (db : Database) (result : Result View OpenFault) → StandsAs db.schema standing → Gives standing db result
+pub older_by : (standing : Standing) (db : Database) (result : Result WholeView OpenFault) → StandsAs db.schema standing → Gives standing db result
     → (from : Older) (t : held.Tables) → HoldsUpTo (14 + number_of from) db t → GivesOr (t.versions ≢ numbered (number_of from)) (IsBroughtView from t) result
 older_by Empty db result stands gives older.First t h = absurd (let e : 0 ≡ 15 = ap count (sym stands ∙ h.schema) in omega (arith, e))
 older_by Empty db result stands gives older.Second t h = absurd (let e : 0 ≡ 16 = ap count (sym stands ∙ h.schema) in omega (arith, e))
@@ -103,14 +103,14 @@ strange_by standing s stands (inl numbered) = (subst (StandsAs s) numbered stand
 strange_by standing s stands (inr foreign) = (subst (StandsAs s) foreign stands).0
 
 -- the rows of a history's tables, whose number is this version's
-own_here : (A : History) (db : Database) (result : Result View OpenFault) (h : HoldsTables (tables A) db)
+own_here : (A : History) (db : Database) (result : Result WholeView OpenFault) (h : HoldsTables (tables A) db)
     → GivesOr (h.tables.t.versions ≢ numbered 3) (IsNumberedView h.tables.t) result → GivesOr ⊥ (IsListed (tables A)) result
 own_here A db (Ok view) h k = listed k.1.kept h.tables.stands k.1.lists
 own_here A db (Err fault) h k = λ version. k version h.tables.stands.versions
 
 module _ (A : History) (old : State) (settled : IsTrue old.is_open → old.now ≡ old.committed) (lives : IsLive old) (clean : HasCleanDisk old)
     (live : IsTrue old.is_open) (f : IsFounded A old) where
-  pub own_by : (standing : Standing) (result : Result View OpenFault) → StandsAs old.now.schema standing → Gives standing old.now result
+  pub own_by : (standing : Standing) (result : Result WholeView OpenFault) → StandsAs old.now.schema standing → Gives standing old.now result
       → GivesOr ⊥ (IsListed (tables A)) result
   own_by Empty result stands gives =
       subst (λ (B : History). GivesOr ⊥ (IsListed (tables B)) result) (sym (nothing_accepted A old settled lives clean live f stands)) (gives stands)

@@ -18,7 +18,7 @@ use Rattle.kcr_tables.proofs.OpenLemmas.{one_schema}
 use Rattle.kcr_older.specs.Older.{IsTablesAs, StoresAs}
 use Rattle.kcr_older.specs.Standing.{outline, LooksLike, IsStrange, no_schema}
 use Rattle.kcr_store.specs.Stored.{Stores, IsTables}
-use Rattle.kcr_store.specs.Register.{Shows, IsKept}
+use Rattle.kcr_store.specs.Register.{Shows, IsWhole}
 use Rattle.sqlite_wal.specs.Recovery.{Image}
 use Rattle.kcr_store.specs.Opening.{IsBrought, IsFounded, IsHeld, IsHeldIn}
 
@@ -37,19 +37,13 @@ pub of_first : (version : ℕ) (s : Schema) → s ≡ first (14 + version) → L
 of_first version s is = ap (λ (t : Schema). map outline t.tables) is
 
 module _ {S : Type 0} (g : Ghosts S) (settled : (s : S) (db : Trees) → IsTrue (g.view s).is_open → g.recovers s db → db ≡ (g.view s).committed) where
-  pub adopted : (old : State) (new : Held S) (is_founded : Bool) (accepted : History) → new.in_transaction ≡ false
-      → (IsTrue is_founded → IsFounded accepted old)
+  pub adopted : (accepted : History) (old : State) (new : Held S) → IsFounded accepted old
       → (HasCleanDisk (state g new) → (all : History) → IsFounded all old → Shows all (state g new) × IsTrue (state g new).is_open)
-      → IsKept g (record { conn = new; is_founded = is_founded; accepted = accepted; torn = None })
-  adopted old new is_founded accepted out founded found = record {
-    autocommit = out;
-    whole = λ yes _. record {
-      shows = λ clean _. (found clean accepted (founded yes)).0;
-      crash = λ clean db may.
-          let it = found clean accepted (founded yes) in subst (IsTables accepted) (sym (settled new.store db it.1 may)) it.0.committed.tables;
-    };
-    crash = λ yes clean db may.
-        let it = found clean accepted (founded yes) in inl (subst (IsTables accepted) (sym (settled new.store db it.1 may)) it.0.committed.tables);
+      → IsWhole accepted (state g new)
+  adopted accepted old new founded found = record {
+    shows = λ clean _. (found clean accepted founded).0;
+    crash = λ clean db may.
+        let it = found clean accepted founded in subst (IsTables accepted) (sym (settled new.store db it.1 may)) it.0.committed.tables;
   }
 
 -- ---- what looks like a register, or like none

@@ -1,9 +1,10 @@
 -- What a decision makes of the tables, and what a reading of them shows.
 use Rattle.std.proofs.Common.{rules, ◌≡◌, inl, inr, ℕ, List, [], ◌∷◌, map, Option, Some, None, Ok, Err, Less, IsTrue, refl, sym, ap, subst, ◌∙◌}
-use Rattle.std.specs.Prelude.{MatchOption, AllPairs, IsPermutation}
+use Rattle.std.specs.Prelude.{MatchOption, AllPairs, IsPermutation, Result, IfOk, IfErr, length}
 use Rattle.std.specs.Ordering.{is_lt}
 use Rattle.sqlite.specs.declared.types.Value.TheVariants.{Text}
 use Rattle.sqlite.specs.Effect.{Database}
+use Rattle.sqlite.specs.State.{State}
 use Rattle.sqlite.specs.Order.{Row, value_cmp}
 use Rattle.sqlite.specs.Tree.{IsAscending, Trees}
 use Rattle.sqlite_trees.proofs.ListLemmas.{ascending-get_or, ascending_from_map, ascending_weaker}
@@ -18,12 +19,13 @@ use Rattle.kcr_history.specs.declared.commands.Entry.{Entry}
 use Rattle.kcr_history.specs.declared.views.Change.{Change}
 use Rattle.kcr_history.specs.declared.views.Finding.{Finding}
 use Rattle.kcr_history.specs.declared.views.Verdict.{Verdict}
-use Rattle.kcr_history.specs.declared.views.View.{View}
+use Rattle.kcr_history.specs.declared.views.WholeView.{WholeView}
 use Rattle.kcr_history.specs.Audit.{IsAudit}
 use Rattle.kcr_history.specs.History.{History}
 use Rattle.kcr_history.specs.Tables.{Tables, tables}
 use Rattle.kcr_history.specs.Changes.{changed_by}
-use Rattle.kcr_history.specs.Machine.{IsRegister, IsAcceptance, IsRepeat}
+use Rattle.kcr_history.specs.Machine.{IsRegister, IsAcceptance, IsRepeat, IsDecision}
+use Rattle.kcr_history.proofs.Steps.{numbers}
 use Rattle.kcr_tables.specs.Keyed.{by_key}
 use Rattle.kcr_cells.specs.Rows.{person_row, item_row}
 use Rattle.kcr_cells.specs.States.{loose_value, within_value}
@@ -34,8 +36,8 @@ use Rattle.kcr_tables.specs.Table.{Table}
 use Rattle.kcr_tables.proofs.JointLemmas.{same_holds}
 use Rattle.kcr_tables.specs.Refusals.{IsFault}
 use Rattle.kcr_history.specs.Questions.{IsByInitials}
-use Rattle.kcr_store.specs.Steps.{Steps, with_answer}
-use Rattle.kcr_store.specs.Stored.{Stores}
+use Rattle.kcr_store.specs.Steps.{Steps, with_answer, number_after}
+use Rattle.kcr_store.specs.Stored.{Stores, OfStored}
 use Rattle.kcr_store.specs.Whole.{AreRows, IsListed, Lists}
 
 -- the tables that the database holds
@@ -70,10 +72,32 @@ module _ (A : History) (x : Command) (v : Verdict) where
       let after = next_holds answer new d h in
       record { schema = after.schema; tables = record { register = next_register answer d s.tables.register; kept = after.tables } }
 
+-- the number of the last command after a decision is that of the history after it
+pub counts_after : (A : History) (x : Command) (answer : Option Answer) (count : ℕ) → count ≡ length A → IsRegister (with_answer A x answer)
+    → number_after count answer ≡ length (with_answer A x answer)
+counts_after A x None count is h = is
+counts_after A x (Some answer) count is h = numbers A (record { command = x; answer = answer }) h
+
+-- a decision that answers, beside what else is known
+pub decides : (A : History) (x : Command) (P : Type 0) (r : Result Verdict Refusal) → IsDecision A x r → P → IfOk r (λ v. IsDecision A x (Ok v) × P)
+decides A x P (Ok v) d p = (d, p)
+decides A x P (Err e) d p = tt
+
+-- the refusal of a decision is the machine's
+pub refuses : (old new : State) (x : Command) (count : ℕ) (r : Result Verdict Refusal) → OfStored old new (λ A. count ≡ length A → IsDecision A x r)
+    → IfErr r (λ e. OfStored old new (λ A. count ≡ length A → Steps A x (Err e) A))
+refuses old new x count (Ok v) d = tt
+refuses old new x count (Err e) d = λ clean A had is. (refl, λ memory disk. d clean A had is memory)
+
 -- out of memory and a fault of the device leave the history
 pub fault_steps : (A : History) (x : Command) (e : Refusal) → IsFault e → Steps A x (Err e) A
 fault_steps A x e (inl memory) = (refl, λ no_memory no_disk. absurd (no_memory memory))
 fault_steps A x e (inr disk) = (refl, λ no_memory no_disk. absurd (no_disk disk))
+
+pub faults : {T : Type 0} (old new : State) (x : Command) (count : ℕ) (r : Result T Refusal) → IfErr r IsFault
+    → IfErr r (λ e. OfStored old new (λ A. count ≡ length A → Steps A x (Err e) A))
+faults old new x count (Ok v) fault = tt
+faults old new x count (Err e) fault = λ clean A had is. fault_steps A x e fault
 
 -- a new register's tables
 pub first_stores : (db : Database) → HoldsTables (tables []) db → Stores [] db
@@ -82,7 +106,7 @@ first_stores db h = record { schema = h.schema; tables = record { register = tt;
 -- ---- rows as a database has them
 
 -- where nothing is to be found, nothing is found
-pub none_found : (view : View) (found : Option Finding) → IsAudit view None → IsAudit view found → found ≡ None
+pub none_found : (view : WholeView) (found : Option Finding) → IsAudit view None → IsAudit view found → found ≡ None
 none_found view None clean found = refl
 none_found view (Some finding) clean found = absurd (clean finding found.0)
 
@@ -96,7 +120,7 @@ same_rows : {X : Type 0} {all there listed : List X} → IsPermutation all there
 same_rows p is = rw is p
 
 -- rows as a database has them are the machine's, in the order of their keys
-pub listed : {m : Tables} {db : Trees} {t : held.Tables} {view : View} → held.Kept db t → Stands m t → Lists t view → IsListed m view
+pub listed : {m : Tables} {db : Trees} {t : held.Tables} {view : WholeView} → held.Kept db t → Stands m t → Lists t view → IsListed m view
 listed kept s l = record { same = search (rules, same_rows); db = _; t = _; kept = kept; lists = l }
 
 -- ---- rows in the order of their keys

@@ -1,5 +1,5 @@
 -- What one transaction leaves of a register.
-use Rattle.std.proofs.Common.{◌≡◌, Bool, inl, inr, Option, None, true, false, Result, Ok, Err, IfOk, OnOk, IsTrue, refl, sym, subst, ◌∙◌}
+use Rattle.std.proofs.Common.{◌≡◌, Bool, ℕ, length, inl, inr, Option, Some, None, true, false, Result, Ok, Err, IfOk, OnOk, IsTrue, refl, sym, subst, ◌∙◌}
 use Rattle.sqlite.specs.declared.error.ErrorCode.TheVariants.{OutOfMemory}
 use Rattle.sqlite.specs.declared.error.Error.{Error}
 use Rattle.sqlite.specs.declared.error.Error.TheVariants.{SqliteFailure}
@@ -12,12 +12,16 @@ use Rattle.sqlite.specs.Steps.{FailsToCommit}
 use Rattle.sqlite.specs.Held.{Held, state}
 use Rattle.kcr_history.specs.declared.commands.Command.{Command}
 use Rattle.kcr_rows.proofs.InsideLemmas.{was_clean, survives_on}
-use Rattle.kcr_store.specs.Steps.{Steps, with_answer}
-use Rattle.kcr_store.specs.declared.perform.Prepared.{Prepared}
+use Rattle.kcr_cells.specs.Frame.{StaysWithin}
+use Rattle.kcr_store.specs.Steps.{Steps, with_answer, number_after}
+use Rattle.kcr_history.specs.declared.views.Verdict.{Verdict}
+use Rattle.kcr_store.proofs.StoreLemmas.{counts_after}
 use Rattle.kcr_store.specs.Stored.{IsTables, Stores}
 use Rattle.kcr_history.specs.History.{History}
-use Rattle.kcr_store.specs.Register.{IsKept, IsWhole, Leaves, LeavesEither}
+use Rattle.kcr_store.specs.Register.{IsCounted, IsKeptWith, IsWhole, Leaves, LeavesEither}
 use Rattle.kcr_store.specs.Register as register
+use Rattle.std.proofs.lemmas.Option.{none-some}
+use Rattle.kcr_store.specs.Frame.{OnlyReads, StaysOutside}
 
 -- within the transaction
 pub record Began (accepted : History) (s : State) : Type 0 where
@@ -112,15 +116,20 @@ module _ (accepted : History) (begun mid : State) (b : Began accepted begun) (ke
           }
 
 module _ {S : Type 0} (g : Ghosts S) (old begun : Held S) (is : begun ≡ record old { in_transaction = true }) where
-  -- a command that was prepared: the tables are those after it
-  pub made_by : (mid : State) → Survives (state g begun) mid (λ _. ⊥) → {A after : History} (x : Command) (p : Prepared) → after ≡ with_answer A x p.answer
-      → (HasCleanDisk mid → IsTrue (state g begun).in_transaction → (B : History) → (IsTrue (state g begun).is_open → Stores B (state g begun).now)
-      → Steps B x (Ok p.reply) (with_answer B x p.answer) × Stores (with_answer B x p.answer) mid.now × IsTrue mid.in_transaction)
-      → IsWhole A (state g old) → HasCleanDisk mid → Steps A x (Ok p.reply) after × Stores after mid.now
-  made_by mid kept {A} {after} x p after_is said was clean =
-      let b = begins g A old begun is was in
-      let done = said clean b.inside A (λ live. (b.shows (was_clean (state g begun) mid _ kept clean) live).now) in
-      subst (λ B. Steps A x (Ok p.reply) B × Stores B mid.now) (sym after_is) (done.0, done.1)
+  -- a command that was prepared: the tables are those after it, and the number is its own or, of a repeat, the same
+  pub made_by : (mid : State) → Survives (state g begun) mid (λ _. ⊥) → {A after : History} (x : Command) (count : ℕ) (v : Verdict)
+      → after ≡ with_answer A x v.answer
+      → (HasCleanDisk mid → IsTrue (state g begun).in_transaction → (B : History) → count ≡ length B
+      → (IsTrue (state g begun).is_open → Stores B (state g begun).now)
+      → Steps B x (Ok v.reply) (with_answer B x v.answer) × Stores (with_answer B x v.answer) mid.now × IsTrue mid.in_transaction)
+      → IsCounted count A (state g old) → HasCleanDisk mid → Steps A x (Ok v.reply) after × Stores after mid.now × (number_after count v.answer ≡ length after)
+  made_by mid kept {A} {after} x count v after_is said was clean =
+      let b = begins g A old begun is was.whole in
+      let before = was_clean (state g begun) mid _ kept clean in
+      let number : count ≡ length A = was.counts (begun_clean g old begun is before) in
+      let done = said clean b.inside A number (λ live. (b.shows before live).now) in
+      subst (λ B. Steps A x (Ok v.reply) B × Stores B mid.now × (number_after count v.answer ≡ length B)) (sym after_is)
+      (done.0, done.1, counts_after A x v.answer count number done.1.tables.register)
 
   -- a transaction that reads and is rolled back, or dropped
   module _ (mid end : State) (kept : Survives (state g begun) mid (λ _. ⊥)) (then : Survives mid end (λ _. ⊥)) where
@@ -128,10 +137,16 @@ module _ {S : Type 0} (g : Ghosts S) (old begun : Held S) (is : begun ≡ record
     pub read_stores : (A : History) → IsWhole A (state g old) → HasCleanDisk end → IsTrue (state g begun).is_open → Stores A (state g begun).now
     read_stores A was clean live = ((begins g A old begun is was).shows (was_clean (state g begun) mid _ kept (was_clean mid end _ then clean)) live).now
 
-    -- and leaves them
-    pub read_whole : (HasCleanDisk mid → IsTrue (state g begun).in_transaction → KeepsCommit (state g begun) mid) → (HasCleanDisk end → IsRolledBack mid end)
-        → (A : History) → IsWhole A (state g old) → IsWhole A end
-    read_whole keeps back A was = whole_undone A (state g begun) mid (begins g A old begun is was) kept keeps end then back
+  -- and where it is rolled back, the call over the connection only reads
+  pub read_back : {A E : Type 0} {MayFail : E → Type 0} {r : Result A E} {mid : State} (end : Held S) → StaysWithin MayFail (state g begun) mid r
+      → Survives mid (state g end) (λ _. ⊥) → (HasCleanDisk (state g end) → IsRolledBack mid (state g end)) → end.in_transaction ≡ false
+      → OnlyReads g MayFail old end r
+  read_back {mid = mid} end left then back out = record {
+    autocommit = out;
+    clean = λ clean. begun_clean g old begun is (was_clean (state g begun) mid _ left.survives (was_clean mid (state g end) _ then clean));
+    whole = λ A was. whole_undone A (state g begun) mid (begins g A old begun is was) left.survives left.kept (state g end) then back;
+    cause = left.cause;
+  }
 
   -- what survives the transaction survives from before it
   module _ (mid : State) (kept : Survives (state g begun) mid (λ _. ⊥)) where
@@ -140,25 +155,52 @@ module _ {S : Type 0} (g : Ghosts S) (old begun : Held S) (is : begun ≡ record
         let s = subst (λ (h : Held S). Survives (state g h) mid (λ _. ⊥)) is kept in
         record { clean = s.clean; shield = s.shield; counts = s.counts; limit = s.limit; closes = s.closes; crash = s.crash }
 
-    pub undone_survives : (end : State) → Survives mid end (λ _. ⊥) → Survives (state g old) end (λ _. ⊥)
-    undone_survives end then = survives_on (state g old) mid end within then
+    pub undone_outside : (end : Held S) → Survives mid (state g end) (λ _. ⊥) → end.in_transaction ≡ false → StaysOutside g (λ _. ⊥) old end
+    undone_outside end then out = record { autocommit = out; survives = survives_on (state g old) mid (state g end) within then }
 
     -- a transaction that was committed, or may have been
-    pub made_survives : (end : State) (P : Trees → Type 0) → Survives mid end (λ db. db ≡ mid.now.trees) → (HasCleanDisk mid → P mid.now.trees)
-        → Survives (state g old) end P
-    made_survives end P then done =
-        survives_then (state g old) mid end _ _ P (λ _ db none. absurd none)
-        (λ clean db same. subst P (sym same) (done (was_clean mid end _ then clean))) within then
+    pub made_outside : (end : Held S) (P : Trees → Type 0) → Survives mid (state g end) (λ db. db ≡ mid.now.trees) → (HasCleanDisk mid → P mid.now.trees)
+        → end.in_transaction ≡ false → StaysOutside g P old end
+    made_outside end P then done out = record {
+      autocommit = out;
+      survives = survives_then (state g old) mid (state g end) _ _ P (λ _ db none. absurd none)
+          (λ clean db same. subst P (sym same) (done (was_clean mid (state g end) _ then clean))) within then;
+    }
 
--- a call that leaves the connection of a register whole leaves the register so
-pub still_kept : {S : Type 0} {g : Ghosts S} {old new : Held S} {founded : Bool} {A : History} {torn : Option History}
-    → IsKept g (record { conn = old; is_founded = founded; accepted = A; torn = torn }) → new.in_transaction ≡ false
-    → (IsWhole A (state g old) → IsWhole A (state g new)) → torn ≡ None → IsKept g (record { conn = new; is_founded = founded; accepted = A; torn = torn })
-still_kept was out still none = record {
-  autocommit = out;
-  whole = λ yes intact. still (was.whole yes intact);
-  crash = λ yes clean db may. inl ((still (was.whole yes none)).crash clean db may);
+-- what is whole, with its number
+pub counted_as : {count : ℕ} {accepted : History} {s : State} → IsWhole accepted s → (HasCleanDisk s → count ≡ length accepted) → IsCounted count accepted s
+counted_as whole counts = record { whole = whole; counts = counts }
+
+-- a call that only reads leaves both
+pub still_counted : {S A E : Type 0} {g : Ghosts S} {MayFail : E → Type 0} {r : Result A E} {old new : Held S} {count : ℕ} {accepted : History}
+    → OnlyReads g MayFail old new r → IsCounted count accepted (state g old) → IsCounted count accepted (state g new)
+still_counted left was = record { whole = left.whole _ was.whole; counts = λ clean. was.counts (left.clean clean) }
+
+-- a register whose connection is whole
+pub kept_as : {S : Type 0} {g : Ghosts S} {conn : Held S} {count : ℕ} {founded : Bool} {H : History} {torn : Option History} → conn.in_transaction ≡ false
+    → (IsTrue founded → IsCounted count H (state g conn)) → IsKeptWith g count (record { conn = conn; is_founded = founded; accepted = H; torn = torn })
+kept_as out counted = record {
+  kept = record {
+    autocommit = out;
+    whole = λ yes intact. (counted yes).whole;
+    crash = λ yes clean db may. inl ((counted yes).whole.crash clean db may);
+  };
+  counted = λ yes intact. counted yes;
 }
+
+-- a register that a fault has broken
+pub torn_as : {S : Type 0} {g : Ghosts S} {conn : Held S} {count : ℕ} {founded : Bool} {H tried : History} → conn.in_transaction ≡ false
+    → (IsTrue founded → LeavesEither H tried (state g conn)) → IsKeptWith g count (record { conn = conn; is_founded = founded; accepted = H; torn = Some tried })
+torn_as {tried = tried} out crash = record {
+  kept = record { autocommit = out; whole = λ yes intact. absurd (none-some tried (sym intact)); crash = crash };
+  counted = λ yes intact. absurd (none-some tried (sym intact));
+}
+
+-- a call that only reads leaves the register so
+pub read_kept : {S A E : Type 0} {g : Ghosts S} {MayFail : E → Type 0} {r : Result A E} {old new : Held S} {count : ℕ} {founded : Bool} {H : History}
+    {torn : Option History} → IsKeptWith g count (record { conn = old; is_founded = founded; accepted = H; torn = torn }) → OnlyReads g MayFail old new r
+    → torn ≡ None → IsKeptWith g count (record { conn = new; is_founded = founded; accepted = H; torn = torn })
+read_kept was left none = kept_as left.autocommit (λ yes. still_counted left (was.counted yes none))
 
 -- what is said of a value under a premise that the call's success gives
 pub if_ok : {T E : Type 0} (P : Type 0) (Q : T → Type 0) (r : Result T E) → OnOk r P → (P → IfOk r Q) → IfOk r Q

@@ -2,6 +2,7 @@ pub mod Steps
 pub mod Shown
 pub mod Stored
 pub mod Register
+pub mod Frame
 pub mod Performed
 pub mod Opening
 pub mod Rows

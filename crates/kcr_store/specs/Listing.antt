@@ -4,7 +4,7 @@ use Rattle.sqlite.specs.Effect.{Database}
 use Rattle.sqlite.specs.Tree.{Trees}
 use Rattle.kcr_history.specs.History.{History}
 use Rattle.kcr_history.specs.Tables.{tables}
-use Rattle.kcr_history.specs.declared.views.View.{View}
+use Rattle.kcr_history.specs.declared.views.WholeView.{WholeView}
 use Rattle.kcr_older.specs.Brought.{brought}
 use Rattle.kcr_older.specs.Older.{StoresAs, HoldsUpTo, numbered}
 use Rattle.kcr_older.specs.Standing.{no_schema}
@@ -19,31 +19,31 @@ use Rattle.kcr_store.specs.declared.«open».OpenFault.TheVariants.{Version}
 use Rattle.kcr_tables.specs.Held as held
 
 -- the view has these rows, in the order in which a database keeps them
-pub record IsKeptView (t : held.Tables) (view : View) : Type 0 where
+pub record IsKeptView (t : held.Tables) (view : WholeView) : Type 0 where
   pub db : Trees
   pub kept : held.Kept db t
   pub lists : Lists t view
 
 -- of a register of this version the view has its rows, and the number is this version's
-abbrev pub IsNumberedView : held.Tables → View → Type 0
+abbrev pub IsNumberedView : held.Tables → WholeView → Type 0
 IsNumberedView t view = (t.versions ≡ numbered 3) × IsKeptView t view
 
 -- of one of an older version it has the rows that are made of its own, and the number is that version's
-abbrev pub IsBroughtView : Older → held.Tables → View → Type 0
+abbrev pub IsBroughtView : Older → held.Tables → WholeView → Type 0
 IsBroughtView from t view = (t.versions ≡ numbered (number_of from)) × IsKeptView (brought from t) view
 
 -- the rows are as is said of them, and the database is refused for its version only where this holds
-abbrev pub GivesOr : Type 0 → (View → Type 0) → Result View OpenFault → Type 0
+abbrev pub GivesOr : Type 0 → (WholeView → Type 0) → Result WholeView OpenFault → Type 0
 GivesOr Other Is result = MatchResult result Is (λ fault. fault ≡ Version → Other)
 
 -- what is given of a register of an older version, by its rows and by its history
-pub record GivesOlder (from : Older) (db : Database) (result : Result View OpenFault) : Type 0 where
+pub record GivesOlder (from : Older) (db : Database) (result : Result WholeView OpenFault) : Type 0 where
   pub rows : (t : held.Tables) → HoldsUpTo (14 + number_of from) db t
       → GivesOr (t.versions ≢ numbered (number_of from)) (IsBroughtView from t) result
   pub own : (A : History) → StoresAs (number_of from) A db → GivesOr ⊥ (IsListed (tables A)) result
 
 -- what is given of a database of each standing
-abbrev pub Gives : Standing → Database → Result View OpenFault → Type 0
+abbrev pub Gives : Standing → Database → Result WholeView OpenFault → Type 0
 Gives Empty db result = db.schema ≡ no_schema → GivesOr ⊥ (IsListed (tables [])) result
 Gives Current db result =
     (t : held.Tables) → held.Holds db t → GivesOr (t.versions ≢ numbered 3) (IsNumberedView t) result

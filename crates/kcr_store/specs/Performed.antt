@@ -1,38 +1,45 @@
 -- What the end of a command says.
-use Rattle.std.specs.Prelude.{Bool, true, false, Result, Ok, Err}
+use Rattle.std.specs.Prelude.{ℕ, Bool, true, false, Result, Ok, Err}
 use Rattle.kcr_base.specs.declared.refusal.Refusal.{Refusal}
 use Rattle.kcr_base.specs.declared.refusal.Refusal.TheVariants.{Disk}
 use Rattle.kcr_history.specs.declared.commands.Reply.{Reply}
 use Rattle.kcr_history.specs.History.{History}
+use Rattle.kcr_store.specs.Steps.{number_after}
 use Rattle.kcr_store.specs.declared.perform.Performed.{Performed}
 use Rattle.kcr_store.specs.declared.perform.Performed.TheVariants.{Accepted, Refused, Torn}
 
 -- what the caller is answered
 abbrev pub answer_of : Performed → Result Reply Refusal
-answer_of (Accepted r p) = Ok r
+answer_of (Accepted v p) = Ok v.reply
 answer_of (Refused e) = Err e
 answer_of (Torn p) = Err Disk
 
 -- the history that stands, after the old one
 abbrev pub history_after : History → Performed → History
-history_after old (Accepted r p) = p.entries
+history_after old (Accepted v p) = p.entries
 history_after old (Refused e) = old
 history_after old (Torn p) = old
 
 -- the history that a crash may leave in place of the old one
 abbrev pub tried_after : History → Performed → History
-tried_after old (Accepted r p) = p.entries
+tried_after old (Accepted v p) = p.entries
 tried_after old (Refused e) = old
 tried_after old (Torn p) = p.entries
 
+-- the number of the last command that stands, after the old one
+abbrev pub count_after : ℕ → Performed → ℕ
+count_after old (Accepted v p) = number_after old v.answer
+count_after old (Refused e) = old
+count_after old (Torn p) = old
+
 -- the commit may stand or not
 abbrev pub is_torn : Performed → Bool
-is_torn (Accepted r p) = false
+is_torn (Accepted v p) = false
 is_torn (Refused e) = false
 is_torn (Torn p) = true
 
 -- the flag that goes with the history
 abbrev pub is_founded_after : Bool → Performed → Bool
-is_founded_after old (Accepted r p) = p.is_founded
+is_founded_after old (Accepted v p) = p.is_founded
 is_founded_after old (Refused e) = old
 is_founded_after old (Torn p) = p.is_founded

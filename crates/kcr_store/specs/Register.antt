@@ -1,5 +1,5 @@
 -- What a register is between two calls.
-use Rattle.std.specs.Prelude.{◌≡◌, ◌⊎◌, Bool, false, Option, None, IsTrue, unwrap_or, refl}
+use Rattle.std.specs.Prelude.{◌≡◌, ◌⊎◌, ℕ, Bool, false, length, Option, None, IsTrue, unwrap_or, refl}
 use Rattle.std.specs.Coded.{Coded, code_by, coded×, coded_list, coded_option, coded_bool}
 use Rattle.sqlite.specs.Store.{Ghosts}
 use Rattle.sqlite.specs.Tree.{Trees}
@@ -28,6 +28,11 @@ pub record IsWhole (accepted : History) (s : State) : Type 0 where
   pub shows : HasCleanDisk s → IsTrue s.is_open → Shows accepted s
   pub crash : Leaves accepted s
 
+-- the register is whole, and the number is that of its last command
+pub record IsCounted (count : ℕ) (accepted : History) (s : State) : Type 0 where
+  pub whole : IsWhole accepted s
+  pub counts : HasCleanDisk s → count ≡ length accepted
+
 abbrev pub history_code : Coded History
 history_code = coded_list entry.the_row.coded
 
@@ -54,3 +59,8 @@ pub record IsKept {S : Type 0} (g : Ghosts S) (r : Seen S) : Type 0 where
   pub whole : IsTrue r.is_founded → r.torn ≡ None → IsWhole r.accepted (state g r.conn)
   -- broken or not, a crash leaves the history or the one that was tried
   pub crash : IsTrue r.is_founded → LeavesEither r.accepted (unwrap_or r.torn r.accepted) (state g r.conn)
+
+-- the same with the number that a register keeps of its last command
+pub record IsKeptWith {S : Type 0} (g : Ghosts S) (count : ℕ) (r : Seen S) : Type 0 where
+  pub kept : IsKept g r
+  pub counted : IsTrue r.is_founded → r.torn ≡ None → IsCounted count r.accepted (state g r.conn)

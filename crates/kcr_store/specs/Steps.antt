@@ -1,5 +1,5 @@
 -- What a command makes of a register, and what a question is answered.
-use Rattle.std.specs.Prelude.{◌≡◌, ◌≢◌, ◌⊎◌, Option, Some, None, Result, Ok, Err, MatchResult}
+use Rattle.std.specs.Prelude.{◌≡◌, ◌≢◌, ◌⊎◌, ℕ, Option, Some, None, Result, Ok, Err, MatchResult}
 use Rattle.kcr_base.specs.declared.refusal.Refusal.{Refusal}
 use Rattle.kcr_base.specs.declared.refusal.Refusal.TheVariants.{Memory, Disk}
 use Rattle.kcr_history.specs.declared.commands.Answer.{Answer}
@@ -24,6 +24,11 @@ Steps A command (Err refusal) A' =
 abbrev pub with_answer : History → Command → Option Answer → History
 with_answer A command None = A
 with_answer A command (Some answer) = with_command A command answer
+
+-- the number of the last command after it: that of the new answer; a repeat gets none
+abbrev pub number_after : ℕ → Option Answer → ℕ
+number_after count None = count
+number_after count (Some answer) = answer.accepted
 
 -- the history, or the one to which the machine goes from it where it accepts the command
 abbrev pub IsNext : History → Command → History → Type 0

@@ -5,12 +5,12 @@ use Rattle.kcr_audit.specs.Whole.{tables_of}
 use Rattle.kcr_history.specs.Audit.{IsAudit}
 use Rattle.kcr_history.specs.Tables.{Tables, SameTables}
 use Rattle.kcr_history.specs.declared.views.Finding.{Finding}
-use Rattle.kcr_history.specs.declared.views.View.{View}
+use Rattle.kcr_history.specs.declared.views.WholeView.{WholeView}
 use Rattle.kcr_tables.specs.Held as held
 use Rattle.kcr_tables.specs.Table.{Table}
 
 -- the view has the rows of each table, in the order of their keys
-pub record Lists (t : held.Tables) (view : View) : Type 0 where
+pub record Lists (t : held.Tables) (view : WholeView) : Type 0 where
   pub people : view.people.items ≡ t.people
   pub trainings : view.trainings.items ≡ t.trainings
   pub withdrawals : view.withdrawals.items ≡ t.withdrawals
@@ -29,7 +29,7 @@ pub record Lists (t : held.Tables) (view : View) : Type 0 where
   pub keys : view.keys.items ≡ t.keys
 
 -- the view has the machine's rows, each table's in the order of their keys
-pub record IsListed (m : Tables) (view : View) : Type 0 where
+pub record IsListed (m : Tables) (view : WholeView) : Type 0 where
   pub same : SameTables m (tables_of view)
   pub db : Trees
   pub t : held.Tables
@@ -46,4 +46,4 @@ pub record AreRows {X : Type 0} (table : Table X) (m : Tables) (rows : List X) :
 
 -- what an audit of these tables finds, whatever the order of their rows
 abbrev pub FindsIn : Tables → Option Finding → Type 0
-FindsIn m found = (view : View) × SameTables m (tables_of view) × IsAudit view found
+FindsIn m found = (view : WholeView) × SameTables m (tables_of view) × IsAudit view found

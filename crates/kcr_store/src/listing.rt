@@ -1,13 +1,15 @@
 //! All rows of a database of any version, which stays as it is.
 ghost use Rattle.std.specs.Prelude.{◌≡◌, ◌≢◌, ◌+◌, ◌⊎◌, [], false, Some, None, Ok, IfOk, IfErr, MatchOption, IsTrue};
 ghost use Rattle.std.specs.Prelude.{OnOk};
-ghost use Rattle.sqlite.specs.State.{HasCleanDisk, Survives};
+ghost use Rattle.sqlite.specs.State.{HasCleanDisk};
 ghost use Rattle.sqlite.specs.Held.{state};
 ghost use Rattle.kcr_history.specs.History.{History};
 ghost use Rattle.kcr_history.specs.Tables.{Tables, tables};
 ghost use Rattle.kcr_older.specs.Older.{StoresAs, HoldsUpTo, numbered};
 ghost use Rattle.kcr_older.specs.Standing.{IsStrange, no_schema};
 ghost use Rattle.kcr_older.specs.Versions.{number_of};
+ghost use Rattle.kcr_cells.specs.Frame.{StaysWithin};
+ghost use Rattle.kcr_store.specs.Frame.{StaysOutside};
 ghost use Rattle.kcr_store.specs.Listing.{Gives, GivesOr, IsBroughtView, IsNumberedView, IsUnread};
 ghost use Rattle.kcr_store.specs.Opening.{IsFounded};
 ghost use Rattle.kcr_store.specs.Whole.{IsListed};
@@ -18,22 +20,24 @@ ghost use Rattle.kcr_tables.specs.Refusals.{IsFault};
 use crate::open::{OpenFault, fault_of, inspect, is_this_version, stranger};
 use crate::whole::all_of;
 use kcr_base::Refusal;
-use kcr_history::View;
+use kcr_history::WholeView;
 use kcr_older::{Older, Standing, bring};
 use kcr_tables::{Version, all_rows, make};
 use sqlite::{Alter, Connection, Transaction};
 use std::alloc::Global;
 
 /// All rows of a new register, whose tables are made for it.
-fn new_rows<S: Alter>(alloc: Global, tx: &mut Transaction<'_, S>) -> Result<Option<View>, Refusal>
+fn new_rows<S: Alter>(
+    alloc: Global,
+    tx: &mut Transaction<'_, S>,
+) -> Result<Option<WholeView>, Refusal>
     ensures same_reference { tx.new.conn.ghost_name ≡ tx.old.conn.ghost_name }
     ensures rows { HasCleanDisk (state S.Store tx.new.conn.now) → (state S.Store tx.old.conn.now).now.schema ≡ no_schema
         → IfOk result (λ view. MatchOption view ⊥ (IsListed (tables []))) }
     ensures opened { HasCleanDisk (state S.Store tx.new.conn.now)
         → IsTrue (state S.Store tx.old.conn.now).in_transaction
         → OnOk result (IsTrue (state S.Store tx.old.conn.now).is_open) }
-    ensures survives { Survives (state S.Store tx.old.conn.now) (state S.Store tx.new.conn.now) (λ _. ⊥) }
-    ensures cause { IfErr result IsFault }
+    ensures frame { StaysWithin IsFault (state S.Store tx.old.conn.now) (state S.Store tx.new.conn.now) result }
 {
     make(tx)?;
     Ok(Some(all_of(alloc, tx)?))
@@ -43,7 +47,7 @@ fn new_rows<S: Alter>(alloc: Global, tx: &mut Transaction<'_, S>) -> Result<Opti
 fn numbered_rows<S: Alter>(
     alloc: Global,
     tx: &mut Transaction<'_, S>,
-) -> Result<Option<View>, Refusal>
+) -> Result<Option<WholeView>, Refusal>
     ensures same_reference { tx.new.conn.ghost_name ≡ tx.old.conn.ghost_name }
     ensures rows { HasCleanDisk (state S.Store tx.new.conn.now) → (t : Held)
         → Holds (state S.Store tx.old.conn.now).now t
@@ -51,8 +55,7 @@ fn numbered_rows<S: Alter>(
     ensures opened { HasCleanDisk (state S.Store tx.new.conn.now)
         → IsTrue (state S.Store tx.old.conn.now).in_transaction
         → OnOk result (IsTrue (state S.Store tx.old.conn.now).is_open) }
-    ensures survives { Survives (state S.Store tx.old.conn.now) (state S.Store tx.new.conn.now) (λ _. ⊥) }
-    ensures cause { IfErr result IsFault }
+    ensures frame { StaysWithin IsFault (state S.Store tx.old.conn.now) (state S.Store tx.new.conn.now) result }
 {
     let versions = all_rows::<_, Version>(alloc, tx)?;
     if !is_this_version(versions.as_slice()) {
@@ -67,7 +70,7 @@ fn brought_rows<S: Alter>(
     alloc: Global,
     tx: &mut Transaction<'_, S>,
     from: Older,
-) -> Result<Option<View>, Refusal>
+) -> Result<Option<WholeView>, Refusal>
     ensures same_reference { tx.new.conn.ghost_name ≡ tx.old.conn.ghost_name }
     ensures rows { HasCleanDisk (state S.Store tx.new.conn.now) → (t : Held)
         → HoldsUpTo (14 + number_of from) (state S.Store tx.old.conn.now).now t
@@ -78,8 +81,7 @@ fn brought_rows<S: Alter>(
     ensures opened { HasCleanDisk (state S.Store tx.new.conn.now)
         → IsTrue (state S.Store tx.old.conn.now).in_transaction
         → IfOk result (λ view. MatchOption view (Unit {0}) (λ _. IsTrue (state S.Store tx.old.conn.now).is_open)) }
-    ensures survives { Survives (state S.Store tx.old.conn.now) (state S.Store tx.new.conn.now) (λ _. ⊥) }
-    ensures cause { IfErr result IsFault }
+    ensures frame { StaysWithin IsFault (state S.Store tx.old.conn.now) (state S.Store tx.new.conn.now) result }
 {
     if !bring(alloc, tx, from)? {
         return Ok(None);
@@ -88,7 +90,7 @@ fn brought_rows<S: Alter>(
 }
 
 /// The rows, where there are some; else the database's number is another version's.
-fn given(rows: Result<Option<View>, Refusal>) -> Result<View, OpenFault>
+fn given(rows: Result<Option<WholeView>, Refusal>) -> Result<WholeView, OpenFault>
     ensures rows { IfOk result (λ view. rows ≡ Ok (Some view)) }
     ensures version { IfErr result (λ e. e ≡ OpenFault.Version → rows ≡ Ok None) }
     ensures kind { IfErr result (λ e. e ≢ OpenFault.Foreign) }
@@ -105,7 +107,7 @@ fn rows_as<S: Alter>(
     alloc: Global,
     tx: &mut Transaction<'_, S>,
     standing: Standing,
-) -> Result<View, OpenFault>
+) -> Result<WholeView, OpenFault>
     ensures same_reference { tx.new.conn.ghost_name ≡ tx.old.conn.ghost_name }
     ensures gives { HasCleanDisk (state S.Store tx.new.conn.now)
         → Gives standing (state S.Store tx.old.conn.now).now result }
@@ -113,8 +115,8 @@ fn rows_as<S: Alter>(
         → IsTrue (state S.Store tx.old.conn.now).in_transaction
         → OnOk result (IsTrue (state S.Store tx.old.conn.now).is_open) }
     ensures read { IfOk result (λ _. ¬ IsUnread standing) }
-    ensures foreign { IfErr result (λ e. e ≡ OpenFault.Foreign → IsUnread standing) }
-    ensures survives { Survives (state S.Store tx.old.conn.now) (state S.Store tx.new.conn.now) (λ _. ⊥) }
+    ensures frame { StaysWithin (λ e. e ≡ OpenFault.Foreign → IsUnread standing) (state S.Store tx.old.conn.now)
+        (state S.Store tx.new.conn.now) result }
 {
     match standing {
         Standing::Empty => given(new_rows(alloc, tx)),
@@ -130,14 +132,13 @@ fn rows_back<S: Alter>(
     alloc: Global,
     conn: &mut Connection<S>,
     standing: Standing,
-) -> Result<View, OpenFault>
+) -> Result<WholeView, OpenFault>
     requires autocommit { conn.old.in_transaction ≡ false }
-    ensures autocommit { conn.new.in_transaction ≡ false }
     ensures gives { HasCleanDisk (state S.Store conn.new) → Gives standing (state S.Store conn.old).now result }
     ensures opened { HasCleanDisk (state S.Store conn.new) → OnOk result (IsTrue (state S.Store conn.old).is_open) }
     ensures read { IfOk result (λ _. ¬ IsUnread standing) }
     ensures foreign { IfErr result (λ e. e ≡ OpenFault.Foreign → IsUnread standing) }
-    ensures survives { Survives (state S.Store conn.old) (state S.Store conn.new) (λ _. ⊥) }
+    ensures frame { StaysOutside S.Store (λ _. ⊥) conn.old conn.new }
 {
     let mut tx = conn.transaction();
     let rows = rows_as(alloc, &mut tx, standing);
@@ -150,9 +151,8 @@ fn rows_back<S: Alter>(
 /// version in a transaction that is rolled back, and of a database with nothing the rows are those of a new register.
 /// The faults are those of `Register::adopt`; `Disk` comes also for a row that no register stores.
 #[tactic(auto, using(crate::proofs::ListingLemmas::strange_by))]
-pub fn tables_of<S: Alter>(alloc: Global, conn: &mut Connection<S>) -> Result<View, OpenFault>
+pub fn tables_of<S: Alter>(alloc: Global, conn: &mut Connection<S>) -> Result<WholeView, OpenFault>
     requires autocommit { conn.old.in_transaction ≡ false }
-    ensures autocommit { conn.new.in_transaction ≡ false }
 
     // Where the database is that of a history, in whichever version, the rows are its tables.
     ensures own { HasCleanDisk (state S.Store conn.new) → (A : History) → IsFounded A (state S.Store conn.old)
@@ -171,7 +171,7 @@ pub fn tables_of<S: Alter>(alloc: Global, conn: &mut Connection<S>) -> Result<Vi
         → GivesOr (t.versions ≢ numbered (number_of from)) (IsBroughtView from t) result }
     ensures known { IfOk result (λ _. ¬ IsStrange (state S.Store conn.old).now.schema) }
     ensures foreign { IfErr result (λ e. e ≡ OpenFault.Foreign → IsStrange (state S.Store conn.old).now.schema) }
-    ensures survives { Survives (state S.Store conn.old) (state S.Store conn.new) (λ _. ⊥) }
+    ensures frame { StaysOutside S.Store (λ _. ⊥) conn.old conn.new }
 {
     let is_settled = conn.is_autocommit();
     prove!(is_settled);

@@ -1,5 +1,5 @@
 //! Taking a database over.
-ghost use Rattle.std.specs.Prelude.{◌≡◌, ◌≢◌, ◌↔◌, ◌⊎◌, ◌+◌, false, List, [], ◌∷◌, IsTrue, IfOk, IfErr, OnOk};
+ghost use Rattle.std.specs.Prelude.{◌≡◌, ◌≢◌, ◌↔◌, ◌⊎◌, ◌+◌, false, length, [], IsTrue, IfOk, IfErr, OnOk};
 ghost use Rattle.sqlite.specs.State.{HasCleanDisk, IsLive, IsUnchanged, Survives};
 ghost use Rattle.sqlite.specs.Files.{file_state};
 ghost use Rattle.sqlite.specs.Held.{state};
@@ -10,14 +10,17 @@ ghost use Rattle.kcr_tables.specs.Held.{Tables, Holds};
 ghost use Rattle.kcr_older.specs.Older.{StoresAs, HoldsUpTo};
 ghost use Rattle.kcr_older.specs.Standing.{StandsAs, IsStrange, no_schema};
 ghost use Rattle.kcr_older.specs.Versions.{number_of};
-ghost use Rattle.kcr_store.specs.Stored.{IsTables};
-ghost use Rattle.kcr_store.specs.Register.{Shows};
+ghost use Rattle.kcr_tables.specs.Refusals.{IsFault};
+ghost use Rattle.kcr_cells.specs.Frame.{StaysWithin};
+ghost use Rattle.kcr_store.specs.Frame.{StaysOutside, OnlyReads};
+ghost use Rattle.kcr_store.specs.Stored.{IsTables, OfStored};
+ghost use Rattle.kcr_store.specs.Register.{Shows, IsWhole};
 ghost use Rattle.kcr_store.specs.Opening.{IsFounded, IsHeldIn, IsBrought, IsMadeOf, IsNumberAnswer};
 
 use kcr_base::Refusal;
 use kcr_older::{Older, Standing, bring, standing_of};
-use kcr_tables::{Version, all_rows, make};
-use sqlite::{Alter, Connection, Error, ErrorCode, FileFrom, FileStore, Start};
+use kcr_tables::{Version, all_rows, last_key_row, make};
+use sqlite::{Alter, Connection, Error, ErrorCode, FileFrom, FileStore, Start, Transaction};
 use std::alloc::Global;
 
 /// Why a database is not taken.
@@ -94,13 +97,12 @@ pub(crate) fn inspect<S: Alter>(alloc: Global, conn: &Connection<S>) -> Result<S
 fn found<S: Alter>(conn: &mut Connection<S>) -> Result<(), OpenFault>
     requires autocommit { conn.old.in_transaction ≡ false }
     requires empty { (state S.Store conn.old).now.schema ≡ no_schema }
-    ensures autocommit { conn.new.in_transaction ≡ false }
     ensures made { HasCleanDisk (state S.Store conn.new)
         → OnOk result
         (Shows [] (state S.Store conn.new) × IsTrue (state S.Store conn.new).is_open
         × IsTrue (state S.Store conn.old).is_open) }
     ensures kind { IfErr result (λ e. (e ≡ OpenFault.Memory) ⊎ (e ≡ OpenFault.Disk)) }
-    ensures survives { Survives (state S.Store conn.old) (state S.Store conn.new) (IsTables []) }
+    ensures frame { StaysOutside S.Store (IsTables []) conn.old conn.new }
 {
     let mut tx = conn.transaction();
     if let Err(refusal) = make(&mut tx) {
@@ -115,11 +117,10 @@ fn found<S: Alter>(conn: &mut Connection<S>) -> Result<(), OpenFault>
 /// Whether the store still serves. It changes nothing.
 fn probe<S: Alter>(conn: &mut Connection<S>) -> Result<(), OpenFault>
     requires autocommit { conn.old.in_transaction ≡ false }
-    ensures autocommit { conn.new.in_transaction ≡ false }
     ensures same { HasCleanDisk (state S.Store conn.new)
         → OnOk result (IsUnchanged (state S.Store conn.old) (state S.Store conn.new)) }
     ensures kind { IfErr result (λ e. (e ≡ OpenFault.Memory) ⊎ (e ≡ OpenFault.Disk)) }
-    ensures survives { Survives (state S.Store conn.old) (state S.Store conn.new) (λ _. ⊥) }
+    ensures frame { StaysOutside S.Store (λ _. ⊥) conn.old conn.new }
 {
     match conn.prepare("SELECT number FROM versions") {
         Ok(_) => Ok(()),
@@ -130,7 +131,6 @@ fn probe<S: Alter>(conn: &mut Connection<S>) -> Result<(), OpenFault>
 /// The rows of the table of versions, read in a transaction that is rolled back.
 fn read_versions<S: Alter>(alloc: Global, conn: &mut Connection<S>) -> Result<Vec<Version>, Refusal>
     requires autocommit { conn.old.in_transaction ≡ false }
-    ensures autocommit { conn.new.in_transaction ≡ false }
     ensures rows { HasCleanDisk (state S.Store conn.new) → (A : History)
         → (IsTrue (state S.Store conn.old).is_open → Shows A (state S.Store conn.old))
         → IfOk result (λ rows. rows.items ≡ first_tables.versions) }
@@ -139,7 +139,7 @@ fn read_versions<S: Alter>(alloc: Global, conn: &mut Connection<S>) -> Result<Ve
     ensures shows { HasCleanDisk (state S.Store conn.new) → (A : History)
         → (IsTrue (state S.Store conn.old).is_open → Shows A (state S.Store conn.old))
         → IsTrue (state S.Store conn.new).is_open → Shows A (state S.Store conn.new) }
-    ensures survives { Survives (state S.Store conn.old) (state S.Store conn.new) (λ _. ⊥) }
+    ensures frame { StaysOutside S.Store (λ _. ⊥) conn.old conn.new }
 {
     let mut tx = conn.transaction();
     let versions = all_rows::<_, Version>(alloc, &mut tx);
@@ -160,7 +160,6 @@ pub(crate) fn is_this_version(versions: &[Version]) -> bool
 /// Takes the database of a register of this version, and changes nothing.
 fn resume<S: Alter>(alloc: Global, conn: &mut Connection<S>) -> Result<(), OpenFault>
     requires autocommit { conn.old.in_transaction ≡ false }
-    ensures autocommit { conn.new.in_transaction ≡ false }
     ensures shows { HasCleanDisk (state S.Store conn.new) → (A : History)
         → (IsTrue (state S.Store conn.old).is_open → Shows A (state S.Store conn.old))
         → OnOk result (Shows A (state S.Store conn.new) × IsTrue (state S.Store conn.new).is_open) }
@@ -170,7 +169,7 @@ fn resume<S: Alter>(alloc: Global, conn: &mut Connection<S>) -> Result<(), OpenF
     ensures version { HasCleanDisk (state S.Store conn.new) → (t : Tables) → Holds (state S.Store conn.old).now t
         → IsNumberAnswer 3 t result }
     ensures kind { IfErr result (λ e. e ≢ OpenFault.Foreign) }
-    ensures survives { Survives (state S.Store conn.old) (state S.Store conn.new) (λ _. ⊥) }
+    ensures frame { StaysOutside S.Store (λ _. ⊥) conn.old conn.new }
 {
     match read_versions(alloc, conn) {
         Ok(versions) => {
@@ -188,7 +187,6 @@ fn resume<S: Alter>(alloc: Global, conn: &mut Connection<S>) -> Result<(), OpenF
 /// brought.
 fn renew<S: Alter>(alloc: Global, conn: &mut Connection<S>, from: Older) -> Result<(), OpenFault>
     requires autocommit { conn.old.in_transaction ≡ false }
-    ensures autocommit { conn.new.in_transaction ≡ false }
     ensures shows { HasCleanDisk (state S.Store conn.new) → (A : History)
         → StoresAs (number_of from) A (state S.Store conn.old).now
         → OnOk result (Shows A (state S.Store conn.new) × IsTrue (state S.Store conn.new).is_open) }
@@ -201,8 +199,7 @@ fn renew<S: Alter>(alloc: Global, conn: &mut Connection<S>, from: Older) -> Resu
     ensures kind { IfErr result (λ e. e ≢ OpenFault.Foreign) }
     ensures left { IfErr result (λ e. e ≡ OpenFault.Version
         → Survives (state S.Store conn.old) (state S.Store conn.new) (λ _. ⊥)) }
-    ensures survives { Survives (state S.Store conn.old) (state S.Store conn.new)
-        (IsBrought (number_of from) (state S.Store conn.old).now) }
+    ensures frame { StaysOutside S.Store (IsBrought (number_of from) (state S.Store conn.old).now) conn.old conn.new }
 {
     let mut tx = conn.transaction();
     match bring(alloc, &mut tx, from) {
@@ -218,12 +215,39 @@ fn renew<S: Alter>(alloc: Global, conn: &mut Connection<S>, from: Older) -> Resu
     }
 }
 
+/// The number of the last command, 0 where there is none.
+fn read_last<S: Alter>(alloc: Global, tx: &mut Transaction<'_, S>) -> Result<u32, Refusal>
+    ensures same_reference { tx.new.conn.ghost_name ≡ tx.old.conn.ghost_name }
+    ensures number { OfStored (state S.Store tx.old.conn.now) (state S.Store tx.new.conn.now)
+        (λ A. IfOk result (λ count. count ≡ length A)) }
+    ensures frame { StaysWithin IsFault (state S.Store tx.old.conn.now) (state S.Store tx.new.conn.now) result }
+{
+    let last = last_key_row(alloc, tx)?;
+    match last.first() {
+        Some(row) => Ok(row.accepted),
+        None => Ok(0),
+    }
+}
+
+/// The number of the last command, 0 where there is none, read in a transaction that is rolled back.
+pub(crate) fn last_number<S: Alter>(alloc: Global, conn: &mut Connection<S>) -> Result<u32, Refusal>
+    requires autocommit { conn.old.in_transaction ≡ false }
+    ensures number { HasCleanDisk (state S.Store conn.new) → (A : History) → IsWhole A (state S.Store conn.old)
+        → IfOk result (λ count. count ≡ length A) }
+    ensures survives { Survives (state S.Store conn.old) (state S.Store conn.new) (λ _. ⊥) }
+    ensures frame { OnlyReads S.Store IsFault conn.old conn.new result }
+{
+    let mut tx = conn.transaction();
+    let number = read_last(alloc, &mut tx);
+    tx.rollback();
+    number
+}
+
 /// Why a database with a table `versions` of one column `number`, which looks like no register that is taken, is
 /// refused: for its version where that table has one row with a whole number.
 pub(crate) fn stranger<S: Alter>(alloc: Global, conn: &mut Connection<S>) -> OpenFault
     requires autocommit { conn.old.in_transaction ≡ false }
-    ensures autocommit { conn.new.in_transaction ≡ false }
-    ensures survives { Survives (state S.Store conn.old) (state S.Store conn.new) (λ _. ⊥) }
+    ensures frame { StaysOutside S.Store (λ _. ⊥) conn.old conn.new }
 {
     match read_versions(alloc, conn) {
         Ok(versions) => match versions.as_slice() {
@@ -241,7 +265,6 @@ pub(crate) fn stranger<S: Alter>(alloc: Global, conn: &mut Connection<S>) -> Ope
 /// Makes the tables of an empty database, takes a register of this version, and brings an older one to it.
 pub(crate) fn settle<S: Alter>(alloc: Global, conn: &mut Connection<S>) -> Result<(), OpenFault>
     requires autocommit { conn.old.in_transaction ≡ false }
-    ensures autocommit { conn.new.in_transaction ≡ false }
     ensures found { HasCleanDisk (state S.Store conn.new) → (A : History) → IsFounded A (state S.Store conn.old)
         → OnOk result (Shows A (state S.Store conn.new) × IsTrue (state S.Store conn.new).is_open) }
     ensures taken { HasCleanDisk (state S.Store conn.new) → IsTrue (state S.Store conn.old).is_open → (A : History)
@@ -255,8 +278,7 @@ pub(crate) fn settle<S: Alter>(alloc: Global, conn: &mut Connection<S>) -> Resul
     ensures foreign { IfErr result (λ e. e ≡ OpenFault.Foreign → IsStrange (state S.Store conn.old).now.schema) }
     ensures left { IfErr result (λ e. (e ≡ OpenFault.Foreign) ⊎ (e ≡ OpenFault.Version)
         → Survives (state S.Store conn.old) (state S.Store conn.new) (λ _. ⊥)) }
-    ensures survives { Survives (state S.Store conn.old) (state S.Store conn.new)
-        (IsMadeOf (state S.Store conn.old).now) }
+    ensures frame { StaysOutside S.Store (IsMadeOf (state S.Store conn.old).now) conn.old conn.new }
 {
     let is_settled = conn.is_autocommit();
     prove!(is_settled);

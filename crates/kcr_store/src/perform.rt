@@ -1,26 +1,32 @@
 //! One command as one transaction, and one question or one row of a report as one that changes nothing.
-ghost use Rattle.std.specs.Prelude.{◌≡◌, false, Ok, Err, IsTrue, IfOk, IfErr, OnOk, MatchResult};
-ghost use Rattle.sqlite.specs.State.{HasCleanDisk, KeepsCommit, Survives};
+ghost use Rattle.std.specs.Prelude.{◌≡◌, false, length, Ok, Err, IsTrue, IfOk, OnOk, MatchResult};
+ghost use Rattle.sqlite.specs.State.{HasCleanDisk};
 ghost use Rattle.sqlite.specs.Held.{state};
 ghost use Rattle.kcr_history.specs.History.{History};
+ghost use Rattle.kcr_history.specs.Machine.{IsDecision};
+ghost use Rattle.kcr_history.specs.Tables.{tables};
+ghost use Rattle.kcr_tables.specs.Joint.{HoldsTables};
 ghost use Rattle.kcr_tables.specs.Refusals.{IsFault};
+ghost use Rattle.kcr_cells.specs.Frame.{StaysWithin};
+ghost use Rattle.kcr_store.specs.Frame.{OnlyReads};
 ghost use Rattle.kcr_store.specs.Stored.{Stores, OfStored};
 ghost use Rattle.kcr_history.specs.Questions.{ArePeopleShown, AreCustodiansShown, IsBagShown, IsRoomShown};
+ghost use Rattle.kcr_store.specs.Steps as steps;
 ghost use Rattle.kcr_store.specs.Steps.{Steps, with_answer, IsNext, IsAsked, IsRefused, MayRefuse};
-ghost use Rattle.kcr_store.specs.Register.{IsWhole, LeavesEither};
+ghost use Rattle.kcr_store.specs.Register.{IsWhole, IsCounted, LeavesEither};
 ghost use Rattle.kcr_store.specs.Rows.{GivesNext, IsRowOf, HasNoRow, MayHaveNoRow};
-ghost use Rattle.kcr_store.specs.Performed.{history_after, tried_after, answer_of, is_torn, is_founded_after};
+ghost use Rattle.kcr_store.specs.Performed.{history_after, tried_after, count_after, answer_of, is_torn, is_founded_after};
 
 use crate::past::Past;
 use crate::shown::{codes_of, custodians_shown, people_shown};
-use kcr_base::{CeremonyNumber, Day, Moment, Refusal, Serial, Thing};
+use kcr_base::{CeremonyNumber, Day, Key, Moment, Refusal, Serial, Thing};
 use kcr_custody::rows::spot;
 use kcr_custody::{Bag, Item};
 use kcr_history::{
-    Answer, BagShown, CeremonyRow, Command, CustodiansShown, PersonShown, Question, Reply,
-    RoomShown, Shown, asks,
+    Answer, BagShown, CeremonyRow, Command, CustodiansShown, KeyRow, PersonShown, Question,
+    RoomShown, Shown, Verdict, asks,
 };
-use kcr_machine::decide;
+use kcr_machine::{decide, repeat};
 use kcr_people::{Appointment, Person, Training, Withdrawal};
 use kcr_reading::Reading;
 use kcr_room::{Stay, present_in};
@@ -28,88 +34,115 @@ use kcr_tables::{all_rows, make_changes, rows_under, view_of};
 use sqlite::{Alter, Connection, Error, ErrorCode, Transaction};
 use std::alloc::Global;
 
-/// The reply to a command that is not refused, and its answer as data where it is accepted now; a repeat has none.
-#[derive(Drop)]
-pub(crate) struct Prepared {
-    pub reply: Reply,
-    pub answer: Option<Answer>,
+/// What becomes of the command: a repeat is decided by the row of its key alone, and a command whose key is new over the
+/// rows that it asks for and the number of the last one, `count`. Nothing is written.
+fn decision_of<S: Alter>(
+    alloc: Global,
+    tx: &mut Transaction<'_, S>,
+    count: u32,
+    command: &Command,
+) -> Result<Verdict, Refusal>
+    ensures same_reference { tx.new.conn.ghost_name ≡ tx.old.conn.ghost_name }
+
+    // Over the tables of a history it is the machine's, and the tables stay.
+    ensures decided { OfStored (state S.Store tx.old.conn.now) (state S.Store tx.new.conn.now)
+        (λ A. count ≡ length A → IfOk result (λ verdict. IsDecision A command.now (Ok verdict)
+        × HoldsTables (tables A) (state S.Store tx.new.conn.now).now)) }
+    ensures opened { HasCleanDisk (state S.Store tx.new.conn.now)
+        → OnOk result (IsTrue (state S.Store tx.old.conn.now).is_open) }
+    ensures frame { StaysWithin (λ refusal. OfStored (state S.Store tx.old.conn.now) (state S.Store tx.new.conn.now)
+        (λ A. count ≡ length A → Steps A command.now (Err refusal) A))
+        (state S.Store tx.old.conn.now) (state S.Store tx.new.conn.now) result }
+{
+    let kept = rows_under::<_, Key, KeyRow>(alloc, tx, &command.key)?;
+    match kept.first() {
+        Some(row) => repeat(alloc, row, command),
+        None => {
+            let asked = asks(alloc, command)?;
+            let view = view_of(alloc, tx, &asked, count)?;
+            decide(alloc, &view, command)
+        }
+    }
 }
 
-/// Reads the rows that the command asks for, decides it and puts the rows that the decision gives. Nothing is
+/// Decides the command and puts the rows that the decision gives; `count` is the number of the last command. Nothing is
 /// committed, and of a repeat nothing is written.
 pub(crate) fn prepare<S: Alter>(
     alloc: Global,
     tx: &mut Transaction<'_, S>,
+    count: u32,
     command: &Command,
-) -> Result<Prepared, Refusal>
+) -> Result<Verdict, Refusal>
     ensures same_reference { tx.new.conn.ghost_name ≡ tx.old.conn.ghost_name }
 
     // Over the tables of a history, an answer is the machine's, and the transaction then holds the tables after it.
     ensures done { HasCleanDisk (state S.Store tx.new.conn.now) → IsTrue (state S.Store tx.old.conn.now).in_transaction
-        → (A : History)
+        → (A : History) → count ≡ length A
         → (IsTrue (state S.Store tx.old.conn.now).is_open → Stores A (state S.Store tx.old.conn.now).now)
-        → IfOk result (λ p. Steps A command.now (Ok p.reply) (with_answer A command.now p.answer)
-        × Stores (with_answer A command.now p.answer) (state S.Store tx.new.conn.now).now
+        → IfOk result (λ verdict. Steps A command.now (Ok verdict.reply) (with_answer A command.now verdict.answer)
+        × Stores (with_answer A command.now verdict.answer) (state S.Store tx.new.conn.now).now
         × IsTrue (state S.Store tx.new.conn.now).in_transaction) }
-    ensures denied { HasCleanDisk (state S.Store tx.new.conn.now)
-        → (A : History)
-        → (IsTrue (state S.Store tx.old.conn.now).is_open → Stores A (state S.Store tx.old.conn.now).now)
-        → IfErr result (λ e. Steps A command.now (Err e) A) }
-    ensures kept { HasCleanDisk (state S.Store tx.new.conn.now) → IsTrue (state S.Store tx.old.conn.now).in_transaction
-        → KeepsCommit (state S.Store tx.old.conn.now) (state S.Store tx.new.conn.now) }
-    ensures survives { Survives (state S.Store tx.old.conn.now) (state S.Store tx.new.conn.now) (λ _. ⊥) }
+    ensures frame { StaysWithin (λ refusal. OfStored (state S.Store tx.old.conn.now) (state S.Store tx.new.conn.now)
+        (λ A. count ≡ length A → Steps A command.now (Err refusal) A))
+        (state S.Store tx.old.conn.now) (state S.Store tx.new.conn.now) result }
 {
-    let asked = asks(alloc, command)?;
-    let view = view_of(alloc, tx, &asked)?;
-    let verdict = decide(alloc, &view, command)?;
+    let verdict = decision_of(alloc, tx, count, command)?;
     make_changes(alloc, tx, verdict.changes.as_slice())?;
-    Ok(Prepared {
-        reply: verdict.reply,
-        answer: verdict.answer,
-    })
+    Ok(verdict)
 }
 
 /// How one command ended, with the history that stands now.
 #[derive(Drop)]
 pub(crate) enum Performed {
-    Accepted(Reply, Past),
+    Accepted(Verdict, Past),
     /// Nothing was changed.
     Refused(Refusal),
     /// The commit failed, and a crash may leave what it would have made.
     Torn(Past),
 }
 
+/// The number of the last command after one that is not refused: that of its answer, or the same after a repeat.
+pub(crate) fn number_after(count: u32, answer: &Option<Answer>) -> u32
+    ensures { result ≡ steps.number_after count answer.now }
+{
+    match answer {
+        Some(answer) => answer.accepted,
+        None => count,
+    }
+}
+
 /// One command as one transaction, which is gone at the return. A repeat is committed as well: nothing was written,
-/// and the commit says that the store still serves.
+/// and the commit says that the store still serves. `count` is the number of the last command.
 pub(crate) fn perform<S: Alter>(
     alloc: Global,
     conn: &mut Connection<S>,
     past: &Past,
+    count: u32,
     command: &Command,
 ) -> Performed
     requires autocommit { conn.old.in_transaction ≡ false }
     ensures autocommit { conn.new.in_transaction ≡ false }
     ensures clean { HasCleanDisk (state S.Store conn.new) → HasCleanDisk (state S.Store conn.old) }
     ensures founded { is_founded_after past.now.is_founded result ≡ past.now.is_founded }
-    ensures step { IsWhole past.now.entries (state S.Store conn.old) → HasCleanDisk (state S.Store conn.new)
+    ensures step { IsCounted count past.now.entries (state S.Store conn.old) → HasCleanDisk (state S.Store conn.new)
         → Steps past.now.entries command.now (answer_of result) (history_after past.now.entries result) }
     ensures served { HasCleanDisk (state S.Store conn.new)
         → OnOk (answer_of result) (IsTrue (state S.Store conn.new).is_open) }
-    ensures candidate { IsWhole past.now.entries (state S.Store conn.old) → HasCleanDisk (state S.Store conn.new)
+    ensures candidate { IsCounted count past.now.entries (state S.Store conn.old) → HasCleanDisk (state S.Store conn.new)
         → IsNext past.now.entries command.now (tried_after past.now.entries result) }
-    ensures whole { IsWhole past.now.entries (state S.Store conn.old) → is_torn result ≡ false
-        → IsWhole (history_after past.now.entries result) (state S.Store conn.new) }
-    ensures tried { IsWhole past.now.entries (state S.Store conn.old)
+    ensures whole { IsCounted count past.now.entries (state S.Store conn.old) → is_torn result ≡ false
+        → IsCounted (count_after count result) (history_after past.now.entries result) (state S.Store conn.new) }
+    ensures tried { IsCounted count past.now.entries (state S.Store conn.old)
         → LeavesEither past.now.entries (tried_after past.now.entries result) (state S.Store conn.new) }
 {
     let mut tx = conn.transaction();
-    let prepared = match prepare(alloc, &mut tx, command) {
-        Ok(prepared) => prepared,
+    let verdict = match prepare(alloc, &mut tx, count, command) {
+        Ok(verdict) => verdict,
         Err(refusal) => return Performed::Refused(refusal),
     };
-    let after = Past::after(past, command, &prepared.answer);
+    let after = Past::after(past, command, &verdict.answer);
     match tx.commit() {
-        Ok(()) => Performed::Accepted(prepared.reply, after),
+        Ok(()) => Performed::Accepted(verdict, after),
         Err(Error::SqliteFailure(ErrorCode::OutOfMemory)) => {
             // The store may be shut, and then the commit may stand.
             match conn.prepare("COMMIT") {
@@ -128,12 +161,9 @@ pub(crate) fn ask<S: Alter>(
     question: &Question,
 ) -> Result<Shown, Refusal>
     requires autocommit { conn.old.in_transaction ≡ false }
-    ensures autocommit { conn.new.in_transaction ≡ false }
-    ensures clean { HasCleanDisk (state S.Store conn.new) → HasCleanDisk (state S.Store conn.old) }
     ensures shown { (A : History) → IsWhole A (state S.Store conn.old) → HasCleanDisk (state S.Store conn.new)
         → IsAsked A question.now result }
-    ensures whole { (A : History) → IsWhole A (state S.Store conn.old) → IsWhole A (state S.Store conn.new) }
-    ensures cause { IfErr result (MayRefuse question.now) }
+    ensures frame { OnlyReads S.Store (MayRefuse question.now) conn.old conn.new result }
 {
     let mut tx = conn.transaction();
     let shown = read(alloc, &mut tx, question);
@@ -150,10 +180,8 @@ fn read<S: Alter>(
     ensures same_reference { tx.new.conn.ghost_name ≡ tx.old.conn.ghost_name }
     ensures shown { OfStored (state S.Store tx.old.conn.now)
         (state S.Store tx.new.conn.now) (λ A. IsAsked A question.now result) }
-    ensures kept { HasCleanDisk (state S.Store tx.new.conn.now) → IsTrue (state S.Store tx.old.conn.now).in_transaction
-        → KeepsCommit (state S.Store tx.old.conn.now) (state S.Store tx.new.conn.now) }
-    ensures survives { Survives (state S.Store tx.old.conn.now) (state S.Store tx.new.conn.now) (λ _. ⊥) }
-    ensures cause { IfErr result (MayRefuse question.now) }
+    ensures frame { StaysWithin (MayRefuse question.now) (state S.Store tx.old.conn.now)
+        (state S.Store tx.new.conn.now) result }
 {
     match question {
         Question::People => Ok(Shown::People(read_people(alloc, tx)?)),
@@ -171,10 +199,7 @@ fn read_people<S: Alter>(
     ensures same_reference { tx.new.conn.ghost_name ≡ tx.old.conn.ghost_name }
     ensures shown { OfStored (state S.Store tx.old.conn.now)
         (state S.Store tx.new.conn.now) (λ A. IfOk result (λ rows. ArePeopleShown A rows.items)) }
-    ensures kept { HasCleanDisk (state S.Store tx.new.conn.now) → IsTrue (state S.Store tx.old.conn.now).in_transaction
-        → KeepsCommit (state S.Store tx.old.conn.now) (state S.Store tx.new.conn.now) }
-    ensures survives { Survives (state S.Store tx.old.conn.now) (state S.Store tx.new.conn.now) (λ _. ⊥) }
-    ensures cause { IfErr result IsFault }
+    ensures frame { StaysWithin IsFault (state S.Store tx.old.conn.now) (state S.Store tx.new.conn.now) result }
 {
     let people = all_rows::<_, Person>(alloc, tx)?;
     let trainings = all_rows::<_, Training>(alloc, tx)?;
@@ -191,10 +216,7 @@ fn read_custodians<S: Alter>(
     ensures same_reference { tx.new.conn.ghost_name ≡ tx.old.conn.ghost_name }
     ensures shown { OfStored (state S.Store tx.old.conn.now)
         (state S.Store tx.new.conn.now) (λ A. IfOk result (AreCustodiansShown A day)) }
-    ensures kept { HasCleanDisk (state S.Store tx.new.conn.now) → IsTrue (state S.Store tx.old.conn.now).in_transaction
-        → KeepsCommit (state S.Store tx.old.conn.now) (state S.Store tx.new.conn.now) }
-    ensures survives { Survives (state S.Store tx.old.conn.now) (state S.Store tx.new.conn.now) (λ _. ⊥) }
-    ensures cause { IfErr result IsFault }
+    ensures frame { StaysWithin IsFault (state S.Store tx.old.conn.now) (state S.Store tx.new.conn.now) result }
 {
     let appointments = all_rows::<_, Appointment>(alloc, tx)?;
     Ok(custodians_shown(alloc, &appointments, day)?)
@@ -210,10 +232,8 @@ fn read_bag<S: Alter>(
     ensures shown { OfStored (state S.Store tx.old.conn.now)
         (state S.Store tx.new.conn.now) (λ A. MatchResult result (IsBagShown A serial)
         (IsRefused A (Question.Bag serial))) }
-    ensures kept { HasCleanDisk (state S.Store tx.new.conn.now) → IsTrue (state S.Store tx.old.conn.now).in_transaction
-        → KeepsCommit (state S.Store tx.old.conn.now) (state S.Store tx.new.conn.now) }
-    ensures survives { Survives (state S.Store tx.old.conn.now) (state S.Store tx.new.conn.now) (λ _. ⊥) }
-    ensures cause { IfErr result (MayRefuse (Question.Bag serial)) }
+    ensures frame { StaysWithin (MayRefuse (Question.Bag serial)) (state S.Store tx.old.conn.now)
+        (state S.Store tx.new.conn.now) result }
 {
     let bags = rows_under::<_, Serial, Bag>(alloc, tx, &serial)?;
     let Some(here) = spot(&bags, serial) else {
@@ -240,10 +260,8 @@ fn read_room<S: Alter>(
     ensures shown { OfStored (state S.Store tx.old.conn.now)
         (state S.Store tx.new.conn.now) (λ A. MatchResult result (IsRoomShown A ceremony at)
         (IsRefused A (Question.Room ceremony at))) }
-    ensures kept { HasCleanDisk (state S.Store tx.new.conn.now) → IsTrue (state S.Store tx.old.conn.now).in_transaction
-        → KeepsCommit (state S.Store tx.old.conn.now) (state S.Store tx.new.conn.now) }
-    ensures survives { Survives (state S.Store tx.old.conn.now) (state S.Store tx.new.conn.now) (λ _. ⊥) }
-    ensures cause { IfErr result (MayRefuse (Question.Room ceremony at)) }
+    ensures frame { StaysWithin (MayRefuse (Question.Room ceremony at)) (state S.Store tx.old.conn.now)
+        (state S.Store tx.new.conn.now) result }
 {
     let number = ceremony.get();
     let planned = rows_under::<_, u32, CeremonyRow>(alloc, tx, &number)?;
@@ -264,12 +282,9 @@ pub(crate) fn next_of<S: Alter, R: Reading>(
     reading: &mut R,
 ) -> Result<Option<R::Row>, Refusal>
     requires autocommit { conn.old.in_transaction ≡ false }
-    ensures autocommit { conn.new.in_transaction ≡ false }
-    ensures clean { HasCleanDisk (state S.Store conn.new) → HasCleanDisk (state S.Store conn.old) }
     ensures gives { (A : History) → IsWhole A (state S.Store conn.old) → HasCleanDisk (state S.Store conn.new)
         → GivesNext R.to_come reading.old reading.new result A }
-    ensures whole { (A : History) → IsWhole A (state S.Store conn.old) → IsWhole A (state S.Store conn.new) }
-    ensures cause { IfErr result IsFault }
+    ensures frame { OnlyReads S.Store IsFault conn.old conn.new result }
 {
     let mut tx = conn.transaction();
     let row = reading.step(alloc, &mut tx);
@@ -284,12 +299,9 @@ pub(crate) fn read_ceremony<S: Alter>(
     ceremony: CeremonyNumber,
 ) -> Result<CeremonyRow, Refusal>
     requires autocommit { conn.old.in_transaction ≡ false }
-    ensures autocommit { conn.new.in_transaction ≡ false }
-    ensures clean { HasCleanDisk (state S.Store conn.new) → HasCleanDisk (state S.Store conn.old) }
     ensures row { (A : History) → IsWhole A (state S.Store conn.old) → HasCleanDisk (state S.Store conn.new)
         → MatchResult result (IsRowOf A ceremony) (HasNoRow A ceremony) }
-    ensures whole { (A : History) → IsWhole A (state S.Store conn.old) → IsWhole A (state S.Store conn.new) }
-    ensures cause { IfErr result (MayHaveNoRow ceremony) }
+    ensures frame { OnlyReads S.Store (MayHaveNoRow ceremony) conn.old conn.new result }
 {
     let mut tx = conn.transaction();
     let row = planned_row(alloc, &mut tx, ceremony);
@@ -306,10 +318,8 @@ fn planned_row<S: Alter>(
     ensures same_reference { tx.new.conn.ghost_name ≡ tx.old.conn.ghost_name }
     ensures row { OfStored (state S.Store tx.old.conn.now) (state S.Store tx.new.conn.now)
         (λ A. MatchResult result (IsRowOf A ceremony) (HasNoRow A ceremony)) }
-    ensures kept { HasCleanDisk (state S.Store tx.new.conn.now) → IsTrue (state S.Store tx.old.conn.now).in_transaction
-        → KeepsCommit (state S.Store tx.old.conn.now) (state S.Store tx.new.conn.now) }
-    ensures survives { Survives (state S.Store tx.old.conn.now) (state S.Store tx.new.conn.now) (λ _. ⊥) }
-    ensures cause { IfErr result (MayHaveNoRow ceremony) }
+    ensures frame { StaysWithin (MayHaveNoRow ceremony) (state S.Store tx.old.conn.now)
+        (state S.Store tx.new.conn.now) result }
 {
     let number = ceremony.get();
     let planned = rows_under::<_, u32, CeremonyRow>(alloc, tx, &number)?;

@@ -5,9 +5,9 @@ ghost use Rattle.sqlite.specs.State.{HasCleanDisk};
 ghost use Rattle.sqlite.specs.Held.{state};
 ghost use Rattle.kcr_store.specs.Steps.{Steps, IsNext, IsAsked, MayRefuse};
 
-use crate::open::{OpenFault, connect, settle};
+use crate::open::{OpenFault, connect, fault_of, last_number, settle};
 use crate::past::Past;
-use crate::perform::{Performed, ask, perform};
+use crate::perform::{Performed, ask, number_after, perform};
 use crate::whole::{audit_of, rows_in_table};
 use kcr_base::Refusal;
 use kcr_history::{Command, Finding, Question, Reply, Shown};
@@ -22,6 +22,8 @@ pub struct Register<S: Alter> {
     pub(crate) conn: Connection<S>,
     pub(crate) broken: bool,
     past: Past,
+    /// The number of its last command.
+    count: u32,
     tried: Past,
     pub(crate) alloc: Global,
 }
@@ -35,6 +37,7 @@ impl<S: Alter + Drop> Drop for Register<S> {
             conn: _,
             broken: _,
             past: _,
+            count: _,
             tried: _,
             alloc: _,
         } = self;
@@ -43,7 +46,7 @@ impl<S: Alter + Drop> Drop for Register<S> {
 
 impl<S: Alter> Model for Register<S> {
     ghost use Rattle.std.specs.Prelude.{Some, None, if◌then◌else◌};
-    ghost use Rattle.kcr_store.specs.Register.{Seen, seen_code, IsKept};
+    ghost use Rattle.kcr_store.specs.Register.{Seen, seen_code, IsKeptWith};
 
     ghost Value = { Seen S };
 
@@ -56,7 +59,7 @@ impl<S: Alter> Model for Register<S> {
       torn = if r.broken then Some r.tried.entries else None;
     } };
 
-    ghost invariant = { λ r. IsKept S.Store
+    ghost invariant = { λ r. IsKeptWith S.Store r.count
         (record {
           conn = r.conn;
           is_founded = r.past.is_founded;
@@ -117,16 +120,20 @@ impl<S: Alter + Drop> Register<S> {
     {
         let mut conn = connection;
         match settle(alloc, &mut conn) {
-            Ok(()) => {
-                let tried = Past::same(&past);
-                Ok(Register {
-                    conn,
-                    broken: false,
-                    past,
-                    tried,
-                    alloc,
-                })
-            }
+            Ok(()) => match last_number(alloc, &mut conn) {
+                Ok(count) => {
+                    let tried = Past::same(&past);
+                    Ok(Register {
+                        conn,
+                        broken: false,
+                        past,
+                        count,
+                        tried,
+                        alloc,
+                    })
+                }
+                Err(refusal) => Err((fault_of(refusal), conn)),
+            },
             Err(fault) => Err((fault, conn)),
         }
     }
@@ -261,10 +268,11 @@ impl<S: Alter> Register<S> {
         if self.broken {
             return Err(Refusal::Broken);
         }
-        match perform(self.alloc, &mut self.conn, &self.past, command) {
-            Performed::Accepted(reply, past) => {
+        match perform(self.alloc, &mut self.conn, &self.past, self.count, command) {
+            Performed::Accepted(verdict, past) => {
+                self.count = number_after(self.count, &verdict.answer);
                 self.past = past;
-                Ok(reply)
+                Ok(verdict.reply)
             }
             Performed::Refused(Refusal::Disk) => {
                 self.tried = Past::same(&self.past);
@@ -405,6 +413,7 @@ impl<S: Alter> Register<S> {
             conn,
             broken: _,
             past: _,
+            count: _,
             tried: _,
             alloc: _,
         } = self;

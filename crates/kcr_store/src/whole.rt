@@ -1,6 +1,6 @@
 //! All rows of a register's tables, and what an audit finds in them.
-ghost use Rattle.std.specs.Prelude.{◌≡◌, false, None, IsTrue, IfOk, IfErr, OnOk};
-ghost use Rattle.sqlite.specs.State.{HasCleanDisk, KeepsCommit, Survives};
+ghost use Rattle.std.specs.Prelude.{◌≡◌, false, None, IsTrue, IfOk, OnOk};
+ghost use Rattle.sqlite.specs.State.{HasCleanDisk};
 ghost use Rattle.sqlite.specs.Held.{state};
 ghost use Rattle.kcr_history.specs.History.{History};
 ghost use Rattle.kcr_history.specs.Machine.{IsRegister};
@@ -8,12 +8,14 @@ ghost use Rattle.kcr_history.specs.Tables.{Tables, tables};
 ghost use Rattle.kcr_tables.specs.Held.{Tables as Held, Holds};
 ghost use Rattle.kcr_tables.specs.Joint.{HoldsTables};
 ghost use Rattle.kcr_tables.specs.Refusals.{IsFault};
+ghost use Rattle.kcr_tables.specs.Frame.{Reads};
+ghost use Rattle.kcr_store.specs.Frame.{OnlyReads};
 ghost use Rattle.kcr_store.specs.Register.{IsWhole};
 ghost use Rattle.kcr_store.specs.Whole.{FindsIn, IsListed, AreRows, Lists};
 
 use kcr_audit::{audit, registers_pass};
 use kcr_base::Refusal;
-use kcr_history::{Finding, View};
+use kcr_history::{Finding, WholeView};
 use kcr_tables::{Listed, all_rows};
 use sqlite::{Alter, Connection, Transaction};
 use std::alloc::Global;
@@ -27,18 +29,9 @@ fn rows_of_two<S: Alter, A: Listed, B: Listed>(
     ensures rows { HasCleanDisk (state S.Store tx.new.conn.now) → (t : Held)
         → Holds (state S.Store tx.old.conn.now).now t
         → IfOk result (λ rows. (rows.0.items ≡ A.table.rows_in t) × (rows.1.items ≡ B.table.rows_in t)) }
-    ensures holds { HasCleanDisk (state S.Store tx.new.conn.now) → (t : Held)
-        → Holds (state S.Store tx.old.conn.now).now t
-        → OnOk result (Holds (state S.Store tx.new.conn.now).now t) }
     ensures opened { HasCleanDisk (state S.Store tx.new.conn.now)
         → OnOk result (IsTrue (state S.Store tx.old.conn.now).is_open) }
-    ensures kept { HasCleanDisk (state S.Store tx.new.conn.now) → IsTrue (state S.Store tx.old.conn.now).in_transaction
-        → KeepsCommit (state S.Store tx.old.conn.now) (state S.Store tx.new.conn.now) }
-    ensures inside { HasCleanDisk (state S.Store tx.new.conn.now)
-        → IsTrue (state S.Store tx.old.conn.now).in_transaction
-        → OnOk result (IsTrue (state S.Store tx.new.conn.now).in_transaction) }
-    ensures survives { Survives (state S.Store tx.old.conn.now) (state S.Store tx.new.conn.now) (λ _. ⊥) }
-    ensures cause { IfErr result IsFault }
+    ensures frame { Reads (state S.Store tx.old.conn.now) (state S.Store tx.new.conn.now) result }
 {
     let ones = all_rows(alloc, tx)?;
     let others = all_rows(alloc, tx)?;
@@ -55,18 +48,9 @@ fn rows_of_four<S: Alter, A: Listed, B: Listed, C: Listed, D: Listed>(
         → Holds (state S.Store tx.old.conn.now).now t
         → IfOk result (λ rows. ((rows.0.0.items ≡ A.table.rows_in t) × (rows.0.1.items ≡ B.table.rows_in t))
         × ((rows.1.0.items ≡ C.table.rows_in t) × (rows.1.1.items ≡ D.table.rows_in t))) }
-    ensures holds { HasCleanDisk (state S.Store tx.new.conn.now) → (t : Held)
-        → Holds (state S.Store tx.old.conn.now).now t
-        → OnOk result (Holds (state S.Store tx.new.conn.now).now t) }
     ensures opened { HasCleanDisk (state S.Store tx.new.conn.now)
         → OnOk result (IsTrue (state S.Store tx.old.conn.now).is_open) }
-    ensures kept { HasCleanDisk (state S.Store tx.new.conn.now) → IsTrue (state S.Store tx.old.conn.now).in_transaction
-        → KeepsCommit (state S.Store tx.old.conn.now) (state S.Store tx.new.conn.now) }
-    ensures inside { HasCleanDisk (state S.Store tx.new.conn.now)
-        → IsTrue (state S.Store tx.old.conn.now).in_transaction
-        → OnOk result (IsTrue (state S.Store tx.new.conn.now).in_transaction) }
-    ensures survives { Survives (state S.Store tx.old.conn.now) (state S.Store tx.new.conn.now) (λ _. ⊥) }
-    ensures cause { IfErr result IsFault }
+    ensures frame { Reads (state S.Store tx.old.conn.now) (state S.Store tx.new.conn.now) result }
 {
     let ones = rows_of_two(alloc, tx)?;
     let others = rows_of_two(alloc, tx)?;
@@ -74,29 +58,23 @@ fn rows_of_four<S: Alter, A: Listed, B: Listed, C: Listed, D: Listed>(
 }
 
 /// All rows of each table.
-pub(crate) fn all_of<S: Alter>(alloc: Global, tx: &mut Transaction<'_, S>) -> Result<View, Refusal>
+pub(crate) fn all_of<S: Alter>(
+    alloc: Global,
+    tx: &mut Transaction<'_, S>,
+) -> Result<WholeView, Refusal>
     ensures same_reference { tx.new.conn.ghost_name ≡ tx.old.conn.ghost_name }
     ensures rows { HasCleanDisk (state S.Store tx.new.conn.now) → (t : Held)
         → Holds (state S.Store tx.old.conn.now).now t
         → IfOk result (Lists t) }
-    ensures holds { HasCleanDisk (state S.Store tx.new.conn.now) → (t : Held)
-        → Holds (state S.Store tx.old.conn.now).now t
-        → OnOk result (Holds (state S.Store tx.new.conn.now).now t) }
     ensures opened { HasCleanDisk (state S.Store tx.new.conn.now)
         → OnOk result (IsTrue (state S.Store tx.old.conn.now).is_open) }
-    ensures kept { HasCleanDisk (state S.Store tx.new.conn.now) → IsTrue (state S.Store tx.old.conn.now).in_transaction
-        → KeepsCommit (state S.Store tx.old.conn.now) (state S.Store tx.new.conn.now) }
-    ensures inside { HasCleanDisk (state S.Store tx.new.conn.now)
-        → IsTrue (state S.Store tx.old.conn.now).in_transaction
-        → OnOk result (IsTrue (state S.Store tx.new.conn.now).in_transaction) }
-    ensures survives { Survives (state S.Store tx.old.conn.now) (state S.Store tx.new.conn.now) (λ _. ⊥) }
-    ensures cause { IfErr result IsFault }
+    ensures frame { Reads (state S.Store tx.old.conn.now) (state S.Store tx.new.conn.now) result }
 {
     let ((people, trainings), (withdrawals, appointments)) = rows_of_four(alloc, tx)?;
     let ((boxes, safes), (bags, items)) = rows_of_four(alloc, tx)?;
     let ((ceremonies, marks), (steps, seatings)) = rows_of_four(alloc, tx)?;
     let ((sheet, stays), (exceptions, keys)) = rows_of_four(alloc, tx)?;
-    Ok(View {
+    Ok(WholeView {
         people,
         trainings,
         withdrawals,
@@ -117,16 +95,13 @@ pub(crate) fn all_of<S: Alter>(alloc: Global, tx: &mut Transaction<'_, S>) -> Re
 }
 
 /// All rows of each table, read in a transaction that is rolled back.
-fn view<S: Alter>(alloc: Global, conn: &mut Connection<S>) -> Result<View, Refusal>
+fn view<S: Alter>(alloc: Global, conn: &mut Connection<S>) -> Result<WholeView, Refusal>
     requires autocommit { conn.old.in_transaction ≡ false }
-    ensures autocommit { conn.new.in_transaction ≡ false }
-    ensures clean { HasCleanDisk (state S.Store conn.new) → HasCleanDisk (state S.Store conn.old) }
     ensures rows { HasCleanDisk (state S.Store conn.new) → (m : Tables)
         → HoldsTables m (state S.Store conn.old).now → IfOk result (IsListed m) }
     ensures register { (A : History) → IsWhole A (state S.Store conn.old) → HasCleanDisk (state S.Store conn.new)
         → IfOk result (λ view. IsRegister A × IsListed (tables A) view) }
-    ensures whole { (A : History) → IsWhole A (state S.Store conn.old) → IsWhole A (state S.Store conn.new) }
-    ensures cause { IfErr result IsFault }
+    ensures frame { OnlyReads S.Store IsFault conn.old conn.new result }
 {
     let mut tx = conn.transaction();
     let view = all_of(alloc, &mut tx);
@@ -140,14 +115,11 @@ pub(crate) fn rows_in_table<S: Alter, R: Listed>(
     conn: &mut Connection<S>,
 ) -> Result<Vec<R>, Refusal>
     requires autocommit { conn.old.in_transaction ≡ false }
-    ensures autocommit { conn.new.in_transaction ≡ false }
-    ensures clean { HasCleanDisk (state S.Store conn.new) → HasCleanDisk (state S.Store conn.old) }
     ensures rows { HasCleanDisk (state S.Store conn.new) → (m : Tables)
         → HoldsTables m (state S.Store conn.old).now → IfOk result (λ rows. AreRows R.table m rows.items) }
     ensures register { (A : History) → IsWhole A (state S.Store conn.old) → HasCleanDisk (state S.Store conn.new)
         → IfOk result (λ rows. IsRegister A × AreRows R.table (tables A) rows.items) }
-    ensures whole { (A : History) → IsWhole A (state S.Store conn.old) → IsWhole A (state S.Store conn.new) }
-    ensures cause { IfErr result IsFault }
+    ensures frame { OnlyReads S.Store IsFault conn.old conn.new result }
 {
     let mut tx = conn.transaction();
     let rows = all_rows(alloc, &mut tx);
@@ -161,14 +133,11 @@ pub(crate) fn audit_of<S: Alter>(
     conn: &mut Connection<S>,
 ) -> Result<Option<Finding>, Refusal>
     requires autocommit { conn.old.in_transaction ≡ false }
-    ensures autocommit { conn.new.in_transaction ≡ false }
-    ensures clean { HasCleanDisk (state S.Store conn.new) → HasCleanDisk (state S.Store conn.old) }
     ensures found { HasCleanDisk (state S.Store conn.new) → (m : Tables)
         → HoldsTables m (state S.Store conn.old).now → IfOk result (FindsIn m) }
     ensures nothing { (A : History) → IsWhole A (state S.Store conn.old) → HasCleanDisk (state S.Store conn.new)
         → IfOk result (λ found. found ≡ None) }
-    ensures whole { (A : History) → IsWhole A (state S.Store conn.old) → IsWhole A (state S.Store conn.new) }
-    ensures cause { IfErr result IsFault }
+    ensures frame { OnlyReads S.Store IsFault conn.old conn.new result }
 {
     let view = view(alloc, conn)?;
     registers_pass();

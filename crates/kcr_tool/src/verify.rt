@@ -16,7 +16,7 @@ use crate::fault::Fault;
 use crate::lines::around;
 use itoa::Buffer;
 use kcr_base::{Counted, Refusal};
-use kcr_history::View;
+use kcr_history::WholeView;
 use kcr_print::put;
 use kcr_store::{OpenFault, connect, tables_of};
 use kcr_verify::{Difference, Verified, create};
@@ -85,7 +85,7 @@ fn tell_verified<W: Write>(
 
 /// All rows of the register that is named, or of a new one in memory where none is. The file stays as it is, whichever
 /// version its register is of; one that is not there is made, with nothing in it.
-pub fn rows_named(rt: &HostRuntime, file: Option<&str>) -> Result<View, Fault>
+pub fn rows_named(rt: &HostRuntime, file: Option<&str>) -> Result<WholeView, Fault>
     ensures new { file.entry ≡ None → IfOk result (IsListed (tables [])) }
     ensures cause { IfErr result StopsReading }
 {
@@ -103,7 +103,7 @@ pub fn rows_named(rt: &HostRuntime, file: Option<&str>) -> Result<View, Fault>
 }
 
 /// All rows of a new register in memory.
-fn rows_of_none(alloc: Global) -> Result<View, Fault>
+fn rows_of_none(alloc: Global) -> Result<WholeView, Fault>
     ensures new { IfOk result (IsListed (tables [])) }
     ensures cause { IfErr result StopsReading }
 {
@@ -120,7 +120,11 @@ fn rows_of_none(alloc: Global) -> Result<View, Fault>
 /// differs from what its commands lead to, and the exit status, 1 where something differs. Out of memory is refused
 /// (33), which the store in memory may tell as a fault of a device (34), and nothing is written then.
 #[tactic(auto, using(crate::proofs::Verifications::status_told, crate::proofs::Verifications::nothing_told))]
-pub fn verify<W: Write>(alloc: Global, rows: View, output: &mut Counted<W>) -> Result<u8, Fault>
+pub fn verify<W: Write>(
+    alloc: Global,
+    rows: WholeView,
+    output: &mut Counted<W>,
+) -> Result<u8, Fault>
     ensures status { IfOk result (λ status. status ≤ 1) }
     ensures told { IfOk result (λ status. (told : Told)
         × TellsVerified verified_head told (W.contents (inner_of output.old))
@@ -154,7 +158,7 @@ pub fn verify<W: Write>(alloc: Global, rows: View, output: &mut Counted<W>) -> R
 #[tactic(auto, using(crate::proofs::Verifications::status_told))]
 pub fn rebuild<W: Write>(
     rt: &HostRuntime,
-    rows: View,
+    rows: WholeView,
     path: &str,
     output: &mut Counted<W>,
 ) -> Result<u8, Fault>

@@ -2,7 +2,7 @@
 ghost use Rattle.std.specs.Prelude.{◌≡◌};
 
 use crate::asserts::holds;
-use kcr_base::{Key, Refusal};
+use kcr_base::Refusal;
 use kcr_history::{Asks, KeyRow, SeatingRow, Selection};
 use kcr_room::SheetRow;
 use kcr_tables::{Version, all_rows, make, view_of};
@@ -50,8 +50,8 @@ const NOT_STORED: [&str; 34] = [
 ];
 
 /// All rows of the tables of which a command may ask for all.
-fn every_row() -> Option<Asks> {
-    Some(Asks {
+fn every_row() -> Asks {
+    Asks {
         people: Selection::All,
         trainings: Selection::All,
         withdrawals: Selection::All,
@@ -65,8 +65,7 @@ fn every_row() -> Option<Asks> {
         steps: Selection::All,
         exceptions: Selection::All,
         stays: Selection::All,
-        key: Key::read(b"k")?,
-    })
+    }
 }
 
 /// Whether the reading met a row that no register stores, which it tells as a fault of the device.
@@ -78,7 +77,7 @@ fn is_refused<T>(read: &Result<T, Refusal>) -> bool {
 fn has_fault<S: Alter>(alloc: Global, tx: &mut Transaction<'_, S>, asks: &Asks) -> bool
     ensures same_reference { tx.new.conn.ghost_name ≡ tx.old.conn.ghost_name }
 {
-    is_refused(&view_of(alloc, tx, asks))
+    is_refused(&view_of(alloc, tx, asks, 0))
         | is_refused(&all_rows::<_, SeatingRow>(alloc, tx))
         | is_refused(&all_rows::<_, SheetRow>(alloc, tx))
         | is_refused(&all_rows::<_, KeyRow>(alloc, tx))
@@ -108,7 +107,7 @@ fn has_fault_after(alloc: Global, text: &str, asks: &Asks) -> Option<bool> {
 
 #[test]
 fn no_register_stores_these(rt: HostRuntime) -> Result<(), Fail> {
-    let asks = every_row().ok_or("a key")?;
+    let asks = every_row();
     let empty = has_fault_after(rt.alloc(), "", &asks);
     holds(&rt, empty == Some(false), "an empty register");
     for text in NOT_STORED {

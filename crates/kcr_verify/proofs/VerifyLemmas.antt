@@ -8,7 +8,7 @@ use Rattle.kcr_audit.specs.Whole.{tables_of}
 use Rattle.kcr_history.specs.History.{History}
 use Rattle.kcr_history.specs.Machine.{IsRegister}
 use Rattle.kcr_history.specs.Tables.{Tables, SameTables, tables, key_row}
-use Rattle.kcr_history.specs.declared.views.View.{View}
+use Rattle.kcr_history.specs.declared.views.WholeView.{WholeView}
 use Rattle.kcr_store.specs.Whole.{AreRows, IsListed}
 use Rattle.kcr_tables.specs.PeopleLaws as people
 use Rattle.kcr_tables.specs.TrainingsLaws as trainings
@@ -35,12 +35,12 @@ through : {X : Type 0} (xs ys zs : List X) → IsPermutation xs zs → IsPermuta
 through xs ys zs p q = IsPermutation-trans xs zs ys p (IsPermutation-sym ys zs q)
 
 -- the rows of a view, with those of the accepted commands in another order
-pub record IsInOrder (view rows : View) : Type 0 where
+pub record IsInOrder (view rows : WholeView) : Type 0 where
   pub others : rows ≡ record view { keys = rows.keys }
   pub keys : IsPermutation view.keys.items rows.keys.items
 
 -- tables that a view has are the same as those of which it has the rows
-rows_same : (m a : Tables) (view rows : View) → IsPermutation view.keys.items rows.keys.items → SameTables m (tables_of view)
+rows_same : (m a : Tables) (view rows : WholeView) → IsPermutation view.keys.items rows.keys.items → SameTables m (tables_of view)
     → ((table : Table) → HasRows table a (record view { keys = rows.keys })) → SameTables m a
 rows_same m a view rows order same has = record {
   people = through m.people a.people view.people.items same.people (has People).same;
@@ -62,7 +62,7 @@ rows_same m a view rows order same has = record {
 }
 
 -- where the rows are those of a history that was made again, they are the tables of that history
-pub own_of : (A : History) → IsRegister A → (m : Tables) (view rows : View) → IsInOrder view rows → SameTables m (tables_of view)
+pub own_of : (A : History) → IsRegister A → (m : Tables) (view rows : WholeView) → IsInOrder view rows → SameTables m (tables_of view)
     → ((table : Table) → HasRows table (tables A) rows) → AreOf A (length rows.keys.items) m
 own_of A h m view rows o same has = record {
   register = h;
@@ -70,11 +70,11 @@ own_of A h m view rows o same has = record {
   counted = sym (length_permutation (map key_row A) rows.keys.items (has Keys) ∙ length-map A key_row);
 }
 
-in_view : {X : Type 0} (table : held.Table X) (m : Tables) (view : View) (v : IsListed m view) (rows : List X)
+in_view : {X : Type 0} (table : held.Table X) (m : Tables) (view : WholeView) (v : IsListed m view) (rows : List X)
     → IsPermutation (table.machine_rows m) rows → rows ≡ table.rows_in v.t → AreRows table m rows
 in_view table m view v rows same is = record { same = same; db = v.db; t = v.t; kept = v.kept; lists = is }
 
-listed_table : (A : History) (view : View) → IsListed (tables A) view → (rows : View) → IsPermutation view.keys.items rows.keys.items
+listed_table : (A : History) (view : WholeView) → IsListed (tables A) view → (rows : WholeView) → IsPermutation view.keys.items rows.keys.items
     → (table : Table) → HasRows table (tables A) (record view { keys = rows.keys })
 listed_table A view v keys order People = in_view people.table (tables A) view v view.people.items v.same.people v.lists.people
 listed_table A view v keys order Trainings = in_view trainings.table (tables A) view v view.trainings.items v.same.trainings v.lists.trainings
@@ -98,7 +98,7 @@ no_difference P all None e = refl
 no_difference P all (Some table) not = absurd (not (all table))
 
 -- of a history's own tables none differs
-pub none_differs : (A : History) (view rows : View) → IsInOrder view rows → IsListed (tables A) view
+pub none_differs : (A : History) (view rows : WholeView) → IsInOrder view rows → IsListed (tables A) view
     → (found : Option Table) → IfSome found (λ table. ¬ HasRows table (tables A) rows) → found ≡ None
 none_differs A view rows o v =
     no_difference (λ table. HasRows table (tables A) rows) (λ table. subst (HasRows table (tables A)) (sym o.others) (listed_table A view v rows o.keys table))

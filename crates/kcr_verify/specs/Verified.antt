@@ -12,7 +12,7 @@ use Rattle.kcr_history.specs.History.{History}
 use Rattle.kcr_history.specs.Machine.{IsRegister}
 use Rattle.kcr_history.specs.Tables.{Tables, SameTables, tables, key_row}
 use Rattle.kcr_history.specs.declared.rows.KeyRow.{KeyRow}
-use Rattle.kcr_history.specs.declared.views.View.{View}
+use Rattle.kcr_history.specs.declared.views.WholeView.{WholeView}
 use Rattle.kcr_store.specs.Register.{Seen, IsKept}
 use Rattle.kcr_store.specs.Whole.{AreRows}
 use Rattle.kcr_tables.specs.Refusals.{IsFault}
@@ -59,7 +59,7 @@ name_of Keys = codes "keys"
 
 -- the view has the machine's rows of this table, in the order in which a database keeps them; the accepted commands in
 -- any order
-abbrev pub HasRows : Table → Tables → View → Type 0
+abbrev pub HasRows : Table → Tables → WholeView → Type 0
 HasRows People m view = AreRows people.table m view.people.items
 HasRows Trainings m view = AreRows trainings.table m view.trainings.items
 HasRows Withdrawals m view = AreRows withdrawals.table m view.withdrawals.items

@@ -16,7 +16,8 @@ use crate::order::put_in_order;
 use kcr_base::Refusal;
 use kcr_custody::{Bag, BoxRow, Item, SafeRow};
 use kcr_history::{
-    CeremonyRow, ExceptionRow, KeyRow, MarkRow, SeatingRow, StepRow, View, numbers_count_commands,
+    CeremonyRow, ExceptionRow, KeyRow, MarkRow, SeatingRow, StepRow, WholeView,
+    numbers_count_commands,
 };
 use kcr_people::{Appointment, Person, Training, Withdrawal};
 use kcr_room::{SheetRow, Stay};
@@ -268,7 +269,7 @@ fn has_commands<S: Alter>(register: &mut Register<S>, rows: &[KeyRow]) -> Result
 fn has_table<S: Alter>(
     register: &mut Register<S>,
     table: Table,
-    rows: &View,
+    rows: &WholeView,
 ) -> Result<bool, Refusal>
     requires founded { register.old.is_founded ≡ true }
     requires torn { register.old.torn ≡ None }
@@ -304,7 +305,7 @@ fn has_table<S: Alter>(
 fn first_of<S: Alter>(
     register: &mut Register<S>,
     tables: &[Table],
-    rows: &View,
+    rows: &WholeView,
 ) -> Result<Option<Table>, Refusal>
     requires founded { register.old.is_founded ≡ true }
     requires torn { register.old.torn ≡ None }
@@ -330,7 +331,7 @@ fn first_of<S: Alter>(
 /// of their keys.
 pub(crate) fn first_difference<S: Alter>(
     register: &mut Register<S>,
-    rows: &View,
+    rows: &WholeView,
 ) -> Result<Option<Table>, Refusal>
     requires founded { register.old.is_founded ≡ true }
     requires torn { register.old.torn ≡ None }

@@ -15,7 +15,7 @@ use crate::compare::{Table, first_difference};
 use crate::order::put_in_order;
 use crate::replay::replay;
 use kcr_base::Refusal;
-use kcr_history::{View, numbers_count_commands};
+use kcr_history::{WholeView, numbers_count_commands};
 use kcr_store::{OpenFault, Register};
 use sqlite::{Alter, MemStore};
 use std::alloc::Global;
@@ -68,7 +68,7 @@ fn empty(alloc: Global) -> Result<Register<MemStore>, Refusal>
 /// what was accepted before stays in it.
 pub fn rebuild<S: Alter>(
     alloc: Global,
-    rows: View,
+    rows: WholeView,
     fresh: &mut Register<S>,
 ) -> Result<Verified, Refusal>
     requires founded { fresh.old.is_founded ≡ true }
@@ -109,7 +109,7 @@ pub fn rebuild<S: Alter>(
 /// the accepted commands are that history's. Its time grows with the number of rows, and its memory too: beside `rows`
 /// it holds the register in memory, and of that one table's rows. It meets only out of memory (33), which the store in
 /// memory may tell as a fault of a device (34).
-pub fn verify(alloc: Global, rows: View) -> Result<Verified, Refusal>
+pub fn verify(alloc: Global, rows: WholeView) -> Result<Verified, Refusal>
     ensures told { (m : Tables) → IsListed m rows → IfOk result (λ told. (A : History) × IsTold m A told) }
 
     // Of a history nothing differs.

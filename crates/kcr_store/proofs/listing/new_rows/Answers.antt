@@ -7,5 +7,5 @@ use Rattle.kcr_store.proofs.listing.new_rows.Goals as goal
 
 pub returns-clause-rows : goal.returns-clause-rows
 returns-clause-rows g c clean has =
-    let held = c.in_ok-make.ensures.made (was_clean _ _ _ c.in_ok-all_of.ensures.survives clean) has in
+    let held = c.in_ok-make.ensures.made (was_clean _ _ _ c.in_ok-all_of.ensures.frame.within.survives clean) has in
     listed held.tables.kept held.tables.stands (c.in_ok-all_of.ensures.rows clean _ (held_of (tables []) _ held))

@@ -10,7 +10,7 @@ use Rattle.kcr_store.proofs.listing.tables_of.Goals as goal
 
 pub returns-in-Numbered-clause-taken : goal.returns-in-Numbered-clause-taken
 returns-in-Numbered-clause-taken g c clean live A founded =
-    let before = was_clean _ _ _ c.stranger.ensures.survives clean in
+    let before = was_clean _ _ _ c.stranger.ensures.frame.survives clean in
     absurd (of_strange A (state g.S.Store c.args.conn.now) (search rules) c.inspect.ensures.live before live founded (search rules))
 
 pub returns-in-Numbered-clause-version : goal.returns-in-Numbered-clause-version
@@ -26,9 +26,8 @@ returns-in_default g c =
     let result = c.rows_back.result in
     let stands : StandsAs old.now.schema standing = search rules in
     let gives = c.rows_back.ensures.gives in
-    let before = was_clean _ _ _ c.rows_back.ensures.survives in
+    let before = was_clean _ _ _ c.rows_back.ensures.frame.survives in
     record {
-      autocommit = search rules;
       own = λ clean A founded.
           if_ok (IsTrue old.is_open) _ result (c.rows_back.ensures.opened clean)
           (λ live. is_given _ _ result (own_by A old (search rules) c.inspect.ensures.live (before clean) live founded standing result stands (gives clean)));
@@ -43,5 +42,5 @@ returns-in_default g c =
       older = λ clean. older_by standing old.now result stands (gives clean);
       known = IfOk-weaker result _ _ (λ view read. known_by standing old.now.schema stands read) c.rows_back.ensures.read;
       foreign = search rules;
-      survives = search rules;
+      frame = search rules;
     }

@@ -5,7 +5,7 @@ use Rattle.kcr_older.specs.Versions.{number_of}
 use Rattle.kcr_rows.proofs.InsideLemmas.{was_clean}
 use Rattle.kcr_store.specs.Opening.{IsBrought}
 use Rattle.kcr_store.proofs.OpenLemmas.{brought_tables}
-use Rattle.kcr_store.proofs.WholeLemmas.{begun_has, made_survives}
+use Rattle.kcr_store.proofs.WholeLemmas.{begun_has, made_outside}
 use Rattle.kcr_store.proofs.open.renew.Goals as goal
 
 pub returns-in-Ok-clause-version : goal.returns-in-Ok-clause-version
@@ -20,22 +20,22 @@ returns-in-Ok-false-clause-version g c clean t held is =
     let says = c.in-Ok-false.ensures.numbered (was_clean _ _ _ c.rollback.ensures.survives (search rules)) t was in
     search rules
 
-pub returns-in-Ok-clause-survives : goal.returns-in-Ok-clause-survives
-returns-in-Ok-clause-survives g c =
+pub returns-in-Ok-clause-frame : goal.returns-in-Ok-clause-frame
+returns-in-Ok-clause-frame g c =
     let left =
-    made_survives g.S.Store c.args.conn.now _ c.transaction-tx.ensures.begun _ c.bring.ensures.frame.survives _
+    made_outside g.S.Store c.args.conn.now _ c.transaction-tx.ensures.begun _ c.bring.ensures.frame.survives c.commit.new.self.0
     (IsBrought (number_of c.args.from) (state g.S.Store c.args.conn.now).now)
     c.commit.ensures.survives
     (λ clean. brought_tables _ (λ A s. (c.in-Ok-true.ensures.brought clean A
-    (begun_has g.S.Store c.args.conn.now _ (StoresAs (number_of c.args.from) A) c.transaction-tx.ensures.begun s)).1)) in
+    (begun_has g.S.Store c.args.conn.now _ (StoresAs (number_of c.args.from) A) c.transaction-tx.ensures.begun s)).1)) c.commit.ensures.ended in
     search rules
 
-pub returns-in-Err-commit-clause-survives : goal.returns-in-Err-commit-clause-survives
-returns-in-Err-commit-clause-survives g c =
+pub returns-in-Err-commit-clause-frame : goal.returns-in-Err-commit-clause-frame
+returns-in-Err-commit-clause-frame g c =
     let left =
-    made_survives g.S.Store c.args.conn.now _ c.transaction-tx.ensures.begun _ c.bring.ensures.frame.survives _
+    made_outside g.S.Store c.args.conn.now _ c.transaction-tx.ensures.begun _ c.bring.ensures.frame.survives c.commit.new.self.0
     (IsBrought (number_of c.args.from) (state g.S.Store c.args.conn.now).now)
     c.commit.ensures.survives
     (λ clean. brought_tables _ (λ A s. (c.in-Ok-true.ensures.brought clean A
-    (begun_has g.S.Store c.args.conn.now _ (StoresAs (number_of c.args.from) A) c.transaction-tx.ensures.begun s)).1)) in
+    (begun_has g.S.Store c.args.conn.now _ (StoresAs (number_of c.args.from) A) c.transaction-tx.ensures.begun s)).1)) c.commit.ensures.ended in
     search rules

@@ -16,12 +16,12 @@ returns-in_default-clause-shown g c clean accepted had =
 
 pub returns-clause-shown : goal.returns-clause-shown
 returns-clause-shown g c clean accepted had =
-    let clean1 = was_clean _ _ _ c.in_ok-items.ensures.survives clean in
+    let clean1 = was_clean _ _ _ c.in_ok-items.ensures.frame.within.survives clean in
     let was = had (c.in_ok-bags.ensures.opened clean1) in
     let kept = was.tables.kept in
     let held = holds_in accepted _ was in
     let bags = c.in_ok-bags.ensures.rows clean1 kept.t held in
-    let items = c.in_ok-items.ensures.rows clean kept.t (c.in_ok-bags.ensures.holds clean1 kept.t held) in
+    let items = c.in_ok-items.ensures.rows clean kept.t (c.in_ok-bags.ensures.frame.holds clean1 kept.t held) in
     let lies = spot_shown accepted was.tables.register kept.t kept.stands c.args.serial c.in_ok-bags.bags.items bags in
     bag_shown accepted was.tables.register kept.t kept.stands (kept_rises _ kept.t kept.kept) c.args.serial _ refl
     (sym lies ∙ ap (λ rows. spot_by rows c.args.serial) (sym c.deref.ensures.value) ∙ sym c.in-Some.ensures)

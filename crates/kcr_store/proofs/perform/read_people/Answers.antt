@@ -12,13 +12,13 @@ use Rattle.kcr_store.proofs.perform.read_people.Goals as goal
 
 pub returns-clause-shown : goal.returns-clause-shown
 returns-clause-shown g c clean accepted had =
-    let clean2 = was_clean _ _ _ c.in_ok-withdrawals.ensures.survives clean in
-    let clean1 = was_clean _ _ _ c.in_ok-trainings.ensures.survives clean2 in
+    let clean2 = was_clean _ _ _ c.in_ok-withdrawals.ensures.frame.within.survives clean in
+    let clean1 = was_clean _ _ _ c.in_ok-trainings.ensures.frame.within.survives clean2 in
     let was = had (c.in_ok-people.ensures.opened clean1) in
     let kept = was.tables.kept in
     let held = holds_in accepted _ was in
-    let held1 = c.in_ok-people.ensures.holds clean1 kept.t held in
-    let held2 = c.in_ok-trainings.ensures.holds clean2 kept.t held1 in
+    let held1 = c.in_ok-people.ensures.frame.holds clean1 kept.t held in
+    let held2 = c.in_ok-trainings.ensures.frame.holds clean2 kept.t held1 in
     let trainings = c.in_ok-trainings.ensures.rows clean2 kept.t held1 in
     let withdrawals = c.in_ok-withdrawals.ensures.rows clean kept.t held2 in
     let rows : List PersonShown = c.in_ok-people_shown.field-0.items in

@@ -21,12 +21,12 @@ returns-then-is_empty-clause-shown g c clean accepted had =
 
 pub returns-clause-shown : goal.returns-clause-shown
 returns-clause-shown g c clean accepted had =
-    let clean1 = was_clean _ _ _ c.in_ok-stays.ensures.survives clean in
+    let clean1 = was_clean _ _ _ c.in_ok-stays.ensures.frame.within.survives clean in
     let was = had (c.in_ok-planned.ensures.opened clean1) in
     let kept = was.tables.kept in
     let held = holds_in accepted _ was in
     let ceremonies = c.in_ok-planned.ensures.rows clean1 kept.t held in
-    let stays = c.in_ok-stays.ensures.rows clean kept.t (c.in_ok-planned.ensures.holds clean1 kept.t held) in
+    let stays = c.in_ok-stays.ensures.rows clean kept.t (c.in_ok-planned.ensures.frame.holds clean1 kept.t held) in
     let planned = planned_shown accepted was.tables.register kept.t kept.stands c.get-number.result c.in_ok-planned.planned.items ceremonies in
     let there = present_shown accepted was.tables.register kept.t kept.stands c.get-number.result c.args.at c.in_ok-stays.stays.items stays in
     let number : c.get-number.result ≡ c.args.ceremony = c.get-number.ensures.value in

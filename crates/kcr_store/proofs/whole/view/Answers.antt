@@ -5,7 +5,7 @@ use Rattle.kcr_tables.proofs.HoldLemmas.{held_of}
 use Rattle.kcr_tables.specs.Joint.{HoldsTables}
 use Rattle.kcr_store.proofs.StoreLemmas.{held_in, listed}
 use Rattle.kcr_rows.proofs.InsideLemmas.{was_clean}
-use Rattle.kcr_store.proofs.WholeLemmas.{begun_has, if_ok, read_stores, read_whole}
+use Rattle.kcr_store.proofs.WholeLemmas.{begun_has, if_ok, read_back, read_stores}
 use Rattle.kcr_store.proofs.whole.view.Goals as goal
 
 pub returns-clause-rows : goal.returns-clause-rows
@@ -18,15 +18,18 @@ pub returns-clause-register : goal.returns-clause-register
 returns-clause-register g c accepted was clean =
     let back = c.rollback.ensures.survives in
     let before = was_clean _ _ _ back (search rules) in
-    let had = read_stores g.S.Store c.args.conn.now _ c.transaction-tx.ensures.begun _ _ c.all_of-view.ensures.survives back accepted was (search rules) in
+    let had =
+    read_stores g.S.Store c.args.conn.now _ c.transaction-tx.ensures.begun _ _ c.all_of-view.ensures.frame.within.survives back accepted was (search rules) in
     if_ok _ _ c.all_of-view.result (c.all_of-view.ensures.opened before)
     (λ live.
     let held = held_in accepted _ (had live) in
     IfOk-weaker c.all_of-view.result _ _ (λ view lists. ((had live).tables.register, listed held.tables.kept held.tables.stands lists))
     (c.all_of-view.ensures.rows before _ (held_of (tables accepted) _ held)))
 
-pub returns-clause-whole : goal.returns-clause-whole
-returns-clause-whole g c accepted was =
-    let back = read_whole g.S.Store c.args.conn.now _ c.transaction-tx.ensures.begun _ _ c.all_of-view.ensures.survives c.rollback.ensures.survives in
-    let whole = back c.all_of-view.ensures.kept c.rollback.ensures.undone accepted was in
+pub returns-clause-frame : goal.returns-clause-frame
+returns-clause-frame g c =
+    let back = c.rollback.ensures in
+    let left =
+    read_back g.S.Store c.args.conn.now _ c.transaction-tx.ensures.begun c.rollback.new.self.0 c.all_of-view.ensures.frame.within
+    back.survives back.undone back.ended in
     search rules

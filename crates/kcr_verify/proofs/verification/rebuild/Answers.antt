@@ -2,7 +2,7 @@ use Rattle.std.proofs.Common.{rules, ◌≡◌, ◌∙◌, Some, None, refl, map
 use Rattle.std.proofs.lemmas.List.{length-map, length-reverse}
 use Rattle.kcr_history.specs.History.{History}
 use Rattle.kcr_history.specs.Tables.{tables, key_row}
-use Rattle.kcr_history.specs.declared.views.View.{View}
+use Rattle.kcr_history.specs.declared.views.WholeView.{WholeView}
 use Rattle.kcr_store.specs.Whole.{IsListed}
 use Rattle.kcr_verify.specs.Verified.{IsTold}
 use Rattle.kcr_verify.specs.declared.verification.Verified.TheVariants.{Whole}
@@ -21,7 +21,7 @@ returns-in-Some-clause-own g c clean A h values listed =
 
 pub returns-clause-told : goal.returns-clause-told
 returns-clause-told g c clean m listed =
-    let rows : View = record c.args.rows { keys = c.put_in_order.new.rows } in
+    let rows : WholeView = record c.args.rows { keys = c.put_in_order.new.rows } in
     let o : IsInOrder c.args.rows rows = record { others = refl; keys = c.put_in_order.ensures.same } in
     elim c.match-branch-4.branch [
       | in-Some-2 w ↦ search rules
@@ -34,7 +34,7 @@ returns-clause-told g c clean m listed =
 
 pub returns-clause-own : goal.returns-clause-own
 returns-clause-own g c clean A h values listed =
-    let rows : View = record c.args.rows { keys = c.put_in_order.new.rows } in
+    let rows : WholeView = record c.args.rows { keys = c.put_in_order.new.rows } in
     let o : IsInOrder c.args.rows rows = record { others = refl; keys = c.put_in_order.ensures.same } in
     let by_number = in_number_order c.numbers_count_commands.ensures A c.args.rows.keys.items rows.keys.items h listed.same.keys c.put_in_order.ensures.same c.put_in_order.ensures.order in
     let frame = c.in_ok-table.ensures.frame in

@@ -1,22 +1,28 @@
-use Rattle.std.proofs.Common.{refl, rules}
-use Rattle.kcr_store.proofs.WholeLemmas.{still_kept}
+use Rattle.std.proofs.Common.{refl, rules, subst, IsTrue}
+use Rattle.kcr_store.proofs.WholeLemmas.{kept_as}
 use Rattle.kcr_store.proofs.register.Register.apply.Goals as goal
+
+pub invariant_of-self-in-Accepted : goal.invariant_of-self-in-Accepted
+invariant_of-self-in-Accepted g c =
+    kept_as c.in-Accepted.ensures.autocommit (λ yes.
+    rw c.number_after.ensures
+    (c.in-Accepted.ensures.whole (c.self.invariant.counted (subst IsTrue c.in-Accepted.ensures.founded yes) (rw c.if-self.false refl)) refl))
 
 pub returns-in-Accepted-clause-durable : goal.returns-in-Accepted-clause-durable
 returns-in-Accepted-clause-durable g c founded clean db may =
-    (c.in-Accepted.ensures.whole (c.self.invariant.whole (search rules) (rw c.if-self.false refl)) refl).crash clean db may
+    (c.in-Accepted.ensures.whole (c.self.invariant.counted (search rules) (rw c.if-self.false refl)) refl).whole.crash clean db may
 
 pub returns-in-Accepted-clause-tried : goal.returns-in-Accepted-clause-tried
 returns-in-Accepted-clause-tried g c founded _ clean =
-    rw (← c.self.view_is, c.if-self.false) (c.in-Accepted.ensures.candidate (c.self.invariant.whole (search rules) (rw c.if-self.false refl)) clean)
+    rw (← c.self.view_is, c.if-self.false) (c.in-Accepted.ensures.candidate (c.self.invariant.counted (search rules) (rw c.if-self.false refl)) clean)
 
 pub invariant_of-self-in-Refused : goal.invariant_of-self-in-Refused
 invariant_of-self-in-Refused g c =
-    still_kept c.self.invariant c.in-Refused.ensures.autocommit (λ was. c.in-Refused.ensures.whole was refl) (rw c.if-self.false refl)
+    kept_as c.in-Refused.ensures.autocommit (λ yes. c.in-Refused.ensures.whole (c.self.invariant.counted yes (rw c.if-self.false refl)) refl)
 
 pub returns-in-Refused-clause-step : goal.returns-in-Refused-clause-step
 returns-in-Refused-clause-step g c founded _ clean =
-    rw (← c.self.view_is) (c.in-Refused.ensures.step (c.self.invariant.whole (search rules) (rw c.if-self.false refl)) clean)
+    rw (← c.self.view_is) (c.in-Refused.ensures.step (c.self.invariant.counted (search rules) (rw c.if-self.false refl)) clean)
 
 pub returns-in-Refused-clause-kept : goal.returns-in-Refused-clause-kept
-returns-in-Refused-clause-kept g c = invariant_of-self-in-Refused g c
+returns-in-Refused-clause-kept g c = (invariant_of-self-in-Refused g c).kept

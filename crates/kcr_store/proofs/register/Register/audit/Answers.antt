@@ -1,18 +1,18 @@
 use Rattle.std.proofs.Common.{rules, refl}
-use Rattle.kcr_store.proofs.WholeLemmas.{still_kept}
+use Rattle.kcr_store.proofs.WholeLemmas.{read_kept}
 use Rattle.kcr_store.proofs.register.Register.audit.Goals as goal
 
 pub invariant_of-self : goal.invariant_of-self
-invariant_of-self g c = still_kept c.self.invariant c.audit_of.ensures.autocommit (c.audit_of.ensures.whole _) (rw c.if-self.false refl)
+invariant_of-self g c = read_kept c.self.invariant c.audit_of.ensures.frame (rw c.if-self.false refl)
 
 pub invariant_of-self-in-Err : goal.invariant_of-self-in-Err
-invariant_of-self-in-Err g c = still_kept c.self.invariant c.audit_of.ensures.autocommit (c.audit_of.ensures.whole _) (rw c.if-self.false refl)
+invariant_of-self-in-Err g c = read_kept c.self.invariant c.audit_of.ensures.frame (rw c.if-self.false refl)
 
 pub returns-in-Ok-clause-kept : goal.returns-in-Ok-clause-kept
-returns-in-Ok-clause-kept g c = invariant_of-self g c
+returns-in-Ok-clause-kept g c = (invariant_of-self g c).kept
 
 pub returns-in-Err-clause-kept : goal.returns-in-Err-clause-kept
-returns-in-Err-clause-kept g c = invariant_of-self-in-Err g c
+returns-in-Err-clause-kept g c = (invariant_of-self-in-Err g c).kept
 
 pub returns-in-Ok-clause-found : goal.returns-in-Ok-clause-found
 returns-in-Ok-clause-found g c whole clean m held = c.in-Ok.ensures.found clean m (search rules)
