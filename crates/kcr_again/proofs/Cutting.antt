@@ -57,7 +57,8 @@ pub cut-again : (byte : ℕ) (x y : List ℕ) → Lacks byte x → cut_at byte (
 unfolding cut_at
 cut-again byte x y lacks =
     let within : length x < length (x ++ byte ∷ y) = omega (arith, length-append x (byte ∷ y)) in
-    let at : position (λ b. eqb b byte) (x ++ byte ∷ y) ≡ Some (length x) = rw (first-place byte x y lacks, lt-ltb (length x) (length (x ++ byte ∷ y)) within) refl in
+    let at : position (λ b. eqb b byte) (x ++ byte ∷ y) ≡ Some (length x) =
+    rw (first-place byte x y lacks, lt-ltb (length x) (length (x ++ byte ∷ y)) within) refl in
     ap (option_map (λ i. (take i (x ++ byte ∷ y), drop (i + 1) (x ++ byte ∷ y)))) at
     ∙ (λ j. Some (take-append_seam x (byte ∷ y) j, drop-append-add x (byte ∷ y) 1 j))
 
