@@ -43,6 +43,7 @@ shown-no_float (shown.Bag bag) = rw (texts-no_float bag.items.items) refl
 shown-no_float (shown.Room room) = rw (texts-no_float room.people.items) refl
 
 -- the text of a value that is the answer's
-pub shown-written : (answer : Shown) (d : Data) (text : List ℕ) → d ≡ shown_json answer → (has_float d ≡ false → text ≡ compact_text d) → text ≡ shown_text answer
+pub shown-written : (answer : Shown) (d : Data) (text : List ℕ) → d ≡ shown_json answer → (has_float d ≡ false → text ≡ compact_text d)
+    → text ≡ shown_text answer
 unfolding shown_text
 shown-written answer d text e h = let w : text ≡ compact_text d = h (rw e (shown-no_float answer)) in rw e at w

@@ -15,7 +15,8 @@ added-inserted : (p : Result Scan InsertError) (route : Route) (old new : Held) 
 added-inserted (Ok s) route old new h = h.1
 added-inserted (Err e) route old new h = h.0
 
-pub add-inserted : (route : Route) (old new : Held) (text : List ℕ) → text ≡ route_text route → InsertsRead (parse_route text) route old new (Ok tt) → new ≡ add old route
+pub add-inserted : (route : Route) (old new : Held) (text : List ℕ) → text ≡ route_text route → InsertsRead (parse_route text) route old new (Ok tt)
+    → new ≡ add old route
 unfolding add
 add-inserted route old new text is_text h =
     let h2 : InsertsRead (parse_route (route_text route)) route old new (Ok tt) = rw (← is_text) h in
@@ -39,7 +40,8 @@ unfolding add_all
 add_all-end held routes i le = rw (drop_all i routes le) refl
 
 -- an insert of a route that fits fails only when out of memory
-fitting-fails : (p : Result Scan InsertError) (route : Route) (old new : Held) (error : InsertError) → fits p old ≡ true → InsertsRead p route old new (Err error) → error ≡ OutOfMemory
+fitting-fails : (p : Result Scan InsertError) (route : Route) (old new : Held) (error : InsertError) → fits p old ≡ true
+    → InsertsRead p route old new (Err error) → error ≡ OutOfMemory
 fitting-fails p route old new error fit h = grind (arith, fit, h)
 
 pub only-memory : (route : Route) (old new : Held) (text : List ℕ) (error : InsertError) → text ≡ route_text route → can_add old route ≡ true
@@ -50,7 +52,8 @@ only-memory route old new text error is_text can h =
     fitting-fails (parse_route (route_text route)) route old new error can h2
 
 -- each of the routes to come can be added: so can the next one, and then those behind it
-can_add_all-next : (held : Held) (route : Route) (rest : List Route) → can_add_all held (route ∷ rest) ≡ (can_add held route && can_add_all (add held route) rest)
+can_add_all-next : (held : Held) (route : Route) (rest : List Route)
+    → can_add_all held (route ∷ rest) ≡ (can_add held route && can_add_all (add held route) rest)
 unfolding can_add_all
 can_add_all-next held route rest = refl
 

@@ -5,11 +5,13 @@ use Rattle.kcr_wire.proofs.amount.people_list.Goals as goal
 
 pub returns-in_default : goal.returns-in_default
 returns-in_default c =
-    sym (text_missing initials_of _ _ c.item-item.result c.loop-item.list.items c.loop-item-test.true c.item-item.is (sym c.in_default.ensures)) ∙ c.loop-item.invariant
+    sym (text_missing initials_of _ _ c.item-item.result c.loop-item.list.items c.loop-item-test.true c.item-item.is (sym c.in_default.ensures))
+    ∙ c.loop-item.invariant
 
 pub loop-item-preserved : goal.loop-item-preserved
 loop-item-preserved c =
-    rw c.in_ok-push.ensures.items (text_taken initials_of _ _ c.item-item.result c.loop-item.list.items c.in-Some.who c.loop-item-test.true c.item-item.is (sym c.in-Some.ensures) ∙ c.loop-item.invariant)
+    rw c.in_ok-push.ensures.items (text_taken initials_of _ _ c.item-item.result c.loop-item.list.items c.in-Some.who c.loop-item-test.true c.item-item.is
+    (sym c.in-Some.ensures) ∙ c.loop-item.invariant)
 
 pub returns : goal.returns
 returns c = sym (texts_end initials_of _ _ c.loop-item.list.items c.loop-item-test.false) ∙ c.loop-item.invariant
