@@ -22,13 +22,13 @@ returns-in-Some-clause-number g c clean A had =
 pub returns-in-Some-clause-frame : goal.returns-in-Some-clause-frame
 returns-in-Some-clause-frame g c = within_to _ tt c.in_ok-last.ensures.frame.within
 
-pub returns-in-None-clause-number : goal.returns-in-None-clause-number
-returns-in-None-clause-number g c clean A had =
+pub returns-clause-number : goal.returns-clause-number
+returns-clause-number g c clean A had =
     let was = had (c.in_ok-last.ensures.opened clean) in
     let held = held_in _ _ was in
     let greatest = c.in_ok-last.ensures.rows clean held.tables.t (held_of (tables A) _ held) in
     ap told c.in-None.ensures.value ∙ ap (λ (l : List KeyRow). told (slice_get l 0)) c.deref.ensures.value
     ∙ greatest_told (tables A) _ held c.in_ok-last.last.items greatest ∙ greatest-keys A was.tables.register
 
-pub returns-in-None-clause-frame : goal.returns-in-None-clause-frame
-returns-in-None-clause-frame g c = within_to _ tt c.in_ok-last.ensures.frame.within
+pub returns-clause-frame : goal.returns-clause-frame
+returns-clause-frame g c = within_to _ tt c.in_ok-last.ensures.frame.within

@@ -35,7 +35,7 @@ returns-clause-shown g c clean accepted had =
       planned = ap (is_ceremony accepted) (sym number) ∙ planned ∙ ap not filled;
       at = refl;
       people =
-          c.in_ok-people.ensures.by_stays
+          c.in_ok-people.ensures
           ∙ ap (λ rows. present_in_by rows c.get-number.result c.args.at) c.deref.ensures.value
           ∙ there
           ∙ ap (λ n. present accepted n c.args.at) number;
