@@ -21,7 +21,6 @@ TIMES = 3
 LETTERS = "ABCDEFGHIJKLMNOPQRSTUVWXYZ"
 TABLES = pathlib.Path(__file__).resolve().parent.parent / "tools" / "tables.py"
 KEY = 'SELECT "key", accepted, command, reply FROM keys WHERE "key" = ?1 ORDER BY "key"'
-LAST = 'SELECT "key", accepted, command, reply FROM keys ORDER BY accepted DESC LIMIT 1'
 PERSON = "SELECT who, name FROM people WHERE who = ?1 ORDER BY who"
 PUT_PERSON = "INSERT INTO people (who, name) VALUES (?1, ?2) ON CONFLICT (who) DO UPDATE SET who = ?1, name = ?2"
 PUT_KEY = 'INSERT INTO keys ("key", accepted, command, reply) VALUES (?1, ?2, ?3, ?4)'
@@ -52,11 +51,10 @@ def measured(whose, act):
     return min(spent for spent, _ in found), min(taken for _, taken in found)
 
 
-def enter(database, key, who, name):
-    """The statements of one command."""
+def enter(database, accepted, key, who, name):
+    """The statements of one command, which gets this number."""
     database.execute("BEGIN IMMEDIATE")
     database.execute(KEY, (key,)).fetchall()
-    accepted = (database.execute(LAST).fetchone() or (None, 0))[1] + 1
     database.execute(PERSON, (who,)).fetchall()
     database.execute(PUT_PERSON, (who, name))
     database.execute(PUT_KEY, (key, accepted, f'enter {who} {name}', f'{{"accepted":{accepted}}}'))
@@ -71,7 +69,7 @@ def floor(schema, path, count):
     for text in schema:
         database.execute(text)
     for number in range(count):
-        enter(database, *person(number))
+        enter(database, number + 1, *person(number))
     database.close()
 
 

@@ -102,8 +102,8 @@ pub(crate) enum Performed {
 }
 
 /// The number of the last command after one that is not refused: that of its answer, or the same after a repeat.
-pub(crate) fn number_after(count: u32, answer: &Option<Answer>) -> u32
-    ensures { result ≡ steps.number_after count answer.now }
+pub(crate) fn number_after(count: u32, answer: Option<Answer>) -> u32
+    ensures { result ≡ steps.number_after count answer }
 {
     match answer {
         Some(answer) => answer.accepted,

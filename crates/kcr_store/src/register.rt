@@ -270,7 +270,7 @@ impl<S: Alter> Register<S> {
         }
         match perform(self.alloc, &mut self.conn, &self.past, self.count, command) {
             Performed::Accepted(verdict, past) => {
-                self.count = number_after(self.count, &verdict.answer);
+                self.count = number_after(self.count, verdict.answer);
                 self.past = past;
                 Ok(verdict.reply)
             }

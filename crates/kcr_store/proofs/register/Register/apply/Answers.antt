@@ -2,10 +2,10 @@ use Rattle.std.proofs.Common.{refl, rules, subst, IsTrue}
 use Rattle.kcr_store.proofs.WholeLemmas.{kept_as}
 use Rattle.kcr_store.proofs.register.Register.apply.Goals as goal
 
-pub invariant_of-self-in-Accepted : goal.invariant_of-self-in-Accepted
-invariant_of-self-in-Accepted g c =
+pub invariant_of-self : goal.invariant_of-self
+invariant_of-self g c =
     kept_as c.in-Accepted.ensures.autocommit (λ yes.
-    rw c.number_after.ensures
+    rw c.number_after-self-inside.ensures
     (c.in-Accepted.ensures.whole (c.self.invariant.counted (subst IsTrue c.in-Accepted.ensures.founded yes) (rw c.if-self.false refl)) refl))
 
 pub returns-in-Accepted-clause-durable : goal.returns-in-Accepted-clause-durable
@@ -26,3 +26,10 @@ returns-in-Refused-clause-step g c founded _ clean =
 
 pub returns-in-Refused-clause-kept : goal.returns-in-Refused-clause-kept
 returns-in-Refused-clause-kept g c = (invariant_of-self-in-Refused g c).kept
+
+pub returns-in-Accepted-clause-step : goal.returns-in-Accepted-clause-step
+returns-in-Accepted-clause-step g c founded _ clean =
+    rw (← c.self.view_is) (c.in-Accepted.ensures.step (c.self.invariant.counted (search rules) (rw c.if-self.false refl)) clean)
+
+pub returns-in-Accepted-clause-kept : goal.returns-in-Accepted-clause-kept
+returns-in-Accepted-clause-kept g c = (invariant_of-self g c).kept
