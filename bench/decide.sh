@@ -7,7 +7,7 @@ cd "$(dirname "$0")/.."
 work=$(mktemp -d)
 trap 'rm -rf "$work"' EXIT
 mkdir "$work/crates"
-for crate in kcr_base kcr_seats kcr_people kcr_custody kcr_script kcr_room kcr_history kcr_laws kcr_scene kcr_acts kcr_machine; do
+for crate in kcr_base kcr_seats kcr_people kcr_custody kcr_script kcr_room kcr_history kcr_laws kcr_rules kcr_machine; do
   cp -r "crates/$crate" "$work/crates/$crate"
   grep "^$crate:" crates.txt >> "$work/crates.txt"
 done

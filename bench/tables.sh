@@ -8,7 +8,7 @@ cd "$(dirname "$0")/.."
 work=$(mktemp -d)
 trap 'rm -rf "$work"' EXIT
 mkdir "$work/crates"
-for crate in kcr_base kcr_people kcr_custody kcr_script kcr_room kcr_history kcr_rows kcr_cells kcr_tables; do
+for crate in kcr_base kcr_people kcr_custody kcr_script kcr_room kcr_history kcr_rows kcr_tables; do
   cp -r "crates/$crate" "$work/crates/$crate"
   grep "^$crate:" crates.txt >> "$work/crates.txt"
 done

@@ -7,16 +7,16 @@ room=$(mktemp -d)
 trap 'rm -rf "$room"' EXIT
 mkdir "$room/crates"
 cp -r tools crates.txt "$room"
-for crate in kcr_cells kcr_tables; do
+for crate in kcr_rows kcr_tables; do
   cp -r "crates/$crate" "$room/crates"
   rm -rf "$room/crates/$crate/out"
 done
 (
   cd "$room"
   python3 tools/tables.py
-  for crate in kcr_cells kcr_tables; do (cd "crates/$crate" && rt fmt > /dev/null); done
+  for crate in kcr_rows kcr_tables; do (cd "crates/$crate" && rt fmt > /dev/null); done
 )
-for crate in kcr_cells kcr_tables; do
+for crate in kcr_rows kcr_tables; do
   diff -r -x out "crates/$crate" "$room/crates/$crate"
 done
 echo "tools/tables.py writes the files that stand in the repository"

@@ -125,8 +125,8 @@ use Rattle.kcr_history.specs.declared.views.Change.{Change}
                     words.append(w)
     out += uses(words)
     out += "use Rattle.kcr_rows.specs.Keyed.{by_key}\n"
-    out += "use Rattle.kcr_rows.proofs.OrderLemmas.{put-stands, put_in_rising}\nuse Rattle.kcr_rows.proofs.SameLemmas.{text_ties, number_ties, facility_ties, role_ties, place_ties, one_column, two_columns, three_columns, four_columns, turned}\nuse Rattle.kcr_cells.proofs.StateLemmas.{safe_ties}\n"
-    out += f"use Rattle.kcr_cells.specs.Rows.{{{', '.join(t.row_of for t in puts)}}}\n"
+    out += "use Rattle.kcr_rows.proofs.OrderLemmas.{put-stands, put_in_rising}\nuse Rattle.kcr_rows.proofs.SameLemmas.{text_ties, number_ties, facility_ties, role_ties, place_ties, one_column, two_columns, three_columns, four_columns, turned}\nuse Rattle.kcr_rows.proofs.StateLemmas.{safe_ties}\n"
+    out += f"use Rattle.kcr_rows.specs.Rows.{{{', '.join(t.row_of for t in puts)}}}\n"
     out += "".join(f"use {t.declared}\n" for t in puts)
     out += """use Rattle.kcr_tables.specs.Held.{Tables, Kept, Holds}
 use Rattle.kcr_tables.specs.First.{first_tables}

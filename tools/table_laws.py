@@ -216,12 +216,12 @@ use Rattle.kcr_base.specs.Place.{place_text}
     own = sorted(({c.kind.one for c in cols if c.kind.one} - ONES) | {x for c in cols for x in c.kind.casts if x != "cast_int"})
     own += ["one_rest", "within_is"] if t.name == "items" else []
     if own:
-        out += f"use Rattle.kcr_cells.proofs.StateLemmas.{{{', '.join(own)}}}\n"
+        out += f"use Rattle.kcr_rows.proofs.StateLemmas.{{{', '.join(own)}}}\n"
     out += uses([w for w in t.words() if w != "place_text"])
-    out += f"use Rattle.kcr_cells.specs.Rows.{{{t.row_of}}}\nuse {t.declared}\n"
+    out += f"use Rattle.kcr_rows.specs.Rows.{{{t.row_of}}}\nuse {t.declared}\n"
     facts = sorted({x for x in (t.is_read, t.is_stored) if x})
     if facts:
-        out += f"use Rattle.kcr_cells.specs.States.{{{', '.join(facts)}}}\n"
+        out += f"use Rattle.kcr_rows.specs.States.{{{', '.join(facts)}}}\n"
     out += f"use Rattle.kcr_tables.specs.Schema.{{register_schema}}\nuse Rattle.kcr_tables.specs.Held.{{Tables, Kept, {', '.join(u.place for u in TABLES)}}}\n"
     out += "use Rattle.kcr_tables.specs.First.{first_tables}\nuse Rattle.kcr_tables.specs.Parts.{text_in, number_in}\nuse Rattle.kcr_tables.specs.Statements.{ShowsRows, PutsRow}\nuse Rattle.kcr_tables.specs.Table.{Table, IsTable, Finding, IsFinding}\n"
     out += f"\nabbrev pub project : List Term\nproject = {listed(f'col 1 {at}' for at in t.places())}\n"

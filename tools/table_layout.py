@@ -1,7 +1,7 @@
-"""How long lines of a definition file are broken."""
+"""How long lines of a definition file, and of a file of proofs, are broken."""
 import re
 
-WIDTH = 120
+DEFINITIONS, PROOFS = 120, 160
 OPENS, CLOSES = "({[", ")}]"
 # before these a line may be broken, as far outside of brackets as can be
 SIGNS = [" → ", " × ", " ∷ ", " ∙ "]
@@ -24,11 +24,37 @@ def places(line):
     return found
 
 
-def broken(line, rest):
-    """The line in pieces of at most 120 columns, where that can be, each but the first with `rest` before it."""
+def places_in_proofs(line):
+    """The same in a proof, where a line may also be broken behind an equals sign and before an argument; what stands
+    before the sign stays together, and so do a field and its value."""
+    found, depth, inside, sides = places(line), 0, False, 0
+    for at, sign in enumerate(line):
+        if sign == '"':
+            inside = not inside
+        elif not inside:
+            depth += (sign in OPENS) - (sign in CLOSES)
+            if depth == 0 and line.startswith(" = ", at) and not sides:
+                sides = at
+                if at > 70:
+                    found.append((-0.2, at + 3))
+            if line.startswith(", ", at):
+                found.append((depth + 0.4, at + 2))
+            if line.startswith(" ⊎ ", at):
+                found.append((depth, at + 1))
+            if line.startswith(" ≡ ", at):
+                found.append((depth + 0.7, at + 1))
+            if re.match(r" (?!in |let |with )[a-z_]", line[at:]) and re.search(r"[\w)]$", line[:at]) and not re.search(r"\b(let|λ|rw|ap|sym|record)$", line[:at]):
+                found.append((depth + 0.8, at + 1))
+    is_told = " : " in line[:sides]
+    return [(depth, at) for depth, at in found if at > sides or is_told]
+
+
+def broken(line, rest, width):
+    """The line in pieces of at most this width, where that can be, each but the first with `rest` before it."""
     pieces = []
-    while len(line) > WIDTH:
-        fitting = [(depth, at) for depth, at in places(line) if len(rest) + 8 < at <= WIDTH]
+    find = places if width == DEFINITIONS else places_in_proofs
+    while len(line) > width:
+        fitting = [(depth, at) for depth, at in find(line) if len(rest) + 8 < at <= width]
         if not fitting:
             break
         least = min(depth for depth, _ in fitting)
@@ -38,29 +64,29 @@ def broken(line, rest):
     return pieces + [line]
 
 
-def imports(line):
+def imports(line, width):
     """An import of many names as several of the same module."""
     head, names, tail = re.match(r"(.*\{)(.*)(\};?)$", line).groups()
     pieces, now = [], []
     for name in names.split(", "):
-        if now and len(head + ", ".join(now + [name]) + tail) > WIDTH:
+        if now and len(head + ", ".join(now + [name]) + tail) > width:
             pieces.append(head + ", ".join(now) + tail)
             now = []
         now.append(name)
     return pieces + [head + ", ".join(now) + tail]
 
 
-def laid_out(text):
+def laid_out(text, width):
     """The text with its long lines broken. A text of SQL stays in one line, and so does a record that was written in one:
     `rt fmt` gives each part of a broken one a line of its own, ten for what a text of SQL comes to."""
     out = []
     for line in text.split("\n"):
         bare = line.lstrip(" ")
         indent = line[: len(line) - len(bare)]
-        if len(line) <= WIDTH or bare.startswith("--") or " record {" in line:
+        if len(line) <= width or bare.startswith("--") or " record {" in line:
             out.append(line)
         elif bare.startswith("use "):
-            out += imports(line)
+            out += imports(line, width)
         else:
-            out += broken(line, indent if bare.startswith("→") else indent + "    ")
+            out += broken(line, indent if bare.startswith("→") else indent + "    ", width)
     return "\n".join(out)

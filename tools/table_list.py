@@ -76,8 +76,6 @@ SEATS = Kind("TEXT NOT NULL", "words", "Text (written {x})", "seats_at(alloc, ro
 LOOSE = Kind("TEXT", "words_or_null", "loose_value {x}", "rest_at(row, {at})?", "loose_cell({x})", cast="cast_loose {x} i", words=("loose_value",), casts=("cast_loose",))
 WITHIN = Kind("TEXT", "words_or_null", "within_value {x}", None, "within_cell(&{x})", cast="cast_within {x} i", words=("within_value",), casts=("cast_within",))
 
-BASE_CELLS = {f"{n}_{w}" for n in "initials key serial item line text number day moment facility role place code truth".split() for w in ("at", "cell")} | {f"{n}_or_null_{w}" for n in "number day moment".split() for w in ("at", "cell")}
-
 
 class Column:
     def __init__(self, name, kind, field=None):
@@ -186,9 +184,9 @@ TABLES = [
           "PutTraining", "same_training", turned=True, readings=[of_person("trainings", "is_training_of")]),
     Table("appointments", "appointment", "Appointment", "kcr_people", "", [Column("place", PLACE), Column("since", DAY), Column("who", INITIALS), Column("until", DAY_OR_NULL)], 2,
           "who holds a custodian's place, under the place and the first day",
-          "PutAppointment", "same_appointment",
-          readings=[Reading("appointments_to", "The rows of one place", "place", "place", "Place", PLACE, "same_place {x}.place {v}", ask="is_appointment_of (Wanted.Place {v})"),
-                    Reading("appointments_of", "The rows of one person", "who", "who", "&Initials", INITIALS, "same_text {x}.who {v}", ask="is_appointment_of (Wanted.Person {v})")]),
+          "PutAppointment", "same_appointment", others=[[2, 1, 0]],
+          readings=[Reading("last_appointment_to", "The row of the place's appointment that began last, alone, or none", "place", "place", "Place", PLACE, "same_place {x}.place {v}", ask="is_appointment_to {v}", greatest="since"),
+                    Reading("last_appointment_of", "The row of the person's appointment that began last, alone, or none", "who", "who", "&Initials", INITIALS, "same_text {x}.who {v}", ask="is_appointment_of {v}", greatest="since")]),
     Table("boxes", "box", "BoxRow", "kcr_custody", "", [Column("facility", FACILITY), Column("box", NUMBER, "number"), Column("place", PLACE)], 2,
           "a box under its facility and number", "PutBox", "same_box"),
     Table("safes", "safe", "SafeRow", "kcr_custody", "", [Column("facility", FACILITY), Column("safe", SAFE), Column("state", TRUTH, "is_open")], 2,
@@ -218,7 +216,7 @@ TABLES = [
     Table("exceptions", "exception", "ExceptionRow", "kcr_history", "rows.", [Column("ceremony", NUMBER), Column("exception", NUMBER), Column("text", LINE), Column("at", MOMENT), Column("passed", NUMBER_OR_NULL)], 2,
           "a script exception of a ceremony under both numbers", "PutException", "same_exception",
           readings=[of_ceremony("exceptions", "is_exception_of")]),
-    Table("versions", "version", "Version", "kcr_cells", "rows.", [Column("number", NUMBER)], 1,
+    Table("versions", "version", "Version", "kcr_rows", "rows.", [Column("number", NUMBER)], 1,
           "one row with the number of the schema"),
     Table("keys", "key", "KeyRow", "kcr_history", "rows.", [Column("key", KEY), Column("accepted", NUMBER), Column("command", TEXT), Column("reply", TEXT)], 1,
           "a row for each accepted command, under its key; its number is the row id, and that of no other row",

@@ -1,6 +1,6 @@
 """Writes the module of a table."""
-from table_list import TABLES, BASE_CELLS
-from table_writer import CELLS_CRATE, write, rust_text
+from table_list import TABLES
+from table_writer import ROWS_CRATE, write, rust_text
 
 
 # the kinds of values by which rows are found, as the trait `AsCell` has them
@@ -50,10 +50,9 @@ def source(t):
     imports = [
         f"use crate::table::{{{', '.join(sorted(table, key=lambda n: (n[0].islower(), n)))}}};",
         f"use kcr_base::{{{', '.join(base)}}};",
-        f"use kcr_cells::cells::{{{', '.join(sorted(cells - BASE_CELLS))}}};" if cells - BASE_CELLS else "",
-        "use kcr_cells::statements::write;" if t.alias else "",
         f"use {t.crate}::{t.type};",
-        f"use kcr_rows::cells::{{{', '.join(sorted(cells & BASE_CELLS))}}};" if cells & BASE_CELLS else "",
+        f"use kcr_rows::cells::{{{', '.join(sorted(cells))}}};",
+        "use kcr_rows::statements::write;" if t.alias else "",
         "use sqlite::{Alter, Transaction};",
         "use std::alloc::Global;" if t.needs_alloc else "",
     ]
@@ -104,15 +103,16 @@ def source_rows():
 
 ghost use Rattle.std.specs.Prelude.{⊤};
 """
-    out += f"ghost use Rattle.kcr_cells.specs.Rows.{{{', '.join(t.row_of for t in TABLES)}}};\n"
-    out += f"ghost use Rattle.kcr_cells.specs.States.{{{', '.join(t.is_read for t in TABLES if t.is_read)}}};\n\n"
+    for at in range(0, len(TABLES), 6):
+        out += f"ghost use Rattle.kcr_rows.specs.Rows.{{{', '.join(t.row_of for t in TABLES[at : at + 6])}}};\n"
+    out += f"ghost use Rattle.kcr_rows.specs.States.{{{', '.join(t.is_read for t in TABLES if t.is_read)}}};\n\n"
     readers = {c.kind.reader() for t in TABLES for c in t.columns if c.kind.read}
     types = {"kcr_base": {"Refusal"}}
     for t in TABLES:
-        if t.crate != CELLS_CRATE:
+        if t.crate != ROWS_CRATE:
             types.setdefault(t.crate, set()).add(t.type)
-    imports = [f"use crate::cells::{{{', '.join(sorted(readers - BASE_CELLS))}}};", "use crate::stored::Stored;"]
+    imports = [f"use crate::cells::{{{', '.join(sorted(readers))}}};", "use crate::stored::Stored;"]
     imports += [f"use {crate}::{{{', '.join(sorted(types[crate]))}}};" for crate in sorted(types)]
-    imports += [f"use kcr_rows::cells::{{{', '.join(sorted(readers & BASE_CELLS))}}};", "use sqlite::Row;", "use std::alloc::Global;"]
+    imports += ["use sqlite::Row;", "use std::alloc::Global;"]
     out += "\n".join(imports) + "\n\n" + "\n".join(decoded(t) for t in TABLES)
-    write("src/rows.rt", out, CELLS_CRATE)
+    write("src/rows.rt", out, ROWS_CRATE)

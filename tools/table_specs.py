@@ -1,6 +1,6 @@
 """Writes the definitions: the schema, the rows, and what the database holds."""
 from table_list import TABLES, MACHINE
-from table_writer import CELLS_CRATE, write, codes, listed
+from table_writer import ROWS_CRATE, write, codes, listed
 
 
 HOMES = {
@@ -15,7 +15,7 @@ HOMES = {
 
 
 def home_of(word):
-    return HOMES.get(word, "Rattle.kcr_cells.specs.States")
+    return HOMES.get(word, "Rattle.kcr_rows.specs.States")
 
 
 def uses(words):
@@ -37,7 +37,7 @@ def spec_rows():
     out += "".join(f"use {t.declared}\n" for t in TABLES)
     for t in TABLES:
         out += f"\nabbrev pub {t.row_of} : {t.type} → Row\n{t.row_of} x = {t.row_is('x')}\n"
-    write("specs/Rows.antt", out, CELLS_CRATE)
+    write("specs/Rows.antt", out, ROWS_CRATE)
 
 
 def spec_schema():
@@ -59,8 +59,8 @@ def spec_held():
     out = "-- The database holds the tables of a register.\n"
     out += "use Rattle.std.specs.Prelude.{◌≡◌, List, [], ◌∷◌, map}\nuse Rattle.std.specs.List.{AllByRecursion}\nuse Rattle.sqlite.specs.Effect.{Database}\nuse Rattle.sqlite_catalog.specs.Listing.{IsSound}\nuse Rattle.sqlite.specs.Tree.{Trees}\n"
     out += "use Rattle.kcr_tables.specs.Schema.{register_schema}\nuse Rattle.kcr_rows.specs.Keyed.{Place, Keeps}\n"
-    out += "use Rattle.kcr_cells.specs.Rows.{" + ", ".join(t.row_of for t in TABLES) + "}\n"
-    out += "use Rattle.kcr_cells.specs.States.{" + ", ".join(t.is_stored for t in TABLES if t.is_stored) + "}\n"
+    out += "use Rattle.kcr_rows.specs.Rows.{" + ", ".join(t.row_of for t in TABLES) + "}\n"
+    out += "use Rattle.kcr_rows.specs.States.{" + ", ".join(t.is_stored for t in TABLES if t.is_stored) + "}\n"
     out += "".join(f"use {t.declared}\n" for t in TABLES)
     out += "\n-- where each table lies\n"
     for t in TABLES:
@@ -88,7 +88,7 @@ def spec_made():
 def spec_changed():
     puts = [t for t in TABLES if t.change]
     out = "-- What a change makes of the tables.\nuse Rattle.std.specs.Prelude.{List, fold}\nuse Rattle.kcr_rows.specs.Keyed.{put_in}\n"
-    out += "use Rattle.kcr_cells.specs.Rows.{" + ", ".join(t.row_of for t in puts) + "}\nuse Rattle.kcr_tables.specs.Held.{Tables}\n"
+    out += "use Rattle.kcr_rows.specs.Rows.{" + ", ".join(t.row_of for t in puts) + "}\nuse Rattle.kcr_tables.specs.Held.{Tables}\n"
     out += "use Rattle.kcr_history.specs.declared.views.Change.{Change}\nuse Rattle.kcr_history.specs.declared.views.Change.TheVariants.{" + ", ".join(t.change for t in puts) + "}\n"
     out += "\n-- the row is put into its table, under its key\nabbrev pub changed : Change → Tables → Tables\n"
     out += "".join(f"changed ({t.change} x) t = record t {{ {t.name} = put_in {t.keys} {t.row_of} x t.{t.name} }}\n" for t in puts)
@@ -97,7 +97,8 @@ def spec_changed():
 
 
 def spec_joint():
-    out = """-- The database holds the tables of the machine. The machine has the rows of a table in any order, the database in the order of their keys.
+    out = """-- The database holds the tables of the machine. The machine has the rows of a table in any order, the database in the
+-- order of their keys.
 use Rattle.std.specs.Prelude.{◌≡◌, IsPermutation}
 use Rattle.sqlite.specs.Tree.{Trees}
 use Rattle.sqlite.specs.Effect.{Database}
@@ -147,6 +148,9 @@ shut facility safe = record { facility = facility; safe = safe; is_open = false 
 
 -- no rows but that of the version and the four safes, which are shut
 abbrev pub first_tables : Tables
-first_tables = record empty_tables { safes = shut East One ∷ shut East Two ∷ shut West One ∷ shut West Two ∷ []; versions = record { number = 3 } ∷ [] }
+first_tables = record empty_tables {
+  safes = shut East One ∷ shut East Two ∷ shut West One ∷ shut West Two ∷ [];
+  versions = record { number = 3 } ∷ [];
+}
 """
     write("specs/First.antt", out)

@@ -2,10 +2,10 @@
 import os
 import re
 
-from table_layout import laid_out
+from table_layout import DEFINITIONS, PROOFS, laid_out
 
 TABLES_CRATE = "kcr_tables"
-CELLS_CRATE = "kcr_cells"
+ROWS_CRATE = "kcr_rows"
 
 
 def is_named(name, body):
@@ -38,8 +38,8 @@ def without_unused(text):
 def write(path, text, crate=TABLES_CRATE):
     path = os.path.join("crates", crate, path)
     text = without_unused(text)
-    if "/specs/" in path:
-        text = laid_out(text)
+    if path.endswith(".antt"):
+        text = laid_out(text, DEFINITIONS if "/specs/" in path else PROOFS)
     os.makedirs(os.path.dirname(path), exist_ok=True)
     with open(path, "w") as f:
         f.write(text if text.endswith("\n") else text + "\n")

@@ -1,11 +1,11 @@
 #!/usr/bin/env python3
 """Writes the modules of the tables in crates/kcr_tables, one for each table and all alike, with what each proves of its
-texts, and the rows as values in crates/kcr_cells.
+texts, and the rows as values in crates/kcr_rows.
 
 Run it at the top of the repository, then lay the files out and check:
 
     python3 tools/tables.py
-    (cd crates/kcr_cells && rt fmt && rt check)
+    (cd crates/kcr_rows && rt fmt && rt check)
     (cd crates/kcr_tables && rt fmt && rt check)
 
 With the word `schema` it writes nothing, and prints the texts that make the tables instead, one on a line and in their
@@ -13,7 +13,7 @@ order, as `tests/program.py` compares them with what sqlite3 reads in a register
 
 What differs from table to table stands in `table_list.py`: the columns, the key, and the readings. Everything that this
 program writes is committed; edit a table here and never in the files that are written. The files that are not written
-by it (lib.rt, table.rt, last.rt, several.rt, rooms.rt, view.rt, changes.rt, creation.rt, all of kcr_cells but rows.rt
+by it (lib.rt, table.rt, last.rt, several.rt, rooms.rt, view.rt, changes.rt, creation.rt, all of kcr_rows but rows.rt
 and its specs/Rows.antt, and all definitions and proofs but those that `main` names) are edited by hand.
 """
 import sys

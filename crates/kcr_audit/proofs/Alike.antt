@@ -1,5 +1,6 @@
 -- The rows of a register's sheet tell the same in any order.
-use Rattle.std.proofs.Common.{◌≡◌, ℕ, ◌<◌, ◌≤◌, Bool, true, false, ◌||◌, nat_lt, nat_le, List, [], ◌∷◌, ◌++◌, map, length, Some, None, refl, sym, ap, subst, ◌∙◌, arith, inl, inr}
+use Rattle.std.proofs.Common.{◌≡◌, ℕ, ◌<◌, ◌≤◌, Bool, true, false, ◌||◌, nat_lt, nat_le, List, [], ◌∷◌, ◌++◌, map, length, Some, None, refl, sym, ap, subst}
+use Rattle.std.proofs.Common.{◌∙◌, arith, inl, inr}
 use Rattle.std.specs.Prelude.{◌⊎◌, reverse}
 use Rattle.std.specs.List.{list_any, filter}
 use Rattle.std.specs.List.Sorted.{IsPermutation}
@@ -34,7 +35,8 @@ record Last (rows : List SheetRow) : Type 0 where
   top : (x : SheetRow) → IsIn x rows → x.at ≤ row.at
 
 -- of two rows the kept one is before the others
-last-over : (z y kept : SheetRow) (ys : List SheetRow) → later (Some z) y ≡ Some kept → (kept ≡ z) ⊎ (kept ≡ y) → z.at ≤ kept.at → y.at ≤ kept.at → Last (kept ∷ ys) → Last (z ∷ y ∷ ys)
+last-over : (z y kept : SheetRow) (ys : List SheetRow) → later (Some z) y ≡ Some kept → (kept ≡ z) ⊎ (kept ≡ y) → z.at ≤ kept.at → y.at ≤ kept.at
+    → Last (kept ∷ ys) → Last (z ∷ y ∷ ys)
 last-over z y kept ys e from l m last = record { row = last.row; is = ap (λ o. last_onto o ys) e ∙ last.is; inside = inside from last.inside; top = top }
   where
     inside : (kept ≡ z) ⊎ (kept ≡ y) → (last.row ≡ kept) ⊎ IsIn last.row ys → (last.row ≡ z) ⊎ ((last.row ≡ y) ⊎ IsIn last.row ys)
@@ -113,8 +115,10 @@ new-of c way at [] o h = absurd h
 new-of c way at (who ∷ people) o (inl e) = (who, ap (λ b. b || list_any (same_text who) people) (same-itself who), e)
 new-of c way at (who ∷ people) o (inr h) = let r = new-of c way at people o h in (r.0, or_right (same_text r.0 who) (list_any (same_text r.0) people) r.1, r.2)
 
-alike-more : (rows : List SheetRow) (c : ℕ) (way : Way) (at : ℕ) (people : List (List ℕ)) → HaveTurns rows c way at people → AreAlike rows → AreAlike (rows ++ map (new_row c way at) people)
-alike-more rows c way at people turn alike r o h k same e d = by_parts (in-append r rows (map (new_row c way at) people) h) (in-append o rows (map (new_row c way at) people) k)
+alike-more : (rows : List SheetRow) (c : ℕ) (way : Way) (at : ℕ) (people : List (List ℕ)) → HaveTurns rows c way at people → AreAlike rows
+    → AreAlike (rows ++ map (new_row c way at) people)
+alike-more rows c way at people turn alike r o h k same e d = by_parts (in-append r rows (map (new_row c way at) people) h)
+    (in-append o rows (map (new_row c way at) people) k)
   where
     -- an earlier row has no moment of a new one
     apart : (x y : SheetRow) → IsIn x rows → IsIn y (map (new_row c way at) people) → same_text x.who y.who ≡ true → x.at ≡ y.at → ⊥
@@ -132,7 +136,8 @@ alike-more rows c way at people turn alike r o h k same e d = by_parts (in-appen
     by_parts (inr g) (inr n) = ap (enters d) (new-of c way at people r g).2 ∙ sym (ap (enters d) (new-of c way at people o n).2)
 
 alike-after : (A : History) (act : Act) → fault A act ≡ None → AreAlike (sheet A) → AreAlike (sheet_after act (sheet A))
-alike-after A (Sheet c way people at) f ih = alike-more (sheet A) c way at people (turns A c way at people (none_holds (conditions A (Sheet c way people at)) f).1.1.1.1.1.0) ih
+alike-after A (Sheet c way people at) f ih = alike-more (sheet A) c way at people
+    (turns A c way at people (none_holds (conditions A (Sheet c way people at)) f).1.1.1.1.1.0) ih
 alike-after A act f ih = ih
 
 -- in a register's sheet two rows of one person at one moment say the same

@@ -1,5 +1,6 @@
 -- In a ceremony that has no rows nobody is in the room.
-use Rattle.std.proofs.Common.{◌≡◌, ℕ, ◌≤◌, Bool, true, false, ◌==◌, nat_lt, List, [], ◌∷◌, map, Option, Some, None, refl, sym, ap, subst, ◌∙◌, arith, option_map}
+use Rattle.std.proofs.Common.{◌≡◌, ℕ, ◌≤◌, Bool, true, false, ◌==◌, nat_lt, List, [], ◌∷◌, map, Option, Some, None, refl, sym, ap, subst, ◌∙◌, arith}
+use Rattle.std.proofs.Common.{option_map}
 use Rattle.std.specs.Prelude.{find}
 use Rattle.std.specs.List.{Contains, list_any}
 use Rattle.std.proofs.lemmas.Bool.{true≢false, ltb-false, and_parts, eqb-true, eq-eqb}
@@ -37,24 +38,30 @@ stays-listed c (followed ∷ all) h = grind (arith, h, stays-listed c all)
 crowd-listed : (rows : List SheetRow) (c t : ℕ) → 1 ≤ crowd_by rows c t → Contains (map (λ row. row.ceremony) rows) c
 crowd-listed rows c t h =
     let e = same-crowd rows c t in
-    let held : list_any (holds c t) (stays_by rows) ≡ true = counted-any (holds c t) (stays_by rows) (let k : 1 ≤ crowd_in_by (stays_by rows) c t = omega arith in k) in
-    let some : list_any (of_stay c) (stays_by rows) ≡ true = any-more (holds c t) (of_stay c) (stays_by rows) (λ stay g. (and_parts (of_stay c stay) (_) (and_parts _ _ g).0).0) held in
+    let held : list_any (holds c t) (stays_by rows) ≡ true = counted-any (holds c t) (stays_by rows)
+    (let k : 1 ≤ crowd_in_by (stays_by rows) c t = omega arith in k) in
+    let some : list_any (of_stay c) (stays_by rows) ≡ true = any-more (holds c t) (of_stay c) (stays_by rows)
+    (λ stay g. (and_parts (of_stay c stay) (_) (and_parts _ _ g).0).0) held in
     Contains-from_any {eq = λ m n. n == m} (λ x y e. sym (eqb-true y x e)) c (map (λ row. row.ceremony) rows)
-    (any-map (λ n. n == c) (λ row. row.ceremony) rows ∙ subst (λ all. list_any (of_row c) all ≡ true) (followed-same [] rows) (stays-listed c (followed_rows rows) some))
+    (any-map (λ n. n == c) (λ row. row.ceremony) rows
+    ∙ subst (λ all. list_any (of_row c) all ≡ true) (followed-same [] rows) (stays-listed c (followed_rows rows) some))
 
 -- a test that fails for all ceremonies that have rows fails wherever somebody is in the room
-pub none-listed : (test : List SheetRow → ℕ → ℕ → Bool) (sheet all rows : List SheetRow) (numbers list : List ℕ) (found : Option (ℕ × ℕ)) → all ≡ sheet → rows ≡ sheet → list ≡ numbers → found ≡ None
+pub none-listed : (test : List SheetRow → ℕ → ℕ → Bool) (sheet all rows : List SheetRow) (numbers list : List ℕ) (found : Option (ℕ × ℕ)) → all ≡ sheet
+    → rows ≡ sheet → list ≡ numbers → found ≡ None
     → ((c : ℕ) → Contains (map (λ row. row.ceremony) all) c → Contains numbers c) → IsSoughtAmong (test rows) list found
     → (c t : ℕ) → 1 ≤ crowd_by sheet c t → test sheet c t ≡ false
 none-listed test sheet all rows numbers list found e f g h listed none c t some =
     let among = rw (f, g, h) at none in
     All-contains (λ c. (t : ℕ) → test sheet c t ≡ false) numbers c among (listed c (rw e (crowd-listed sheet c t some))) t
 
-pub none-lone : (view : WholeView) → ((c t : ℕ) → 1 ≤ crowd_by view.sheet.items c t → is_lone view.sheet.items c t ≡ false) → (finding : Finding) → rank finding ≡ 4 → IsTrueOf view finding → ⊥
+pub none-lone : (view : WholeView) → ((c t : ℕ) → 1 ≤ crowd_by view.sheet.items c t → is_lone view.sheet.items c t ≡ false) → (finding : Finding)
+    → rank finding ≡ 4 → IsTrueOf view finding → ⊥
 none-lone view none (Findings.Lone c t) r h = true≢false (sym (eq-eqb (crowd_by view.sheet.items c t) 1 h) ∙ none c t (omega (arith, h)))
 none-lone view none other r h = omega (arith, r)
 
-pub none-crowd : (view : WholeView) → ((c t : ℕ) → 1 ≤ crowd_by view.sheet.items c t → is_crowd view.sheet.items c t ≡ false) → (finding : Finding) → rank finding ≡ 5 → IsTrueOf view finding → ⊥
+pub none-crowd : (view : WholeView) → ((c t : ℕ) → 1 ≤ crowd_by view.sheet.items c t → is_crowd view.sheet.items c t ≡ false) → (finding : Finding)
+    → rank finding ≡ 5 → IsTrueOf view finding → ⊥
 none-crowd view none (Findings.Crowd c t) r h = let few = ltb-false 128 (crowd_by view.sheet.items c t) (none c t (omega (arith, h))) in omega (arith, h, few)
 none-crowd view none other r h = omega (arith, r)
 
@@ -64,12 +71,15 @@ none-coming all [] c h = refl
 none-coming all (stay ∷ stays) c h = grind (arith, h, none-coming all stays c)
 
 -- the stay at whose beginning there are too many tells of such a moment
-pub crowded : (rows : List SheetRow) (c : ℕ) (stays : List Stay) (found : Option ℕ) → stays ≡ stays_by rows → found ≡ option_map (λ stay. stay.since) (find (is_crowd_at stays c) stays) → IsSometime (is_crowd rows c) found
+pub crowded : (rows : List SheetRow) (c : ℕ) (stays : List Stay) (found : Option ℕ) → stays ≡ stays_by rows
+    → found ≡ option_map (λ stay. stay.since) (find (is_crowd_at stays c) stays) → IsSometime (is_crowd rows c) found
 crowded rows c stays found e f = subst (IsSometime (is_crowd rows c)) (sym f) (by_find (find (is_crowd_at stays c) stays) refl)
   where
     here : (t : ℕ) → is_crowd_in_by stays c t ≡ is_crowd rows c t
     here t = ap (λ s. is_crowd_in_by s c t) e ∙ ap (λ n. nat_lt 128 n) (same-crowd rows c t)
 
     by_find : (o : Option Stay) → find (is_crowd_at stays c) stays ≡ o → IsSometime (is_crowd rows c) (option_map (λ stay. stay.since) o)
-    by_find (Some stay) h = sym (here stay.since) ∙ (and_parts (stay.ceremony == c) (is_crowd_in_by stays c stay.since) (is-found (is_crowd_at stays c) stays stay h).passes).1
-    by_find None h = λ t. sym (here t) ∙ subst (IsEver (is_crowd_in_by stays c)) (none-coming stays stays c (none-find (is_crowd_at stays c) stays h)) (crowded-is_ever stays c) t
+    by_find (Some stay) h = sym (here stay.since)
+        ∙ (and_parts (stay.ceremony == c) (is_crowd_in_by stays c stay.since) (is-found (is_crowd_at stays c) stays stay h).passes).1
+    by_find None h = λ t. sym (here t)
+        ∙ subst (IsEver (is_crowd_in_by stays c)) (none-coming stays stays c (none-find (is_crowd_at stays c) stays h)) (crowded-is_ever stays c) t

@@ -1,5 +1,6 @@
 -- The rows of the people of a step that was signed or passed: how they are filed, and that they fill its seats in whatever order they come.
-use Rattle.std.proofs.Common.{◌≡◌, ℕ, suc, Bool, true, false, cond, ◌&&◌, ◌==◌, List, [], ◌∷◌, filter, Option, Some, None, refl, sym, ap, ◌∙◌, subst, not, map, option_map}
+use Rattle.std.proofs.Common.{◌≡◌, ℕ, suc, Bool, true, false, cond, ◌&&◌, ◌==◌, List, [], ◌∷◌, filter, Option, Some, None, refl, sym, ap, ◌∙◌, subst, not, map}
+use Rattle.std.proofs.Common.{option_map}
 use Rattle.std.specs.Prelude.{is_some, unwrap_or}
 use Rattle.std.specs.List.{list_all, list_any}
 use Rattle.std.proofs.lemmas.Bool.{cond_both, true≢false, and_parts, eqb-true, eq-eqb, not-false, and_right}
@@ -20,7 +21,8 @@ use Rattle.kcr_history.specs.declared.rows.StepState.TheVariants.{Signed, Passed
 use Rattle.kcr_history.specs.History.{History, stacked_on}
 use Rattle.kcr_history.specs.Ceremonies.{Planned, planned_as, plan_of, is_ceremony, steps_of, steps_done, next_step}
 use Rattle.kcr_history.specs.Seating.{is_seating}
-use Rattle.kcr_history.specs.Tables.{step_done, fate_of, seats_at, seatings, seat_rows, seating_rows, ceremony_of_step, ceremony_row, step_row, step_keys, steps, tables, SameTables}
+use Rattle.kcr_history.specs.Tables.{step_done, fate_of, seats_at, seatings, seat_rows, seating_rows, ceremony_of_step, ceremony_row, step_row, step_keys}
+use Rattle.kcr_history.specs.Tables.{steps, tables, SameTables}
 use Rattle.kcr_history.specs.Conditions.{conditions, fault, no_ceremony}
 use Rattle.kcr_history.specs.Laws.{is_seated}
 use Rattle.kcr_history.specs.Machine.{answer_to, sitting, IsRegister}
@@ -56,7 +58,8 @@ other-rows d s c k i (who ∷ people) e = rw e (other-rows d s c k (suc i) peopl
 
 own-rows : (c k i : ℕ) (people : List (List ℕ)) → filter (is_of c k) (seat_rows c k i people) ≡ seat_rows c k i people
 own-rows c k i [] = refl
-own-rows c k i (who ∷ people) = rw (eq-eqb c c refl, eq-eqb k k refl) (ap (λ rows. record { ceremony = c; step = k; seat = suc i; who = who } ∷ rows) (own-rows c k (suc i) people))
+own-rows c k i (who ∷ people) = rw (eq-eqb c c refl, eq-eqb k k refl)
+    (ap (λ rows. record { ceremony = c; step = k; seat = suc i; who = who } ∷ rows) (own-rows c k (suc i) people))
 
 -- the rows that an answer files
 abbrev filed_by : Act → Answer → List SeatingRow
@@ -107,7 +110,8 @@ module _ (A B : History) (c k : ℕ) where
   files_to (Sign d step at) None f = files_none (d == c && step == k) (Signed, at)
   files_to (Sign d step at) (Some people) f = files_rows d step (Signed, at) people (none_holds (conditions B (Sign d step at)) f).0 (next_signed B d step at f)
   files_to (Except d text true at) None f = files_none (d == c && next_step B d == k) (Passed, at)
-  files_to (Except d text true at) (Some people) f = files_rows d (next_step B d) (Passed, at) people (none_holds (conditions B (Except d text true at)) f).0 refl
+  files_to (Except d text true at) (Some people) f = files_rows d (next_step B d) (Passed, at) people
+      (none_holds (conditions B (Except d text true at)) f).0 refl
   files_to act people f = refl
 
   files : (entry : Entry) → Took B entry
@@ -159,7 +163,8 @@ filed A (entry ∷ B) h s c k fate e =
     parts : IsSeated A entry.command.act entry.answer × (all_seated A B ≡ true)
     parts = and_parts (is_seated A (sitting A entry.command.act) entry.answer.seating) (all_seated A B) s
 
-    stack : (front back : List SeatingRow) → filter (is_of c k) mine ≡ front → filter (is_of c k) (seatings B) ≡ back → filter (is_of c k) (seatings (entry ∷ B)) ≡ stacked_on front back
+    stack : (front back : List SeatingRow) → filter (is_of c k) mine ≡ front → filter (is_of c k) (seatings B) ≡ back
+        → filter (is_of c k) (seatings (entry ∷ B)) ≡ stacked_on front back
     stack front back p q = filter-stacked (is_of c k) mine (seatings B) ∙ rw (p, q) refl
 
     by_done : (o : Option (StepState × ℕ)) → Files A B c k mine (IsSeated A entry.command.act entry.answer) o → or_else o (fate_of B c k) ≡ Some fate
@@ -204,10 +209,12 @@ module _ (A : History) (h : IsRegister A) (view : WholeView) (same : SameTables 
       let rows = rows-placed (seatings A) view.seatings.items same.seatings key.0 key.1 as_filed.people as_filed.filed in
       let row = row_with A key (Some (state, at)) in
       ap (λ o. is_well_seated view row o (Some at)) (ceremony-found A view same.ceremonies key.0 as_filed.planned)
-      ∙ ap (λ b. b && is_seating_by view (ceremony_row A key.0) at (seats_filled row) (seated_at view.seatings.items key.0 key.1)) (ap (are_numbered 1) rows ∙ seats-numbered key.0 key.1 0 as_filed.people)
+      ∙ ap (λ b. b && is_seating_by view (ceremony_row A key.0) at (seats_filled row) (seated_at view.seatings.items key.0 key.1))
+      (ap (are_numbered 1) rows ∙ seats-numbered key.0 key.1 0 as_filed.people)
       ∙ seating-same A h view same key.0 at (seats_filled row) (seated_at view.seatings.items key.0 key.1)
       ∙ ap (λ seats. is_seating A key.0 at seats (seated_at view.seatings.items key.0 key.1)) s
-      ∙ ap (is_seating A key.0 at (seats_for state (seats_at (steps_of A key.0) key.1))) (ap (map (λ row. row.who)) rows ∙ people-of-seats key.0 key.1 0 as_filed.people)
+      ∙ ap (is_seating A key.0 at (seats_for state (seats_at (steps_of A key.0) key.1)))
+      (ap (map (λ row. row.who)) rows ∙ people-of-seats key.0 key.1 0 as_filed.people)
       ∙ as_filed.seated
 
   none-ill : (c s : ℕ) (key : ℕ × ℕ) → is_ill_seated view c s (step_row A key) ≡ false
@@ -227,4 +234,5 @@ module _ (A : History) (h : IsRegister A) (view : WholeView) (same : SameTables 
 
   -- no step of a register is ill seated
   pub no-seating : (c s : ℕ) → IsTrueOf view (Findings.Seating c s) → ⊥
-  no-seating c s t = true≢false (sym t ∙ sym (list_any-IsPermutation (is_ill_seated view c s) (steps A) view.steps.items same.steps) ∙ none-of-steps c s (step_keys A))
+  no-seating c s t = true≢false
+      (sym t ∙ sym (list_any-IsPermutation (is_ill_seated view c s) (steps A) view.steps.items same.steps) ∙ none-of-steps c s (step_keys A))

@@ -39,15 +39,19 @@ use Rattle.kcr_audit.proofs.Alike.{shown-in}
 use Rattle.kcr_laws.proofs.Finds.{only-holder}
 
 -- the row of a planned ceremony
-pub ceremony-found : (A : History) (view : WholeView) → IsPermutation (ceremonies A) view.ceremonies.items → (c : ℕ) → is_ceremony A c ≡ true → ceremony_in view c ≡ Some (ceremony_row A c)
+pub ceremony-found : (A : History) (view : WholeView) → IsPermutation (ceremonies A) view.ceremonies.items → (c : ℕ) → is_ceremony A c ≡ true
+    → ceremony_in view c ≡ Some (ceremony_row A c)
 ceremony-found A view p c k =
     let numbers = all_said planned_number A in
     let own = all-keys (λ row. row.number == c) (ceremony_row A) (ceremony_row A c) (λ n e. ap (ceremony_row A) (eqb-true n c e)) numbers in
-    find-only (λ row. row.number == c) (ceremony_row A c) view.ceremonies.items (only-order (λ row. row.number == c) (ceremony_row A c) (ceremonies A) view.ceremonies.items p own)
-    (sym (list_any-IsPermutation (λ row. row.number == c) (ceremonies A) view.ceremonies.items p) ∙ any-map (λ row. row.number == c) (ceremony_row A) numbers ∙ planned-number A c ∙ k)
+    find-only (λ row. row.number == c) (ceremony_row A c) view.ceremonies.items
+    (only-order (λ row. row.number == c) (ceremony_row A c) (ceremonies A) view.ceremonies.items p own)
+    (sym (list_any-IsPermutation (λ row. row.number == c) (ceremonies A) view.ceremonies.items p) ∙ any-map (λ row. row.number == c) (ceremony_row A) numbers
+    ∙ planned-number A c ∙ k)
 
 -- who holds a place
-holder-same : (A : History) → IsRegister A → (rows : List Appointment) → IsPermutation (appointments A) rows → (place : Place) (day : ℕ) → holder_by rows place day ≡ holder A place day
+holder-same : (A : History) → IsRegister A → (rows : List Appointment) → IsPermutation (appointments A) rows → (place : Place) (day : ℕ)
+    → holder_by rows place day ≡ holder A place day
 holder-same A h rows p place day =
     ap (option_map (λ row. row.who)) (find-order (holds place day) (appointments A) rows p (λ r e. only-holder place day r (appointments A) (orderly A h).0 e))
     ∙ holder-appointments A h place day
@@ -58,14 +62,18 @@ module _ (A : History) (h : IsRegister A) (view : WholeView) (same : SameTables 
   held : (place : Place) (day : ℕ) (who : List ℕ) → is_holder_by view.appointments.items place day who ≡ is_holder A place day who
   held place day who = ap (is_this who) (holder-same A h view.appointments.items same.appointments place day)
 
-  fits-same : (facility : Facility) (day : ℕ) (seat : Seat) (who : List ℕ) → fits_by view.trainings.items view.withdrawals.items view.appointments.items facility day seat who ≡ fits A facility day seat who
+  fits-same : (facility : Facility) (day : ℕ) (seat : Seat) (who : List ℕ)
+      → fits_by view.trainings.items view.withdrawals.items view.appointments.items facility day seat who ≡ fits A facility day seat who
   fits-same facility day (Staff role) who =
-      trained-order (trainings A) view.trainings.items (withdrawals A) view.withdrawals.items same.trainings same.withdrawals who role day ∙ trained-rows A h who role day
+      trained-order (trainings A) view.trainings.items (withdrawals A) view.withdrawals.items same.trainings same.withdrawals who role day
+      ∙ trained-rows A h who role day
   fits-same facility day AnyCo who =
-      any-same (λ n. is_holder_by view.appointments.items (Places.Co facility n) day who) (λ n. is_holder A (Places.Co facility n) day who) one_to_seven (λ n. held (Places.Co facility n) day who)
+      any-same (λ n. is_holder_by view.appointments.items (Places.Co facility n) day who) (λ n. is_holder A (Places.Co facility n) day who) one_to_seven
+      (λ n. held (Places.Co facility n) day who)
   fits-same facility day (Co n) who = held (Places.Co facility n) day who
   fits-same facility day AnyRksh who =
-      any-same (λ n. is_holder_by view.appointments.items (Places.Rksh n) day who) (λ n. is_holder A (Places.Rksh n) day who) one_to_seven (λ n. held (Places.Rksh n) day who)
+      any-same (λ n. is_holder_by view.appointments.items (Places.Rksh n) day who) (λ n. is_holder A (Places.Rksh n) day who) one_to_seven
+      (λ n. held (Places.Rksh n) day who)
   fits-same facility day (Rksh n) who = held (Places.Rksh n) day who
 
   eligible-same : (c t : ℕ) (seat : Seat) (who : List ℕ) → eligible_by view (ceremony_row A c) t seat who ≡ eligible A c t seat who
@@ -75,7 +83,8 @@ module _ (A : History) (h : IsRegister A) (view : WholeView) (same : SameTables 
       ∙ ap (λ b. is_in A who c t && b) (fits-same (facility_of A c) (day_of t) seat who)
 
   -- what is a seating by the rows is one by the history
-  pub seating-same : (c t : ℕ) (seats : List Seat) (people : List (List ℕ)) → is_seating_by view (ceremony_row A c) t seats people ≡ is_seating A c t seats people
+  pub seating-same : (c t : ℕ) (seats : List Seat) (people : List (List ℕ))
+      → is_seating_by view (ceremony_row A c) t seats people ≡ is_seating A c t seats people
   seating-same c t [] [] = refl
   seating-same c t [] (who ∷ people) = refl
   seating-same c t (seat ∷ seats) [] = refl

@@ -1,5 +1,6 @@
 -- What is found is true, and where nothing is found nothing is true.
-use Rattle.std.proofs.Common.{◌≡◌, ℕ, ◌≤◌, Bool, true, false, cond, ◌||◌, ◌&&◌, ◌==◌, nat_lt, not, List, [], ◌∷◌, Option, Some, None, refl, sym, ap, subst, ◌∙◌, arith, option_map, inl, inr}
+use Rattle.std.proofs.Common.{◌≡◌, ℕ, ◌≤◌, Bool, true, false, cond, ◌||◌, ◌&&◌, ◌==◌, nat_lt, not, List, [], ◌∷◌, Option, Some, None, refl, sym, ap, subst, ◌∙◌}
+use Rattle.std.proofs.Common.{arith, option_map, inl, inr}
 use Rattle.std.specs.Prelude.{find}
 use Rattle.std.specs.List.{list_any, count_by}
 use Rattle.std.proofs.lemmas.Bool.{true≢false, and_from, and_parts, cases_Bool, or_cases, or_left, or_right, eq-eqb, lt-ltb, ltb-true, ltb-false}
@@ -49,7 +50,8 @@ counted-any p xs h = any-counted p xs ∙ lt-ltb 0 (count_by p xs) (omega arith)
 
 -- where a text is wrong that is doubled, or that a row has which is also bad, some row has a wrong text
 text-any : {X : Type 0} (key : X → List ℕ) (bad : X → Bool) (wrong : List ℕ → Bool) (text : List ℕ) (xs : List X)
-    → (is_doubled (λ x. same_text (key x) text) xs || list_any (λ x. same_text (key x) text && bad x) xs) ≡ true → wrong text ≡ true → list_any (λ x. wrong (key x)) xs ≡ true
+    → (is_doubled (λ x. same_text (key x) text) xs || list_any (λ x. same_text (key x) text && bad x) xs) ≡ true → wrong text ≡ true
+    → list_any (λ x. wrong (key x)) xs ≡ true
 text-any {X} key bad wrong text xs e f = any-more same (λ x. wrong (key x)) xs (λ x h. subst (λ t. wrong t ≡ true) (sym (same-is (key x) text h)) f) some
   where
     same : X → Bool
@@ -77,7 +79,8 @@ sought view kind test name xs found ranked true_of any e = subst (IsSought view 
 step-is_ill : (view : WholeView) (row : StepRow) → is_step_wrong view row ≡ true → is_ill_seated view row.ceremony row.step row ≡ true
 step-is_ill view row h = rw (eq-eqb row.ceremony row.ceremony refl, eq-eqb row.step row.step refl) h
 
-pub steps : (view : WholeView) (found : Option Finding) → found ≡ option_map (λ row. Findings.Seating row.ceremony row.step) (find (is_step_wrong view) view.steps.items) → IsSought view 0 found
+pub steps : (view : WholeView) (found : Option Finding)
+    → found ≡ option_map (λ row. Findings.Seating row.ceremony row.step) (find (is_step_wrong view) view.steps.items) → IsSought view 0 found
 steps view found e =
     sought view 0 (is_step_wrong view) (λ row. Findings.Seating row.ceremony row.step) view.steps.items found (λ row. refl)
     (λ row f. f.any (is_ill_seated view row.ceremony row.step) (step-is_ill view row f.passes)) by_kind e
@@ -85,11 +88,14 @@ steps view found e =
     by_kind : (finding : Finding) → rank finding ≡ 0 → IsTrueOf view finding → list_any (is_step_wrong view) view.steps.items ≡ true
     by_kind (Findings.Seating c s) r t =
         any-more (is_ill_seated view c s) (is_step_wrong view) view.steps.items
-        (λ row h. (let p = and_parts (row.ceremony == c && row.step == s && is_done row.state) (not (is_well_seated view row (ceremony_in view row.ceremony) row.at)) h in
-        and_from (is_done row.state) (not (is_well_seated view row (ceremony_in view row.ceremony) row.at)) (and_parts (row.ceremony == c && row.step == s) (is_done row.state) p.0).1 p.1)) t
+        (λ row h. (let p = and_parts (row.ceremony == c && row.step == s && is_done row.state)
+        (not (is_well_seated view row (ceremony_in view row.ceremony) row.at)) h in
+        and_from (is_done row.state) (not (is_well_seated view row (ceremony_in view row.ceremony) row.at))
+        (and_parts (row.ceremony == c && row.step == s) (is_done row.state) p.0).1 p.1)) t
     by_kind other r t = absurd (omega (arith, r))
 
-pub items : (view : WholeView) (found : Option Finding) → found ≡ option_map (λ row. Findings.Custody row.code) (find (λ row. is_item_wrong view row.code) view.items.items) → IsSought view 1 found
+pub items : (view : WholeView) (found : Option Finding)
+    → found ≡ option_map (λ row. Findings.Custody row.code) (find (λ row. is_item_wrong view row.code) view.items.items) → IsSought view 1 found
 items view found e =
     sought view 1 (λ row. is_item_wrong view row.code) (λ row. Findings.Custody row.code) view.items.items found (λ row. refl) (λ row f. f.passes) by_kind e
   where
@@ -97,7 +103,8 @@ items view found e =
     by_kind (Findings.Custody item) r t = text-any (λ row. row.code) (λ row. is_lost view row.rest) (is_item_wrong view) item view.items.items t t
     by_kind other r t = absurd (omega (arith, r))
 
-pub bags : (view : WholeView) (found : Option Finding) → found ≡ option_map (λ row. Findings.Bag row.serial) (find (λ row. is_bag_wrong view row.serial) view.bags.items) → IsSought view 2 found
+pub bags : (view : WholeView) (found : Option Finding)
+    → found ≡ option_map (λ row. Findings.Bag row.serial) (find (λ row. is_bag_wrong view row.serial) view.bags.items) → IsSought view 2 found
 bags view found e =
     sought view 2 (λ row. is_bag_wrong view row.serial) (λ row. Findings.Bag row.serial) view.bags.items found (λ row. refl) (λ row f. f.passes) by_kind e
   where

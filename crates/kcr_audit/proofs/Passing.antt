@@ -1,5 +1,6 @@
 -- Nothing is found in the tables of a register.
-use Rattle.std.proofs.Common.{◌≡◌, ℕ, ◌<◌, ◌≤◌, Bool, true, false, cond, not, ◌||◌, ◌&&◌, List, [], ◌∷◌, map, Option, Some, None, is_some, refl, sym, ap, subst, ◌∙◌, arith, inl, inr}
+use Rattle.std.proofs.Common.{◌≡◌, ℕ, ◌<◌, ◌≤◌, Bool, true, false, cond, not, ◌||◌, ◌&&◌, List, [], ◌∷◌, map, Option, Some, None, is_some, refl, sym, ap, subst}
+use Rattle.std.proofs.Common.{◌∙◌, arith, inl, inr}
 use Rattle.std.specs.Prelude.{unwrap_or}
 use Rattle.std.specs.List.{list_any, count_by}
 use Rattle.std.specs.List.Sorted.{IsPermutation}
@@ -53,13 +54,16 @@ differ-once key text (x ∷ xs) h = by_test (same_text (key x) text) refl (diffe
         ∙ subst (λ t. list_any (same_text t) (map key xs) ≡ false) (same-is (key x) text e) (not-true (list_any (same_text (key x)) (map key xs)) p.0)
 
     by_test : (b : Bool) → same_text (key x) text ≡ b → count_by (λ y. same_text (key y) text) xs ≤ 1 → count_by (λ y. same_text (key y) text) (x ∷ xs) ≤ 1
-    by_test true e ih = let next = count-cons (λ y. same_text (key y) text) x xs true e in let none = none-counted (λ y. same_text (key y) text) xs (others e) in omega arith
+    by_test true e ih = let next = count-cons (λ y. same_text (key y) text) x xs true e in let none = none-counted (λ y. same_text (key y) text) xs
+        (others e) in omega arith
     by_test false e ih = let next = count-cons (λ y. same_text (key y) text) x xs false e in omega arith
 
-not-doubled : {X : Type 0} (key : X → List ℕ) (text : List ℕ) (rows shown : List X) → all_differ (map key rows) ≡ true → IsPermutation rows shown → is_doubled (λ x. same_text (key x) text) shown ≡ true → ⊥
+not-doubled : {X : Type 0} (key : X → List ℕ) (text : List ℕ) (rows shown : List X) → all_differ (map key rows) ≡ true → IsPermutation rows shown
+    → is_doubled (λ x. same_text (key x) text) shown ≡ true → ⊥
 not-doubled key text rows shown h p d =
     let once = differ-once key text rows h in
-    let same : count_by (λ x. same_text (key x) text) shown ≡ count_by (λ x. same_text (key x) text) rows = sum_by-IsPermutation (λ x. cond (same_text (key x) text) 1 0) rows shown p in
+    let same : count_by (λ x. same_text (key x) text) shown ≡ count_by (λ x. same_text (key x) text) rows =
+    sum_by-IsPermutation (λ x. cond (same_text (key x) text) 1 0) rows shown p in
     let more = ltb-true 1 (count_by (λ x. same_text (key x) text) shown) d in
     omega arith
 
@@ -76,9 +80,11 @@ none-made p make (text ∷ texts) f =
 -- a row that is there passes
 one-made : {X : Type 0} (p : X → Bool) (make : List ℕ → X) (text : List ℕ) (texts : List (List ℕ))
     → list_any (λ t. same_text t text) texts ≡ true → p (make text) ≡ true → list_any p (map make texts) ≡ true
-one-made p make text texts m f = any-map p make texts ∙ any-more (λ t. same_text t text) (λ t. p (make t)) texts (λ t e. subst (λ t. p (make t) ≡ true) (sym (same-is t text e)) f) m
+one-made p make text texts m f = any-map p make texts
+    ∙ any-more (λ t. same_text t text) (λ t. p (make t)) texts (λ t e. subst (λ t. p (make t) ≡ true) (sym (same-is t text e)) f) m
 
-own-texts : {X : Type 0} (key : X → List ℕ) (make : List ℕ → X) (texts : List (List ℕ)) → ((text : List ℕ) → key (make text) ≡ text) → map key (map make texts) ≡ texts
+own-texts : {X : Type 0} (key : X → List ℕ) (make : List ℕ → X) (texts : List (List ℕ)) → ((text : List ℕ) → key (make text) ≡ text)
+    → map key (map make texts) ≡ texts
 own-texts key make [] own = refl
 own-texts key make (text ∷ texts) own = rw (own text, own-texts key make texts own)
 
@@ -92,7 +98,8 @@ none-wrong key make bad texts shown own differ p good text t =
       | inl d ↦ not-doubled key text (map make texts) shown (ap all_differ (own-texts key make texts own) ∙ differ) p d
       | inr w ↦
           true≢false (sym w ∙ sym (list_any-IsPermutation (λ x. same_text (key x) text && bad x) (map make texts) shown p)
-          ∙ none-made (λ x. same_text (key x) text && bad x) make texts (λ made m. and_right (same_text (key (make made)) text) (bad (make made)) (good made m)))
+          ∙ none-made (λ x. same_text (key x) text && bad x) make texts
+          (λ made m. and_right (same_text (key (make made)) text) (bad (make made)) (good made m)))
     ]
 
 -- BY THE KIND OF FINDING

@@ -55,8 +55,10 @@ seats-above c k i (who ∷ people) y (inr m) = let l = seats-above c k (suc i) p
 seats-one : (c k i : ℕ) (people : List (List ℕ)) → OneEach (seat_rows c k i people)
 seats-one c k i [] r o m n e = absurd m
 seats-one c k i (who ∷ people) r o (inl f) (inl g) e = f ∙ sym g
-seats-one c k i (who ∷ people) r o (inl f) (inr n) e = absurd (let l = seats-above c k (suc i) people o n in let s : r.seat ≡ suc i = ap (λ (row : SeatingRow). row.seat) f in omega arith)
-seats-one c k i (who ∷ people) r o (inr m) (inl g) e = absurd (let l = seats-above c k (suc i) people r m in let s : o.seat ≡ suc i = ap (λ (row : SeatingRow). row.seat) g in omega arith)
+seats-one c k i (who ∷ people) r o (inl f) (inr n) e = absurd
+    (let l = seats-above c k (suc i) people o n in let s : r.seat ≡ suc i = ap (λ (row : SeatingRow). row.seat) f in omega arith)
+seats-one c k i (who ∷ people) r o (inr m) (inl g) e = absurd
+    (let l = seats-above c k (suc i) people r m in let s : o.seat ≡ suc i = ap (λ (row : SeatingRow). row.seat) g in omega arith)
 seats-one c k i (who ∷ people) r o (inr m) (inr n) e = seats-one c k (suc i) people r o m n e
 
 -- they stay as they are
@@ -72,7 +74,8 @@ seats-stay c k i (who ∷ people) = ap (put_row row) (seats-stay c k (suc i) peo
     first (next ∷ people) = rw (le-ltb (suc (suc i)) (suc i) (omega arith)) refl
 
 -- in order, the rows of the seats are those that they were before
-pub seats-in-order : (c k i : ℕ) (people : List (List ℕ)) (rows : List SeatingRow) → IsPermutation (seat_rows c k i people) rows → rows_in_order rows ≡ seat_rows c k i people
+pub seats-in-order : (c k i : ℕ) (people : List (List ℕ)) (rows : List SeatingRow) → IsPermutation (seat_rows c k i people) rows
+    → rows_in_order rows ≡ seat_rows c k i people
 seats-in-order c k i people rows p = sym (order-same (shuffled (seat_rows c k i people) rows p) (seats-one c k i people)) ∙ seats-stay c k i people
 
 pub people-of-seats : (c k i : ℕ) (people : List (List ℕ)) → map (λ row. row.who) (seat_rows c k i people) ≡ people

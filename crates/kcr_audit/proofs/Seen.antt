@@ -25,11 +25,13 @@ pub record Seen (rows : List KeyRow) (seen : List ℕ → Bool) : Type 0 where
   pub once : (key : List ℕ) → count_by (has key) rows ≤ 1
 
 -- at a step of a loop: one row more, of a key that was not seen, or of one that was, which is doubled then
-module _ (rows : List KeyRow) (i : ℕ) (row : KeyRow) (old : List ℕ → Bool) (l : i < length rows) (is : row ≡ get_or rows i row) (s : Seen (take i rows) old) where
+module _ (rows : List KeyRow) (i : ℕ) (row : KeyRow) (old : List ℕ → Bool) (l : i < length rows) (is : row ≡ get_or rows i row)
+    (s : Seen (take i rows) old) where
   has-here : (key : List ℕ) (b : Bool) → has key row ≡ b → has key (get_or rows i row) ≡ b
   has-here key b e = ap (has key) (sym is) ∙ e
 
-  pub seen-more : (new : List ℕ → Bool) → old row.key ≡ false → ((key : List ℕ) → new key ≡ cond (same_text row.key key) true (old key)) → Seen (take (i + 1) rows) new
+  pub seen-more : (new : List ℕ → Bool) → old row.key ≡ false → ((key : List ℕ) → new key ≡ cond (same_text row.key key) true (old key))
+      → Seen (take (i + 1) rows) new
   seen-more new fresh updates = record { told = told; once = once }
     where
       either : (a b : Bool) → cond a true b ≡ (a || b)
@@ -44,7 +46,8 @@ module _ (rows : List KeyRow) (i : ℕ) (row : KeyRow) (old : List ℕ → Bool)
       once : (key : List ℕ) → count_by (has key) (take (i + 1) rows) ≤ 1
       once key = elim (cases_Bool (has key row)) [
         | inl e ↦
-            let none = none-counted (has key) (take i rows) (subst (λ k. list_any (has k) (take i rows) ≡ false) (same-is row.key key e) (sym (s.told row.key) ∙ fresh)) in
+            let none = none-counted (has key) (take i rows)
+            (subst (λ k. list_any (has k) (take i rows) ≡ false) (same-is row.key key e) (sym (s.told row.key) ∙ fresh)) in
             let more = count_by_more_yes (has key) rows i row l (has-here key true e) in
             omega arith
         | inr e ↦ let before = s.once key in let more = count_by_more_no (has key) rows i row l (has-here key false e) in omega arith
@@ -62,6 +65,7 @@ pub seen-all : (rows : List KeyRow) (seen : List ℕ → Bool) → Seen rows see
 seen-all rows seen s key = le-ltb 1 (count_by (has key) rows) (s.once key)
 
 -- where no key is doubled, there is none to be found
-pub none-doubled : (view : WholeView) → ((key : List ℕ) → is_key_doubled view.keys.items key ≡ false) → (finding : Finding) → rank finding ≡ 3 → IsTrueOf view finding → ⊥
+pub none-doubled : (view : WholeView) → ((key : List ℕ) → is_key_doubled view.keys.items key ≡ false) → (finding : Finding) → rank finding ≡ 3
+    → IsTrueOf view finding → ⊥
 none-doubled view none (Findings.Key key) r h = true≢false (sym h ∙ none key)
 none-doubled view none other r h = omega (arith, r)

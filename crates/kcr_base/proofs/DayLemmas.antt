@@ -123,7 +123,15 @@ date_of_number n h =
       from = year.from;
       until = omega (arith, year.until);
       number = number_of_count y m (day_of_month n) n
-          (omega (arith, h.from, year.same_day, month.same_day, day_count-2000, days_of_months-zero (pos y), day_count-day_of_year (pos y) m (day_of_month n) (omega arith)));
+          (omega (
+            arith,
+            h.from,
+            year.same_day,
+            month.same_day,
+            day_count-2000,
+            days_of_months-zero (pos y),
+            day_count-day_of_year (pos y) m (day_of_month n) (omega arith),
+          ));
     }
 
 from_2000 : (y : ℕ) → 2000 ≤ y → day_count (pos 2000) 1 1 ≤ day_count (pos y) 1 1

@@ -4,13 +4,9 @@ use Rattle.std.specs.List.{list_any, list_all, filter_map}
 use Rattle.std.specs.List.Sorted.{IsPermutation}
 use Rattle.std.proofs.lemmas.Bool.{true≢false, false≢true, or_left, or_right, false_from_ne_true}
 use Rattle.kcr_base.specs.Same.{same_text}
+pub use Rattle.kcr_base.specs.Rows.{IsIn}
 use Rattle.kcr_base.proofs.RowsLemmas.{Shuffled, nothing, under, flipped, after, shuffled}
 use Rattle.kcr_base.proofs.SameLemmas.{same-is, same-itself}
-
--- the value is in the list
-abbrev pub IsIn : {X : Type 0} → X → List X → Type 0
-IsIn x [] = ⊥
-IsIn x (y ∷ ys) = (x ≡ y) ⊎ IsIn x ys
 
 pub in-append : {X : Type 0} (x : X) (xs ys : List X) → IsIn x (xs ++ ys) → IsIn x xs ⊎ IsIn x ys
 in-append x [] ys i = inr i

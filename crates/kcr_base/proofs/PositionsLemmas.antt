@@ -1,5 +1,6 @@
 -- Indices and the positions that count from 1.
-use Rattle.std.proofs.Common.{◌≡◌, ℕ, zero, suc, ◌+◌, ◌<◌, ◌≤◌, inl, inr, List, [], ◌∷◌, ◌++◌, All, length, map, take, slice_set, slice_index_or, sym, ◌∙◌, arith}
+use Rattle.std.proofs.Common.{◌≡◌, ℕ, zero, suc, ◌+◌, ◌<◌, ◌≤◌, inl, inr, List, [], ◌∷◌, ◌++◌, All, length, map, take, slice_set, slice_index_or, sym, ◌∙◌}
+use Rattle.std.proofs.Common.{arith}
 use Rattle.std.proofs.lemmas.Bool.{cases_lt}
 use Rattle.std.specs.List.{slice_index}
 use Rattle.std.specs.List.Sorted.{IsStrictlyIncreasing}
@@ -32,7 +33,8 @@ positions_of xs rises below = record {
 }
 
 -- one more cell is filled
-pub filled_more : (xs cells : List ℕ) (i : ℕ) → i < length xs → length xs ≤ length cells → take i cells ≡ map suc (take i xs) → take (i + 1) (slice_set cells i (slice_index_or xs i 0 + 1)) ≡ map suc (take (i + 1) xs)
+pub filled_more : (xs cells : List ℕ) (i : ℕ) → i < length xs → length xs ≤ length cells → take i cells ≡ map suc (take i xs)
+    → take (i + 1) (slice_set cells i (slice_index_or xs i 0 + 1)) ≡ map suc (take (i + 1) xs)
 filled_more xs cells i inside room so_far =
     let next : slice_index_or xs i 0 + 1 ≡ suc (slice_index_or xs i 0) = omega arith in
     take_more_set cells i (slice_index_or xs i 0 + 1) (omega arith) ∙ (λ j. so_far j ++ next j ∷ []) ∙ sym (map_more suc xs i 0 inside)

@@ -1,6 +1,11 @@
 -- Lists of rows, and values that may be there.
-use Rattle.std.specs.Prelude.{Bool, List, [], ◌∷◌, map, Option, Some, None, if◌then◌else◌}
+use Rattle.std.specs.Prelude.{◌≡◌, ◌⊎◌, Bool, List, [], ◌∷◌, map, Option, Some, None, if◌then◌else◌}
 use Rattle.std.specs.List.{list_any}
+
+-- the row is one of the list's
+abbrev pub IsIn : {X : Type 0} → X → List X → Type 0
+IsIn row [] = ⊥
+IsIn row (other ∷ rows) = (row ≡ other) ⊎ IsIn row rows
 
 -- the row under its key, new or in place of the old; `same` tells whether two rows have one key
 abbrev pub put : {X : Type 0} → (X → X → Bool) → X → List X → List X

@@ -165,7 +165,7 @@ cut_keeps facility boxes bags items serial h =
 abbrev is_there : List Item → Item → Bool
 is_there items c = list_any (same_text c.code) (map (λ row. row.code) items)
 
-packed_there : (items : List Item) (serial : List ℕ) (codes : List (List ℕ)) → no_item items codes ≡ None
+packed_there : (items : List Item) (serial : List ℕ) (codes : List (List ℕ)) → no_item (rest_by items) codes ≡ None
     → list_all (is_there items) (packed serial codes) ≡ true
 packed_there items serial [] h = refl
 packed_there items serial (code ∷ codes) h =

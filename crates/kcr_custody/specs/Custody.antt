@@ -1,15 +1,15 @@
 -- Safes, boxes, bags and items, by rows.
-use Rattle.std.specs.Prelude.{ℕ, Bool, true, false, not, ◌&&◌, ◌||◌, nat_lt, nat_eq, List, [], ◌∷◌, map, filter, find}
+use Rattle.std.specs.Prelude.{ℕ, Bool, true, false, not, ◌&&◌, ◌||◌, nat_eq, List, [], ◌∷◌, map, filter, find}
 use Rattle.std.specs.Prelude.{Option, Some, None, option_map, option_and_then, is_some, is_none, if◌then◌else◌}
 use Rattle.std.specs.List.{list_any, list_all}
 use Rattle.kcr_base.specs.Same.{same_text, same_facility, same_place}
-use Rattle.kcr_base.specs.Refuse.{when, first_of}
+use Rattle.kcr_base.specs.Refuse.{when, first_of, no_person, no_ceremony, is_late}
 use Rattle.kcr_base.specs.declared.place.Facility.{Facility}
 use Rattle.kcr_base.specs.declared.place.Place.{Place}
 use Rattle.kcr_base.specs.declared.place.Place.TheVariants.{Co, Rksh}
 use Rattle.kcr_base.specs.declared.refusal.Refusal.{Refusal}
 use Rattle.kcr_base.specs.declared.refusal.Refusal.TheVariants as Refusals
-use Rattle.kcr_base.specs.declared.refusal.Refusal.TheVariants.{Unknown, Taken, Range, State, Late, Full, Elsewhere}
+use Rattle.kcr_base.specs.declared.refusal.Refusal.TheVariants.{Unknown, Taken, Range, State, Full, Elsewhere}
 use Rattle.kcr_base.specs.declared.refusal.Refusal.TheVariants.{Absent}
 use Rattle.kcr_base.specs.declared.refusal.Thing.TheVariants as Things
 use Rattle.kcr_base.specs.declared.refusal.Absentee.TheVariants as Absentees
@@ -21,7 +21,7 @@ use Rattle.kcr_custody.specs.declared.SafeNumber.TheVariants.{One, Two}
 use Rattle.kcr_custody.specs.declared.SafeRow.{SafeRow}
 use Rattle.kcr_custody.specs.declared.BoxRow.{BoxRow}
 use Rattle.kcr_custody.specs.declared.Spot.{Spot}
-use Rattle.kcr_custody.specs.declared.Spot.TheVariants.{Table, Equipment, InBox, Spent}
+use Rattle.kcr_custody.specs.declared.Spot.TheVariants.{Table, Equipment, InBox}
 use Rattle.kcr_custody.specs.declared.Rest.{Rest}
 use Rattle.kcr_custody.specs.declared.Rest.TheVariants.{Loose, Within}
 use Rattle.kcr_custody.specs.declared.Bag.{Bag}
@@ -125,73 +125,57 @@ packed serial codes = map (within serial) codes
 
 -- WHAT SEVERAL ACTS TEST
 
-abbrev pub no_ceremony : Scene → Option Refusal
-no_ceremony scene = when (not scene.is_known) (Unknown (Things.Ceremony scene.ceremony))
-
--- the moment is before the mark
-abbrev pub late : Option ℕ → ℕ → Option Refusal
-late None at = None
-late (Some mark) at = when (nat_lt at mark) (Late mark)
-
 -- the ceremony is not open, the moment is before its mark, or the register is full
 abbrev pub not_ready : Scene → Option Refusal
 not_ready scene =
     first_of
     (when (not scene.is_open) State
-    ∷ late scene.mark scene.at
+    ∷ is_late scene.at scene.mark
     ∷ when scene.is_full Full
     ∷ [])
 
 abbrev pub no_ca : Scene → Option Refusal
 no_ca scene = when (not scene.has_ca) (Absent (Absentees.Role Ca))
 
-abbrev pub no_bag : List Bag → List ℕ → Option Refusal
-no_bag bags serial = when (is_none (spot_by bags serial)) (Unknown (Things.Bag serial))
+abbrev pub no_bag : Option Spot → List ℕ → Option Refusal
+no_bag spot serial = when (is_none spot) (Unknown (Things.Bag serial))
 
 -- the first of the items that was never added
-abbrev pub no_item : List Item → List (List ℕ) → Option Refusal
-no_item items codes =
-    option_map (λ code. Unknown (Things.Item code)) (find (λ code. is_none (rest_by items code)) codes)
+abbrev pub no_item : (List ℕ → Option Rest) → List (List ℕ) → Option Refusal
+no_item rest codes = option_map (λ code. Unknown (Things.Item code)) (find (λ code. is_none (rest code)) codes)
 
 -- the box, where the bag is to be put in one
-abbrev pub no_box : List BoxRow → Facility → Option ℕ → Option Refusal
-no_box boxes facility None = None
-no_box boxes facility (Some number) =
-    when (is_none (place_of_box_by boxes facility number)) (Unknown (Things.Box number))
+abbrev pub no_box : (ℕ → Option Place) → Option ℕ → Option Refusal
+no_box place None = None
+no_box place (Some number) = when (is_none (place number)) (Unknown (Things.Box number))
 
 -- the safe is shut
-abbrev pub shut : List SafeRow → Facility → Option SafeNumber → Option Refusal
-shut safes facility None = None
-shut safes facility (Some safe) = when (not (is_open_by safes facility safe)) Refusals.Safe
+abbrev pub shut : (SafeNumber → Bool) → Option SafeNumber → Option Refusal
+shut is_open None = None
+shut is_open (Some safe) = when (not (is_open safe)) Refusals.Safe
 
 -- the box's place has no holder on the day, or one who is not in the room
-abbrev pub no_holder : Option Place → Bool → Option Refusal
-no_holder None has_holder = None
-no_holder (Some place) has_holder = when (not has_holder) (Absent (Absentees.Place place))
+abbrev pub no_holder : (Place → Bool) → Option Place → Option Refusal
+no_holder has_holder None = None
+no_holder has_holder (Some place) = when (not (has_holder place)) (Absent (Absentees.Place place))
 
--- THE CONDITIONS OF EACH ACT in the order of the refusals, and its first refusal
+-- THE CONDITIONS OF EACH ACT in the order of the refusals, over what is asked: the scene; the place of a box and
+-- whether a safe is open at its facility; where a bag or an item is; whether a place has its holder in the room
 
-abbrev pub add_box_conditions : List BoxRow → Bool → BoxRow → List (Option Refusal)
-add_box_conditions boxes is_full row =
-    when (list_any (is_box row.facility row.number) boxes
-    || list_any (λ old. same_place old.place row.place) boxes) Taken
+abbrev pub add_box_conditions : Bool → Bool → Bool → BoxRow → List (Option Refusal)
+add_box_conditions has_box has_place is_full row =
+    when (has_box || has_place) Taken
     ∷ when (not (is_co_place_of row.facility row.place)) Range
     ∷ when is_full Full
     ∷ []
 
-abbrev pub add_box_refusal : List BoxRow → Bool → BoxRow → Option Refusal
-add_box_refusal boxes is_full row = first_of (add_box_conditions boxes is_full row)
-
-abbrev pub add_item_conditions : Scene → List Item → List ℕ → List (Option Refusal)
-add_item_conditions scene items code =
-    no_ceremony scene
-    ∷ when (is_some (rest_by items code)) Taken
+abbrev pub add_item_conditions : Scene → Option Rest → List (Option Refusal)
+add_item_conditions scene rest =
+    no_ceremony scene.is_known scene.ceremony
+    ∷ when (is_some rest) Taken
     ∷ not_ready scene
     ∷ no_ca scene
     ∷ []
-
-abbrev pub add_item_refusal : Scene → List Item → List ℕ → Option Refusal
-add_item_refusal scene items code = first_of (add_item_conditions scene items code)
 
 abbrev pub same_truth : Bool → Bool → Bool
 same_truth true b = b
@@ -202,71 +186,89 @@ abbrev pub may_turn : SafeNumber → Keeper → Bool
 may_turn One by = by.is_inside && by.has_ssc1
 may_turn Two by = by.is_inside && by.has_ssc2
 
-abbrev pub turn_conditions : Scene → List SafeRow → SafeNumber → Bool → Keeper → List (Option Refusal)
-turn_conditions scene safes safe is_open by =
-    no_ceremony scene
-    ∷ when (not by.is_known) (Unknown (Things.Person by.who))
+abbrev pub turn_conditions : Scene → (SafeNumber → Bool) → SafeNumber → Bool → Keeper → List (Option Refusal)
+turn_conditions scene is_open safe state by =
+    no_ceremony scene.is_known scene.ceremony
+    ∷ no_person by.is_known by.who
     ∷ not_ready scene
-    ∷ when (same_truth (is_open_by safes scene.facility safe) is_open) Refusals.Safe
+    ∷ when (same_truth (is_open safe) state) Refusals.Safe
     ∷ when (not (may_turn safe by)) (Absent (Absentees.Person by.who))
     ∷ []
 
-abbrev pub turn_refusal : Scene → List SafeRow → SafeNumber → Bool → Keeper → Option Refusal
-turn_refusal scene safes safe is_open by = first_of (turn_conditions scene safes safe is_open by)
-
-abbrev pub seal_conditions : Scene → List Bag → List Item → List ℕ → List (List ℕ) → List (Option Refusal)
-seal_conditions scene bags items serial codes =
-    no_ceremony scene
-    ∷ no_item items codes
-    ∷ when (is_some (spot_by bags serial)) Taken
+abbrev pub seal_conditions : Scene → Option Spot → (List ℕ → Option Rest) → List (List ℕ) → List (Option Refusal)
+seal_conditions scene spot rest codes =
+    no_ceremony scene.is_known scene.ceremony
+    ∷ no_item rest codes
+    ∷ when (is_some spot) Taken
     ∷ not_ready scene
-    ∷ when (not (list_all (λ code. is_loose_at scene.facility (rest_by items code)) codes)) Elsewhere
+    ∷ when (not (list_all (λ code. is_loose_at scene.facility (rest code)) codes)) Elsewhere
     ∷ no_ca scene
     ∷ []
+
+abbrev pub take_conditions : Scene → (SafeNumber → Bool) → (ℕ → Option Place) → (Place → Bool) → Option Spot → List ℕ
+    → List (Option Refusal)
+take_conditions scene is_open place has_holder spot serial =
+    no_ceremony scene.is_known scene.ceremony
+    ∷ no_bag spot serial
+    ∷ not_ready scene
+    ∷ shut is_open (safe_of scene.facility spot)
+    ∷ when (is_none (safe_of scene.facility spot)) Elsewhere
+    ∷ no_ca scene
+    ∷ no_holder has_holder (option_and_then place (box_of spot))
+    ∷ []
+
+abbrev pub put_conditions : Scene → (SafeNumber → Bool) → (ℕ → Option Place) → (Place → Bool) → Option Spot → List ℕ
+    → Store → List (Option Refusal)
+put_conditions scene is_open place has_holder spot serial to =
+    no_ceremony scene.is_known scene.ceremony
+    ∷ no_bag spot serial
+    ∷ no_box place (box_of_store to)
+    ∷ not_ready scene
+    ∷ shut is_open (Some (safe_of_store to))
+    ∷ when (not (is_on_table scene.facility spot)) Elsewhere
+    ∷ no_ca scene
+    ∷ no_holder has_holder (option_and_then place (box_of_store to))
+    ∷ []
+
+abbrev pub cut_conditions : Scene → Option Spot → List ℕ → List (Option Refusal)
+cut_conditions scene spot serial =
+    no_ceremony scene.is_known scene.ceremony
+    ∷ no_bag spot serial
+    ∷ not_ready scene
+    ∷ when (not (is_on_table scene.facility spot)) Elsewhere
+    ∷ no_ca scene
+    ∷ []
+
+-- THE FIRST REFUSAL OF EACH ACT, by rows
+
+abbrev pub add_box_refusal : List BoxRow → Bool → BoxRow → Option Refusal
+add_box_refusal boxes is_full row =
+    first_of
+    (add_box_conditions (list_any (is_box row.facility row.number) boxes)
+    (list_any (λ old. same_place old.place row.place) boxes) is_full row)
+
+abbrev pub add_item_refusal : Scene → List Item → List ℕ → Option Refusal
+add_item_refusal scene items code = first_of (add_item_conditions scene (rest_by items code))
+
+abbrev pub turn_refusal : Scene → List SafeRow → SafeNumber → Bool → Keeper → Option Refusal
+turn_refusal scene safes safe state by =
+    first_of (turn_conditions scene (is_open_by safes scene.facility) safe state by)
 
 abbrev pub seal_refusal : Scene → List Bag → List Item → List ℕ → List (List ℕ) → Option Refusal
-seal_refusal scene bags items serial codes = first_of (seal_conditions scene bags items serial codes)
-
-abbrev pub take_conditions : Scene → List SafeRow → List BoxRow → List Bag → List ℕ → Bool → List (Option Refusal)
-take_conditions scene safes boxes bags serial has_holder =
-    no_ceremony scene
-    ∷ no_bag bags serial
-    ∷ not_ready scene
-    ∷ shut safes scene.facility (safe_of scene.facility (spot_by bags serial))
-    ∷ when (is_none (safe_of scene.facility (spot_by bags serial))) Elsewhere
-    ∷ no_ca scene
-    ∷ no_holder (place_of boxes scene.facility (box_of (spot_by bags serial))) has_holder
-    ∷ []
+seal_refusal scene bags items serial codes =
+    first_of (seal_conditions scene (spot_by bags serial) (rest_by items) codes)
 
 abbrev pub take_refusal : Scene → List SafeRow → List BoxRow → List Bag → List ℕ → Bool → Option Refusal
 take_refusal scene safes boxes bags serial has_holder =
-    first_of (take_conditions scene safes boxes bags serial has_holder)
-
-abbrev pub put_conditions : Scene → List SafeRow → List BoxRow → List Bag → List ℕ → Store → Bool
-    → List (Option Refusal)
-put_conditions scene safes boxes bags serial to has_holder =
-    no_ceremony scene
-    ∷ no_bag bags serial
-    ∷ no_box boxes scene.facility (box_of_store to)
-    ∷ not_ready scene
-    ∷ shut safes scene.facility (Some (safe_of_store to))
-    ∷ when (not (is_on_table scene.facility (spot_by bags serial))) Elsewhere
-    ∷ no_ca scene
-    ∷ no_holder (place_of boxes scene.facility (box_of_store to)) has_holder
-    ∷ []
+    first_of
+    (take_conditions scene (is_open_by safes scene.facility) (place_of_box_by boxes scene.facility)
+    (λ place. has_holder) (spot_by bags serial) serial)
 
 abbrev pub put_refusal : Scene → List SafeRow → List BoxRow → List Bag → List ℕ → Store → Bool → Option Refusal
 put_refusal scene safes boxes bags serial to has_holder =
-    first_of (put_conditions scene safes boxes bags serial to has_holder)
-
-abbrev pub cut_conditions : Scene → List Bag → List ℕ → List (Option Refusal)
-cut_conditions scene bags serial =
-    no_ceremony scene
-    ∷ no_bag bags serial
-    ∷ not_ready scene
-    ∷ when (not (is_on_table scene.facility (spot_by bags serial))) Elsewhere
-    ∷ no_ca scene
-    ∷ []
+    first_of
+    (put_conditions scene (is_open_by safes scene.facility) (place_of_box_by boxes scene.facility)
+    (λ place. has_holder) (spot_by bags serial) serial to)
 
 abbrev pub cut_refusal : Scene → List Bag → List ℕ → Option Refusal
-cut_refusal scene bags serial = first_of (cut_conditions scene bags serial)
+cut_refusal scene bags serial = first_of (cut_conditions scene (spot_by bags serial) serial)

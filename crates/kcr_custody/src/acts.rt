@@ -309,7 +309,10 @@ pub fn cut(
     serial: Serial,
 ) -> Result<Moved, Refusal>
     ensures { Decides (Custody.cut_refusal scene.now bags.now serial)
-        (record { bag = record { serial = serial; spot = Spent }; items = Custody.loosened items.now serial scene.now.facility }) result }
+        (record {
+          bag = record { serial = serial; spot = Spent };
+          items = Custody.loosened items.now serial scene.now.facility;
+        }) result }
 {
     if let Some(refusal) = cut_refusal(scene, bags, serial) {
         return Err(refusal);
@@ -373,7 +376,10 @@ pub fn seal(
     codes: &[ItemCode],
 ) -> Result<Moved, Refusal>
     ensures { Decides (Custody.seal_refusal scene.now bags.now items.now serial codes.now)
-        (record { bag = record { serial = serial; spot = Table scene.now.facility }; items = Custody.packed serial codes.now }) result }
+        (record {
+          bag = record { serial = serial; spot = Table scene.now.facility };
+          items = Custody.packed serial codes.now;
+        }) result }
 {
     if let Some(refusal) = seal_refusal(scene, bags, items, serial, codes) {
         return Err(refusal);

@@ -39,7 +39,8 @@ pub fn put_keeps_balance()
     ensures { (scene : Scene) (safes : List SafeRow) (boxes : List BoxRow) (bags : List Bag) (items : List Item)
         (serial : List ℕ) (to : Store) (has_holder : Bool) →
         IsBalanced boxes bags items → Custody.put_refusal scene safes boxes bags serial to has_holder ≡ None →
-        IsBalanced boxes (put same_bag (record { serial = serial; spot = Custody.spot_of_store scene.facility to }) bags) items }
+        IsBalanced boxes
+        (put same_bag (record { serial = serial; spot = Custody.spot_of_store scene.facility to }) bags) items }
 {}
 
 /// A seal keeps balance.
@@ -47,14 +48,16 @@ pub fn seal_keeps_balance()
     ensures { (facility : Facility) (boxes : List BoxRow) (bags : List Bag) (items : List Item) (serial : List ℕ)
         (codes : List (List ℕ)) →
         IsBalanced boxes bags items →
-        IsBalanced boxes (put same_bag (record { serial = serial; spot = Table facility }) bags) (put_all same_item (Custody.packed serial codes) items) }
+        IsBalanced boxes (put same_bag (record { serial = serial; spot = Table facility }) bags)
+        (put_all same_item (Custody.packed serial codes) items) }
 {}
 
 /// A cut keeps balance.
 pub fn cut_keeps_balance()
     ensures { (facility : Facility) (boxes : List BoxRow) (bags : List Bag) (items : List Item) (serial : List ℕ) →
         IsBalanced boxes bags items →
-        IsBalanced boxes (put same_bag (record { serial = serial; spot = Spent }) bags) (put_all same_item (Custody.loosened items serial facility) items) }
+        IsBalanced boxes (put same_bag (record { serial = serial; spot = Spent }) bags)
+        (put_all same_item (Custody.loosened items serial facility) items) }
 {}
 
 /// A seal neither loses nor makes an item.
@@ -67,5 +70,6 @@ pub fn seal_leaves_items()
 /// A cut neither loses nor makes an item.
 pub fn cut_leaves_items()
     ensures { (serial : List ℕ) (facility : Facility) (items : List Item) →
-        map (λ row. row.code) (put_all same_item (Custody.loosened items serial facility) items) ≡ map (λ row. row.code) items }
+        map (λ row. row.code) (put_all same_item (Custody.loosened items serial facility) items)
+        ≡ map (λ row. row.code) items }
 {}

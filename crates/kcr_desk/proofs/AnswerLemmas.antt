@@ -1,6 +1,6 @@
 -- What the register answers to one message, from what its calls say.
 use Rattle.std.proofs.Common.{◌≡◌, List, ℕ, refl, sym, ap, ◌∙◌, arith, inl, inr}
-use Rattle.std.specs.Prelude.{◌⊎◌, ◌≢◌, ◌↔◌, true, false, Option, Some, None, Result, Err, MatchOption, MatchResult, IsSome, IsTrue, unwrap_or}
+use Rattle.std.specs.Prelude.{◌⊎◌, ◌≢◌, ◌↔◌, true, false, Option, Some, None, Result, Err, MatchOption, MatchResult, IsSome, IsTrue}
 use Rattle.sqlite.specs.Held.{state}
 use Rattle.sqlite.specs.State.{HasCleanDisk}
 use Rattle.sqlite.specs.Store.{Ghosts}
@@ -9,6 +9,7 @@ use Rattle.kcr_base.specs.declared.refusal.Refusal.{Refusal}
 use Rattle.kcr_base.specs.declared.refusal.Refusal.TheVariants as Refusals
 use Rattle.kcr_history.specs.History.{History}
 use Rattle.kcr_history.specs.Refusals.{carries}
+use Rattle.kcr_store.specs.Calls.{Looks, OfHistory}
 use Rattle.kcr_store.specs.Register.{Seen}
 use Rattle.kcr_desk.specs.Answers.{Standing, standing, told_text, told_refusal, TellsOrMemory, Inquires, IsRefused, Replies, Answered, AnswersReading}
 use Rattle.kcr_desk.specs.Texts.{Told}
@@ -88,16 +89,12 @@ module _ {S Value : Type 0} (g : Ghosts S) (before after : Seen S) (target : Lis
   }
 
   -- what only reads
-  pub reading_answered : (Says : History → Result Value Refusal → Type 0)
-      → (IsSome before.torn → (result ≡ Err Refusals.Broken) × (after ≡ before))
-      → (IsTrue before.is_founded → before.torn ≡ None → ends_clean → Says before.accepted result)
-      → (before.torn ≡ None → IsSome after.torn ↔ (result ≡ Err Refusals.Disk))
-      → after.accepted ≡ before.accepted → (before.torn ≡ None → unwrap_or after.torn after.accepted ≡ before.accepted)
-      → (ends_clean → HasCleanDisk (state g before.conn)) → after.is_founded ≡ before.is_founded → TellsOrMemory told_by target result told
-      → AnswersReading g before target told after told_by Says
-  reading_answered Says broken says breaks same tried =
-      result_answered (λ old new r. Inquires Says old.accepted r new) broken breaks
-      (λ founded none clean. record { says = says founded none clean; same = same; breaks = breaks none; tried = tried none }) (λ m does. same)
+  pub reading_answered : (Says : History → Result Value Refusal → Type 0) {MayFail : Refusal → Type 0} → Looks g MayFail before after result
+      → OfHistory g before after (λ A. Says A result) → TellsOrMemory told_by target result told → AnswersReading g before target told after told_by Says
+  reading_answered Says looks says =
+      result_answered (λ old new r. Inquires Says old.accepted r new) looks.broken looks.breaks
+      (λ founded none clean. record { says = says founded none clean; same = looks.same; breaks = looks.breaks none; tried = looks.tried none })
+      (λ m does. looks.same) looks.clean looks.founded
 
 -- NOTHING WAS ASKED OF THE REGISTER
 

@@ -89,7 +89,7 @@ module _ (before after : Standing) (asked : Asked) (told : Told) (are : AreRegis
   read_keeps Takes keeps (Err refusal) h = refused_keeps refusal h
 
   message_keeps : (method : Method) → AnswersBy method before asked told after → AreRegisters after
-  message_keeps Post h = read_keeps _ command_keeps (command_of Post asked.target asked.body) h
+  message_keeps Post h = read_keeps _ command_keeps (command_of asked.target asked.body) h
   message_keeps method h = read_keeps _ inquiry_keeps (inquiry_of method asked.target) h
 
   answer_keeps : IsAnswer before asked told after → AreRegisters after

@@ -1,15 +1,16 @@
 -- What a report that was printed into memory is told.
 use Rattle.std.proofs.Common.{◌≡◌, ℕ, List, [], refl, ap, inl}
-use Rattle.std.specs.Prelude.{◌↔◌, ⊤, Some, Result, Ok, Err, OnOk, IsTrue, IsSome}
-use Rattle.sqlite.specs.Held.{state}
-use Rattle.sqlite.specs.State.{HasCleanDisk}
+use Rattle.std.specs.Prelude.{◌↔◌, ⊤, Option, Some, Result, Ok, Err, IfErr, OnOk, IsTrue}
 use Rattle.sqlite.specs.Store.{Ghosts}
+use Rattle.kcr_base.specs.declared.counted.Counted.{Counted}
+use Rattle.kcr_base.specs.declared.refusal.Refusal.{Refusal}
 use Rattle.kcr_base.specs.declared.refusal.Refusal.TheVariants as Refusals
 use Rattle.kcr_history.specs.Ceremonies.{is_ceremony}
 use Rattle.kcr_history.specs.History.{History}
 use Rattle.kcr_store.specs.Register.{Seen}
-use Rattle.kcr_store.specs.Rows.{IsNotPlanned, OfHistory}
-use Rattle.kcr_print.specs.Reports.{IsPrinted, Leaves}
+use Rattle.kcr_store.specs.Calls.{Looks, OfHistory}
+use Rattle.kcr_store.specs.Rows.{IsNotPlanned}
+use Rattle.kcr_print.specs.Reports.{IsPrinted, Prints}
 use Rattle.kcr_print.specs.declared.fault.PrintFault.{PrintFault}
 use Rattle.kcr_print.specs.declared.fault.PrintFault.TheVariants.{Refused, Write}
 use Rattle.kcr_desk.specs.declared.reply.Kind.{Kind}
@@ -30,18 +31,30 @@ reported report ceremony A (Ok done) text printed planned = (planned, printed)
 reported report ceremony A (Err (Refused refusal)) text printed planned = printed.1
 reported report ceremony A (Err Write) text printed planned = inl (inl refl)
 
-pub report_answered : {S : Type 0} (g : Ghosts S) {before after : Seen S} {outcome : Result ⊤ PrintFault} (target : List ℕ) (told : Told) (kind : Kind)
-    (report : History → ℕ → List ℕ) (ceremony : ℕ) (text : List ℕ)
-    → (IsSome before.torn → (outcome ≡ Err (Refused Refusals.Broken)) × (after ≡ before))
+-- of a refusal nothing is said here
+any_cause : {T : Type 0} (r : Result T Refusal) → IfErr r (λ _. ⊤)
+any_cause (Ok x) = tt
+any_cause (Err e) = tt
+
+pub report_answered : {S W : Type 0} (g : Ghosts S) {contents : W → Option (List ℕ)} {before after : Seen S} {x y : Counted W} {outcome : Result ⊤ PrintFault}
+    {D : History → Refusal → Type 0} {M : Refusal → Type 0} {t : History → List ℕ} (target : List ℕ) (told : Told) (kind : Kind)
+    (report : History → ℕ → List ℕ) (ceremony : ℕ) (text : List ℕ) → Prints g contents before after x y outcome D M t
     → OfHistory g before after (λ A. IsPrinted (IsNotPlanned A ceremony) (report A ceremony) outcome (Some []) (Some text))
     → OfHistory g before after (λ A. OnOk outcome (IsTrue (is_ceremony A ceremony)))
-    → (HasCleanDisk (state g after.conn) → HasCleanDisk (state g before.conn)) → Leaves before after outcome
     → TellsOrMemory (told_report kind target) target (outcome_of outcome text) told
     → AnswersReading g before target told after (told_report kind target) (IsReported report ceremony)
-report_answered g {before} {after} {outcome} target told kind report ceremony text broken printed planned clean leaves =
+report_answered g {before = before} {after} {outcome = outcome} target told kind report ceremony text prints printed planned =
     let disk = disk_outcome outcome text in
-    reading_answered g before after target told (told_report kind target) (λ r. refl) (outcome_of outcome text) (IsReported report ceremony)
-    (λ some. (ap (λ o. outcome_of o text) (broken some).0, (broken some).1))
+    let leaves = prints.leaves in
+    let looks : Looks g (λ _. ⊤) before after (outcome_of outcome text) = record {
+      broken = λ some. let b = prints.broken some in (ap (λ o. outcome_of o text) b.0, b.1);
+      cause = λ _. any_cause (outcome_of outcome text);
+      breaks = λ none. let b = leaves.breaks none in ((λ some. disk.0 (b.0 some)), (λ is. b.1 (disk.1 is)));
+      same = leaves.same;
+      tried = leaves.tried;
+      founded = leaves.founded;
+      clean = prints.clean;
+      kept = prints.kept;
+    } in
+    reading_answered g before after target told (told_report kind target) (λ r. refl) (outcome_of outcome text) (IsReported report ceremony) looks
     (λ f none c. reported report ceremony before.accepted outcome text (printed f none c) (planned f none c))
-    (λ none. let b = leaves.breaks none in ((λ some. disk.0 (b.0 some)), (λ is. b.1 (disk.1 is))))
-    leaves.same leaves.tried clean leaves.founded

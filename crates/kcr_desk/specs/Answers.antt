@@ -138,7 +138,7 @@ TakesInquiry before target told after (inquiry.Attendance ceremony) =
 -- a POST is a command, and all else asks for something, or is refused for its path, its method, its text or its form
 abbrev pub AnswersBy : Method → Standing → Asked → Told → Standing → Type 0
 AnswersBy Post before asked told after =
-    MatchResult (command_of Post asked.target asked.body)
+    MatchResult (command_of asked.target asked.body)
     (TakesCommand before asked.target told after) (IsRefused before asked.target told after)
 AnswersBy method before asked told after =
     MatchResult (inquiry_of method asked.target)
@@ -173,7 +173,7 @@ RepliesInquiry before target told after (inquiry.Attendance ceremony) =
 -- a POST is a command, and all else asks for something, or is refused for its path, its method, its text or its form
 abbrev pub RepliesBy : Method → Standing → Asked → Told → Standing → Type 0
 RepliesBy Post before asked told after =
-    MatchResult (command_of Post asked.target asked.body)
+    MatchResult (command_of asked.target asked.body)
     (λ _. Replies (told_reply asked.target) before asked.target told after) (IsRefused before asked.target told after)
 RepliesBy method before asked told after =
     MatchResult (inquiry_of method asked.target)

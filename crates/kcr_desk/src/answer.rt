@@ -236,7 +236,7 @@ fn answer_post<S: Alter>(
     ensures { AnswersAs Post S.Store register.old (record { method = []; target = target.now; body = body.now })
         (told result) register.new }
 {
-    match paths.read_command(alloc, Method::Post, target, body) {
+    match paths.read_command(alloc, target, body) {
         Ok(command) => take_command(alloc, register, paths, target, &command),
         Err(refusal) => refused_reply(alloc, paths, target, &refusal),
     }

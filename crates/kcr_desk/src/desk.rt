@@ -33,22 +33,22 @@ pub fn serve<R: Read, W: Write, S: Alter>(
     // The bytes written are exactly the answers of the messages of the input, by a run of the machine.
     ensures served { IsTrue register.old.is_founded → HasCleanDisk (state S.Store register.new.conn)
         → IfOk result (λ served.
-        IsServed IsAnswer (R.remaining (inner_of reader.old)) (W.contents (inner_of writer.old)) (W.contents (inner_of writer.new))
-        (standing register.old) (standing register.new) served.requests) }
+        IsServed IsAnswer (R.remaining (inner_of reader.old)) (W.contents (inner_of writer.old))
+        (W.contents (inner_of writer.new)) (standing register.old) (standing register.new) served.requests) }
 
     // After a fault they are a beginning of those, and the register stands after the commands that it took.
     ensures broken { IsTrue register.old.is_founded → HasCleanDisk (state S.Store register.new.conn) → OnErr result
-        (IsBroken IsAnswer (R.remaining (inner_of reader.old)) (W.contents (inner_of writer.old)) (W.contents (inner_of writer.new))
-        (standing register.old) (standing register.new)) }
+        (IsBroken IsAnswer (R.remaining (inner_of reader.old)) (W.contents (inner_of writer.old))
+        (W.contents (inner_of writer.new)) (standing register.old) (standing register.new)) }
 
     // Whatever the database held and whatever its disk does, each message gets one answer, in their order, and it is a
     // reply to it.
     ensures answered { IfOk result (λ served.
-        IsServed IsReply (R.remaining (inner_of reader.old)) (W.contents (inner_of writer.old)) (W.contents (inner_of writer.new))
-        (standing register.old) (standing register.new) served.requests) }
+        IsServed IsReply (R.remaining (inner_of reader.old)) (W.contents (inner_of writer.old))
+        (W.contents (inner_of writer.new)) (standing register.old) (standing register.new) served.requests) }
     ensures answered_in_part { OnErr result
-        (IsBroken IsReply (R.remaining (inner_of reader.old)) (W.contents (inner_of writer.old)) (W.contents (inner_of writer.new))
-        (standing register.old) (standing register.new)) }
+        (IsBroken IsReply (R.remaining (inner_of reader.old)) (W.contents (inner_of writer.old))
+        (W.contents (inner_of writer.new)) (standing register.old) (standing register.new)) }
 
     // The register is whole, and stays as founded as it was. A disk that is clean at the end was so at the beginning.
     ensures kept { IsKept S.Store register.new }

@@ -147,7 +147,8 @@ pub(crate) fn serve_stream<R: Read, W: Write, G: Responder>(
 ) -> Result<Served, DeskFault>
     // The bytes written are those that the messages of the bytes read ask for, by a run of the machine.
     ensures served { IfOk result (λ served. IsServed G.step (R.remaining (inner_of reader.old))
-        (W.contents (inner_of writer.old)) (W.contents (inner_of writer.new)) responder.old responder.new served.requests) }
+        (W.contents (inner_of writer.old)) (W.contents (inner_of writer.new))
+        responder.old responder.new served.requests) }
 
     // After a fault they are a beginning of those, and the register stands after the commands that it took.
     ensures broken { OnErr result (IsBroken G.step (R.remaining (inner_of reader.old))

@@ -1,3 +1,13 @@
 pub mod FormLemmas
 pub mod TextLemmas
 pub mod ValueLemmas
+pub mod Acts
+pub mod Again
+pub mod Cutting
+pub mod Dates
+pub mod Formed
+pub mod Found
+pub mod Listing
+pub mod Paths
+pub mod Readers
+pub mod Scripts

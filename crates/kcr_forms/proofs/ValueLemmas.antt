@@ -67,7 +67,8 @@ in-roles v = grind arith
 pub role-read : (bytes : List ℕ) (r : Option Role) → Found (λ _. ⊤) role_text bytes r → Only (λ _. ⊤) role_text bytes r → r ≡ role_of bytes
 unfolding role_of
 role-read bytes r found only =
-    by_text-read (λ _. ⊤) role_text bytes r (Ca ∷ Iw ∷ Sa ∷ Ssc1 ∷ Ssc2 ∷ Rkos ∷ Sw ∷ []) (tt, (tt, (tt, (tt, (tt, (tt, (tt, tt))))))) (λ v _. in-roles v) found only
+    by_text-read (λ _. ⊤) role_text bytes r (Ca ∷ Iw ∷ Sa ∷ Ssc1 ∷ Ssc2 ∷ Rkos ∷ Sw ∷ []) (tt, (tt, (tt, (tt, (tt, (tt, (tt, tt)))))))
+    (λ v _. in-roles v) found only
 
 in-facilities : (v : Facility) → IsIn v (East ∷ West ∷ [])
 in-facilities v = grind arith

@@ -1,1 +1,4 @@
 pub mod Forms
+pub mod Acts
+pub mod Cuts
+pub mod Told

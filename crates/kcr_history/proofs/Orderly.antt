@@ -1,4 +1,5 @@
--- The appointments of a register: each begins where the older ones of its place have ended. So the holder by rows is the holder by history.
+-- The appointments of a register: each begins where the older ones of its place and of its person have ended. So the holder by rows is the
+-- holder by history.
 use Rattle.std.proofs.Common.{◌≡◌, ℕ, ◌<◌, Bool, true, false, cond, ◌&&◌, nat_le, List, [], ◌∷◌, map, find, Option, Some, None, option_map, is_none}
 use Rattle.std.proofs.Common.{refl, ◌∙◌, subst, arith}
 use Rattle.std.specs.Prelude.{unwrap_or}
@@ -10,7 +11,7 @@ use Rattle.kcr_base.specs.declared.place.Place.{Place}
 use Rattle.kcr_base.proofs.ListLemmas.{find-none}
 use Rattle.kcr_base.proofs.SameLemmas.{place-same}
 use Rattle.kcr_people.specs.declared.Appointment.{Appointment}
-use Rattle.kcr_people.specs.People.{lasts, open_row_by, begins_too_late, place_held_from_by, holder_by, holds}
+use Rattle.kcr_people.specs.People.{lasts, open_row_by, begins_too_late, place_held_from_by, person_holds_from_by, holder_by, holds}
 use Rattle.kcr_history.specs.declared.commands.Act.{Act}
 use Rattle.kcr_history.specs.declared.commands.Act.TheVariants.{Appoint, Replace, Release}
 use Rattle.kcr_history.specs.History.{History, last_said}
@@ -18,7 +19,7 @@ use Rattle.kcr_history.specs.Training.{holder, next_holder}
 use Rattle.kcr_history.specs.Tables.{appointments, appointments_after, ended}
 use Rattle.kcr_history.specs.Conditions.{fault}
 use Rattle.kcr_history.specs.Machine.{IsRegister}
-use Rattle.kcr_history.proofs.Stacked.{stacked, closing, stacked-ended, lasts-ended, find-ended, free-none}
+use Rattle.kcr_history.proofs.Stacked.{stacked, in_turn, closing, stacked-ended, in_turn-ended, free-ended, lasts-ended, find-ended, free-none}
 use Rattle.kcr_history.proofs.Steps.{took}
 
 -- a place that is not vacant has an open row, which began before the day
@@ -57,6 +58,23 @@ orderly_after A act f o = o
 pub orderly : (A : History) → IsRegister A → IsOrderly (appointments A)
 orderly [] h = (refl, refl)
 orderly (entry ∷ A) h = orderly_after A entry.command.act (took A entry h.0).no_fault (orderly A h.1)
+
+-- THE APPOINTMENTS OF A PERSON
+
+turn_after : (A : History) (act : Act) → fault A act ≡ None → in_turn (appointments A) ≡ true → in_turn (appointments_after act (appointments A)) ≡ true
+turn_after A (Appoint place who day) f t =
+    let free : person_holds_from_by (appointments A) who day ≡ false = grind arith in
+    rw (free, t)
+turn_after A (Replace place who day) f t =
+    let free : person_holds_from_by (appointments A) who day ≡ false = grind arith in
+    rw (free-ended place day who day (appointments A) free, in_turn-ended place day (appointments A) t)
+turn_after A (Release place day) f t = in_turn-ended place day (appointments A) t
+turn_after A act f t = t
+
+-- nobody is put in a place before their older appointments have ended
+pub turns : (A : History) → IsRegister A → in_turn (appointments A) ≡ true
+turns [] h = refl
+turns (entry ∷ A) h = turn_after A entry.command.act (took A entry h.0).no_fault (turns A h.1)
 
 -- THE HOLDER
 

@@ -1,18 +1,17 @@
--- The appointments of one place: each begins where the older ones have ended.
+-- The appointments of one place, and those of one person: each begins where the older ones have ended.
 use Rattle.std.proofs.Common.{◌≡◌, ℕ, ◌<◌, ◌≤◌, Bool, true, false, cond, not, ◌&&◌, nat_le, eqb, List, [], ◌∷◌, map, find, Option, Some, None}
 use Rattle.std.proofs.Common.{option_map, is_none, refl, sym, ap, ◌∙◌, arith, subst, inl, inr}
 use Rattle.std.specs.List.{list_any, list_all, AllByRecursion}
-use Rattle.std.specs.List.Sorted.{IsPermutation}
 use Rattle.std.proofs.lemmas.Bool.{both_ways, leb-false, eq-eqb, not-true, not_from_false, and_left, and_parts, and_from, or_from, or_left, or_right}
 use Rattle.std.proofs.lemmas.Bool.{false_from_ne_true, or_parts}
 use Rattle.std.proofs.lemmas.Bool.Decides.{nat_tests}
-use Rattle.kcr_base.specs.Same.{same_place}
+use Rattle.kcr_base.specs.Same.{same_place, same_text}
 use Rattle.kcr_base.specs.declared.place.Place.{Place}
 use Rattle.kcr_people.specs.declared.Appointment.{Appointment}
 use Rattle.kcr_base.specs.Rows.{put}
-use Rattle.kcr_base.proofs.ListLemmas.{any-map, find-cases, find-order}
+use Rattle.kcr_base.proofs.ListLemmas.{any-map, find-cases}
 use Rattle.kcr_base.proofs.SameLemmas.{place-same, place-itself}
-use Rattle.kcr_people.specs.People.{lasts, lasts_beyond, ends_after, place_held_from_by, open_row_by, stands, holds, holder_by}
+use Rattle.kcr_people.specs.People.{lasts, lasts_beyond, ends_after, place_held_from_by, person_holds_from_by, open_row_by, stands, holds, holder_by}
 use Rattle.kcr_history.specs.Changes.{same_appointment}
 use Rattle.kcr_history.specs.Tables.{ended, end_at}
 
@@ -53,18 +52,39 @@ past-same place first day rows h =
     until : (s : Bool) (u : Option ℕ) → (s && ends_after u first) ≡ false → end_at s u day ≡ u
     until s u e = grind (arith, nat_tests)
 
--- an end keeps them ended, and so the rows stacked
+-- an end keeps those ended that have, whatever place and person they are of
+ended-still : (of : Place → List ℕ → Bool) (place : Place) (day first : ℕ) (rows : List Appointment)
+    → list_any (λ row. of row.place row.who && lasts_beyond first row) rows ≡ false
+    → list_any (λ row. of row.place row.who && lasts_beyond first row) (map (ended place day) rows) ≡ false
+ended-still of place day first rows h =
+    any-map _ (ended place day) rows ∙ none-weaker _ _ (λ row. until (of row.place row.who) (same_place row.place place) row.until) rows h
+  where
+    until : (t s : Bool) (u : Option ℕ) → (t && ends_after u first) ≡ false → (t && ends_after (end_at s u day) first) ≡ false
+    until t s u e = grind (arith, nat_tests)
+
+-- so the rows stay stacked
 pub stacked-ended : (place : Place) (day : ℕ) (rows : List Appointment) → stacked rows ≡ true → stacked (map (ended place day) rows) ≡ true
 stacked-ended place day [] s = refl
 stacked-ended place day (row ∷ rows) s =
     let o = older row rows s in
-    and_from _ (stacked (map (ended place day) rows))
-    (not_from_false _ (any-map _ (ended place day) rows
-    ∙ none-weaker _ _ (λ x. until (same_place x.place row.place) (same_place x.place place) x.until) rows o.0))
+    and_from _ (stacked (map (ended place day) rows)) (not_from_false _ (ended-still (λ p who. same_place p row.place) place day row.since rows o.0))
     (stacked-ended place day rows o.1)
-  where
-    until : (t s : Bool) (u : Option ℕ) → (t && ends_after u row.since) ≡ false → (t && ends_after (end_at s u day) row.since) ≡ false
-    until t s u e = grind (arith, nat_tests)
+
+-- the same of a person: when a row was put, the person held no place from its first day on
+abbrev pub in_turn : List Appointment → Bool
+in_turn [] = true
+in_turn (row ∷ rows) = not (person_holds_from_by rows row.who row.since) && in_turn rows
+
+pub free-ended : (place : Place) (day : ℕ) (who : List ℕ) (first : ℕ) (rows : List Appointment) → person_holds_from_by rows who first ≡ false
+    → person_holds_from_by (map (ended place day) rows) who first ≡ false
+free-ended place day who first rows h = ended-still (λ p other. same_text other who) place day first rows h
+
+pub in_turn-ended : (place : Place) (day : ℕ) (rows : List Appointment) → in_turn rows ≡ true → in_turn (map (ended place day) rows) ≡ true
+in_turn-ended place day [] t = refl
+in_turn-ended place day (row ∷ rows) t =
+    let p = and_parts (not (person_holds_from_by rows row.who row.since)) (in_turn rows) t in
+    and_from _ (in_turn (map (ended place day) rows)) (not_from_false _ (free-ended place day row.who row.since rows (not-true _ p.0)))
+    (in_turn-ended place day rows p.1)
 
 -- where the place has no holder from the day on, no row of the place begins on it
 pub no_begin : (place : Place) (day : ℕ) (rows : List Appointment) → list_all lasts rows ≡ true → place_held_from_by rows place day ≡ false
@@ -168,7 +188,7 @@ put-ended place day r rows s t h = let it = opened place r rows s h in rw (keyed
         rw (and_left _ _ apart) (ap (λ u. record row { until = u }) (sym (end-other (same_place row.place r.place) row.until day apart))) in
         λ i. head i ∷ replaced o (and_parts (lasts row) (list_all lasts rows) t).1 i
 
--- THE OPEN ROW IN ANOTHER ORDER
+-- THE ONLY OPEN ROW
 
 -- what stands for the place is this row
 abbrev IsOnly : Place → Appointment → Appointment → Type 0
@@ -188,11 +208,6 @@ only-one place r rows s h = let it = opened place r rows s h in subst (λ p. All
     only : {rows : List Appointment} → IsOpen r rows → AllByRecursion (IsOnly r.place r) rows
     only (here rows e free) = (λ _. refl, none-stands r r.since rows free)
     only (below row rows apart o) = (λ q. absurd (both_ways _ apart (and_parts (same_place row.place r.place) (is_none row.until) q).0), only o)
-
--- rows in another order have the same open row
-pub open-order : (place : Place) (rows others : List Appointment) → stacked rows ≡ true → IsPermutation rows others
-    → open_row_by others place ≡ open_row_by rows place
-open-order place rows others s p = find-order (stands place) rows others p (λ r e. only-one place r rows s e)
 
 -- THE HOLDER
 

@@ -1,11 +1,14 @@
 -- What an accepted entry tells of the history before it.
 use Rattle.std.proofs.Common.{◌≡◌, ℕ, ◌+◌, List, [], ◌∷◌, length, Option, Some, None, refl, ap, arith, inl, inr, MatchOption}
+use Rattle.kcr_base.specs.Refuse.{NoneHolds}
 use Rattle.kcr_base.specs.declared.refusal.Refusal.{Refusal}
+use Rattle.kcr_base.proofs.RefuseLemmas.{none_holds}
+use Rattle.kcr_custody.specs.Custody.{not_ready}
 use Rattle.kcr_history.specs.declared.commands.Act.{Act}
 use Rattle.kcr_history.specs.declared.commands.Answer.{Answer}
 use Rattle.kcr_history.specs.declared.commands.Entry.{Entry}
 use Rattle.kcr_history.specs.History.{History, entry_of}
-use Rattle.kcr_history.specs.Conditions.{fault}
+use Rattle.kcr_history.specs.Conditions.{fault, not_open, late, full, scene_at}
 use Rattle.kcr_history.specs.Tables.{keys}
 use Rattle.kcr_history.specs.Views.{greatest_number}
 use Rattle.kcr_history.specs.Machine.{Accepts, Sitting, sitting, answer_to, acts, repeats, seats, accepts, machine, IsRegister}
@@ -16,6 +19,10 @@ pub record Took (A : History) (entry : Entry) : Type 0 where
   pub no_fault : fault A entry.command.act ≡ None
   pub people : Option (List (List ℕ))
   pub answer : entry.answer ≡ answer_to A entry.command.act people
+
+-- where an act of custody finds its ceremony ready, it is open, the moment is not before its mark, and the register is not full
+pub none_ready : (A : History) (c at : ℕ) → not_ready (scene_at A c at) ≡ None → NoneHolds (not_open A c ∷ late A c at ∷ full A ∷ [])
+none_ready A c at = none_holds (not_open A c ∷ late A c at ∷ full A ∷ [])
 
 longer : {X : Type 0} (x : X) (xs : List X) → x ∷ xs ≡ xs → ⊥
 longer x xs e = omega (arith, ap length e)

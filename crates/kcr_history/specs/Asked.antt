@@ -55,7 +55,7 @@ asks_bag ceremony serial =
 abbrev pub asks_person : List ℕ → Asks
 asks_person who = record asks_nothing { people = Under (who ∷ []) }
 
--- the person, their trainings and their appointments
+-- the person, their trainings and their last appointment
 abbrev pub asks_to_train : List ℕ → Asks
 asks_to_train who =
     record (asks_person who) { trainings = Under who; appointments = Under (Appointments.Person who) }
@@ -64,11 +64,12 @@ asks_to_train who =
 abbrev pub asks_to_withdraw : List ℕ → Asks
 asks_to_withdraw who = record (asks_person who) { trainings = Under who; withdrawals = Under who; marks = All }
 
--- the person and their trainings, the appointments and the marks
-abbrev pub asks_to_appoint : List ℕ → Asks
-asks_to_appoint who = record (asks_person who) { trainings = Under who; appointments = All; marks = All }
+-- the person and their trainings, the last appointment to the place and that of the person, and the marks
+abbrev pub asks_to_appoint : Place → List ℕ → Asks
+asks_to_appoint place who =
+    record (asks_person who) { trainings = Under who; appointments = Under (Appointments.Both place who); marks = All }
 
--- the appointments of the place, and the marks
+-- the last appointment to the place, and the marks
 abbrev pub asks_to_release : Place → Asks
 asks_to_release place = record asks_nothing { appointments = Under (Appointments.Place place); marks = All }
 
@@ -123,8 +124,8 @@ abbrev pub asks_by : Act → Asks
 asks_by (Enter who name) = asks_person who
 asks_by (Train who role since until) = asks_to_train who
 asks_by (Withdraw who role day) = asks_to_withdraw who
-asks_by (Appoint place who day) = asks_to_appoint who
-asks_by (Replace place who day) = asks_to_appoint who
+asks_by (Appoint place who day) = asks_to_appoint place who
+asks_by (Replace place who day) = asks_to_appoint place who
 asks_by (Release place day) = asks_to_release place
 asks_by (AddBox facility number place) = asks_boxes
 asks_by (AddItem ceremony item at) = asks_to_add ceremony item

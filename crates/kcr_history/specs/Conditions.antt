@@ -1,36 +1,31 @@
 -- When a command is refused: the conditions of each kind in the order of the refusals' numbers.
-use Rattle.std.specs.Prelude.{ℕ, ◌+◌, ◌==◌, Bool, true, false, not, ◌&&◌, ◌||◌, nat_lt, nat_le, List, [], ◌∷◌, ◌++◌}
-use Rattle.std.specs.Prelude.{map, filter, find, length, Option, Some, None, option_map, option_and_then, is_some}
-use Rattle.std.specs.Prelude.{is_none, unwrap_or, Result, Ok, Err, if◌then◌else◌}
-use Rattle.std.specs.List.{list_any, list_all}
+use Rattle.std.specs.Prelude.{ℕ, ◌==◌, Bool, true, false, not, ◌&&◌, ◌||◌, nat_lt, nat_le, List, [], ◌∷◌, length}
+use Rattle.std.specs.Prelude.{find, Option, Some, None, option_map, is_some, is_none, unwrap_or, Result, Ok}
+use Rattle.std.specs.Prelude.{Err, if◌then◌else◌}
+use Rattle.std.specs.List.{list_any}
 use Rattle.kcr_base.specs.Days.{day_of}
-use Rattle.kcr_base.specs.Refuse.{when, first_of}
-use Rattle.kcr_base.specs.Rows.{or_else}
+use Rattle.kcr_base.specs.Refuse
+use Rattle.kcr_base.specs.Refuse.{when, first_of, no_people, is_late, is_not_later}
 use Rattle.kcr_base.specs.Same.{same_facility, same_text}
-use Rattle.kcr_base.specs.declared.place.Facility.{Facility}
 use Rattle.kcr_base.specs.declared.place.Place.{Place}
-use Rattle.kcr_base.specs.declared.place.Role.{Role}
 use Rattle.kcr_base.specs.declared.place.Role.TheVariants.{Ca, Ssc1, Ssc2}
-use Rattle.kcr_base.specs.declared.refusal.Absentee.TheVariants as Absentees
 use Rattle.kcr_base.specs.declared.refusal.Part.TheVariants as Parts
 use Rattle.kcr_base.specs.declared.refusal.Refusal.{Refusal}
 use Rattle.kcr_base.specs.declared.refusal.Refusal.TheVariants as Refusals
-use Rattle.kcr_base.specs.declared.refusal.Refusal.TheVariants.{Unknown, Taken, Range, Apart, Held, Vacant, Script}
-use Rattle.kcr_base.specs.declared.refusal.Refusal.TheVariants.{Busy, Late, Order, Turn, Crowd, Lone, Full, Elsewhere}
-use Rattle.kcr_base.specs.declared.refusal.Refusal.TheVariants.{Absent, Unfinished}
+use Rattle.kcr_base.specs.declared.refusal.Refusal.TheVariants.{Unknown, Taken, Range, Script, Busy, Order, Crowd}
+use Rattle.kcr_base.specs.declared.refusal.Refusal.TheVariants.{Full, Unfinished}
 use Rattle.kcr_base.specs.declared.refusal.Thing.TheVariants as Things
-use Rattle.kcr_people.specs.People.{place_held_from_by, person_holds_from_by, open_row_by, begins_too_late, settles}
-use Rattle.kcr_people.specs.People.{trained_from_by}
-use Rattle.kcr_custody.specs.declared.SafeNumber.{SafeNumber}
+use Rattle.kcr_people.specs.People.{trained_from_by, enter_conditions, train_conditions, withdraw_conditions}
+use Rattle.kcr_people.specs.People.{appoint_conditions, replace_conditions, release_conditions}
+use Rattle.kcr_custody.specs.declared.Keeper.{Keeper}
 use Rattle.kcr_custody.specs.declared.SafeNumber.TheVariants.{One, Two}
-use Rattle.kcr_custody.specs.declared.Store.{Store}
-use Rattle.kcr_custody.specs.declared.Store.TheVariants.{SafeOne, Boxed}
-use Rattle.kcr_custody.specs.Custody.{same_truth, is_co_place_of, is_loose_at, is_on_table, safe_of, safe_of_store}
-use Rattle.kcr_custody.specs.Custody.{box_of, box_of_store}
+use Rattle.kcr_custody.specs.declared.Scene.{Scene}
+use Rattle.kcr_custody.specs.Custody.{is_on_table, add_box_conditions, add_item_conditions, turn_conditions}
+use Rattle.kcr_custody.specs.Custody.{seal_conditions, take_conditions, put_conditions, cut_conditions}
 use Rattle.kcr_room.specs.declared.SheetRow.{SheetRow}
 use Rattle.kcr_room.specs.declared.Way.{Way}
 use Rattle.kcr_room.specs.declared.Way.TheVariants as Ways
-use Rattle.kcr_room.specs.Adding.{is_out_of_turn_by, turn_refusal}
+use Rattle.kcr_room.specs.Adding.{is_out_of_turn_by, turn_refusal, lone_refusal}
 use Rattle.kcr_room.specs.Room.{entries_by}
 use Rattle.kcr_room.specs.Stays.{stays_by, is_crowded_in_by, first_lone_in_by}
 use Rattle.kcr_script.specs.declared.script.Step.{Step}
@@ -56,69 +51,23 @@ is_full A = nat_le 4000000000 (length A)
 abbrev pub full : History → Option Refusal
 full A = when (is_full A) Full
 
-abbrev pub no_person : History → List ℕ → Option Refusal
-no_person A who = when (not (is_person A who)) (Unknown (Things.Person who))
-
 abbrev pub no_ceremony : History → ℕ → Option Refusal
-no_ceremony A ceremony = when (not (is_ceremony A ceremony)) (Unknown (Things.Ceremony ceremony))
+no_ceremony A ceremony = Refuse.no_ceremony (is_ceremony A ceremony) ceremony
 
 abbrev pub no_step : History → ℕ → ℕ → Option Refusal
 no_step A ceremony step = when (is_none (step_at (steps_of A ceremony) step)) (Unknown (Things.Step step))
-
-abbrev pub no_bag : History → List ℕ → Option Refusal
-no_bag A serial = when (is_none (spot A serial)) (Unknown (Things.Bag serial))
-
-abbrev pub no_item : History → List ℕ → Option Refusal
-no_item A item = when (is_none (rest A item)) (Unknown (Things.Item item))
-
--- the box of the facility, where the bag is to be put in one
-abbrev pub no_box : History → Facility → Store → Option Refusal
-no_box A facility SafeOne = None
-no_box A facility (Boxed number) = when (is_none (place_of_box A facility number)) (Unknown (Things.Box number))
-
--- the first refusal that one of a list has
-abbrev pub first_with : {X : Type 0} → (X → Option Refusal) → List X → Option Refusal
-first_with test [] = None
-first_with test (x ∷ xs) = or_else (test x) (first_with test xs)
 
 -- the ceremony is not open
 abbrev pub not_open : History → ℕ → Option Refusal
 not_open A ceremony = when (not (is_open A ceremony)) Refusals.State
 
 -- the moment is before the mark
-abbrev pub is_late : ℕ → Option ℕ → Option Refusal
-is_late at None = None
-is_late at (Some m) = when (nat_lt at m) (Late m)
-
 abbrev pub late : History → ℕ → ℕ → Option Refusal
 late A ceremony at = is_late at (mark A ceremony)
 
 -- the moment is not later than the mark
-abbrev pub is_not_later : ℕ → Option ℕ → Option Refusal
-is_not_later at None = None
-is_not_later at (Some m) = when (nat_le at m) (Late m)
-
 abbrev pub not_later : History → ℕ → ℕ → Option Refusal
 not_later A ceremony at = is_not_later at (mark A ceremony)
-
--- nobody in the room is trained as CA on the day
-abbrev pub no_ca : History → ℕ → ℕ → Option Refusal
-no_ca A ceremony at = when (not (is_attended_by A Ca ceremony at)) (Absent (Absentees.Role Ca))
-
--- PLACES
-
--- the appointment to the place that has no end begins on the day or later
-abbrev pub not_after_first_day : History → Place → ℕ → Option Refusal
-not_after_first_day A place day = when (begins_too_late (open_row_by (appointments A) place) day) Range
-
--- the last command of the place is a release, or there is none
-abbrev pub vacant : History → Place → Option Refusal
-vacant A place = when (is_none (open_row_by (appointments A) place)) Vacant
-
--- on the day or a later one somebody holds the place, or the person holds a place
-abbrev pub place_or_person_holds : History → Place → List ℕ → ℕ → Bool
-place_or_person_holds A place who day =
-    place_held_from_by (appointments A) place day || person_holds_from_by (appointments A) who day
 
 -- CEREMONIES
 
@@ -163,8 +112,8 @@ unfinished A ceremony at =
 
 -- it is not the person's turn: the last row is not earlier than the moment, or it is no `in` after which an `out` may
 -- come, or no `out` after which an `in` may come
-abbrev pub out_of_turn : History → ℕ → Way → ℕ → List ℕ → Option Refusal
-out_of_turn A ceremony way at who = when (is_out_of_turn_by (sheet A) ceremony way at who) (Turn who)
+abbrev pub out_of_turn : History → ℕ → Way → ℕ → List (List ℕ) → Option Refusal
+out_of_turn A ceremony way at people = turn_refusal (find (is_out_of_turn_by (sheet A) ceremony way at) people)
 
 -- the first of the people who is named again
 abbrev pub first_twice : List (List ℕ) → Option (List ℕ)
@@ -182,7 +131,7 @@ crowded rows ceremony = when (is_crowded_in_by (stays_by rows) ceremony) Crowd
 
 -- the first moment at which exactly one person would be in the room
 abbrev pub lone : List SheetRow → ℕ → Option Refusal
-lone rows ceremony = option_map Lone (first_lone_in_by (stays_by rows) ceremony)
+lone rows ceremony = lone_refusal (first_lone_in_by (stays_by rows) ceremony)
 
 -- with an `in` the ceremony would have more than 1,000 `in` rows
 abbrev pub is_overfull : Way → List SheetRow → ℕ → Bool
@@ -191,86 +140,56 @@ is_overfull Ways.Leave rows ceremony = false
 
 -- CUSTODY
 
--- the role of those who open and shut the safe
-abbrev pub keeper_of : SafeNumber → Role
-keeper_of One = Ssc1
-keeper_of Two = Ssc2
+-- the ceremony at the moment
+abbrev pub scene_at : History → ℕ → ℕ → Scene
+scene_at A ceremony at =
+    record {
+      ceremony = ceremony;
+      is_known = is_ceremony A ceremony;
+      facility = facility_of A ceremony;
+      is_open = is_open A ceremony;
+      mark = mark A ceremony;
+      at = at;
+      is_full = is_full A;
+      has_ca = is_attended_by A Ca ceremony at;
+    }
 
--- the person is in the room, and trained on the day for the safe's role
-abbrev pub may_turn : History → ℕ → SafeNumber → List ℕ → ℕ → Bool
-may_turn A ceremony safe who at = is_in A who ceremony at && trained A who (keeper_of safe) (day_of at)
-
--- the safe is shut
-abbrev pub shut : History → Facility → Option SafeNumber → Option Refusal
-shut A facility None = None
-shut A facility (Some safe) = when (not (is_safe_open A facility safe)) Refusals.Safe
+-- who opens or shuts a safe in the room of the ceremony at the moment
+abbrev pub keeper_at : History → ℕ → List ℕ → ℕ → Keeper
+keeper_at A ceremony by at =
+    record {
+      who = by;
+      is_known = is_person A by;
+      is_inside = is_in A by ceremony at;
+      has_ssc1 = trained A by Ssc1 (day_of at);
+      has_ssc2 = trained A by Ssc2 (day_of at);
+    }
 
 -- the holder of the place is in the room
 abbrev pub has_holder_in : History → Place → ℕ → ℕ → Bool
 has_holder_in A place ceremony at =
     unwrap_or (option_map (λ who. is_in A who ceremony at) (holder A place (day_of at))) false
 
--- the box's place has no holder on the day, or one who is not in the room
-abbrev pub no_holder : History → Facility → ℕ → ℕ → Option ℕ → Option Refusal
-no_holder A facility ceremony at box =
-    option_and_then (λ place. when (not (has_holder_in A place ceremony at)) (Absent (Absentees.Place place)))
-    (option_and_then (place_of_box A facility) box)
-
--- THE CONDITIONS OF EACH KIND, behind that of its key
+-- THE CONDITIONS OF EACH KIND, behind that of its key; the list of an act on people or in custody stands in its crate,
+-- over what is asked, which is here what the history says
 
 abbrev pub conditions : History → Act → List (Option Refusal)
-conditions A (Enter who name) =
-    when (is_person A who) Taken
-    ∷ full A
-    ∷ []
+conditions A (Enter who name) = enter_conditions (is_person A who) (is_full A)
 conditions A (Train who role since until) =
-    no_person A who
-    ∷ when (some_command (is_training who role since until) A) Taken
-    ∷ when (nat_lt until since) Range
-    ∷ when (ever_put A who) Apart
-    ∷ full A
-    ∷ []
+    train_conditions (is_person A who) (some_command (is_training who role since until) A) (ever_put A who) (is_full A)
+    (record { who = who; role = role; since = since; until = until })
 conditions A (Withdraw who role day) =
-    no_person A who
-    ∷ when (not (trained_from_by (trainings A) (withdrawals A) who role day)) Vacant
-    ∷ settles (settled A) day
-    ∷ full A
-    ∷ []
+    withdraw_conditions (is_person A who) (trained_from_by (trainings A) (withdrawals A) who role day) (settled A)
+    (is_full A) who day
 conditions A (Appoint place who day) =
-    no_person A who
-    ∷ when (ever_trained A who) Apart
-    ∷ when (place_or_person_holds A place who day) Held
-    ∷ settles (settled A) day
-    ∷ full A
-    ∷ []
+    appoint_conditions (is_person A who) (ever_trained A who) (appointments A) (settled A) (is_full A) place who day
 conditions A (Replace place who day) =
-    no_person A who
-    ∷ not_after_first_day A place day
-    ∷ when (ever_trained A who) Apart
-    ∷ when (person_holds_from_by (appointments A) who day) Held
-    ∷ vacant A place
-    ∷ settles (settled A) day
-    ∷ full A
-    ∷ []
-conditions A (Release place day) =
-    not_after_first_day A place day
-    ∷ vacant A place
-    ∷ settles (settled A) day
-    ∷ full A
-    ∷ []
+    replace_conditions (is_person A who) (ever_trained A who) (appointments A) (settled A) (is_full A) place who day
+conditions A (Release place day) = release_conditions (appointments A) (settled A) (is_full A) place day
 conditions A (AddBox facility number place) =
-    when (is_some (place_of_box A facility number) || some_command (boxes_place place) A) Taken
-    ∷ when (not (is_co_place_of facility place)) Range
-    ∷ full A
-    ∷ []
-conditions A (AddItem ceremony item at) =
-    no_ceremony A ceremony
-    ∷ when (is_some (rest A item)) Taken
-    ∷ not_open A ceremony
-    ∷ late A ceremony at
-    ∷ full A
-    ∷ no_ca A ceremony at
-    ∷ []
+    add_box_conditions (is_some (place_of_box A facility number)) (some_command (boxes_place place) A) (is_full A)
+    (record { facility = facility; number = number; place = place })
+conditions A (AddItem ceremony item at) = add_item_conditions (scene_at A ceremony at) (rest A item)
 conditions A (Plan number facility day script) =
     when (is_ceremony A number) Taken
     ∷ no_script (script_of script)
@@ -292,11 +211,11 @@ conditions A (Close ceremony at) =
     ∷ []
 conditions A (Sheet ceremony way people at) =
     no_ceremony A ceremony
-    ∷ first_with (no_person A) people
+    ∷ no_people (is_person A) people
     ∷ not_open A ceremony
     ∷ not_later A ceremony at
     ∷ named_twice people
-    ∷ first_with (out_of_turn A ceremony way at) people
+    ∷ out_of_turn A ceremony way at people
     ∷ crowded (sheet_after (Sheet ceremony way people at) (sheet A)) ceremony
     ∷ lone (sheet_after (Sheet ceremony way people at) (sheet A)) ceremony
     ∷ when (is_overfull way (sheet_after (Sheet ceremony way people at) (sheet A)) ceremony) Full
@@ -319,56 +238,18 @@ conditions A (Except ceremony text pass at) =
     ∷ full A
     ∷ []
 conditions A (TurnSafe ceremony safe state by at) =
-    no_ceremony A ceremony
-    ∷ no_person A by
-    ∷ not_open A ceremony
-    ∷ late A ceremony at
-    ∷ full A
-    ∷ when (same_truth (is_safe_open A (facility_of A ceremony) safe) state) Refusals.Safe
-    ∷ when (not (may_turn A ceremony safe by at)) (Absent (Absentees.Person by))
-    ∷ []
-conditions A (Seal ceremony serial items at) =
-    no_ceremony A ceremony
-    ∷ first_with (no_item A) items
-    ∷ when (is_some (spot A serial)) Taken
-    ∷ not_open A ceremony
-    ∷ late A ceremony at
-    ∷ full A
-    ∷ when (not (list_all (λ item. is_loose_at (facility_of A ceremony) (rest A item)) items)) Elsewhere
-    ∷ no_ca A ceremony at
-    ∷ []
+    turn_conditions (scene_at A ceremony at) (is_safe_open A (facility_of A ceremony)) safe state
+    (keeper_at A ceremony by at)
+conditions A (Seal ceremony serial items at) = seal_conditions (scene_at A ceremony at) (spot A serial) (rest A) items
 conditions A (Take ceremony serial at) =
-    no_ceremony A ceremony
-    ∷ no_bag A serial
-    ∷ not_open A ceremony
-    ∷ late A ceremony at
-    ∷ full A
-    ∷ shut A (facility_of A ceremony) (safe_of (facility_of A ceremony) (spot A serial))
-    ∷ when (is_none (safe_of (facility_of A ceremony) (spot A serial))) Elsewhere
-    ∷ no_ca A ceremony at
-    ∷ no_holder A (facility_of A ceremony) ceremony at (box_of (spot A serial))
-    ∷ []
+    let here = facility_of A ceremony in
+    take_conditions (scene_at A ceremony at) (is_safe_open A here) (place_of_box A here)
+    (λ place. has_holder_in A place ceremony at) (spot A serial) serial
 conditions A (Put ceremony serial to at) =
-    no_ceremony A ceremony
-    ∷ no_bag A serial
-    ∷ no_box A (facility_of A ceremony) to
-    ∷ not_open A ceremony
-    ∷ late A ceremony at
-    ∷ full A
-    ∷ shut A (facility_of A ceremony) (Some (safe_of_store to))
-    ∷ when (not (is_on_table (facility_of A ceremony) (spot A serial))) Elsewhere
-    ∷ no_ca A ceremony at
-    ∷ no_holder A (facility_of A ceremony) ceremony at (box_of_store to)
-    ∷ []
-conditions A (Cut ceremony serial at) =
-    no_ceremony A ceremony
-    ∷ no_bag A serial
-    ∷ not_open A ceremony
-    ∷ late A ceremony at
-    ∷ full A
-    ∷ when (not (is_on_table (facility_of A ceremony) (spot A serial))) Elsewhere
-    ∷ no_ca A ceremony at
-    ∷ []
+    let here = facility_of A ceremony in
+    put_conditions (scene_at A ceremony at) (is_safe_open A here) (place_of_box A here)
+    (λ place. has_holder_in A place ceremony at) (spot A serial) serial to
+conditions A (Cut ceremony serial at) = cut_conditions (scene_at A ceremony at) (spot A serial) serial
 
 -- the first refusal of an act whose key is new, or none
 abbrev pub fault : History → Act → Option Refusal

@@ -91,7 +91,8 @@ seats_filled row = by_state row.state
 
 -- a line for each seat: two spaces, the seat's item, its person
 abbrev pub seat_lines : List Seat → List (List ℕ) → List ℕ
-seat_lines (seat ∷ seats) (who ∷ people) = ends_line (codes "  " ++ words (seat_text seat ∷ who ∷ [])) ++ seat_lines seats people
+seat_lines (seat ∷ seats) (who ∷ people) =
+    ends_line (codes "  " ++ words (seat_text seat ∷ who ∷ [])) ++ seat_lines seats people
 seat_lines seats people = []
 
 -- a step that is done, with the word for how, and its people
@@ -102,7 +103,8 @@ done_lines word rows row =
 
 -- a step that is not done, and its seats
 abbrev pub open_lines : StepRow → List ℕ
-open_lines row = line_of (decimal row.step ∷ codes "open" ∷ row.activity ∷ []) ++ ends_line (codes "  seats " ++ written row.seats)
+open_lines row =
+    line_of (decimal row.step ∷ codes "open" ∷ row.activity ∷ []) ++ ends_line (codes "  seats " ++ written row.seats)
 
 abbrev pub step_lines : List SeatingRow → StepRow → List ℕ
 step_lines rows row = by_state row.state
@@ -118,11 +120,15 @@ passed_words None = []
 passed_words (Some step) = codes "step" ∷ decimal step ∷ []
 
 abbrev pub exception_line : ExceptionRow → List ℕ
-exception_line row = line_of (codes "Exception" ∷ decimal row.exception ∷ moment_text row.at ∷ (passed_words row.passed ++ row.text ∷ []))
+exception_line row =
+    line_of
+    (codes "Exception" ∷ decimal row.exception ∷ moment_text row.at ∷ (passed_words row.passed ++ row.text ∷ []))
 
 -- the first line: the ceremony's number, facility, day and state
 abbrev pub head_line : CeremonyRow → List ℕ
-head_line row = line_of (codes "Ceremony" ∷ decimal row.number ∷ facility_text row.facility ∷ day_text row.day ∷ state_text row.state ∷ [])
+head_line row =
+    line_of
+    (codes "Ceremony" ∷ decimal row.number ∷ facility_text row.facility ∷ day_text row.day ∷ state_text row.state ∷ [])
 
 -- the steps of the ceremony in order
 abbrev pub steps_in_order : History → ℕ → List StepRow
@@ -173,7 +179,8 @@ stay_line rows stay =
 -- the attendance of a ceremony: a row for each stay, by its beginning, then initials
 abbrev pub attendance : History → ℕ → List ℕ
 attendance A ceremony =
-    csv_line (codes "who" ∷ codes "name" ∷ codes "in" ∷ codes "out" ∷ []) ++ flat_map (stay_line (people A)) (attendance_in_by (stays_by (sheet A)) ceremony)
+    csv_line (codes "who" ∷ codes "name" ∷ codes "in" ∷ codes "out" ∷ [])
+    ++ flat_map (stay_line (people A)) (attendance_in_by (stays_by (sheet A)) ceremony)
 
 -- CUSTODY
 

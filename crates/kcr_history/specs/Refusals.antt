@@ -36,14 +36,17 @@ refused_with before refusal between after =
 -- the JSON text of a refusal: its number, its word, and what it carries
 abbrev pub refusal_text : Refusal → List ℕ
 refusal_text (Form x) = refused_with (member (codes "member") (quoted (member_text x)) ∷ []) (Form x) [] []
-refusal_text (Unknown thing) = refused_with [] (Unknown thing) [] (member (codes "thing") (quoted (thing_text thing)) ∷ [])
+refusal_text (Unknown thing) =
+    refused_with [] (Unknown thing) [] (member (codes "thing") (quoted (thing_text thing)) ∷ [])
 refusal_text (Settled day) = refused_with (member (codes "day") (quoted (day_text day)) ∷ []) (Settled day) [] []
 refusal_text (Script row) = refused_with [] (Script row) [] (member (codes "row") (decimal row) ∷ [])
 refusal_text (Late mark) = refused_with (member (codes "mark") (quoted (moment_text mark)) ∷ []) (Late mark) [] []
 refusal_text (Order next) = refused_with (member (codes "next") (decimal next) ∷ []) (Order next) [] []
 refusal_text (Turn who) = refused_with [] (Turn who) [] (member (codes "who") (quoted who) ∷ [])
-refusal_text (Lone moment) = refused_with (member (codes "moment") (quoted (moment_text moment)) ∷ []) (Lone moment) [] []
+refusal_text (Lone moment) =
+    refused_with (member (codes "moment") (quoted (moment_text moment)) ∷ []) (Lone moment) [] []
 refusal_text (Absent who) = refused_with [] (Absent who) [] (member (codes "who") (quoted (absentee_text who)) ∷ [])
-refusal_text (Unfinished part) = refused_with [] (Unfinished part) (member (codes "part") (quoted (part_text part)) ∷ []) []
+refusal_text (Unfinished part) =
+    refused_with [] (Unfinished part) (member (codes "part") (quoted (part_text part)) ∷ []) []
 refusal_text (Short seats) = refused_with [] (Short seats) [] (member (codes "seats") (array (map decimal seats)) ∷ [])
 refusal_text refusal = refused_with [] refusal [] []

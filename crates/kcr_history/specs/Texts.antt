@@ -68,24 +68,34 @@ at_safe ceremony safe = at_ceremony ceremony (codes "safes/" ++ safe_text safe)
 -- the path of the command's request, then the value of each member but the key, each on a line of its own
 abbrev pub command_text : Act → List ℕ
 command_text (Enter who name) = codes "/people" ++ line who ++ line name
-command_text (Train who role since until) = at_person who (codes "roles") ++ line (role_text role) ++ line (day_text since) ++ line (day_text until)
-command_text (Withdraw who role day) = at_person who (codes "withdrawals") ++ line (role_text role) ++ line (day_text day)
+command_text (Train who role since until) =
+    at_person who (codes "roles") ++ line (role_text role) ++ line (day_text since) ++ line (day_text until)
+command_text (Withdraw who role day) =
+    at_person who (codes "withdrawals") ++ line (role_text role) ++ line (day_text day)
 command_text (Appoint place who day) = codes "/custodians" ++ line (place_text place) ++ line who ++ line (day_text day)
-command_text (Replace place who day) = at_place (place_text place) (codes "replacement") ++ line who ++ line (day_text day)
+command_text (Replace place who day) =
+    at_place (place_text place) (codes "replacement") ++ line who ++ line (day_text day)
 command_text (Release place day) = at_place (place_text place) (codes "release") ++ line (day_text day)
-command_text (AddBox facility number place) = codes "/boxes" ++ line (facility_text facility) ++ line (decimal number) ++ line (place_text place)
-command_text (AddItem ceremony item at) = codes "/items" ++ line (decimal ceremony) ++ line item ++ line (moment_text at)
-command_text (Plan number facility day script) = codes "/ceremonies" ++ line (decimal number) ++ line (facility_text facility) ++ line (day_text day) ++ line script
+command_text (AddBox facility number place) =
+    codes "/boxes" ++ line (facility_text facility) ++ line (decimal number) ++ line (place_text place)
+command_text (AddItem ceremony item at) =
+    codes "/items" ++ line (decimal ceremony) ++ line item ++ line (moment_text at)
+command_text (Plan number facility day script) =
+    codes "/ceremonies" ++ line (decimal number) ++ line (facility_text facility) ++ line (day_text day) ++ line script
 command_text (Open ceremony at) = at_ceremony ceremony (codes "opening") ++ line (moment_text at)
 command_text (Close ceremony at) = at_ceremony ceremony (codes "closing") ++ line (moment_text at)
-command_text (Sheet ceremony way who at) = at_ceremony ceremony (codes "sheet") ++ line (way_text way) ++ line (listed who) ++ line (moment_text at)
+command_text (Sheet ceremony way who at) =
+    at_ceremony ceremony (codes "sheet") ++ line (way_text way) ++ line (listed who) ++ line (moment_text at)
 command_text (Sign ceremony step at) = at_step ceremony step ++ line (moment_text at)
-command_text (Except ceremony text pass at) = at_ceremony ceremony (codes "exceptions") ++ line text ++ line (truth_text pass) ++ line (moment_text at)
+command_text (Except ceremony text pass at) =
+    at_ceremony ceremony (codes "exceptions") ++ line text ++ line (truth_text pass) ++ line (moment_text at)
 command_text (TurnSafe ceremony safe state by at) =
     at_safe ceremony safe ++ line (truth_text state) ++ line by ++ line (moment_text at)
-command_text (Seal ceremony serial items at) = at_bag ceremony serial (codes "seal") ++ line (listed items) ++ line (moment_text at)
+command_text (Seal ceremony serial items at) =
+    at_bag ceremony serial (codes "seal") ++ line (listed items) ++ line (moment_text at)
 command_text (Take ceremony serial at) = at_bag ceremony serial (codes "take") ++ line (moment_text at)
-command_text (Put ceremony serial to at) = at_bag ceremony serial (codes "put") ++ line (store_text to) ++ line (moment_text at)
+command_text (Put ceremony serial to at) =
+    at_bag ceremony serial (codes "put") ++ line (store_text to) ++ line (moment_text at)
 command_text (Cut ceremony serial at) = at_bag ceremony serial (codes "cut") ++ line (moment_text at)
 
 -- two commands are the same where their texts are equal

@@ -1,9 +1,11 @@
 -- Which rows a command asks for, and when a view holds them.
-use Rattle.std.specs.Prelude.{◌≡◌, ℕ, ◌==◌, Bool, true, false, nat_le, List, [], ◌∷◌, filter, find, Option, Some, None}
-use Rattle.std.specs.Prelude.{max, if◌then◌else◌}
+use Rattle.std.specs.Prelude.{◌≡◌, ℕ, ◌==◌, ◌&&◌, Bool, true, false, nat_le, List, [], ◌∷◌, filter, find, Option, Some}
+use Rattle.std.specs.Prelude.{None, max, if◌then◌else◌, All as EachOf}
 use Rattle.std.specs.List.{list_any}
 use Rattle.std.specs.List.Sorted.{IsPermutation}
 use Rattle.kcr_base.specs.Same.{same_text, same_place}
+use Rattle.kcr_base.specs.declared.place.Place.{Place}
+use Rattle.kcr_base.specs.Rows.{IsIn}
 use Rattle.kcr_people.specs.declared.Person.{Person}
 use Rattle.kcr_people.specs.declared.Training.{Training}
 use Rattle.kcr_people.specs.declared.Withdrawal.{Withdrawal}
@@ -39,9 +41,11 @@ is_training_of who row = same_text row.who who
 abbrev pub is_withdrawal_of : List ℕ → Withdrawal → Bool
 is_withdrawal_of who row = same_text row.who who
 
-abbrev pub is_appointment_of : AppointmentsOf → Appointment → Bool
-is_appointment_of (Appointments.Place place) row = same_place row.place place
-is_appointment_of (Appointments.Person who) row = same_text row.who who
+abbrev pub is_appointment_to : Place → Appointment → Bool
+is_appointment_to place row = same_place row.place place
+
+abbrev pub is_appointment_of : List ℕ → Appointment → Bool
+is_appointment_of who row = same_text row.who who
 
 abbrev pub is_of_serial : List ℕ → Bag → Bool
 is_of_serial serial row = same_text row.serial serial
@@ -110,6 +114,25 @@ ShowsStays Nothing table rows = Unit {0}
 ShowsStays (Under asked) table rows = ShowsStaysOf asked table rows
 ShowsStays All table rows = IsPermutation table rows
 
+-- of each row that passes the test the view has one that passes it too and begins no earlier: so it has the last one
+abbrev pub ShowsLastOf : (Appointment → Bool) → List Appointment → List Appointment → Type 0
+ShowsLastOf test table rows =
+    EachOf (λ row. test row ≡ true → list_any (λ shown. test shown && nat_le row.since shown.since) rows ≡ true) table
+
+-- the last appointment to the place, that of the person, or both
+abbrev pub ShowsAppointmentsOf : AppointmentsOf → List Appointment → List Appointment → Type 0
+ShowsAppointmentsOf (Appointments.Place place) table rows = ShowsLastOf (is_appointment_to place) table rows
+ShowsAppointmentsOf (Appointments.Person who) table rows = ShowsLastOf (is_appointment_of who) table rows
+ShowsAppointmentsOf (Appointments.Both place who) table rows =
+    ShowsLastOf (is_appointment_to place) table rows × ShowsLastOf (is_appointment_of who) table rows
+
+-- the view has the last appointments that are asked for, and no row that the table does not have
+abbrev pub ShowsAppointments : Selection AppointmentsOf → List Appointment → List Appointment → Type 0
+ShowsAppointments Nothing table rows = Unit {0}
+ShowsAppointments (Under asked) table rows =
+    ((row : Appointment) → IsIn row rows → IsIn row table) × ShowsAppointmentsOf asked table rows
+ShowsAppointments All table rows = IsPermutation table rows
+
 -- the row of the key
 abbrev pub row_of_key : List ℕ → List KeyRow → Option KeyRow
 row_of_key key rows = find (is_of_key key) rows
@@ -124,7 +147,7 @@ pub record IsViewOf (asks : Asks) (t : Tables) (view : View) : Type 0 where
   pub people : Shows is_of_people asks.people t.people view.people.items
   pub trainings : Shows is_training_of asks.trainings t.trainings view.trainings.items
   pub withdrawals : Shows is_withdrawal_of asks.withdrawals t.withdrawals view.withdrawals.items
-  pub appointments : Shows is_appointment_of asks.appointments t.appointments view.appointments.items
+  pub appointments : ShowsAppointments asks.appointments t.appointments view.appointments.items
   pub boxes : ShowsAll asks.boxes t.boxes view.boxes.items
   pub safes : ShowsAll asks.safes t.safes view.safes.items
   pub bags : Shows is_of_serial asks.bags t.bags view.bags.items

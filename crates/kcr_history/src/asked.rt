@@ -92,7 +92,7 @@ fn asks_person(alloc: Global, who: Initials) -> Result<Asks, AllocError>
     Ok(asks)
 }
 
-/// The person, their trainings and their appointments.
+/// The person, their trainings and their last appointment.
 fn asks_to_train(alloc: Global, who: Initials) -> Result<Asks, AllocError>
     ensures { IfOk result (λ asks. asks ≡ Asked.asks_to_train who) }
 {
@@ -113,18 +113,18 @@ fn asks_to_withdraw(alloc: Global, who: Initials) -> Result<Asks, AllocError>
     Ok(asks)
 }
 
-/// The person and their trainings, the appointments and the marks.
-fn asks_to_appoint(alloc: Global, who: Initials) -> Result<Asks, AllocError>
-    ensures { IfOk result (λ asks. asks ≡ Asked.asks_to_appoint who) }
+/// The person and their trainings, the last appointment to the place and that of the person, and the marks.
+fn asks_to_appoint(alloc: Global, place: Place, who: Initials) -> Result<Asks, AllocError>
+    ensures { IfOk result (λ asks. asks ≡ Asked.asks_to_appoint place who) }
 {
     let mut asks = asks_person(alloc, who)?;
     asks.trainings = Selection::Under(who);
-    asks.appointments = Selection::All;
+    asks.appointments = Selection::Under(AppointmentsOf::Both(place, who));
     asks.marks = Selection::All;
     Ok(asks)
 }
 
-/// The appointments of the place, and the marks.
+/// The last appointment to the place, and the marks.
 fn asks_to_release(place: Place) -> Asks
     ensures { result ≡ Asked.asks_to_release place }
 {
@@ -245,8 +245,8 @@ fn asks_by(alloc: Global, act: &Act) -> Result<Asks, AllocError>
         Act::Enter { who, .. } => asks_person(alloc, *who),
         Act::Train { who, .. } => asks_to_train(alloc, *who),
         Act::Withdraw { who, .. } => asks_to_withdraw(alloc, *who),
-        Act::Appoint { who, .. } => asks_to_appoint(alloc, *who),
-        Act::Replace { who, .. } => asks_to_appoint(alloc, *who),
+        Act::Appoint { place, who, .. } => asks_to_appoint(alloc, *place, *who),
+        Act::Replace { place, who, .. } => asks_to_appoint(alloc, *place, *who),
         Act::Release { place, .. } => Ok(asks_to_release(*place)),
         Act::AddBox { .. } => Ok(asks_boxes()),
         Act::AddItem { ceremony, item, .. } => asks_to_add(alloc, *ceremony, *item),
@@ -282,9 +282,10 @@ fn asks_by(alloc: Global, act: &Act) -> Result<Asks, AllocError>
 }
 
 /// The rows that the decision of this command reads: those under the keys, of the people, of the place or of the
-/// ceremony that it names. All rows are asked for only of tables that do not grow with each command: trainings and
-/// withdrawals where anybody in a room may be the one who is needed, appointments and marks, boxes and safes; of the
-/// ceremonies to open one, and of the bags to close one. The error is out of memory.
+/// ceremony that it names; of a place's and a person's appointments the last one alone. All rows are asked for only of
+/// tables that do not grow with each command: trainings, withdrawals and appointments where anybody in a room may be
+/// the one who is needed, marks, boxes and safes; of the ceremonies to open one, and of the bags to close one. The
+/// error is out of memory.
 pub fn asks(alloc: Global, command: &Command) -> Result<Asks, AllocError>
     ensures { IfOk result (λ asks. asks ≡ Asked.asks_of command.now) }
 {

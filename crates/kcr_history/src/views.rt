@@ -56,13 +56,16 @@ pub enum Selection<K> {
     All,
 }
 
-/// Which appointments are asked for.
+/// Which appointments are asked for: the one to a place that began last, the one of a person that began last, or both.
+/// No others are needed, since neither a place nor a person has two appointments at a time.
 #[derive(Clone, Copy, PartialEq, Eq)]
 pub enum AppointmentsOf {
-    /// Those to the place.
+    /// The last one to the place.
     Place(Place),
-    /// Those of the person.
+    /// The last one of the person.
     Person(Initials),
+    /// The last one to the place, and the last one of the person.
+    Both(Place, Initials),
 }
 
 /// Which items are asked for.

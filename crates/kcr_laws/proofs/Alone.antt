@@ -1,29 +1,30 @@
 -- In every register, at no moment is exactly one person, or more than 128, in a room.
 use Rattle.std.proofs.Common.{◌≡◌, ℕ, Bool, true, false, ◌==◌, List, ◌∷◌, ◌++◌, map, length, Some, None, refl, sym, ap, ◌∙◌, subst, arith, inl, inr}
 use Rattle.std.proofs.lemmas.Bool.{eqb-true, cases_lt}
-use Rattle.kcr_base.proofs.RefuseLemmas.{unmet}
-use Rattle.kcr_base.specs.declared.refusal.Refusal.TheVariants.{Turn, Crowd}
+use Rattle.kcr_base.proofs.ListLemmas.{none-find}
+use Rattle.kcr_base.proofs.Members.{none-in, listed-in}
+use Rattle.kcr_base.specs.declared.refusal.Refusal.TheVariants.{Crowd}
 use Rattle.kcr_room.specs.declared.SheetRow.{SheetRow}
 use Rattle.kcr_room.specs.declared.Way.{Way}
 use Rattle.kcr_room.specs.Room.{crowd_by}
-use Rattle.kcr_room.specs.Adding.{new_row}
+use Rattle.kcr_room.specs.Adding.{is_out_of_turn_by, new_row}
 use Rattle.kcr_room.specs.Laws.{IsAllowed}
 use Rattle.kcr_history.specs.declared.commands.Act.{Act}
 use Rattle.kcr_history.specs.declared.commands.Act.TheVariants.{Sheet}
 use Rattle.kcr_history.specs.declared.commands.Answer.{Answer}
 use Rattle.kcr_history.specs.History.{History}
 use Rattle.kcr_history.specs.Room.{sheet}
-use Rattle.kcr_history.specs.Conditions.{fault, first_with, out_of_turn, crowded, lone}
+use Rattle.kcr_history.specs.Conditions.{fault, out_of_turn, crowded, lone}
 use Rattle.kcr_history.specs.Machine.{IsRegister}
 use Rattle.kcr_laws.proofs.Accepted.{one, each_register}
 use Rattle.kcr_laws.proofs.Rooms.{HaveTurns, in_other, same_room}
 use Rattle.kcr_laws.proofs.Crowding.{crowd_holds, never_told}
-use Rattle.kcr_laws.proofs.Refused.{none_with}
 
 -- of people of whom none is refused each has the turn
-pub turns : (A : History) (c : ℕ) (way : Way) (at : ℕ) (people : List (List ℕ)) → first_with (out_of_turn A c way at) people ≡ None
+pub turns : (A : History) (c : ℕ) (way : Way) (at : ℕ) (people : List (List ℕ)) → out_of_turn A c way at people ≡ None
     → HaveTurns (sheet A) c way at people
-turns A c way at people h p m = unmet _ (Turn p) (none_with (out_of_turn A c way at) people h p m)
+turns A c way at people h p m =
+    none-in (is_out_of_turn_by (sheet A) c way at) p people (none-find (is_out_of_turn_by (sheet A) c way at) people (grind arith)) (listed-in p people m)
 
 -- rows that are neither crowded nor lone
 own_room : (rows : List SheetRow) (c : ℕ) → crowded rows c ≡ None → lone rows c ≡ None → (t : ℕ) → IsAllowed (crowd_by rows c t)

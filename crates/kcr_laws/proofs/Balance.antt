@@ -3,20 +3,18 @@ use Rattle.std.proofs.Common.{◌≡◌, ℕ, true, ◌||◌, List, ◌∷◌, O
 use Rattle.std.specs.Prelude.{is_some}
 use Rattle.std.specs.List.{list_any}
 use Rattle.std.proofs.lemmas.Bool.{true≢false, and_from, false≢true, or_right}
-use Rattle.kcr_base.proofs.RefuseLemmas.{unmet}
 use Rattle.kcr_base.proofs.SameLemmas.{same-itself, same-turned}
 use Rattle.kcr_base.proofs.ListLemmas.{any-same, there, still}
 use Rattle.kcr_base.specs.Rows.{or_else}
 use Rattle.kcr_base.specs.Same.{same_text}
 use Rattle.kcr_base.specs.declared.place.Facility.{Facility}
-use Rattle.kcr_base.specs.declared.refusal.Refusal.TheVariants.{Unknown}
-use Rattle.kcr_base.specs.declared.refusal.Thing.TheVariants as Things
 use Rattle.kcr_custody.specs.declared.Rest.{Rest}
 use Rattle.kcr_custody.specs.declared.Rest.TheVariants.{Loose}
 use Rattle.kcr_custody.specs.declared.Spot.{Spot}
 use Rattle.kcr_custody.specs.declared.Spot.TheVariants.{Table, Equipment, InBox, Spent}
 use Rattle.kcr_custody.specs.declared.Store.TheVariants.{SafeOne, Boxed}
 use Rattle.kcr_custody.specs.Balance.{all_differ}
+use Rattle.kcr_custody.specs.Custody.{no_item}
 use Rattle.kcr_history.specs.declared.commands.Act.{Act}
 use Rattle.kcr_history.specs.declared.commands.Act.TheVariants.{AddItem, Seal, Take, Put, Cut}
 use Rattle.kcr_history.specs.declared.commands.Answer.{Answer}
@@ -25,12 +23,11 @@ use Rattle.kcr_history.specs.History.{History, all_said, last_said, last_told}
 use Rattle.kcr_history.specs.Ceremonies.{facility_of}
 use Rattle.kcr_history.specs.Custody.{moved, spot, sealed_in, added_at, rest_in, rest, boxed, place_of_box}
 use Rattle.kcr_history.specs.Tables.{sealed_serial, added_item}
-use Rattle.kcr_history.specs.Conditions.{fault, no_item, first_with}
+use Rattle.kcr_history.specs.Conditions.{fault}
 use Rattle.kcr_history.specs.Machine.{IsRegister}
 use Rattle.kcr_history.specs.Laws.{is_added, is_kept, has_its_box, is_in_place, were_in_place, IsBalanced}
 use Rattle.kcr_laws.proofs.Accepted.{IsAccepted, one, each_history, each_register}
-use Rattle.kcr_laws.proofs.Refused.{none_with}
-use Rattle.kcr_laws.proofs.Stored.{sealed_somewhere}
+use Rattle.kcr_laws.proofs.Stored.{sealed_somewhere, items_known}
 
 -- BAGS
 
@@ -69,11 +66,6 @@ added_is_after A key act answer item ih = ih
 added_is : (A : History) (item : List ℕ) → is_added A item ≡ is_some (added A item)
 added_is A item = each_history (λ B. is_added B item ≡ is_some (added B item)) refl (λ B key act answer. added_is_after B key act answer item) A
 
--- of items none of which is unknown each has a rest
-not_unknown : (A : History) (items : List (List ℕ)) (item : List ℕ) → first_with (no_item A) items ≡ None → list_any (same_text item) items ≡ true
-    → is_some (rest A item) ≡ true
-not_unknown A items item h m = there (rest A item) (unmet _ (Unknown (Things.Item item)) (none_with (no_item A) items h item m))
-
 -- an item that has a rest was added, where those that were sealed were
 rest_added : (A : History) (item : List ℕ) → (is_some (sealed A item) ≡ true → is_added A item ≡ true) → is_some (rest A item) ≡ true → is_added A item ≡ true
 rest_added A item g h = grind (arith, g, has_rest A item, added_is A item)
@@ -85,8 +77,8 @@ sealed_added_after : (A : History) (key : List ℕ) (act : Act) (answer : Answer
 sealed_added_after A key (AddItem c i at) answer item a ih h = or_right (same_text item i) (is_added A item) (ih h)
 sealed_added_after A key (Seal c serial items at) answer item a ih h =
     let f : fault A (Seal c serial items at) ≡ None = a.no_fault in
-    let known : first_with (no_item A) items ≡ None = grind arith in
-    grind (arith, ih, rest_added A item ih, not_unknown A items item known)
+    let known : no_item (rest A) items ≡ None = grind arith in
+    grind (arith, ih, rest_added A item ih, items_known A item items known)
 sealed_added_after A key act answer item a ih h = ih h
 
 sealed_added : (A : History) → IsRegister A → (item : List ℕ) → is_some (sealed A item) ≡ true → is_added A item ≡ true

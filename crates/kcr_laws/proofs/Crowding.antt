@@ -1,23 +1,25 @@
 -- When a room would be too full, and when somebody would be alone in it.
-use Rattle.std.proofs.Common.{◌≡◌, ℕ, Bool, true, false, ◌==◌, nat_lt, nat_le, List, [], ◌∷◌, Option, Some, None, option_map, refl, ap, inl, inr, arith}
+use Rattle.std.proofs.Common.{◌≡◌, ℕ, Bool, true, false, not, ◌==◌, nat_lt, nat_le, List, [], ◌∷◌, find, Option, Some, None, option_map, refl, ap, inl, inr, arith}
 use Rattle.std.proofs.lemmas.Bool.{both_ways, ltb-true, lt-ltb, eqb-true, eqb-false, eq-eqb, cases_order}
-use Rattle.kcr_base.specs.Refuse.{when}
+use Rattle.kcr_base.specs.Refuse.{when, no_people, is_not_later}
 use Rattle.kcr_base.specs.declared.refusal.Refusal.{Refusal}
-use Rattle.kcr_base.specs.declared.refusal.Refusal.TheVariants.{Late, Crowd, Lone, Full}
+use Rattle.kcr_base.specs.declared.refusal.Refusal.TheVariants.{Unknown, Late, Turn, Crowd, Lone, Full}
+use Rattle.kcr_base.specs.declared.refusal.Thing.TheVariants as Things
 use Rattle.kcr_room.specs.declared.SheetRow.{SheetRow}
 use Rattle.kcr_room.specs.declared.Way.{Way}
-use Rattle.kcr_room.specs.Adding.{turn_refusal}
+use Rattle.kcr_room.specs.Adding.{is_out_of_turn_by}
 use Rattle.kcr_room.specs.Moments.{IsFirst, IsEver}
 use Rattle.kcr_room.specs.Room.{crowd_by}
 use Rattle.kcr_room.specs.Stays.{stays_by, first_lone_in_by, is_crowded_in_by}
 use Rattle.kcr_room.proofs.Moments.{first_lone-is_first, first_lone-by_rows, crowded-is_ever, crowded-by_rows}
 use Rattle.kcr_history.specs.declared.commands.Act.TheVariants.{Sheet}
 use Rattle.kcr_history.specs.History.{History}
+use Rattle.kcr_history.specs.Training.{is_person}
 use Rattle.kcr_history.specs.Ceremonies.{mark}
 use Rattle.kcr_history.specs.Room.{sheet, sheet_after}
-use Rattle.kcr_history.specs.Conditions.{fault, is_full, no_ceremony, no_person, not_open, not_later, first_with, is_not_later, named_twice, first_twice, out_of_turn, crowded, lone, is_overfull}
+use Rattle.kcr_history.specs.Conditions.{fault, is_full, no_ceremony, not_open, not_later, named_twice, first_twice, out_of_turn, crowded, lone, is_overfull}
 use Rattle.kcr_laws.specs.Conditions.{IsEverCrowded, IsFirstAlone, IsNeverAlone}
-use Rattle.kcr_laws.proofs.Refused.{kind, IsOther, AreOther, other_when, other_of_all, of_the_one}
+use Rattle.kcr_laws.proofs.Refused.{kind, IsOther, AreOther, other_when, other_of_some, of_the_one}
 
 -- MORE THAN 128
 
@@ -81,7 +83,7 @@ never_holds rows c none = by_moment (first_lone_in_by (stays_by rows) c) (first 
 -- the conditions of a sheet command before those of the room, and those behind them
 abbrev before_room : History → ℕ → Way → List (List ℕ) → ℕ → List (Option Refusal) → List (Option Refusal)
 before_room A c way people at rest =
-    no_ceremony A c ∷ first_with (no_person A) people ∷ not_open A c ∷ not_later A c at ∷ named_twice people ∷ first_with (out_of_turn A c way at) people ∷ rest
+    no_ceremony A c ∷ no_people (is_person A) people ∷ not_open A c ∷ not_later A c at ∷ named_twice people ∷ out_of_turn A c way at people ∷ rest
 
 abbrev behind_room : History → ℕ → Way → List SheetRow → List (Option Refusal)
 behind_room A c way rows = when (is_overfull way rows c) Full ∷ when (is_full A) Full ∷ []
@@ -91,17 +93,15 @@ others_before : (A : History) (c : ℕ) (way : Way) (people : List (List ℕ)) (
     → AreOther r rest
     → AreOther r (before_room A c way people at rest)
 others_before A c way people at rest r e others =
-    let unknown = other_of_all r (no_person A) (λ who. other_when r _ _ e) people in
-    let turn = other_of_all r (out_of_turn A c way at) (λ who. other_when r _ _ e) people in
-    (other_when r _ _ e, (unknown, (other_when r _ _ e, (not_late (mark A c), (not_twice (first_twice people), (turn, others))))))
+    let unknown = other_of_some r (λ who. Unknown (Things.Person who)) (λ who. e) (find (λ who. not (is_person A who)) people) in
+    let turn = other_of_some r Turn (λ who. e) in (
+      other_when r _ _ e,
+      (unknown, (other_when r _ _ e, (not_late (mark A c), (turn (first_twice people), (turn (find (is_out_of_turn_by (sheet A) c way at) people), others))))),
+    )
   where
     not_late : (m : Option ℕ) → IsOther r (is_not_later at m)
     not_late None = tt
     not_late (Some m) = other_when r (nat_le at m) (Late m) e
-
-    not_twice : (o : Option (List ℕ)) → IsOther r (turn_refusal o)
-    not_twice None = tt
-    not_twice (Some who) = e
 
 others_behind : (A : History) (c : ℕ) (way : Way) (rows : List SheetRow) (r : Refusal) → (0 == kind r) ≡ false → AreOther r (behind_room A c way rows)
 others_behind A c way rows r e = (other_when r _ _ e, (other_when r _ _ e, tt))
@@ -112,11 +112,8 @@ crowd_fault A c way people at h =
     let rows = sheet_after (Sheet c way people at) (sheet A) in
     crowd_told rows c
     (of_the_one Crowd (before_room A c way people at []) (crowded rows c) (lone rows c ∷ behind_room A c way rows)
-    (others_before A c way people at [] Crowd refl tt) (not_lone (first_lone_in_by (stays_by rows) c), others_behind A c way rows Crowd refl) h)
-  where
-    not_lone : (o : Option ℕ) → IsOther Crowd (option_map Lone o)
-    not_lone None = tt
-    not_lone (Some m) = refl
+    (others_before A c way people at [] Crowd refl tt)
+    (other_of_some Crowd Lone (λ t. refl) (first_lone_in_by (stays_by rows) c), others_behind A c way rows Crowd refl) h)
 
 pub lone_fault : (A : History) (c : ℕ) (way : Way) (people : List (List ℕ)) (at t : ℕ) → fault A (Sheet c way people at) ≡ Some (Lone t)
     → IsFirstAlone (sheet_after (Sheet c way people at) (sheet A)) c t

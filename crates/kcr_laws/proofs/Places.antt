@@ -13,11 +13,11 @@ use Rattle.kcr_base.specs.declared.refusal.Refusal.TheVariants.{Range, Vacant}
 use Rattle.kcr_base.proofs.SameLemmas.{place-same, place-itself}
 use Rattle.kcr_people.specs.declared.Appointment.{Appointment}
 use Rattle.kcr_people.specs.People.{holds, holder_by, lasts_beyond, place_held_from_by, holds_some_by, open_row_by, begins_too_late, trained_by}
+use Rattle.kcr_people.specs.People.{not_after_first_day, vacant}
 use Rattle.kcr_history.specs.declared.commands.Act.{Act}
 use Rattle.kcr_history.specs.declared.commands.Act.TheVariants.{Appoint, Replace, Release}
 use Rattle.kcr_history.specs.History.{History, last_said}
 use Rattle.kcr_history.specs.Tables.{trainings, withdrawals, appointments, appointments_after, ended}
-use Rattle.kcr_history.specs.Conditions.{not_after_first_day, vacant}
 use Rattle.kcr_history.specs.Machine.{IsRegister}
 use Rattle.kcr_history.proofs.Stacked.{stacked}
 use Rattle.kcr_history.proofs.Orderly.{orderly, holder-appointments}
@@ -112,20 +112,20 @@ since_said (entry ∷ A) place = since_after A entry.command.act place (since_sa
 
 -- TOO EARLY, AND VACANT
 
-pub early_told : (A : History) (place : Place) (day : ℕ) → not_after_first_day A place day ≡ Some Range → BeginsFrom A place day
+pub early_told : (A : History) (place : Place) (day : ℕ) → not_after_first_day (appointments A) place day ≡ Some Range → BeginsFrom A place day
 early_told A place day h = by_row (open_row_by (appointments A) place) h (since_said A place)
   where
     by_row : (o : Option Appointment) → when (begins_too_late o day) Range ≡ Some Range → since_of o ≡ held_since A place → BeginsFrom A place day
     by_row None g s = absurd (let z : None ≡ Some Range = g in cc)
     by_row (Some row) g s = (row.since, sym s, grind (arith, nat_tests))
 
-pub early_holds : (A : History) (place : Place) (day : ℕ) → BeginsFrom A place day → not_after_first_day A place day ≡ Some Range
+pub early_holds : (A : History) (place : Place) (day : ℕ) → BeginsFrom A place day → not_after_first_day (appointments A) place day ≡ Some Range
 early_holds A place day (since, s, l) = grind (arith, nat_tests, since_said A place)
 
-pub vacant_told : (A : History) (place : Place) → vacant A place ≡ Some Vacant → held_since A place ≡ None
+pub vacant_told : (A : History) (place : Place) → vacant (appointments A) place ≡ Some Vacant → held_since A place ≡ None
 vacant_told A place h = grind (arith, since_said A place)
 
-pub vacant_holds : (A : History) (place : Place) → held_since A place ≡ None → vacant A place ≡ Some Vacant
+pub vacant_holds : (A : History) (place : Place) → held_since A place ≡ None → vacant (appointments A) place ≡ Some Vacant
 vacant_holds A place e = grind (arith, since_said A place)
 
 -- TRAINED FROM A DAY ON

@@ -1,14 +1,9 @@
--- Which condition a first refusal is of, and that nobody of a list is refused.
-use Rattle.std.proofs.Common.{◌≡◌, ◌≢◌, ℕ, Bool, true, false, ◌==◌, List, [], ◌∷◌, ◌++◌, Option, Some, None, ap, arith}
-use Rattle.std.specs.List.{list_any}
-use Rattle.std.proofs.lemmas.Bool.{false≢true, eqb-false}
+-- Which condition a first refusal is of.
+use Rattle.std.proofs.Common.{◌≡◌, ◌≢◌, ℕ, Bool, true, false, ◌==◌, List, [], ◌∷◌, ◌++◌, Option, Some, None, option_map, ap}
+use Rattle.std.proofs.lemmas.Bool.{eqb-false}
 use Rattle.kcr_base.specs.Refuse.{when, first_of}
-use Rattle.kcr_base.specs.Rows.{or_else}
-use Rattle.kcr_base.specs.Same.{same_text}
 use Rattle.kcr_base.specs.declared.refusal.Refusal.{Refusal}
 use Rattle.kcr_base.specs.declared.refusal.Refusal.TheVariants.{Crowd, Lone}
-use Rattle.kcr_base.proofs.SameLemmas.{same-is}
-use Rattle.kcr_history.specs.Conditions.{first_with}
 
 -- REFUSALS OF OTHER KINDS
 
@@ -31,13 +26,10 @@ pub other_when : (r : Refusal) (b : Bool) (q : Refusal) → (kind q == kind r) �
 other_when r true q e = e
 other_when r false q e = tt
 
-pub other_of_all : {X : Type 0} (r : Refusal) (test : X → Option Refusal) → ((x : X) → IsOther r (test x)) → (xs : List X) → IsOther r (first_with test xs)
-other_of_all r test f [] = tt
-other_of_all r test f (x ∷ xs) = by_first (test x) (f x) (other_of_all r test f xs)
-  where
-    by_first : (o : Option Refusal) → IsOther r o → IsOther r (first_with test xs) → IsOther r (or_else o (first_with test xs))
-    by_first None e rest = rest
-    by_first (Some q) e rest = e
+pub other_of_some : {X : Type 0} (r : Refusal) (refuse : X → Refusal) → ((x : X) → (kind (refuse x) == kind r) ≡ false) → (o : Option X)
+    → IsOther r (option_map refuse o)
+other_of_some r refuse e None = tt
+other_of_some r refuse e (Some x) = e x
 
 apart : (q r : Refusal) → (kind q == kind r) ≡ false → Some q ≢ Some r
 apart q r e h = let same : q ≡ r = cc in eqb-false (kind q) (kind r) e (ap kind same)
@@ -55,11 +47,3 @@ of_the_one r [] None after b a h = absurd (not_of r after a h)
 of_the_one r [] (Some q) after b a h = h
 of_the_one r (None ∷ before) o after b a h = of_the_one r before o after b.1 a h
 of_the_one r (Some q ∷ before) o after b a h = absurd (apart q r b.0 h)
-
--- NOBODY REFUSED
-
--- where nobody of a list is refused, a member of it is not
-pub none_with : (test : List ℕ → Option Refusal) (people : List (List ℕ)) → first_with test people ≡ None → (p : List ℕ) → list_any (same_text p) people ≡ true
-    → test p ≡ None
-none_with test [] h p m = absurd (false≢true m)
-none_with test (first ∷ people) h p m = grind (arith, same-is p first, none_with test people)

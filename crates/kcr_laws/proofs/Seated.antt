@@ -5,6 +5,7 @@ use Rattle.std.specs.List.{list_any, list_all, filter_map, cons_option}
 use Rattle.std.proofs.lemmas.Bool.{true≢false, and_parts, and_from, eqb-true, eq-eqb, leb-true, le-leb, false≢true, or_left, or_right, or_cases}
 use Rattle.std.proofs.lemmas.Bool.Decides.{nat_tests}
 use Rattle.kcr_base.specs.Days.{day_of}
+use Rattle.kcr_base.specs.Refuse.{is_not_later}
 use Rattle.kcr_base.specs.Rows.{or_else}
 use Rattle.kcr_base.specs.Same.{is_this}
 use Rattle.kcr_base.specs.declared.place.Facility.{Facility}
@@ -26,7 +27,7 @@ use Rattle.kcr_history.specs.Ceremonies.{Planned, planned_as, plan_of, is_ceremo
 use Rattle.kcr_history.specs.Room.{sheet, is_in}
 use Rattle.kcr_history.specs.Seating.{fits, eligible, is_seating, one_to_seven}
 use Rattle.kcr_history.specs.Tables.{seats_at}
-use Rattle.kcr_history.specs.Conditions.{fault, is_not_later}
+use Rattle.kcr_history.specs.Conditions.{fault}
 use Rattle.kcr_history.specs.Machine.{sitting, IsRegister}
 use Rattle.kcr_history.specs.Laws.{is_seated, are_seated}
 use Rattle.kcr_laws.proofs.Accepted.{IsAnswerTo, accepted, one, each_history}

@@ -3,6 +3,7 @@ use Rattle.std.proofs.Common.{◌≡◌, ◌≢◌, ℕ, zero, suc, ◌<◌, tru
 use Rattle.std.specs.Prelude.{◌==◌, option_map, unwrap_or}
 use Rattle.std.proofs.lemmas.Bool.{false≢true, and_parts, lt-leb}
 use Rattle.std.proofs.lemmas.Bool.Decides.{nat_tests}
+use Rattle.kcr_base.specs.Refuse.{is_late}
 use Rattle.kcr_base.specs.declared.refusal.Refusal.{Refusal}
 use Rattle.kcr_base.specs.declared.refusal.Refusal.TheVariants.{Short}
 use Rattle.kcr_history.specs.declared.commands.Act.TheVariants.{Sign}
@@ -11,7 +12,7 @@ use Rattle.kcr_history.specs.History.{History, entry_of}
 use Rattle.kcr_history.specs.Ceremonies.{Planned, plan_of, is_ceremony, steps_of, step_at, is_open, mark, next_step, is_not_before, next}
 use Rattle.kcr_history.specs.Seating.{IsFirst, IsLeast}
 use Rattle.kcr_history.specs.Tables.{seats_at}
-use Rattle.kcr_history.specs.Conditions.{fault, is_full, is_late}
+use Rattle.kcr_history.specs.Conditions.{fault, is_full}
 use Rattle.kcr_history.specs.Machine.{Outcome, Accepts, Refuses, Sitting, answer_to, with_command, seats, acts, machine}
 use Rattle.kcr_laws.specs.Conditions.{signature, IsAccepted, CanFill, IsShortOf}
 use Rattle.kcr_laws.proofs.Accepted.{same_answer, other_outcome, same_refusal}

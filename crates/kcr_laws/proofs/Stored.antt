@@ -1,6 +1,7 @@
 -- What the rows of a register say of bags and boxes.
 use Rattle.std.proofs.Common.{◌≡◌, ℕ, Bool, true, cond, List, [], ◌∷◌, Option, Some, None, is_some, refl, subst, arith}
 use Rattle.std.specs.List.{list_any, cons_option}
+use Rattle.std.proofs.lemmas.Bool.{false≢true}
 use Rattle.kcr_base.proofs.RefuseLemmas.{unmet}
 use Rattle.kcr_base.proofs.ListLemmas.{there}
 use Rattle.kcr_base.proofs.SameLemmas.{same-is}
@@ -11,14 +12,14 @@ use Rattle.kcr_base.specs.declared.refusal.Refusal.TheVariants.{Unknown}
 use Rattle.kcr_base.specs.declared.refusal.Thing.TheVariants as Things
 use Rattle.kcr_custody.specs.declared.Spot.{Spot}
 use Rattle.kcr_custody.specs.declared.Spot.TheVariants.{Table, Spent}
-use Rattle.kcr_custody.specs.Custody.{is_box, spot_of_store}
+use Rattle.kcr_custody.specs.Custody.{is_box, spot_of_store, no_bag, no_item}
 use Rattle.kcr_history.specs.declared.commands.Act.{Act}
 use Rattle.kcr_history.specs.declared.commands.Act.TheVariants.{AddBox, Seal, Take, Put, Cut}
 use Rattle.kcr_history.specs.History.{History, all_said}
 use Rattle.kcr_history.specs.Ceremonies.{facility_of}
-use Rattle.kcr_history.specs.Custody.{moved, spot, boxed, place_of_box}
+use Rattle.kcr_history.specs.Custody.{moved, spot, rest, boxed, place_of_box}
 use Rattle.kcr_history.specs.Tables.{sealed_serial, boxes, box_row}
-use Rattle.kcr_history.specs.Conditions.{fault, no_bag}
+use Rattle.kcr_history.specs.Conditions.{fault}
 use Rattle.kcr_history.specs.Machine.{IsRegister}
 use Rattle.kcr_history.proofs.Steps.{took}
 
@@ -28,8 +29,14 @@ pub moved_there : (t s : List ℕ) (new : Spot) (old : Option Spot) (here : Bool
 moved_there t s new old here known ih = grind (arith, known, ih)
 
 -- the bag of a command is there
-pub bag_known : (A : History) (t s : List ℕ) → no_bag A t ≡ None → same_text t s ≡ true → is_some (spot A s) ≡ true
+pub bag_known : (A : History) (t s : List ℕ) → no_bag (spot A t) t ≡ None → same_text t s ≡ true → is_some (spot A s) ≡ true
 bag_known A t s n e = subst (λ k. is_some (spot A k) ≡ true) (same-is t s e) (there (spot A t) (unmet _ (Unknown (Things.Bag t)) n))
+
+-- each of the items of a command is somewhere
+pub items_known : (A : History) (k : List ℕ) (codes : List (List ℕ)) → no_item (rest A) codes ≡ None → list_any (same_text k) codes ≡ true
+    → is_some (rest A k) ≡ true
+items_known A k [] n m = absurd (false≢true m)
+items_known A k (code ∷ codes) n m = grind (arith, same-is k code, items_known A k codes)
 
 abbrev pub is_sealed : History → List ℕ → Bool
 is_sealed A s = list_any (λ k. same_text k s) (all_said sealed_serial A)

@@ -163,24 +163,35 @@ attended_by script people = with_act (opened_with script) (come people (clock 20
 
 -- after AA and BB have signed the only step, BB as CA and AA as IW
 abbrev pub signed_by_two : History
-signed_by_two = with_act (attended_by (script_of_one (codes "CA;IW")) (AA ∷ BB ∷ [])) (Sign 61 1 (clock 20 10 0)) (Some (BB ∷ AA ∷ []))
+signed_by_two =
+    with_act (attended_by (script_of_one (codes "CA;IW")) (AA ∷ BB ∷ [])) (Sign 61 1 (clock 20 10 0))
+    (Some (BB ∷ AA ∷ []))
 
 -- after two Crypto Officers have signed it, where the second seat wants the holder of place 5
 abbrev pub signed_by_officers : History
-signed_by_officers = with_act (attended_by (script_of_one (codes "CO;CO/5")) (EE ∷ EB ∷ [])) (Sign 61 1 (clock 20 10 0)) (Some (EB ∷ EE ∷ []))
+signed_by_officers =
+    with_act (attended_by (script_of_one (codes "CO;CO/5")) (EE ∷ EB ∷ [])) (Sign 61 1 (clock 20 10 0))
+    (Some (EB ∷ EE ∷ []))
 
 -- after the first of three steps was signed, the second passed over and the third signed
 abbrev pub three_steps_done : History
 three_steps_done =
-    with_act (with_act (with_act (attended_by (script_of_three (codes "CA;IW")) (AA ∷ BB ∷ [])) (Sign 61 1 (clock 20 10 0)) (Some (BB ∷ AA ∷ []))) (Except 61 (codes "Read twice") true (clock 20 12 0)) (Some (BB ∷ AA ∷ []))) (Sign 61 3 (clock 20 13 0)) (Some (BB ∷ AA ∷ []))
+    with_act
+    (with_act
+    (with_act (attended_by (script_of_three (codes "CA;IW")) (AA ∷ BB ∷ [])) (Sign 61 1 (clock 20 10 0))
+    (Some (BB ∷ AA ∷ []))) (Except 61 (codes "Read twice") true (clock 20 12 0)) (Some (BB ∷ AA ∷ [])))
+    (Sign 61 3 (clock 20 13 0)) (Some (BB ∷ AA ∷ []))
 
 -- after four came, and two of them left, the second one's row handed in first
 abbrev pub two_left : History
-two_left = with_acts (attended_by (script_of_one (codes "CA;IW")) (AA ∷ BB ∷ CC ∷ EA ∷ [])) (leave (CC ∷ []) (clock 20 30 0) ∷ leave (BB ∷ []) (clock 20 20 0) ∷ [])
+two_left =
+    with_acts (attended_by (script_of_one (codes "CA;IW")) (AA ∷ BB ∷ CC ∷ EA ∷ []))
+    (leave (CC ∷ []) (clock 20 30 0) ∷ leave (BB ∷ []) (clock 20 20 0) ∷ [])
 
 -- after the first of two steps was signed in the last second of the day
 abbrev pub signed_at_midnight : History
-signed_at_midnight = with_act (attended_by (script_of_two (codes "IW")) (AA ∷ BB ∷ [])) (Sign 61 1 (clock 23 59 59)) (Some (AA ∷ []))
+signed_at_midnight =
+    with_act (attended_by (script_of_two (codes "IW")) (AA ∷ BB ∷ [])) (Sign 61 1 (clock 23 59 59)) (Some (AA ∷ []))
 
 -- then AA is trained anew, and that training is withdrawn from the day on
 abbrev pub withdrawn_from : ℕ → History
@@ -255,7 +266,8 @@ three_planned =
 -- after the only step was signed, everybody had left, and the ceremony was closed
 abbrev pub closed_in_order : History
 closed_in_order =
-    with_acts (with_act (attended_by (script_of_one (codes "IW")) (AA ∷ BB ∷ [])) (Sign 61 1 (clock 20 10 0)) (Some (AA ∷ [])))
+    with_acts
+    (with_act (attended_by (script_of_one (codes "IW")) (AA ∷ BB ∷ [])) (Sign 61 1 (clock 20 10 0)) (Some (AA ∷ [])))
     (leave (AA ∷ BB ∷ []) (clock 20 15 0) ∷ Close 61 (clock 20 15 0) ∷ [])
 
 -- a person, and nothing else

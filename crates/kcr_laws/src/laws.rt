@@ -5,7 +5,8 @@ ghost use Rattle.kcr_base.specs.declared.place.Place.{Place};
 ghost use Rattle.kcr_base.specs.declared.place.Role.{Role};
 ghost use Rattle.kcr_base.specs.declared.refusal.Refusal.{Refusal};
 ghost use Rattle.kcr_base.specs.declared.refusal.Refusal.TheVariants.{Short, Crowd, Lone, Range, Vacant};
-ghost use Rattle.kcr_people.specs.People.{person_holds_from_by, trained_from_by, open_row_by};
+ghost use Rattle.kcr_people.specs.People.{person_holds_from_by, trained_from_by, open_row_by, vacant};
+ghost use Rattle.kcr_people.specs.People.{not_after_first_day, place_or_person_holds};
 ghost use Rattle.kcr_room.specs.declared.Way.{Way};
 ghost use Rattle.kcr_room.specs.Moments.{IsFirst, IsEver};
 ghost use Rattle.kcr_room.specs.Room.{crowd_by};
@@ -22,8 +23,7 @@ ghost use Rattle.kcr_history.specs.Seating as Seatings;
 ghost use Rattle.kcr_history.specs.Seating.{IsLeast};
 ghost use Rattle.kcr_history.specs.Room.{sheet, sheet_after};
 ghost use Rattle.kcr_history.specs.Tables.{trainings, withdrawals, appointments, seats_at};
-ghost use Rattle.kcr_history.specs.Conditions.{fault, crowded, lone, place_or_person_holds, not_after_first_day};
-ghost use Rattle.kcr_history.specs.Conditions.{vacant};
+ghost use Rattle.kcr_history.specs.Conditions.{fault, crowded, lone};
 ghost use Rattle.kcr_history.specs.Texts.{same_command};
 ghost use Rattle.kcr_history.specs.Machine.{Outcome, Accepts, Refuses, machine, IsRegister};
 ghost use Rattle.kcr_history.specs.Laws.{IsOnce, IsSound, IsBalanced};
@@ -85,9 +85,11 @@ pub fn trainings_stay()
 /// the room, though it is sought at the moments of rows alone; likewise whether it would ever be too full.
 pub fn rooms_are_judged_at_every_moment()
     ensures lone { (A : History) (act : Act) (ceremony : ℕ) →
-        IsFirst (λ t. crowd_by (sheet_after act (sheet A)) ceremony t == 1) (first_lone_in_by (stays_by (sheet_after act (sheet A))) ceremony) }
+        IsFirst (λ t. crowd_by (sheet_after act (sheet A)) ceremony t == 1)
+        (first_lone_in_by (stays_by (sheet_after act (sheet A))) ceremony) }
     ensures crowded { (A : History) (act : Act) (ceremony : ℕ) →
-        IsEver (λ t. nat_lt 128 (crowd_by (sheet_after act (sheet A)) ceremony t)) (is_crowded_in_by (stays_by (sheet_after act (sheet A))) ceremony) }
+        IsEver (λ t. nat_lt 128 (crowd_by (sheet_after act (sheet A)) ceremony t))
+        (is_crowded_in_by (stays_by (sheet_after act (sheet A))) ceremony) }
 {}
 
 /// In every register each recorded seating is one by the whole history, whatever came later; and at no moment is
@@ -109,13 +111,15 @@ pub fn registers_are_balanced()
 pub fn steps_are_signed_by_who_fill_their_seats()
     ensures signed { (A : History) (key : List ℕ) (ceremony step at : ℕ) → entry_of A key ≡ None
         → length A < 4000000000 →
-        IsAccepted A (signature key ceremony step at) ↔ (IsTrue (next A ceremony step at) × CanFill A ceremony step at) }
+        IsAccepted A (signature key ceremony step at)
+        ↔ (IsTrue (next A ceremony step at) × CanFill A ceremony step at) }
     ensures known { (A : History) (ceremony step at : ℕ) → IsTrue (next A ceremony step at)
         → IsTrue (is_ceremony A ceremony) }
     ensures first { (A : History) (key : List ℕ) (ceremony step at : ℕ) (answer : Answer) (after : History)
         → entry_of A key ≡ None →
         machine A (signature key ceremony step at) (Accepts answer) after →
-        (people : List (List ℕ)) × Seatings.IsFirst A ceremony at (seats_at (steps_of A ceremony) step) people × (answer.seating ≡ Some people) }
+        (people : List (List ℕ)) × Seatings.IsFirst A ceremony at (seats_at (steps_of A ceremony) step) people
+        × (answer.seating ≡ Some people) }
 {}
 
 /// A step is short of people exactly when it is next and nobody can fill its seats: under a new key, and before the
@@ -129,7 +133,8 @@ pub fn steps_are_short_where_nobody_fills_their_seats()
     ensures named { (A : History) (key : List ℕ) (ceremony step at : ℕ) (named : List ℕ) (after : History)
         → entry_of A key ≡ None →
         machine A (signature key ceremony step at) (Refuses (Short named)) after →
-        (positions : List ℕ) × IsLeast A ceremony at (seats_at (steps_of A ceremony) step) positions × (named ≡ map suc positions) }
+        (positions : List ℕ) × IsLeast A ceremony at (seats_at (steps_of A ceremony) step) positions
+        × (named ≡ map suc positions) }
 {}
 
 /// Every command gets an answer: from every history the machine has a step, whatever it is told.
@@ -143,7 +148,8 @@ pub fn sheets_are_refused_at_a_crowded_moment()
     ensures holds { (A : History) (act : Act) (ceremony : ℕ) →
         crowded (sheet_after act (sheet A)) ceremony ≡ Some Crowd ↔ IsEverCrowded (sheet_after act (sheet A)) ceremony }
     ensures refused { (A : History) (ceremony : ℕ) (way : Way) (people : List (List ℕ)) (at : ℕ) →
-        fault A (Sheet ceremony way people at) ≡ Some Crowd → IsEverCrowded (sheet_after (Sheet ceremony way people at) (sheet A)) ceremony }
+        fault A (Sheet ceremony way people at) ≡ Some Crowd
+        → IsEverCrowded (sheet_after (Sheet ceremony way people at) (sheet A)) ceremony }
 {}
 
 /// The refusal `lone` holds of a sheet request with a moment exactly where that is the first one at which exactly one
@@ -151,18 +157,20 @@ pub fn sheets_are_refused_at_a_crowded_moment()
 /// and a request that is answered so would have that first moment.
 pub fn sheets_are_refused_at_a_lone_moment()
     ensures holds { (A : History) (act : Act) (ceremony t : ℕ) →
-        lone (sheet_after act (sheet A)) ceremony ≡ Some (Lone t) ↔ IsFirstAlone (sheet_after act (sheet A)) ceremony t }
+        lone (sheet_after act (sheet A)) ceremony ≡ Some (Lone t)
+        ↔ IsFirstAlone (sheet_after act (sheet A)) ceremony t }
     ensures never { (A : History) (act : Act) (ceremony : ℕ) →
         lone (sheet_after act (sheet A)) ceremony ≡ None ↔ IsNeverAlone (sheet_after act (sheet A)) ceremony }
     ensures refused { (A : History) (ceremony : ℕ) (way : Way) (people : List (List ℕ)) (at t : ℕ) →
-        fault A (Sheet ceremony way people at) ≡ Some (Lone t) → IsFirstAlone (sheet_after (Sheet ceremony way people at) (sheet A)) ceremony t }
+        fault A (Sheet ceremony way people at) ≡ Some (Lone t)
+        → IsFirstAlone (sheet_after (Sheet ceremony way people at) (sheet A)) ceremony t }
 {}
 
 /// In every register the refusal `held` holds of an appointment exactly where on its day or a later one somebody holds
 /// the place, or the person holds some place; of a replacement exactly where the person does.
 pub fn places_are_held_on_some_day()
     ensures appointment { (A : History) → IsRegister A → (place : Place) (who : List ℕ) (day : ℕ) →
-        IsTrue (place_or_person_holds A place who day) ↔ (IsHeldFrom A place day ⊎ HoldsFrom A who day) }
+        IsTrue (place_or_person_holds (appointments A) place who day) ↔ (IsHeldFrom A place day ⊎ HoldsFrom A who day) }
     ensures replacement { (A : History) → IsRegister A → (who : List ℕ) (day : ℕ) →
         IsTrue (person_holds_from_by (appointments A) who day) ↔ HoldsFrom A who day }
 {
@@ -177,9 +185,10 @@ pub fn places_are_held_on_some_day()
 pub fn places_are_as_their_last_command_says()
     ensures rows { (A : History) (place : Place)
         → option_map (λ row. row.since) (open_row_by (appointments A) place) ≡ held_since A place }
-    ensures range { (A : History) (place : Place) (day : ℕ) → not_after_first_day A place day ≡ Some Range
-        ↔ BeginsFrom A place day }
-    ensures vacant { (A : History) (place : Place) → vacant A place ≡ Some Vacant ↔ held_since A place ≡ None }
+    ensures range { (A : History) (place : Place) (day : ℕ) →
+        not_after_first_day (appointments A) place day ≡ Some Range ↔ BeginsFrom A place day }
+    ensures vacant { (A : History) (place : Place)
+        → vacant (appointments A) place ≡ Some Vacant ↔ held_since A place ≡ None }
 {}
 
 /// In every register the test of a withdrawal, whether there is something to withdraw, passes exactly where on its day

@@ -124,7 +124,10 @@ pub fn three_steps()
         ((come (AA ∷ BB ∷ []) (clock 20 5 0), codes "{\"accepted\":17}")
         ∷ (Sign 61 1 (clock 20 10 0), codes "{\"accepted\":18,\"seating\":[\"BB\",\"AA\"],\"step\":1}")
         ∷ (Sign 61 3 (clock 20 11 0), codes "{\"next\":2,\"number\":23,\"refusal\":\"order\"}")
-        ∷ (Except 61 (codes "Read twice") true (clock 20 12 0), codes "{\"accepted\":19,\"exception\":1,\"seating\":[\"BB\",\"AA\"],\"step\":2}")
+        ∷ (
+          Except 61 (codes "Read twice") true (clock 20 12 0),
+          codes "{\"accepted\":19,\"exception\":1,\"seating\":[\"BB\",\"AA\"],\"step\":2}",
+        )
         ∷ (Sign 61 3 (clock 20 13 0), codes "{\"accepted\":20,\"seating\":[\"BB\",\"AA\"],\"step\":3}")
         ∷ [])
         three_steps_done }
@@ -138,7 +141,10 @@ pub fn three_steps()
 /// Nobody comes in at the second of a signature; a second later somebody does.
 pub fn sheet_row_at_the_mark()
     ensures { AreAnswered signed_by_two
-        ((come (CC ∷ []) (clock 20 10 0), codes "{\"mark\":\"2025-02-13T20:10:00Z\",\"number\":22,\"refusal\":\"late\"}")
+        ((
+          come (CC ∷ []) (clock 20 10 0),
+          codes "{\"mark\":\"2025-02-13T20:10:00Z\",\"number\":22,\"refusal\":\"late\"}",
+        )
         ∷ (come (CC ∷ []) (clock 20 10 1), codes "{\"accepted\":19}")
         ∷ [])
         (with_act signed_by_two (come (CC ∷ []) (clock 20 10 1)) None) }
@@ -147,10 +153,14 @@ pub fn sheet_row_at_the_mark()
 /// Nobody is left alone in the room: two of three do not go, all three do.
 pub fn all_leave_together()
     ensures { AreAnswered (attended_by (script_of_one (codes "CA;IW")) (AA ∷ BB ∷ CC ∷ []))
-        ((leave (AA ∷ BB ∷ []) (clock 20 20 0), codes "{\"moment\":\"2025-02-13T20:20:00Z\",\"number\":26,\"refusal\":\"lone\"}")
+        ((
+          leave (AA ∷ BB ∷ []) (clock 20 20 0),
+          codes "{\"moment\":\"2025-02-13T20:20:00Z\",\"number\":26,\"refusal\":\"lone\"}",
+        )
         ∷ (leave (AA ∷ BB ∷ CC ∷ []) (clock 20 20 0), codes "{\"accepted\":18}")
         ∷ [])
-        (with_act (attended_by (script_of_one (codes "CA;IW")) (AA ∷ BB ∷ CC ∷ [])) (leave (AA ∷ BB ∷ CC ∷ []) (clock 20 20 0)) None) }
+        (with_act (attended_by (script_of_one (codes "CA;IW")) (AA ∷ BB ∷ CC ∷ []))
+        (leave (AA ∷ BB ∷ CC ∷ []) (clock 20 20 0)) None) }
 {}
 
 /// Whoever signs is in the room at the moment of the signature, whatever the sheet says of later ones.
@@ -248,7 +258,10 @@ pub fn ceremonies_of_one_day()
         ∷ Plan 62 East that_day (script_of_one (codes "IW"))
         ∷ Plan 63 West that_day (script_of_one (codes "IW")) ∷ [])) three_planned }
     ensures opened { AreAnswered three_planned
-        ((Plan 64 East that_day (script_of_one (codes "CO*1")), codes "{\"number\":19,\"refusal\":\"script\",\"row\":2}")
+        ((
+          Plan 64 East that_day (script_of_one (codes "CO*1")),
+          codes "{\"number\":19,\"refusal\":\"script\",\"row\":2}",
+        )
         ∷ (Open 61 1739404799, codes "{\"number\":14,\"refusal\":\"range\"}")
         ∷ (Open 61 (clock 20 0 0), codes "{\"accepted\":5}")
         ∷ (Open 62 (clock 20 0 0), codes "{\"number\":21,\"refusal\":\"busy\"}")
@@ -263,8 +276,14 @@ pub fn ceremonies_of_one_day()
 pub fn the_room()
     ensures at_the_opening { AreAnswered (opened_with (script_of_one (codes "CA;IW")))
         ((come (AA ∷ []) (clock 20 0 0), codes "{\"mark\":\"2025-02-13T20:00:00Z\",\"number\":22,\"refusal\":\"late\"}")
-        ∷ (come (AA ∷ []) (clock 20 5 0), codes "{\"moment\":\"2025-02-13T20:05:00Z\",\"number\":26,\"refusal\":\"lone\"}")
-        ∷ (come (AA ∷ codes "ZZ" ∷ []) (clock 20 5 0), codes "{\"number\":12,\"refusal\":\"unknown\",\"thing\":\"person ZZ\"}")
+        ∷ (
+          come (AA ∷ []) (clock 20 5 0),
+          codes "{\"moment\":\"2025-02-13T20:05:00Z\",\"number\":26,\"refusal\":\"lone\"}",
+        )
+        ∷ (
+          come (AA ∷ codes "ZZ" ∷ []) (clock 20 5 0),
+          codes "{\"number\":12,\"refusal\":\"unknown\",\"thing\":\"person ZZ\"}",
+        )
         ∷ [])
         (opened_with (script_of_one (codes "CA;IW"))) }
     ensures twice { AreAnswered (attended_by (script_of_one (codes "CA;IW")) (AA ∷ BB ∷ []))
@@ -278,7 +297,8 @@ pub fn signatures_and_exceptions()
         ((Sign 61 1 (clock 19 59 59), codes "{\"mark\":\"2025-02-13T20:00:00Z\",\"number\":22,\"refusal\":\"late\"}")
         ∷ (Except 61 (codes "Late start") false (clock 20 1 0), codes "{\"accepted\":17,\"exception\":1}")
         ∷ [])
-        (with_act (opened_with (script_of_one (codes "CA;IW"))) (Except 61 (codes "Late start") false (clock 20 1 0)) None) }
+        (with_act (opened_with (script_of_one (codes "CA;IW")))
+        (Except 61 (codes "Late start") false (clock 20 1 0)) None) }
 {}
 
 /// Of several seatings the first in the byte order of initials is recorded.
@@ -287,12 +307,14 @@ pub fn first_seatings()
         ((come (EE ∷ EB ∷ EA ∷ []) (clock 20 5 0), codes "{\"accepted\":17}")
         ∷ (Sign 61 1 (clock 20 10 0), codes "{\"accepted\":18,\"seating\":[\"EA\"],\"step\":1}")
         ∷ [])
-        (with_act (attended_by (script_of_one (codes "CO")) (EE ∷ EB ∷ EA ∷ [])) (Sign 61 1 (clock 20 10 0)) (Some (EA ∷ []))) }
+        (with_act (attended_by (script_of_one (codes "CO")) (EE ∷ EB ∷ EA ∷ [])) (Sign 61 1 (clock 20 10 0))
+        (Some (EA ∷ []))) }
     ensures two_seats { AreAnswered (opened_with (script_of_one (codes "CO;CO/1")))
         ((come (EA ∷ EB ∷ EE ∷ []) (clock 20 5 0), codes "{\"accepted\":17}")
         ∷ (Sign 61 1 (clock 20 10 0), codes "{\"accepted\":18,\"seating\":[\"EB\",\"EA\"],\"step\":1}")
         ∷ [])
-        (with_act (attended_by (script_of_one (codes "CO;CO/1")) (EA ∷ EB ∷ EE ∷ [])) (Sign 61 1 (clock 20 10 0)) (Some (EB ∷ EA ∷ []))) }
+        (with_act (attended_by (script_of_one (codes "CO;CO/1")) (EA ∷ EB ∷ EE ∷ [])) (Sign 61 1 (clock 20 10 0))
+        (Some (EB ∷ EA ∷ []))) }
 {}
 
 /// A shortage names no seat too many. Where two are least either may be named.
@@ -446,7 +468,12 @@ pub fn rows_of_the_examples()
       name = codes "Ann Abel";
     } ∷ [] }
     ensures keys { (tables (with_acts [] (Enter AA (codes "Ann Abel") ∷ []))).keys ≡
-        record { key = codes "k1"; accepted = 1; command = codes "/people\nAA\nAnn Abel"; reply = codes "{\"accepted\":1}" } ∷ [] }
+        record {
+          key = codes "k1";
+          accepted = 1;
+          command = codes "/people\nAA\nAnn Abel";
+          reply = codes "{\"accepted\":1}";
+        } ∷ [] }
     ensures withdrawals { (tables (withdrawn_from (february 14))).withdrawals ≡
         record { who = AA; role = Iw; since = february 1; until = december 31; day = february 14 } ∷ [] }
     ensures appointments { (tables another_officer).appointments ≡
@@ -457,14 +484,43 @@ pub fn rows_of_the_examples()
         record { serial = bag_8; spot = Spots.Table East } ∷ record { serial = bag_7; spot = Spots.Spent } ∷ [] }
     ensures items { (tables bag_on_table).items ≡ record { code = HSM4; rest = Rests.Within bag_8 } ∷ [] }
     ensures ceremonies { (tables closed_in_order).ceremonies ≡
-        record { number = 61; facility = East; day = that_day; state = States.Closed; opened = Some (clock 20 0 0); closed = Some (clock 20 15 0) } ∷ [] }
+        record {
+          number = 61;
+          facility = East;
+          day = that_day;
+          state = States.Closed;
+          opened = Some (clock 20 0 0);
+          closed = Some (clock 20 15 0);
+        } ∷ [] }
     ensures marks { (tables three_steps_done).marks ≡ record { ceremony = 61; at = clock 20 13 0 } ∷ [] }
     ensures steps { let seats : List Seat = Staff Ca ∷ Staff Iw ∷ [] in (tables three_steps_done).steps ≡
-        record { ceremony = 61; step = 3; activity = codes "Check bags"; seats = seats; state = StepStates.Signed; at = Some (clock 20 13 0) }
-        ∷ record { ceremony = 61; step = 2; activity = codes "Check bags"; seats = seats; state = StepStates.Passed; at = Some (clock 20 12 0) }
-        ∷ record { ceremony = 61; step = 1; activity = codes "Check bags"; seats = seats; state = StepStates.Signed; at = Some (clock 20 10 0) } ∷ [] }
+        record {
+          ceremony = 61;
+          step = 3;
+          activity = codes "Check bags";
+          seats = seats;
+          state = StepStates.Signed;
+          at = Some (clock 20 13 0);
+        }
+        ∷ record {
+          ceremony = 61;
+          step = 2;
+          activity = codes "Check bags";
+          seats = seats;
+          state = StepStates.Passed;
+          at = Some (clock 20 12 0);
+        }
+        ∷ record {
+          ceremony = 61;
+          step = 1;
+          activity = codes "Check bags";
+          seats = seats;
+          state = StepStates.Signed;
+          at = Some (clock 20 10 0);
+        } ∷ [] }
     ensures seatings { (tables signed_by_two).seatings ≡
-        record { ceremony = 61; step = 1; seat = 2; who = AA } ∷ record { ceremony = 61; step = 1; seat = 1; who = BB } ∷ [] }
+        record { ceremony = 61; step = 1; seat = 2; who = AA } ∷ record { ceremony = 61; step = 1; seat = 1; who = BB }
+        ∷ [] }
     ensures exceptions { (tables three_steps_done).exceptions ≡
         record { ceremony = 61; exception = 1; text = codes "Read twice"; at = clock 20 12 0; passed = Some 2 } ∷ [] }
 {}

@@ -1,5 +1,5 @@
 -- What the rows of a view say of bags, items, safes and boxes is what the history says.
-use Rattle.std.proofs.Common.{◌≡◌, ℕ, Bool, true, false, cond, ◌||◌, ◌&&◌, eqb, List, [], ◌∷◌, Option, Some, None, option_map, is_some, is_none, refl, sym, ap}
+use Rattle.std.proofs.Common.{◌≡◌, ℕ, Bool, true, false, cond, ◌||◌, ◌&&◌, eqb, List, [], ◌∷◌, Option, Some, None, option_map, is_some, refl, sym, ap}
 use Rattle.std.proofs.Common.{◌∙◌, ◌==◌, arith}
 use Rattle.std.specs.Prelude.{unwrap_or}
 use Rattle.std.specs.List.{list_any, cons_option, AllByRecursion}
@@ -11,8 +11,7 @@ use Rattle.kcr_base.specs.Rows.{or_else}
 use Rattle.kcr_base.specs.Same.{same_text, same_facility}
 use Rattle.kcr_base.specs.declared.place.Facility.{Facility}
 use Rattle.kcr_base.specs.declared.place.Facility.TheVariants.{East, West}
-use Rattle.kcr_base.specs.declared.refusal.Refusal.TheVariants.{Unknown, Taken}
-use Rattle.kcr_base.specs.declared.refusal.Thing.TheVariants as Things
+use Rattle.kcr_base.specs.declared.refusal.Refusal.TheVariants.{Taken}
 use Rattle.kcr_custody.specs.declared.Bag.{Bag}
 use Rattle.kcr_custody.specs.declared.BoxRow.{BoxRow}
 use Rattle.kcr_custody.specs.declared.Item.{Item}
@@ -31,17 +30,15 @@ use Rattle.kcr_history.specs.Ceremonies.{facility_of}
 use Rattle.kcr_history.specs.Custody.{spot, sealed_in, added_at, rest_in, rest, is_safe_open, boxed, place_of_box}
 use Rattle.kcr_history.specs.Tables.{bags, bag_row, sealed_serial, items, item_row, added_item, safes, boxes, box_row}
 use Rattle.kcr_history.specs.Views.{is_of_serial, is_item_of}
-use Rattle.kcr_history.specs.Conditions.{conditions, fault, no_item, first_with}
+use Rattle.kcr_history.specs.Conditions.{conditions, fault}
 use Rattle.kcr_history.specs.Machine.{IsRegister}
 use Rattle.kcr_history.proofs.Steps.{took}
-use Rattle.kcr_laws.proofs.Stored.{sealed_somewhere, box-there}
+use Rattle.kcr_laws.proofs.Stored.{sealed_somewhere, box-there, items_known}
 use Rattle.kcr_base.proofs.RowsLemmas.{filter-order}
 use Rattle.kcr_base.proofs.SameLemmas.{same-is}
-use Rattle.kcr_base.proofs.ListLemmas.{there}
 use Rattle.kcr_base.specs.declared.place.Place.TheVariants.{Rksh}
-use Rattle.kcr_machine.proofs.FirstRefusals.{none-first}
 use Rattle.kcr_machine.proofs.Keyed.{Shown, said-shown, said-view}
-use Rattle.kcr_base.proofs.Members.{IsIn, in-any, listed-in}
+use Rattle.kcr_base.proofs.Members.{IsIn, in-any}
 use Rattle.kcr_machine.proofs.Scenes.{said-then, some-where}
 
 -- where the bag is, by the rows of its serial
@@ -69,10 +66,6 @@ added_somewhere : (A : History) (k : List ℕ) → is_added A k ≡ is_some (add
 added_somewhere [] k = refl
 added_somewhere (entry ∷ A) k = added_after A entry.command.act k (added_somewhere A k)
 
--- each of the items that a command may list is somewhere
-pub items_known : (A : History) (k : List ℕ) (codes : List (List ℕ)) → first_with (no_item A) codes ≡ None → IsIn k codes → is_some (rest A k) ≡ true
-items_known A k codes n i = there (rest A k) (unmet (is_none (rest A k)) (Unknown (Things.Item k)) (none-first (no_item A) codes n k i))
-
 some_rest : (S : Option (List ℕ)) (D : Option Facility) (inside : List ℕ → Rest)
     → is_some (or_else (option_map inside S) (option_map Loose D)) ≡ (is_some S || is_some D)
 some_rest S D inside = grind arith
@@ -90,8 +83,7 @@ sealed_added (entry ∷ A) h k s =
     by_act : (act : Act) → fault A act ≡ None → (is_some (last_bag A k) ≡ true → is_some (added A k) ≡ true) → is_some (sealed_in k act) ≡ true
         → is_some (added A k) ≡ true
     by_act (Seal c serial codes at) f ih e =
-        let r = items_known A k codes (none_holds (conditions A (Seal c serial codes at)) f).1.0
-        (listed-in k codes (some-where (list_any (same_text k) codes) serial e)) in
+        let r = items_known A k codes (none_holds (conditions A (Seal c serial codes at)) f).1.0 (some-where (list_any (same_text k) codes) serial e) in
         grind (arith, some_rest (last_bag A k) (added A k) (rest_in A))
     by_act act f ih e = absurd (false≢true e)
 

@@ -34,8 +34,8 @@ use Rattle.kcr_history.specs.Machine.{IsRegister, with_command}
 use Rattle.kcr_history.proofs.Steps.{took}
 use Rattle.kcr_history.proofs.Piled.{map-stacked}
 use Rattle.kcr_history.proofs.Words.{planned-number}
-use Rattle.kcr_scene.specs.Scene.{ceremony_by}
-use Rattle.kcr_acts.specs.CeremonyRows.{is_open_beside, is_undone, is_undone_of, lies_on_table, planned_row, undone_row, undone_rows}
+use Rattle.kcr_rules.specs.Scene.{ceremony_by}
+use Rattle.kcr_rules.specs.CeremonyRows.{is_open_beside, is_undone, is_undone_of, lies_on_table, planned_row, undone_row, undone_rows}
 use Rattle.kcr_machine.specs.RowDecision.{new_key_row}
 use Rattle.kcr_base.specs.declared.place.Facility.{Facility}
 use Rattle.kcr_custody.specs.declared.Bag.{Bag}
@@ -48,7 +48,7 @@ use Rattle.kcr_history.specs.declared.rows.StepRow.{StepRow}
 use Rattle.kcr_history.specs.declared.rows.StepState.{StepState}
 use Rattle.kcr_history.specs.declared.rows.StepState.TheVariants.{Signed, Passed}
 use Rattle.kcr_history.specs.Custody.{spot}
-use Rattle.kcr_scene.specs.Signing.{is_done}
+use Rattle.kcr_rules.specs.Signing.{is_done}
 use Rattle.std.specs.Result.{result_unwrap_or}
 use Rattle.kcr_script.specs.Reading.{script_of}
 use Rattle.kcr_history.specs.declared.views.Change.{Change}

@@ -21,7 +21,7 @@ use Rattle.kcr_custody.specs.declared.Spot.{Spot}
 use Rattle.kcr_custody.specs.declared.Spot.TheVariants.{Table, Spent}
 use Rattle.kcr_custody.specs.declared.Store.{Store}
 use Rattle.kcr_custody.specs.Balance.{same_bag, same_item, same_box}
-use Rattle.kcr_custody.specs.Custody.{is_on_table, safe_of, is_within, lies_in, within, loosened, packed, spot_of_store, same_safe}
+use Rattle.kcr_custody.specs.Custody.{is_on_table, safe_of, is_within, lies_in, within, loosened, packed, spot_of_store, same_safe, no_bag}
 use Rattle.kcr_history.specs.declared.commands.Act.{Act}
 use Rattle.kcr_history.specs.declared.commands.Act.TheVariants.{Seal, Take, Put, Cut, AddItem, TurnSafe, AddBox}
 use Rattle.kcr_history.specs.declared.commands.Answer.{Answer}
@@ -29,9 +29,9 @@ use Rattle.kcr_history.specs.History.{History, all_said, last_said, last_told, s
 use Rattle.kcr_history.specs.Ceremonies.{facility_of}
 use Rattle.kcr_history.specs.Custody.{moved, spot, is_spent, sealed_in, cut_at, added_at, rest_in, rest, turned, place_of_box, boxes_place}
 use Rattle.kcr_history.specs.Tables.{bags, bag_row, sealed_serial, items, item_row, added_item, Tables, tables, safes, boxes}
-use Rattle.kcr_history.specs.Conditions.{conditions, fault, no_bag}
+use Rattle.kcr_history.specs.Conditions.{conditions, fault}
 use Rattle.kcr_history.specs.Machine.{IsRegister, with_command}
-use Rattle.kcr_laws.proofs.Stored.{sealed_somewhere, box-there}
+use Rattle.kcr_laws.proofs.Stored.{sealed_somewhere, box-there, items_known}
 use Rattle.kcr_custody.specs.declared.Bag.{Bag}
 use Rattle.kcr_history.specs.declared.views.Change.{Change}
 use Rattle.kcr_history.specs.declared.views.Change.TheVariants.{PutBag, PutItem, PutMark, PutKey}
@@ -44,7 +44,7 @@ use Rattle.kcr_base.specs.declared.place.Place.{Place}
 use Rattle.kcr_custody.specs.declared.BoxRow.{BoxRow}
 use Rattle.kcr_room.proofs.Lists.{map-same, map-map}
 use Rattle.kcr_base.specs.declared.refusal.Thing.TheVariants as Things
-use Rattle.kcr_machine.proofs.BagsWords.{added_rest, items_known}
+use Rattle.kcr_machine.proofs.BagsWords.{added_rest}
 use Rattle.kcr_machine.proofs.Keyed.{Shown, put-at, put-first, put-new, put-rows}
 use Rattle.kcr_machine.proofs.Leads.{LeadsOn, changed_by-rows, command_of, entry_as, new_key}
 use Rattle.kcr_base.proofs.Members.{IsIn, filter-in, in-any, in-filter, in-map, in-order, map-in, map-same-in, same-answers, listed-in, in-listed}
@@ -143,7 +143,7 @@ add_item-leads A h c item at key view answer v k f =
 abbrev moved_row : History → List ℕ → Spot → List ℕ → Bag
 moved_row A t to k = record { serial = k; spot = unwrap_or (or_else (cond (same_text t k) (Some to) None) (spot A k)) Spent }
 
-bags_moved : (A : History) → IsRegister A → (t : List ℕ) (to : Spot) → no_bag A t ≡ None
+bags_moved : (A : History) → IsRegister A → (t : List ℕ) (to : Spot) → no_bag (spot A t) t ≡ None
     → put same_bag (record { serial = t; spot = to }) (bags A) ≡ map (moved_row A t to) (all_said sealed_serial A)
 bags_moved A h t to n =
     put-at same_bag (bag_row A) (moved_row A t to) (record { serial = t; spot = to })
@@ -212,7 +212,7 @@ items-seal : (A : History) → IsRegister A → (key : List ℕ) (c : ℕ) (seri
 items-seal A h key c serial codes at answer n =
     let met = none_holds (conditions A (Seal c serial codes at)) n in
     put-rows same_item (λ c k. same_text k c) (within serial) (λ c k. refl) (all_said added_item A) codes
-    (λ code i. added_rest A h code ∙ items_known A code codes met.1.0 i)
+    (λ code i. added_rest A h code ∙ items_known A code codes met.1.0 (in-listed code codes i))
     (λ c k i j e. ap (within serial) (sym (same-is k c e))) (item_row A) (λ c k. refl)
     ∙ map-same (λ k. cond (list_any (same_text k) codes) (within serial k) (item_row A k)) (item_row (then_act A key (Seal c serial codes at) answer))
     (all_said added_item A)

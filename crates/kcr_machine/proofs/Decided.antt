@@ -25,9 +25,9 @@ use Rattle.kcr_history.specs.Machine.{IsRepeat, IsDecision}
 use Rattle.kcr_history.proofs.Steps.{greatest-keys}
 use Rattle.kcr_history.proofs.Words.{row_of_key-keys}
 use Rattle.std.proofs.lemmas.Option.{same_Some, none-some}
-use Rattle.kcr_acts.specs.ByRows.{refusal_by, is_overdone, sitting_by, IsSeatedFor, IsUnseatedFor, all_changes_by}
+use Rattle.kcr_rules.specs.ByRows.{refusal_by, is_overdone, sitting_by, IsSeatedFor, IsUnseatedFor, all_changes_by}
 use Rattle.kcr_machine.specs.RowDecision.{is_full_by, answer_by, AcceptsNew, RepeatsRow, IsRowDecision, IsRowRepeat}
-use Rattle.kcr_scene.specs.Signing.{IsSeatedBy, IsUnseatedBy}
+use Rattle.kcr_rules.specs.Signing.{IsSeatedBy, IsUnseatedBy}
 use Rattle.kcr_base.proofs.RefuseLemmas.{none_holds}
 use Rattle.kcr_machine.proofs.Ceremonies.{close-fault, close-leads, open-fault, open-leads, plan-fault, plan-leads}
 use Rattle.kcr_machine.proofs.CustodyFaults.{add_box-fault, add_item-fault, cut-fault, put-fault, seal-fault, take-fault, turn-fault}
@@ -44,9 +44,9 @@ use Rattle.kcr_machine.proofs.StepRows.{done-shown, not_overdone, sign-there, st
 fault-shown : (A : History) → IsRegister A → (act : Act) (view : View) → IsViewOf (asks_by act) (tables A) view
     → refusal_by view (is_full A) act ≡ fault A act
 fault-shown A h (Enter who name) view v = enter-fault A who name view v
-fault-shown A h (Train who role since until) view v = train-fault A who role since until view v
+fault-shown A h (Train who role since until) view v = train-fault A h who role since until view v
 fault-shown A h (Withdraw who role day) view v = withdraw-fault A who role day view v
-fault-shown A h (Appoint place who day) view v = appoint-fault A place who day view v
+fault-shown A h (Appoint place who day) view v = appoint-fault A h place who day view v
 fault-shown A h (Replace place who day) view v = replace-fault A h place who day view v
 fault-shown A h (Release place day) view v = release-fault A h place day view v
 fault-shown A h (AddBox facility number place) view v = add_box-fault A facility number place view v

@@ -1,5 +1,5 @@
 -- Who is in a room, who is trained and who holds a place: by the rows that a view shows, as by the history.
-use Rattle.std.proofs.Common.{◌≡◌, ℕ, true, List, map, filter, reverse, option_map, refl, sym, ap, ◌∙◌, arith}
+use Rattle.std.proofs.Common.{◌≡◌, ℕ, true, List, map, filter, reverse, option_map, sym, ap, ◌∙◌, arith}
 use Rattle.std.specs.List.{list_any}
 use Rattle.std.specs.List.Sorted.{IsPermutation}
 use Rattle.std.proofs.lemmas.List.Sorted.{IsPermutation-reverse}
@@ -7,8 +7,7 @@ use Rattle.kcr_base.specs.Days.{day_of}
 use Rattle.kcr_base.specs.Same.{same_text}
 use Rattle.kcr_base.specs.declared.place.Place.{Place}
 use Rattle.kcr_base.specs.declared.place.Role.{Role}
-use Rattle.kcr_base.proofs.RowsLemmas.{filter-order}
-use Rattle.kcr_base.proofs.ListLemmas.{any-same}
+use Rattle.kcr_base.proofs.ListLemmas.{any-same, find-order}
 use Rattle.kcr_people.specs.declared.Appointment.{Appointment}
 use Rattle.kcr_people.specs.declared.Training.{Training}
 use Rattle.kcr_people.specs.declared.Withdrawal.{Withdrawal}
@@ -33,9 +32,9 @@ use Rattle.kcr_history.specs.Conditions.{has_holder_in}
 use Rattle.kcr_history.specs.Machine.{IsRegister}
 use Rattle.kcr_history.proofs.Orderly.{orderly, holder-appointments}
 use Rattle.kcr_history.proofs.Trained.{trained-rows}
-use Rattle.kcr_scene.specs.Scene.{is_in_by, is_attended_by, has_holder_in_by}
+use Rattle.kcr_rules.specs.Scene.{is_in_by, is_attended_by, has_holder_in_by}
 use Rattle.kcr_laws.proofs.Finds.{only-holder}
-use Rattle.kcr_machine.proofs.Keyed.{Shown, find-shown}
+use Rattle.kcr_machine.proofs.Keyed.{Shown}
 use Rattle.kcr_machine.proofs.People.{trained-shown}
 
 -- THE ROOM
@@ -86,9 +85,7 @@ attended-shown A h view c s p q role t =
 pub holder-shown : (A : History) → IsRegister A → (rows : List Appointment) → IsPermutation (appointments A) rows → (place : Place) (day : ℕ)
     → holder_by rows place day ≡ holder A place day
 holder-shown A h rows p place day =
-    ap (option_map (λ row. row.who))
-    (find-shown (holds place day) (λ row. true) (λ row e. refl) (appointments A) rows (filter-order (λ row. true) (appointments A) rows p)
-    (λ r e. only-holder place day r (appointments A) (orderly A h).0 e))
+    ap (option_map (λ row. row.who)) (find-order (holds place day) (appointments A) rows p (λ r e. only-holder place day r (appointments A) (orderly A h).0 e))
     ∙ holder-appointments A h place day
 
 -- whether the place has a holder, who is in the room

@@ -23,7 +23,7 @@ use Rattle.kcr_history.specs.Views.{is_of_key, IsViewOf}
 use Rattle.kcr_history.specs.Asked.{asks_by}
 use Rattle.kcr_history.specs.Conditions.{fault, is_full}
 use Rattle.kcr_history.proofs.Words.{row_of_key-keys}
-use Rattle.kcr_acts.specs.ByRows.{changes_by, refusal_by, all_changes_by}
+use Rattle.kcr_rules.specs.ByRows.{changes_by, refusal_by, all_changes_by}
 use Rattle.kcr_machine.specs.RowDecision.{new_key_row}
 use Rattle.kcr_machine.proofs.Keyed.{put-new}
 

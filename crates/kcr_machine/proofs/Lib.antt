@@ -1,7 +1,7 @@
-pub mod FirstRefusals
 pub mod Keyed
 pub mod Leads
 pub mod Scenes
+pub mod LastAppointments
 pub mod People
 pub mod InRoom
 pub mod StepRows

@@ -3,22 +3,20 @@ use Rattle.std.proofs.Common.{◌≡◌, ℕ, true, false, ◌||◌, ◌&&◌, n
 use Rattle.std.specs.List.{list_any}
 use Rattle.std.specs.List.Sorted.{IsPermutation}
 use Rattle.std.proofs.lemmas.Bool.{leb-true, le-leb, or_left, or_parts}
-use Rattle.std.proofs.lemmas.List.Sorted.{IsPermutation-map, list_any-IsPermutation, IsPermutation-refl, IsPermutation-sym}
-use Rattle.kcr_base.specs.Same.{same_text, same_place}
+use Rattle.std.proofs.lemmas.List.Sorted.{IsPermutation-map, IsPermutation-refl, IsPermutation-sym}
+use Rattle.kcr_base.specs.Same.{same_text}
 use Rattle.kcr_base.specs.declared.place.Role.{Role}
 use Rattle.kcr_people.specs.declared.Training.{Training}
 use Rattle.kcr_people.specs.declared.Withdrawal.{Withdrawal}
 use Rattle.kcr_people.specs.People.{is_of, is_withdrawn_by, covers, trains, trained_by, trained_from_by, ends_from, least_day, withdrawal_of, withdrawn_rows}
-use Rattle.kcr_people.specs.People.{is_person_by, ever_trained_by, ever_put_by, same_training, lasts_beyond, open_row_by, stands, end_of, nobody}
+use Rattle.kcr_people.specs.People.{is_person_by, ever_trained_by, same_training, open_row_by, end_of, nobody}
 use Rattle.kcr_people.specs.People.{place_held_from_by, person_holds_from_by}
 use Rattle.kcr_people.proofs.Withdrawn.{is_of-true, least-day}
-use Rattle.kcr_history.specs.Views.{is_training_of, is_withdrawal_of, is_of_people, is_appointment_of, IsViewOf}
+use Rattle.kcr_history.specs.Views.{is_training_of, is_withdrawal_of, is_of_people, IsViewOf}
 use Rattle.std.specs.Cmp.Lexicographic.{bytes_decides}
 use Rattle.kcr_base.specs.declared.place.Place.{Place}
-use Rattle.kcr_people.specs.declared.Appointment.{Appointment}
 use Rattle.kcr_people.specs.declared.Person.{Person}
 use Rattle.kcr_history.specs.declared.commands.Act.TheVariants.{Enter, Train, Withdraw, Appoint, Replace, Release}
-use Rattle.kcr_history.specs.declared.views.AppointmentsOf.TheVariants as Appointments
 use Rattle.kcr_history.specs.declared.views.View.{View}
 use Rattle.kcr_history.specs.History.{History, some_command, entry_of}
 use Rattle.kcr_history.specs.Training.{is_person, ever_trained, is_training}
@@ -27,10 +25,10 @@ use Rattle.kcr_history.specs.Asked.{asks_by}
 use Rattle.kcr_history.specs.Conditions.{conditions}
 use Rattle.kcr_history.specs.Machine.{IsRegister, with_command}
 use Rattle.kcr_history.proofs.Words.{is_person-people, ever_trained-trainings, is_training-trainings, ever_put-appointments}
-use Rattle.kcr_history.proofs.Stacked.{open-order, only-one, closing, lasts-ended, no_begin, put-ended}
+use Rattle.kcr_history.proofs.Stacked.{closing, lasts-ended, no_begin, put-ended}
 use Rattle.kcr_history.proofs.Orderly.{orderly, standing}
 use Rattle.kcr_history.proofs.Settled.{settled-rows}
-use Rattle.kcr_acts.specs.ByRows.{changes_by, new_appointment}
+use Rattle.kcr_rules.specs.ByRows.{changes_by, new_appointment}
 use Rattle.kcr_base.specs.Rows.{put, put_all}
 use Rattle.kcr_base.specs.declared.refusal.Refusal.TheVariants.{Taken, Held, Range, Vacant}
 use Rattle.kcr_base.proofs.RefuseLemmas.{none_holds, unmet}
@@ -44,7 +42,8 @@ use Rattle.kcr_history.specs.declared.views.Change.TheVariants.{PutWithdrawal, P
 use Rattle.kcr_history.specs.Changes.{same_person, same_appointment}
 use Rattle.kcr_history.proofs.Distinct.{trainings-apart}
 use Rattle.kcr_machine.specs.RowDecision.{new_key_row}
-use Rattle.kcr_machine.proofs.Keyed.{Shown, any-shown, filter-shown, find-shown, put-new}
+use Rattle.kcr_machine.proofs.LastAppointments.{open-last, person-last, place-last, put-last}
+use Rattle.kcr_machine.proofs.Keyed.{Shown, any-shown, filter-shown, put-new}
 use Rattle.kcr_machine.proofs.Leads.{FaultShown, LeadsOn, changed_by-rows, changed_with, command_of, new_key, other-order}
 use Rattle.kcr_base.proofs.Members.{in-filter, map-same-in}
 
@@ -141,30 +140,18 @@ training-shown : (A : History) (new : Training) (rows : List Training) → Shown
     → list_any (same_training new) rows ≡ list_any (same_training new) (trainings A)
 training-shown A new rows p = any-shown (same_training new) (is_training_of new.who) (same-who new) (trainings A) rows p
 
-put-shown : (A : History) (who : List ℕ) (rows : List Appointment) → Shown (is_appointment_of (Appointments.Person who)) (appointments A) rows
-    → ever_put_by rows who ≡ ever_put_by (appointments A) who
-put-shown A who rows p = any-shown (λ row. same_text row.who who) (is_appointment_of (Appointments.Person who)) (λ row h. h) (appointments A) rows p
-
--- the open appointment of a place, among those of the place
-pub open_row-shown : (A : History) → IsRegister A → (place : Place) (rows : List Appointment)
-    → Shown (is_appointment_of (Appointments.Place place)) (appointments A) rows
-    → open_row_by rows place ≡ open_row_by (appointments A) place
-open_row-shown A h place rows p =
-    find-shown (stands place) (is_appointment_of (Appointments.Place place)) (λ row e. grind arith) (appointments A) rows p
-    (λ r e. only-one place r (appointments A) (orderly A h).0 e)
-
 -- THE FIRST REFUSAL OF AN ACT
 
 pub enter-fault : (A : History) (who name : List ℕ) → FaultShown A (Enter who name)
 enter-fault A who name view v = rw (person-shown A who view.people.items v.people)
 
-pub train-fault : (A : History) (who : List ℕ) (role : Role) (since until : ℕ) → FaultShown A (Train who role since until)
-train-fault A who role since until view v =
+pub train-fault : (A : History) → IsRegister A → (who : List ℕ) (role : Role) (since until : ℕ) → FaultShown A (Train who role since until)
+train-fault A h who role since until view v =
     let new : Training = record { who = who; role = role; since = since; until = until } in
     rw (
       person-shown A who view.people.items v.people,
       training-shown A new view.trainings.items v.trainings ∙ is_training-trainings A new,
-      put-shown A who view.appointments.items v.appointments ∙ ever_put-appointments A who,
+      put-last A h who view.appointments.items v.appointments.0 v.appointments.1 ∙ ever_put-appointments A who,
     )
 
 pub withdraw-fault : (A : History) (who : List ℕ) (role : Role) (day : ℕ) → FaultShown A (Withdraw who role day)
@@ -175,13 +162,13 @@ withdraw-fault A who role day view v =
       settled-rows A view.marks.items v.marks,
     )
 
-pub appoint-fault : (A : History) (place : Place) (who : List ℕ) (day : ℕ) → FaultShown A (Appoint place who day)
-appoint-fault A place who day view v =
+pub appoint-fault : (A : History) → IsRegister A → (place : Place) (who : List ℕ) (day : ℕ) → FaultShown A (Appoint place who day)
+appoint-fault A h place who day view v =
     rw (
       person-shown A who view.people.items v.people,
       ever_trained-shown A who view.trainings.items v.trainings,
-      ← list_any-IsPermutation (λ row. same_place row.place place && lasts_beyond day row) (appointments A) view.appointments.items v.appointments,
-      ← list_any-IsPermutation (λ row. same_text row.who who && lasts_beyond day row) (appointments A) view.appointments.items v.appointments,
+      place-last A h place view.appointments.items v.appointments.0 v.appointments.1.0 day,
+      person-last A h who view.appointments.items v.appointments.0 v.appointments.1.1 day,
       settled-rows A view.marks.items v.marks,
     )
 
@@ -190,13 +177,14 @@ replace-fault A h place who day view v =
     rw (
       person-shown A who view.people.items v.people,
       ever_trained-shown A who view.trainings.items v.trainings,
-      open-order place (appointments A) view.appointments.items (orderly A h).0 v.appointments,
-      ← list_any-IsPermutation (λ row. same_text row.who who && lasts_beyond day row) (appointments A) view.appointments.items v.appointments,
+      open-last A h place view.appointments.items v.appointments.0 v.appointments.1.0,
+      person-last A h who view.appointments.items v.appointments.0 v.appointments.1.1 day,
       settled-rows A view.marks.items v.marks,
     )
 
 pub release-fault : (A : History) → IsRegister A → (place : Place) (day : ℕ) → FaultShown A (Release place day)
-release-fault A h place day view v = rw (open_row-shown A h place view.appointments.items v.appointments, settled-rows A view.marks.items v.marks)
+release-fault A h place day view v =
+    rw (open-last A h place view.appointments.items v.appointments.0 v.appointments.1, settled-rows A view.marks.items v.marks)
 
 -- WHERE ITS CHANGES LEAD
 
@@ -250,7 +238,7 @@ appoint-leads A h place who day key view answer v k f =
 
 pub replace-leads : (A : History) → IsRegister A → (place : Place) (who : List ℕ) (day : ℕ) → LeadsOn A (Replace place who day)
 replace-leads A h place who day key view answer v k f =
-    let shown = open-order place (appointments A) view.appointments.items (orderly A h).0 v.appointments in
+    let shown = open-last A h place view.appointments.items v.appointments.0 v.appointments.1.0 in
     let n = none_holds (conditions A (Replace place who day)) f in
     let st = standing (open_row_by (appointments A) place) day (unmet _ Range (assumption n)) (unmet _ Vacant (assumption n)) in
     let o = orderly A h in
@@ -267,7 +255,7 @@ replace-leads A h place who day key view answer v k f =
 
 pub release-leads : (A : History) → IsRegister A → (place : Place) (day : ℕ) → LeadsOn A (Release place day)
 release-leads A h place day key view answer v k f =
-    let shown = open_row-shown A h place view.appointments.items v.appointments in
+    let shown = open-last A h place view.appointments.items v.appointments.0 v.appointments.1 in
     let n = none_holds (conditions A (Release place day)) f in
     let st = standing (open_row_by (appointments A) place) day (unmet _ Range n.0) (unmet _ Vacant n.1.0) in
     let o = orderly A h in

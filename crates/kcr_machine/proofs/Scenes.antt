@@ -1,34 +1,32 @@
 -- What the rows of a view say of a ceremony is what the history says of it.
-use Rattle.std.proofs.Common.{◌≡◌, ℕ, Bool, true, false, cond, eqb, List, [], ◌∷◌, ◌++◌, map, filter, Option, Some, None, is_none, refl, sym, ap, ◌∙◌, subst}
+use Rattle.std.proofs.Common.{◌≡◌, ℕ, Bool, true, false, cond, eqb, List, [], ◌∷◌, map, filter, Option, Some, None, is_none, refl, sym, ap, ◌∙◌, subst}
 use Rattle.std.proofs.Common.{arith}
 use Rattle.std.specs.Prelude.{is_some}
 use Rattle.std.specs.List.{list_any, cons_option}
 use Rattle.std.proofs.lemmas.Bool.{true≢false, false≢true, eqb-true, eq-eqb, and_left, false_from_ne_true}
 use Rattle.kcr_base.specs.Rows.{put, or_else}
-use Rattle.kcr_base.specs.Refuse.{first_of}
-use Rattle.kcr_base.specs.declared.refusal.Refusal.{Refusal}
+use Rattle.kcr_base.specs.Refuse.{is_late}
 use Rattle.kcr_base.specs.declared.refusal.Refusal.TheVariants.{Unknown, State}
 use Rattle.kcr_base.specs.declared.refusal.Thing.TheVariants as Things
-use Rattle.kcr_base.proofs.RefuseLemmas.{none_holds, met, behind}
+use Rattle.kcr_base.proofs.RefuseLemmas.{none_holds, met}
 use Rattle.kcr_base.proofs.ListLemmas.{some_if}
-use Rattle.kcr_custody.specs.declared.Scene.{Scene}
 use Rattle.kcr_custody.specs.Custody.{not_ready}
 use Rattle.kcr_history.specs.declared.commands.Act.{Act}
-use Rattle.kcr_history.specs.declared.commands.Act.TheVariants.{AddItem, Plan, Open, Sign, Except, TurnSafe, Seal, Take, Put, Cut}
+use Rattle.kcr_history.specs.declared.commands.Act.TheVariants.{AddItem, Open, Sign, Except, TurnSafe, Seal, Take, Put, Cut}
 use Rattle.kcr_history.specs.declared.commands.Entry.{Entry}
 use Rattle.kcr_history.specs.declared.rows.CeremonyRow.{CeremonyRow}
 use Rattle.kcr_history.specs.declared.rows.MarkRow.{MarkRow}
 use Rattle.kcr_history.specs.declared.views.View.{View}
 use Rattle.kcr_history.specs.History.{History, all_said, greatest, max_with}
-use Rattle.kcr_history.specs.Ceremonies.{Planned, planned_as, plan_of, is_ceremony, facility_of, opening, opened, closed, is_open, marked, mark, opened_number}
+use Rattle.kcr_history.specs.Ceremonies.{planned_as, plan_of, is_ceremony, facility_of, opening, opened, closed, is_open, marked, mark, opened_number}
 use Rattle.kcr_history.specs.Tables.{planned_number, ceremony_row, ceremonies, mark_row, marks}
 use Rattle.kcr_history.specs.Changes.{same_mark}
 use Rattle.kcr_history.specs.Views.{is_of_number, is_mark_of}
-use Rattle.kcr_history.specs.Conditions.{conditions, fault, is_full, full, not_open, is_late, late}
+use Rattle.kcr_history.specs.Conditions.{conditions, fault, is_full, late, scene_at}
 use Rattle.kcr_history.specs.Machine.{IsRegister}
-use Rattle.kcr_history.proofs.Steps.{took}
+use Rattle.kcr_history.proofs.Steps.{took, none_ready}
 use Rattle.kcr_history.proofs.Words.{planned-number}
-use Rattle.kcr_scene.specs.Scene.{ceremony_by, facility_by, is_open_row, mark_by, scene_by}
+use Rattle.kcr_rules.specs.Scene.{ceremony_by, facility_by, is_open_row, mark_by, scene_by}
 use Rattle.kcr_machine.proofs.Keyed.{Shown, find-view, put-at, said-view}
 
 pub turned : (a b : ℕ) → eqb b a ≡ false → eqb a b ≡ false
@@ -110,16 +108,19 @@ abbrev pub IsReady : History → Option (ℕ × ℕ) → Option ℕ → Type 0
 IsReady A (Some new) None = (is_open A new.0 ≡ true) × (late A new.0 new.1 ≡ None)
 IsReady A m o = Unit {0}
 
+-- so is an act of custody that found its ceremony ready
+in_time : (A : History) (c at : ℕ) → not_ready (scene_at A c at) ≡ None → IsReady A (Some (c, at)) None
+in_time A c at h = let n = none_ready A c at h in (met (is_open A c) State n.0, n.1.0)
+
 pub ready : (A : History) (act : Act) → fault A act ≡ None → IsReady A (marked act) (opened_number act)
 ready A (Sign c k at) f = let n = none_holds (conditions A (Sign c k at)) f in (met (is_open A c) State (assumption n), assumption n)
 ready A (Except c text pass at) f = let n = none_holds (conditions A (Except c text pass at)) f in (met (is_open A c) State (assumption n), assumption n)
-ready A (AddItem c item at) f = let n = none_holds (conditions A (AddItem c item at)) f in (met (is_open A c) State (assumption n), assumption n)
-ready A (TurnSafe c safe state by at) f =
-    let n = none_holds (conditions A (TurnSafe c safe state by at)) f in (met (is_open A c) State (assumption n), assumption n)
-ready A (Seal c serial items at) f = let n = none_holds (conditions A (Seal c serial items at)) f in (met (is_open A c) State (assumption n), assumption n)
-ready A (Take c serial at) f = let n = none_holds (conditions A (Take c serial at)) f in (met (is_open A c) State (assumption n), assumption n)
-ready A (Put c serial to at) f = let n = none_holds (conditions A (Put c serial to at)) f in (met (is_open A c) State (assumption n), assumption n)
-ready A (Cut c serial at) f = let n = none_holds (conditions A (Cut c serial at)) f in (met (is_open A c) State (assumption n), assumption n)
+ready A (AddItem c item at) f = in_time A c at (none_holds (conditions A (AddItem c item at)) f).1.1.0
+ready A (TurnSafe c safe state by at) f = in_time A c at (none_holds (conditions A (TurnSafe c safe state by at)) f).1.1.0
+ready A (Seal c serial items at) f = in_time A c at (none_holds (conditions A (Seal c serial items at)) f).1.1.1.0
+ready A (Take c serial at) f = in_time A c at (none_holds (conditions A (Take c serial at)) f).1.1.0
+ready A (Put c serial to at) f = in_time A c at (none_holds (conditions A (Put c serial to at)) f).1.1.1.0
+ready A (Cut c serial at) f = in_time A c at (none_holds (conditions A (Cut c serial at)) f).1.1.0
 ready A act f = tt
 
 pub open-opened : (A : History) (c : ℕ) → is_open A c ≡ true → is_some (opened A c) ≡ true
@@ -186,28 +187,10 @@ marks-put A entry c at f m o =
 
 -- THE SCENE
 
--- the scene of a ceremony by the history
-abbrev pub scene_of : History → ℕ → ℕ → Bool → Scene
-scene_of A c at has_ca =
-    record {
-      ceremony = c;
-      is_known = is_ceremony A c;
-      facility = facility_of A c;
-      is_open = is_open A c;
-      mark = mark A c;
-      at = at;
-      is_full = is_full A;
-      has_ca = has_ca;
-    }
-
+-- the scene by the history, but for whether a CA is there
 pub scene-shown : (A : History) → IsRegister A → (c at : ℕ) (has_ca : Bool) (view : View) → Shown (is_of_number c) (ceremonies A) view.ceremonies.items
     → Shown (is_mark_of c) (marks A) view.marks.items
-    → scene_by view c at (is_full A) has_ca ≡ scene_of A c at has_ca
+    → scene_by view c at (is_full A) has_ca ≡ record (scene_at A c at) { has_ca = has_ca }
 scene-shown A h c at has_ca view p q =
     let rows = view.ceremonies.items in
     rw (known-shown A c rows p, facility-shown A c rows p, is_open-shown A c rows p h, mark-shown A h c view.marks.items q) refl
-
--- what an act of custody tests of its ceremony, behind some conditions, one after the other
-pub ready-by : (A : History) (c at : ℕ) (has_ca : Bool) (os rest : List (Option Refusal))
-    → first_of (os ++ not_ready (scene_of A c at has_ca) ∷ rest) ≡ first_of (os ++ not_open A c ∷ late A c at ∷ full A ∷ rest)
-ready-by A c at has_ca os rest = behind os (not_ready (scene_of A c at has_ca) ∷ rest) (not_open A c ∷ late A c at ∷ full A ∷ rest) (grind arith)

@@ -12,7 +12,7 @@ use Rattle.kcr_room.proofs.Orders.{before-turned}
 use Rattle.kcr_script.specs.declared.seat.Seat.{Seat}
 use Rattle.kcr_seats.specs.Seating as Search
 use Rattle.kcr_seats.specs.Seating.{count_below, can_take}
-use Rattle.kcr_scene.specs.Signing.{on_seat, fits_of}
+use Rattle.kcr_rules.specs.Signing.{on_seat, fits_of}
 use Rattle.std.specs.List.Sorted.{IsStrictlyIncreasing}
 use Rattle.kcr_base.specs.Days.{day_of}
 use Rattle.kcr_base.proofs.SameLemmas.{same-is, same-itself}

@@ -1,18 +1,17 @@
 -- The first refusal of a request of the sheet by the rows of a view is its fault by the history, and so the sheet of a register was made in turn.
-use Rattle.std.proofs.Common.{◌≡◌, ℕ, Bool, true, false, cond, not, ◌||◌, ◌&&◌, ◌==◌, nat_le, nat_lt, List, [], ◌∷◌, ◌++◌, map, filter, find, reverse}
-use Rattle.std.proofs.Common.{Option, Some, None, option_map, is_none, refl, sym, ap, ◌∙◌, subst, arith, append-nil, inl, inr}
+use Rattle.std.proofs.Common.{◌≡◌, ℕ, Bool, true, false, cond, not, ◌||◌, ◌&&◌, ◌==◌, nat_le, nat_lt, List, [], ◌∷◌, ◌++◌, map, filter, reverse}
+use Rattle.std.proofs.Common.{Option, Some, None, is_none, refl, sym, ap, ◌∙◌, subst, arith, append-nil, inl, inr}
 use Rattle.std.specs.Prelude.{is_some, count_by}
 use Rattle.std.specs.List.{cons_option}
 use Rattle.std.specs.List.Sorted.{IsPermutation}
 use Rattle.std.proofs.lemmas.Bool.{true≢false}
 use Rattle.std.proofs.lemmas.List.Elements.{filter-append}
 use Rattle.std.proofs.lemmas.List.Sorted.{IsPermutation-refl, IsPermutation-reverse, IsPermutation-append}
-use Rattle.kcr_base.specs.Refuse.{when, first_of}
+use Rattle.kcr_base.specs.Refuse.{when, first_of, no_people, is_not_later}
 use Rattle.kcr_base.proofs.RefuseLemmas.{none_holds, met, behind, nested, no_first}
 use Rattle.kcr_base.specs.Same.{same_text}
 use Rattle.kcr_base.specs.declared.refusal.Refusal.{Refusal}
-use Rattle.kcr_base.specs.declared.refusal.Refusal.TheVariants.{Unknown, State, Late, Turn, Lone, Full}
-use Rattle.kcr_base.specs.declared.refusal.Thing.TheVariants as Things
+use Rattle.kcr_base.specs.declared.refusal.Refusal.TheVariants.{State, Late, Full}
 use Rattle.kcr_people.specs.declared.Person.{Person}
 use Rattle.kcr_people.specs.People.{is_person_by}
 use Rattle.kcr_room.specs.declared.SheetRow.{SheetRow}
@@ -20,10 +19,10 @@ use Rattle.kcr_room.specs.declared.Stay.{Stay}
 use Rattle.kcr_room.specs.declared.Way.{Way}
 use Rattle.kcr_room.specs.declared.Way.TheVariants as Ways
 use Rattle.kcr_room.specs.Room.{enters, entries_by, Followed, followed_rows}
-use Rattle.kcr_room.specs.Stays.{stay_from, next_of, stays_of, stays_by, first_lone_in_by}
+use Rattle.kcr_room.specs.Stays.{stay_from, next_of, stays_of, stays_by}
 use Rattle.kcr_room.proofs.Followed.{followed-same}
-use Rattle.kcr_room.specs.Adding.{is_out_of_turn_in, is_out_of_turn_by, new_row, new_stay, closed, of_ceremony, after, stays_refusal, rows_refusal}
-use Rattle.kcr_room.specs.Adding.{turn_refusal, lone_refusal, entries, is_overfull_by}
+use Rattle.kcr_room.specs.Adding.{is_out_of_turn_in, new_row, new_stay, closed, of_ceremony, after, stays_refusal, rows_refusal}
+use Rattle.kcr_room.specs.Adding.{entries, is_overfull_by}
 use Rattle.kcr_base.specs.Lists.{are_apart}
 use Rattle.kcr_room.specs.Laws.{IsSheet}
 use Rattle.kcr_room.proofs.Lists.{filter-kept, count-cons}
@@ -38,13 +37,12 @@ use Rattle.kcr_history.specs.Ceremonies.{closed as closed_at, is_open, mark}
 use Rattle.kcr_history.specs.Room.{sheet, sheet_after}
 use Rattle.kcr_history.specs.Tables.{people}
 use Rattle.kcr_history.specs.Views.{last_stay, is_of_people, ShowsLast}
-use Rattle.kcr_history.specs.Conditions.{conditions, fault, is_full, first_with, no_person, no_ceremony, not_open, not_later, is_not_later, out_of_turn}
+use Rattle.kcr_history.specs.Conditions.{conditions, fault, is_full, no_ceremony, not_open, not_later, out_of_turn}
 use Rattle.kcr_history.specs.Conditions.{crowded, lone, is_overfull, full}
 use Rattle.kcr_history.specs.Machine.{IsRegister}
 use Rattle.kcr_history.proofs.Steps.{took}
 use Rattle.kcr_history.proofs.Words.{is_person-people}
-use Rattle.kcr_acts.specs.SheetRows.{elsewhere, last_elsewhere, stays_of_request, named_twice, room_refusal}
-use Rattle.kcr_machine.proofs.FirstRefusals.{first-found}
+use Rattle.kcr_rules.specs.SheetRows.{elsewhere, last_elsewhere, stays_of_request, named_twice, room_refusal}
 use Rattle.kcr_machine.proofs.Keyed.{Shown, any-shown}
 use Rattle.kcr_machine.proofs.Leads.{FaultShown}
 use Rattle.kcr_base.proofs.Members.{IsIn, filter-in, filter-none, filter_map-in, find-same-in, in-any, in-append, in-behind, in-filter, in-filter_map}
@@ -151,21 +149,11 @@ overfull-stays rows c Ways.Leave = refl
 
 -- THE CONDITIONS
 
--- the first of them whose turn it is not
-pub turns-first : (A : History) (c : ℕ) (way : Way) (at : ℕ) (people : List (List ℕ))
-    → turn_refusal (find (is_out_of_turn_by (sheet A) c way at) people) ≡ first_with (out_of_turn A c way at) people
-turns-first A c way at people =
-    let found = first-found (is_out_of_turn_by (sheet A) c way at) (is_out_of_turn_by (sheet A) c way at) Turn people (λ who i. refl) in
-    grind (arith, found)
-
 -- the people are in the register by their rows where they are by the history
 people-shown : (A : History) (rows : List Person) (all : List (List ℕ)) → Shown (is_of_people all) (people A) rows
     → (who : List ℕ) → IsIn who all → is_person_by rows who ≡ is_person A who
 people-shown A rows all p who i =
     any-shown (λ row. same_text row.who who) (is_of_people all) (λ row h. in-any (same_text row.who) who all i h) (people A) rows p ∙ is_person-people A who
-
-lone-first : (o : Option ℕ) → lone_refusal o ≡ option_map Lone o
-lone-first o = grind arith
 
 -- one after the other
 flat : (l t c o : Option Refusal) (full over : Bool)
@@ -180,7 +168,7 @@ named_once (who ∷ people) h = grind (arith, named_once people)
 -- what a request is refused for behind its mark, but for somebody named twice
 abbrev room_conditions : History → ℕ → Way → List (List ℕ) → ℕ → List (Option Refusal)
 room_conditions A c way all at =
-    first_with (out_of_turn A c way at) all
+    out_of_turn A c way at all
     ∷ crowded (sheet A ++ map (new_row c way at) all) c
     ∷ lone (sheet A ++ map (new_row c way at) all) c
     ∷ when (is_overfull way (sheet A ++ map (new_row c way at) all) c) Full
@@ -192,8 +180,8 @@ rows-conditions : (A : History) (c m : ℕ) (way : Way) (all : List (List ℕ)) 
     → first_of (rows_refusal (sheet A) c m (is_full A) way all at ∷ []) ≡ first_of (when (nat_le at m) (Late m) ∷ room_conditions A c way all at)
 rows-conditions A c m way all at =
     let more : List SheetRow = sheet A ++ map (new_row c way at) all in
-    rw (turns-first A c way at all, lone-first (first_lone_in_by (stays_by more) c), overfull-stays more c way)
-    (flat (when (nat_le at m) (Late m)) (first_with (out_of_turn A c way at) all) (crowded more c) (lone more c) (is_full A) (is_overfull way more c))
+    rw (overfull-stays more c way)
+    (flat (when (nat_le at m) (Late m)) (out_of_turn A c way at all) (crowded more c) (lone more c) (is_full A) (is_overfull way more c))
 
 -- the same where nobody is named twice, and where somebody is
 twice-first : (l n r : Option Refusal) (xs : List (Option Refusal)) → (n ≡ None → first_of (r ∷ []) ≡ first_of (l ∷ xs))
@@ -205,14 +193,14 @@ pub sheet-fault : (A : History) → IsRegister A → IsSheet (sheet A) → (c : 
 sheet-fault A h s c way all at view v =
     rw (
       known-shown A c view.ceremonies.items v.ceremonies,
-      first-found (λ who. not (is_person_by view.people.items who)) (λ who. not (is_person A who)) (λ who. Unknown (Things.Person who)) all
+      find-same-in (λ who. not (is_person_by view.people.items who)) (λ who. not (is_person A who)) all
           (λ who i. ap not (people-shown A view.people.items all v.people who i)),
       is_open-shown A c view.ceremonies.items v.ceremonies h,
       mark-shown A h c view.marks.items v.marks,
     )
-    (nested (no_ceremony A c ∷ first_with (no_person A) all ∷ not_open A c ∷ [])
+    (nested (no_ceremony A c ∷ no_people (is_person A) all ∷ not_open A c ∷ [])
     (room_refusal (stays_of_request view.stays.items c all) c (mark A c) (is_full A) way all at ∷ [])
-    ∙ behind (no_ceremony A c ∷ first_with (no_person A) all ∷ []) _ _ (by_mark (mark A c) refl))
+    ∙ behind (no_ceremony A c ∷ no_people (is_person A) all ∷ []) _ _ (by_mark (mark A c) refl))
   where
     never : mark A c ≡ None → is_open A c ≡ false
     never e = ap (λ b. b && is_none (closed_at A c)) (sym (marked-opened A h c) ∙ ap is_some e)

@@ -34,14 +34,14 @@ use Rattle.kcr_history.specs.Tables.{Tables, SameTables, tables, withdrawals}
 use Rattle.kcr_history.specs.Changes.{same_sheet_row, same_stay, changed_by}
 use Rattle.kcr_history.specs.Views.{ShowsLast, IsViewOf}
 use Rattle.kcr_history.specs.Asked.{asks_by}
-use Rattle.kcr_history.specs.Conditions.{first_with, out_of_turn}
+use Rattle.kcr_history.specs.Conditions.{out_of_turn}
 use Rattle.kcr_history.specs.Machine.{with_command}
-use Rattle.kcr_acts.specs.SheetRows.{stays_of_request, sheet_changes_by}
+use Rattle.kcr_rules.specs.SheetRows.{stays_of_request, sheet_changes_by}
 use Rattle.kcr_machine.specs.RowDecision.{new_key_row}
 use Rattle.kcr_machine.proofs.Keyed.{Shown, put-rows}
 use Rattle.kcr_machine.proofs.Leads.{changed_by-rows, changed_with, command_of, new_key, other-order}
 use Rattle.kcr_base.proofs.Members.{IsIn, any-in, filter-in, in-any, in-filter, in-front, in-order, map-same-in, none-in, none-passes}
-use Rattle.kcr_machine.proofs.SheetFaults.{among-all, stays-shown, turns-first}
+use Rattle.kcr_machine.proofs.SheetFaults.{among-all, stays-shown}
 use Rattle.kcr_machine.proofs.SheetStays.{IsClear, before-enter, clear-order, clear-sheet}
 
 -- NEW ROWS ARE PUT IN FRONT
@@ -234,12 +234,11 @@ changed_by-stays rows rest t = changed_by-rows PutStay same_stay (λ rows t. rec
 -- where it is the turn of each of the people, the rows that a request puts lead to the tables after it
 pub sheet-leads : (A : History) → IsSheet (sheet A) → (key : List ℕ) (c : ℕ) (way : Way) (all : List (List ℕ)) (at : ℕ) → are_apart all ≡ true
     → (view : View) (answer : Answer)
-    → IsViewOf (asks_by (Sheet c way all at)) (tables A) view → entry_of A key ≡ None → first_with (out_of_turn A c way at) all ≡ None
+    → IsViewOf (asks_by (Sheet c way all at)) (tables A) view → entry_of A key ≡ None → out_of_turn A c way at all ≡ None
     → SameTables (changed_with (sheet_changes_by view c way all at) (command_of key (Sheet c way all at)) answer (tables A))
     (tables (with_command A (command_of key (Sheet c way all at)) answer))
 sheet-leads A s key c way all at a view answer v k f =
     let x : Command = command_of key (Sheet c way all at) in
-    let turn : turn_refusal (find (is_out_of_turn_by (sheet A) c way at) all) ≡ None = turns-first A c way at all ∙ f in
     let news = map (new_row c way at) all in
     let stays = changed_stays (stays_of_request view.stays.items c all) c way all at in
     let rest = PutKey (new_key_row x answer) ∷ [] in
@@ -250,5 +249,5 @@ sheet-leads A s key c way all at a view answer v k f =
       changed_by-stays stays rest (record (tables A) { sheet = put_all same_sheet_row news (reverse (sheet A)) }),
       new_key A x answer k,
     )
-    (other-order (tables (with_command A x answer)) (withdrawals A) _ _ (IsPermutation-refl (withdrawals A)) (sheet-put (sheet A) c way at all a turn)
-    (stays-put (sheet A) s view.stays.items c way at all a v.stays.room v.stays.last turn))
+    (other-order (tables (with_command A x answer)) (withdrawals A) _ _ (IsPermutation-refl (withdrawals A)) (sheet-put (sheet A) c way at all a f)
+    (stays-put (sheet A) s view.stays.items c way at all a v.stays.room v.stays.last f))

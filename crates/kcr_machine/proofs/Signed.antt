@@ -37,9 +37,9 @@ use Rattle.kcr_history.specs.Changes.{changed_by, same_step, same_mark, same_exc
 use Rattle.kcr_history.specs.Views.{IsViewOf, is_step_of}
 use Rattle.kcr_history.specs.Asked.{asks_by}
 use Rattle.kcr_history.specs.Machine.{Sitting, answer_to, IsRegister, sitting}
-use Rattle.kcr_scene.specs.Scene.{ceremony_by, facility_by}
-use Rattle.kcr_scene.specs.Signing.{step_by, seats_by, next_by, on_seat, fits_of, room_by, IsSeatedBy, IsUnseatedBy, staff, mark_change}
-use Rattle.kcr_scene.specs.Signing.{seat_changes, exception_change}
+use Rattle.kcr_rules.specs.Scene.{ceremony_by, facility_by}
+use Rattle.kcr_rules.specs.Signing.{step_by, seats_by, next_by, on_seat, fits_of, room_by, IsSeatedBy, IsUnseatedBy, staff, mark_change}
+use Rattle.kcr_rules.specs.Signing.{seat_changes, exception_change}
 use Rattle.kcr_machine.specs.RowDecision.{new_key_row}
 use Rattle.kcr_laws.proofs.Alone.{rooms}
 use Rattle.kcr_laws.proofs.Done.{next_signed}

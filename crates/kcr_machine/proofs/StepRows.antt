@@ -32,7 +32,7 @@ use Rattle.kcr_history.specs.Tables.{seating_rows, ceremony_of_step}
 use Rattle.kcr_history.specs.Views.{is_step_of, is_exception_of}
 use Rattle.kcr_history.proofs.Steps.{took}
 use Rattle.kcr_history.proofs.Piled.{any-stacked, filter-stacked, stacked-alone}
-use Rattle.kcr_scene.specs.Signing.{is_done, done_by, stated_by, step_by}
+use Rattle.kcr_rules.specs.Signing.{is_done, done_by, stated_by, step_by}
 use Rattle.kcr_laws.proofs.Done.{one_more, count-cons, next_signed, done-after, fate-done}
 use Rattle.kcr_history.specs.declared.commands.Entry.{Entry}
 use Rattle.kcr_history.specs.declared.rows.SeatingRow.{SeatingRow}

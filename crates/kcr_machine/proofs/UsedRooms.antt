@@ -15,7 +15,7 @@ use Rattle.kcr_history.specs.Room.{sheet, present}
 use Rattle.kcr_history.specs.Conditions.{is_empty, is_room_used}
 use Rattle.kcr_history.specs.Machine.{IsRegister}
 use Rattle.kcr_history.specs.Views.{is_stay_of}
-use Rattle.kcr_acts.specs.CeremonyRows.{is_unended}
+use Rattle.kcr_rules.specs.CeremonyRows.{is_unended}
 use Rattle.kcr_machine.proofs.Keyed.{Shown, any-shown}
 use Rattle.kcr_base.proofs.Members.{any-in, in-any, same-answers}
 use Rattle.kcr_machine.proofs.SheetFaults.{sheet-made}

@@ -12,8 +12,8 @@ use Rattle.kcr_history.specs.declared.views.Change.TheVariants.{PutKey}
 use Rattle.kcr_history.specs.declared.views.Verdict.{Verdict}
 use Rattle.kcr_history.specs.declared.views.View.{View}
 use Rattle.kcr_history.specs.Texts.{command_text, answer_text}
-use Rattle.kcr_acts.specs.ByRows.{refusal_by, sitting_by, IsSeatedFor, all_changes_by, exception_by, told_step_by}
-use Rattle.kcr_acts.specs.ByRows.{IsRefused}
+use Rattle.kcr_rules.specs.ByRows.{refusal_by, sitting_by, IsSeatedFor, all_changes_by, exception_by, told_step_by}
+use Rattle.kcr_rules.specs.ByRows.{IsRefused}
 
 -- the register is full
 abbrev pub is_full_by : View → Bool

@@ -7,11 +7,11 @@ ghost use Rattle.kcr_history.specs.Views.{IsViewOf, row_of_key};
 ghost use Rattle.kcr_history.specs.Machine.{IsRegister, IsDecision};
 ghost use Rattle.kcr_machine.specs.RowDecision.{IsRowDecision, IsRowRepeat};
 
-use kcr_acts::{Acted, perform};
 use kcr_base::Refusal;
 use kcr_history::{
     Answer, Change, Command, KeyRow, Reply, Verdict, View, answer_text, command_text,
 };
+use kcr_rules::{Acted, perform};
 use std::alloc::Global;
 
 /// At most this many commands are accepted.
@@ -37,7 +37,7 @@ fn repeat_by_row(alloc: Global, row: &KeyRow, command: &Command) -> Result<Verdi
 /// Decides a command whose key has this row, as it has where a command was accepted under it.
 ///
 /// For every history A in whose tables the row is that of the key, the result is the machine's step from A: the same
-/// command gets its kept reply again and nothing changes, another command is refused (11). Want of memory (33) may be
+/// command gets its kept reply again and nothing changes, another command is refused (11). Out of memory (33) may be
 /// answered in place of both; it changes nothing.
 pub fn repeat(alloc: Global, row: &KeyRow, command: &Command) -> Result<Verdict, Refusal>
     ensures { (A : History) → row_of_key command.now.key (tables A).keys ≡ Some row.now

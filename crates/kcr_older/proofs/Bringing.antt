@@ -10,8 +10,8 @@ use Rattle.kcr_history.specs.History.{History}
 use Rattle.kcr_history.specs.Tables.{tables}
 use Rattle.kcr_history.specs.Tables as machine
 use Rattle.kcr_rows.specs.Keyed.{put_in}
-use Rattle.kcr_cells.specs.Rows.{stay_row}
-use Rattle.kcr_cells.specs.declared.rows.Version.{Version}
+use Rattle.kcr_rows.specs.Rows.{stay_row}
+use Rattle.kcr_rows.specs.declared.rows.Version.{Version}
 use Rattle.kcr_tables.specs.Held.{Tables, Holds}
 use Rattle.kcr_tables.specs.Changed.{changed_all}
 use Rattle.kcr_tables.specs.Joint.{Stands, HoldsTables}

@@ -9,7 +9,7 @@ use Rattle.sqlite.specs.Order.{Row}
 use Rattle.kcr_rows.specs.Keyed.{Keeps, Place}
 use Rattle.kcr_rows.proofs.CreateLemmas.{bare}
 use Rattle.kcr_rows.proofs.TableLemmas.{keeps_on}
-use Rattle.kcr_cells.specs.Rows.{stay_row, withdrawal_row}
+use Rattle.kcr_rows.specs.Rows.{stay_row, withdrawal_row}
 use Rattle.kcr_tables.specs.Schema.{all_tables, register_schema, stays, withdrawals}
 use Rattle.kcr_tables.specs.Held.{Tables, Kept, Holds, stays_place, withdrawals_place}
 use Rattle.kcr_older.specs.Growth.{Gains}
@@ -90,8 +90,8 @@ grown_from_1 old mid new t held one two =
     let still = front_of 15 (take 16 all_tables) mid.trees new.trees two.shared in
     let shared =
     shares_on (take 15 all_tables) k.whole old.trees new.trees k.shared (shares_on (take 15 all_tables) old.trees mid.trees new.trees one.shared still) in
-    let there : new.trees 31 ≡ mid.trees 31 = assumption two.shared in
-    let none : new.trees 31 ≡ [] = there ∙ one.empty in
+    let there : new.trees stays_place.tree ≡ mid.trees stays_place.tree = assumption two.shared in
+    let none : new.trees stays_place.tree ≡ [] = there ∙ one.empty in
     record {
       schema = two.schema;
       kept =
@@ -103,7 +103,7 @@ pub grown_from_2 : (old new : Database) (t : Tables) → HoldsUpTo 16 old t → 
 grown_from_2 old new t held two =
     let k = held.kept in
     let shared = shares_on (take 16 all_tables) k.whole old.trees new.trees k.shared two.shared in
-    let there : new.trees 31 ≡ k.whole 31 = assumption shared in
+    let there : new.trees stays_place.tree ≡ k.whole stays_place.tree = assumption shared in
     let own_stays = keeps_on stays_place k.whole new.trees (map stay_row t.stays) there k.kept.stays in
     record {
       schema = two.schema;

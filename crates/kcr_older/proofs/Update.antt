@@ -38,8 +38,8 @@ use Rattle.kcr_rows.specs.Keyed.{cells, Keeps, Place}
 use Rattle.kcr_rows.proofs.ReadLemmas.{reading, matched, map_same}
 use Rattle.kcr_rows.proofs.WriteLemmas.{went, same_value, cast_int}
 use Rattle.kcr_rows.proofs.TableLemmas.{filter_every, keeps_still}
-use Rattle.kcr_cells.specs.Rows.{version_row}
-use Rattle.kcr_cells.specs.declared.rows.Version.{Version}
+use Rattle.kcr_rows.specs.Rows.{version_row}
+use Rattle.kcr_rows.specs.declared.rows.Version.{Version}
 use Rattle.kcr_tables.specs.Schema.{register_schema, versions}
 use Rattle.kcr_tables.specs.Held.{Tables, Holds, versions_place}
 use Rattle.kcr_older.specs.Older.{numbered}
@@ -78,7 +78,7 @@ abbrev set_text : List ℕ
 set_text = codes "UPDATE versions SET number = 3"
 
 abbrev Sets : Command
-Sets = Update 13 (record { lets = []; body = reading 27 [] project [] })
+Sets = Update 13 (record { lets = []; body = reading versions_place.tree [] project [] })
 
 set_is : (command_of (understood register_schema set_text) ≡ Sets) × IsPlain (understood register_schema set_text)
 unfolding understood everything
@@ -87,7 +87,7 @@ set_is = (refl, (refl, refl))
 abbrev show_set : Row → Row
 show_set r = column r 0 ∷ column r 0 ∷ Int (pos 3) ∷ []
 
-shows_set : (r : Row) → output (reading 27 [] project []) ([] ∷ r ∷ []) ≡ ([], show_set r)
+shows_set : (r : Row) → output (reading versions_place.tree [] project []) ([] ∷ r ∷ []) ≡ ([], show_set r)
 shows_set r = refl
 
 abbrev edit_for : Trees → List Row → Edit
@@ -95,7 +95,7 @@ edit_for trees rows = edit_of trees versions (ids_of rows) Given 1 rows
 
 record IsSet (trees next : Trees) : Type 0 where
   rows : List Row
-  shown : IsPermutation (map show_set (trees 27)) rows
+  shown : IsPermutation (map show_set (trees versions_place.tree)) rows
   applies : Applies register_schema Enforced trees (edit_for trees rows) next
 
 updates : (limit : _) (trees : Trees) (text : List ℕ) (tally : Tally) (next : Database)
@@ -112,7 +112,7 @@ updates limit trees text tally next h =
       ap (λ (d : Database). d.schema) now,
       record {
         rows = queried.0;
-        shown = every_row [] 27 project show_set shows_set refl trees queried.0 (queried.1.answer Null);
+        shown = every_row [] versions_place.tree project show_set shows_set refl trees queried.0 (queried.1.answer Null);
         applies = subst (λ (t : Trees). Applies register_schema Enforced trees (edit_for trees queried.0) t) (sym trees_is) applies;
       },
     )
@@ -128,7 +128,8 @@ gone_one i e h =
     ap (λ b. cond (not b) (e ∷ []) []) has
 
 -- the row of the one entry
-set_tree : (trees next : Trees) (e : Row) (i : ℤ) → trees 27 ≡ e ∷ [] → rowid e ≡ Int i → IsSet trees next → next 27 ≡ (Int i ∷ Int (pos 3) ∷ []) ∷ []
+set_tree : (trees next : Trees) (e : Row) (i : ℤ) → trees versions_place.tree ≡ e ∷ [] → rowid e ≡ Int i → IsSet trees next
+    → next versions_place.tree ≡ (Int i ∷ Int (pos 3) ∷ []) ∷ []
 set_tree trees next e i one id s =
     let rows_is : s.rows ≡ show_set e ∷ [] = one_permutation _ _ (subst (λ l. IsPermutation (map show_set l) s.rows) one s.shown) in
     let shown_is : s.rows ≡ (Int i ∷ Int i ∷ Int (pos 3) ∷ []) ∷ [] = rows_is ∙ ap (λ v. (v ∷ v ∷ Int (pos 3) ∷ []) ∷ []) id in
@@ -150,13 +151,14 @@ sets n old new count t one held h =
     updates old.step_limit o text w.tally new.now
     (subst (λ s. Does old.step_limit (mode_of old) [] (record old.now { schema = s }) text None Sets (Ok (w.tally, new.now))) held.schema w.changed) in
     let kept : Keeps versions_place o ((Int (pos n) ∷ []) ∷ []) = subst (λ (vs : List Version). Keeps versions_place o (map version_row vs)) one k.versions in
-    let e = one_entry (cells versions_place) (o 27) (Int (pos n) ∷ []) (one_permutation _ _ kept.same) in
+    let e = one_entry (cells versions_place) (o versions_place.tree) (Int (pos n) ∷ []) (one_permutation _ _ kept.same) in
     let shaped = subst (IsShaped shape.Table) e.1 kept.shaped in
     let id : rowid e.0 ≡ Int (id_in (rowid e.0)) = int_is (rowid e.0) shaped.1.0 in
-    let tree : m 27 ≡ (Int (id_in (rowid e.0)) ∷ Int (pos 3) ∷ []) ∷ [] = set_tree o m e.0 (id_in (rowid e.0)) e.1 id u.1 in
-    let still : (place : Place) (rows : List Row) → (place.tree == 27) ≡ false → list_all (λ i. not (i.tree == place.tree)) register_schema.indexes ≡ true
+    let tree : m versions_place.tree ≡ (Int (id_in (rowid e.0)) ∷ Int (pos 3) ∷ []) ∷ [] = set_tree o m e.0 (id_in (rowid e.0)) e.1 id u.1 in
+    let still : (place : Place) (rows : List Row) → (place.tree == versions_place.tree) ≡ false
+    → list_all (λ i. not (i.tree == place.tree)) register_schema.indexes ≡ true
     → Keeps place o rows → Keeps place m rows
-    = λ place rows. keeps_still register_schema 27 place o m rows u.1.applies.others in
+    = λ place rows. keeps_still register_schema versions_place.tree place o m rows u.1.applies.others in
     let sound : IsSound register_schema m = subst (λ s. IsSound s m) u.0 w.sound in
     let number : Keeps versions_place m ((Int (pos 3) ∷ []) ∷ []) = record {
       same = subst (λ l. IsPermutation ((Int (pos 3) ∷ []) ∷ []) (map (cells versions_place) l)) (sym tree) (IsPermutation-refl ((Int (pos 3) ∷ []) ∷ []));

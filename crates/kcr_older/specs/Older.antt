@@ -8,7 +8,7 @@ use Rattle.sqlite_catalog.specs.Listing.{IsSound}
 use Rattle.kcr_history.specs.History.{History}
 use Rattle.kcr_history.specs.Machine.{IsRegister}
 use Rattle.kcr_history.specs.Tables.{tables, withdrawals}
-use Rattle.kcr_cells.specs.declared.rows.Version.{Version}
+use Rattle.kcr_rows.specs.declared.rows.Version.{Version}
 use Rattle.kcr_tables.specs.Schema.{all_tables}
 use Rattle.kcr_tables.specs.Made.{first}
 use Rattle.kcr_tables.specs.Joint.{Stands}

@@ -6,7 +6,7 @@ ghost use Rattle.sqlite.specs.State.{HasCleanDisk};
 ghost use Rattle.kcr_history.specs.declared.views.Change.TheVariants.{PutStay};
 ghost use Rattle.kcr_room.specs.Stays.{stays_by};
 ghost use Rattle.kcr_rows.specs.Refusals.{IsFault};
-ghost use Rattle.kcr_cells.specs.Frame.{StaysWithin};
+ghost use Rattle.kcr_rows.specs.Frame.{StaysWithin};
 ghost use Rattle.kcr_tables.specs.Held.{Tables, Holds};
 ghost use Rattle.kcr_older.specs.Filled.{with_stays};
 

@@ -4,7 +4,7 @@ ghost use Rattle.std.specs.Prelude.{◌≡◌, ℕ, [], OnOk};
 ghost use Rattle.sqlite.specs.Held.{state};
 ghost use Rattle.sqlite.specs.State.{HasCleanDisk};
 ghost use Rattle.kcr_rows.specs.Refusals.{IsFault};
-ghost use Rattle.kcr_cells.specs.Frame.{StaysWithin};
+ghost use Rattle.kcr_rows.specs.Frame.{StaysWithin};
 ghost use Rattle.kcr_tables.specs.Held.{Tables, Holds};
 ghost use Rattle.kcr_tables.specs.Made.{first};
 ghost use Rattle.kcr_tables.specs.Schema.{stays, withdrawals};
@@ -12,7 +12,7 @@ ghost use Rattle.kcr_older.specs.Growth.{Gains};
 ghost use Rattle.kcr_older.specs.Older.{HoldsUpTo, numbered};
 
 use kcr_base::Refusal;
-use kcr_cells::statements::write;
+use kcr_rows::statements::write;
 use kcr_tables::create_text;
 use sqlite::{Alter, Transaction};
 

@@ -3,13 +3,11 @@ use Rattle.std.specs.Prelude.{ℕ, ◌==◌, Bool, true, false, not, ◌&&◌, �
 use Rattle.std.specs.Prelude.{filter, fold, Option, Some, None, option_map, find, is_none}
 use Rattle.std.specs.List.{list_any}
 use Rattle.kcr_base.specs.Same.{same_text, same_role, same_place}
-use Rattle.kcr_base.specs.Refuse.{when, first_of}
+use Rattle.kcr_base.specs.Refuse.{when, first_of, no_person}
 use Rattle.kcr_base.specs.declared.place.Role.{Role}
 use Rattle.kcr_base.specs.declared.place.Place.{Place}
 use Rattle.kcr_base.specs.declared.refusal.Refusal.{Refusal}
-use Rattle.kcr_base.specs.declared.refusal.Refusal.TheVariants.{Unknown, Taken, Range, Apart, Held, Vacant, Settled}
-use Rattle.kcr_base.specs.declared.refusal.Refusal.TheVariants.{Full}
-use Rattle.kcr_base.specs.declared.refusal.Thing.TheVariants.{Person as AsPerson}
+use Rattle.kcr_base.specs.declared.refusal.Refusal.TheVariants.{Taken, Range, Apart, Held, Vacant, Settled, Full}
 use Rattle.kcr_people.specs.declared.Person.{Person}
 use Rattle.kcr_people.specs.declared.Training.{Training}
 use Rattle.kcr_people.specs.declared.Withdrawal.{Withdrawal}
@@ -139,69 +137,111 @@ abbrev pub end_of : Option Appointment → ℕ → Appointment → Appointment
 end_of None day new = new
 end_of (Some row) day new = record row { until = Some day }
 
--- THE CONDITIONS OF THE ACTS, IN THE ORDER OF THE REFUSALS' NUMBERS
+-- THE CONDITIONS OF THE ACTS, IN THE ORDER OF THE REFUSALS' NUMBERS, over what is asked: whether the person is in the
+-- register, was ever trained, was ever put in a place, is trained on the day or later; whether the very training is
+-- there; the appointments; the settled day; whether the register is full
 
 -- the day is not after the settled day
 abbrev pub settles : Option ℕ → ℕ → Option Refusal
 settles None day = None
 settles (Some last) day = when (nat_le day last) (Settled last)
 
-abbrev pub enter_refusal : List Person → Bool → List ℕ → Option Refusal
-enter_refusal people full who =
-    first_of
-    (when (is_person_by people who) Taken
+-- the appointment to the place that has no end begins on the day or later
+abbrev pub not_after_first_day : List Appointment → Place → ℕ → Option Refusal
+not_after_first_day rows place day = when (begins_too_late (open_row_by rows place) day) Range
+
+-- each appointment to the place has an end, or there is none
+abbrev pub vacant : List Appointment → Place → Option Refusal
+vacant rows place = when (is_none (open_row_by rows place)) Vacant
+
+-- on the day or a later one somebody holds the place, or the person holds a place
+abbrev pub place_or_person_holds : List Appointment → Place → List ℕ → ℕ → Bool
+place_or_person_holds rows place who day = place_held_from_by rows place day || person_holds_from_by rows who day
+
+abbrev pub enter_conditions : Bool → Bool → List (Option Refusal)
+enter_conditions is_person full =
+    when is_person Taken
     ∷ when full Full
-    ∷ [])
+    ∷ []
+
+abbrev pub train_conditions : Bool → Bool → Bool → Bool → Training → List (Option Refusal)
+train_conditions is_person is_there ever_put full row =
+    no_person is_person row.who
+    ∷ when is_there Taken
+    ∷ when (nat_lt row.until row.since) Range
+    ∷ when ever_put Apart
+    ∷ when full Full
+    ∷ []
+
+abbrev pub withdraw_conditions : Bool → Bool → Option ℕ → Bool → List ℕ → ℕ → List (Option Refusal)
+withdraw_conditions is_person is_trained settled full who day =
+    no_person is_person who
+    ∷ when (not is_trained) Vacant
+    ∷ settles settled day
+    ∷ when full Full
+    ∷ []
+
+abbrev pub appoint_conditions : Bool → Bool → List Appointment → Option ℕ → Bool → Place → List ℕ → ℕ
+    → List (Option Refusal)
+appoint_conditions is_person ever_trained appointments settled full place who day =
+    no_person is_person who
+    ∷ when ever_trained Apart
+    ∷ when (place_or_person_holds appointments place who day) Held
+    ∷ settles settled day
+    ∷ when full Full
+    ∷ []
+
+abbrev pub replace_conditions : Bool → Bool → List Appointment → Option ℕ → Bool → Place → List ℕ → ℕ
+    → List (Option Refusal)
+replace_conditions is_person ever_trained appointments settled full place who day =
+    no_person is_person who
+    ∷ not_after_first_day appointments place day
+    ∷ when ever_trained Apart
+    ∷ when (person_holds_from_by appointments who day) Held
+    ∷ vacant appointments place
+    ∷ settles settled day
+    ∷ when full Full
+    ∷ []
+
+abbrev pub release_conditions : List Appointment → Option ℕ → Bool → Place → ℕ → List (Option Refusal)
+release_conditions appointments settled full place day =
+    not_after_first_day appointments place day
+    ∷ vacant appointments place
+    ∷ settles settled day
+    ∷ when full Full
+    ∷ []
+
+-- THE FIRST REFUSAL OF EACH ACT, by rows
+
+abbrev pub enter_refusal : List Person → Bool → List ℕ → Option Refusal
+enter_refusal people full who = first_of (enter_conditions (is_person_by people who) full)
 
 abbrev pub train_refusal : List Person → List Training → List Appointment → Bool → Training → Option Refusal
 train_refusal people trainings appointments full row =
     first_of
-    (when (not (is_person_by people row.who)) (Unknown (AsPerson row.who))
-    ∷ when (list_any (same_training row) trainings) Taken
-    ∷ when (nat_lt row.until row.since) Range
-    ∷ when (ever_put_by appointments row.who) Apart
-    ∷ when full Full
-    ∷ [])
+    (train_conditions (is_person_by people row.who) (list_any (same_training row) trainings)
+    (ever_put_by appointments row.who) full row)
 
 abbrev pub withdraw_refusal : List Person → List Training → List Withdrawal → Option ℕ → Bool → List ℕ → Role → ℕ
     → Option Refusal
 withdraw_refusal people trainings withdrawals settled full who role day =
     first_of
-    (when (not (is_person_by people who)) (Unknown (AsPerson who))
-    ∷ when (not (trained_from_by trainings withdrawals who role day)) Vacant
-    ∷ settles settled day
-    ∷ when full Full
-    ∷ [])
+    (withdraw_conditions (is_person_by people who) (trained_from_by trainings withdrawals who role day) settled full who
+    day)
 
 abbrev pub appoint_refusal : List Person → List Training → List Appointment → Option ℕ → Bool → Place → List ℕ → ℕ
     → Option Refusal
 appoint_refusal people trainings appointments settled full place who day =
     first_of
-    (when (not (is_person_by people who)) (Unknown (AsPerson who))
-    ∷ when (ever_trained_by trainings who) Apart
-    ∷ when (place_held_from_by appointments place day || person_holds_from_by appointments who day) Held
-    ∷ settles settled day
-    ∷ when full Full
-    ∷ [])
+    (appoint_conditions (is_person_by people who) (ever_trained_by trainings who) appointments settled full place who
+    day)
 
 abbrev pub replace_refusal : List Person → List Training → List Appointment → Option ℕ → Bool → Place → List ℕ → ℕ
     → Option Refusal
 replace_refusal people trainings appointments settled full place who day =
     first_of
-    (when (not (is_person_by people who)) (Unknown (AsPerson who))
-    ∷ when (begins_too_late (open_row_by appointments place) day) Range
-    ∷ when (ever_trained_by trainings who) Apart
-    ∷ when (person_holds_from_by appointments who day) Held
-    ∷ when (is_none (open_row_by appointments place)) Vacant
-    ∷ settles settled day
-    ∷ when full Full
-    ∷ [])
+    (replace_conditions (is_person_by people who) (ever_trained_by trainings who) appointments settled full place who
+    day)
 
 abbrev pub release_refusal : List Appointment → Option ℕ → Bool → Place → ℕ → Option Refusal
-release_refusal appointments settled full place day =
-    first_of
-    (when (begins_too_late (open_row_by appointments place) day) Range
-    ∷ when (is_none (open_row_by appointments place)) Vacant
-    ∷ settles settled day
-    ∷ when full Full
-    ∷ [])
+release_refusal appointments settled full place day = first_of (release_conditions appointments settled full place day)

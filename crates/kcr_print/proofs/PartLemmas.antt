@@ -15,9 +15,10 @@ use Rattle.kcr_history.specs.Tables as machine
 use Rattle.kcr_history.specs.Tables.{tables}
 use Rattle.kcr_tables.specs.Refusals.{IsFault}
 use Rattle.kcr_store.specs.Register.{Seen, IsKept}
-use Rattle.kcr_store.specs.Rows.{Begins, KeepsHistory, OfHistory}
+use Rattle.kcr_store.specs.Calls.{KeepsHistory, OfHistory}
+use Rattle.kcr_store.specs.Rows.{Begins}
 use Rattle.kcr_store.specs.declared.rows.Rows.{Rows}
-use Rattle.kcr_print.specs.Reports.{Stops, IsPrinted, TellsWrites, Puts}
+use Rattle.kcr_print.specs.Reports.{Stops, IsPrinted, Puts, TellsWrites}
 use Rattle.kcr_print.specs.Written.{Writes}
 use Rattle.kcr_print.specs.declared.fault.PrintFault.{PrintFault}
 use Rattle.kcr_print.specs.declared.fault.PrintFault.TheVariants.{Refused, Write}
@@ -136,9 +137,9 @@ module _ {S W : Type 0} {g : Ghosts S} {contents : W → Option (List ℕ)} {D :
       puts_as (λ founded torn clean. printed_weaker (D a.accepted) r _ _ (t a.accepted) (p.printed founded torn clean)) (cause_weaker M r p.cause) p
 
   -- the same part, its text told otherwise
-  pub puts_text : {a b : Seen S} {x y : Counted W} {r : Result ⊤ PrintFault} (t u : History → List ℕ) → OfHistory g a b (λ A. t A ≡ u A)
-      → Puts g contents a b x y r D M t → Puts g contents a b x y r D M u
-  puts_text {a} {x = x} {y} {r} t u same p =
+  pub puts_text : {a b : Seen S} {x y : Counted W} {r : Result ⊤ PrintFault} {t : History → List ℕ} (u : History → List ℕ)
+      → Puts g contents a b x y r D M t → OfHistory g a b (λ A. t A ≡ u A) → Puts g contents a b x y r D M u
+  puts_text {a} {x = x} {y} {r} u p same =
       let P : List ℕ → Type 0 = λ text. IsPrinted (D a.accepted) text r (contents (inner_of x)) (contents (inner_of y)) in
       puts_as (λ founded torn clean. subst P (same founded torn clean) (p.printed founded torn clean)) p.cause p
 
@@ -175,20 +176,20 @@ module _ {S W : Type 0} {g : Ghosts S} {contents : W → Option (List ℕ)} wher
   }
 
   -- rows that were written: they began with the register, and left it behind
-  pub puts_rows : {R Row : Type 0} {to_come : R → machine.Tables → List Row} {wanted : machine.Tables → List Row} {rows : Rows S R Row} {old last : Seen S}
-      {x y : Counted W} {r : Result ⊤ PrintFault} {text : History → List ℕ} (lines : Row → List ℕ) (ended : Seen S)
-      → Begins old to_come wanted (Ok rows) → last ≡ ended → old.torn ≡ None → ((A : History) → flat_map lines (wanted (tables A)) ≡ text A)
+  pub puts_rows : {R Row : Type 0} {reading : R} {rows : Rows S R Row} {old last : Seen S} {x y : Counted W} {r : Result ⊤ PrintFault}
+      (to_come : R → machine.Tables → List Row) (lines : Row → List ℕ) (ended : Seen S) → Begins old reading (Ok rows) → last ≡ ended → old.torn ≡ None
       → OfHistory g rows.register.now ended (λ A. Writes r (contents (inner_of x)) (contents (inner_of y)) (flat_map lines (to_come rows.reading (tables A))))
       → (rows.register.now.torn ≡ None → IfErr r (Stops (λ _. ⊥))) → KeepsHistory rows.register.now ended
       → (HasCleanDisk (state g ended.conn) → HasCleanDisk (state g rows.register.now.conn)) → IsKept g ended → TellsWrites x y r
-      → Puts g contents old last x y r (λ _ _. ⊥) (λ _. ⊥) text
-  puts_rows {rows = rows} {old} {x = x} {y} {r} {text} lines ended begins ends whole same written cause keeps clean kept told =
+      → Puts g contents old last x y r (λ _ _. ⊥) (λ _. ⊥) (λ A. flat_map lines (to_come reading (tables A)))
+  puts_rows {reading = reading} {rows} {old} {x = x} {y} {r} to_come lines ended begins ends whole written cause keeps clean kept told =
       let began = rows.register.now in
       let why = cause (ap (λ s. s.torn) begins.same ∙ whole) in
+      let text : History → List ℕ = λ A. flat_map lines (to_come reading (tables A)) in
       let P : List ℕ → Type 0 = λ text. IsPrinted (λ _. ⊥) text r (contents (inner_of x)) (contents (inner_of y)) in
       let done : Puts g contents began ended x y r (λ _ _. ⊥) (λ _. ⊥) text = record {
         printed = λ founded torn now.
-            subst P (ap (flat_map lines) (begins.all (tables began.accepted)) ∙ same began.accepted)
+            subst P (ap (λ at. flat_map lines (to_come at (tables began.accepted))) begins.reading)
             (printed_of (λ _. ⊥) r _ _ _ (written founded torn now) why);
         cause = why;
         keeps = keeps;

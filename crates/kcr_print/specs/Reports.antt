@@ -12,7 +12,7 @@ use Rattle.kcr_base.specs.declared.refusal.Refusal.TheVariants as Refusals
 use Rattle.kcr_history.specs.History.{History}
 use Rattle.kcr_tables.specs.Refusals.{IsFault}
 use Rattle.kcr_store.specs.Register.{Seen, IsKept}
-use Rattle.kcr_store.specs.Rows.{KeepsHistory, OfHistory}
+use Rattle.kcr_store.specs.Calls.{KeepsHistory, OfHistory}
 use Rattle.kcr_print.specs.Written.{WritesFront}
 use Rattle.kcr_print.specs.declared.fault.PrintFault.{PrintFault}
 use Rattle.kcr_print.specs.declared.fault.PrintFault.TheVariants.{Refused, Write}
@@ -48,6 +48,20 @@ pub record Puts {S W : Type 0} (g : Ghosts S) (contents : W → Option (List ℕ
       (λ A. IsPrinted (Denies A) (text A) result (contents (inner_of old)) (contents (inner_of new)))
   pub cause : IfErr result (Stops MayDeny)
   pub keeps : KeepsHistory before after
+  pub clean : HasCleanDisk (state g after.conn) → HasCleanDisk (state g before.conn)
+  pub kept : IsKept g after
+  pub told : TellsWrites old new result
+
+-- a report over any register: as `Puts` has it, and a fault of the device breaks the register. A broken one answers so,
+-- and nothing is written
+pub record Prints {S W : Type 0} (g : Ghosts S) (contents : W → Option (List ℕ))
+    (before after : Seen S) (old new : Counted W) (result : Result ⊤ PrintFault)
+    (Denies : History → Refusal → Type 0) (MayDeny : Refusal → Type 0) (text : History → List ℕ) : Type 0 where
+  pub broken : IsSome before.torn → (result ≡ Err (Refused Refusals.Broken)) × (after ≡ before) × (new ≡ old)
+  pub printed : OfHistory g before after
+      (λ A. IsPrinted (Denies A) (text A) result (contents (inner_of old)) (contents (inner_of new)))
+  pub cause : before.torn ≡ None → IfErr result (Stops MayDeny)
+  pub leaves : Leaves before after result
   pub clean : HasCleanDisk (state g after.conn) → HasCleanDisk (state g before.conn)
   pub kept : IsKept g after
   pub told : TellsWrites old new result

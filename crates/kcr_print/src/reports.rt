@@ -1,14 +1,12 @@
 //! The three reports.
 
-ghost use Rattle.std.specs.Prelude.{◌≡◌, IsSome, IsTrue, IfErr, OnOk, Err, None};
-ghost use Rattle.sqlite.specs.State.{HasCleanDisk};
-ghost use Rattle.sqlite.specs.Held.{state};
-ghost use Rattle.kcr_base.specs.Counted.{inner_of};
+ghost use Rattle.std.specs.Prelude.{◌≡◌, IsTrue, OnOk};
 ghost use Rattle.kcr_history.specs.Ceremonies.{is_ceremony};
 ghost use Rattle.kcr_history.specs.Prints as report;
 ghost use Rattle.kcr_store.specs.Register.{IsKept};
-ghost use Rattle.kcr_store.specs.Rows.{IsNotPlanned, NamesCeremony, OfHistory};
-ghost use Rattle.kcr_print.specs.Reports.{Stops, IsPrinted, Leaves, TellsWrites};
+ghost use Rattle.kcr_store.specs.Calls.{OfHistory};
+ghost use Rattle.kcr_store.specs.Rows.{IsNotPlanned, NamesCeremony};
+ghost use Rattle.kcr_print.specs.Reports.{Leaves, Prints};
 
 use crate::fault::PrintFault;
 use crate::parts::{put_attendance, put_custody, put_script};
@@ -40,7 +38,7 @@ fn settle<S: Alter>(
 }
 
 /// Writes the annotated script of a ceremony: its head, its steps with their seats or the people who filled them, and
-/// its exceptions. A ceremony that was never planned is refused as unknown (12), with nothing written. Want of memory
+/// its exceptions. A ceremony that was never planned is refused as unknown (12), with nothing written. Out of memory
 /// (33), a fault of the device (34) or a write that fails may come at any row, and leaves a beginning of the report
 /// written. A fault of the device breaks the register; a broken one answers 35, and nothing is written.
 pub fn annotated<S: Alter, W: Write>(
@@ -49,19 +47,10 @@ pub fn annotated<S: Alter, W: Write>(
     ceremony: CeremonyNumber,
     writer: &mut Counted<W>,
 ) -> Result<(), PrintFault>
-    ensures broken { IsSome register.old.torn
-        → (result ≡ Err (PrintFault.Refused Refusal.Broken))
-        × (register.new ≡ register.old) × (writer.new ≡ writer.old) }
-    ensures printed { OfHistory S.Store register.old register.new (λ A.
-        IsPrinted (IsNotPlanned A ceremony) (report.annotated A ceremony) result
-        (W.contents (inner_of writer.old)) (W.contents (inner_of writer.new))) }
+    ensures prints { Prints S.Store W.contents register.old register.new writer.old writer.new result
+        (λ A. IsNotPlanned A ceremony) (NamesCeremony ceremony) (λ A. report.annotated A ceremony) }
     // What is printed whole is of a ceremony that was planned.
     ensures planned { OfHistory S.Store register.old register.new (λ A. OnOk result (IsTrue (is_ceremony A ceremony))) }
-    ensures cause { register.old.torn ≡ None → IfErr result (Stops (NamesCeremony ceremony)) }
-    ensures leaves { Leaves register.old register.new result }
-    ensures clean { HasCleanDisk (state S.Store register.new.conn) → HasCleanDisk (state S.Store register.old.conn) }
-    ensures kept { IsKept S.Store register.new }
-    ensures told { TellsWrites writer.old writer.new result }
 {
     if register.is_broken() {
         return Err(PrintFault::Refused(Refusal::Broken));
@@ -78,19 +67,10 @@ pub fn attendance_csv<S: Alter, W: Write>(
     ceremony: CeremonyNumber,
     writer: &mut Counted<W>,
 ) -> Result<(), PrintFault>
-    ensures broken { IsSome register.old.torn
-        → (result ≡ Err (PrintFault.Refused Refusal.Broken))
-        × (register.new ≡ register.old) × (writer.new ≡ writer.old) }
-    ensures printed { OfHistory S.Store register.old register.new (λ A.
-        IsPrinted (IsNotPlanned A ceremony) (report.attendance A ceremony) result
-        (W.contents (inner_of writer.old)) (W.contents (inner_of writer.new))) }
+    ensures prints { Prints S.Store W.contents register.old register.new writer.old writer.new result
+        (λ A. IsNotPlanned A ceremony) (NamesCeremony ceremony) (λ A. report.attendance A ceremony) }
     // What is printed whole is of a ceremony that was planned.
     ensures planned { OfHistory S.Store register.old register.new (λ A. OnOk result (IsTrue (is_ceremony A ceremony))) }
-    ensures cause { register.old.torn ≡ None → IfErr result (Stops (NamesCeremony ceremony)) }
-    ensures leaves { Leaves register.old register.new result }
-    ensures clean { HasCleanDisk (state S.Store register.new.conn) → HasCleanDisk (state S.Store register.old.conn) }
-    ensures kept { IsKept S.Store register.new }
-    ensures told { TellsWrites writer.old writer.new result }
 {
     if register.is_broken() {
         return Err(PrintFault::Refused(Refusal::Broken));
@@ -106,17 +86,8 @@ pub fn custody<S: Alter, W: Write>(
     register: &mut Register<S>,
     writer: &mut Counted<W>,
 ) -> Result<(), PrintFault>
-    ensures broken { IsSome register.old.torn
-        → (result ≡ Err (PrintFault.Refused Refusal.Broken))
-        × (register.new ≡ register.old) × (writer.new ≡ writer.old) }
-    ensures printed { OfHistory S.Store register.old register.new (λ A.
-        IsPrinted (λ _. ⊥) (report.custody A) result
-        (W.contents (inner_of writer.old)) (W.contents (inner_of writer.new))) }
-    ensures cause { register.old.torn ≡ None → IfErr result (Stops (λ _. ⊥)) }
-    ensures leaves { Leaves register.old register.new result }
-    ensures clean { HasCleanDisk (state S.Store register.new.conn) → HasCleanDisk (state S.Store register.old.conn) }
-    ensures kept { IsKept S.Store register.new }
-    ensures told { TellsWrites writer.old writer.new result }
+    ensures { Prints S.Store W.contents register.old register.new writer.old writer.new result
+        (λ _ _. ⊥) (λ _. ⊥) (λ A. report.custody A) }
 {
     if register.is_broken() {
         return Err(PrintFault::Refused(Refusal::Broken));

@@ -7,7 +7,7 @@ ghost use Rattle.sqlite.specs.State.{HasCleanDisk};
 ghost use Rattle.kcr_base.specs.Counted.{inner_of};
 ghost use Rattle.kcr_history.specs.Tables.{tables};
 ghost use Rattle.kcr_store.specs.Register.{IsKept};
-ghost use Rattle.kcr_store.specs.Rows.{KeepsHistory, OfHistory};
+ghost use Rattle.kcr_store.specs.Calls.{KeepsHistory, OfHistory};
 ghost use Rattle.kcr_print.specs.Reports.{Stops, TellsWrites};
 ghost use Rattle.kcr_print.specs.Written.{Writes};
 

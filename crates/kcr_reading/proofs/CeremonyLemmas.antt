@@ -18,7 +18,7 @@ use Rattle.sqlite_value.specs.Keys.{ascending}
 use Rattle.sqlite_tied.specs.Compute.{everything}
 use Rattle.kcr_rows.specs.Keyed.{by_key}
 use Rattle.kcr_rows.proofs.TableLemmas.{each_is}
-use Rattle.kcr_cells.specs.Rows.{exception_row, seating_row, step_row}
+use Rattle.kcr_rows.specs.Rows.{exception_row, seating_row, step_row}
 use Rattle.kcr_history.specs.Prints.{in_order, seated_at, seatings_at}
 use Rattle.kcr_history.specs.Tables as machine
 use Rattle.kcr_history.specs.declared.rows.ExceptionRow.{ExceptionRow}

@@ -23,8 +23,8 @@ use Rattle.kcr_base.specs.Facility.{facility_text}
 use Rattle.kcr_base.specs.Same.{facility_number, is_before}
 use Rattle.kcr_rows.specs.Keyed.{by_key}
 use Rattle.kcr_room.proofs.Lists.{filter-and}
-use Rattle.kcr_cells.specs.Rows.{bag_row, item_row, safe_row}
-use Rattle.kcr_cells.specs.States.{safe_digit}
+use Rattle.kcr_rows.specs.Rows.{bag_row, item_row, safe_row}
+use Rattle.kcr_rows.specs.States.{safe_digit}
 use Rattle.kcr_custody.specs.Custody.{lies_in}
 use Rattle.kcr_custody.specs.declared.Bag.{Bag}
 use Rattle.kcr_custody.specs.declared.Item.{Item}

@@ -34,7 +34,7 @@ use Rattle.sqlite_trees.proofs.ListLemmas.{all_both, all_weaker, filter_none, as
 use Rattle.kcr_rows.specs.Keyed.{by_key}
 use Rattle.kcr_rows.proofs.FilterLemmas.{filter_as}
 use Rattle.kcr_rows.proofs.PutLemmas.{has_same}
-use Rattle.kcr_cells.specs.Rows.{person_row, stay_row}
+use Rattle.kcr_rows.specs.Rows.{person_row, stay_row}
 use Rattle.kcr_people.specs.declared.Person.{Person}
 use Rattle.kcr_room.proofs.Listed.{attendance-moves, attendance-listed}
 use Rattle.kcr_room.proofs.Lists.{filter-and}

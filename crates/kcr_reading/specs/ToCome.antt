@@ -4,7 +4,7 @@ use Rattle.std.specs.Prelude.{Option, Some, None, Result, IfOk}
 use Rattle.sqlite.specs.State.{State, HasCleanDisk}
 use Rattle.kcr_base.specs.declared.refusal.Refusal.{Refusal}
 use Rattle.kcr_base.specs.Same.{is_before, facility_number}
-use Rattle.kcr_cells.specs.States.{safe_digit}
+use Rattle.kcr_rows.specs.States.{safe_digit}
 use Rattle.kcr_custody.specs.Custody.{lies_in}
 use Rattle.kcr_custody.specs.declared.Bag.{Bag}
 use Rattle.kcr_custody.specs.declared.Item.{Item}

@@ -11,7 +11,7 @@ ghost use Rattle.kcr_tables.specs.Frame.{Reads};
 ghost use Rattle.kcr_reading.specs.First.{Choice, ShowsFirst, IsFirst, bound_of};
 
 use kcr_base::Refusal;
-use kcr_cells::statements::rows_of;
+use kcr_rows::statements::rows_of;
 use kcr_tables::Listed;
 use sqlite::types::ValueRef;
 use sqlite::{Alter, Transaction};

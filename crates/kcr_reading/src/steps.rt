@@ -12,9 +12,9 @@ ghost use Rattle.kcr_reading.specs.ToCome.{Gives, ByTables, rows_past, seated_st
 use crate::reading::Reading;
 use crate::seek::{first_row, past_cell};
 use kcr_base::{Initials, Refusal};
-use kcr_cells::statements::rows_of;
 use kcr_history::{SeatingRow, StepRow};
 use kcr_rows::cells::number_cell;
+use kcr_rows::statements::rows_of;
 use sqlite::{Alter, Transaction};
 use std::alloc::{AllocError, Global};
 use std::marker::Model;
@@ -84,7 +84,8 @@ fn seatings_at<S: Alter>(
     step: u32,
 ) -> Result<Vec<SeatingRow>, Refusal>
     ensures same_reference { tx.new.conn.ghost_name ≡ tx.old.conn.ghost_name }
-    ensures rows { ByTables (state S.Store tx.old.conn.now) (state S.Store tx.new.conn.now) result (λ m rows. map (λ row. row.who) rows.items ≡ seated_at m.seatings ceremony step) }
+    ensures rows { ByTables (state S.Store tx.old.conn.now) (state S.Store tx.new.conn.now) result
+        (λ m rows. map (λ row. row.who) rows.items ≡ seated_at m.seatings ceremony step) }
     ensures opened { HasCleanDisk (state S.Store tx.new.conn.now)
         → OnOk result (IsTrue (state S.Store tx.old.conn.now).is_open) }
     ensures frame { Reads (state S.Store tx.old.conn.now) (state S.Store tx.new.conn.now) result }

@@ -1,11 +1,11 @@
 -- What a request adds to the sheet, by stays, and why it is refused.
 use Rattle.std.specs.Prelude.{ℕ, ◌==◌, Bool, true, false, not, ◌&&◌, ◌||◌, nat_lt, nat_le, List, [], ◌∷◌, ◌++◌, map}
-use Rattle.std.specs.Prelude.{filter, length, Option, Some, None, if◌then◌else◌}
+use Rattle.std.specs.Prelude.{filter, length, Option, Some, None, option_map, if◌then◌else◌}
 use Rattle.std.specs.List.{list_any, count_by, find}
 use Rattle.kcr_base.specs.Same.{same_text}
-use Rattle.kcr_base.specs.Refuse.{when, first_of}
+use Rattle.kcr_base.specs.Refuse.{when, first_of, is_not_later}
 use Rattle.kcr_base.specs.declared.refusal.Refusal.{Refusal}
-use Rattle.kcr_base.specs.declared.refusal.Refusal.TheVariants.{Late, Turn, Crowd, Lone, Full}
+use Rattle.kcr_base.specs.declared.refusal.Refusal.TheVariants.{Turn, Crowd, Lone, Full}
 use Rattle.kcr_room.specs.declared.Way.{Way}
 use Rattle.kcr_room.specs.declared.Way.TheVariants.{Enter, Leave}
 use Rattle.kcr_room.specs.declared.Stay.{Stay}
@@ -74,12 +74,10 @@ changed_stays stays ceremony Leave people at = map (closed people at) (filter (e
 
 -- the refusal of the first person whose turn it is not
 abbrev pub turn_refusal : Option (List ℕ) → Option Refusal
-turn_refusal None = None
-turn_refusal (Some who) = Some (Turn who)
+turn_refusal who = option_map Turn who
 
 abbrev pub lone_refusal : Option ℕ → Option Refusal
-lone_refusal None = None
-lone_refusal (Some moment) = Some (Lone moment)
+lone_refusal moment = option_map Lone moment
 
 -- with the request the ceremony has more than 1,000 `in` rows
 abbrev pub is_overfull : List Stay → Way → Bool
@@ -99,7 +97,7 @@ later_refusal later ceremony full way =
 abbrev pub stays_refusal : List Stay → ℕ → ℕ → Bool → Way → List (List ℕ) → ℕ → Option Refusal
 stays_refusal stays ceremony mark full way people at =
     first_of
-    (when (nat_le at mark) (Late mark)
+    (is_not_later at (Some mark)
     ∷ turn_refusal (find (is_out_of_turn_in stays ceremony way at) people)
     ∷ later_refusal (after stays ceremony way people at) ceremony full way
     ∷ [])
@@ -143,7 +141,7 @@ sheet_refusal stays ceremony full way =
 abbrev pub rows_refusal : List SheetRow → ℕ → ℕ → Bool → Way → List (List ℕ) → ℕ → Option Refusal
 rows_refusal rows ceremony mark full way people at =
     first_of
-    (when (nat_le at mark) (Late mark)
+    (is_not_later at (Some mark)
     ∷ turn_refusal (find (is_out_of_turn_by rows ceremony way at) people)
     ∷ sheet_refusal (stays_by (rows ++ map (new_row ceremony way at) people)) ceremony full way
     ∷ [])

@@ -43,7 +43,8 @@ module _ (schema : Schema) (text : List ℕ) (table : Table) (after : Schema)
       let lacks : lacks_sequence first.0.schema ≡ false = ap lacks_sequence schema_is ∙ uncounted in
       let now : new.now ≡ first.0 = ap (λ (p : Tally × Database). p.1) (same_value all.2) ∙ same_value (rw lacks at first.2) in
       let trees : new.now.trees ≡ first.0.trees = ap (λ (d : Database). d.trees) now in
-      let kept : AreEmpty schema.tables first.0.trees = keeps_empty schema.tables old.now.trees first.0.trees (subst (λ s. KeepsRows s.tables old.now.trees first.0.trees) has made.others) empty in
+      let kept : AreEmpty schema.tables first.0.trees = keeps_empty schema.tables old.now.trees first.0.trees
+      (subst (λ s. KeepsRows s.tables old.now.trees first.0.trees) has made.others) empty in
       let bare : first.0.trees table.tree ≡ [] = subst (λ t. first.0.trees t ≡ []) (ap next_tree has ∙ tree_is) made.empty in (
         ap (λ (d : Database). d.schema) now ∙ schema_is,
         subst (AreEmpty (schema.tables ++ table ∷ [])) (sym trees) (all-append _ schema.tables (table ∷ []) kept (bare, tt)),

@@ -15,7 +15,8 @@ unchanged_keeps old new u = record { was_open = λ _. u.0.was_open; committed = 
 failure_keeps : (old new : State) (big : Type 0) (e : Error) → Fails old new big e → KeepsCommit old new
 failure_keeps old new big e f = record { was_open = f.3.was_open; committed = λ live. (f.3.undone live).1 }
 
-pub failed_query_keeps : (sql : List ℕ) (params : Row) (old new : State) (e : Error) → FailsToQuery sql params old new e ⊎ IsTooLate sql params old new e → KeepsCommit old new
+pub failed_query_keeps : (sql : List ℕ) (params : Row) (old new : State) (e : Error) → FailsToQuery sql params old new e ⊎ IsTooLate sql params old new e
+    → KeepsCommit old new
 unfolding FailsToQuery IsNotRun
 failed_query_keeps sql params old new e (inl (inl (inl h))) = unchanged_keeps old new h.1
 failed_query_keeps sql params old new e (inl (inl (inr f))) = failure_keeps old new _ e f
@@ -27,7 +28,8 @@ failed_query_keeps sql params old new e (inl (inr h)) = go h.0.returning h.2
     go (Some what) (inr f) = failure_keeps old new _ e f
 failed_query_keeps sql params old new e (inr h) = unchanged_keeps old new h.5
 
-pub shown_same : (old new : State) (sql : List ℕ) (params : Row) (rows : List Row) → IsPlain (understood old.now.schema sql) → Shown sql params old new rows → IsUnchanged old new
+pub shown_same : (old new : State) (sql : List ℕ) (params : Row) (rows : List Row) → IsPlain (understood old.now.schema sql) → Shown sql params old new rows
+    → IsUnchanged old new
 unfolding Shown
 shown_same old new sql params rows plain h =
     let none = (subst IsPlain h.1.is plain).0 in
@@ -42,7 +44,8 @@ shown_opened sql params old new rows h = go h.0.returning h.2
     go None it = it.3.0.was_open
     go (Some what) it = it.1.shown.was_open
 
-pub shown_inside : (sql : List ℕ) (params : Row) (old new : State) (rows : List Row) → IsTrue old.in_transaction → Shown sql params old new rows → IsTrue new.in_transaction
+pub shown_inside : (sql : List ℕ) (params : Row) (old new : State) (rows : List Row) → IsTrue old.in_transaction → Shown sql params old new rows
+    → IsTrue new.in_transaction
 unfolding Shown
 shown_inside sql params old new rows inside h = go h.0.returning h.2
   where
@@ -50,13 +53,17 @@ shown_inside sql params old new rows inside h = go h.0.returning h.2
     go None it = rw it.3.0.mode inside
     go (Some what) it = rw it.1.shown.mode inside
 
-pub shown_keeps : (sql : List ℕ) (params : Row) (old new : State) (rows : List Row) → IsTrue old.in_transaction → Shown sql params old new rows → KeepsCommit old new
+pub shown_keeps : (sql : List ℕ) (params : Row) (old new : State) (rows : List Row) → IsTrue old.in_transaction → Shown sql params old new rows
+    → KeepsCommit old new
 unfolding Shown
 shown_keeps sql params old new rows inside h = go h.0.returning h.2
   where
     go : (r : Option Returning) → ShowsRows old new sql h.0 (timed params h.0.formats h.1.now) rows r → KeepsCommit old new
     go None it = unchanged_keeps old new it.3
-    go (Some what) it = record { was_open = λ _. it.1.shown.was_open; committed = λ _. let e : old.in_transaction ≡ true = search rules in (rw e at it.1.shown.committed_is) }
+    go (Some what) it = record {
+      was_open = λ _. it.1.shown.was_open;
+      committed = λ _. let e : old.in_transaction ≡ true = search rules in (rw e at it.1.shown.committed_is);
+    }
 
 pub on_ok : {A E : Type 0} (P : Type 0) (r : Result A E) → P → OnOk r P
 on_ok P (Ok x) h = h
@@ -74,5 +81,6 @@ pub on_ok_then : {A E : Type 0} (P Q : Type 0) → (P → Q) → (r : Result A E
 on_ok_then P Q f (Ok x) h = f h
 on_ok_then P Q f (Err e) h = tt
 
-pub plain_in : (schema : Schema) (text : List ℕ) → IsPlain (understood schema text) → (s : State) → s.now.schema ≡ schema → IsPlain (understood s.now.schema text)
+pub plain_in : (schema : Schema) (text : List ℕ) → IsPlain (understood schema text) → (s : State) → s.now.schema ≡ schema
+    → IsPlain (understood s.now.schema text)
 plain_in schema text plain s has = subst (λ x. IsPlain (understood x text)) (sym has) plain

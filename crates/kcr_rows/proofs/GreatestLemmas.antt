@@ -1,5 +1,6 @@
 -- A query for the row with the greatest number, among those that pass a test.
-use Rattle.std.proofs.Common.{◌≡◌, inl, inr, None, ℕ, suc, ◌+◌, ◌≤◌, ◌^◌, nat_le, pos, length, List, [], ◌∷◌, map, filter, take, slice_index_or, true, false, Bool, Ordering, Less, Equal, Greater, is_lt, IsSorted, refl, sym, ap, subst, ◌∙◌, arith}
+use Rattle.std.proofs.Common.{◌≡◌, inl, inr, None, ℕ, suc, ◌+◌, ◌≤◌, ◌^◌, nat_le, pos, length, List, [], ◌∷◌, map, filter, take, slice_index_or, true, false}
+use Rattle.std.proofs.Common.{Bool, Ordering, Less, Equal, Greater, is_lt, IsSorted, refl, sym, ap, subst, ◌∙◌, arith}
 use Rattle.std.specs.Bool.{⊤}
 use Rattle.std.specs.List.{AllByRecursion, list_all}
 use Rattle.std.specs.List.Sorted.{IsPermutation}
@@ -48,7 +49,8 @@ module _ {X : Type 0} (cmp : X → X → Ordering) (total : IsTotalOrder cmp) wh
   not_above x [] sorted = tt
   not_above x (y ∷ ys) sorted =
       let first : is_gt (cmp x y) ≡ false = ap is_gt (total.antisymm x y) ∙ turned _ (sorted 0 x (omega arith) (omega arith)) in
-      let tail : IsSorted cmp (y ∷ ys) = λ k d p q. rw Rattle.std.proofs.Common.add-one (rw Rattle.std.proofs.Common.add-one at (sorted (suc k) d (omega arith) (omega arith))) in
+      let tail : IsSorted cmp (y ∷ ys) = λ k d p q. rw Rattle.std.proofs.Common.add-one
+      (rw Rattle.std.proofs.Common.add-one at (sorted (suc k) d (omega arith) (omega arith))) in
       (first, all_from _ ys (λ z h. upto total x y z first (all_has _ ys z (not_above y ys tail) h)))
 
 number_order : (a b : ℕ) → is_gt (int_cmp (pos b) (pos a)) ≡ false → b ≤ a
@@ -58,12 +60,14 @@ none_from : {X Y : Type 0} (f : X → Y) (xs : List X) → map f xs ≡ [] → x
 none_from f xs h = nil_from_length xs (sym (length-map xs f) ∙ ap length h)
 
 module _ (place : Place) (schema : Schema) (sql : List ℕ) (params : Row) (test project : List Term) (at : ℕ) (names : List (List ℕ)) (passes : Row → Bool)
-    (is : (command_of (understood schema sql) ≡ Select (record { lets = []; body = greatest place test project at }) names) × (reads_listing schema sql ≡ false))
+    (is : (command_of (understood schema sql) ≡ Select (record { lets = []; body = greatest place test project at }) names)
+    × (reads_listing schema sql ≡ false))
     (bare : IsPlain (understood schema sql))
     (shows : (r : Row) → output (greatest place test project at) (params ∷ r ∷ []) ≡ with_number at (cells place r))
     (tests : (r : Row) → list_all (holds (params ∷ r ∷ [])) test ≡ passes (cells place r))
     (low : nat_le (2 ^ 31) place.tree ≡ false)
-    {X : Type 0} (row_of : X → Row) (one : (x y : X) → row_of x ≡ row_of y → x ≡ y) (number : X → ℕ) (numbered : (x : X) → column (row_of x) at ≡ Int (pos (number x))) where
+    {X : Type 0} (row_of : X → Row) (one : (x y : X) → row_of x ≡ row_of y → x ≡ y) (number : X → ℕ)
+    (numbered : (x : X) → column (row_of x) at ≡ Int (pos (number x))) where
   abbrev q : Query
   q = greatest place test project at
 
@@ -75,7 +79,8 @@ module _ (place : Place) (schema : Schema) (sql : List ℕ) (params : Row) (test
 
   below : (e x : X) → is_gt (output_cmp q (out (row_of e)) (out (row_of x))) ≡ false → number x ≤ number e
   below e x h =
-      let values : value_cmp (column (row_of x) at) (column (row_of e) at) ≡ int_cmp (pos (number x)) (pos (number e)) = (λ i. value_cmp (numbered x i) (numbered e i)) ∙ value_cmp-Int (pos (number x)) (pos (number e)) in
+      let values : value_cmp (column (row_of x) at) (column (row_of e) at) ≡ int_cmp (pos (number x)) (pos (number e)) =
+      (λ i. value_cmp (numbered x i) (numbered e i)) ∙ value_cmp-Int (pos (number x)) (pos (number e)) in
       number_order (number e) (number x) (ap is_gt (sym values) ∙ ap is_gt (sym (compares (row_of e) (row_of x))) ∙ h)
 
   number_same : (x y : X) → out (row_of x) ≡ out (row_of y) → number x ≤ number y
@@ -89,7 +94,8 @@ module _ (place : Place) (schema : Schema) (sql : List ℕ) (params : Row) (test
       let there = mapped_from out (map row_of ks) o (has_same _ _ o (IsPermutation-sym _ _ same) (inl refl)) in
       let e = mapped_from row_of ks there.0 there.1 in
       let found : o ≡ out (row_of e.0) = there.2 ∙ ap out e.2 in
-      let only : xs ≡ e.0 ∷ [] = same_values row_of (λ _. ⊤) (λ _. ⊤) (λ x y _ _. one x y) xs (e.0 ∷ []) (each_is xs) (tt, tt) (shown ∙ ap (λ (p : Output). p.1 ∷ []) found) in
+      let only : xs ≡ e.0
+      ∷ [] = same_values row_of (λ _. ⊤) (λ _. ⊤) (λ x y _ _. one x y) xs (e.0 ∷ []) (each_is xs) (tt, tt) (shown ∙ ap (λ (p : Output). p.1 ∷ []) found) in
       let lower = not_above (output_cmp q) (output_cmp_total q) o os sorted in
       inr (
         e.0,
@@ -101,7 +107,8 @@ module _ (place : Place) (schema : Schema) (sql : List ℕ) (params : Row) (test
         ]),
       )
 
-  pub shown_greatest : (old new : State) (xs : List X) → old.now.schema ≡ schema → Shown sql params old new (map row_of xs) → (ys : List X) → Keeps place old.now.trees (map row_of ys)
+  pub shown_greatest : (old new : State) (xs : List X) → old.now.schema ≡ schema → Shown sql params old new (map row_of xs) → (ys : List X)
+      → Keeps place old.now.trees (map row_of ys)
       → IsGreatest number (filter (λ y. passes (row_of y)) ys) xs
   shown_greatest old new xs has h ys keeps =
       let read = reads_as sql params old new schema has _ is.0 bare is.1 (map row_of xs) h in
@@ -113,5 +120,6 @@ module _ (place : Place) (schema : Schema) (sql : List ℕ) (params : Row) (test
       let passed : IsPermutation (map row_of (filter (λ y. passes (row_of y)) ys)) (filter passes (map shown entries)) =
       subst (λ l. IsPermutation l (filter passes (map shown entries))) (filter-map passes row_of ys) (IsPermutation-filter passes _ _ keeps.same) in
       let perm : IsPermutation (map out (map row_of (filter (λ y. passes (row_of y)) ys))) a.ordered =
-      IsPermutation-trans _ _ _ (subst (IsPermutation (map out (map row_of (filter (λ y. passes (row_of y)) ys)))) (sym outs) (IsPermutation-map out _ _ passed)) a.same in
+      IsPermutation-trans _ _ _
+      (subst (IsPermutation (map out (map row_of (filter (λ y. passes (row_of y)) ys)))) (sym outs) (IsPermutation-map out _ _ passed)) a.same in
       chosen (filter (λ y. passes (row_of y)) ys) xs a.ordered perm a.sorted a.shown

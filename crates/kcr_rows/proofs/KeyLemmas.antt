@@ -36,7 +36,8 @@ pub equal_is : (a b : Value) → is_null a ≡ false → is_null b ≡ false →
 unfolding binary
 equal_is a b there here = rw (there, here) (truth_is (is_eq (value_cmp a b)))
 
-pub agree_is : (count at : ℕ) (a b : Row) → full at count a ≡ true → full at count b ≡ true → agree plain (places_from at count) a (places_from at count) b ≡ is_eq (key_cmp at (rising count []) a b)
+pub agree_is : (count at : ℕ) (a b : Row) → full at count a ≡ true → full at count b ≡ true
+    → agree plain (places_from at count) a (places_from at count) b ≡ is_eq (key_cmp at (rising count []) a b)
 agree_is zero at a b f g = refl
 agree_is (suc count) at a b f g =
     let fa = and_parts _ _ f in

@@ -11,3 +11,5 @@ pub mod OrderLemmas
 pub mod GreatestLemmas
 pub mod CreateLemmas
 pub mod UpsertLemmas
+pub mod StateLemmas
+pub mod FrameLemmas

@@ -1,11 +1,13 @@
 -- A row put in its place is the row put anywhere, up to order.
-use Rattle.std.proofs.Common.{◌≡◌, ◌≢◌, ◌||◌, Bool, true, false, cond, ℕ, List, [], ◌∷◌, map, refl, sym, ap, subst, ◌∙◌, arith, IsPermutation, Ordering, Less, Equal, Greater}
+use Rattle.std.proofs.Common.{◌≡◌, ◌≢◌, ◌||◌, Bool, true, false, cond, ℕ, List, [], ◌∷◌, map, refl, sym, ap, subst, ◌∙◌, arith, IsPermutation, Ordering, Less}
+use Rattle.std.proofs.Common.{Equal, Greater}
 use Rattle.std.specs.List.{list_any, All, AllByRecursion}
 use Rattle.std.specs.Ordering.{match_ordering, is_eq, ordering_reverse}
 use Rattle.std.proofs.lemmas.Bool.{cond-false}
 use Rattle.std.proofs.lemmas.List.Elements.{All-from_recursion, All-weaker}
 use Rattle.std.proofs.lemmas.List.Folds.{list_any_none, map_fixed}
-use Rattle.std.proofs.lemmas.List.Sorted.{IsPermutation-cons, IsPermutation-map, IsPermutation-refl, IsPermutation-sym, IsPermutation-trans, IsPermutation-middle, list_any-IsPermutation}
+use Rattle.std.proofs.lemmas.List.Sorted.{IsPermutation-cons, IsPermutation-map, IsPermutation-refl, IsPermutation-sym, IsPermutation-trans}
+use Rattle.std.proofs.lemmas.List.Sorted.{IsPermutation-middle, list_any-IsPermutation}
 use Rattle.sqlite.specs.Order.{Row}
 use Rattle.sqlite.specs.Tree.{IsAscending}
 use Rattle.sqlite_trees.proofs.ListLemmas.{all_from_map, all_weaker}
@@ -32,7 +34,8 @@ module _ {X : Type 0} (keys : ℕ) (row_of : X → Row) (new : X) where
   past x n y less =
       let total = key_total keys in
       other_key (cmp y new) (λ tie.
-      let turned : by_key keys (row_of new) (row_of x) ≡ Greater = sym (total.congr (row_of y) (row_of new) (row_of x) tie) ∙ total.antisymm (row_of y) (row_of x) ∙ ap ordering_reverse less in
+      let turned : by_key keys (row_of new) (row_of x) ≡ Greater = sym (total.congr (row_of y) (row_of new) (row_of x) tie)
+      ∙ total.antisymm (row_of y) (row_of x) ∙ ap ordering_reverse less in
       n (total.antisymm (row_of x) (row_of new) ∙ ap ordering_reverse turned))
     where
       other_key : (o : Ordering) → o ≢ Equal → is_eq o ≡ false
@@ -65,24 +68,30 @@ pub put-order : {X : Type 0} (same : X → X → Bool) (row : X) (xs ys : List X
 put-order same row xs ys p =
     rw (← list_any-IsPermutation (same row) xs ys p) (by_test (list_any (same row) xs))
   where
-    by_test : (b : Bool) → IsPermutation (cond b (map (λ old. cond (same row old) row old) xs) (row ∷ xs)) (cond b (map (λ old. cond (same row old) row old) ys) (row ∷ ys))
+    by_test : (b : Bool)
+        → IsPermutation (cond b (map (λ old. cond (same row old) row old) xs) (row ∷ xs)) (cond b (map (λ old. cond (same row old) row old) ys) (row ∷ ys))
     by_test true = IsPermutation-map (λ old. cond (same row old) row old) xs ys p
     by_test false = IsPermutation-cons row xs ys p
 
 -- the machine's rows after a change of its own, and the database's after the same change
-pub put-stands : {X : Type 0} (keys : ℕ) (row_of : X → Row) (test : X → X → Bool) → ((row old : X) → test row old ≡ is_eq (by_key keys (row_of old) (row_of row)))
-    → (new : X) (xs ys : List X) → IsAscending (λ a b. by_key keys a b ≡ Less) (map row_of ys) → IsPermutation xs ys → IsPermutation (put test new xs) (put_in keys row_of new ys)
+pub put-stands : {X : Type 0} (keys : ℕ) (row_of : X → Row) (test : X → X → Bool)
+    → ((row old : X) → test row old ≡ is_eq (by_key keys (row_of old) (row_of row)))
+    → (new : X) (xs ys : List X) → IsAscending (λ a b. by_key keys a b ≡ Less) (map row_of ys) → IsPermutation xs ys
+    → IsPermutation (put test new xs) (put_in keys row_of new ys)
 put-stands {X = X} keys row_of test is new xs ys up p =
     IsPermutation-trans _ _ _ (put-order test new xs ys p)
-    (subst (λ (s : X → X → Bool). IsPermutation (put s new ys) (put_in keys row_of new ys)) (λ i row old. sym (is row old) i) (put-in keys row_of new ys (from_map (λ a b. by_key keys a b ≡ Less) row_of ys up)))
+    (subst (λ (s : X → X → Bool). IsPermutation (put s new ys) (put_in keys row_of new ys)) (λ i row old. sym (is row old) i)
+    (put-in keys row_of new ys (from_map (λ a b. by_key keys a b ≡ Less) row_of ys up)))
 
 -- the rows still rise
 pub put_in_rising : {X : Type 0} (keys : ℕ) (row_of : X → Row) (new : X) (xs : List X) → IsAscending (λ a b. by_key keys a b ≡ Less) (map row_of xs)
     → IsAscending (λ a b. by_key keys a b ≡ Less) (map row_of (put_in keys row_of new xs))
-put_in_rising keys row_of new xs up = subst (IsAscending (λ a b. by_key keys a b ≡ Less)) (sym (put_in_rows keys row_of new xs)) (put_rising keys (row_of new) (map row_of xs) up)
+put_in_rising keys row_of new xs up = subst (IsAscending (λ a b. by_key keys a b ≡ Less)) (sym (put_in_rows keys row_of new xs))
+    (put_rising keys (row_of new) (map row_of xs) up)
 
 -- what holds of the new row and of every old one holds of all
-pub put_in_all : {X : Type 0} (P : X → Type 0) (keys : ℕ) (row_of : X → Row) (new : X) (xs : List X) → P new → AllByRecursion P xs → AllByRecursion P (put_in keys row_of new xs)
+pub put_in_all : {X : Type 0} (P : X → Type 0) (keys : ℕ) (row_of : X → Row) (new : X) (xs : List X) → P new → AllByRecursion P xs
+    → AllByRecursion P (put_in keys row_of new xs)
 put_in_all P keys row_of new [] h all = (h, tt)
 put_in_all P keys row_of new (x ∷ xs) h all =
     elim (by_key keys (row_of x) (row_of new)) as (λ o. AllByRecursion P (match_ordering o (x ∷ put_in keys row_of new xs) (new ∷ xs) (new ∷ x ∷ xs)))

@@ -1,11 +1,13 @@
 -- A row that is put under its key, in the list and in the tree.
-use Rattle.std.proofs.Common.{◌≡◌, ℕ, not, Bool, true, false, List, [], ◌∷◌, map, filter, refl, sym, ap, subst, ◌∙◌, Ordering, Less, Equal, Greater, IsTrue, true≢false}
+use Rattle.std.proofs.Common.{◌≡◌, ℕ, not, Bool, true, false, List, [], ◌∷◌, map, filter, refl, sym, ap, subst, ◌∙◌, Ordering, Less, Equal, Greater, IsTrue}
+use Rattle.std.proofs.Common.{true≢false}
 use Rattle.std.specs.List.{AllByRecursion}
 use Rattle.std.specs.Ordering.{is_eq, match_ordering, ordering_reverse}
 use Rattle.std.specs.Cmp.{IsTotalOrder}
 use Rattle.std.specs.List.Sorted.{IsPermutation}
 use Rattle.std.proofs.lemmas.Bool.{or_parts}
-use Rattle.std.proofs.lemmas.List.Sorted.{IsPermutation-refl, IsPermutation-map, IsPermutation-sym, IsPermutation-trans, IsPermutation-cons, IsPermutation-middle}
+use Rattle.std.proofs.lemmas.List.Sorted.{IsPermutation-refl, IsPermutation-map, IsPermutation-sym, IsPermutation-trans, IsPermutation-cons}
+use Rattle.std.proofs.lemmas.List.Sorted.{IsPermutation-middle}
 use Rattle.sqlite.specs.Order.{Row, value_cmp}
 use Rattle.sqlite.specs.Tree.{Trees, IsAscending, rowid, put_row}
 use Rattle.sqlite_trees.specs.View.{is_int, IsShaped}
@@ -37,22 +39,28 @@ module _ (keys : ℕ) (new : Row) where
   put_same [] up = IsPermutation-refl _
   put_same (row ∷ rows) up = go (by_key keys row new) refl (put_same rows up.1)
     where
-      go : (o : Ordering) → by_key keys row new ≡ o → IsPermutation (put keys new rows) (new ∷ filter is_other rows) → IsPermutation (Put o row rows) (new ∷ filter is_other (row ∷ rows))
+      go : (o : Ordering) → by_key keys row new ≡ o → IsPermutation (put keys new rows) (new ∷ filter is_other rows)
+          → IsPermutation (Put o row rows) (new ∷ filter is_other (row ∷ rows))
       go Less e more = rw e (IsPermutation-trans _ _ _ (IsPermutation-cons row _ _ more) (IsPermutation-middle (row ∷ []) new _))
-      go Equal e more = rw (e, filter_all is_other rows (all_weaker _ (λ y. is_other y ≡ true) (λ y h. other_above y (sym (total.congr row new y e) ∙ h)) rows up.0)) (IsPermutation-refl _)
+      go Equal e more = rw
+          (e, filter_all is_other rows (all_weaker _ (λ y. is_other y ≡ true) (λ y h. other_above y (sym (total.congr row new y e) ∙ h)) rows up.0))
+          (IsPermutation-refl _)
       go Greater e more =
           let first = above total _ _ e in
-          rw (e, filter_all is_other rows (all_weaker _ (λ y. is_other y ≡ true) (λ y h. other_above y (total.trans new row y first h)) rows up.0)) (IsPermutation-refl _)
+          rw (e, filter_all is_other rows (all_weaker _ (λ y. is_other y ≡ true) (λ y h. other_above y (total.trans new row y first h)) rows up.0))
+          (IsPermutation-refl _)
 
   all-put : (P : Row → Type 0) (rows : List Row) → P new → AllByRecursion P rows → AllByRecursion P (put keys new rows)
   all-put P [] h all = (h, tt)
-  all-put P (row ∷ rows) h all = elim (by_key keys row new) as (λ o. AllByRecursion P (Put o row rows)) [ Less ↦ (all.0, all-put P rows h all.1) | Equal ↦ (h, all.1) | Greater ↦ (h, all) ]
+  all-put P (row ∷ rows) h all = elim (by_key keys row new) as
+      (λ o. AllByRecursion P (Put o row rows)) [ Less ↦ (all.0, all-put P rows h all.1) | Equal ↦ (h, all.1) | Greater ↦ (h, all) ]
 
   pub put_rising : (rows : List Row) → IsAscending (λ a b. by_key keys a b ≡ Less) rows → IsAscending (λ a b. by_key keys a b ≡ Less) (put keys new rows)
   put_rising [] up = (tt, tt)
   put_rising (row ∷ rows) up = go (by_key keys row new) refl (put_rising rows up.1)
     where
-      go : (o : Ordering) → by_key keys row new ≡ o → IsAscending (λ a b. by_key keys a b ≡ Less) (put keys new rows) → IsAscending (λ a b. by_key keys a b ≡ Less) (Put o row rows)
+      go : (o : Ordering) → by_key keys row new ≡ o → IsAscending (λ a b. by_key keys a b ≡ Less) (put keys new rows)
+          → IsAscending (λ a b. by_key keys a b ≡ Less) (Put o row rows)
       go Less e more = (all-put _ rows e up.0, more)
       go Equal e more = (all_weaker _ (λ y. by_key keys new y ≡ Less) (λ y h. sym (total.congr _ _ y e) ∙ h) rows up.0, up.1)
       go Greater e more =
@@ -63,7 +71,8 @@ pub put_row_same : (new : Row) (rows : List Row) → is_taken rows new ≡ false
 put_row_same new [] free = IsPermutation-refl _
 put_row_same new (r ∷ rows) free = go (value_cmp (rowid r) (rowid new)) (or_parts _ _ free).0 (put_row_same new rows (or_parts _ _ free).1)
   where
-    go : (o : Ordering) → is_eq o ≡ false → IsPermutation (new ∷ rows) (put_row new rows) → IsPermutation (new ∷ r ∷ rows) (match_ordering o (r ∷ put_row new rows) (new ∷ rows) (new ∷ r ∷ rows))
+    go : (o : Ordering) → is_eq o ≡ false → IsPermutation (new ∷ rows) (put_row new rows)
+        → IsPermutation (new ∷ r ∷ rows) (match_ordering o (r ∷ put_row new rows) (new ∷ rows) (new ∷ r ∷ rows))
     go Less e more = IsPermutation-trans _ _ _ (IsPermutation-sym _ _ (IsPermutation-middle (r ∷ []) new rows)) (IsPermutation-cons r _ _ more)
     go Equal e more = absurd (true≢false e)
     go Greater e more = IsPermutation-refl _
@@ -81,20 +90,25 @@ module _ (place : Place) (db : Trees) (new : Row) (values : Row) (rest : List Ro
   abbrev others : List Row
   others = filter (λ r. not (is_eq (by_key place.keys (cells place r) values))) (db place.tree)
 
-  pub keeps_put : rest ≡ others → (rows : List Row) → Keeps place db rows → (next : Trees) → is_full place.keys values ≡ true → cells place new ≡ values → IsTrue (is_int (rowid new))
+  pub keeps_put : rest ≡ others → (rows : List Row) → Keeps place db rows → (next : Trees) → is_full place.keys values ≡ true → cells place new ≡ values
+      → IsTrue (is_int (rowid new))
       → is_taken rest new ≡ false → next place.tree ≡ put_row new rest → Keeps place next (put place.keys values rows)
   keeps_put left_is rows keeps next whole shown keyed free is =
       let shows = cells place in
       let now : next place.tree ≡ put_row new others = is ∙ ap (put_row new) left_is in
       let fresh : is_taken others new ≡ false = subst (λ l. is_taken l new ≡ false) left_is free in
       let apart : IsPermutation (filter (is_other place.keys values) rows) (map shows others) =
-      subst (IsPermutation (filter (is_other place.keys values) rows)) (filter-map (is_other place.keys values) shows (db place.tree)) (IsPermutation-filter (is_other place.keys values) _ _ keeps.same) in
+      subst (IsPermutation (filter (is_other place.keys values) rows)) (filter-map (is_other place.keys values) shows (db place.tree))
+      (IsPermutation-filter (is_other place.keys values) _ _ keeps.same) in
       let with_new : IsPermutation (values ∷ filter (is_other place.keys values) rows) (map shows (new ∷ others)) =
       subst (λ v. IsPermutation (values ∷ filter (is_other place.keys values) rows) (v ∷ map shows others)) (sym shown) (IsPermutation-cons values _ _ apart) in
       record {
         same = subst (λ l. IsPermutation (put place.keys values rows) (map shows l)) (sym now)
-            (IsPermutation-trans _ _ _ (put_same place.keys values rows keeps.rising) (IsPermutation-trans _ _ _ with_new (IsPermutation-map shows _ _ (put_row_same new others fresh))));
+            (IsPermutation-trans _ _ _ (put_same place.keys values rows keeps.rising)
+            (IsPermutation-trans _ _ _ with_new (IsPermutation-map shows _ _ (put_row_same new others fresh))));
         full = all-put place.keys values _ rows whole keeps.full;
         rising = put_rising place.keys values rows keeps.rising;
-        shaped = subst (IsShaped shape.Table) (sym now) (IsShaped-put_row new others keyed (IsShaped-filter shape.Table (λ r. not (is_eq (by_key place.keys (cells place r) values))) (db place.tree) shaped));
+        shaped = subst (IsShaped shape.Table) (sym now)
+            (IsShaped-put_row new others keyed
+            (IsShaped-filter shape.Table (λ r. not (is_eq (by_key place.keys (cells place r) values))) (db place.tree) shaped));
       }

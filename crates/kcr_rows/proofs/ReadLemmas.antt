@@ -1,5 +1,6 @@
 -- A reading of a table gives the rows that the tree keeps.
-use Rattle.std.proofs.Common.{◌≡◌, ℕ, ℤ, ◌^◌, pos, negsuc, Bool, true, false, cond, List, [], ◌∷◌, ◌++◌, map, filter, flat_map, take, nat_le, None, refl, sym, ap, subst, ◌∙◌, Less}
+use Rattle.std.proofs.Common.{◌≡◌, ℕ, ℤ, ◌^◌, pos, negsuc, Bool, true, false, cond, List, [], ◌∷◌, ◌++◌, map, filter, flat_map, take, nat_le, None, refl, sym}
+use Rattle.std.proofs.Common.{ap, subst, ◌∙◌, Less}
 use Rattle.std.specs.List.{list_all}
 use Rattle.std.specs.List.Sorted.{IsPermutation}
 use Rattle.std.proofs.lemmas.List.{map-id}
@@ -40,10 +41,11 @@ with_key keys row = (take keys row, row)
 
 pub matched : {X Y : Type 0} (p : X → Bool) (f : X → Y) (xs : List X) → flat_map (λ x. cond (p x) (f x ∷ []) []) xs ≡ map f (filter p xs)
 matched p f [] = refl
-matched p f (x ∷ xs) = elim (p x) as (λ b. cond b (f x ∷ []) [] ++ flat_map (λ y. cond (p y) (f y ∷ []) []) xs ≡ map f (cond b (x ∷ filter p xs) (filter p xs))) [
-  | true ↦ ap (λ l. f x ∷ l) (matched p f xs)
-  | false ↦ matched p f xs
-]
+matched p f (x ∷ xs) = elim (p x) as
+    (λ b. cond b (f x ∷ []) [] ++ flat_map (λ y. cond (p y) (f y ∷ []) []) xs ≡ map f (cond b (x ∷ filter p xs) (filter p xs))) [
+      | true ↦ ap (λ l. f x ∷ l) (matched p f xs)
+      | false ↦ matched p f xs
+    ]
 
 pub map_same : {X Y : Type 0} (f g : X → Y) → ((x : X) → f x ≡ g x) → (xs : List X) → map f xs ≡ map g xs
 map_same f g same [] = refl
@@ -95,14 +97,16 @@ module _ (place : Place) (test : List Term) (project : List Term) (order : List 
       let same = IsPermutation-map (with_key place.keys) _ _ (IsPermutation-filter passes _ _ keeps.same) in
       let strict : IsAscending (λ x y. output_cmp q x y ≡ Less) (map (with_key place.keys) (filter passes kept)) =
       ascending-map (λ x y. output_cmp q x y ≡ Less) (with_key place.keys) (filter passes kept)
-      (ascending_weaker _ (λ x y. output_cmp q (with_key place.keys x) (with_key place.keys y) ≡ Less) (λ x y h. sorts x y ∙ h) _ (ascending-filter _ passes kept keeps.rising)) in
+      (ascending_weaker _ (λ x y. output_cmp q (with_key place.keys x) (with_key place.keys y) ≡ Less) (λ x y h. sorts x y ∙ h) _
+      (ascending-filter _ passes kept keeps.rising)) in
       let ordered : a.ordered ≡ map (with_key place.keys) (filter passes kept) =
       sorted_unique (output_cmp q) (output_cmp_total q) _ _ strict
       (IsPermutation-trans _ _ _ (subst (IsPermutation (map (with_key place.keys) (filter passes kept))) (sym (outs db rows a)) same) a.same) a.sorted in
       a.shown ∙ ap (map (λ (o : Output). o.1)) ordered ∙ unkeyed (filter passes kept)
 
   -- whatever the tree has, the answer is its rows that pass
-  pub reads_exact : (db : Trees) (rows : List Row) → IsAnswer q (overlay db []) params rows → IsPermutation (filter passes (map (cells place) (db place.tree))) rows
+  pub reads_exact : (db : Trees) (rows : List Row) → IsAnswer q (overlay db []) params rows
+      → IsPermutation (filter passes (map (cells place) (db place.tree))) rows
   reads_exact db rows a =
       let same : IsPermutation (map (λ (o : Output). o.1) a.kept) (map (λ (o : Output). o.1) a.ordered) = IsPermutation-map (λ (o : Output). o.1) _ _ a.same in
       let firsts = ap (map (λ (o : Output). o.1)) (outs db rows a) ∙ unkeyed (filter passes (map (cells place) (db place.tree))) in

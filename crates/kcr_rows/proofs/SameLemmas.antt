@@ -76,7 +76,8 @@ pub three_columns : (a b c d e f : Value) (xs ys : Row) → ((ties a d && ties b
 unfolding ties
 three_columns a b c d e f xs ys = grind arith
 
-pub four_columns : (a b c d e f g h : Value) (xs ys : Row) → (((ties a e && ties b f) && ties c g) && ties d h) ≡ is_eq (by_key 4 (a ∷ b ∷ c ∷ d ∷ xs) (e ∷ f ∷ g ∷ h ∷ ys))
+pub four_columns : (a b c d e f g h : Value) (xs ys : Row)
+    → (((ties a e && ties b f) && ties c g) && ties d h) ≡ is_eq (by_key 4 (a ∷ b ∷ c ∷ d ∷ xs) (e ∷ f ∷ g ∷ h ∷ ys))
 unfolding ties
 four_columns a b c d e f g h xs ys = grind arith
 

@@ -1,5 +1,6 @@
 -- What one statement on a table with a key does to what the trees keep.
-use Rattle.std.proofs.Common.{◌≡◌, ◌≢◌, inl, inr, ◌==◌, not, ℕ, ℤ, zero, suc, ◌/◌, ◌^◌, nat_le, ◌&&◌, Bool, true, false, List, [], ◌∷◌, ◌++◌, map, filter, length, slice_get, Some, None, Ok, Less, Equal, Greater, IsTrue, cond, eq-eqb, refl, sym, ap, subst, ◌∙◌, true≢false}
+use Rattle.std.proofs.Common.{◌≡◌, ◌≢◌, inl, inr, ◌==◌, not, ℕ, ℤ, zero, suc, ◌/◌, ◌^◌, nat_le, ◌&&◌, Bool, true, false, List, [], ◌∷◌, ◌++◌, map, filter}
+use Rattle.std.proofs.Common.{length, slice_get, Some, None, Ok, Less, Equal, Greater, IsTrue, cond, eq-eqb, refl, sym, ap, subst, ◌∙◌, true≢false}
 use Rattle.std.specs.Bool.{⊤}
 use Rattle.std.specs.List.{AllByRecursion, list_all}
 use Rattle.std.specs.Ordering.{match_ordering, is_eq}
@@ -57,8 +58,10 @@ all_at P [] at x e all = absurd (cc)
 all_at P (y ∷ ys) zero x e all = let same : y ≡ x = cc in subst P same all.0
 all_at P (y ∷ ys) (suc at) x e all = all_at P ys at x e all.1
 
-rule_of : (rule : Constraint) (schema : Schema) (db : Trees) (at : ℕ) (table : Table) → slice_get schema.tables at ≡ Some table → Obeyed rule schema db → AllByRecursion (λ row. passes rule schema db table row ≡ true) (db table.tree)
-rule_of rule schema db at table here kept = all_at (λ (t : Table). AllByRecursion (λ row. passes rule schema db t row ≡ true) (db t.tree)) schema.tables at table here kept
+rule_of : (rule : Constraint) (schema : Schema) (db : Trees) (at : ℕ) (table : Table) → slice_get schema.tables at ≡ Some table → Obeyed rule schema db
+    → AllByRecursion (λ row. passes rule schema db table row ≡ true) (db table.tree)
+rule_of rule schema db at table here kept = all_at
+    (λ (t : Table). AllByRecursion (λ row. passes rule schema db t row ≡ true) (db t.tree)) schema.tables at table here kept
 
 -- the entries that a tree keeps have integers as rowids, and no NULL in their keys
 module _ (place : Place) (db : Trees) (rows : List Row) (keeps : Keeps place db rows) (r : Row) (h : Has (db place.tree) r) where
@@ -175,7 +178,8 @@ module _ {X : Type 0} (row_of : X → Row) (IsRead IsStored : X → Type 0) (one
 
 pub all_filter : {X : Type 0} (P : X → Type 0) (p : X → Bool) (xs : List X) → AllByRecursion P xs → AllByRecursion P (filter p xs)
 all_filter P p [] all = tt
-all_filter P p (x ∷ xs) all = elim (p x) as (λ b. AllByRecursion P (cond b (x ∷ filter p xs) (filter p xs))) [ true ↦ (all.0, all_filter P p xs all.1) | false ↦ all_filter P p xs all.1 ]
+all_filter P p (x ∷ xs) all = elim (p x) as
+    (λ b. AllByRecursion P (cond b (x ∷ filter p xs) (filter p xs))) [ true ↦ (all.0, all_filter P p xs all.1) | false ↦ all_filter P p xs all.1 ]
 
 -- what is known of every value
 pub each_is : {X : Type 0} (xs : List X) → AllByRecursion (λ _. ⊤) xs
@@ -183,23 +187,29 @@ each_is [] = tt
 each_is (x ∷ xs) = (tt, each_is xs)
 
 -- what a query on one table shows, as values
-module _ (place : Place) (schema : Schema) (sql : List ℕ) (params : Row) (test project : List Term) (order : List (Term × Key)) (names : List (List ℕ)) (passes : Row → Bool)
-    (is : (command_of (understood schema sql) ≡ Select (record { lets = []; body = reading place.tree test project order }) names) × (reads_listing schema sql ≡ false))
+module _ (place : Place) (schema : Schema) (sql : List ℕ) (params : Row) (test project : List Term) (order : List (Term × Key)) (names : List (List ℕ))
+    (passes : Row → Bool)
+    (is : (command_of (understood schema sql) ≡ Select (record { lets = []; body = reading place.tree test project order }) names)
+    × (reads_listing schema sql ≡ false))
     (bare : IsPlain (understood schema sql))
     (shows : (r : Row) → output (reading place.tree test project order) (params ∷ r ∷ []) ≡ with_key place.keys (cells place r))
     (tests : (r : Row) → list_all (holds (params ∷ r ∷ [])) test ≡ passes (cells place r))
     (sorts : (a b : Row) → output_cmp (reading place.tree test project order) (with_key place.keys a) (with_key place.keys b) ≡ by_key place.keys a b)
     (low : nat_le (2 ^ 31) place.tree ≡ false)
     {X : Type 0} (row_of : X → Row) where
-  pub shown_checked : (IsRead IsStored : X → Type 0) → ((x y : X) → IsRead x → IsStored y → row_of x ≡ row_of y → x ≡ y) → (old new : State) (xs : List X) → old.now.schema ≡ schema → Shown sql params old new (map row_of xs)
-      → AllByRecursion IsRead xs → (ys : List X) → AllByRecursion IsStored ys → Keeps place old.now.trees (map row_of ys) → xs ≡ filter (λ y. passes (row_of y)) ys
+  pub shown_checked : (IsRead IsStored : X → Type 0) → ((x y : X) → IsRead x → IsStored y → row_of x ≡ row_of y → x ≡ y) → (old new : State) (xs : List X)
+      → old.now.schema ≡ schema → Shown sql params old new (map row_of xs)
+      → AllByRecursion IsRead xs → (ys : List X) → AllByRecursion IsStored ys → Keeps place old.now.trees (map row_of ys)
+      → xs ≡ filter (λ y. passes (row_of y)) ys
   shown_checked IsRead IsStored one old new xs has h read ys held keeps =
       let it = reads_as sql params old new schema has _ is.0 bare is.1 (map row_of xs) h in
       let rows = reads_rows place test project order params passes shows tests sorts low old.now.trees (map row_of xs) (map row_of ys) keeps (it.answer Null) in
-      same_values row_of IsRead IsStored one xs (filter (λ y. passes (row_of y)) ys) read (all_filter IsStored (λ y. passes (row_of y)) ys held) (rows ∙ filter-map passes row_of ys)
+      same_values row_of IsRead IsStored one xs (filter (λ y. passes (row_of y)) ys) read (all_filter IsStored (λ y. passes (row_of y)) ys held)
+      (rows ∙ filter-map passes row_of ys)
 
   -- also where the tree is no register's
-  pub shown_exact : (old new : State) (xs : List X) → old.now.schema ≡ schema → Shown sql params old new (map row_of xs) → IsPermutation (filter passes (map (cells place) (old.now.trees place.tree))) (map row_of xs)
+  pub shown_exact : (old new : State) (xs : List X) → old.now.schema ≡ schema → Shown sql params old new (map row_of xs)
+      → IsPermutation (filter passes (map (cells place) (old.now.trees place.tree))) (map row_of xs)
   shown_exact old new xs has h =
       let read = reads_as sql params old new schema has _ is.0 bare is.1 (map row_of xs) h in
       reads_exact place test project order params passes shows tests sorts low old.now.trees (map row_of xs) (read.answer Null)

@@ -1,5 +1,6 @@
 -- What INSERT .. ON CONFLICT (key) DO UPDATE, which sets each column, does to a table with a key.
-use Rattle.std.proofs.Common.{◌≡◌, ◌≢◌, inl, inr, ℕ, ℤ, negsuc, suc, ◌/◌, ◌≤◌, ◌^◌, nat_le, ◌&&◌, ◌||◌, not, Bool, true, false, cond, List, [], ◌∷◌, ◌++◌, map, filter, length, slice_get, Option, Some, None, Ok, Ordering, Less, Equal, refl, sym, ap, subst, ◌∙◌, arith}
+use Rattle.std.proofs.Common.{◌≡◌, ◌≢◌, inl, inr, ℕ, ℤ, negsuc, suc, ◌/◌, ◌≤◌, ◌^◌, nat_le, ◌&&◌, ◌||◌, not, Bool, true, false, cond, List, [], ◌∷◌, ◌++◌, map}
+use Rattle.std.proofs.Common.{filter, length, slice_get, Option, Some, None, Ok, Ordering, Less, Equal, refl, sym, ap, subst, ◌∙◌, arith}
 use Rattle.std.specs.List.{list_any, list_all}
 use Rattle.std.specs.Ordering.{is_eq, ordering_reverse}
 use Rattle.std.specs.Cmp.{both_ways}
@@ -70,7 +71,8 @@ rewriting db table rows = edit_of db table (ids_of rows) Given 1 rows
 
 -- Where no row has the key the new one goes in beside those that were there, and else an update is run at the first that has it.
 abbrev pub Goes : Table → ℕ → List Term → List Term → Trees → Trees → Row → List Row → Type 0
-Goes table tree test sets old new values [] = (is_taken (old tree) (stored (old tree) values) ≡ false) × (new tree ≡ put_row (stored (old tree) values) (old tree))
+Goes table tree test sets old new values [] = (is_taken (old tree) (stored (old tree) values) ≡ false)
+    × (new tree ≡ put_row (stored (old tree) values) (old tree))
 Goes table tree test sets old new values (there ∷ more) =
     (rows : List Row) × IsAnswer (finding tree test sets) (overlay old []) (seen table (old tree) values there) rows
     × (are_fresh (left_by old (rewriting old table rows)) (rewriting old table rows).news ≡ true) × (new tree ≡ edited old (rewriting old table rows))
@@ -81,7 +83,8 @@ pub record IsUpserted (schema : Schema) (table : Table) (tree : ℕ) (target : L
   pub goes : Goes table tree test sets old new values found
   pub others : (t : ℕ) → t ≢ tree → IsNoIndex schema t → new t ≡ old t
 
-module _ (schema : Schema) (at : ℕ) (name : List ℕ) (tree : ℕ) (columns : List Column) (places : List ℕ) (others : List (List ℕ)) (terms : List Term) (width : ℕ) (values : Row)
+module _ (schema : Schema) (at : ℕ) (name : List ℕ) (tree : ℕ) (columns : List Column) (places : List ℕ) (others : List (List ℕ)) (terms : List Term)
+    (width : ℕ) (values : Row)
     (here : slice_get schema.tables at ≡ Some (keyed name tree columns places others))
     (alone : (olds news : List Row) → works schema Enforced 0 tree olds news ≡ [])
     (given : value_rows (values ++ []) (suc width) (length terms / suc width) terms ≡ (Null ∷ values) ∷ [])
@@ -109,7 +112,8 @@ module _ (schema : Schema) (at : ℕ) (name : List ℕ) (tree : ℕ) (columns : 
   again_is trees = rw (casts, cast_int (next_rowid (trees tree)))
 
   -- with no other clause a row that conflicts is no reason to do anything but INSERT
-  cleared : (limit : Option ℕ) (trees : Trees) (one : Written) (found : List Row) → Clears (task limit) Abort (new trees) trees found (Ok one) → Puts (task limit) (new trees) trees (Ok one)
+  cleared : (limit : Option ℕ) (trees : Trees) (one : Written) (found : List Row) → Clears (task limit) Abort (new trees) trees found (Ok one)
+      → Puts (task limit) (new trees) trees (Ok one)
   cleared limit trees one [] h = h
   cleared limit trees one (x ∷ more) h = h
 
@@ -136,7 +140,8 @@ module _ (schema : Schema) (at : ℕ) (name : List ℕ) (tree : ℕ) (columns : 
       subst (Is trees) (sym is)
       (record { found = there ∷ more; are = are; goes = (asked.0, asked.1.answer Null, written.fresh, written.rows); others = written.others })
 
-  judged : (limit : Option ℕ) (trees : Trees) (one : Written) (verdict : Option Refusal) → Judged (task limit) Abort (clause ∷ []) (new trees) trees verdict (Ok one) → Is trees one.trees
+  judged : (limit : Option ℕ) (trees : Trees) (one : Written) (verdict : Option Refusal)
+      → Judged (task limit) Abort (clause ∷ []) (new trees) trees verdict (Ok one) → Is trees one.trees
   judged limit trees one None h = met limit trees one h.0 h.1 h.2
   judged limit trees one (Some why) h = absurd (let e = h in cc)
 
@@ -145,7 +150,8 @@ module _ (schema : Schema) (at : ℕ) (name : List ℕ) (tree : ℕ) (columns : 
   tried limit trees one (inr verdict) = judged limit trees one verdict.0 verdict.2
 
   pub upserts : (limit : Option ℕ) (trees : Trees) (text : List ℕ) (tally : Tally) (next : Database)
-      → Does limit (record { keys = Enforced; in_doubt = false; may_wait = false }) values (record { schema = schema; trees = trees }) text None (InsertOr at Abort (Values terms (suc width)) (clause ∷ [])) (Ok (tally, next))
+      → Does limit (record { keys = Enforced; in_doubt = false; may_wait = false }) values (record { schema = schema; trees = trees }) text None
+      (InsertOr at Abort (Values terms (suc width)) (clause ∷ [])) (Ok (tally, next))
       → (next.schema ≡ schema) × Is trees next.trees
   upserts limit trees text tally next h =
       let on = rw here at h in
@@ -159,7 +165,8 @@ module _ (schema : Schema) (at : ℕ) (name : List ℕ) (tree : ℕ) (columns : 
       let last = went each.2 in
       let made : Is trees one.0.trees = tried limit trees one.0 (subst (λ r. Tries (task limit) Abort (clause ∷ []) r trees (Ok one.0)) (new_is trees) one.1) in
       let joined_is : each.0.0.trees ≡ one.0.trees = ap (λ (d : Written × ℤ). d.0.trees) (same_value one.2) in
-      let trees_is : next.trees ≡ one.0.trees = ap (λ (d : Database). d.trees) now ∙ ap (λ (w : Written). w.trees) (same_value last.2) ∙ same_value last.1 ∙ joined_is in
+      let trees_is : next.trees ≡ one.0.trees = ap (λ (d : Database). d.trees) now ∙ ap (λ (w : Written). w.trees) (same_value last.2) ∙ same_value last.1
+      ∙ joined_is in
       (ap (λ (d : Database). d.schema) now, subst (λ t. Is trees t) (sym trees_is) made)
 
 -- ---- one row of each key
@@ -217,8 +224,10 @@ module _ (place : Place) (db : Trees) (rows : List Row) (keeps : Keeps place db 
       let entries = db place.tree in
       let shows = cells place in
       let same : IsPermutation (filter (has_key place.keys values) rows) (map shows (filter has entries)) =
-      subst (IsPermutation (filter (has_key place.keys values) rows)) (filter-map (has_key place.keys values) shows entries) (IsPermutation-filter (has_key place.keys values) _ _ keeps.same) in
-      let long : length (filter has entries) ≡ length (filter (has_key place.keys values) rows) = sym (length-map (filter has entries) shows) ∙ length_permutation _ _ same in
+      subst (IsPermutation (filter (has_key place.keys values) rows)) (filter-map (has_key place.keys values) shows entries)
+      (IsPermutation-filter (has_key place.keys values) _ _ keeps.same) in
+      let long : length (filter has entries) ≡ length (filter (has_key place.keys values) rows) =
+      sym (length-map (filter has entries) shows) ∙ length_permutation _ _ same in
       let low : length (filter has entries) ≤ 1 = rw long (few place.keys values rows keeps.rising) in
       at_most (filter has entries) x y low (has_kept has entries x h p) (has_kept has entries y k q)
 
@@ -235,13 +244,18 @@ module _ (place : Place) (schema : Schema) (at : ℕ) (name : List ℕ) (columns
     (shown_as : (id : ℤ) → cells place (Int id ∷ values) ≡ values)
     (filled : is_full place.keys values ≡ true)
     (test sets : List Term)
-    (tests : (entries : List Row) (there r : Row) → list_all (holds (seen (keyed name place.tree columns (places_from 1 place.keys) others) entries values there ∷ r ∷ [])) test ≡ (equal Binary (rowid r) (rowid there) && true))
-    (gives : (entries : List Row) (there r : Row) → eval_all sets (seen (keyed name place.tree columns (places_from 1 place.keys) others) entries values there ∷ r ∷ []) ≡ rowid r ∷ rowid r ∷ values)
+    (tests : (entries : List Row) (there r : Row)
+    → list_all (holds (seen (keyed name place.tree columns (places_from 1 place.keys) others) entries values there ∷ r ∷ [])) test ≡
+    (equal Binary (rowid r) (rowid there) && true))
+    (gives : (entries : List Row) (there r : Row)
+    → eval_all sets (seen (keyed name place.tree columns (places_from 1 place.keys) others) entries values there ∷ r ∷ []) ≡ rowid r ∷ rowid r ∷ values)
     (low : nat_le (2 ^ 31) place.tree ≡ false)
-    (shared : (a b : Row) → list_any (shares (Some (places_from 1 place.keys)) (keyed name place.tree columns (places_from 1 place.keys) others) a b) schema.indexes
+    (shared : (a b : Row)
+    → list_any (shares (Some (places_from 1 place.keys)) (keyed name place.tree columns (places_from 1 place.keys) others) a b) schema.indexes
     ≡ (agree plain (places_from 1 place.keys) b (places_from 1 place.keys) a || false))
     (is : command_of (understood schema sql)
-    ≡ InsertOr at Abort (Values terms (suc (length place.at))) (record { target = Some (places_from 1 place.keys); update = Some (record { lets = []; body = finding place.tree test sets }) } ∷ [])) where
+    ≡ InsertOr at Abort (Values terms (suc (length place.at)))
+    (record { target = Some (places_from 1 place.keys); update = Some (record { lets = []; body = finding place.tree test sets }) } ∷ [])) where
   abbrev that : Table
   that = keyed name place.tree columns (places_from 1 place.keys) others
 
@@ -257,9 +271,11 @@ module _ (place : Place) (schema : Schema) (at : ℕ) (name : List ℕ) (columns
       let params = seen that entries values there in
       let p = λ (x : Row). list_all (holds (params ∷ x ∷ [])) test in
       let thing = λ (x : Row) (k : Has entries x). ap is_null (own_id place db rows keeps x k) in
-      let p_is = λ (x : Row) (k : Has entries x). tests entries there x ∙ and_yes _ ∙ ap (equal Binary (rowid x)) id_is ∙ equal_is (rowid x) (rowid r) (thing x k) (thing r h) in
+      let p_is = λ (x : Row) (k : Has entries x). tests entries there x ∙ and_yes _ ∙ ap (equal Binary (rowid x)) id_is
+      ∙ equal_is (rowid x) (rowid r) (thing x k) (thing r h) in
       let one : filter p entries ≡ r ∷ [] =
-      only p r entries keeps.shaped.0 h (p_is r h ∙ ap is_eq (tied_itself value_cmp_total (rowid r))) (λ x k yes. tied_same entries x r keeps.shaped.0 k h (tie_is _ (sym (p_is x k) ∙ yes))) in
+      only p r entries keeps.shaped.0 h (p_is r h ∙ ap is_eq (tied_itself value_cmp_total (rowid r)))
+      (λ x k yes. tied_same entries x r keeps.shaped.0 k h (tie_is _ (sym (p_is x k) ∙ yes))) in
       let kept : a.kept ≡ output q (params ∷ r ∷ []) ∷ [] =
       kept_from place.tree test sets [] (negsuc 0) params low db answer a ∙ ap (map (λ x. output q (params ∷ x ∷ []))) one in
       let ordered : a.ordered ≡ output q (params ∷ r ∷ []) ∷ [] = one_permutation _ a.ordered (subst (λ l. IsPermutation l a.ordered) kept a.same) in
@@ -285,7 +301,8 @@ module _ (place : Place) (schema : Schema) (at : ℕ) (name : List ℕ) (columns
       (all_from _ entries (λ r h. ap not (false_from_ne_true _ (λ same. are.complete r h (conflicts_is old rows keeps r h ∙ same)))))) in
       keeps_put place old (stored entries values) values entries keeps.shaped left rows keeps new filled (shown_as (next_rowid entries)) refl goes.0 goes.1
 
-  keeps_over : (old new : Trees) (there : Row) (more : List Row) → AreConflicts (Some (places_from 1 place.keys)) schema.indexes that (old place.tree) (stored (old place.tree) values) (there ∷ more)
+  keeps_over : (old new : Trees) (there : Row) (more : List Row)
+      → AreConflicts (Some (places_from 1 place.keys)) schema.indexes that (old place.tree) (stored (old place.tree) values) (there ∷ more)
       → Goes that place.tree test sets old new values (there ∷ more) → Goal old new
   keeps_over old new there more are goes rows keeps =
       let entries = old place.tree in
@@ -299,9 +316,11 @@ module _ (place : Place) (schema : Schema) (at : ℕ) (name : List ℕ) (columns
       let cast_is : cast_row that (rowid r ∷ values) ≡ Int id ∷ values = ap (λ v. cast_row that (v ∷ values)) id_is ∙ rw (casts, cast_int id) in
       let news_is : (edit goes.0).news ≡ (Int id ∷ values) ∷ [] = ap (λ found. (edit found).news) answer ∙ ap (λ x. x ∷ []) cast_is in
       let left_is : left_by old (edit goes.0) ≡ without_rowid id entries = ap (λ found. left_by old (edit found)) answer in
-      let fresh : are_fresh (without_rowid id entries) ((Int id ∷ values) ∷ []) ≡ true = subst (λ l. are_fresh l ((Int id ∷ values) ∷ []) ≡ true) left_is (subst (λ l. are_fresh (left_by old (edit goes.0)) l ≡ true) news_is goes.2) in
+      let fresh : are_fresh (without_rowid id entries) ((Int id ∷ values) ∷ []) ≡ true =
+      subst (λ l. are_fresh l ((Int id ∷ values) ∷ []) ≡ true) left_is (subst (λ l. are_fresh (left_by old (edit goes.0)) l ≡ true) news_is goes.2) in
       let free : is_taken (without_rowid id entries) (Int id ∷ values) ≡ false = not-true _ (and_parts _ _ fresh).0 in
-      let is : new place.tree ≡ put_row (Int id ∷ values) (without_rowid id entries) = goes.3 ∙ ap (put_all (left_by old (edit goes.0))) news_is ∙ ap (put_row (Int id ∷ values)) left_is in
+      let is : new place.tree ≡ put_row (Int id ∷ values) (without_rowid id entries) =
+      goes.3 ∙ ap (put_all (left_by old (edit goes.0))) news_is ∙ ap (put_row (Int id ∷ values)) left_is in
       let at_id = λ (x : Row) (h : Has entries x).
       both_ways (has_rowid id x) (is_eq (by_key place.keys (cells place x) values))
       (λ yes. subst (λ y. is_eq (by_key place.keys (cells place y) values) ≡ true)
@@ -312,19 +331,29 @@ module _ (place : Place) (schema : Schema) (at : ℕ) (name : List ℕ) (columns
       filter_same _ (λ x. not (is_eq (by_key place.keys (cells place x) values))) entries (all_from _ entries (λ x h. ap not (at_id x h))) in
       keeps_put place old (Int id ∷ values) values (without_rowid id entries) keeps.shaped left rows keeps new filled (shown_as id) refl free is
 
-  keeps_either : (old new : Trees) (found : List Row) → AreConflicts (Some (places_from 1 place.keys)) schema.indexes that (old place.tree) (stored (old place.tree) values) found
+  keeps_either : (old new : Trees) (found : List Row)
+      → AreConflicts (Some (places_from 1 place.keys)) schema.indexes that (old place.tree) (stored (old place.tree) values) found
       → Goes that place.tree test sets old new values found → Goal old new
   keeps_either old new [] are goes = keeps_new old new are goes
   keeps_either old new (there ∷ more) are goes = keeps_over old new there more are goes
 
   abbrev Upserts_it : Command
-  Upserts_it = InsertOr at Abort (Values terms (suc (length place.at))) (record { target = Some (places_from 1 place.keys); update = Some (record { lets = []; body = finding place.tree test sets }) } ∷ [])
+  Upserts_it = InsertOr at Abort (Values terms (suc (length place.at)))
+      (record { target = Some (places_from 1 place.keys); update = Some (record { lets = []; body = finding place.tree test sets }) } ∷ [])
 
   -- the statement makes the change
-  pub executes_upsert : (old new : State) (count : ℕ) → old.now.schema ≡ schema → Executes sql values old new (Ok count) → (new.now.schema ≡ schema) × Changes place schema values old.now.trees new.now.trees
+  pub executes_upsert : (old new : State) (count : ℕ) → old.now.schema ≡ schema → Executes sql values old new (Ok count) → (new.now.schema ≡ schema)
+      × Changes place schema values old.now.trees new.now.trees
   executes_upsert old new count has h =
       let w = runs_as sql values old new schema has Upserts_it is bare count h in
       let text = statement_of sql (understood schema sql) in
-      let p = upserts schema at name place.tree columns (places_from 1 place.keys) others terms (length place.at) values here alone given casts test sets old.step_limit old.now.trees text w.tally new.now
-      (subst (λ s. Does old.step_limit (mode_of old) values (record old.now { schema = s }) text None Upserts_it (Ok (w.tally, new.now))) has w.changed) in
-      (p.0, record { sound = subst (λ s. IsSound s new.now.trees) p.0 w.sound; rows = keeps_either old.now.trees new.now.trees p.1.found p.1.are p.1.goes; others = p.1.others })
+      let p = upserts schema at name place.tree columns (places_from 1 place.keys) others terms
+      (length place.at) values here alone given casts test sets old.step_limit old.now.trees text w.tally new.now
+      (subst (λ s. Does old.step_limit (mode_of old) values (record old.now { schema = s }) text None Upserts_it (Ok (w.tally, new.now))) has w.changed) in (
+        p.0,
+        record {
+          sound = subst (λ s. IsSound s new.now.trees) p.0 w.sound;
+          rows = keeps_either old.now.trees new.now.trees p.1.found p.1.are p.1.goes;
+          others = p.1.others;
+        },
+      )

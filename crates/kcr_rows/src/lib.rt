@@ -1,5 +1,14 @@
-//! Tables whose rows stand under a key: the cells of a row as values, what a tree keeps as a list of rows in the order
-//! of their keys, and what one statement on such a table shows and does.
+//! The rows of the register's tables as values: the cells of a row, the row that stands for a value, what a tree keeps
+//! as a list of rows in the order of their keys, and what one statement on such a table shows and does. `statements`
+//! alone calls the database.
+//!
+//! `rows` is written by the program `tools/tables.py`.
 #![tactic(auto)]
 
 pub mod cells;
+pub mod lists;
+mod rows;
+pub mod statements;
+pub mod stored;
+
+pub use rows::Version;

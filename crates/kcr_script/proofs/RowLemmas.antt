@@ -1,5 +1,6 @@
 -- The rows of a text are the records that `csv` reads in it.
-use Rattle.std.proofs.Common.{◌≡◌, ℕ, zero, suc, ◌+◌, ◌-◌, ◌≤◌, ◌<◌, inl, inr, ◌⊎◌, Bool, true, false, cond, List, [], ◌∷◌, length, Option, Some, None, refl, sym, ap, subst, ◌∙◌, arith}
+use Rattle.std.proofs.Common.{◌≡◌, ℕ, zero, suc, ◌+◌, ◌-◌, ◌≤◌, ◌<◌, inl, inr, ◌⊎◌, Bool, true, false, cond, List, [], ◌∷◌, length, Option, Some, None, refl}
+use Rattle.std.proofs.Common.{sym, ap, subst, ◌∙◌, arith}
 use Rattle.std.specs.Prelude.{◌==◌, ◌||◌}
 use Rattle.std.proofs.lemmas.Bool.{cond_both}
 use Rattle.std.proofs.lemmas.Option.{cond_some}
@@ -47,7 +48,8 @@ EndsWell p = is_end p.1 ≡ true → ends_at_end p.0 ≡ false
 field_ends : (c : ℕ) → EndsWell (in_field default_config c)
 field_ends c =
     cond_both (c == 44) _ _ EndsWell (λ e h. cc) (λ e.
-    cond_both ((c == 13) || (c == 10)) _ _ EndsWell (λ e h. cond_both (c == 13) st.AfterCr st.StartRecord (λ s. ends_at_end s ≡ false) (λ e. refl) (λ e. refl)) (λ e h. cc))
+    cond_both ((c == 13) || (c == 10)) _ _ EndsWell (λ e h. cond_both (c == 13) st.AfterCr st.StartRecord (λ s. ends_at_end s ≡ false) (λ e. refl) (λ e. refl))
+    (λ e h. cc))
 
 first_field_ends : (c : ℕ) → EndsWell (start_field default_config c)
 first_field_ends c = cond_both (c == 34) _ _ EndsWell (λ e h. cc) (λ e. field_ends c)
@@ -84,7 +86,8 @@ leaves (b ∷ rest) s fields field p e =
           let same : (fields_after (step default_config s b).1 fields field, (step default_config s b).0, rest) ≡ p = cc in
           subst (Leaves (b ∷ rest)) same (step_ends s b ends.0, omega arith)
       | inr on ↦
-          let more = leaves rest (step default_config s b).0 (fields_after (step default_config s b).1 fields field) (field_after (step default_config s b).1 b field) p on.1 in
+          let more = leaves rest (step default_config s b).0 (fields_after (step default_config s b).1 fields field)
+          (field_after (step default_config s b).1 b field) p on.1 in
           (more.0, omega (arith, more.1))
     ]
 

@@ -1,5 +1,6 @@
 -- A text is the script of the steps that `script_of` gives, or breaks a rule at the row that it gives.
-use Rattle.std.proofs.Common.{◌≡◌, ℕ, ◌+◌, ◌≤◌, inl, inr, true, not, ◌&&◌, List, [], ◌∷◌, length, All, Option, Some, None, Result, Ok, Err, IfOk, IfErr, MatchResult, refl, sym, ap, ◌∙◌, arith}
+use Rattle.std.proofs.Common.{◌≡◌, ℕ, ◌+◌, ◌≤◌, inl, inr, true, not, ◌&&◌, List, [], ◌∷◌, length, All, Option, Some, None, Result, Ok, Err, IfOk, IfErr}
+use Rattle.std.proofs.Common.{MatchResult, refl, sym, ap, ◌∙◌, arith}
 use Rattle.std.specs.Prelude.{◌==◌, nat_lt, nat_le, option_map}
 use Rattle.std.specs.Bool.{Decides}
 use Rattle.std.specs.List.{AllByRecursion, list_all}
@@ -36,7 +37,8 @@ all_print text =
     (λ b. Decides-and (nat_le 32 b) (not (b == 127)) (leb-true 32 b, le-leb 32 b) (Decides-not (b == 127) (Decides-eqb b 127))) refl (λ b bytes. refl) text
 
 activity_passes : (text : List ℕ) → IsLine 500 text → is_activity text ≡ true
-activity_passes text h = rw (le-leb 1 (length text) h.not_empty, le-leb (length text) 500 h.short, is_utf8-from_IsUtf8 text h.text, (all_print text).1 h.printing) refl
+activity_passes text h = rw
+    (le-leb 1 (length text) h.not_empty, le-leb (length text) 500 h.short, is_utf8-from_IsUtf8 text h.text, (all_print text).1 h.printing) refl
 
 passed_activity : (text : List ℕ) → is_activity text ≡ true → IsLine 500 text
 passed_activity text e =
@@ -55,7 +57,8 @@ step_read k row step h =
     let number : same_text (decimal k) (decimal k) ≡ true = (bytes_decides (decimal k) (decimal k)).1 refl in
     rw (h.three, number, activity_passes step.activity h.activity, seats_read h.seat_text step.seats h.seats) refl
 
-with_seats : (activity : List ℕ) (found : Option (List Seat)) (step : Step) → option_map (λ seats. record { activity = activity; seats = seats }) found ≡ Some step
+with_seats : (activity : List ℕ) (found : Option (List Seat)) (step : Step)
+    → option_map (λ seats. record { activity = activity; seats = seats }) found ≡ Some step
     → (found ≡ Some step.seats) × (activity ≡ step.activity)
 with_seats activity None step e = cc
 with_seats activity (Some seats) step e =
@@ -104,7 +107,8 @@ fault_read k (row ∷ rows) r (inr (low, step, is, more)) = rw (le-ltb 400 k low
 abbrev Told : ℕ → List Fields → Result (List Step) ℕ → Type 0
 Told k rows found = MatchResult found (AreSteps k rows) (BreaksFrom k rows)
 
-told_more : (k : ℕ) (row : Fields) (rows : List Fields) → k ≤ 400 → (found : Option Step) → step_of k row ≡ found → (others : Result (List Step) ℕ) → Told (k + 1) rows others
+told_more : (k : ℕ) (row : Fields) (rows : List Fields) → k ≤ 400 → (found : Option Step) → step_of k row ≡ found → (others : Result (List Step) ℕ)
+    → Told (k + 1) rows others
     → Told k (row ∷ rows) (join_steps k found others)
 told_more k row rows low None e others h = inl (inr (λ step is. (let clash = sym e ∙ step_read k row step is in cc)), refl)
 told_more k row rows low (Some step) e (Ok steps) h = (low, row_of k row step e, h)
@@ -140,7 +144,8 @@ told_rows (first ∷ rows) =
     cond_both (pointwise same_text first header) (some_steps rows) (Err 1) (λ found. MatchResult found (IsScriptRows (first ∷ rows)) (BreaksAt (first ∷ rows)))
     (λ e. by rows ((is_header first).0 e)) (λ e. inl (λ is. both_ways _ e ((is_header first).1 is), refl))
   where
-    under : (rows : List Fields) (found : Result (List Step) ℕ) → first ≡ header → 1 ≤ length rows → Told 1 rows found → MatchResult found (IsScriptRows (first ∷ rows)) (BreaksAt (first ∷ rows))
+    under : (rows : List Fields) (found : Result (List Step) ℕ) → first ≡ header → 1 ≤ length rows → Told 1 rows found
+        → MatchResult found (IsScriptRows (first ∷ rows)) (BreaksAt (first ∷ rows))
     under rows (Ok steps) is some h = (is, some, h)
     under rows (Err r) is some h = inr (is, inr h)
 
@@ -210,7 +215,9 @@ row_named P Q Memory f h = tt
 row_named P Q (Script row) f h = f row h
 row_named P Q other f h = absurd h
 
-pub script_is : (text : List ℕ) (rows : List Fields) → AreRows text rows → (found : Result (List Step) Refusal) → IfOk found (IsScriptRows rows) → IfErr found (IfRow (BreaksAt rows))
+pub script_is : (text : List ℕ) (rows : List Fields) → AreRows text rows → (found : Result (List Step) Refusal) → IfOk found (IsScriptRows rows)
+    → IfErr found (IfRow (BreaksAt rows))
     → MatchResult found (λ steps. script_of text ≡ Ok steps) (IfRow (λ row. script_of text ≡ Err row))
 script_is text rows are (Ok steps) is breaks = script_read text steps (rows, are, is)
-script_is text rows are (Err refusal) is breaks = row_named (BreaksAt rows) (λ row. script_of text ≡ Err row) refusal (λ row h. break_read text row (rows, are, h)) breaks
+script_is text rows are (Err refusal) is breaks = row_named (BreaksAt rows) (λ row. script_of text ≡ Err row) refusal
+    (λ row h. break_read text row (rows, are, h)) breaks

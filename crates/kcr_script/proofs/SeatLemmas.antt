@@ -1,5 +1,6 @@
 -- How a text of items begins.
-use Rattle.std.proofs.Common.{rules, ◌≡◌, ◌≢◌, ℕ, ◌+◌, ◌≤◌, Bool, true, false, cond, eqb, List, [], ◌∷◌, ◌++◌, length, replicate, Option, Some, None, refl, sym, ap, ◌∙◌, arith, All, append_assoc, append-nil, length-append}
+use Rattle.std.proofs.Common.{rules, ◌≡◌, ◌≢◌, ℕ, ◌+◌, ◌≤◌, Bool, true, false, cond, eqb, List, [], ◌∷◌, ◌++◌, length, replicate, Option, Some, None, refl, sym}
+use Rattle.std.proofs.Common.{ap, ◌∙◌, arith, All, append_assoc, append-nil, length-append}
 use Rattle.std.specs.List.{flat_map, AllByRecursion}
 use Rattle.std.specs.Option.{MatchOption}
 use denote.Ref.{Bor}
@@ -9,7 +10,8 @@ use Rattle.std.proofs.lemmas.Bool.{both_ways}
 use Rattle.kcr_script.specs.declared.seat.Seat.{Seat}
 use Rattle.kcr_script.specs.declared.seat.Seat.TheVariants.{Staff, Co, Rksh}
 use Rattle.kcr_script.specs.Seat.{seat_text, IsSeat, can_repeat}
-use Rattle.kcr_script.specs.Seats.{Item, IsItem, star_text, item_text, after_semicolon, joined, item_seats, pair_item, Spells, StandsFor, IsSeats, Leads, IsLast}
+use Rattle.kcr_script.specs.Seats.{Item, IsItem, star_text, item_text, after_semicolon, joined, item_seats, pair_item, Spells, StandsFor, IsSeats, Leads}
+use Rattle.kcr_script.specs.Seats.{IsLast}
 
 -- ITEMS
 
@@ -40,7 +42,8 @@ star_plain n h false = (omega arith, (omega arith, tt))
 -- an item has no semicolon
 pub item_plain : (item : Item) → IsItem item → All Plain (item_text item)
 item_plain item h =
-    All-append Plain (seat_text item.seat) (star_text item.count) (All-from_recursion Plain _ (seat_plain item.seat h.seat)) (All-from_recursion Plain _ (star_plain item.count h.seven (eqb item.count 1)))
+    All-append Plain (seat_text item.seat) (star_text item.count) (All-from_recursion Plain _ (seat_plain item.seat h.seat))
+    (All-from_recursion Plain _ (star_plain item.count h.seven (eqb item.count 1)))
 
 -- a text is cut at its first semicolon in one way
 cut_same : (a b x y : List ℕ) → All Plain a → All Plain b → a ++ 59 ∷ x ≡ b ++ 59 ∷ y → (a ≡ b) × (x ≡ y)
@@ -70,7 +73,8 @@ spells_one item is = record {
   seats_are = sym (append-nil (item_seats item));
 }
 
-pub spells_more : (item : Item) (rest : List ℕ) (seats : List Seat) → IsItem item → Spells rest seats → Spells (item_text item ++ 59 ∷ rest) (item_seats item ++ seats)
+pub spells_more : (item : Item) (rest : List ℕ) (seats : List Seat) → IsItem item → Spells rest seats
+    → Spells (item_text item ++ 59 ∷ rest) (item_seats item ++ seats)
 spells_more item rest seats is h = record {
   first = item;
   more = h.first ∷ h.more;
@@ -111,7 +115,15 @@ first_item front rest all free h = by h.more h.each_more h.text_is h.seats_are
     by [] each t s = absurd (cut_none front rest (item_text h.first) (item_plain h.first h.is_first) (t ∙ append-nil (item_text h.first)))
     by (item ∷ more) each t s =
         let r = cut_same front (item_text h.first) rest (joined item more) free (item_plain h.first h.is_first) t in
-        let spells : Spells rest (flat_map item_seats (item ∷ more)) = record { first = item; more = more; is_first = each.0; each_more = each.1; text_is = r.1; seats_are = refl } in
+        let spells : Spells rest
+        (flat_map item_seats (item ∷ more)) = record {
+          first = item;
+          more = more;
+          is_first = each.0;
+          each_more = each.1;
+          text_is = r.1;
+          seats_are = refl;
+        } in
         record { item = h.first; is = h.is_first; text_is = sym r.0; holds = (flat_map item_seats (item ∷ more), spells, s) }
 
 -- ---- what a step of the reader answers
@@ -129,7 +141,8 @@ IsCut text front rest = MatchOption rest (text ≡ front) (λ r. text ≡ front 
 abbrev Goes : List ℕ → Seat → ℕ → Option (Bor (List ℕ)) → Type 0
 Goes text seat count rest = MatchOption rest (IsLast text seat count) (λ r. Leads text seat count r.now)
 
-pub step_none : (text front : List ℕ) (rest : Option (Bor (List ℕ))) → All Plain front → IsCut text front rest → Only front None → (all : List Seat) → Spells text all → ⊥
+pub step_none : (text front : List ℕ) (rest : Option (Bor (List ℕ))) → All Plain front → IsCut text front rest → Only front None → (all : List Seat)
+    → Spells text all → ⊥
 step_none text front None free e only all h = let r = whole_item front all free (rw e at h) in let clash = only r.item r.is r.text_is in cc
 step_none text front (Some rest) free e only all h = let r = first_item front rest.now all free (rw e at h) in let clash = only r.item r.is r.text_is in cc
 
@@ -153,7 +166,8 @@ pub step_front : (rest : List ℕ) (seat : Seat) (count : ℕ) (more : Option (B
 step_front rest seat count None h all s = ([], h.only all s ∙ sym (append-nil (replicate count seat)))
 step_front rest seat count (Some r) h all s = let b = h.back all s in (b.0, b.2)
 
-pub more_than : (all done tail back : List Seat) (seat : Seat) (count : ℕ) → all ≡ done ++ tail → tail ≡ replicate count seat ++ back → length done + count ≤ length all
+pub more_than : (all done tail back : List Seat) (seat : Seat) (count : ℕ) → all ≡ done ++ tail → tail ≡ replicate count seat ++ back
+    → length done + count ≤ length all
 more_than all done tail back seat count e f =
     omega (arith, ap length e, length-append done tail, ap length f, length-append (replicate count seat) back, length-replicate count seat)
 
@@ -181,13 +195,20 @@ module _ (text rest : List ℕ) (done new : List Seat) (seat : Seat) (count : �
 
 items_seats : (items : List Item) → AllByRecursion IsItem items → All IsSeat (flat_map item_seats items)
 items_seats [] h = All-nil IsSeat
-items_seats (item ∷ more) h = All-append IsSeat (item_seats item) (flat_map item_seats more) (All-replicate IsSeat item.count item.seat h.0.seat) (items_seats more h.1)
+items_seats (item ∷ more) h = All-append IsSeat (item_seats item) (flat_map item_seats more) (All-replicate IsSeat item.count item.seat h.0.seat)
+    (items_seats more h.1)
 
 pub stands_are_seats : (text : List ℕ) (seats : List Seat) → StandsFor text seats → IsSeats seats
 stands_are_seats text seats h =
     let s = h.spells in
     record {
-      some_seat = omega (arith, ap length s.seats_are, length-append (item_seats s.first) (flat_map item_seats s.more), length-replicate s.first.count s.first.seat, s.is_first.one);
+      some_seat = omega (
+        arith,
+        ap length s.seats_are,
+        length-append (item_seats s.first) (flat_map item_seats s.more),
+        length-replicate s.first.count s.first.seat,
+        s.is_first.one,
+      );
       sixteen = h.sixteen;
       each = All-same IsSeat seats (item_seats s.first ++ flat_map item_seats s.more) s.seats_are (items_seats (s.first ∷ s.more) (s.is_first, s.each_more));
     }

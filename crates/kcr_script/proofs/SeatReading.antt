@@ -1,5 +1,6 @@
 -- A text stands for the seats that `seats_of` gives, and for no others.
-use Rattle.std.proofs.Common.{◌≡◌, ℕ, zero, suc, ◌≤◌, Bool, true, false, eqb, leb, List, [], ◌∷◌, ◌++◌, map, length, All, Option, Some, None, IfSome, refl, sym, ap, subst, ◌∙◌, arith, append-nil}
+use Rattle.std.proofs.Common.{◌≡◌, ℕ, zero, suc, ◌≤◌, Bool, true, false, eqb, leb, List, [], ◌∷◌, ◌++◌, map, length, All, Option, Some, None, IfSome, refl, sym}
+use Rattle.std.proofs.Common.{ap, subst, ◌∙◌, arith, append-nil}
 use Rattle.std.specs.List.{flat_map, find, AllByRecursion, join_with_byte}
 use Rattle.std.specs.Cmp.Lexicographic.{bytes_decides}
 use Rattle.std.proofs.lemmas.Bool.{le-leb, leb-true, ne_eqb, cond_both}
@@ -12,7 +13,8 @@ use Rattle.kcr_script.specs.declared.seat.Seat.{Seat}
 use Rattle.kcr_script.specs.declared.seat.Seat.TheVariants.{Staff, Co, Rksh}
 use Rattle.kcr_script.specs.Seat.{IsSeat, can_repeat}
 use Rattle.kcr_script.specs.Seats.{Item, IsItem, item_text, item_seats, pair_item, joined, Spells, StandsFor}
-use Rattle.kcr_script.specs.Reading.{one_to_seven, free_seats, repeated, all_items, item_of, between_semicolons, join_items, seats_of_items, at_most_sixteen, seats_of}
+use Rattle.kcr_script.specs.Reading.{one_to_seven, free_seats, repeated, all_items, item_of, between_semicolons, join_items, seats_of_items, at_most_sixteen}
+use Rattle.kcr_script.specs.Reading.{seats_of}
 use Rattle.kcr_script.proofs.SeatLemmas.{Plain, item_plain, both_lists, one_item, more_items, spells_one, spells_more}
 
 -- ---- the item with a text
@@ -34,7 +36,8 @@ from_seven P f =
 free_items : (seats : List Seat) → AllByRecursion (λ seat. IsSeat seat × (can_repeat seat ≡ true)) seats → AllByRecursion IsItem (flat_map repeated seats)
 free_items [] h = tt
 free_items (seat ∷ seats) h =
-    both_lists IsItem (repeated seat) (flat_map repeated seats) (from_seven (λ n. IsItem (pair_item (seat, n))) (λ n. more_items seat n h.0.0 h.0.1)) (free_items seats h.1)
+    both_lists IsItem (repeated seat) (flat_map repeated seats) (from_seven (λ n. IsItem (pair_item (seat, n))) (λ n. more_items seat n h.0.0 h.0.1))
+    (free_items seats h.1)
 
 nine_seats : AllByRecursion (λ seat. IsSeat seat × (can_repeat seat ≡ true)) free_seats
 nine_seats = ((tt, refl), ((tt, refl), ((tt, refl), ((tt, refl), ((tt, refl), ((tt, refl), ((tt, refl), ((tt, refl), ((tt, refl), tt)))))))))
@@ -42,7 +45,8 @@ nine_seats = ((tt, refl), ((tt, refl), ((tt, refl), ((tt, refl), ((tt, refl), ((
 all_are_items : AllByRecursion IsItem all_items
 all_are_items =
     both_lists IsItem (flat_map repeated free_seats ++ map (λ n. pair_item (Co n, 1)) one_to_seven) (map (λ n. pair_item (Rksh n, 1)) one_to_seven)
-    (both_lists IsItem (flat_map repeated free_seats) (map (λ n. pair_item (Co n, 1)) one_to_seven) (free_items free_seats nine_seats) (numbered Co (λ n low high. (low, high))))
+    (both_lists IsItem (flat_map repeated free_seats) (map (λ n. pair_item (Co n, 1)) one_to_seven) (free_items free_seats nine_seats)
+    (numbered Co (λ n low high. (low, high))))
     (numbered Rksh (λ n low high. (low, high)))
   where
     numbered : (seat_at : ℕ → Seat) → ((n : ℕ) → 1 ≤ n → n ≤ 7 → IsSeat (seat_at n)) → AllByRecursion IsItem (map (λ n. pair_item (seat_at n, 1)) one_to_seven)
@@ -87,7 +91,8 @@ item_again item is = again item.seat item.count is
 no_semicolon : (item : Item) → IsItem item → All (λ b. eqb b 59 ≡ false) (item_text item)
 no_semicolon item is = All-weaker Plain (λ b. eqb b 59 ≡ false) (λ b h. ne_eqb b 59 h) (item_text item) (item_plain item is)
 
-pieces : (first : Item) (more : List Item) → IsItem first → AllByRecursion IsItem more → between_semicolons (joined first more) ≡ item_text first ∷ map item_text more
+pieces : (first : Item) (more : List Item) → IsItem first → AllByRecursion IsItem more → between_semicolons (joined first more) ≡ item_text first
+    ∷ map item_text more
 pieces first [] is each =
     ap between_semicolons (append-nil (item_text first)) ∙ slice_split_none (λ b. eqb b 59) (item_text first) (no_semicolon first is)
 pieces first (next ∷ more) is each =
@@ -118,9 +123,11 @@ more_pieces text rest (Some item) e (Some seats) h = let f = item_found text ite
 -- the texts, joined, are made of the items that are found
 spells_pieces : (text : List ℕ) (texts : List (List ℕ)) → IfSome (seats_of_items (text ∷ texts)) (Spells (join_with_byte 59 (text ∷ texts)))
 spells_pieces text [] = one_piece text (item_of text) refl
-spells_pieces text (next ∷ texts) = more_pieces text (join_with_byte 59 (next ∷ texts)) (item_of text) refl (seats_of_items (next ∷ texts)) (spells_pieces next texts)
+spells_pieces text (next ∷ texts) = more_pieces text (join_with_byte 59 (next ∷ texts)) (item_of text) refl (seats_of_items (next ∷ texts))
+    (spells_pieces next texts)
 
-spells_some : (text : List ℕ) (texts : List (List ℕ)) (seats : List Seat) → between_semicolons text ≡ texts → seats_of_items texts ≡ Some seats → join_with_byte 59 texts ≡ text → Spells text seats
+spells_some : (text : List ℕ) (texts : List (List ℕ)) (seats : List Seat) → between_semicolons text ≡ texts → seats_of_items texts ≡ Some seats
+    → join_with_byte 59 texts ≡ text → Spells text seats
 spells_some text [] seats e h j = absurd (omega (arith, ap length e, length-slice_split (λ b. eqb b 59) text))
 spells_some text (piece ∷ texts) seats e h j = rw (← j) (rw h at (spells_pieces piece texts))
 
@@ -141,7 +148,8 @@ seats_stand text seats e =
     record { spells = rw (← c.1) s; sixteen = rw (← c.1) (leb-true (length all) 16 c.0) }))
 
 -- what a reader answers that finds the seats of a text, and only those
-pub seats_are : (text : List ℕ) (found : Option (List Seat)) → IfSome found (StandsFor text) → ((seats : List Seat) → StandsFor text seats → found ≡ Some seats) → found ≡ seats_of text
+pub seats_are : (text : List ℕ) (found : Option (List Seat)) → IfSome found (StandsFor text)
+    → ((seats : List Seat) → StandsFor text seats → found ≡ Some seats) → found ≡ seats_of text
 seats_are text None is only = by (seats_of text) refl
   where
     by : (found : Option (List Seat)) → seats_of text ≡ found → None ≡ seats_of text

@@ -1,12 +1,14 @@
 -- Runs of seats and their groups, and the written text of a list, which stands for it.
-use Rattle.std.proofs.Common.{◌≡◌, ◌≢◌, ℕ, zero, suc, ◌+◌, ◌/◌, ◌%◌, ◌<◌, ◌≤◌, Bool, true, false, cond, eqb, nat_lt, ◌&&◌, List, [], ◌∷◌, length, drop, get_or, refl, sym, ap, subst, ◌∙◌, arith, ◌*◌, inl, inr, ◌++◌, replicate, All, append_assoc, append-nil}
+use Rattle.std.proofs.Common.{◌≡◌, ◌≢◌, ℕ, zero, suc, ◌+◌, ◌/◌, ◌%◌, ◌<◌, ◌≤◌, Bool, true, false, cond, eqb, nat_lt, ◌&&◌, List, [], ◌∷◌, length, drop, get_or}
+use Rattle.std.proofs.Common.{refl, sym, ap, subst, ◌∙◌, arith, ◌*◌, inl, inr, ◌++◌, replicate, All, append_assoc, append-nil}
 use Rattle.std.proofs.lemmas.Bool.Decides.{nat_tests}
 use Rattle.std.proofs.lemmas.Bool.{and_parts, eqb-true, false_from_ne_true, ltb-true, both_ways, cases_eq, cases_Bool}
 use Rattle.kcr_base.specs.declared.place.Role.TheVariants.{Ca, Iw, Sa, Ssc1, Ssc2, Rkos, Sw}
 use Rattle.kcr_script.specs.declared.seat.Seat.{Seat}
 use Rattle.kcr_script.specs.declared.seat.Seat.TheVariants.{Staff, AnyCo, AnyRksh, Co, Rksh}
 use Rattle.kcr_script.specs.Seat.{kind, can_repeat, IsSeat, seat_text}
-use Rattle.kcr_script.specs.Seats.{Item, runs, before_runs, groups, pair_item, IsItem, item_seats, star_text, after_semicolon, appended, all_appended, items_text, written, Spells, StandsFor, IsSeats}
+use Rattle.kcr_script.specs.Seats.{Item, runs, before_runs, groups, pair_item, IsItem, item_seats, star_text, after_semicolon, appended, all_appended}
+use Rattle.kcr_script.specs.Seats.{items_text, written, Spells, StandsFor, IsSeats}
 use Rattle.std.specs.List.{flat_map, AllByRecursion}
 use Rattle.std.proofs.lemmas.List.{replicate-append-replicate}
 use Rattle.std.proofs.lemmas.List.Concat.{flat_map-append}
@@ -42,12 +44,14 @@ first_run : (s : Seat) (rs : List Item) → (n : ℕ) × (more : List Item) × (
 first_run s [] = (1, [], refl)
 first_run s (run ∷ more) = by (nat_lt (kind s) 9 && eqb (kind s) (kind run.seat))
   where
-    by : (b : Bool) → (n : ℕ) × (m : List Item) × (cond b (record { seat = s; count = suc run.count } ∷ more) (record { seat = s; count = 1 } ∷ run ∷ more) ≡ pair_item (s, n) ∷ m)
+    by : (b : Bool) → (n : ℕ) × (m : List Item)
+        × (cond b (record { seat = s; count = suc run.count } ∷ more) (record { seat = s; count = 1 } ∷ run ∷ more) ≡ pair_item (s, n) ∷ m)
     by true = (suc run.count, more, refl)
     by false = (1, run ∷ more, refl)
 
 -- a seat before another makes a run of its own
-alone : (s : Seat) (rest : List Seat) → ((t : Seat) (ts : List Seat) → rest ≡ t ∷ ts → kind s < 9 → s ≢ t) → before_runs s (runs rest) ≡ pair_item (s, 1) ∷ runs rest
+alone : (s : Seat) (rest : List Seat) → ((t : Seat) (ts : List Seat) → rest ≡ t ∷ ts → kind s < 9 → s ≢ t) → before_runs s (runs rest) ≡ pair_item (s, 1)
+    ∷ runs rest
 alone s [] differ = refl
 alone s (t ∷ ts) differ =
     let f = first_run t (runs ts) in
@@ -56,7 +60,8 @@ alone s (t ∷ ts) differ =
     subst P (sym f.2) (rw no refl)
 
 -- the run of a seat that is there i more times, and then no more
-pub run_of : (xs : List Seat) (i : ℕ) (s : Seat) → kind s < 9 → i ≤ length xs → ((k : ℕ) (d : Seat) → k < i → get_or xs k d ≡ s) → ((d : Seat) → i < length xs → get_or xs i d ≢ s)
+pub run_of : (xs : List Seat) (i : ℕ) (s : Seat) → kind s < 9 → i ≤ length xs → ((k : ℕ) (d : Seat) → k < i → get_or xs k d ≡ s)
+    → ((d : Seat) → i < length xs → get_or xs i d ≢ s)
     → runs (s ∷ xs) ≡ pair_item (s, i + 1) ∷ runs (drop i xs)
 run_of xs zero s low h same differ = alone s xs (λ t ts e l g. differ t (omega (arith, ap length e)) (ap (λ (ys : List Seat). get_or ys 0 t) e ∙ sym g))
 run_of [] (suc i) s low h same differ = absurd (omega arith)
@@ -112,9 +117,13 @@ record Are (P : Item → Type 0) (items : List Item) (seats : List Seat) : Type 
 -- the runs of a list
 
 before_runs_are : (s : Seat) (rs : List Item) (seats : List Seat) → IsSeat s → Are IsRun rs seats → Are IsRun (before_runs s rs) (s ∷ seats)
-before_runs_are s [] seats seat h = record { each = (record { seat = seat; some = omega arith; numbered = λ _. refl }, tt); are = ap (λ (xs : List Seat). s ∷ xs) h.are }
+before_runs_are s [] seats seat h = record {
+  each = (record { seat = seat; some = omega arith; numbered = λ _. refl }, tt);
+  are = ap (λ (xs : List Seat). s ∷ xs) h.are;
+}
 before_runs_are s (run ∷ more) seats seat h = elim (cases_Bool (nat_lt (kind s) 9 && eqb (kind s) (kind run.seat))) [
-  | inr apart ↦ rw apart (record { each = (record { seat = seat; some = omega arith; numbered = λ _. refl }, h.each); are = ap (λ (xs : List Seat). s ∷ xs) h.are })
+  | inr apart ↦ rw apart
+      (record { each = (record { seat = seat; some = omega arith; numbered = λ _. refl }, h.each); are = ap (λ (xs : List Seat). s ∷ xs) h.are })
   | inl joins ↦
       let again : can_repeat s ≡ true = grind (arith, nat_tests) in
       rw joins (record {
@@ -146,7 +155,8 @@ module _ (s : Seat) (seat : IsSeat s) (again : can_repeat s ≡ true) where
   rest_are : (r : ℕ) → r < 7 → Are IsItem (cond (eqb r 0) [] (pair_item (s, r) ∷ [])) (replicate r s)
   rest_are r small = elim (cases_eq r 0) [
     | inl e ↦ rw e (record { each = tt; are = refl })
-    | inr ne ↦ let t : eqb r 0 ≡ false = grind (arith, nat_tests) in rw t (record { each = (more_items s r seat again (omega arith) (omega arith), tt); are = append-nil (replicate r s) })
+    | inr ne ↦ let t : eqb r 0 ≡ false = grind (arith, nat_tests) in rw t
+        (record { each = (more_items s r seat again (omega arith) (omega arith), tt); are = append-nil (replicate r s) })
   ]
 
 groups_are : (run : Item) → IsRun run → Are IsItem (groups run) (item_seats run)
@@ -165,7 +175,8 @@ groups_are run h = elim (cases_Bool (can_repeat run.seat)) [
 
 all_groups_are : (rs : List Item) → AllByRecursion IsRun rs → Are IsItem (flat_map groups rs) (flat_map item_seats rs)
 all_groups_are [] h = record { each = tt; are = refl }
-all_groups_are (run ∷ more) h = join_items (groups run) (flat_map groups more) (item_seats run) (flat_map item_seats more) (groups_are run h.0) (all_groups_are more h.1)
+all_groups_are (run ∷ more) h = join_items (groups run) (flat_map groups more) (item_seats run) (flat_map item_seats more) (groups_are run h.0)
+    (all_groups_are more h.1)
 
 -- ---- the law
 

@@ -28,7 +28,7 @@ use Rattle.kcr_people.proofs.Withdrawn.{is_of-true}
 use Rattle.kcr_history.specs.History.{History}
 use Rattle.kcr_history.specs.Tables.{people, trainings, withdrawals, tables}
 use Rattle.kcr_history.specs.Views.{is_training_of}
-use Rattle.kcr_cells.specs.Rows.{training_row, withdrawal_row}
+use Rattle.kcr_rows.specs.Rows.{training_row, withdrawal_row}
 use Rattle.kcr_rows.specs.Keyed.{by_key}
 use Rattle.kcr_tables.specs.Held.{Tables}
 use Rattle.kcr_tables.specs.Joint.{Stands}

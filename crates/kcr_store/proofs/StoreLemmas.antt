@@ -27,8 +27,8 @@ use Rattle.kcr_history.specs.Changes.{changed_by}
 use Rattle.kcr_history.specs.Machine.{IsRegister, IsAcceptance, IsRepeat, IsDecision}
 use Rattle.kcr_history.proofs.Steps.{numbers}
 use Rattle.kcr_tables.specs.Keyed.{by_key}
-use Rattle.kcr_cells.specs.Rows.{person_row, item_row}
-use Rattle.kcr_cells.specs.States.{loose_value, within_value}
+use Rattle.kcr_rows.specs.Rows.{person_row, item_row}
+use Rattle.kcr_rows.specs.States.{loose_value, within_value}
 use Rattle.kcr_tables.specs.Held as held
 use Rattle.kcr_tables.specs.Held.{Holds}
 use Rattle.kcr_tables.specs.Joint.{HoldsTables, Stands}

@@ -1,5 +1,5 @@
 -- What one transaction leaves of a register.
-use Rattle.std.proofs.Common.{◌≡◌, Bool, ℕ, length, inl, inr, Option, Some, None, true, false, Result, Ok, Err, IfOk, OnOk, IsTrue, refl, sym, subst, ◌∙◌}
+use Rattle.std.proofs.Common.{◌≡◌, Bool, ℕ, length, inl, inr, Option, Some, None, true, false, Result, Ok, Err, IfOk, OnOk, IsTrue, refl, sym, ap, subst, ◌∙◌}
 use Rattle.sqlite.specs.declared.error.ErrorCode.TheVariants.{OutOfMemory}
 use Rattle.sqlite.specs.declared.error.Error.{Error}
 use Rattle.sqlite.specs.declared.error.Error.TheVariants.{SqliteFailure}
@@ -12,15 +12,20 @@ use Rattle.sqlite.specs.Steps.{FailsToCommit}
 use Rattle.sqlite.specs.Held.{Held, state}
 use Rattle.kcr_history.specs.declared.commands.Command.{Command}
 use Rattle.kcr_rows.proofs.InsideLemmas.{was_clean, survives_on}
-use Rattle.kcr_cells.specs.Frame.{StaysWithin}
+use Rattle.kcr_rows.specs.Frame.{StaysWithin}
 use Rattle.kcr_store.specs.Steps.{Steps, with_answer, number_after}
 use Rattle.kcr_history.specs.declared.views.Verdict.{Verdict}
 use Rattle.kcr_store.proofs.StoreLemmas.{counts_after}
 use Rattle.kcr_store.specs.Stored.{IsTables, Stores}
 use Rattle.kcr_history.specs.History.{History}
-use Rattle.kcr_store.specs.Register.{IsCounted, IsKeptWith, IsWhole, Leaves, LeavesEither}
+use Rattle.kcr_store.specs.Register.{IsCounted, IsKept, IsKeptWith, IsWhole, Leaves, LeavesEither, Seen}
 use Rattle.kcr_store.specs.Register as register
+use Rattle.std.proofs.lemmas.Bool.{true≢false}
 use Rattle.std.proofs.lemmas.Option.{none-some}
+use Rattle.std.specs.Prelude.{◌↔◌, IsSome, is_some, unwrap_or}
+use Rattle.kcr_base.specs.declared.refusal.Refusal.{Refusal}
+use Rattle.kcr_base.specs.declared.refusal.Refusal.TheVariants.{Disk}
+use Rattle.kcr_store.specs.Calls.{Looks, Peeks, Settles, after_fault}
 use Rattle.kcr_store.specs.Frame.{OnlyReads, StaysOutside}
 
 -- within the transaction
@@ -190,7 +195,8 @@ kept_as out counted = record {
 
 -- a register that a fault has broken
 pub torn_as : {S : Type 0} {g : Ghosts S} {conn : Held S} {count : ℕ} {founded : Bool} {H tried : History} → conn.in_transaction ≡ false
-    → (IsTrue founded → LeavesEither H tried (state g conn)) → IsKeptWith g count (record { conn = conn; is_founded = founded; accepted = H; torn = Some tried })
+    → (IsTrue founded → LeavesEither H tried (state g conn))
+    → IsKeptWith g count (record { conn = conn; is_founded = founded; accepted = H; torn = Some tried })
 torn_as {tried = tried} out crash = record {
   kept = record { autocommit = out; whole = λ yes intact. absurd (none-some tried (sym intact)); crash = crash };
   counted = λ yes intact. absurd (none-some tried (sym intact));
@@ -201,6 +207,62 @@ pub read_kept : {S A E : Type 0} {g : Ghosts S} {MayFail : E → Type 0} {r : Re
     {torn : Option History} → IsKeptWith g count (record { conn = old; is_founded = founded; accepted = H; torn = torn }) → OnlyReads g MayFail old new r
     → torn ≡ None → IsKeptWith g count (record { conn = new; is_founded = founded; accepted = H; torn = torn })
 read_kept was left none = kept_as left.autocommit (λ yes. still_counted left (was.counted yes none))
+
+-- a register that is not broken is none that is
+pub not_broken : {S : Type 0} (seen : Seen S) → seen.torn ≡ None → IsSome seen.torn → ⊥
+not_broken seen whole some = true≢false (sym some ∙ ap is_some whole)
+
+-- a call that only reads over the connection of a register that is not broken
+pub peeked : {S A : Type 0} {g : Ghosts S} {MayFail : Refusal → Type 0} {r : Result A Refusal} {old new : Seen S} → old.torn ≡ None
+    → new ≡ record old { conn = new.conn } → OnlyReads g MayFail old.conn new.conn r → IsKept g new → Peeks g MayFail old new r
+peeked {old = old} whole is left kept = record {
+  broken = λ some. absurd (not_broken old whole some);
+  cause = λ _. left.cause;
+  same = record { accepted = ap (λ s. s.accepted) is; torn = ap (λ s. s.torn) is; founded = ap (λ s. s.is_founded) is };
+  clean = left.clean;
+  kept = kept;
+}
+
+-- the same where a fault of the device then breaks the register
+module _ {S A : Type 0} {r : Result A Refusal} (old mid new : Seen S) (whole : old.torn ≡ None) (is : mid ≡ record old { conn = mid.conn })
+    (settled : Settles mid new r) where
+  -- beside whether it is broken, all is as it was
+  pub handed : {X : Type 0} (f : Seen S → X) → f (after_fault mid) ≡ f mid → f new ≡ f mid
+  handed f same = elim settled [ inl torn ↦ ap f torn.1 ∙ same | inr other ↦ ap f other.1 ]
+
+  was_same : {X : Type 0} (f : Seen S → X) → f (after_fault mid) ≡ f mid → f new ≡ f (record old { conn = mid.conn })
+  was_same f same = handed f same ∙ ap f is
+
+  breaks : IsSome new.torn ↔ (r ≡ Err Disk)
+  breaks = elim settled [
+    | inl torn ↦ (λ _. torn.0, λ _. ap (λ (s : Seen S). is_some s.torn) torn.1)
+    | inr other ↦ (
+      λ some. absurd (not_broken old whole (ap (λ (s : Seen S). is_some s.torn) (sym is ∙ sym other.1) ∙ some)),
+      λ disk. absurd (other.0 disk),
+    )
+  ]
+
+  still_kept : (g : Ghosts S) → IsKept g mid → IsKept g new
+  still_kept g kept = elim settled [
+    | inl torn ↦ subst (IsKept g) (sym torn.1) (record {
+      autocommit = kept.autocommit;
+      whole = λ _ intact. absurd (none-some (unwrap_or mid.torn mid.accepted) (sym intact));
+      crash = kept.crash;
+    })
+    | inr other ↦ subst (IsKept g) (sym other.1) kept
+  ]
+
+  pub looked : {g : Ghosts S} {MayFail : Refusal → Type 0} → OnlyReads g MayFail old.conn mid.conn r → IsKept g mid → Looks g MayFail old new r
+  looked {g = g} left kept = record {
+    broken = λ some. absurd (not_broken old whole some);
+    cause = λ _. left.cause;
+    breaks = λ _. breaks;
+    same = was_same (λ s. s.accepted) refl;
+    tried = λ _. was_same (λ s. unwrap_or s.torn s.accepted) refl ∙ ap (λ t. unwrap_or t old.accepted) whole;
+    founded = was_same (λ s. s.is_founded) refl;
+    clean = λ clean. left.clean (subst (λ (h : Held S). HasCleanDisk (state g h)) (handed (λ s. s.conn) refl) clean);
+    kept = still_kept g kept;
+  }
 
 -- what is said of a value under a premise that the call's success gives
 pub if_ok : {T E : Type 0} (P : Type 0) (Q : T → Type 0) (r : Result T E) → OnOk r P → (P → IfOk r Q) → IfOk r Q

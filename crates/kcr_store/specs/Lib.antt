@@ -3,6 +3,7 @@ pub mod Shown
 pub mod Stored
 pub mod Register
 pub mod Frame
+pub mod Calls
 pub mod Performed
 pub mod Opening
 pub mod Rows

@@ -2,8 +2,6 @@
 use Rattle.std.specs.Prelude.{◌≡◌, ◌⊎◌, ℕ, false, IsTrue, IsSome, List, Option, None, Result, Err, IfOk, OnErr}
 use Rattle.std.specs.Borrow.{Fml, RattleType, MutBor, RestsIfErr}
 use Rattle.sqlite.specs.Store.{Ghosts}
-use Rattle.sqlite.specs.State.{HasCleanDisk}
-use Rattle.sqlite.specs.Held.{state}
 use Rattle.kcr_base.specs.declared.refusal.Refusal.{Refusal}
 use Rattle.kcr_base.specs.declared.refusal.Refusal.TheVariants as Refusals
 use Rattle.kcr_base.specs.declared.refusal.Thing.TheVariants as Things
@@ -18,29 +16,13 @@ use Rattle.kcr_store.specs.Register.{Seen, IsKept}
 use Rattle.kcr_store.specs.contracts.register.Register as register
 use Rattle.kcr_store.specs.declared.rows.Rows.{Rows}
 
--- A CALL THAT READS
-
--- its history stays, and so does whether it is broken
-pub record KeepsHistory {S : Type 0} (old new : Seen S) : Type 0 where
-  pub accepted : new.accepted ≡ old.accepted
-  pub torn : new.torn ≡ old.torn
-  pub founded : new.is_founded ≡ old.is_founded
-
--- said of the history of a register that is not broken, by a call that leaves the disk clean
-abbrev pub OfHistory : {S : Type 0} → Ghosts S → Seen S → Seen S → (History → Type 0) → Type 0
-OfHistory g old new Says =
-    IsTrue old.is_founded → old.torn ≡ None → HasCleanDisk (state g new.conn) → Says old.accepted
-
 -- ROWS
 
--- rows that stand before the first: the register is whole and as it was, and these are to come; there are no rows of a
--- broken one
-pub record Begins {S R Row : Type 0}
-    (old : Seen S) (to_come : R → machine.Tables → List Row) (wanted : machine.Tables → List Row)
-    (result : Result (Rows S R Row) Refusal) : Type 0 where
+-- rows that stand where the reading does: the register is whole and as it was; there are no rows of a broken one
+pub record Begins {S R Row : Type 0} (old : Seen S) (given : R) (result : Result (Rows S R Row) Refusal) : Type 0 where
   pub same : IfOk result (λ rows. rows.register.now ≡ old)
   pub whole : IfOk result (λ _. old.torn ≡ None)
-  pub all : IfOk result (λ rows. (m : machine.Tables) → to_come rows.reading m ≡ wanted m)
+  pub reading : IfOk result (λ rows. rows.reading ≡ given)
   pub broken : OnErr result ((result ≡ Err Refusals.Broken) × IsSome old.torn)
 
 -- the rows hold the register until they are gone; where there are none it is as it was

@@ -8,7 +8,7 @@ ghost use Rattle.kcr_history.specs.Tables.{Tables, tables};
 ghost use Rattle.kcr_older.specs.Older.{StoresAs, HoldsUpTo, numbered};
 ghost use Rattle.kcr_older.specs.Standing.{IsStrange, no_schema};
 ghost use Rattle.kcr_older.specs.Versions.{number_of};
-ghost use Rattle.kcr_cells.specs.Frame.{StaysWithin};
+ghost use Rattle.kcr_rows.specs.Frame.{StaysWithin};
 ghost use Rattle.kcr_store.specs.Frame.{StaysOutside};
 ghost use Rattle.kcr_store.specs.Listing.{Gives, GivesOr, IsBroughtView, IsNumberedView, IsUnread};
 ghost use Rattle.kcr_store.specs.Opening.{IsFounded};

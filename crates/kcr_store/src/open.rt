@@ -11,7 +11,7 @@ ghost use Rattle.kcr_older.specs.Older.{StoresAs, HoldsUpTo};
 ghost use Rattle.kcr_older.specs.Standing.{StandsAs, IsStrange, no_schema};
 ghost use Rattle.kcr_older.specs.Versions.{number_of};
 ghost use Rattle.kcr_tables.specs.Refusals.{IsFault};
-ghost use Rattle.kcr_cells.specs.Frame.{StaysWithin};
+ghost use Rattle.kcr_rows.specs.Frame.{StaysWithin};
 ghost use Rattle.kcr_store.specs.Frame.{StaysOutside, OnlyReads};
 ghost use Rattle.kcr_store.specs.Stored.{IsTables, OfStored};
 ghost use Rattle.kcr_store.specs.Register.{Shows, IsWhole};

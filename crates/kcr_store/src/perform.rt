@@ -7,7 +7,7 @@ ghost use Rattle.kcr_history.specs.Machine.{IsDecision};
 ghost use Rattle.kcr_history.specs.Tables.{tables};
 ghost use Rattle.kcr_tables.specs.Joint.{HoldsTables};
 ghost use Rattle.kcr_tables.specs.Refusals.{IsFault};
-ghost use Rattle.kcr_cells.specs.Frame.{StaysWithin};
+ghost use Rattle.kcr_rows.specs.Frame.{StaysWithin};
 ghost use Rattle.kcr_store.specs.Frame.{OnlyReads};
 ghost use Rattle.kcr_store.specs.Stored.{Stores, OfStored};
 ghost use Rattle.kcr_history.specs.Questions.{ArePeopleShown, AreCustodiansShown, IsBagShown, IsRoomShown};
@@ -15,7 +15,8 @@ ghost use Rattle.kcr_store.specs.Steps as steps;
 ghost use Rattle.kcr_store.specs.Steps.{Steps, with_answer, IsNext, IsAsked, IsRefused, MayRefuse};
 ghost use Rattle.kcr_store.specs.Register.{IsWhole, IsCounted, LeavesEither};
 ghost use Rattle.kcr_store.specs.Rows.{GivesNext, IsRowOf, HasNoRow, MayHaveNoRow};
-ghost use Rattle.kcr_store.specs.Performed.{history_after, tried_after, count_after, answer_of, is_torn, is_founded_after};
+ghost use Rattle.kcr_store.specs.Performed.{history_after, tried_after, count_after, answer_of, is_torn};
+ghost use Rattle.kcr_store.specs.Performed.{is_founded_after};
 
 use crate::past::Past;
 use crate::shown::{codes_of, custodians_shown, people_shown};
@@ -34,8 +35,8 @@ use kcr_tables::{all_rows, make_changes, rows_under, view_of};
 use sqlite::{Alter, Connection, Error, ErrorCode, Transaction};
 use std::alloc::Global;
 
-/// What becomes of the command: a repeat is decided by the row of its key alone, and a command whose key is new over the
-/// rows that it asks for and the number of the last one, `count`. Nothing is written.
+/// What becomes of the command: a repeat is decided by the row of its key alone, and a command whose key is new over
+/// the rows that it asks for and the number of the last one, `count`. Nothing is written.
 fn decision_of<S: Alter>(
     alloc: Global,
     tx: &mut Transaction<'_, S>,
@@ -128,7 +129,8 @@ pub(crate) fn perform<S: Alter>(
         → Steps past.now.entries command.now (answer_of result) (history_after past.now.entries result) }
     ensures served { HasCleanDisk (state S.Store conn.new)
         → OnOk (answer_of result) (IsTrue (state S.Store conn.new).is_open) }
-    ensures candidate { IsCounted count past.now.entries (state S.Store conn.old) → HasCleanDisk (state S.Store conn.new)
+    ensures candidate { IsCounted count past.now.entries (state S.Store conn.old)
+        → HasCleanDisk (state S.Store conn.new)
         → IsNext past.now.entries command.now (tried_after past.now.entries result) }
     ensures whole { IsCounted count past.now.entries (state S.Store conn.old) → is_torn result ≡ false
         → IsCounted (count_after count result) (history_after past.now.entries result) (state S.Store conn.new) }

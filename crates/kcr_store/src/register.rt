@@ -70,73 +70,16 @@ impl<S: Alter> Model for Register<S> {
 
 impl<S: Alter + Drop> Register<S> {
     ghost use Rattle.std.specs.Prelude.{Bool, MatchResult, ◌⊎◌, ◌≢◌, ◌+◌};
+    ghost use Rattle.sqlite.specs.Held.{Held};
     ghost use Rattle.sqlite.specs.State.{Survives};
     ghost use Rattle.kcr_history.specs.History.{History};
     ghost use Rattle.kcr_tables.specs.Held.{Tables, Holds};
     ghost use Rattle.kcr_older.specs.Older.{HoldsUpTo, numbered};
-    ghost use Rattle.kcr_older.specs.Standing.{IsStrange};
+    ghost use Rattle.kcr_older.specs.Standing.{IsStrange, no_schema};
     ghost use Rattle.kcr_older.specs.Versions.{number_of};
     ghost use Rattle.kcr_older.specs.declared.renewal.Older.{Older};
     ghost use Rattle.kcr_store.specs.Register.{IsKept};
     ghost use Rattle.kcr_store.specs.Opening.{IsFounded, IsMadeOf};
-
-    /// As `adopt`, for the history that `past` stands for.
-    fn adopt_as(
-        alloc: Global,
-        connection: Connection<S>,
-        past: Past,
-    ) -> Result<Register<S>, (OpenFault, Connection<S>)>
-        requires autocommit { connection.in_transaction ≡ false }
-        requires founded { IsTrue past.is_founded → IsFounded past.entries (state S.Store connection) }
-        ensures adopted { IfOk result (λ r. (r.is_founded ≡ past.is_founded) × (r.accepted ≡ past.entries)
-            × (r.torn ≡ None)) }
-        ensures kept { IfOk result (IsKept S.Store) }
-        ensures taken { IfErr result (λ e. IsTrue past.is_founded → IsTrue (state S.Store connection).is_open
-            → HasCleanDisk (state S.Store e.1) → (e.0 ≡ OpenFault.Memory) ⊎ (e.0 ≡ OpenFault.Disk)) }
-        ensures version { MatchResult result
-            (λ r. HasCleanDisk (state S.Store r.conn) → (t : Tables) → Holds (state S.Store connection).now t
-            → t.versions ≡ numbered 3)
-            (λ e. HasCleanDisk (state S.Store e.1) → (t : Tables) → Holds (state S.Store connection).now t
-            → e.0 ≡ OpenFault.Version → t.versions ≢ numbered 3) }
-        ensures older { MatchResult result
-            (λ r. HasCleanDisk (state S.Store r.conn) → (from : Older) → (t : Tables)
-            → HoldsUpTo (14 + number_of from) (state S.Store connection).now t
-            → t.versions ≡ numbered (number_of from))
-            (λ e. HasCleanDisk (state S.Store e.1) → (from : Older) → (t : Tables)
-            → HoldsUpTo (14 + number_of from) (state S.Store connection).now t
-            → e.0 ≡ OpenFault.Version → t.versions ≢ numbered (number_of from)) }
-
-        // What looks like no register is not taken, and nothing else is refused as foreign.
-        ensures known { IfOk result (λ _. ¬ IsStrange (state S.Store connection).now.schema) }
-        ensures foreign { IfErr result (λ e. e.0 ≡ OpenFault.Foreign
-            → IsStrange (state S.Store connection).now.schema) }
-        ensures left { IfErr result (λ e. (e.0 ≡ OpenFault.Foreign) ⊎ (e.0 ≡ OpenFault.Version)
-            → Survives (state S.Store connection) (state S.Store e.1) (λ _. ⊥)) }
-
-        // A crash leaves what was there, or what the opening makes of it.
-        ensures crash { MatchResult result
-            (λ r. Survives (state S.Store connection) (state S.Store r.conn) (IsMadeOf (state S.Store connection).now))
-            (λ e. Survives (state S.Store connection) (state S.Store e.1) (IsMadeOf (state S.Store connection).now)) }
-    {
-        let mut conn = connection;
-        match settle(alloc, &mut conn) {
-            Ok(()) => match last_number(alloc, &mut conn) {
-                Ok(count) => {
-                    let tried = Past::same(&past);
-                    Ok(Register {
-                        conn,
-                        broken: false,
-                        past,
-                        count,
-                        tried,
-                        alloc,
-                    })
-                }
-                Err(refusal) => Err((fault_of(refusal), conn)),
-            },
-            Err(fault) => Err((fault, conn)),
-        }
-    }
 
     /// Takes a database that is empty or a register's. An empty one gets its tables, and a register of version 1 or 2
     /// is brought to this version, which is 3, each in one transaction: the stays are made of the sheet, and there are
@@ -180,7 +123,41 @@ impl<S: Alter + Drop> Register<S> {
             (λ r. Survives (state S.Store connection) (state S.Store r.conn) (IsMadeOf (state S.Store connection).now))
             (λ e. Survives (state S.Store connection) (state S.Store e.1) (IsMadeOf (state S.Store connection).now)) }
     {
-        Register::adopt_as(alloc, connection, Past::of())
+        let past = Past::of();
+        let mut conn = connection;
+        match settle(alloc, &mut conn) {
+            Ok(()) => match last_number(alloc, &mut conn) {
+                Ok(count) => {
+                    let tried = Past::same(&past);
+                    Ok(Register {
+                        conn,
+                        broken: false,
+                        past,
+                        count,
+                        tried,
+                        alloc,
+                    })
+                }
+                Err(refusal) => Err((fault_of(refusal), conn)),
+            },
+            Err(fault) => Err((fault, conn)),
+        }
+    }
+
+    /// A new register over a store that has nothing, and whose disk is never in doubt.
+    fn begin(alloc: Global, connection: Connection<S>) -> Result<Register<S>, OpenFault>
+        requires autocommit { connection.in_transaction ≡ false }
+        requires empty { (state S.Store connection).now.schema ≡ no_schema }
+        requires opened { IsTrue (state S.Store connection).is_open }
+        requires certain { (conn : Held S) → HasCleanDisk (state S.Store conn) }
+        ensures new { IfOk result (λ r. (r.is_founded ≡ true) × (r.accepted ≡ []) × (r.torn ≡ None)
+            × IsKept S.Store r) }
+        ensures fault { IfErr result (λ e. (e ≡ OpenFault.Memory) ⊎ (e ≡ OpenFault.Disk)) }
+    {
+        match Register::adopt(alloc, connection) {
+            Ok(register) => Ok(register),
+            Err((fault, _)) => Err(fault),
+        }
     }
 }
 
@@ -199,10 +176,7 @@ impl Register<MemStore> {
         let Ok(connection) = Connection::open_in_memory(alloc) else {
             return Err(OpenFault::Memory);
         };
-        match Register::adopt_as(alloc, connection, Past::of()) {
-            Ok(register) => Ok(register),
-            Err((fault, _)) => Err(fault),
-        }
+        Register::begin(alloc, connection)
     }
 }
 
@@ -219,7 +193,7 @@ impl Register<FileStore<FileFrom<Unknown>>> {
         ensures kept { IfOk result (IsKept over_files) }
     {
         let connection = connect(rt, path, Unknown)?;
-        match Register::adopt_as(rt.alloc(), connection, Past::of()) {
+        match Register::adopt(rt.alloc(), connection) {
             Ok(register) => Ok(register),
             Err((fault, _)) => Err(fault),
         }
@@ -233,6 +207,7 @@ impl<S: Alter> Register<S> {
     ghost use Rattle.kcr_tables.specs.Joint.{HoldsTables};
     ghost use Rattle.kcr_tables.specs.Refusals.{IsFault};
     ghost use Rattle.kcr_store.specs.Register.{IsKept, LeavesEither, Leaves};
+    ghost use Rattle.kcr_store.specs.Calls.{OfHistory, Looks, Settles, after_fault};
 
     /// Decides a command as one transaction. Where the machine accepts it, its reply comes only once it is durable.
     /// A repeat gets the reply that was kept, and changes nothing. A refusal changes nothing; out of memory (33)
@@ -292,64 +267,33 @@ impl<S: Alter> Register<S> {
     /// planned are refused as unknown (12). Beside that and out of memory (33) it meets only a fault of the device
     /// (34), which breaks the register; every later call then answers 35.
     pub fn look(&mut self, question: &Question) -> Result<Shown, Refusal>
-        ensures broken { IsSome self.old.torn → (result ≡ Err Refusal.Broken) × (self.new ≡ self.old) }
-        ensures shown { IsTrue self.old.is_founded → self.old.torn ≡ None → HasCleanDisk (state S.Store self.new.conn)
-            → IsAsked self.old.accepted question.now result }
-        ensures cause { self.old.torn ≡ None → IfErr result (MayRefuse question.now) }
-        ensures breaks { self.old.torn ≡ None → IsSome self.new.torn ↔ (result ≡ Err Refusal.Disk) }
-        ensures same { self.new.accepted ≡ self.old.accepted }
-        ensures tried { self.old.torn ≡ None → unwrap_or self.new.torn self.new.accepted ≡ self.old.accepted }
-        ensures clean { HasCleanDisk (state S.Store self.new.conn) → HasCleanDisk (state S.Store self.old.conn) }
-        ensures founded { self.new.is_founded ≡ self.old.is_founded }
-        ensures kept { IsKept S.Store self.new }
+        ensures shown { OfHistory S.Store self.old self.new (λ A. IsAsked A question.now result) }
+        ensures looks { Looks S.Store (MayRefuse question.now) self.old self.new result }
     {
         if self.broken {
             return Err(Refusal::Broken);
         }
-        match ask(self.alloc, &mut self.conn, question) {
-            Ok(shown) => Ok(shown),
-            Err(Refusal::Disk) => {
-                self.tried = Past::same(&self.past);
-                self.broken = true;
-                Err(Refusal::Disk)
-            }
-            Err(refusal) => Err(refusal),
-        }
+        let shown = ask(self.alloc, &mut self.conn, question);
+        self.hand_on(shown)
     }
 
     /// All rows of one table, in the order of their keys; its memory grows with their number. It changes nothing.
     /// Beside out of memory (33) it meets only a fault of the device or a row that no register stores (34), which
     /// breaks the register; a broken one answers 35.
     pub fn table_rows<R: Listed>(&mut self) -> Result<Vec<R>, Refusal>
-        ensures broken { IsSome self.old.torn → (result ≡ Err Refusal.Broken) × (self.new ≡ self.old) }
-
         // Whatever rows the table holds, these are they; of a history they are those of its table.
         ensures rows { self.old.torn ≡ None → HasCleanDisk (state S.Store self.new.conn) → (m : Tables)
             → HoldsTables m (state S.Store self.old.conn).now
             → IfOk result (λ rows. AreRows R.table m rows.items) }
-        ensures shown { IsTrue self.old.is_founded → self.old.torn ≡ None → HasCleanDisk (state S.Store self.new.conn)
-            → IfOk result (λ rows. IsRegister self.old.accepted
-            × AreRows R.table (tables self.old.accepted) rows.items) }
-        ensures cause { self.old.torn ≡ None → IfErr result IsFault }
-        ensures breaks { self.old.torn ≡ None → IsSome self.new.torn ↔ (result ≡ Err Refusal.Disk) }
-        ensures same { self.new.accepted ≡ self.old.accepted }
-        ensures tried { self.old.torn ≡ None → unwrap_or self.new.torn self.new.accepted ≡ self.old.accepted }
-        ensures clean { HasCleanDisk (state S.Store self.new.conn) → HasCleanDisk (state S.Store self.old.conn) }
-        ensures founded { self.new.is_founded ≡ self.old.is_founded }
-        ensures kept { IsKept S.Store self.new }
+        ensures shown { OfHistory S.Store self.old self.new
+            (λ A. IfOk result (λ rows. IsRegister A × AreRows R.table (tables A) rows.items)) }
+        ensures looks { Looks S.Store IsFault self.old self.new result }
     {
         if self.broken {
             return Err(Refusal::Broken);
         }
-        match rows_in_table(self.alloc, &mut self.conn) {
-            Ok(rows) => Ok(rows),
-            Err(Refusal::Disk) => {
-                self.tried = Past::same(&self.past);
-                self.broken = true;
-                Err(Refusal::Disk)
-            }
-            Err(refusal) => Err(refusal),
-        }
+        let rows = rows_in_table(self.alloc, &mut self.conn);
+        self.hand_on(rows)
     }
 
     /// What an audit finds in all its rows, whose number its memory grows with: a finding of the first kind that has
@@ -357,29 +301,28 @@ impl<S: Alter> Register<S> {
     /// meets only a fault of the device or a row that no register stores (34), which breaks the register; a broken one
     /// answers 35.
     pub fn audit(&mut self) -> Result<Option<Finding>, Refusal>
-        ensures broken { IsSome self.old.torn → (result ≡ Err Refusal.Broken) × (self.new ≡ self.old) }
-
         // Whatever rows the tables hold, what is found is true of them, and nothing of an earlier kind is.
         ensures found { self.old.torn ≡ None → HasCleanDisk (state S.Store self.new.conn) → (m : Tables)
             → HoldsTables m (state S.Store self.old.conn).now → IfOk result (FindsIn m) }
-        ensures nothing { IsTrue self.old.is_founded → self.old.torn ≡ None
-            → HasCleanDisk (state S.Store self.new.conn) → IfOk result (λ found. found ≡ None) }
-        ensures cause { self.old.torn ≡ None → IfErr result IsFault }
-        ensures breaks { self.old.torn ≡ None → IsSome self.new.torn ↔ (result ≡ Err Refusal.Disk) }
-        ensures same { self.new.accepted ≡ self.old.accepted }
-        ensures tried { self.old.torn ≡ None → unwrap_or self.new.torn self.new.accepted ≡ self.old.accepted }
-        ensures clean { HasCleanDisk (state S.Store self.new.conn) → HasCleanDisk (state S.Store self.old.conn) }
-        ensures founded { self.new.is_founded ≡ self.old.is_founded }
-        ensures kept { IsKept S.Store self.new }
+        ensures nothing { OfHistory S.Store self.old self.new (λ _. IfOk result (λ found. found ≡ None)) }
+        ensures looks { Looks S.Store IsFault self.old self.new result }
     {
         if self.broken {
             return Err(Refusal::Broken);
         }
-        match audit_of(self.alloc, &mut self.conn) {
-            Ok(found) => Ok(found),
+        let found = audit_of(self.alloc, &mut self.conn);
+        self.hand_on(found)
+    }
+
+    /// What a call over its connection answered, handed on; a fault of the device breaks the register.
+    fn hand_on<T>(&mut self, answer: Result<T, Refusal>) -> Result<T, Refusal>
+        ensures same { result ≡ answer }
+        ensures settled { Settles self.old self.new answer }
+    {
+        match answer {
+            Ok(value) => Ok(value),
             Err(Refusal::Disk) => {
-                self.tried = Past::same(&self.past);
-                self.broken = true;
+                self.mark_broken();
                 Err(Refusal::Disk)
             }
             Err(refusal) => Err(refusal),
@@ -396,7 +339,7 @@ impl<S: Alter> Register<S> {
 
     /// Breaks it after a fault that a caller met, so that every later call answers 35.
     pub fn mark_broken(&mut self)
-        ensures same { self.new ≡ record self.old { torn = Some (unwrap_or self.old.torn self.old.accepted) } }
+        ensures same { self.new ≡ after_fault self.old }
         ensures kept { IsKept S.Store self.new }
     {
         if !self.broken {

@@ -124,7 +124,8 @@ pub(crate) fn people_shown(
     withdrawals: &[Withdrawal],
 ) -> Result<Vec<PersonShown>, AllocError>
     ensures people { IfOk result (λ shown. map person_of shown.items ≡ people.items) }
-    ensures roles { IfOk result (λ shown. All (λ person. AreRolesOf trainings.now withdrawals.now person.who person.roles.items) shown.items) }
+    ensures roles { IfOk result (λ shown. All
+        (λ person. AreRolesOf trainings.now withdrawals.now person.who person.roles.items) shown.items) }
 {
     let mut shown = Vec::new(alloc);
     for person in people {
@@ -185,7 +186,8 @@ pub(crate) fn custodians_shown(
     day: Day,
 ) -> Result<CustodiansShown, AllocError>
     ensures day { IfOk result (λ shown. shown.day ≡ day) }
-    ensures holders { IfOk result (λ shown. shown.holders.items ≡ Questions.holders_by (λ place. holder_by appointments.now place day)) }
+    ensures holders { IfOk result (λ shown.
+        shown.holders.items ≡ Questions.holders_by (λ place. holder_by appointments.now place day)) }
 {
     let places = all_places(alloc)?;
     let holders = places

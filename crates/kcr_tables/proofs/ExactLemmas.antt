@@ -1,5 +1,6 @@
 -- That rows are those of values that are shown, whatever a table has.
-use Rattle.std.proofs.Common.{◌≡◌, inl, inr, ◌||◌, Bool, true, false, cond, List, [], ◌∷◌, ◌++◌, map, filter, length, take, Result, IfOk, refl, sym, subst, arith, true≢false, if◌then◌else◌, IsPermutation, Vec, Global}
+use Rattle.std.proofs.Common.{◌≡◌, inl, inr, ◌||◌, Bool, true, false, cond, List, [], ◌∷◌, ◌++◌, map, filter, length, take, Result, IfOk, refl, sym, subst}
+use Rattle.std.proofs.Common.{arith, true≢false, if◌then◌else◌, IsPermutation, Vec, Global}
 use Rattle.std.specs.List.{AllByRecursion, list_any}
 use Rattle.std.proofs.lemmas.List.Sorted.{IsPermutation-sym, length_permutation}
 use Rattle.sqlite.specs.Order.{Row}
@@ -20,7 +21,8 @@ use Rattle.kcr_tables.proofs.HasLemmas.{has_left, has_right, filter_from, filter
 module _ {X : Type 0} (row_of : X → Row) where
   -- the rows of the values, in another order
   pub are_shown : (rows : List Row) (shown : List X) → IsPermutation rows (map row_of shown) → AreShown row_of shown rows
-  are_shown rows shown same = all_from (λ row. (x : X) × Has shown x × (row ≡ row_of x)) rows (λ row h. mapped_from row_of shown row (has_same rows (map row_of shown) row same h))
+  are_shown rows shown same = all_from (λ row. (x : X) × Has shown x × (row ≡ row_of x)) rows
+      (λ row h. mapped_from row_of shown row (has_same rows (map row_of shown) row same h))
 
   shown_too : (shown more : List X) → ((x : X) → Has shown x → Has more x) → (rows : List Row) → AreShown row_of shown rows → AreShown row_of more rows
   shown_too shown more among [] all = tt
@@ -32,19 +34,23 @@ module _ {X : Type 0} (row_of : X → Row) where
 
   -- ---- rows that are asked for
 
-  shown_in : (rows : List Row) (r : Result (Vec X Global) Refusal) → IfOk r (λ all. IsPermutation rows (map row_of all.items)) → IfOk r (λ all. AreShown row_of all.items rows)
+  shown_in : (rows : List Row) (r : Result (Vec X Global) Refusal) → IfOk r (λ all. IsPermutation rows (map row_of all.items))
+      → IfOk r (λ all. AreShown row_of all.items rows)
   shown_in rows r h = if_ok _ _ (λ all same. are_shown rows all.items same) r h
 
   pub under_asked : {K : Type 0} (place : Place) (is_under : K → Row → Bool) (asked : Selection K) (db : Trees) (key : K) → asked ≡ Under key
-      → (r : Result (Vec X Global) Refusal) → IfOk r (λ all. IsPermutation (filter (is_under key) (rows_at place db)) (map row_of all.items)) → IfOk r (λ all. AskedAreShown row_of place is_under asked all.items db)
+      → (r : Result (Vec X Global) Refusal) → IfOk r (λ all. IsPermutation (filter (is_under key) (rows_at place db)) (map row_of all.items))
+      → IfOk r (λ all. AskedAreShown row_of place is_under asked all.items db)
   under_asked place is_under asked db key is r h = subst (λ q. IfOk r (λ all. AskedAreShown row_of place is_under q all.items db)) (sym is) (shown_in _ r h)
 
   pub all_asked : {K : Type 0} (place : Place) (is_under : K → Row → Bool) (asked : Selection K) (db : Trees) → asked ≡ All
-      → (r : Result (Vec X Global) Refusal) → IfOk r (λ all. IsPermutation (rows_at place db) (map row_of all.items)) → IfOk r (λ all. AskedAreShown row_of place is_under asked all.items db)
+      → (r : Result (Vec X Global) Refusal) → IfOk r (λ all. IsPermutation (rows_at place db) (map row_of all.items))
+      → IfOk r (λ all. AskedAreShown row_of place is_under asked all.items db)
   all_asked place is_under asked db is r h = subst (λ q. IfOk r (λ all. AskedAreShown row_of place is_under q all.items db)) (sym is) (shown_in _ r h)
 
   pub whole_asked : (place : Place) (asked : Bool) (db : Trees) → asked ≡ true
-      → (r : Result (Vec X Global) Refusal) → IfOk r (λ all. IsPermutation (rows_at place db) (map row_of all.items)) → IfOk r (λ all. WholeIsShown row_of place asked all.items db)
+      → (r : Result (Vec X Global) Refusal) → IfOk r (λ all. IsPermutation (rows_at place db) (map row_of all.items))
+      → IfOk r (λ all. WholeIsShown row_of place asked all.items db)
   whole_asked place asked db is r h = subst (λ q. IfOk r (λ all. WholeIsShown row_of place q all.items db)) (sym is) (shown_in _ r h)
 
   -- ---- rows found by a list of keys, of which some may be the same
@@ -58,12 +64,15 @@ module _ {X : Type 0} (row_of : X → Row) where
     each_left shown more [] each = tt
     each_left shown more (key ∷ keys) each = (shown_left shown more _ each.0, each_left shown more keys each.1)
 
-    one_has : (shown : List X) (row : Row) → Has rows row → (keys : List K) → is_under_any under keys row ≡ true → EachAreShown shown keys → (x : X) × Has shown x × (row ≡ row_of x)
+    one_has : (shown : List X) (row : Row) → Has rows row → (keys : List K) → is_under_any under keys row ≡ true → EachAreShown shown keys → (x : X)
+        × Has shown x × (row ≡ row_of x)
     one_has shown row there [] is each = absurd (true≢false (sym is))
     one_has shown row there (k ∷ keys) is each = by_test (under k row) refl is (λ more. one_has shown row there keys more each.1)
       where
-        by_test : (b : Bool) → under k row ≡ b → (b || is_under_any under keys row) ≡ true → (is_under_any under keys row ≡ true → (x : X) × Has shown x × (row ≡ row_of x)) → (x : X) × Has shown x × (row ≡ row_of x)
-        by_test true e is later = all_has (λ r. (x : X) × Has shown x × (r ≡ row_of x)) (filter (under k) rows) row each.0 (filter_to (under k) rows row there e)
+        by_test : (b : Bool) → under k row ≡ b → (b || is_under_any under keys row) ≡ true
+            → (is_under_any under keys row ≡ true → (x : X) × Has shown x × (row ≡ row_of x)) → (x : X) × Has shown x × (row ≡ row_of x)
+        by_test true e is later = all_has (λ r. (x : X) × Has shown x × (r ≡ row_of x)) (filter (under k) rows) row each.0
+            (filter_to (under k) rows row there e)
         by_test false e is later = later is
 
     pub each_any : (shown : List X) (keys : List K) → EachAreShown shown keys → AreShown row_of shown (filter (is_under_any under keys) rows)
@@ -73,27 +82,34 @@ module _ {X : Type 0} (row_of : X → Row) where
 
     module _ (same : K → K → Bool) (one : (a b : K) → same a b ≡ true → a ≡ b) where
       -- a key that is the same as one of them
-      named_are : (shown : List X) (key : K) (keys : List K) → list_any (same key) keys ≡ true → EachAreShown shown keys → AreShown row_of shown (filter (under key) rows)
+      named_are : (shown : List X) (key : K) (keys : List K) → list_any (same key) keys ≡ true → EachAreShown shown keys
+          → AreShown row_of shown (filter (under key) rows)
       named_are shown key [] named each = absurd (true≢false (sym named))
       named_are shown key (k ∷ keys) named each = by_test (same key k) refl named (λ more. named_are shown key keys more each.1)
         where
-          by_test : (b : Bool) → same key k ≡ b → (b || list_any (same key) keys) ≡ true → (list_any (same key) keys ≡ true → AreShown row_of shown (filter (under key) rows)) → AreShown row_of shown (filter (under key) rows)
+          by_test : (b : Bool) → same key k ≡ b → (b || list_any (same key) keys) ≡ true
+              → (list_any (same key) keys ≡ true → AreShown row_of shown (filter (under key) rows)) → AreShown row_of shown (filter (under key) rows)
           by_test true e named later = subst (λ q. AreShown row_of shown (filter (under q) rows)) (sym (one key k e)) each.0
           by_test false e named later = later named
 
       -- one key more
-      pub each_next : (keys : List K) (key : K) (shown found : List X) → EachAreShown shown keys → AreShown row_of found (asked_once same under key keys rows) → EachAreShown (shown ++ found) (keys ++ key ∷ [])
+      pub each_next : (keys : List K) (key : K) (shown found : List X) → EachAreShown shown keys → AreShown row_of found (asked_once same under key keys rows)
+          → EachAreShown (shown ++ found) (keys ++ key ∷ [])
       each_next keys key shown found each once =
-          all-append (λ k. AreShown row_of (shown ++ found) (filter (under k) rows)) keys (key ∷ []) (each_left shown found keys each) (by_test (list_any (same key) keys) refl once, tt)
+          all-append (λ k. AreShown row_of (shown ++ found) (filter (under k) rows)) keys (key ∷ []) (each_left shown found keys each)
+          (by_test (list_any (same key) keys) refl once, tt)
         where
-          by_test : (b : Bool) → list_any (same key) keys ≡ b → AreShown row_of found (cond b [] (filter (under key) rows)) → AreShown row_of (shown ++ found) (filter (under key) rows)
+          by_test : (b : Bool) → list_any (same key) keys ≡ b → AreShown row_of found (cond b [] (filter (under key) rows))
+              → AreShown row_of (shown ++ found) (filter (under key) rows)
           by_test true e once = shown_left shown found _ (named_are shown key keys e each)
           by_test false e once = shown_too found (shown ++ found) (has_right shown found) _ once
 
     -- a key that is the same as none before, and was read
     pub once_read : (same : K → K → Bool) (key : K) (before : List K) → list_any (same key) before ≡ false
-        → (r : Result (Vec X Global) Refusal) → IfOk r (λ all. IsPermutation (filter (under key) rows) (map row_of all.items)) → IfOk r (λ all. AreShown row_of all.items (asked_once same under key before rows))
-    once_read same key before none r h = subst (λ (b : Bool). IfOk r (λ all. AreShown row_of all.items (if b then [] else filter (under key) rows))) (sym none) (shown_in _ r h)
+        → (r : Result (Vec X Global) Refusal) → IfOk r (λ all. IsPermutation (filter (under key) rows) (map row_of all.items))
+        → IfOk r (λ all. AreShown row_of all.items (asked_once same under key before rows))
+    once_read same key before none r h = subst (λ (b : Bool). IfOk r (λ all. AreShown row_of all.items (if b then [] else filter (under key) rows))) (sym none)
+        (shown_in _ r h)
 
 -- ---- the first of the rows, in some order
 

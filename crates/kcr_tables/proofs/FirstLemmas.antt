@@ -4,7 +4,9 @@ use Rattle.sqlite.specs.Effect.{Database}
 use Rattle.sqlite_catalog.specs.Listing.{IsSound}
 use Rattle.kcr_rows.specs.Columns.{AreEmpty}
 use Rattle.kcr_rows.proofs.CreateLemmas.{bare}
-use Rattle.kcr_tables.specs.Held.{Holds, people_place, trainings_place, appointments_place, boxes_place, safes_place, bags_place, items_place, ceremonies_place, marks_place, steps_place, seatings_place, sheet_place, exceptions_place, versions_place, keys_place, stays_place, withdrawals_place}
+use Rattle.kcr_tables.specs.Held.{Holds, people_place, trainings_place, appointments_place, boxes_place, safes_place, bags_place, items_place, ceremonies_place}
+use Rattle.kcr_tables.specs.Held.{marks_place, steps_place, seatings_place, sheet_place, exceptions_place, versions_place, keys_place, stays_place}
+use Rattle.kcr_tables.specs.Held.{withdrawals_place}
 use Rattle.kcr_tables.specs.First.{empty_tables}
 use Rattle.kcr_tables.specs.Schema.{all_tables}
 use Rattle.kcr_tables.specs.Made.{first}

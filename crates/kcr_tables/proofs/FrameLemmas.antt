@@ -9,8 +9,8 @@ use Rattle.kcr_base.specs.declared.refusal.Refusal.{Refusal}
 use Rattle.kcr_rows.specs.Refusals.{IsFault}
 use Rattle.kcr_rows.proofs.FailLemmas.{on_ok, on_ok_then, plain_in}
 use Rattle.kcr_rows.proofs.InsideLemmas.{was_clean}
-use Rattle.kcr_cells.specs.Frame.{StaysWithin}
-use Rattle.kcr_cells.proofs.FrameLemmas.{within_then, within_to, within_fails}
+use Rattle.kcr_rows.specs.Frame.{StaysWithin}
+use Rattle.kcr_rows.proofs.FrameLemmas.{within_then, within_to, within_fails}
 use Rattle.kcr_tables.specs.Schema.{register_schema}
 use Rattle.kcr_tables.specs.Held.{Holds}
 use Rattle.kcr_tables.specs.Joint.{HoldsTables}

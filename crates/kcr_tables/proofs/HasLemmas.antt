@@ -1,5 +1,6 @@
 -- What lists have.
-use Rattle.std.proofs.Common.{◌≡◌, ◌⊎◌, inl, inr, Bool, true, false, cond, ℕ, List, [], ◌∷◌, ◌++◌, filter, find, map, Option, Some, None, refl, sym, ap, ◌∙◌, true≢false, Ordering, Less, Equal, Greater}
+use Rattle.std.proofs.Common.{◌≡◌, ◌⊎◌, inl, inr, Bool, true, false, cond, ℕ, List, [], ◌∷◌, ◌++◌, filter, find, map, Option, Some, None, refl, sym, ap, ◌∙◌}
+use Rattle.std.proofs.Common.{true≢false, Ordering, Less, Equal, Greater}
 use Rattle.std.specs.Ordering.{is_eq}
 use Rattle.std.proofs.lemmas.Cmp.{tied_back}
 use Rattle.sqlite.specs.Order.{Row}
@@ -45,7 +46,8 @@ find_same {X = X} p xs ys there back one = go (find p xs) (find p ys) refl refl
         ap Some (one x y (there x it.0 it.1) other.0 it.1 other.1)
 
 -- in rows that rise, two of one key are one
-pub one_key : {X : Type 0} (cmp : X → X → Ordering) → ((x y : X) → cmp x y ≡ Equal → cmp y x ≡ Equal) → (xs : List X) → IsAscending (λ a b. cmp a b ≡ Less) xs → (x y : X) → Has xs x → Has xs y → cmp x y ≡ Equal → x ≡ y
+pub one_key : {X : Type 0} (cmp : X → X → Ordering) → ((x y : X) → cmp x y ≡ Equal → cmp y x ≡ Equal) → (xs : List X) → IsAscending (λ a b. cmp a b ≡ Less) xs
+    → (x y : X) → Has xs x → Has xs y → cmp x y ≡ Equal → x ≡ y
 one_key cmp back [] up x y h k tie = absurd h
 one_key cmp back (r ∷ rows) up x y (inl h) (inl k) tie = h ∙ sym k
 one_key cmp back (r ∷ rows) up x y (inl h) (inr k) tie = absurd (let lower = all_has _ rows y up.0 k in let same = rw h at tie in cc)
@@ -101,6 +103,8 @@ filter_is p (y ∷ ys) x h = by_test (p y) refl h (filter_is p ys x)
     by_test false e later more = more later
 
 -- two rows of one key are one, in rows that rise by their keys
-pub one_key_of : {X : Type 0} (keys : ℕ) (row_of : X → Row) (xs : List X) → IsAscending (λ a b. by_key keys a b ≡ Less) (map row_of xs) → (x y : X) → Has xs x → Has xs y → is_eq (by_key keys (row_of x) (row_of y)) ≡ true → x ≡ y
+pub one_key_of : {X : Type 0} (keys : ℕ) (row_of : X → Row) (xs : List X) → IsAscending (λ a b. by_key keys a b ≡ Less) (map row_of xs) → (x y : X) → Has xs x
+    → Has xs y → is_eq (by_key keys (row_of x) (row_of y)) ≡ true → x ≡ y
 one_key_of keys row_of xs up x y h k tie =
-    one_key (λ a b. by_key keys (row_of a) (row_of b)) (λ a b t. tied_back (key_total keys) (row_of a) (row_of b) t) xs (from_map (λ a b. by_key keys a b ≡ Less) row_of xs up) x y h k (equal_is _ tie)
+    one_key (λ a b. by_key keys (row_of a) (row_of b)) (λ a b t. tied_back (key_total keys) (row_of a) (row_of b) t) xs
+    (from_map (λ a b. by_key keys a b ≡ Less) row_of xs up) x y h k (equal_is _ tie)

@@ -6,22 +6,26 @@ use Rattle.sqlite.specs.declared.types.Value.TheVariants.{Int, Text}
 use Rattle.sqlite.specs.Tree.{Trees, IsAscending}
 use Rattle.sqlite.specs.Effect.{Database}
 use Rattle.kcr_history.specs.declared.views.Change.{Change}
-use Rattle.kcr_history.specs.declared.views.Change.TheVariants.{PutPerson, PutTraining, PutAppointment, PutBox, PutSafe, PutBag, PutItem, PutCeremony, PutMark, PutStep, PutSeating, PutSheet, PutException, PutKey, PutStay, PutWithdrawal}
+use Rattle.kcr_history.specs.declared.views.Change.TheVariants.{PutPerson, PutTraining, PutAppointment, PutBox, PutSafe, PutBag, PutItem, PutCeremony, PutMark}
+use Rattle.kcr_history.specs.declared.views.Change.TheVariants.{PutStep, PutSeating, PutSheet, PutException, PutKey, PutStay, PutWithdrawal}
 use Rattle.kcr_history.specs.Tables as machine
 use Rattle.kcr_history.specs.Changes as changes
-use Rattle.kcr_history.specs.Changes.{same_person, same_appointment, same_safe_row, same_ceremony, same_mark, same_step, same_seating, same_sheet_row, same_exception, same_key_row, same_stay}
+use Rattle.kcr_history.specs.Changes.{same_person, same_appointment, same_safe_row, same_ceremony, same_mark, same_step, same_seating, same_sheet_row}
+use Rattle.kcr_history.specs.Changes.{same_exception, same_key_row, same_stay}
 use Rattle.kcr_people.specs.People.{same_training}
 use Rattle.kcr_people.specs.Laws.{same_withdrawn}
 use Rattle.kcr_custody.specs.Balance.{same_box, same_bag, same_item}
 use Rattle.kcr_base.specs.Role.{role_text}
 use Rattle.kcr_base.specs.Place.{place_text}
 use Rattle.kcr_base.specs.Facility.{facility_text}
-use Rattle.kcr_cells.specs.States.{safe_digit}
+use Rattle.kcr_rows.specs.States.{safe_digit}
 use Rattle.kcr_rows.specs.Keyed.{by_key}
 use Rattle.kcr_rows.proofs.OrderLemmas.{put-stands, put_in_rising}
-use Rattle.kcr_rows.proofs.SameLemmas.{text_ties, number_ties, facility_ties, role_ties, place_ties, one_column, two_columns, three_columns, four_columns, turned}
-use Rattle.kcr_cells.proofs.StateLemmas.{safe_ties}
-use Rattle.kcr_cells.specs.Rows.{person_row, training_row, appointment_row, box_row, safe_row, bag_row, item_row, ceremony_row, mark_row, step_row, seating_row, sheet_row, exception_row, key_row, stay_row, withdrawal_row}
+use Rattle.kcr_rows.proofs.SameLemmas.{text_ties, number_ties, facility_ties, role_ties, place_ties, one_column, two_columns, three_columns, four_columns}
+use Rattle.kcr_rows.proofs.SameLemmas.{turned}
+use Rattle.kcr_rows.proofs.StateLemmas.{safe_ties}
+use Rattle.kcr_rows.specs.Rows.{person_row, training_row, appointment_row, box_row, safe_row, bag_row, item_row, ceremony_row, mark_row, step_row, seating_row}
+use Rattle.kcr_rows.specs.Rows.{sheet_row, exception_row, key_row, stay_row, withdrawal_row}
 use Rattle.kcr_people.specs.declared.Person.{Person}
 use Rattle.kcr_people.specs.declared.Training.{Training}
 use Rattle.kcr_people.specs.declared.Appointment.{Appointment}
@@ -50,16 +54,25 @@ pub key_of_people : (new old : Person) → same_person new old ≡ is_eq (by_key
 key_of_people new old = text_ties old.who new.who ∙ one_column (Text old.who) (Text new.who) (drop 1 (person_row old)) (drop 1 (person_row new))
 
 pub key_of_trainings : (new old : Training) → same_training new old ≡ is_eq (by_key 4 (training_row old) (training_row new))
-key_of_trainings new old = (λ i. text_ties new.who old.who i && role_ties new.role old.role i && number_ties new.since old.since i && number_ties new.until old.until i) ∙ four_columns (Text new.who) (Text (role_text new.role)) (Int (pos new.since)) (Int (pos new.until)) (Text old.who) (Text (role_text old.role)) (Int (pos old.since)) (Int (pos old.until)) (drop 4 (training_row new)) (drop 4 (training_row old)) ∙ turned 4 (training_row new) (training_row old)
+key_of_trainings new old =
+    (λ i. text_ties new.who old.who i && role_ties new.role old.role i && number_ties new.since old.since i && number_ties new.until old.until i)
+    ∙ four_columns (Text new.who) (Text (role_text new.role)) (Int (pos new.since)) (Int (pos new.until)) (Text old.who) (Text (role_text old.role))
+    (Int (pos old.since)) (Int (pos old.until)) (drop 4 (training_row new)) (drop 4 (training_row old)) ∙ turned 4 (training_row new) (training_row old)
 
 pub key_of_appointments : (new old : Appointment) → same_appointment new old ≡ is_eq (by_key 2 (appointment_row old) (appointment_row new))
-key_of_appointments new old = (λ i. place_ties old.place new.place i && number_ties old.since new.since i) ∙ two_columns (Text (place_text old.place)) (Int (pos old.since)) (Text (place_text new.place)) (Int (pos new.since)) (drop 2 (appointment_row old)) (drop 2 (appointment_row new))
+key_of_appointments new old = (λ i. place_ties old.place new.place i && number_ties old.since new.since i)
+    ∙ two_columns (Text (place_text old.place)) (Int (pos old.since)) (Text (place_text new.place)) (Int (pos new.since)) (drop 2 (appointment_row old))
+    (drop 2 (appointment_row new))
 
 pub key_of_boxes : (new old : BoxRow) → same_box new old ≡ is_eq (by_key 2 (box_row old) (box_row new))
-key_of_boxes new old = (λ i. facility_ties old.facility new.facility i && number_ties old.number new.number i) ∙ two_columns (Text (facility_text old.facility)) (Int (pos old.number)) (Text (facility_text new.facility)) (Int (pos new.number)) (drop 2 (box_row old)) (drop 2 (box_row new))
+key_of_boxes new old = (λ i. facility_ties old.facility new.facility i && number_ties old.number new.number i)
+    ∙ two_columns (Text (facility_text old.facility)) (Int (pos old.number)) (Text (facility_text new.facility)) (Int (pos new.number)) (drop 2 (box_row old))
+    (drop 2 (box_row new))
 
 pub key_of_safes : (new old : SafeRow) → same_safe_row new old ≡ is_eq (by_key 2 (safe_row old) (safe_row new))
-key_of_safes new old = (λ i. facility_ties old.facility new.facility i && safe_ties old.safe new.safe i) ∙ two_columns (Text (facility_text old.facility)) (Int (pos (safe_digit old.safe))) (Text (facility_text new.facility)) (Int (pos (safe_digit new.safe))) (drop 2 (safe_row old)) (drop 2 (safe_row new))
+key_of_safes new old = (λ i. facility_ties old.facility new.facility i && safe_ties old.safe new.safe i)
+    ∙ two_columns (Text (facility_text old.facility)) (Int (pos (safe_digit old.safe))) (Text (facility_text new.facility)) (Int (pos (safe_digit new.safe)))
+    (drop 2 (safe_row old)) (drop 2 (safe_row new))
 
 pub key_of_bags : (new old : Bag) → same_bag new old ≡ is_eq (by_key 1 (bag_row old) (bag_row new))
 key_of_bags new old = text_ties old.serial new.serial ∙ one_column (Text old.serial) (Text new.serial) (drop 1 (bag_row old)) (drop 1 (bag_row new))
@@ -68,31 +81,43 @@ pub key_of_items : (new old : Item) → same_item new old ≡ is_eq (by_key 1 (i
 key_of_items new old = text_ties old.code new.code ∙ one_column (Text old.code) (Text new.code) (drop 1 (item_row old)) (drop 1 (item_row new))
 
 pub key_of_ceremonies : (new old : CeremonyRow) → same_ceremony new old ≡ is_eq (by_key 1 (ceremony_row old) (ceremony_row new))
-key_of_ceremonies new old = number_ties old.number new.number ∙ one_column (Int (pos old.number)) (Int (pos new.number)) (drop 1 (ceremony_row old)) (drop 1 (ceremony_row new))
+key_of_ceremonies new old = number_ties old.number new.number
+    ∙ one_column (Int (pos old.number)) (Int (pos new.number)) (drop 1 (ceremony_row old)) (drop 1 (ceremony_row new))
 
 pub key_of_marks : (new old : MarkRow) → same_mark new old ≡ is_eq (by_key 1 (mark_row old) (mark_row new))
-key_of_marks new old = number_ties old.ceremony new.ceremony ∙ one_column (Int (pos old.ceremony)) (Int (pos new.ceremony)) (drop 1 (mark_row old)) (drop 1 (mark_row new))
+key_of_marks new old = number_ties old.ceremony new.ceremony
+    ∙ one_column (Int (pos old.ceremony)) (Int (pos new.ceremony)) (drop 1 (mark_row old)) (drop 1 (mark_row new))
 
 pub key_of_steps : (new old : StepRow) → same_step new old ≡ is_eq (by_key 2 (step_row old) (step_row new))
-key_of_steps new old = (λ i. number_ties old.ceremony new.ceremony i && number_ties old.step new.step i) ∙ two_columns (Int (pos old.ceremony)) (Int (pos old.step)) (Int (pos new.ceremony)) (Int (pos new.step)) (drop 2 (step_row old)) (drop 2 (step_row new))
+key_of_steps new old = (λ i. number_ties old.ceremony new.ceremony i && number_ties old.step new.step i)
+    ∙ two_columns (Int (pos old.ceremony)) (Int (pos old.step)) (Int (pos new.ceremony)) (Int (pos new.step)) (drop 2 (step_row old)) (drop 2 (step_row new))
 
 pub key_of_seatings : (new old : SeatingRow) → same_seating new old ≡ is_eq (by_key 3 (seating_row old) (seating_row new))
-key_of_seatings new old = (λ i. number_ties old.ceremony new.ceremony i && number_ties old.step new.step i && number_ties old.seat new.seat i) ∙ three_columns (Int (pos old.ceremony)) (Int (pos old.step)) (Int (pos old.seat)) (Int (pos new.ceremony)) (Int (pos new.step)) (Int (pos new.seat)) (drop 3 (seating_row old)) (drop 3 (seating_row new))
+key_of_seatings new old = (λ i. number_ties old.ceremony new.ceremony i && number_ties old.step new.step i && number_ties old.seat new.seat i)
+    ∙ three_columns (Int (pos old.ceremony)) (Int (pos old.step)) (Int (pos old.seat)) (Int (pos new.ceremony)) (Int (pos new.step)) (Int (pos new.seat))
+    (drop 3 (seating_row old)) (drop 3 (seating_row new))
 
 pub key_of_sheet : (new old : SheetRow) → same_sheet_row new old ≡ is_eq (by_key 2 (sheet_row old) (sheet_row new))
-key_of_sheet new old = (λ i. text_ties old.who new.who i && number_ties old.at new.at i) ∙ two_columns (Text old.who) (Int (pos old.at)) (Text new.who) (Int (pos new.at)) (drop 2 (sheet_row old)) (drop 2 (sheet_row new))
+key_of_sheet new old = (λ i. text_ties old.who new.who i && number_ties old.at new.at i)
+    ∙ two_columns (Text old.who) (Int (pos old.at)) (Text new.who) (Int (pos new.at)) (drop 2 (sheet_row old)) (drop 2 (sheet_row new))
 
 pub key_of_exceptions : (new old : ExceptionRow) → same_exception new old ≡ is_eq (by_key 2 (exception_row old) (exception_row new))
-key_of_exceptions new old = (λ i. number_ties old.ceremony new.ceremony i && number_ties old.exception new.exception i) ∙ two_columns (Int (pos old.ceremony)) (Int (pos old.exception)) (Int (pos new.ceremony)) (Int (pos new.exception)) (drop 2 (exception_row old)) (drop 2 (exception_row new))
+key_of_exceptions new old = (λ i. number_ties old.ceremony new.ceremony i && number_ties old.exception new.exception i)
+    ∙ two_columns (Int (pos old.ceremony)) (Int (pos old.exception)) (Int (pos new.ceremony)) (Int (pos new.exception)) (drop 2 (exception_row old))
+    (drop 2 (exception_row new))
 
 pub key_of_keys : (new old : KeyRow) → same_key_row new old ≡ is_eq (by_key 1 (key_row old) (key_row new))
 key_of_keys new old = text_ties old.key new.key ∙ one_column (Text old.key) (Text new.key) (drop 1 (key_row old)) (drop 1 (key_row new))
 
 pub key_of_stays : (new old : Stay) → same_stay new old ≡ is_eq (by_key 2 (stay_row old) (stay_row new))
-key_of_stays new old = (λ i. text_ties old.who new.who i && number_ties old.since new.since i) ∙ two_columns (Text old.who) (Int (pos old.since)) (Text new.who) (Int (pos new.since)) (drop 2 (stay_row old)) (drop 2 (stay_row new))
+key_of_stays new old = (λ i. text_ties old.who new.who i && number_ties old.since new.since i)
+    ∙ two_columns (Text old.who) (Int (pos old.since)) (Text new.who) (Int (pos new.since)) (drop 2 (stay_row old)) (drop 2 (stay_row new))
 
 pub key_of_withdrawals : (new old : Withdrawal) → same_withdrawn new old ≡ is_eq (by_key 4 (withdrawal_row old) (withdrawal_row new))
-key_of_withdrawals new old = (λ i. text_ties old.who new.who i && role_ties old.role new.role i && number_ties old.since new.since i && number_ties old.until new.until i) ∙ four_columns (Text old.who) (Text (role_text old.role)) (Int (pos old.since)) (Int (pos old.until)) (Text new.who) (Text (role_text new.role)) (Int (pos new.since)) (Int (pos new.until)) (drop 4 (withdrawal_row old)) (drop 4 (withdrawal_row new))
+key_of_withdrawals new old =
+    (λ i. text_ties old.who new.who i && role_ties old.role new.role i && number_ties old.since new.since i && number_ties old.until new.until i)
+    ∙ four_columns (Text old.who) (Text (role_text old.role)) (Int (pos old.since)) (Int (pos old.until)) (Text new.who) (Text (role_text new.role))
+    (Int (pos new.since)) (Int (pos new.until)) (drop 4 (withdrawal_row old)) (drop 4 (withdrawal_row new))
 
 -- ---- changes
 
@@ -162,9 +187,11 @@ all_stand (c ∷ more) m t r s = all_stand more (changes.changed c m) (changed c
 
 -- ---- what the store holds
 
-pub changes_hold : (list : List Change) (m : machine.Tables) (old new : Database) (h : HoldsTables m old) → Holds new (changed_all list h.tables.t) → HoldsTables (changes.changed_by list m) new
+pub changes_hold : (list : List Change) (m : machine.Tables) (old new : Database) (h : HoldsTables m old) → Holds new (changed_all list h.tables.t)
+    → HoldsTables (changes.changed_by list m) new
 changes_hold list m old new h held =
-    tables_of (changes.changed_by list m) new (changed_all list h.tables.t) (all_stand list m h.tables.t (kept_rises old.trees h.tables.t h.tables.kept) h.tables.stands) held
+    tables_of (changes.changed_by list m) new (changed_all list h.tables.t)
+    (all_stand list m h.tables.t (kept_rises old.trees h.tables.t h.tables.kept) h.tables.stands) held
 
 first_stands : Stands (machine.tables []) first_tables
 first_stands = record {

@@ -13,7 +13,7 @@ use Rattle.sqlite_tied.specs.Compute.{everything}
 use Rattle.kcr_rows.specs.Keyed.{put_in}
 use Rattle.kcr_rows.proofs.TableLemmas.{executes_insert, each_is}
 use Rattle.kcr_rows.proofs.WriteLemmas.{cast_null, cast_int}
-use Rattle.kcr_cells.specs.Rows.{key_row}
+use Rattle.kcr_rows.specs.Rows.{key_row}
 use Rattle.kcr_history.specs.declared.rows.KeyRow.{KeyRow}
 use Rattle.kcr_tables.specs.Schema.{register_schema, keys}
 use Rattle.kcr_tables.specs.Held.{Tables, Holds, keys_place}

@@ -1,3 +1,4 @@
+pub mod AppointmentLemmas
 pub mod ExactLemmas
 pub mod FirstLemmas
 pub mod FrameLemmas

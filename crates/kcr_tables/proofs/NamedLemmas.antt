@@ -1,21 +1,25 @@
 -- The rows of a list of keys, of which one may be named twice: each row once.
 use Rattle.std.proofs.Common.{◌≡◌, Bool, true, false, cond, ◌||◌, List, [], ◌∷◌, ◌++◌, filter, refl, sym, ap, subst, ◌∙◌, true≢false, append-nil, IsPermutation}
 use Rattle.std.specs.List.{list_any}
-use Rattle.std.proofs.lemmas.List.Sorted.{IsPermutation-refl, IsPermutation-sym, IsPermutation-trans, IsPermutation-cons, IsPermutation-middle, IsPermutation-append_left}
+use Rattle.std.proofs.lemmas.List.Sorted.{IsPermutation-refl, IsPermutation-sym, IsPermutation-trans, IsPermutation-cons, IsPermutation-middle}
+use Rattle.std.proofs.lemmas.List.Sorted.{IsPermutation-append_left}
 use Rattle.sqlite_trees.proofs.ListLemmas.{IsPermutation-filter}
 use Rattle.kcr_rows.proofs.FilterLemmas.{filter_as}
 use Rattle.kcr_tables.specs.Asked.{asked_once, is_under_any}
 
 -- the rows that pass one test or the other, where none passes both
-apart : {X : Type 0} (p q : X → Bool) → ((x : X) → p x ≡ true → q x ≡ true → ⊥) → (xs : List X) → IsPermutation (filter (λ x. p x || q x) xs) (filter p xs ++ filter q xs)
+apart : {X : Type 0} (p q : X → Bool) → ((x : X) → p x ≡ true → q x ≡ true → ⊥) → (xs : List X)
+    → IsPermutation (filter (λ x. p x || q x) xs) (filter p xs ++ filter q xs)
 apart p q none [] = IsPermutation-refl []
 apart {X = X} p q none (x ∷ xs) = by_tests (p x) (q x) refl refl (apart p q none xs)
   where
     by_tests : (a b : Bool) → p x ≡ a → q x ≡ b → IsPermutation (filter (λ x. p x || q x) xs) (filter p xs ++ filter q xs)
-        → IsPermutation (cond (a || b) (x ∷ filter (λ x. p x || q x) xs) (filter (λ x. p x || q x) xs)) (cond a (x ∷ filter p xs) (filter p xs) ++ cond b (x ∷ filter q xs) (filter q xs))
+        → IsPermutation (cond (a || b) (x ∷ filter (λ x. p x || q x) xs) (filter (λ x. p x || q x) xs))
+        (cond a (x ∷ filter p xs) (filter p xs) ++ cond b (x ∷ filter q xs) (filter q xs))
     by_tests true true e f ih = absurd (none x e f)
     by_tests true false e f ih = IsPermutation-cons x _ _ ih
-    by_tests false true e f ih = IsPermutation-trans _ _ _ (IsPermutation-cons x _ _ ih) (IsPermutation-sym _ _ (IsPermutation-middle (filter p xs) x (filter q xs)))
+    by_tests false true e f ih = IsPermutation-trans _ _ _ (IsPermutation-cons x _ _ ih)
+        (IsPermutation-sym _ _ (IsPermutation-middle (filter p xs) x (filter q xs)))
     by_tests false false e f ih = ih
 
 any_of : {K : Type 0} (p : K → Bool) (xs : List K) (x : K) → list_any p (xs ++ x ∷ []) ≡ (list_any p xs || p x)
@@ -51,9 +55,11 @@ module _ {X K : Type 0} (same : K → K → Bool) (is_under : K → X → Bool) 
   -- one key more adds its rows, and nothing where it was named before
   pub named_more : (keys : List K) (key : K) (xs rows found : List X) → IsPermutation (filter (is_under_any is_under keys) xs) rows
       → found ≡ asked_once same is_under key keys xs → IsPermutation (filter (is_under_any is_under (keys ++ key ∷ [])) xs) (rows ++ found)
-  named_more keys key xs rows found so is = subst (λ l. IsPermutation (filter (is_under_any is_under (keys ++ key ∷ [])) xs) (rows ++ l)) (sym is) (by_test (list_any (same key) keys) refl)
+  named_more keys key xs rows found so is = subst (λ l. IsPermutation (filter (is_under_any is_under (keys ++ key ∷ [])) xs) (rows ++ l)) (sym is)
+      (by_test (list_any (same key) keys) refl)
     where
-      by_test : (b : Bool) → list_any (same key) keys ≡ b → IsPermutation (filter (is_under_any is_under (keys ++ key ∷ [])) xs) (rows ++ cond b [] (filter (is_under key) xs))
+      by_test : (b : Bool) → list_any (same key) keys ≡ b
+          → IsPermutation (filter (is_under_any is_under (keys ++ key ∷ [])) xs) (rows ++ cond b [] (filter (is_under key) xs))
       by_test true there =
           subst (IsPermutation (filter (is_under_any is_under (keys ++ key ∷ [])) xs)) (sym (append-nil rows))
           (subst (λ l. IsPermutation l rows) (sym (filter_as _ _ (λ x. more_is keys key x ∙ or_in _ _ (λ is. same_key keys key x is ∙ there)) xs)) so)
@@ -68,7 +74,8 @@ pub twice : {X : Type 0} (p : X → Bool) (xs : List X) → filter p (filter p x
 twice p [] = refl
 twice p (x ∷ xs) = by_test (p x) refl (twice p xs)
   where
-    by_test : (b : Bool) → p x ≡ b → filter p (filter p xs) ≡ filter p xs → filter p (cond b (x ∷ filter p xs) (filter p xs)) ≡ cond b (x ∷ filter p xs) (filter p xs)
+    by_test : (b : Bool) → p x ≡ b → filter p (filter p xs) ≡ filter p xs
+        → filter p (cond b (x ∷ filter p xs) (filter p xs)) ≡ cond b (x ∷ filter p xs) (filter p xs)
     by_test true e more = rw e (ap (λ l. x ∷ l) more)
     by_test false e more = more
 

@@ -6,11 +6,12 @@ use Rattle.kcr_base.specs.declared.place.Facility.TheVariants.{East, West}
 use Rattle.kcr_custody.specs.declared.SafeNumber.TheVariants.{One, Two}
 use Rattle.kcr_custody.specs.declared.SafeRow.{SafeRow}
 use Rattle.kcr_rows.specs.Keyed.{put_in}
-use Rattle.kcr_cells.specs.Rows.{safe_row, version_row}
+use Rattle.kcr_rows.specs.Rows.{safe_row, version_row}
 use Rattle.kcr_tables.specs.First.{empty_tables, first_tables, shut}
 
 -- in the order of their keys
-safes_are : put_in 2 safe_row (shut West Two) (put_in 2 safe_row (shut West One) (put_in 2 safe_row (shut East Two) (put_in 2 safe_row (shut East One) []))) ≡ first_tables.safes
+safes_are : put_in 2 safe_row (shut West Two)
+    (put_in 2 safe_row (shut West One) (put_in 2 safe_row (shut East Two) (put_in 2 safe_row (shut East One) []))) ≡ first_tables.safes
 unfolding value_cmp everything lib.Ieee.is_nan lib.Ieee.lt
 safes_are = refl
 

@@ -13,25 +13,32 @@ use Rattle.kcr_tables.specs.Schema.{register_schema}
 use Rattle.kcr_tables.specs.Statements.{ShowsRows, PutsRow}
 
 module _ {X : Type 0} (sql : List ℕ) (place : Place) (params : Row) (passes : Row → Bool) (s : ShowsRows sql place params passes) (row_of : X → Row) where
-  pub rows_shown : (IsRead IsStored : X → Type 0) → ((x y : X) → IsRead x → IsStored y → row_of x ≡ row_of y → x ≡ y) → (test : X → Bool) → ((x : X) → passes (row_of x) ≡ test x)
+  pub rows_shown : (IsRead IsStored : X → Type 0) → ((x y : X) → IsRead x → IsStored y → row_of x ≡ row_of y → x ≡ y) → (test : X → Bool)
+      → ((x : X) → passes (row_of x) ≡ test x)
       → (old new : State) (xs : List X) → old.now.schema ≡ register_schema → Shown sql params old new (map row_of xs) → AllByRecursion IsRead xs
       → (ys : List X) → AllByRecursion IsStored ys → Keeps place old.now.trees (map row_of ys) → xs ≡ filter test ys
   rows_shown IsRead IsStored one test same old new xs has h read ys stored keeps =
-      shown_checked place register_schema sql params s.test s.project s.order s.names passes s.is s.bare s.shows s.tests s.sorts s.low row_of IsRead IsStored one old new xs has h read ys stored keeps
+      shown_checked place register_schema sql params s.test s.project s.order s.names passes s.is s.bare s.shows s.tests s.sorts s.low row_of IsRead IsStored
+      one old new xs has h read ys stored keeps
       ∙ filter_as (λ y. passes (row_of y)) test same ys
 
   -- whatever the tree has, the values stand for its rows that pass
-  pub every_row : (old new : State) (xs : List X) → old.now.schema ≡ register_schema → Shown sql params old new (map row_of xs) → IsPermutation (filter passes (map (cells place) (old.now.trees place.tree))) (map row_of xs)
-  every_row old new xs has h = shown_exact place register_schema sql params s.test s.project s.order s.names passes s.is s.bare s.shows s.tests s.sorts s.low row_of old new xs has h
+  pub every_row : (old new : State) (xs : List X) → old.now.schema ≡ register_schema → Shown sql params old new (map row_of xs)
+      → IsPermutation (filter passes (map (cells place) (old.now.trees place.tree))) (map row_of xs)
+  every_row old new xs has h = shown_exact place register_schema sql params s.test s.project s.order s.names passes s.is s.bare s.shows s.tests s.sorts s.low
+      row_of old new xs has h
 
-pub row_put : {X : Type 0} (sql : List ℕ) (place : Place) (row_of : X → Row) → PutsRow sql place row_of → (x : X) (old new : State) (count : ℕ) → old.now.schema ≡ register_schema → Executes sql (row_of x) old new (Ok count)
+pub row_put : {X : Type 0} (sql : List ℕ) (place : Place) (row_of : X → Row) → PutsRow sql place row_of → (x : X) (old new : State) (count : ℕ)
+    → old.now.schema ≡ register_schema → Executes sql (row_of x) old new (Ok count)
     → (new.now.schema ≡ register_schema) × Changes place register_schema (row_of x) old.now.trees new.now.trees
 row_put sql place row_of p x old new count has h =
-    executes_upsert place register_schema p.at p.name p.columns p.others p.here p.alone p.compares p.fulls sql p.terms p.bare (row_of x) (p.given x) (p.casts x) (p.shown x) (p.filled x)
+    executes_upsert place register_schema p.at p.name p.columns p.others p.here p.alone p.compares p.fulls sql p.terms p.bare (row_of x) (p.given x)
+    (p.casts x) (p.shown x) (p.filled x)
     p.test p.sets (p.tests x) (p.gives x) p.low p.shared p.is old new count has h
 
 -- the rows that the tree has then
-pub rows_put : {X : Type 0} (place : Place) (row_of : X → Row) (IsStored : X → Type 0) (x : X) → IsStored x → (old new : Trees) → Changes place register_schema (row_of x) old new → (xs : List X) → Keeps place old (map row_of xs)
+pub rows_put : {X : Type 0} (place : Place) (row_of : X → Row) (IsStored : X → Type 0) (x : X) → IsStored x → (old new : Trees)
+    → Changes place register_schema (row_of x) old new → (xs : List X) → Keeps place old (map row_of xs)
     → AllByRecursion IsStored xs → Keeps place new (map row_of (put_in place.keys row_of x xs)) × AllByRecursion IsStored (put_in place.keys row_of x xs)
 rows_put place row_of IsStored x fact old new c xs keeps stored =
     (subst (Keeps place new) (sym (put_in_rows place.keys row_of x xs)) (c.rows _ keeps), put_in_all IsStored place.keys row_of x xs fact stored)

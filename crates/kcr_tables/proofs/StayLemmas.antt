@@ -1,5 +1,6 @@
 -- The stays of a ceremony, and of some people the one that began last.
-use Rattle.std.proofs.Common.{◌≡◌, ◌⊎◌, inl, inr, ◌≤◌, ◌&&◌, not, nat_le, Bool, true, false, cond, ℕ, List, [], ◌∷◌, ◌++◌, filter, map, Option, Some, None, refl, sym, ap, subst, ◌∙◌, arith, append_assoc, append-nil, IsPermutation, Less}
+use Rattle.std.proofs.Common.{◌≡◌, ◌⊎◌, inl, inr, ◌≤◌, ◌&&◌, not, nat_le, Bool, true, false, cond, ℕ, List, [], ◌∷◌, ◌++◌, filter, map, Option, Some, None}
+use Rattle.std.proofs.Common.{refl, sym, ap, subst, ◌∙◌, arith, append_assoc, append-nil, IsPermutation, Less}
 use Rattle.std.specs.List.{AllByRecursion}
 use Rattle.std.proofs.lemmas.Bool.{eq-eqb}
 use Rattle.std.proofs.lemmas.Bool.Decides.{nat_tests}
@@ -18,7 +19,7 @@ use Rattle.kcr_history.specs.Views.{is_stay_of, later_stay, last_of, last_stay, 
 use Rattle.kcr_rows.specs.Keyed.{by_key}
 use Rattle.kcr_rows.specs.Greatest.{IsGreatest}
 use Rattle.kcr_rows.proofs.PutLemmas.{has_same}
-use Rattle.kcr_cells.specs.Rows.{stay_row}
+use Rattle.kcr_rows.specs.Rows.{stay_row}
 use Rattle.kcr_tables.proofs.JointLemmas.{key_of_stays}
 use Rattle.kcr_tables.proofs.HasLemmas.{has_append, has_left, has_right, filter_from, filter_to, filter_is, one_key_of}
 use Rattle.kcr_tables.proofs.NamedLemmas.{twice}
@@ -79,7 +80,8 @@ last_most (y ∷ xs) z h x (inr there) = by_last (last_of xs) refl (λ w e. last
         let high = later_high y w z (subst (λ o. later_stay y o ≡ Some z) e h) in omega (arith, below, high)
 
 -- it is the one that none exceeds, where no other began with it
-last_is : (xs : List Stay) (s : Stay) → Has xs s → ((x : Stay) → Has xs x → x.since ≤ s.since) → ((x : Stay) → Has xs x → x.since ≡ s.since → x ≡ s) → last_of xs ≡ Some s
+last_is : (xs : List Stay) (s : Stay) → Has xs s → ((x : Stay) → Has xs x → x.since ≤ s.since) → ((x : Stay) → Has xs x → x.since ≡ s.since → x ≡ s)
+    → last_of xs ≡ Some s
 last_is xs s there most one = by_last (last_of xs) refl
   where
     by_last : (o : Option Stay) → last_of xs ≡ o → o ≡ Some s
@@ -114,13 +116,17 @@ none_there [] h = refl
 none_there (x ∷ xs) h = absurd (h x (inl refl))
 
 module _ (table rows : List Stay) (apart : Apart table) (within : (x : Stay) → Has rows x → Has table x) (who : List ℕ) where
-  one_of : (s : Stay) → Has table s → same_text s.who who ≡ true → (xs : List Stay) → ((x : Stay) → Has xs x → Has table x) → (x : Stay) → Has (filter (is_of who) xs) x → x.since ≡ s.since → x ≡ s
-  one_of s there is xs inside x h since = apart x s (inside x (filter_from (is_of who) xs x h)) there (same_who who x.who s.who (filter_is (is_of who) xs x h) is) since
+  one_of : (s : Stay) → Has table s → same_text s.who who ≡ true → (xs : List Stay) → ((x : Stay) → Has xs x → Has table x) → (x : Stay)
+      → Has (filter (is_of who) xs) x → x.since ≡ s.since → x ≡ s
+  one_of s there is xs inside x h since = apart x s (inside x (filter_from (is_of who) xs x h)) there
+      (same_who who x.who s.who (filter_is (is_of who) xs x h) is) since
 
   pub same_last : HasLast table rows who → last_stay rows who ≡ last_stay table who
   same_last (last, greatest, shown) = elim greatest [
     | inl none ↦ (
-        let bare : filter (is_of who) rows ≡ [] = none_there _ (λ x h. let t = filter_to (is_of who) table x (within x (filter_from (is_of who) rows x h)) (filter_is (is_of who) rows x h) in subst (λ l. Has l x) none.0 t) in
+        let bare : filter (is_of who) rows ≡ [] = none_there _
+        (λ x h. let t = filter_to (is_of who) table x (within x (filter_from (is_of who) rows x h)) (filter_is (is_of who) rows x h) in subst
+        (λ l. Has l x) none.0 t) in
         ap last_of (bare ∙ sym none.0))
     | inr some ↦ (
         let s = some.0 in
@@ -145,13 +151,19 @@ pub record Gathered (ceremony : ℕ) (people : List (List ℕ)) (table rows : Li
 
 filter_more : {X : Type 0} (p : X → Bool) (xs ys : List X) → filter p (xs ++ ys) ≡ filter p xs ++ filter p ys
 filter_more p [] ys = refl
-filter_more p (x ∷ xs) ys = elim (p x) as (λ b. cond b (x ∷ filter p (xs ++ ys)) (filter p (xs ++ ys)) ≡ cond b (x ∷ filter p xs) (filter p xs) ++ filter p ys) [ true ↦ ap (λ l. x ∷ l) (filter_more p xs ys) | false ↦ filter_more p xs ys ]
+filter_more p (x ∷ xs) ys = elim (p x) as
+    (λ b. cond b (x ∷ filter p (xs ++ ys)) (filter p (xs ++ ys)) ≡ cond b (x ∷ filter p xs) (filter p xs) ++ filter p ys) [
+      | true ↦ ap (λ l. x ∷ l)
+          (filter_more p xs ys)
+      | false ↦ filter_more p xs ys
+    ]
 
 none_both : {X : Type 0} (p : X → Bool) (xs : List X) → filter p (filter (λ x. not (p x)) xs) ≡ []
 none_both p [] = refl
 none_both p (x ∷ xs) = by_test (p x) refl (none_both p xs)
   where
-    by_test : (b : Bool) → p x ≡ b → filter p (filter (λ x. not (p x)) xs) ≡ [] → filter p (cond (not b) (x ∷ filter (λ x. not (p x)) xs) (filter (λ x. not (p x)) xs)) ≡ []
+    by_test : (b : Bool) → p x ≡ b → filter p (filter (λ x. not (p x)) xs) ≡ []
+        → filter p (cond (not b) (x ∷ filter (λ x. not (p x)) xs) (filter (λ x. not (p x)) xs)) ≡ []
     by_test true e more = more
     by_test false e more = rw e more
 
@@ -161,7 +173,8 @@ greatest_there xs last greatest x h = elim greatest [
   | inr some ↦ elim (subst (λ l. Has l x) some.1 h) [ inl same ↦ subst (Has xs) (sym same) some.2 | inr none ↦ absurd none ]
 ]
 
-all_more : (table rows found : List Stay) (people : List (List ℕ)) → AllByRecursion (HasLast table rows) people → AllByRecursion (HasLast table (rows ++ found)) people
+all_more : (table rows found : List Stay) (people : List (List ℕ)) → AllByRecursion (HasLast table rows) people
+    → AllByRecursion (HasLast table (rows ++ found)) people
 all_more table rows found [] all = tt
 all_more table rows found (who ∷ people) all = ((all.0.0, all.0.1, λ x h. has_left rows found x (all.0.2 x h)), all_more table rows found people all.1)
 
@@ -174,27 +187,40 @@ module _ (ceremony : ℕ) (people : List (List ℕ)) (table rows last found : Li
   here x h = by_test (is_stay_of ceremony x) refl
     where
       by_test : (b : Bool) → is_stay_of ceremony x ≡ b → Has (rows ++ found) x
-      by_test true e = has_left rows found x (subst (λ l. Has l x) (sym had.are) (has_left (filter (is_stay_of ceremony) table) had.more x (filter_to (is_stay_of ceremony) table x (in_table x h) e)))
+      by_test true e = has_left rows found x
+          (subst (λ l. Has l x) (sym had.are)
+          (has_left (filter (is_stay_of ceremony) table) had.more x (filter_to (is_stay_of ceremony) table x (in_table x h) e)))
       by_test false e = has_right rows found x (subst (λ l. Has l x) (sym found_is) (filter_to (λ y. not (is_stay_of ceremony y)) last x h (ap not e)))
 
   pub more_gathered : Gathered ceremony (people ++ who ∷ []) table (rows ++ found)
   more_gathered = record {
     more = had.more ++ found;
     are = ap (λ l. l ++ found) had.are ∙ append_assoc (filter (is_stay_of ceremony) table) had.more found;
-    elsewhere = filter_more (is_stay_of ceremony) had.more found ∙ ap (λ l. l ++ filter (is_stay_of ceremony) found) had.elsewhere ∙ ap (filter (is_stay_of ceremony)) found_is ∙ none_both (is_stay_of ceremony) last;
-    there = λ x h. elim (has_append had.more found x h) [ inl before ↦ had.there x before | inr new ↦ in_table x (filter_from (λ y. not (is_stay_of ceremony y)) last x (subst (λ l. Has l x) found_is new)) ];
+    elsewhere = filter_more (is_stay_of ceremony) had.more found ∙ ap (λ l. l ++ filter (is_stay_of ceremony) found) had.elsewhere
+        ∙ ap (filter (is_stay_of ceremony)) found_is ∙ none_both (is_stay_of ceremony) last;
+    there = λ x h. elim
+        (has_append had.more found x h) [
+          | inl before ↦ had.there x before
+          | inr new ↦ in_table x
+              (filter_from (λ y. not (is_stay_of ceremony y)) last x (subst (λ l. Has l x) found_is new))
+        ];
     last = all-append (HasLast table (rows ++ found)) people (who ∷ []) (all_more table rows found people had.last) ((last, greatest, here), tt);
   }
 
-all_last : (table rows : List Stay) → Apart table → ((x : Stay) → Has rows x → Has table x) → (people : List (List ℕ)) → AllByRecursion (HasLast table rows) people → ShowsLast people table rows
+all_last : (table rows : List Stay) → Apart table → ((x : Stay) → Has rows x → Has table x) → (people : List (List ℕ))
+    → AllByRecursion (HasLast table rows) people → ShowsLast people table rows
 all_last table rows apart within [] all = tt
 all_last table rows apart within (who ∷ people) all = (same_last table rows apart within who all.0, all_last table rows apart within people all.1)
 
 pub gathered_shows : (asked : StaysOf) (table rows : List Stay) → Apart table → Gathered asked.ceremony asked.people table rows → ShowsStaysOf asked table rows
 gathered_shows asked table rows apart had =
     let mine = is_stay_of asked.ceremony in
-    let within : (x : Stay) → Has rows x → Has table x = λ x h. elim (has_append (filter mine table) had.more x (subst (λ l. Has l x) had.are h)) [ inl room ↦ filter_from mine table x room | inr more ↦ had.there x more ] in
-    let room : filter mine rows ≡ filter mine table = ap (filter mine) had.are ∙ filter_more mine (filter mine table) had.more ∙ ap (λ l. filter mine (filter mine table) ++ l) had.elsewhere ∙ append-nil _ ∙ twice mine table in
+    let within : (x : Stay) → Has rows x
+    → Has table x = λ x h. elim
+    (has_append (filter mine table) had.more x
+    (subst (λ l. Has l x) had.are h)) [ inl room ↦ filter_from mine table x room | inr more ↦ had.there x more ] in
+    let room : filter mine rows ≡ filter mine table = ap (filter mine) had.are ∙ filter_more mine (filter mine table) had.more
+    ∙ ap (λ l. filter mine (filter mine table) ++ l) had.elsewhere ∙ append-nil _ ∙ twice mine table in
     record {
       room = subst (IsPermutation (filter mine table)) (sym room) (IsPermutation-refl (filter mine table));
       last = all_last table rows apart within asked.people had.last;
@@ -212,7 +238,9 @@ order_last xs ys apart same who = by_last (last_stay ys who) refl
     back x = has_same ys xs x (IsPermutation-sym xs ys same)
 
     by_last : (o : Option Stay) → last_stay ys who ≡ o → last_stay xs who ≡ o
-    by_last None e = ap last_of (none_there (filter (is_of who) xs) (λ x h. last_none (filter (is_of who) ys) x e (filter_to (is_of who) ys x (into x (filter_from (is_of who) xs x h)) (filter_is (is_of who) xs x h))))
+    by_last None e = ap last_of
+        (none_there (filter (is_of who) xs)
+        (λ x h. last_none (filter (is_of who) ys) x e (filter_to (is_of who) ys x (into x (filter_from (is_of who) xs x h)) (filter_is (is_of who) xs x h))))
     by_last (Some s) e =
         let there = last_has (filter (is_of who) ys) s e in
         let is = filter_is (is_of who) ys s there in

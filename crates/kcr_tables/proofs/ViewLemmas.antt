@@ -1,5 +1,6 @@
 -- The rows that are read are those that a decision asks for.
-use Rattle.std.proofs.Common.{◌≡◌, inl, inr, ◌≤◌, Bool, true, false, cond, ℕ, List, [], ◌∷◌, filter, find, slice_get, Option, Some, None, refl, sym, ap, subst, ◌∙◌, arith}
+use Rattle.std.proofs.Common.{◌≡◌, inl, inr, ◌≤◌, Bool, true, false, cond, ℕ, List, [], ◌∷◌, filter, find, slice_get, Option, Some, None, refl, sym, ap, subst}
+use Rattle.std.proofs.Common.{◌∙◌, arith}
 use Rattle.std.proofs.Common.{IsPermutation}
 use Rattle.std.proofs.lemmas.Slice.Eq.{bytes_eq-Decides}
 use Rattle.std.proofs.lemmas.List.Sorted.{IsPermutation-sym, IsPermutation-trans}
@@ -15,7 +16,7 @@ use Rattle.kcr_history.specs.Views.{Shows, ShowsAll, is_of_key, row_of_key, grea
 use Rattle.kcr_rows.specs.Greatest.{IsGreatest}
 use Rattle.kcr_rows.proofs.PutLemmas.{has_same}
 use Rattle.kcr_history.specs.Tables as machine
-use Rattle.kcr_cells.specs.Rows.{key_row}
+use Rattle.kcr_rows.specs.Rows.{key_row}
 use Rattle.kcr_tables.specs.Held.{Tables}
 use Rattle.kcr_tables.specs.Asked.{asked_of, asked_all}
 use Rattle.kcr_tables.specs.Joint.{HoldsTables}
@@ -26,12 +27,14 @@ use Rattle.kcr_tables.proofs.NamedLemmas.{twice}
 -- ---- rows under a key, or all
 
 -- the rows of a table in one order are those of it in another
-pub shows_on : {X K : Type 0} (is_under : K → X → Bool) (asked : Selection K) (xs ys rows : List X) → IsPermutation xs ys → Shows is_under asked ys rows → Shows is_under asked xs rows
+pub shows_on : {X K : Type 0} (is_under : K → X → Bool) (asked : Selection K) (xs ys rows : List X) → IsPermutation xs ys → Shows is_under asked ys rows
+    → Shows is_under asked xs rows
 shows_on is_under Nothing xs ys rows p h = tt
 shows_on is_under (Under key) xs ys rows p h = IsPermutation-trans _ _ _ (IsPermutation-filter (is_under key) xs ys p) h
 shows_on is_under All xs ys rows p h = IsPermutation-trans _ _ _ p h
 
-pub asked_shows : {X K : Type 0} (is_under : K → X → Bool) (asked : Selection K) (xs ys rows : List X) → IsPermutation xs ys → rows ≡ asked_of is_under asked ys → Shows is_under asked xs rows
+pub asked_shows : {X K : Type 0} (is_under : K → X → Bool) (asked : Selection K) (xs ys rows : List X) → IsPermutation xs ys
+    → rows ≡ asked_of is_under asked ys → Shows is_under asked xs rows
 asked_shows {K = K} is_under asked xs ys rows p is = subst (Shows is_under asked xs) (sym is) (shown asked)
   where
     shown : (asked : Selection K) → Shows is_under asked xs (asked_of is_under asked ys)

@@ -1,5 +1,5 @@
 -- What the table appointments proves of its texts, and of its place among the others.
-use Rattle.std.proofs.Common.{◌≡◌, ◌≢◌, ℕ, pos, List, [], ◌∷◌, map, codes, true, refl, sym, ap, ◌∙◌}
+use Rattle.std.proofs.Common.{◌≡◌, ◌≢◌, ℕ, pos, List, [], ◌∷◌, map, codes, true, refl, ap}
 use Rattle.std.specs.Bool.{⊤}
 use Rattle.std.specs.List.{AllByRecursion}
 use Rattle.sqlite.specs.declared.types.Value.TheVariants.{Null, Text}
@@ -15,18 +15,14 @@ use Rattle.sqlite_sql.specs.declared.ops.CompareOp.TheVariants.{Eq}
 use Rattle.sqlite_value.specs.declared.keys.Key.{Key}
 use Rattle.sqlite_value.specs.Keys.{ascending}
 use Rattle.sqlite_tied.specs.Compute.{everything}
-use Rattle.kcr_base.specs.Same.{same_text}
 use Rattle.kcr_base.specs.Place.{place_text}
-use Rattle.kcr_history.specs.Views.{is_appointment_of}
-use Rattle.kcr_history.specs.declared.views.AppointmentsOf.TheVariants as Wanted
 use Rattle.kcr_rows.specs.Columns.{words, number, number_or_null}
 use Rattle.kcr_rows.specs.Keyed.{Keeps}
-use Rattle.kcr_rows.proofs.FilterLemmas.{has_value, value_is}
 use Rattle.kcr_rows.proofs.WriteLemmas.{cast_int}
 use Rattle.kcr_rows.proofs.TableLemmas.{keeps_still, each_is}
-use Rattle.kcr_rows.proofs.SameLemmas.{one_number, one_place, text_ties}
-use Rattle.kcr_cells.proofs.StateLemmas.{cast_or_null}
-use Rattle.kcr_cells.specs.Rows.{appointment_row}
+use Rattle.kcr_rows.proofs.SameLemmas.{one_number, one_place}
+use Rattle.kcr_rows.proofs.StateLemmas.{cast_or_null}
+use Rattle.kcr_rows.specs.Rows.{appointment_row}
 use Rattle.kcr_people.specs.declared.Appointment.{Appointment}
 use Rattle.kcr_tables.specs.Schema.{register_schema}
 use Rattle.kcr_tables.specs.Held.{Tables, Kept, people_place, trainings_place, appointments_place, boxes_place}
@@ -35,7 +31,7 @@ use Rattle.kcr_tables.specs.Held.{seatings_place, sheet_place, exceptions_place,
 use Rattle.kcr_tables.specs.Held.{stays_place, withdrawals_place}
 use Rattle.kcr_tables.specs.Parts.{text_in, number_in}
 use Rattle.kcr_tables.specs.Statements.{ShowsRows, PutsRow}
-use Rattle.kcr_tables.specs.Table.{Table, IsTable, Finding, IsFinding}
+use Rattle.kcr_tables.specs.Table.{Table, IsTable}
 
 abbrev pub project : List Term
 project = col 1 1 ∷ col 1 2 ∷ col 1 3 ∷ col 1 4 ∷ []
@@ -64,41 +60,6 @@ lists : ShowsRows table.all_sql appointments_place [] (λ _. true)
 unfolding understood everything
 lists = record { test = []; project = project; order = order; names = names; is = (refl, refl); bare = (refl, refl); shows = λ r. refl; tests = λ r. refl; sorts = λ a b. refl; low = refl }
 
--- ---- the rows of one place
-
-abbrev pub appointments_to : Finding (List ℕ) Appointment
-appointments_to = record { is_under = λ place x. same_text (place_text x.place) place; column = 0; find_sql = codes "SELECT place, since, who, until FROM appointments WHERE place = ?1 ORDER BY place, since" }
-
-shows_appointments_to : (place : List ℕ)
-    → ShowsRows appointments_to.find_sql appointments_place (Text place ∷ []) (has_value 0 (Text place))
-unfolding understood everything
-shows_appointments_to place = record { test = op2 (Compare Eq Binary) (col 1 1) (col 0 0) ∷ []; project = project; order = order; names = names; is = (refl, refl); bare = (refl, refl); shows = λ r. refl; tests = λ r. refl; sorts = λ a b. refl; low = refl }
-
-under_appointments_to : (place : List ℕ) (x : Appointment)
-    → has_value 0 (Text place) (appointment_row x) ≡ same_text (place_text x.place) place
-under_appointments_to place x = value_is (Text (place_text x.place)) (Text place) refl refl
-    ∙ sym (text_ties (place_text x.place) place)
-
-pub appointments_to_laws : IsFinding appointments_to appointments_place Text appointment_row
-appointments_to_laws = record { finds = shows_appointments_to; under = under_appointments_to }
-
--- ---- the rows of one person
-
-abbrev pub appointments_of : Finding (List ℕ) Appointment
-appointments_of = record { is_under = λ who x. is_appointment_of (Wanted.Person who) x; column = 2; find_sql = codes "SELECT place, since, who, until FROM appointments WHERE who = ?1 ORDER BY place, since" }
-
-shows_appointments_of : (who : List ℕ)
-    → ShowsRows appointments_of.find_sql appointments_place (Text who ∷ []) (has_value 2 (Text who))
-unfolding understood everything
-shows_appointments_of who = record { test = op2 (Compare Eq Binary) (col 1 3) (col 0 0) ∷ []; project = project; order = order; names = names; is = (refl, refl); bare = (refl, refl); shows = λ r. refl; tests = λ r. refl; sorts = λ a b. refl; low = refl }
-
-under_appointments_of : (who : List ℕ) (x : Appointment)
-    → has_value 2 (Text who) (appointment_row x) ≡ is_appointment_of (Wanted.Person who) x
-under_appointments_of who x = value_is (Text x.who) (Text who) refl refl ∙ sym (text_ties x.who who)
-
-pub appointments_of_laws : IsFinding appointments_of appointments_place Text appointment_row
-appointments_of_laws = record { finds = shows_appointments_of; under = under_appointments_of }
-
 -- ---- a row put under its key
 
 abbrev put_sql : List ℕ
@@ -110,7 +71,7 @@ puts = record {
   at = 2;
   name = codes "appointments";
   columns = words (codes "place") ∷ number (codes "since") ∷ words (codes "who") ∷ number_or_null (codes "until") ∷ [];
-  others = [];
+  others = (3 ∷ 2 ∷ 1 ∷ []) ∷ [];
   terms = lit Null ∷ col 0 0 ∷ col 0 1 ∷ col 0 2 ∷ col 0 3 ∷ [];
   test = op2 (Compare Eq Binary) (col 1 0) (col 0 4) ∷ [];
   sets = col 1 0 ∷ col 1 0 ∷ col 0 0 ∷ col 0 1 ∷ col 0 2 ∷ col 0 3 ∷ [];

@@ -19,11 +19,11 @@ use Rattle.kcr_rows.specs.Keyed.{Keeps}
 use Rattle.kcr_rows.proofs.FilterLemmas.{has_value, value_is}
 use Rattle.kcr_rows.proofs.TableLemmas.{keeps_still}
 use Rattle.kcr_rows.proofs.SameLemmas.{text_ties}
-use Rattle.kcr_cells.proofs.StateLemmas.{one_spot}
+use Rattle.kcr_rows.proofs.StateLemmas.{one_spot}
 use Rattle.kcr_custody.specs.Spots.{spot_text}
-use Rattle.kcr_cells.specs.Rows.{bag_row}
+use Rattle.kcr_rows.specs.Rows.{bag_row}
 use Rattle.kcr_custody.specs.declared.Bag.{Bag}
-use Rattle.kcr_cells.specs.States.{HasBoxNumber}
+use Rattle.kcr_rows.specs.States.{HasBoxNumber}
 use Rattle.kcr_tables.specs.Schema.{register_schema}
 use Rattle.kcr_tables.specs.Held.{Tables, Kept, people_place, trainings_place, appointments_place, boxes_place}
 use Rattle.kcr_tables.specs.Held.{safes_place, bags_place, items_place, ceremonies_place, marks_place, steps_place}
@@ -109,27 +109,27 @@ puts = record {
 -- the other tables stay where the rows of this one are changed
 pub still : (old new : Trees) (rows : List Bag) (t : Tables) → IsSound register_schema new
     → Keeps bags_place new (map bag_row rows) → AllByRecursion HasBoxNumber rows
-    → ((tree : ℕ) → tree ≢ 10 → IsNoIndex register_schema tree → new tree ≡ old tree) → Kept old t
+    → ((tree : ℕ) → tree ≢ 11 → IsNoIndex register_schema tree → new tree ≡ old tree) → Kept old t
     → Kept new (record t { bags = rows })
 still old new rows t sound keeps stored others k = record {
   sound = sound;
-  people = keeps_still register_schema 10 people_place old new _ others refl refl k.people;
-  trainings = keeps_still register_schema 10 trainings_place old new _ others refl refl k.trainings;
-  appointments = keeps_still register_schema 10 appointments_place old new _ others refl refl k.appointments;
-  boxes = keeps_still register_schema 10 boxes_place old new _ others refl refl k.boxes;
-  safes = keeps_still register_schema 10 safes_place old new _ others refl refl k.safes;
+  people = keeps_still register_schema 11 people_place old new _ others refl refl k.people;
+  trainings = keeps_still register_schema 11 trainings_place old new _ others refl refl k.trainings;
+  appointments = keeps_still register_schema 11 appointments_place old new _ others refl refl k.appointments;
+  boxes = keeps_still register_schema 11 boxes_place old new _ others refl refl k.boxes;
+  safes = keeps_still register_schema 11 safes_place old new _ others refl refl k.safes;
   bags = keeps;
-  items = keeps_still register_schema 10 items_place old new _ others refl refl k.items;
-  ceremonies = keeps_still register_schema 10 ceremonies_place old new _ others refl refl k.ceremonies;
-  marks = keeps_still register_schema 10 marks_place old new _ others refl refl k.marks;
-  steps = keeps_still register_schema 10 steps_place old new _ others refl refl k.steps;
-  seatings = keeps_still register_schema 10 seatings_place old new _ others refl refl k.seatings;
-  sheet = keeps_still register_schema 10 sheet_place old new _ others refl refl k.sheet;
-  exceptions = keeps_still register_schema 10 exceptions_place old new _ others refl refl k.exceptions;
-  versions = keeps_still register_schema 10 versions_place old new _ others refl refl k.versions;
-  keys = keeps_still register_schema 10 keys_place old new _ others refl refl k.keys;
-  stays = keeps_still register_schema 10 stays_place old new _ others refl refl k.stays;
-  withdrawals = keeps_still register_schema 10 withdrawals_place old new _ others refl refl k.withdrawals;
+  items = keeps_still register_schema 11 items_place old new _ others refl refl k.items;
+  ceremonies = keeps_still register_schema 11 ceremonies_place old new _ others refl refl k.ceremonies;
+  marks = keeps_still register_schema 11 marks_place old new _ others refl refl k.marks;
+  steps = keeps_still register_schema 11 steps_place old new _ others refl refl k.steps;
+  seatings = keeps_still register_schema 11 seatings_place old new _ others refl refl k.seatings;
+  sheet = keeps_still register_schema 11 sheet_place old new _ others refl refl k.sheet;
+  exceptions = keeps_still register_schema 11 exceptions_place old new _ others refl refl k.exceptions;
+  versions = keeps_still register_schema 11 versions_place old new _ others refl refl k.versions;
+  keys = keeps_still register_schema 11 keys_place old new _ others refl refl k.keys;
+  stays = keeps_still register_schema 11 stays_place old new _ others refl refl k.stays;
+  withdrawals = keeps_still register_schema 11 withdrawals_place old new _ others refl refl k.withdrawals;
   spot = stored;
   seats = k.seats;
 }

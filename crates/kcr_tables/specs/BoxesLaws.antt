@@ -21,7 +21,7 @@ use Rattle.kcr_rows.proofs.WriteLemmas.{cast_int}
 use Rattle.kcr_rows.proofs.TableLemmas.{keeps_still, each_is}
 use Rattle.kcr_rows.proofs.SameLemmas.{one_facility, one_place}
 use Rattle.kcr_base.specs.Facility.{facility_text}
-use Rattle.kcr_cells.specs.Rows.{box_row}
+use Rattle.kcr_rows.specs.Rows.{box_row}
 use Rattle.kcr_custody.specs.declared.BoxRow.{BoxRow}
 use Rattle.kcr_tables.specs.Schema.{register_schema}
 use Rattle.kcr_tables.specs.Held.{Tables, Kept, people_place, trainings_place, appointments_place, boxes_place}
@@ -93,27 +93,27 @@ puts = record {
 -- the other tables stay where the rows of this one are changed
 pub still : (old new : Trees) (rows : List BoxRow) (t : Tables) → IsSound register_schema new
     → Keeps boxes_place new (map box_row rows) → AllByRecursion (λ _. ⊤) rows
-    → ((tree : ℕ) → tree ≢ 6 → IsNoIndex register_schema tree → new tree ≡ old tree) → Kept old t
+    → ((tree : ℕ) → tree ≢ 7 → IsNoIndex register_schema tree → new tree ≡ old tree) → Kept old t
     → Kept new (record t { boxes = rows })
 still old new rows t sound keeps stored others k = record {
   sound = sound;
-  people = keeps_still register_schema 6 people_place old new _ others refl refl k.people;
-  trainings = keeps_still register_schema 6 trainings_place old new _ others refl refl k.trainings;
-  appointments = keeps_still register_schema 6 appointments_place old new _ others refl refl k.appointments;
+  people = keeps_still register_schema 7 people_place old new _ others refl refl k.people;
+  trainings = keeps_still register_schema 7 trainings_place old new _ others refl refl k.trainings;
+  appointments = keeps_still register_schema 7 appointments_place old new _ others refl refl k.appointments;
   boxes = keeps;
-  safes = keeps_still register_schema 6 safes_place old new _ others refl refl k.safes;
-  bags = keeps_still register_schema 6 bags_place old new _ others refl refl k.bags;
-  items = keeps_still register_schema 6 items_place old new _ others refl refl k.items;
-  ceremonies = keeps_still register_schema 6 ceremonies_place old new _ others refl refl k.ceremonies;
-  marks = keeps_still register_schema 6 marks_place old new _ others refl refl k.marks;
-  steps = keeps_still register_schema 6 steps_place old new _ others refl refl k.steps;
-  seatings = keeps_still register_schema 6 seatings_place old new _ others refl refl k.seatings;
-  sheet = keeps_still register_schema 6 sheet_place old new _ others refl refl k.sheet;
-  exceptions = keeps_still register_schema 6 exceptions_place old new _ others refl refl k.exceptions;
-  versions = keeps_still register_schema 6 versions_place old new _ others refl refl k.versions;
-  keys = keeps_still register_schema 6 keys_place old new _ others refl refl k.keys;
-  stays = keeps_still register_schema 6 stays_place old new _ others refl refl k.stays;
-  withdrawals = keeps_still register_schema 6 withdrawals_place old new _ others refl refl k.withdrawals;
+  safes = keeps_still register_schema 7 safes_place old new _ others refl refl k.safes;
+  bags = keeps_still register_schema 7 bags_place old new _ others refl refl k.bags;
+  items = keeps_still register_schema 7 items_place old new _ others refl refl k.items;
+  ceremonies = keeps_still register_schema 7 ceremonies_place old new _ others refl refl k.ceremonies;
+  marks = keeps_still register_schema 7 marks_place old new _ others refl refl k.marks;
+  steps = keeps_still register_schema 7 steps_place old new _ others refl refl k.steps;
+  seatings = keeps_still register_schema 7 seatings_place old new _ others refl refl k.seatings;
+  sheet = keeps_still register_schema 7 sheet_place old new _ others refl refl k.sheet;
+  exceptions = keeps_still register_schema 7 exceptions_place old new _ others refl refl k.exceptions;
+  versions = keeps_still register_schema 7 versions_place old new _ others refl refl k.versions;
+  keys = keeps_still register_schema 7 keys_place old new _ others refl refl k.keys;
+  stays = keeps_still register_schema 7 stays_place old new _ others refl refl k.stays;
+  withdrawals = keeps_still register_schema 7 withdrawals_place old new _ others refl refl k.withdrawals;
   spot = k.spot;
   seats = k.seats;
 }

@@ -22,10 +22,10 @@ use Rattle.kcr_rows.proofs.FilterLemmas.{has_value, value_is}
 use Rattle.kcr_rows.proofs.WriteLemmas.{cast_int}
 use Rattle.kcr_rows.proofs.TableLemmas.{keeps_still, each_is}
 use Rattle.kcr_rows.proofs.SameLemmas.{one_facility, one_number, number_ties}
-use Rattle.kcr_cells.proofs.StateLemmas.{cast_or_null, one_ceremony_state}
+use Rattle.kcr_rows.proofs.StateLemmas.{cast_or_null, one_ceremony_state}
 use Rattle.kcr_base.specs.Facility.{facility_text}
-use Rattle.kcr_cells.specs.States.{ceremony_number}
-use Rattle.kcr_cells.specs.Rows.{ceremony_row}
+use Rattle.kcr_rows.specs.States.{ceremony_number}
+use Rattle.kcr_rows.specs.Rows.{ceremony_row}
 use Rattle.kcr_history.specs.declared.rows.CeremonyRow.{CeremonyRow}
 use Rattle.kcr_tables.specs.Schema.{register_schema}
 use Rattle.kcr_tables.specs.Held.{Tables, Kept, people_place, trainings_place, appointments_place, boxes_place}
@@ -117,27 +117,27 @@ puts = record {
 -- the other tables stay where the rows of this one are changed
 pub still : (old new : Trees) (rows : List CeremonyRow) (t : Tables) → IsSound register_schema new
     → Keeps ceremonies_place new (map ceremony_row rows) → AllByRecursion (λ _. ⊤) rows
-    → ((tree : ℕ) → tree ≢ 15 → IsNoIndex register_schema tree → new tree ≡ old tree) → Kept old t
+    → ((tree : ℕ) → tree ≢ 16 → IsNoIndex register_schema tree → new tree ≡ old tree) → Kept old t
     → Kept new (record t { ceremonies = rows })
 still old new rows t sound keeps stored others k = record {
   sound = sound;
-  people = keeps_still register_schema 15 people_place old new _ others refl refl k.people;
-  trainings = keeps_still register_schema 15 trainings_place old new _ others refl refl k.trainings;
-  appointments = keeps_still register_schema 15 appointments_place old new _ others refl refl k.appointments;
-  boxes = keeps_still register_schema 15 boxes_place old new _ others refl refl k.boxes;
-  safes = keeps_still register_schema 15 safes_place old new _ others refl refl k.safes;
-  bags = keeps_still register_schema 15 bags_place old new _ others refl refl k.bags;
-  items = keeps_still register_schema 15 items_place old new _ others refl refl k.items;
+  people = keeps_still register_schema 16 people_place old new _ others refl refl k.people;
+  trainings = keeps_still register_schema 16 trainings_place old new _ others refl refl k.trainings;
+  appointments = keeps_still register_schema 16 appointments_place old new _ others refl refl k.appointments;
+  boxes = keeps_still register_schema 16 boxes_place old new _ others refl refl k.boxes;
+  safes = keeps_still register_schema 16 safes_place old new _ others refl refl k.safes;
+  bags = keeps_still register_schema 16 bags_place old new _ others refl refl k.bags;
+  items = keeps_still register_schema 16 items_place old new _ others refl refl k.items;
   ceremonies = keeps;
-  marks = keeps_still register_schema 15 marks_place old new _ others refl refl k.marks;
-  steps = keeps_still register_schema 15 steps_place old new _ others refl refl k.steps;
-  seatings = keeps_still register_schema 15 seatings_place old new _ others refl refl k.seatings;
-  sheet = keeps_still register_schema 15 sheet_place old new _ others refl refl k.sheet;
-  exceptions = keeps_still register_schema 15 exceptions_place old new _ others refl refl k.exceptions;
-  versions = keeps_still register_schema 15 versions_place old new _ others refl refl k.versions;
-  keys = keeps_still register_schema 15 keys_place old new _ others refl refl k.keys;
-  stays = keeps_still register_schema 15 stays_place old new _ others refl refl k.stays;
-  withdrawals = keeps_still register_schema 15 withdrawals_place old new _ others refl refl k.withdrawals;
+  marks = keeps_still register_schema 16 marks_place old new _ others refl refl k.marks;
+  steps = keeps_still register_schema 16 steps_place old new _ others refl refl k.steps;
+  seatings = keeps_still register_schema 16 seatings_place old new _ others refl refl k.seatings;
+  sheet = keeps_still register_schema 16 sheet_place old new _ others refl refl k.sheet;
+  exceptions = keeps_still register_schema 16 exceptions_place old new _ others refl refl k.exceptions;
+  versions = keeps_still register_schema 16 versions_place old new _ others refl refl k.versions;
+  keys = keeps_still register_schema 16 keys_place old new _ others refl refl k.keys;
+  stays = keeps_still register_schema 16 stays_place old new _ others refl refl k.stays;
+  withdrawals = keeps_still register_schema 16 withdrawals_place old new _ others refl refl k.withdrawals;
   spot = k.spot;
   seats = k.seats;
 }

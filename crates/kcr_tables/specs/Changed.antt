@@ -1,9 +1,9 @@
 -- What a change makes of the tables.
 use Rattle.std.specs.Prelude.{List, fold}
 use Rattle.kcr_rows.specs.Keyed.{put_in}
-use Rattle.kcr_cells.specs.Rows.{person_row, training_row, appointment_row, box_row, safe_row, bag_row, item_row}
-use Rattle.kcr_cells.specs.Rows.{ceremony_row, mark_row, step_row, seating_row, sheet_row, exception_row, key_row}
-use Rattle.kcr_cells.specs.Rows.{stay_row, withdrawal_row}
+use Rattle.kcr_rows.specs.Rows.{person_row, training_row, appointment_row, box_row, safe_row, bag_row, item_row}
+use Rattle.kcr_rows.specs.Rows.{ceremony_row, mark_row, step_row, seating_row, sheet_row, exception_row, key_row}
+use Rattle.kcr_rows.specs.Rows.{stay_row, withdrawal_row}
 use Rattle.kcr_tables.specs.Held.{Tables}
 use Rattle.kcr_history.specs.declared.views.Change.{Change}
 use Rattle.kcr_history.specs.declared.views.Change.TheVariants.{PutPerson, PutTraining, PutAppointment, PutBox, PutSafe}

@@ -1,6 +1,6 @@
 -- Of the rows that a decision asks for none is strange: each is the row of a value that is shown, whatever else the
 -- tables have.
-use Rattle.std.specs.Prelude.{◌≡◌, ◌⊎◌, ℕ, pos, Bool, List, [], ◌∷◌, map, filter}
+use Rattle.std.specs.Prelude.{◌≡◌, ◌⊎◌, ℕ, pos, Bool, List, [], ◌∷◌, ◌++◌, map, filter}
 use Rattle.std.specs.List.{AllByRecursion, list_any}
 use Rattle.sqlite.specs.Order.{Row}
 use Rattle.sqlite.specs.Tree.{Trees}
@@ -8,6 +8,7 @@ use Rattle.sqlite.specs.declared.types.Value.{Value}
 use Rattle.sqlite.specs.declared.types.Value.TheVariants.{Int, Text}
 use Rattle.sqlite_rules.specs.Lists.{Has}
 use Rattle.kcr_base.specs.Place.{place_text}
+use Rattle.kcr_base.specs.declared.place.Place.{Place as Custodian}
 use Rattle.kcr_people.specs.declared.Person.{Person}
 use Rattle.kcr_people.specs.declared.Training.{Training}
 use Rattle.kcr_people.specs.declared.Withdrawal.{Withdrawal}
@@ -27,12 +28,13 @@ use Rattle.kcr_history.specs.declared.views.Asks.{Asks}
 use Rattle.kcr_history.specs.declared.views.ItemsOf.{ItemsOf}
 use Rattle.kcr_history.specs.declared.views.ItemsOf.TheVariants as Items
 use Rattle.kcr_history.specs.declared.views.Selection.{Selection}
+use Rattle.kcr_history.specs.declared.views.Selection.TheVariants.{Nothing, Under, All}
 use Rattle.kcr_history.specs.declared.views.StaysOf.{StaysOf}
 use Rattle.kcr_history.specs.declared.views.View.{View}
 use Rattle.kcr_rows.specs.Keyed.{Place, cells}
 use Rattle.kcr_rows.proofs.FilterLemmas.{has_value}
-use Rattle.kcr_cells.specs.Rows.{person_row, training_row, appointment_row, box_row, safe_row, bag_row, item_row}
-use Rattle.kcr_cells.specs.Rows.{ceremony_row, mark_row, step_row, exception_row, stay_row, withdrawal_row}
+use Rattle.kcr_rows.specs.Rows.{person_row, training_row, appointment_row, box_row, safe_row, bag_row, item_row}
+use Rattle.kcr_rows.specs.Rows.{ceremony_row, mark_row, step_row, exception_row, stay_row, withdrawal_row}
 use Rattle.kcr_tables.specs.Asked.{asked_of, asked_all}
 use Rattle.kcr_tables.specs.Held.{people_place, trainings_place, appointments_place, boxes_place, safes_place}
 use Rattle.kcr_tables.specs.Held.{bags_place, items_place, ceremonies_place, marks_place, steps_place, exceptions_place}
@@ -65,10 +67,6 @@ has_number at number row = has_value at (Int (pos number)) row
 abbrev pub has_any : ℕ → List (List ℕ) → Row → Bool
 has_any at texts row = list_any (λ text. has_text at text row) texts
 
-abbrev pub is_appointment_row : AppointmentsOf → Row → Bool
-is_appointment_row (Appointments.Place place) row = has_text 0 (place_text place) row
-is_appointment_row (Appointments.Person who) row = has_text 2 who row
-
 abbrev pub is_item_row : ItemsOf → Row → Bool
 is_item_row (Items.Codes codes) row = has_any 0 codes row
 is_item_row (Items.Bag serial) row = has_text 2 serial row
@@ -86,13 +84,36 @@ AskedAreShown row_of place is_under asked shown db = AreShown row_of shown (aske
 abbrev pub WholeIsShown : {X : Type 0} → (X → Row) → Place → Bool → List X → Trees → Type 0
 WholeIsShown row_of place asked shown db = AreShown row_of shown (asked_all asked (rows_at place db))
 
+-- the appointments to a place, and those of a person
+abbrev pub rows_to : Custodian → Trees → List Row
+rows_to place db = filter (has_text 0 (place_text place)) (rows_at appointments_place db)
+
+abbrev pub rows_of_person : List ℕ → Trees → List Row
+rows_of_person who db = filter (has_text 2 who) (rows_at appointments_place db)
+
+-- one of the first rows, or none where there are none, and behind it one of the others
+abbrev pub AreOneOfEach : List Row → List Row → List Row → Type 0
+AreOneOfEach first others shown =
+    (front : List Row) × (behind : List Row) × (shown ≡ front ++ behind) × IsOneOf first front × IsOneOf others behind
+
+-- of the appointments one to the place, one of the person, or one of each; or all
+abbrev pub AppointmentsAreShown : Selection AppointmentsOf → List Appointment → Trees → Type 0
+AppointmentsAreShown Nothing shown db = Unit {0}
+AppointmentsAreShown (Under (Appointments.Place place)) shown db =
+    IsOneOf (rows_to place db) (map appointment_row shown)
+AppointmentsAreShown (Under (Appointments.Person who)) shown db =
+    IsOneOf (rows_of_person who db) (map appointment_row shown)
+AppointmentsAreShown (Under (Appointments.Both place who)) shown db =
+    AreOneOfEach (rows_to place db) (rows_of_person who db) (map appointment_row shown)
+AppointmentsAreShown All shown db = AreShown appointment_row shown (rows_at appointments_place db)
+
 -- of people and their offices
 pub record StaffIsShown (asks : Asks) (people : List Person) (trainings : List Training)
     (withdrawals : List Withdrawal) (appointments : List Appointment) (db : Trees) : Type 0 where
   pub people_are : AskedAreShown person_row people_place (has_any 0) asks.people people db
   pub trainings_are : AskedAreShown training_row trainings_place (has_text 0) asks.trainings trainings db
   pub withdrawals_are : AskedAreShown withdrawal_row withdrawals_place (has_text 0) asks.withdrawals withdrawals db
-  pub appointments_are : AskedAreShown appointment_row appointments_place is_appointment_row asks.appointments appointments db
+  pub appointments_are : AppointmentsAreShown asks.appointments appointments db
 
 -- of what is kept in the safes
 pub record CustodyIsShown (asks : Asks) (boxes : List BoxRow) (safes : List SafeRow) (bags : List Bag)
@@ -115,4 +136,5 @@ pub record CeremoniesAreShown (asks : Asks) (ceremonies : List CeremonyRow) (mar
 pub record NoneIsStrange (asks : Asks) (view : View) (db : Trees) : Type 0 where
   pub staff : StaffIsShown asks view.people.items view.trainings.items view.withdrawals.items view.appointments.items db
   pub custody : CustodyIsShown asks view.boxes.items view.safes.items view.bags.items view.items.items db
-  pub ceremonies : CeremoniesAreShown asks view.ceremonies.items view.marks.items view.steps.items view.exceptions.items view.stays.items db
+  pub ceremonies : CeremoniesAreShown asks view.ceremonies.items view.marks.items view.steps.items
+      view.exceptions.items view.stays.items db

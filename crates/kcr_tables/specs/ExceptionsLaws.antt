@@ -22,8 +22,8 @@ use Rattle.kcr_rows.proofs.FilterLemmas.{has_value, value_is}
 use Rattle.kcr_rows.proofs.WriteLemmas.{cast_int}
 use Rattle.kcr_rows.proofs.TableLemmas.{keeps_still, each_is}
 use Rattle.kcr_rows.proofs.SameLemmas.{one_number, number_ties}
-use Rattle.kcr_cells.proofs.StateLemmas.{cast_or_null}
-use Rattle.kcr_cells.specs.Rows.{exception_row}
+use Rattle.kcr_rows.proofs.StateLemmas.{cast_or_null}
+use Rattle.kcr_rows.specs.Rows.{exception_row}
 use Rattle.kcr_history.specs.declared.rows.ExceptionRow.{ExceptionRow}
 use Rattle.kcr_tables.specs.Schema.{register_schema}
 use Rattle.kcr_tables.specs.Held.{Tables, Kept, people_place, trainings_place, appointments_place, boxes_place}
@@ -115,27 +115,27 @@ puts = record {
 -- the other tables stay where the rows of this one are changed
 pub still : (old new : Trees) (rows : List ExceptionRow) (t : Tables) → IsSound register_schema new
     → Keeps exceptions_place new (map exception_row rows) → AllByRecursion (λ _. ⊤) rows
-    → ((tree : ℕ) → tree ≢ 25 → IsNoIndex register_schema tree → new tree ≡ old tree) → Kept old t
+    → ((tree : ℕ) → tree ≢ 26 → IsNoIndex register_schema tree → new tree ≡ old tree) → Kept old t
     → Kept new (record t { exceptions = rows })
 still old new rows t sound keeps stored others k = record {
   sound = sound;
-  people = keeps_still register_schema 25 people_place old new _ others refl refl k.people;
-  trainings = keeps_still register_schema 25 trainings_place old new _ others refl refl k.trainings;
-  appointments = keeps_still register_schema 25 appointments_place old new _ others refl refl k.appointments;
-  boxes = keeps_still register_schema 25 boxes_place old new _ others refl refl k.boxes;
-  safes = keeps_still register_schema 25 safes_place old new _ others refl refl k.safes;
-  bags = keeps_still register_schema 25 bags_place old new _ others refl refl k.bags;
-  items = keeps_still register_schema 25 items_place old new _ others refl refl k.items;
-  ceremonies = keeps_still register_schema 25 ceremonies_place old new _ others refl refl k.ceremonies;
-  marks = keeps_still register_schema 25 marks_place old new _ others refl refl k.marks;
-  steps = keeps_still register_schema 25 steps_place old new _ others refl refl k.steps;
-  seatings = keeps_still register_schema 25 seatings_place old new _ others refl refl k.seatings;
-  sheet = keeps_still register_schema 25 sheet_place old new _ others refl refl k.sheet;
+  people = keeps_still register_schema 26 people_place old new _ others refl refl k.people;
+  trainings = keeps_still register_schema 26 trainings_place old new _ others refl refl k.trainings;
+  appointments = keeps_still register_schema 26 appointments_place old new _ others refl refl k.appointments;
+  boxes = keeps_still register_schema 26 boxes_place old new _ others refl refl k.boxes;
+  safes = keeps_still register_schema 26 safes_place old new _ others refl refl k.safes;
+  bags = keeps_still register_schema 26 bags_place old new _ others refl refl k.bags;
+  items = keeps_still register_schema 26 items_place old new _ others refl refl k.items;
+  ceremonies = keeps_still register_schema 26 ceremonies_place old new _ others refl refl k.ceremonies;
+  marks = keeps_still register_schema 26 marks_place old new _ others refl refl k.marks;
+  steps = keeps_still register_schema 26 steps_place old new _ others refl refl k.steps;
+  seatings = keeps_still register_schema 26 seatings_place old new _ others refl refl k.seatings;
+  sheet = keeps_still register_schema 26 sheet_place old new _ others refl refl k.sheet;
   exceptions = keeps;
-  versions = keeps_still register_schema 25 versions_place old new _ others refl refl k.versions;
-  keys = keeps_still register_schema 25 keys_place old new _ others refl refl k.keys;
-  stays = keeps_still register_schema 25 stays_place old new _ others refl refl k.stays;
-  withdrawals = keeps_still register_schema 25 withdrawals_place old new _ others refl refl k.withdrawals;
+  versions = keeps_still register_schema 26 versions_place old new _ others refl refl k.versions;
+  keys = keeps_still register_schema 26 keys_place old new _ others refl refl k.keys;
+  stays = keeps_still register_schema 26 stays_place old new _ others refl refl k.stays;
+  withdrawals = keeps_still register_schema 26 withdrawals_place old new _ others refl refl k.withdrawals;
   spot = k.spot;
   seats = k.seats;
 }

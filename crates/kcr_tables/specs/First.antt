@@ -33,4 +33,7 @@ shut facility safe = record { facility = facility; safe = safe; is_open = false 
 
 -- no rows but that of the version and the four safes, which are shut
 abbrev pub first_tables : Tables
-first_tables = record empty_tables { safes = shut East One ∷ shut East Two ∷ shut West One ∷ shut West Two ∷ []; versions = record { number = 3 } ∷ [] }
+first_tables = record empty_tables {
+  safes = shut East One ∷ shut East Two ∷ shut West One ∷ shut West Two ∷ [];
+  versions = record { number = 3 } ∷ [];
+}

@@ -4,7 +4,7 @@ use Rattle.sqlite.specs.State.{State, HasCleanDisk}
 use Rattle.kcr_base.specs.declared.refusal.Refusal.{Refusal}
 use Rattle.kcr_history.specs.Tables as machine
 use Rattle.kcr_rows.specs.Refusals.{IsFault}
-use Rattle.kcr_cells.specs.Frame.{StaysWithin}
+use Rattle.kcr_rows.specs.Frame.{StaysWithin}
 use Rattle.kcr_tables.specs.Schema.{register_schema}
 use Rattle.kcr_tables.specs.Held.{Tables, Holds}
 use Rattle.kcr_tables.specs.Joint.{HoldsTables}

@@ -6,10 +6,10 @@ use Rattle.sqlite_catalog.specs.Listing.{IsSound}
 use Rattle.sqlite.specs.Tree.{Trees}
 use Rattle.kcr_tables.specs.Schema.{register_schema}
 use Rattle.kcr_rows.specs.Keyed.{Place, Keeps}
-use Rattle.kcr_cells.specs.Rows.{person_row, training_row, appointment_row, box_row, safe_row, bag_row, item_row}
-use Rattle.kcr_cells.specs.Rows.{ceremony_row, mark_row, step_row, seating_row, sheet_row, exception_row, version_row}
-use Rattle.kcr_cells.specs.Rows.{key_row, stay_row, withdrawal_row}
-use Rattle.kcr_cells.specs.States.{HasBoxNumber, HasSeatsText}
+use Rattle.kcr_rows.specs.Rows.{person_row, training_row, appointment_row, box_row, safe_row, bag_row, item_row}
+use Rattle.kcr_rows.specs.Rows.{ceremony_row, mark_row, step_row, seating_row, sheet_row, exception_row, version_row}
+use Rattle.kcr_rows.specs.Rows.{key_row, stay_row, withdrawal_row}
+use Rattle.kcr_rows.specs.States.{HasBoxNumber, HasSeatsText}
 use Rattle.kcr_people.specs.declared.Person.{Person}
 use Rattle.kcr_people.specs.declared.Training.{Training}
 use Rattle.kcr_people.specs.declared.Appointment.{Appointment}
@@ -23,7 +23,7 @@ use Rattle.kcr_history.specs.declared.rows.StepRow.{StepRow}
 use Rattle.kcr_history.specs.declared.rows.SeatingRow.{SeatingRow}
 use Rattle.kcr_room.specs.declared.SheetRow.{SheetRow}
 use Rattle.kcr_history.specs.declared.rows.ExceptionRow.{ExceptionRow}
-use Rattle.kcr_cells.specs.declared.rows.Version.{Version}
+use Rattle.kcr_rows.specs.declared.rows.Version.{Version}
 use Rattle.kcr_history.specs.declared.rows.KeyRow.{KeyRow}
 use Rattle.kcr_room.specs.declared.Stay.{Stay}
 use Rattle.kcr_people.specs.declared.Withdrawal.{Withdrawal}
@@ -40,46 +40,46 @@ abbrev pub appointments_place : Place
 appointments_place = record { tree = 4; at = 1 ∷ 2 ∷ 3 ∷ 4 ∷ []; keys = 2 }
 
 abbrev pub boxes_place : Place
-boxes_place = record { tree = 6; at = 1 ∷ 2 ∷ 3 ∷ []; keys = 2 }
+boxes_place = record { tree = 7; at = 1 ∷ 2 ∷ 3 ∷ []; keys = 2 }
 
 abbrev pub safes_place : Place
-safes_place = record { tree = 8; at = 1 ∷ 2 ∷ 3 ∷ []; keys = 2 }
+safes_place = record { tree = 9; at = 1 ∷ 2 ∷ 3 ∷ []; keys = 2 }
 
 abbrev pub bags_place : Place
-bags_place = record { tree = 10; at = 1 ∷ 2 ∷ []; keys = 1 }
+bags_place = record { tree = 11; at = 1 ∷ 2 ∷ []; keys = 1 }
 
 abbrev pub items_place : Place
-items_place = record { tree = 12; at = 1 ∷ 2 ∷ 3 ∷ []; keys = 1 }
+items_place = record { tree = 13; at = 1 ∷ 2 ∷ 3 ∷ []; keys = 1 }
 
 abbrev pub ceremonies_place : Place
-ceremonies_place = record { tree = 15; at = 1 ∷ 2 ∷ 3 ∷ 4 ∷ 5 ∷ 6 ∷ []; keys = 1 }
+ceremonies_place = record { tree = 16; at = 1 ∷ 2 ∷ 3 ∷ 4 ∷ 5 ∷ 6 ∷ []; keys = 1 }
 
 abbrev pub marks_place : Place
-marks_place = record { tree = 17; at = 1 ∷ 2 ∷ []; keys = 1 }
+marks_place = record { tree = 18; at = 1 ∷ 2 ∷ []; keys = 1 }
 
 abbrev pub steps_place : Place
-steps_place = record { tree = 19; at = 1 ∷ 2 ∷ 3 ∷ 4 ∷ 5 ∷ 6 ∷ []; keys = 2 }
+steps_place = record { tree = 20; at = 1 ∷ 2 ∷ 3 ∷ 4 ∷ 5 ∷ 6 ∷ []; keys = 2 }
 
 abbrev pub seatings_place : Place
-seatings_place = record { tree = 21; at = 1 ∷ 2 ∷ 3 ∷ 4 ∷ []; keys = 3 }
+seatings_place = record { tree = 22; at = 1 ∷ 2 ∷ 3 ∷ 4 ∷ []; keys = 3 }
 
 abbrev pub sheet_place : Place
-sheet_place = record { tree = 23; at = 1 ∷ 2 ∷ 3 ∷ 4 ∷ []; keys = 2 }
+sheet_place = record { tree = 24; at = 1 ∷ 2 ∷ 3 ∷ 4 ∷ []; keys = 2 }
 
 abbrev pub exceptions_place : Place
-exceptions_place = record { tree = 25; at = 1 ∷ 2 ∷ 3 ∷ 4 ∷ 5 ∷ []; keys = 2 }
+exceptions_place = record { tree = 26; at = 1 ∷ 2 ∷ 3 ∷ 4 ∷ 5 ∷ []; keys = 2 }
 
 abbrev pub versions_place : Place
-versions_place = record { tree = 27; at = 1 ∷ []; keys = 1 }
+versions_place = record { tree = 28; at = 1 ∷ []; keys = 1 }
 
 abbrev pub keys_place : Place
-keys_place = record { tree = 29; at = 1 ∷ 0 ∷ 3 ∷ 4 ∷ []; keys = 1 }
+keys_place = record { tree = 30; at = 1 ∷ 0 ∷ 3 ∷ 4 ∷ []; keys = 1 }
 
 abbrev pub stays_place : Place
-stays_place = record { tree = 31; at = 1 ∷ 2 ∷ 3 ∷ 4 ∷ []; keys = 2 }
+stays_place = record { tree = 32; at = 1 ∷ 2 ∷ 3 ∷ 4 ∷ []; keys = 2 }
 
 abbrev pub withdrawals_place : Place
-withdrawals_place = record { tree = 34; at = 1 ∷ 2 ∷ 3 ∷ 4 ∷ 5 ∷ []; keys = 4 }
+withdrawals_place = record { tree = 35; at = 1 ∷ 2 ∷ 3 ∷ 4 ∷ 5 ∷ []; keys = 4 }
 
 -- the rows of each table, in the order of their keys
 pub record Tables : Type 0 where

@@ -23,8 +23,8 @@ use Rattle.kcr_rows.specs.Keyed.{Keeps}
 use Rattle.kcr_rows.proofs.FilterLemmas.{has_value, value_is}
 use Rattle.kcr_rows.proofs.TableLemmas.{keeps_still, each_is}
 use Rattle.kcr_rows.proofs.SameLemmas.{text_ties}
-use Rattle.kcr_cells.proofs.StateLemmas.{cast_loose, cast_within, one_rest, within_is}
-use Rattle.kcr_cells.specs.Rows.{item_row}
+use Rattle.kcr_rows.proofs.StateLemmas.{cast_loose, cast_within, one_rest, within_is}
+use Rattle.kcr_rows.specs.Rows.{item_row}
 use Rattle.kcr_custody.specs.declared.Item.{Item}
 use Rattle.kcr_tables.specs.Schema.{register_schema}
 use Rattle.kcr_tables.specs.Held.{Tables, Kept, people_place, trainings_place, appointments_place, boxes_place}
@@ -128,27 +128,27 @@ puts = record {
 -- the other tables stay where the rows of this one are changed
 pub still : (old new : Trees) (rows : List Item) (t : Tables) → IsSound register_schema new
     → Keeps items_place new (map item_row rows) → AllByRecursion (λ _. ⊤) rows
-    → ((tree : ℕ) → tree ≢ 12 → IsNoIndex register_schema tree → new tree ≡ old tree) → Kept old t
+    → ((tree : ℕ) → tree ≢ 13 → IsNoIndex register_schema tree → new tree ≡ old tree) → Kept old t
     → Kept new (record t { items = rows })
 still old new rows t sound keeps stored others k = record {
   sound = sound;
-  people = keeps_still register_schema 12 people_place old new _ others refl refl k.people;
-  trainings = keeps_still register_schema 12 trainings_place old new _ others refl refl k.trainings;
-  appointments = keeps_still register_schema 12 appointments_place old new _ others refl refl k.appointments;
-  boxes = keeps_still register_schema 12 boxes_place old new _ others refl refl k.boxes;
-  safes = keeps_still register_schema 12 safes_place old new _ others refl refl k.safes;
-  bags = keeps_still register_schema 12 bags_place old new _ others refl refl k.bags;
+  people = keeps_still register_schema 13 people_place old new _ others refl refl k.people;
+  trainings = keeps_still register_schema 13 trainings_place old new _ others refl refl k.trainings;
+  appointments = keeps_still register_schema 13 appointments_place old new _ others refl refl k.appointments;
+  boxes = keeps_still register_schema 13 boxes_place old new _ others refl refl k.boxes;
+  safes = keeps_still register_schema 13 safes_place old new _ others refl refl k.safes;
+  bags = keeps_still register_schema 13 bags_place old new _ others refl refl k.bags;
   items = keeps;
-  ceremonies = keeps_still register_schema 12 ceremonies_place old new _ others refl refl k.ceremonies;
-  marks = keeps_still register_schema 12 marks_place old new _ others refl refl k.marks;
-  steps = keeps_still register_schema 12 steps_place old new _ others refl refl k.steps;
-  seatings = keeps_still register_schema 12 seatings_place old new _ others refl refl k.seatings;
-  sheet = keeps_still register_schema 12 sheet_place old new _ others refl refl k.sheet;
-  exceptions = keeps_still register_schema 12 exceptions_place old new _ others refl refl k.exceptions;
-  versions = keeps_still register_schema 12 versions_place old new _ others refl refl k.versions;
-  keys = keeps_still register_schema 12 keys_place old new _ others refl refl k.keys;
-  stays = keeps_still register_schema 12 stays_place old new _ others refl refl k.stays;
-  withdrawals = keeps_still register_schema 12 withdrawals_place old new _ others refl refl k.withdrawals;
+  ceremonies = keeps_still register_schema 13 ceremonies_place old new _ others refl refl k.ceremonies;
+  marks = keeps_still register_schema 13 marks_place old new _ others refl refl k.marks;
+  steps = keeps_still register_schema 13 steps_place old new _ others refl refl k.steps;
+  seatings = keeps_still register_schema 13 seatings_place old new _ others refl refl k.seatings;
+  sheet = keeps_still register_schema 13 sheet_place old new _ others refl refl k.sheet;
+  exceptions = keeps_still register_schema 13 exceptions_place old new _ others refl refl k.exceptions;
+  versions = keeps_still register_schema 13 versions_place old new _ others refl refl k.versions;
+  keys = keeps_still register_schema 13 keys_place old new _ others refl refl k.keys;
+  stays = keeps_still register_schema 13 stays_place old new _ others refl refl k.stays;
+  withdrawals = keeps_still register_schema 13 withdrawals_place old new _ others refl refl k.withdrawals;
   spot = k.spot;
   seats = k.seats;
 }

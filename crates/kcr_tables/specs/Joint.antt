@@ -1,4 +1,5 @@
--- The database holds the tables of the machine. The machine has the rows of a table in any order, the database in the order of their keys.
+-- The database holds the tables of the machine. The machine has the rows of a table in any order, the database in the
+-- order of their keys.
 use Rattle.std.specs.Prelude.{◌≡◌, IsPermutation}
 use Rattle.sqlite.specs.Tree.{Trees}
 use Rattle.sqlite.specs.Effect.{Database}

@@ -19,7 +19,7 @@ use Rattle.kcr_rows.specs.Keyed.{Keeps}
 use Rattle.kcr_rows.proofs.FilterLemmas.{has_value, value_is}
 use Rattle.kcr_rows.proofs.TableLemmas.{keeps_still, each_is}
 use Rattle.kcr_rows.proofs.SameLemmas.{text_ties}
-use Rattle.kcr_cells.specs.Rows.{key_row}
+use Rattle.kcr_rows.specs.Rows.{key_row}
 use Rattle.kcr_history.specs.declared.rows.KeyRow.{KeyRow}
 use Rattle.kcr_tables.specs.Schema.{register_schema}
 use Rattle.kcr_tables.specs.Held.{Tables, Kept, people_place, trainings_place, appointments_place, boxes_place}
@@ -75,27 +75,27 @@ key_row_of_laws = record { finds = shows_key_row_of; under = under_key_row_of }
 -- the other tables stay where the rows of this one are changed
 pub still : (old new : Trees) (rows : List KeyRow) (t : Tables) → IsSound register_schema new
     → Keeps keys_place new (map key_row rows) → AllByRecursion (λ _. ⊤) rows
-    → ((tree : ℕ) → tree ≢ 29 → IsNoIndex register_schema tree → new tree ≡ old tree) → Kept old t
+    → ((tree : ℕ) → tree ≢ 30 → IsNoIndex register_schema tree → new tree ≡ old tree) → Kept old t
     → Kept new (record t { keys = rows })
 still old new rows t sound keeps stored others k = record {
   sound = sound;
-  people = keeps_still register_schema 29 people_place old new _ others refl refl k.people;
-  trainings = keeps_still register_schema 29 trainings_place old new _ others refl refl k.trainings;
-  appointments = keeps_still register_schema 29 appointments_place old new _ others refl refl k.appointments;
-  boxes = keeps_still register_schema 29 boxes_place old new _ others refl refl k.boxes;
-  safes = keeps_still register_schema 29 safes_place old new _ others refl refl k.safes;
-  bags = keeps_still register_schema 29 bags_place old new _ others refl refl k.bags;
-  items = keeps_still register_schema 29 items_place old new _ others refl refl k.items;
-  ceremonies = keeps_still register_schema 29 ceremonies_place old new _ others refl refl k.ceremonies;
-  marks = keeps_still register_schema 29 marks_place old new _ others refl refl k.marks;
-  steps = keeps_still register_schema 29 steps_place old new _ others refl refl k.steps;
-  seatings = keeps_still register_schema 29 seatings_place old new _ others refl refl k.seatings;
-  sheet = keeps_still register_schema 29 sheet_place old new _ others refl refl k.sheet;
-  exceptions = keeps_still register_schema 29 exceptions_place old new _ others refl refl k.exceptions;
-  versions = keeps_still register_schema 29 versions_place old new _ others refl refl k.versions;
+  people = keeps_still register_schema 30 people_place old new _ others refl refl k.people;
+  trainings = keeps_still register_schema 30 trainings_place old new _ others refl refl k.trainings;
+  appointments = keeps_still register_schema 30 appointments_place old new _ others refl refl k.appointments;
+  boxes = keeps_still register_schema 30 boxes_place old new _ others refl refl k.boxes;
+  safes = keeps_still register_schema 30 safes_place old new _ others refl refl k.safes;
+  bags = keeps_still register_schema 30 bags_place old new _ others refl refl k.bags;
+  items = keeps_still register_schema 30 items_place old new _ others refl refl k.items;
+  ceremonies = keeps_still register_schema 30 ceremonies_place old new _ others refl refl k.ceremonies;
+  marks = keeps_still register_schema 30 marks_place old new _ others refl refl k.marks;
+  steps = keeps_still register_schema 30 steps_place old new _ others refl refl k.steps;
+  seatings = keeps_still register_schema 30 seatings_place old new _ others refl refl k.seatings;
+  sheet = keeps_still register_schema 30 sheet_place old new _ others refl refl k.sheet;
+  exceptions = keeps_still register_schema 30 exceptions_place old new _ others refl refl k.exceptions;
+  versions = keeps_still register_schema 30 versions_place old new _ others refl refl k.versions;
   keys = keeps;
-  stays = keeps_still register_schema 29 stays_place old new _ others refl refl k.stays;
-  withdrawals = keeps_still register_schema 29 withdrawals_place old new _ others refl refl k.withdrawals;
+  stays = keeps_still register_schema 30 stays_place old new _ others refl refl k.stays;
+  withdrawals = keeps_still register_schema 30 withdrawals_place old new _ others refl refl k.withdrawals;
   spot = k.spot;
   seats = k.seats;
 }

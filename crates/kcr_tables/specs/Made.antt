@@ -9,7 +9,7 @@ abbrev pub texts : List (List ℕ)
 texts =
     codes "CREATE TABLE people (who TEXT NOT NULL, name TEXT NOT NULL, PRIMARY KEY (who)) STRICT"
     ∷ codes "CREATE TABLE trainings (who TEXT NOT NULL, role TEXT NOT NULL, since INT NOT NULL, until INT NOT NULL, PRIMARY KEY (who, role, since, until)) STRICT"
-    ∷ codes "CREATE TABLE appointments (place TEXT NOT NULL, since INT NOT NULL, who TEXT NOT NULL, until INT, PRIMARY KEY (place, since)) STRICT"
+    ∷ codes "CREATE TABLE appointments (place TEXT NOT NULL, since INT NOT NULL, who TEXT NOT NULL, until INT, PRIMARY KEY (place, since), UNIQUE (who, since, place)) STRICT"
     ∷ codes "CREATE TABLE boxes (facility TEXT NOT NULL, box INT NOT NULL, place TEXT NOT NULL, PRIMARY KEY (facility, box)) STRICT"
     ∷ codes "CREATE TABLE safes (facility TEXT NOT NULL, safe INT NOT NULL, state INT NOT NULL, PRIMARY KEY (facility, safe)) STRICT"
     ∷ codes "CREATE TABLE bags (serial TEXT NOT NULL, spot TEXT NOT NULL, PRIMARY KEY (serial)) STRICT"

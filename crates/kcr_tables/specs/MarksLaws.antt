@@ -21,7 +21,7 @@ use Rattle.kcr_rows.proofs.FilterLemmas.{has_value, value_is}
 use Rattle.kcr_rows.proofs.WriteLemmas.{cast_int}
 use Rattle.kcr_rows.proofs.TableLemmas.{keeps_still, each_is}
 use Rattle.kcr_rows.proofs.SameLemmas.{number_ties}
-use Rattle.kcr_cells.specs.Rows.{mark_row}
+use Rattle.kcr_rows.specs.Rows.{mark_row}
 use Rattle.kcr_history.specs.declared.rows.MarkRow.{MarkRow}
 use Rattle.kcr_tables.specs.Schema.{register_schema}
 use Rattle.kcr_tables.specs.Held.{Tables, Kept, people_place, trainings_place, appointments_place, boxes_place}
@@ -110,27 +110,27 @@ puts = record {
 -- the other tables stay where the rows of this one are changed
 pub still : (old new : Trees) (rows : List MarkRow) (t : Tables) → IsSound register_schema new
     → Keeps marks_place new (map mark_row rows) → AllByRecursion (λ _. ⊤) rows
-    → ((tree : ℕ) → tree ≢ 17 → IsNoIndex register_schema tree → new tree ≡ old tree) → Kept old t
+    → ((tree : ℕ) → tree ≢ 18 → IsNoIndex register_schema tree → new tree ≡ old tree) → Kept old t
     → Kept new (record t { marks = rows })
 still old new rows t sound keeps stored others k = record {
   sound = sound;
-  people = keeps_still register_schema 17 people_place old new _ others refl refl k.people;
-  trainings = keeps_still register_schema 17 trainings_place old new _ others refl refl k.trainings;
-  appointments = keeps_still register_schema 17 appointments_place old new _ others refl refl k.appointments;
-  boxes = keeps_still register_schema 17 boxes_place old new _ others refl refl k.boxes;
-  safes = keeps_still register_schema 17 safes_place old new _ others refl refl k.safes;
-  bags = keeps_still register_schema 17 bags_place old new _ others refl refl k.bags;
-  items = keeps_still register_schema 17 items_place old new _ others refl refl k.items;
-  ceremonies = keeps_still register_schema 17 ceremonies_place old new _ others refl refl k.ceremonies;
+  people = keeps_still register_schema 18 people_place old new _ others refl refl k.people;
+  trainings = keeps_still register_schema 18 trainings_place old new _ others refl refl k.trainings;
+  appointments = keeps_still register_schema 18 appointments_place old new _ others refl refl k.appointments;
+  boxes = keeps_still register_schema 18 boxes_place old new _ others refl refl k.boxes;
+  safes = keeps_still register_schema 18 safes_place old new _ others refl refl k.safes;
+  bags = keeps_still register_schema 18 bags_place old new _ others refl refl k.bags;
+  items = keeps_still register_schema 18 items_place old new _ others refl refl k.items;
+  ceremonies = keeps_still register_schema 18 ceremonies_place old new _ others refl refl k.ceremonies;
   marks = keeps;
-  steps = keeps_still register_schema 17 steps_place old new _ others refl refl k.steps;
-  seatings = keeps_still register_schema 17 seatings_place old new _ others refl refl k.seatings;
-  sheet = keeps_still register_schema 17 sheet_place old new _ others refl refl k.sheet;
-  exceptions = keeps_still register_schema 17 exceptions_place old new _ others refl refl k.exceptions;
-  versions = keeps_still register_schema 17 versions_place old new _ others refl refl k.versions;
-  keys = keeps_still register_schema 17 keys_place old new _ others refl refl k.keys;
-  stays = keeps_still register_schema 17 stays_place old new _ others refl refl k.stays;
-  withdrawals = keeps_still register_schema 17 withdrawals_place old new _ others refl refl k.withdrawals;
+  steps = keeps_still register_schema 18 steps_place old new _ others refl refl k.steps;
+  seatings = keeps_still register_schema 18 seatings_place old new _ others refl refl k.seatings;
+  sheet = keeps_still register_schema 18 sheet_place old new _ others refl refl k.sheet;
+  exceptions = keeps_still register_schema 18 exceptions_place old new _ others refl refl k.exceptions;
+  versions = keeps_still register_schema 18 versions_place old new _ others refl refl k.versions;
+  keys = keeps_still register_schema 18 keys_place old new _ others refl refl k.keys;
+  stays = keeps_still register_schema 18 stays_place old new _ others refl refl k.stays;
+  withdrawals = keeps_still register_schema 18 withdrawals_place old new _ others refl refl k.withdrawals;
   spot = k.spot;
   seats = k.seats;
 }

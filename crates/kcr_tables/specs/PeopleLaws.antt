@@ -20,7 +20,7 @@ use Rattle.kcr_rows.specs.Keyed.{Keeps}
 use Rattle.kcr_rows.proofs.FilterLemmas.{has_value, value_is}
 use Rattle.kcr_rows.proofs.TableLemmas.{keeps_still, each_is}
 use Rattle.kcr_rows.proofs.SameLemmas.{text_ties}
-use Rattle.kcr_cells.specs.Rows.{person_row}
+use Rattle.kcr_rows.specs.Rows.{person_row}
 use Rattle.kcr_people.specs.declared.Person.{Person}
 use Rattle.kcr_tables.specs.Schema.{register_schema}
 use Rattle.kcr_tables.specs.Held.{Tables, Kept, people_place, trainings_place, appointments_place, boxes_place}

@@ -19,11 +19,11 @@ use Rattle.kcr_rows.specs.Keyed.{Keeps}
 use Rattle.kcr_rows.proofs.WriteLemmas.{cast_int}
 use Rattle.kcr_rows.proofs.TableLemmas.{keeps_still, each_is}
 use Rattle.kcr_rows.proofs.SameLemmas.{one_facility}
-use Rattle.kcr_cells.proofs.StateLemmas.{one_safe, one_truth}
+use Rattle.kcr_rows.proofs.StateLemmas.{one_safe, one_truth}
 use Rattle.kcr_base.specs.Facility.{facility_text}
-use Rattle.kcr_cells.specs.States.{safe_digit}
+use Rattle.kcr_rows.specs.States.{safe_digit}
 use Rattle.kcr_rows.specs.Values.{truth_number}
-use Rattle.kcr_cells.specs.Rows.{safe_row}
+use Rattle.kcr_rows.specs.Rows.{safe_row}
 use Rattle.kcr_custody.specs.declared.SafeRow.{SafeRow}
 use Rattle.kcr_tables.specs.Schema.{register_schema}
 use Rattle.kcr_tables.specs.Held.{Tables, Kept, people_place, trainings_place, appointments_place, boxes_place}
@@ -96,27 +96,27 @@ puts = record {
 -- the other tables stay where the rows of this one are changed
 pub still : (old new : Trees) (rows : List SafeRow) (t : Tables) → IsSound register_schema new
     → Keeps safes_place new (map safe_row rows) → AllByRecursion (λ _. ⊤) rows
-    → ((tree : ℕ) → tree ≢ 8 → IsNoIndex register_schema tree → new tree ≡ old tree) → Kept old t
+    → ((tree : ℕ) → tree ≢ 9 → IsNoIndex register_schema tree → new tree ≡ old tree) → Kept old t
     → Kept new (record t { safes = rows })
 still old new rows t sound keeps stored others k = record {
   sound = sound;
-  people = keeps_still register_schema 8 people_place old new _ others refl refl k.people;
-  trainings = keeps_still register_schema 8 trainings_place old new _ others refl refl k.trainings;
-  appointments = keeps_still register_schema 8 appointments_place old new _ others refl refl k.appointments;
-  boxes = keeps_still register_schema 8 boxes_place old new _ others refl refl k.boxes;
+  people = keeps_still register_schema 9 people_place old new _ others refl refl k.people;
+  trainings = keeps_still register_schema 9 trainings_place old new _ others refl refl k.trainings;
+  appointments = keeps_still register_schema 9 appointments_place old new _ others refl refl k.appointments;
+  boxes = keeps_still register_schema 9 boxes_place old new _ others refl refl k.boxes;
   safes = keeps;
-  bags = keeps_still register_schema 8 bags_place old new _ others refl refl k.bags;
-  items = keeps_still register_schema 8 items_place old new _ others refl refl k.items;
-  ceremonies = keeps_still register_schema 8 ceremonies_place old new _ others refl refl k.ceremonies;
-  marks = keeps_still register_schema 8 marks_place old new _ others refl refl k.marks;
-  steps = keeps_still register_schema 8 steps_place old new _ others refl refl k.steps;
-  seatings = keeps_still register_schema 8 seatings_place old new _ others refl refl k.seatings;
-  sheet = keeps_still register_schema 8 sheet_place old new _ others refl refl k.sheet;
-  exceptions = keeps_still register_schema 8 exceptions_place old new _ others refl refl k.exceptions;
-  versions = keeps_still register_schema 8 versions_place old new _ others refl refl k.versions;
-  keys = keeps_still register_schema 8 keys_place old new _ others refl refl k.keys;
-  stays = keeps_still register_schema 8 stays_place old new _ others refl refl k.stays;
-  withdrawals = keeps_still register_schema 8 withdrawals_place old new _ others refl refl k.withdrawals;
+  bags = keeps_still register_schema 9 bags_place old new _ others refl refl k.bags;
+  items = keeps_still register_schema 9 items_place old new _ others refl refl k.items;
+  ceremonies = keeps_still register_schema 9 ceremonies_place old new _ others refl refl k.ceremonies;
+  marks = keeps_still register_schema 9 marks_place old new _ others refl refl k.marks;
+  steps = keeps_still register_schema 9 steps_place old new _ others refl refl k.steps;
+  seatings = keeps_still register_schema 9 seatings_place old new _ others refl refl k.seatings;
+  sheet = keeps_still register_schema 9 sheet_place old new _ others refl refl k.sheet;
+  exceptions = keeps_still register_schema 9 exceptions_place old new _ others refl refl k.exceptions;
+  versions = keeps_still register_schema 9 versions_place old new _ others refl refl k.versions;
+  keys = keeps_still register_schema 9 keys_place old new _ others refl refl k.keys;
+  stays = keeps_still register_schema 9 stays_place old new _ others refl refl k.stays;
+  withdrawals = keeps_still register_schema 9 withdrawals_place old new _ others refl refl k.withdrawals;
   spot = k.spot;
   seats = k.seats;
 }

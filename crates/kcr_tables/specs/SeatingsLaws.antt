@@ -20,7 +20,7 @@ use Rattle.kcr_rows.proofs.FilterLemmas.{has_value, value_is}
 use Rattle.kcr_rows.proofs.WriteLemmas.{cast_int}
 use Rattle.kcr_rows.proofs.TableLemmas.{keeps_still, each_is}
 use Rattle.kcr_rows.proofs.SameLemmas.{number_ties}
-use Rattle.kcr_cells.specs.Rows.{seating_row}
+use Rattle.kcr_rows.specs.Rows.{seating_row}
 use Rattle.kcr_history.specs.declared.rows.SeatingRow.{SeatingRow}
 use Rattle.kcr_tables.specs.Schema.{register_schema}
 use Rattle.kcr_tables.specs.Held.{Tables, Kept, people_place, trainings_place, appointments_place, boxes_place}
@@ -110,27 +110,27 @@ puts = record {
 -- the other tables stay where the rows of this one are changed
 pub still : (old new : Trees) (rows : List SeatingRow) (t : Tables) → IsSound register_schema new
     → Keeps seatings_place new (map seating_row rows) → AllByRecursion (λ _. ⊤) rows
-    → ((tree : ℕ) → tree ≢ 21 → IsNoIndex register_schema tree → new tree ≡ old tree) → Kept old t
+    → ((tree : ℕ) → tree ≢ 22 → IsNoIndex register_schema tree → new tree ≡ old tree) → Kept old t
     → Kept new (record t { seatings = rows })
 still old new rows t sound keeps stored others k = record {
   sound = sound;
-  people = keeps_still register_schema 21 people_place old new _ others refl refl k.people;
-  trainings = keeps_still register_schema 21 trainings_place old new _ others refl refl k.trainings;
-  appointments = keeps_still register_schema 21 appointments_place old new _ others refl refl k.appointments;
-  boxes = keeps_still register_schema 21 boxes_place old new _ others refl refl k.boxes;
-  safes = keeps_still register_schema 21 safes_place old new _ others refl refl k.safes;
-  bags = keeps_still register_schema 21 bags_place old new _ others refl refl k.bags;
-  items = keeps_still register_schema 21 items_place old new _ others refl refl k.items;
-  ceremonies = keeps_still register_schema 21 ceremonies_place old new _ others refl refl k.ceremonies;
-  marks = keeps_still register_schema 21 marks_place old new _ others refl refl k.marks;
-  steps = keeps_still register_schema 21 steps_place old new _ others refl refl k.steps;
+  people = keeps_still register_schema 22 people_place old new _ others refl refl k.people;
+  trainings = keeps_still register_schema 22 trainings_place old new _ others refl refl k.trainings;
+  appointments = keeps_still register_schema 22 appointments_place old new _ others refl refl k.appointments;
+  boxes = keeps_still register_schema 22 boxes_place old new _ others refl refl k.boxes;
+  safes = keeps_still register_schema 22 safes_place old new _ others refl refl k.safes;
+  bags = keeps_still register_schema 22 bags_place old new _ others refl refl k.bags;
+  items = keeps_still register_schema 22 items_place old new _ others refl refl k.items;
+  ceremonies = keeps_still register_schema 22 ceremonies_place old new _ others refl refl k.ceremonies;
+  marks = keeps_still register_schema 22 marks_place old new _ others refl refl k.marks;
+  steps = keeps_still register_schema 22 steps_place old new _ others refl refl k.steps;
   seatings = keeps;
-  sheet = keeps_still register_schema 21 sheet_place old new _ others refl refl k.sheet;
-  exceptions = keeps_still register_schema 21 exceptions_place old new _ others refl refl k.exceptions;
-  versions = keeps_still register_schema 21 versions_place old new _ others refl refl k.versions;
-  keys = keeps_still register_schema 21 keys_place old new _ others refl refl k.keys;
-  stays = keeps_still register_schema 21 stays_place old new _ others refl refl k.stays;
-  withdrawals = keeps_still register_schema 21 withdrawals_place old new _ others refl refl k.withdrawals;
+  sheet = keeps_still register_schema 22 sheet_place old new _ others refl refl k.sheet;
+  exceptions = keeps_still register_schema 22 exceptions_place old new _ others refl refl k.exceptions;
+  versions = keeps_still register_schema 22 versions_place old new _ others refl refl k.versions;
+  keys = keeps_still register_schema 22 keys_place old new _ others refl refl k.keys;
+  stays = keeps_still register_schema 22 stays_place old new _ others refl refl k.stays;
+  withdrawals = keeps_still register_schema 22 withdrawals_place old new _ others refl refl k.withdrawals;
   spot = k.spot;
   seats = k.seats;
 }

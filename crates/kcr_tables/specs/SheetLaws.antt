@@ -20,9 +20,9 @@ use Rattle.kcr_rows.proofs.FilterLemmas.{has_value, value_is}
 use Rattle.kcr_rows.proofs.WriteLemmas.{cast_int}
 use Rattle.kcr_rows.proofs.TableLemmas.{keeps_still, each_is}
 use Rattle.kcr_rows.proofs.SameLemmas.{number_ties}
-use Rattle.kcr_cells.proofs.StateLemmas.{one_way}
-use Rattle.kcr_cells.specs.States.{way_number}
-use Rattle.kcr_cells.specs.Rows.{sheet_row}
+use Rattle.kcr_rows.proofs.StateLemmas.{one_way}
+use Rattle.kcr_rows.specs.States.{way_number}
+use Rattle.kcr_rows.specs.Rows.{sheet_row}
 use Rattle.kcr_room.specs.declared.SheetRow.{SheetRow}
 use Rattle.kcr_tables.specs.Schema.{register_schema}
 use Rattle.kcr_tables.specs.Held.{Tables, Kept, people_place, trainings_place, appointments_place, boxes_place}
@@ -112,27 +112,27 @@ puts = record {
 -- the other tables stay where the rows of this one are changed
 pub still : (old new : Trees) (rows : List SheetRow) (t : Tables) → IsSound register_schema new
     → Keeps sheet_place new (map sheet_row rows) → AllByRecursion (λ _. ⊤) rows
-    → ((tree : ℕ) → tree ≢ 23 → IsNoIndex register_schema tree → new tree ≡ old tree) → Kept old t
+    → ((tree : ℕ) → tree ≢ 24 → IsNoIndex register_schema tree → new tree ≡ old tree) → Kept old t
     → Kept new (record t { sheet = rows })
 still old new rows t sound keeps stored others k = record {
   sound = sound;
-  people = keeps_still register_schema 23 people_place old new _ others refl refl k.people;
-  trainings = keeps_still register_schema 23 trainings_place old new _ others refl refl k.trainings;
-  appointments = keeps_still register_schema 23 appointments_place old new _ others refl refl k.appointments;
-  boxes = keeps_still register_schema 23 boxes_place old new _ others refl refl k.boxes;
-  safes = keeps_still register_schema 23 safes_place old new _ others refl refl k.safes;
-  bags = keeps_still register_schema 23 bags_place old new _ others refl refl k.bags;
-  items = keeps_still register_schema 23 items_place old new _ others refl refl k.items;
-  ceremonies = keeps_still register_schema 23 ceremonies_place old new _ others refl refl k.ceremonies;
-  marks = keeps_still register_schema 23 marks_place old new _ others refl refl k.marks;
-  steps = keeps_still register_schema 23 steps_place old new _ others refl refl k.steps;
-  seatings = keeps_still register_schema 23 seatings_place old new _ others refl refl k.seatings;
+  people = keeps_still register_schema 24 people_place old new _ others refl refl k.people;
+  trainings = keeps_still register_schema 24 trainings_place old new _ others refl refl k.trainings;
+  appointments = keeps_still register_schema 24 appointments_place old new _ others refl refl k.appointments;
+  boxes = keeps_still register_schema 24 boxes_place old new _ others refl refl k.boxes;
+  safes = keeps_still register_schema 24 safes_place old new _ others refl refl k.safes;
+  bags = keeps_still register_schema 24 bags_place old new _ others refl refl k.bags;
+  items = keeps_still register_schema 24 items_place old new _ others refl refl k.items;
+  ceremonies = keeps_still register_schema 24 ceremonies_place old new _ others refl refl k.ceremonies;
+  marks = keeps_still register_schema 24 marks_place old new _ others refl refl k.marks;
+  steps = keeps_still register_schema 24 steps_place old new _ others refl refl k.steps;
+  seatings = keeps_still register_schema 24 seatings_place old new _ others refl refl k.seatings;
   sheet = keeps;
-  exceptions = keeps_still register_schema 23 exceptions_place old new _ others refl refl k.exceptions;
-  versions = keeps_still register_schema 23 versions_place old new _ others refl refl k.versions;
-  keys = keeps_still register_schema 23 keys_place old new _ others refl refl k.keys;
-  stays = keeps_still register_schema 23 stays_place old new _ others refl refl k.stays;
-  withdrawals = keeps_still register_schema 23 withdrawals_place old new _ others refl refl k.withdrawals;
+  exceptions = keeps_still register_schema 24 exceptions_place old new _ others refl refl k.exceptions;
+  versions = keeps_still register_schema 24 versions_place old new _ others refl refl k.versions;
+  keys = keeps_still register_schema 24 keys_place old new _ others refl refl k.keys;
+  stays = keeps_still register_schema 24 stays_place old new _ others refl refl k.stays;
+  withdrawals = keeps_still register_schema 24 withdrawals_place old new _ others refl refl k.withdrawals;
   spot = k.spot;
   seats = k.seats;
 }

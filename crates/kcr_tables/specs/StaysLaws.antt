@@ -22,8 +22,8 @@ use Rattle.kcr_rows.proofs.FilterLemmas.{has_value, value_is}
 use Rattle.kcr_rows.proofs.WriteLemmas.{cast_int}
 use Rattle.kcr_rows.proofs.TableLemmas.{keeps_still, each_is}
 use Rattle.kcr_rows.proofs.SameLemmas.{one_number, number_ties}
-use Rattle.kcr_cells.proofs.StateLemmas.{cast_or_null}
-use Rattle.kcr_cells.specs.Rows.{stay_row}
+use Rattle.kcr_rows.proofs.StateLemmas.{cast_or_null}
+use Rattle.kcr_rows.specs.Rows.{stay_row}
 use Rattle.kcr_room.specs.declared.Stay.{Stay}
 use Rattle.kcr_tables.specs.Schema.{register_schema}
 use Rattle.kcr_tables.specs.Held.{Tables, Kept, people_place, trainings_place, appointments_place, boxes_place}
@@ -113,27 +113,27 @@ puts = record {
 -- the other tables stay where the rows of this one are changed
 pub still : (old new : Trees) (rows : List Stay) (t : Tables) → IsSound register_schema new
     → Keeps stays_place new (map stay_row rows) → AllByRecursion (λ _. ⊤) rows
-    → ((tree : ℕ) → tree ≢ 31 → IsNoIndex register_schema tree → new tree ≡ old tree) → Kept old t
+    → ((tree : ℕ) → tree ≢ 32 → IsNoIndex register_schema tree → new tree ≡ old tree) → Kept old t
     → Kept new (record t { stays = rows })
 still old new rows t sound keeps stored others k = record {
   sound = sound;
-  people = keeps_still register_schema 31 people_place old new _ others refl refl k.people;
-  trainings = keeps_still register_schema 31 trainings_place old new _ others refl refl k.trainings;
-  appointments = keeps_still register_schema 31 appointments_place old new _ others refl refl k.appointments;
-  boxes = keeps_still register_schema 31 boxes_place old new _ others refl refl k.boxes;
-  safes = keeps_still register_schema 31 safes_place old new _ others refl refl k.safes;
-  bags = keeps_still register_schema 31 bags_place old new _ others refl refl k.bags;
-  items = keeps_still register_schema 31 items_place old new _ others refl refl k.items;
-  ceremonies = keeps_still register_schema 31 ceremonies_place old new _ others refl refl k.ceremonies;
-  marks = keeps_still register_schema 31 marks_place old new _ others refl refl k.marks;
-  steps = keeps_still register_schema 31 steps_place old new _ others refl refl k.steps;
-  seatings = keeps_still register_schema 31 seatings_place old new _ others refl refl k.seatings;
-  sheet = keeps_still register_schema 31 sheet_place old new _ others refl refl k.sheet;
-  exceptions = keeps_still register_schema 31 exceptions_place old new _ others refl refl k.exceptions;
-  versions = keeps_still register_schema 31 versions_place old new _ others refl refl k.versions;
-  keys = keeps_still register_schema 31 keys_place old new _ others refl refl k.keys;
+  people = keeps_still register_schema 32 people_place old new _ others refl refl k.people;
+  trainings = keeps_still register_schema 32 trainings_place old new _ others refl refl k.trainings;
+  appointments = keeps_still register_schema 32 appointments_place old new _ others refl refl k.appointments;
+  boxes = keeps_still register_schema 32 boxes_place old new _ others refl refl k.boxes;
+  safes = keeps_still register_schema 32 safes_place old new _ others refl refl k.safes;
+  bags = keeps_still register_schema 32 bags_place old new _ others refl refl k.bags;
+  items = keeps_still register_schema 32 items_place old new _ others refl refl k.items;
+  ceremonies = keeps_still register_schema 32 ceremonies_place old new _ others refl refl k.ceremonies;
+  marks = keeps_still register_schema 32 marks_place old new _ others refl refl k.marks;
+  steps = keeps_still register_schema 32 steps_place old new _ others refl refl k.steps;
+  seatings = keeps_still register_schema 32 seatings_place old new _ others refl refl k.seatings;
+  sheet = keeps_still register_schema 32 sheet_place old new _ others refl refl k.sheet;
+  exceptions = keeps_still register_schema 32 exceptions_place old new _ others refl refl k.exceptions;
+  versions = keeps_still register_schema 32 versions_place old new _ others refl refl k.versions;
+  keys = keeps_still register_schema 32 keys_place old new _ others refl refl k.keys;
   stays = keeps;
-  withdrawals = keeps_still register_schema 31 withdrawals_place old new _ others refl refl k.withdrawals;
+  withdrawals = keeps_still register_schema 32 withdrawals_place old new _ others refl refl k.withdrawals;
   spot = k.spot;
   seats = k.seats;
 }

@@ -21,12 +21,12 @@ use Rattle.kcr_rows.proofs.FilterLemmas.{has_value, value_is}
 use Rattle.kcr_rows.proofs.WriteLemmas.{cast_int}
 use Rattle.kcr_rows.proofs.TableLemmas.{keeps_still}
 use Rattle.kcr_rows.proofs.SameLemmas.{one_number, number_ties}
-use Rattle.kcr_cells.proofs.StateLemmas.{cast_or_null, one_seats, one_step_state}
+use Rattle.kcr_rows.proofs.StateLemmas.{cast_or_null, one_seats, one_step_state}
 use Rattle.kcr_script.specs.Seats.{written}
-use Rattle.kcr_cells.specs.States.{step_number}
-use Rattle.kcr_cells.specs.Rows.{step_row}
+use Rattle.kcr_rows.specs.States.{step_number}
+use Rattle.kcr_rows.specs.Rows.{step_row}
 use Rattle.kcr_history.specs.declared.rows.StepRow.{StepRow}
-use Rattle.kcr_cells.specs.States.{HasOnlyTheseSeats, HasSeatsText}
+use Rattle.kcr_rows.specs.States.{HasOnlyTheseSeats, HasSeatsText}
 use Rattle.kcr_tables.specs.Schema.{register_schema}
 use Rattle.kcr_tables.specs.Held.{Tables, Kept, people_place, trainings_place, appointments_place, boxes_place}
 use Rattle.kcr_tables.specs.Held.{safes_place, bags_place, items_place, ceremonies_place, marks_place, steps_place}
@@ -116,27 +116,27 @@ puts = record {
 -- the other tables stay where the rows of this one are changed
 pub still : (old new : Trees) (rows : List StepRow) (t : Tables) → IsSound register_schema new
     → Keeps steps_place new (map step_row rows) → AllByRecursion HasSeatsText rows
-    → ((tree : ℕ) → tree ≢ 19 → IsNoIndex register_schema tree → new tree ≡ old tree) → Kept old t
+    → ((tree : ℕ) → tree ≢ 20 → IsNoIndex register_schema tree → new tree ≡ old tree) → Kept old t
     → Kept new (record t { steps = rows })
 still old new rows t sound keeps stored others k = record {
   sound = sound;
-  people = keeps_still register_schema 19 people_place old new _ others refl refl k.people;
-  trainings = keeps_still register_schema 19 trainings_place old new _ others refl refl k.trainings;
-  appointments = keeps_still register_schema 19 appointments_place old new _ others refl refl k.appointments;
-  boxes = keeps_still register_schema 19 boxes_place old new _ others refl refl k.boxes;
-  safes = keeps_still register_schema 19 safes_place old new _ others refl refl k.safes;
-  bags = keeps_still register_schema 19 bags_place old new _ others refl refl k.bags;
-  items = keeps_still register_schema 19 items_place old new _ others refl refl k.items;
-  ceremonies = keeps_still register_schema 19 ceremonies_place old new _ others refl refl k.ceremonies;
-  marks = keeps_still register_schema 19 marks_place old new _ others refl refl k.marks;
+  people = keeps_still register_schema 20 people_place old new _ others refl refl k.people;
+  trainings = keeps_still register_schema 20 trainings_place old new _ others refl refl k.trainings;
+  appointments = keeps_still register_schema 20 appointments_place old new _ others refl refl k.appointments;
+  boxes = keeps_still register_schema 20 boxes_place old new _ others refl refl k.boxes;
+  safes = keeps_still register_schema 20 safes_place old new _ others refl refl k.safes;
+  bags = keeps_still register_schema 20 bags_place old new _ others refl refl k.bags;
+  items = keeps_still register_schema 20 items_place old new _ others refl refl k.items;
+  ceremonies = keeps_still register_schema 20 ceremonies_place old new _ others refl refl k.ceremonies;
+  marks = keeps_still register_schema 20 marks_place old new _ others refl refl k.marks;
   steps = keeps;
-  seatings = keeps_still register_schema 19 seatings_place old new _ others refl refl k.seatings;
-  sheet = keeps_still register_schema 19 sheet_place old new _ others refl refl k.sheet;
-  exceptions = keeps_still register_schema 19 exceptions_place old new _ others refl refl k.exceptions;
-  versions = keeps_still register_schema 19 versions_place old new _ others refl refl k.versions;
-  keys = keeps_still register_schema 19 keys_place old new _ others refl refl k.keys;
-  stays = keeps_still register_schema 19 stays_place old new _ others refl refl k.stays;
-  withdrawals = keeps_still register_schema 19 withdrawals_place old new _ others refl refl k.withdrawals;
+  seatings = keeps_still register_schema 20 seatings_place old new _ others refl refl k.seatings;
+  sheet = keeps_still register_schema 20 sheet_place old new _ others refl refl k.sheet;
+  exceptions = keeps_still register_schema 20 exceptions_place old new _ others refl refl k.exceptions;
+  versions = keeps_still register_schema 20 versions_place old new _ others refl refl k.versions;
+  keys = keeps_still register_schema 20 keys_place old new _ others refl refl k.keys;
+  stays = keeps_still register_schema 20 stays_place old new _ others refl refl k.stays;
+  withdrawals = keeps_still register_schema 20 withdrawals_place old new _ others refl refl k.withdrawals;
   spot = k.spot;
   seats = stored;
 }

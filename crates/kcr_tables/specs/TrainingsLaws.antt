@@ -22,7 +22,7 @@ use Rattle.kcr_rows.proofs.WriteLemmas.{cast_int}
 use Rattle.kcr_rows.proofs.TableLemmas.{keeps_still, each_is}
 use Rattle.kcr_rows.proofs.SameLemmas.{one_role, text_ties}
 use Rattle.kcr_base.specs.Role.{role_text}
-use Rattle.kcr_cells.specs.Rows.{training_row}
+use Rattle.kcr_rows.specs.Rows.{training_row}
 use Rattle.kcr_people.specs.declared.Training.{Training}
 use Rattle.kcr_tables.specs.Schema.{register_schema}
 use Rattle.kcr_tables.specs.Held.{Tables, Kept, people_place, trainings_place, appointments_place, boxes_place}

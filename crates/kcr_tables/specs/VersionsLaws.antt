@@ -19,8 +19,8 @@ use Rattle.kcr_rows.specs.Columns.{number}
 use Rattle.kcr_rows.specs.Keyed.{Keeps}
 use Rattle.kcr_rows.proofs.WriteLemmas.{cast_int}
 use Rattle.kcr_rows.proofs.TableLemmas.{keeps_still, each_is}
-use Rattle.kcr_cells.specs.Rows.{version_row}
-use Rattle.kcr_cells.specs.declared.rows.Version.{Version}
+use Rattle.kcr_rows.specs.Rows.{version_row}
+use Rattle.kcr_rows.specs.declared.rows.Version.{Version}
 use Rattle.kcr_tables.specs.Schema.{register_schema}
 use Rattle.kcr_tables.specs.Held.{Tables, Kept, people_place, trainings_place, appointments_place, boxes_place}
 use Rattle.kcr_tables.specs.Held.{safes_place, bags_place, items_place, ceremonies_place, marks_place, steps_place}
@@ -92,27 +92,27 @@ puts = record {
 -- the other tables stay where the rows of this one are changed
 pub still : (old new : Trees) (rows : List Version) (t : Tables) → IsSound register_schema new
     → Keeps versions_place new (map version_row rows) → AllByRecursion (λ _. ⊤) rows
-    → ((tree : ℕ) → tree ≢ 27 → IsNoIndex register_schema tree → new tree ≡ old tree) → Kept old t
+    → ((tree : ℕ) → tree ≢ 28 → IsNoIndex register_schema tree → new tree ≡ old tree) → Kept old t
     → Kept new (record t { versions = rows })
 still old new rows t sound keeps stored others k = record {
   sound = sound;
-  people = keeps_still register_schema 27 people_place old new _ others refl refl k.people;
-  trainings = keeps_still register_schema 27 trainings_place old new _ others refl refl k.trainings;
-  appointments = keeps_still register_schema 27 appointments_place old new _ others refl refl k.appointments;
-  boxes = keeps_still register_schema 27 boxes_place old new _ others refl refl k.boxes;
-  safes = keeps_still register_schema 27 safes_place old new _ others refl refl k.safes;
-  bags = keeps_still register_schema 27 bags_place old new _ others refl refl k.bags;
-  items = keeps_still register_schema 27 items_place old new _ others refl refl k.items;
-  ceremonies = keeps_still register_schema 27 ceremonies_place old new _ others refl refl k.ceremonies;
-  marks = keeps_still register_schema 27 marks_place old new _ others refl refl k.marks;
-  steps = keeps_still register_schema 27 steps_place old new _ others refl refl k.steps;
-  seatings = keeps_still register_schema 27 seatings_place old new _ others refl refl k.seatings;
-  sheet = keeps_still register_schema 27 sheet_place old new _ others refl refl k.sheet;
-  exceptions = keeps_still register_schema 27 exceptions_place old new _ others refl refl k.exceptions;
+  people = keeps_still register_schema 28 people_place old new _ others refl refl k.people;
+  trainings = keeps_still register_schema 28 trainings_place old new _ others refl refl k.trainings;
+  appointments = keeps_still register_schema 28 appointments_place old new _ others refl refl k.appointments;
+  boxes = keeps_still register_schema 28 boxes_place old new _ others refl refl k.boxes;
+  safes = keeps_still register_schema 28 safes_place old new _ others refl refl k.safes;
+  bags = keeps_still register_schema 28 bags_place old new _ others refl refl k.bags;
+  items = keeps_still register_schema 28 items_place old new _ others refl refl k.items;
+  ceremonies = keeps_still register_schema 28 ceremonies_place old new _ others refl refl k.ceremonies;
+  marks = keeps_still register_schema 28 marks_place old new _ others refl refl k.marks;
+  steps = keeps_still register_schema 28 steps_place old new _ others refl refl k.steps;
+  seatings = keeps_still register_schema 28 seatings_place old new _ others refl refl k.seatings;
+  sheet = keeps_still register_schema 28 sheet_place old new _ others refl refl k.sheet;
+  exceptions = keeps_still register_schema 28 exceptions_place old new _ others refl refl k.exceptions;
   versions = keeps;
-  keys = keeps_still register_schema 27 keys_place old new _ others refl refl k.keys;
-  stays = keeps_still register_schema 27 stays_place old new _ others refl refl k.stays;
-  withdrawals = keeps_still register_schema 27 withdrawals_place old new _ others refl refl k.withdrawals;
+  keys = keeps_still register_schema 28 keys_place old new _ others refl refl k.keys;
+  stays = keeps_still register_schema 28 stays_place old new _ others refl refl k.stays;
+  withdrawals = keeps_still register_schema 28 withdrawals_place old new _ others refl refl k.withdrawals;
   spot = k.spot;
   seats = k.seats;
 }

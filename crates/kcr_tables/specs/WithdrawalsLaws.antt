@@ -22,7 +22,7 @@ use Rattle.kcr_rows.proofs.WriteLemmas.{cast_int}
 use Rattle.kcr_rows.proofs.TableLemmas.{keeps_still, each_is}
 use Rattle.kcr_rows.proofs.SameLemmas.{one_role, text_ties}
 use Rattle.kcr_base.specs.Role.{role_text}
-use Rattle.kcr_cells.specs.Rows.{withdrawal_row}
+use Rattle.kcr_rows.specs.Rows.{withdrawal_row}
 use Rattle.kcr_people.specs.declared.Withdrawal.{Withdrawal}
 use Rattle.kcr_tables.specs.Schema.{register_schema}
 use Rattle.kcr_tables.specs.Held.{Tables, Kept, people_place, trainings_place, appointments_place, boxes_place}
@@ -114,26 +114,26 @@ puts = record {
 -- the other tables stay where the rows of this one are changed
 pub still : (old new : Trees) (rows : List Withdrawal) (t : Tables) → IsSound register_schema new
     → Keeps withdrawals_place new (map withdrawal_row rows) → AllByRecursion (λ _. ⊤) rows
-    → ((tree : ℕ) → tree ≢ 34 → IsNoIndex register_schema tree → new tree ≡ old tree) → Kept old t
+    → ((tree : ℕ) → tree ≢ 35 → IsNoIndex register_schema tree → new tree ≡ old tree) → Kept old t
     → Kept new (record t { withdrawals = rows })
 still old new rows t sound keeps stored others k = record {
   sound = sound;
-  people = keeps_still register_schema 34 people_place old new _ others refl refl k.people;
-  trainings = keeps_still register_schema 34 trainings_place old new _ others refl refl k.trainings;
-  appointments = keeps_still register_schema 34 appointments_place old new _ others refl refl k.appointments;
-  boxes = keeps_still register_schema 34 boxes_place old new _ others refl refl k.boxes;
-  safes = keeps_still register_schema 34 safes_place old new _ others refl refl k.safes;
-  bags = keeps_still register_schema 34 bags_place old new _ others refl refl k.bags;
-  items = keeps_still register_schema 34 items_place old new _ others refl refl k.items;
-  ceremonies = keeps_still register_schema 34 ceremonies_place old new _ others refl refl k.ceremonies;
-  marks = keeps_still register_schema 34 marks_place old new _ others refl refl k.marks;
-  steps = keeps_still register_schema 34 steps_place old new _ others refl refl k.steps;
-  seatings = keeps_still register_schema 34 seatings_place old new _ others refl refl k.seatings;
-  sheet = keeps_still register_schema 34 sheet_place old new _ others refl refl k.sheet;
-  exceptions = keeps_still register_schema 34 exceptions_place old new _ others refl refl k.exceptions;
-  versions = keeps_still register_schema 34 versions_place old new _ others refl refl k.versions;
-  keys = keeps_still register_schema 34 keys_place old new _ others refl refl k.keys;
-  stays = keeps_still register_schema 34 stays_place old new _ others refl refl k.stays;
+  people = keeps_still register_schema 35 people_place old new _ others refl refl k.people;
+  trainings = keeps_still register_schema 35 trainings_place old new _ others refl refl k.trainings;
+  appointments = keeps_still register_schema 35 appointments_place old new _ others refl refl k.appointments;
+  boxes = keeps_still register_schema 35 boxes_place old new _ others refl refl k.boxes;
+  safes = keeps_still register_schema 35 safes_place old new _ others refl refl k.safes;
+  bags = keeps_still register_schema 35 bags_place old new _ others refl refl k.bags;
+  items = keeps_still register_schema 35 items_place old new _ others refl refl k.items;
+  ceremonies = keeps_still register_schema 35 ceremonies_place old new _ others refl refl k.ceremonies;
+  marks = keeps_still register_schema 35 marks_place old new _ others refl refl k.marks;
+  steps = keeps_still register_schema 35 steps_place old new _ others refl refl k.steps;
+  seatings = keeps_still register_schema 35 seatings_place old new _ others refl refl k.seatings;
+  sheet = keeps_still register_schema 35 sheet_place old new _ others refl refl k.sheet;
+  exceptions = keeps_still register_schema 35 exceptions_place old new _ others refl refl k.exceptions;
+  versions = keeps_still register_schema 35 versions_place old new _ others refl refl k.versions;
+  keys = keeps_still register_schema 35 keys_place old new _ others refl refl k.keys;
+  stays = keeps_still register_schema 35 stays_place old new _ others refl refl k.stays;
   withdrawals = keeps;
   spot = k.spot;
   seats = k.seats;

@@ -2,8 +2,8 @@
 
 ghost use Rattle.kcr_tables.specs.AppointmentsLaws as laws;
 
-use crate::table::{Finds, Listed, Put, put_cells};
-use kcr_base::{Initials, Refusal};
+use crate::table::{Listed, Put, put_cells};
+use kcr_base::Refusal;
 use kcr_people::Appointment;
 use kcr_rows::cells::{code_cell, day_cell, day_or_null_cell, initials_cell};
 use sqlite::{Alter, Transaction};
@@ -16,28 +16,6 @@ impl Listed for Appointment {
     }
 
     ghost table_laws = { laws.table_laws };
-}
-
-/// The rows of one place.
-impl Finds<kcr_base::code::Code<9>> for Appointment {
-    ghost finding = { laws.appointments_to };
-
-    fn find_text() -> &'static str {
-        "SELECT place, since, who, until FROM appointments WHERE place = ?1 ORDER BY place, since"
-    }
-
-    ghost finding_laws = { laws.appointments_to_laws };
-}
-
-/// The rows of one person.
-impl Finds<Initials> for Appointment {
-    ghost finding = { laws.appointments_of };
-
-    fn find_text() -> &'static str {
-        "SELECT place, since, who, until FROM appointments WHERE who = ?1 ORDER BY place, since"
-    }
-
-    ghost finding_laws = { laws.appointments_of_laws };
 }
 
 impl Put for Appointment {

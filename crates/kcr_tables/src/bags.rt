@@ -4,9 +4,8 @@ ghost use Rattle.kcr_tables.specs.BagsLaws as laws;
 
 use crate::table::{Finds, Listed, PutWords, put_cells};
 use kcr_base::{Refusal, Serial};
-use kcr_cells::cells::spot_words;
 use kcr_custody::Bag;
-use kcr_rows::cells::{serial_cell, text_cell};
+use kcr_rows::cells::{serial_cell, spot_words, text_cell};
 use sqlite::{Alter, Transaction};
 use std::alloc::Global;
 

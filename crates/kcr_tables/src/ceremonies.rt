@@ -4,9 +4,10 @@ ghost use Rattle.kcr_tables.specs.CeremoniesLaws as laws;
 
 use crate::table::{Finds, Listed, Put, put_cells};
 use kcr_base::Refusal;
-use kcr_cells::cells::ceremony_state_cell;
 use kcr_history::CeremonyRow;
-use kcr_rows::cells::{day_cell, facility_cell, moment_or_null_cell, number_cell};
+use kcr_rows::cells::{
+    ceremony_state_cell, day_cell, facility_cell, moment_or_null_cell, number_cell,
+};
 use sqlite::{Alter, Transaction};
 
 impl Listed for CeremonyRow {

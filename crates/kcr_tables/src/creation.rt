@@ -8,8 +8,8 @@ ghost use Rattle.kcr_history.specs.Tables.{tables};
 ghost use Rattle.kcr_rows.specs.Refusals.{IsFault};
 ghost use Rattle.kcr_rows.specs.Columns.{AreEmpty};
 ghost use Rattle.kcr_rows.specs.Keyed.{put_in};
-ghost use Rattle.kcr_cells.specs.Rows.{safe_row};
-ghost use Rattle.kcr_cells.specs.Frame.{StaysWithin};
+ghost use Rattle.kcr_rows.specs.Rows.{safe_row};
+ghost use Rattle.kcr_rows.specs.Frame.{StaysWithin};
 ghost use Rattle.kcr_tables.specs.Held.{Tables, Holds};
 ghost use Rattle.kcr_tables.specs.First.{empty_tables, first_tables, shut};
 ghost use Rattle.kcr_tables.specs.Joint.{HoldsTables};
@@ -20,9 +20,9 @@ ghost use Rattle.kcr_custody.specs.declared.SafeNumber.TheVariants.{One, Two};
 use crate::table::Put;
 use crate::texts::{COUNT, create_text};
 use kcr_base::{Facility, Refusal};
-use kcr_cells::Version;
-use kcr_cells::statements::write;
 use kcr_custody::{SafeNumber, SafeRow};
+use kcr_rows::Version;
+use kcr_rows::statements::write;
 use sqlite::{Alter, Transaction};
 
 /// The number of the schema, which the table versions holds.

@@ -4,9 +4,8 @@ ghost use Rattle.kcr_tables.specs.ItemsLaws as laws;
 
 use crate::table::{Finds, Listed, Put, put_cells};
 use kcr_base::{ItemCode, Refusal, Serial};
-use kcr_cells::cells::{loose_cell, within_cell};
 use kcr_custody::Item;
-use kcr_rows::cells::item_cell;
+use kcr_rows::cells::{item_cell, loose_cell, within_cell};
 use sqlite::{Alter, Transaction};
 
 impl Listed for Item {

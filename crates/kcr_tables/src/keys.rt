@@ -4,9 +4,9 @@ ghost use Rattle.kcr_tables.specs.KeysLaws as laws;
 
 use crate::table::{Finds, Listed, Put};
 use kcr_base::{Key, Refusal};
-use kcr_cells::statements::write;
 use kcr_history::KeyRow;
 use kcr_rows::cells::{key_cell, number_cell, text_cell};
+use kcr_rows::statements::write;
 use sqlite::{Alter, Transaction};
 
 impl Listed for KeyRow {

@@ -4,18 +4,20 @@ ghost use Rattle.std.specs.Prelude.{◌≡◌, map, filter, IfOk, OnOk, IsTrue};
 ghost use Rattle.sqlite.specs.Held.{state};
 ghost use Rattle.sqlite.specs.State.{HasCleanDisk};
 ghost use Rattle.kcr_base.specs.Same.{same_text};
+ghost use Rattle.kcr_history.specs.Views.{is_appointment_to, is_appointment_of};
 ghost use Rattle.kcr_rows.specs.Greatest.{IsGreatest};
-ghost use Rattle.kcr_cells.specs.Rows.{key_row, stay_row};
-ghost use Rattle.kcr_tables.specs.Exact.{rows_at, has_text, IsOneOf};
+ghost use Rattle.kcr_rows.specs.Rows.{key_row, stay_row, appointment_row};
+ghost use Rattle.kcr_tables.specs.Exact.{rows_at, rows_to, rows_of_person, has_text, IsOneOf};
 ghost use Rattle.kcr_tables.specs.Held.{keys_place, stays_place, Tables, Holds};
 ghost use Rattle.kcr_tables.specs.Frame.{Reads};
 ghost use Rattle.kcr_tables.specs.Schema.{register_schema};
 
-use kcr_base::{Initials, Refusal};
-use kcr_cells::statements::rows_of;
+use kcr_base::{Initials, Place, Refusal};
 use kcr_history::KeyRow;
+use kcr_people::Appointment;
 use kcr_room::Stay;
-use kcr_rows::cells::initials_cell;
+use kcr_rows::cells::{code_cell, initials_cell};
+use kcr_rows::statements::rows_of;
 use sqlite::{Alter, Transaction};
 use std::alloc::Global;
 
@@ -68,6 +70,57 @@ pub fn last_stay_of<S: Alter>(
         alloc,
         tx,
         "SELECT who, since, ceremony, until FROM stays WHERE who = ?1 ORDER BY since DESC LIMIT 1",
+        &[c0],
+    )
+}
+
+/// The row of the place's appointment that began last, alone, or none. The errors are those of `last_key_row`.
+pub fn last_appointment_to<S: Alter>(
+    alloc: Global,
+    tx: &mut Transaction<'_, S>,
+    place: Place,
+) -> Result<Vec<Appointment>, Refusal>
+    ensures same_reference { tx.new.conn.ghost_name ≡ tx.old.conn.ghost_name }
+    ensures rows { HasCleanDisk (state S.Store tx.new.conn.now) → (t : Tables)
+        → Holds (state S.Store tx.old.conn.now).now t
+        → IfOk result (λ all. IsGreatest (λ x. x.since) (filter (is_appointment_to place) t.appointments) all.items) }
+    ensures exact { HasCleanDisk (state S.Store tx.new.conn.now)
+        → (state S.Store tx.old.conn.now).now.schema ≡ register_schema
+        → IfOk result (λ all. IsOneOf (rows_to place (state S.Store tx.old.conn.now).now.trees)
+        (map appointment_row all.items)) }
+    ensures frame { Reads (state S.Store tx.old.conn.now) (state S.Store tx.new.conn.now) result }
+{
+    let words = place.text();
+    let c0 = code_cell(&words);
+    rows_of(
+        alloc,
+        tx,
+        "SELECT place, since, who, until FROM appointments WHERE place = ?1 ORDER BY since DESC LIMIT 1",
+        &[c0],
+    )
+}
+
+/// The row of the person's appointment that began last, alone, or none. The errors are those of `last_key_row`.
+pub fn last_appointment_of<S: Alter>(
+    alloc: Global,
+    tx: &mut Transaction<'_, S>,
+    who: &Initials,
+) -> Result<Vec<Appointment>, Refusal>
+    ensures same_reference { tx.new.conn.ghost_name ≡ tx.old.conn.ghost_name }
+    ensures rows { HasCleanDisk (state S.Store tx.new.conn.now) → (t : Tables)
+        → Holds (state S.Store tx.old.conn.now).now t
+        → IfOk result (λ all. IsGreatest (λ x. x.since) (filter (is_appointment_of who.now) t.appointments) all.items) }
+    ensures exact { HasCleanDisk (state S.Store tx.new.conn.now)
+        → (state S.Store tx.old.conn.now).now.schema ≡ register_schema
+        → IfOk result (λ all. IsOneOf (rows_of_person who.now (state S.Store tx.old.conn.now).now.trees)
+        (map appointment_row all.items)) }
+    ensures frame { Reads (state S.Store tx.old.conn.now) (state S.Store tx.new.conn.now) result }
+{
+    let c0 = initials_cell(who);
+    rows_of(
+        alloc,
+        tx,
+        "SELECT place, since, who, until FROM appointments WHERE who = ?1 ORDER BY since DESC LIMIT 1",
         &[c0],
     )
 }

@@ -3,7 +3,7 @@
 //!
 //! What a table is stands once, in `table`, with the calls for all of them. A table has a module of its own, which only
 //! gives its SQL texts, the cells of a row, and what it proves of the texts. These modules are written by the program
-//! `tools/tables.py`; the rows as values and what is general of them stand in the crates `kcr_cells` and `kcr_rows`.
+//! `tools/tables.py`; the rows as values, and what is general of them, stand in the crate `kcr_rows`.
 #![tactic(auto)]
 
 mod appointments;
@@ -18,6 +18,7 @@ mod keys;
 mod last;
 mod marks;
 mod people;
+mod places;
 mod rooms;
 mod safes;
 mod seatings;
@@ -34,7 +35,7 @@ mod withdrawals;
 
 pub use changes::make_changes;
 pub use creation::make;
-pub use kcr_cells::Version;
+pub use kcr_rows::Version;
 pub use last::{last_key_row, last_stay_of};
 pub use table::{AsCell, Finds, Listed, all_rows, rows_under};
 pub use texts::create_text;

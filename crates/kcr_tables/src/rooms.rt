@@ -7,7 +7,7 @@ ghost use Rattle.kcr_history.specs.Views.{ShowsStays, ShowsStaysOf};
 ghost use Rattle.kcr_base.specs.Same.{same_text};
 ghost use Rattle.kcr_room.specs.declared.Stay.{Stay as AnyStay};
 ghost use Rattle.kcr_rows.specs.Greatest.{IsGreatest};
-ghost use Rattle.kcr_cells.specs.Rows.{stay_row};
+ghost use Rattle.kcr_rows.specs.Rows.{stay_row};
 ghost use Rattle.kcr_tables.specs.Exact.{rows_at, is_stay_row, AreShown, AskedAreShown};
 ghost use Rattle.kcr_tables.specs.Held.{stays_place, Tables, Holds};
 ghost use Rattle.kcr_tables.specs.Frame.{Reads};

@@ -4,9 +4,8 @@ ghost use Rattle.kcr_tables.specs.SafesLaws as laws;
 
 use crate::table::{Listed, Put, put_cells};
 use kcr_base::Refusal;
-use kcr_cells::cells::safe_cell;
 use kcr_custody::SafeRow;
-use kcr_rows::cells::{facility_cell, truth_cell};
+use kcr_rows::cells::{facility_cell, safe_cell, truth_cell};
 use sqlite::{Alter, Transaction};
 
 impl Listed for SafeRow {

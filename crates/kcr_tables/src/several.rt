@@ -7,21 +7,20 @@ ghost use Rattle.std.proofs.lemmas.Slice.Eq.{bytes_eq-Decides};
 ghost use Rattle.sqlite.specs.Held.{state};
 ghost use Rattle.sqlite.specs.State.{HasCleanDisk};
 ghost use Rattle.kcr_base.specs.Same.{same_text};
-ghost use Rattle.kcr_history.specs.Views.{Shows, is_of_people, is_item_of, is_appointment_of};
-ghost use Rattle.kcr_cells.specs.Rows.{person_row, item_row, appointment_row};
-ghost use Rattle.kcr_tables.specs.Asked.{asked_of, asked_once, is_under_any};
-ghost use Rattle.kcr_tables.specs.Exact.{rows_at, has_key, has_any, is_item_row, is_appointment_row};
-ghost use Rattle.kcr_tables.specs.Exact.{AreShown, AskedAreShown};
-ghost use Rattle.kcr_tables.specs.Held.{people_place, items_place, appointments_place, Tables, Holds};
+ghost use Rattle.kcr_history.specs.Views.{Shows, is_of_people, is_item_of};
+ghost use Rattle.kcr_rows.specs.Rows.{person_row, item_row};
+ghost use Rattle.kcr_tables.specs.Asked.{asked_once, is_under_any};
+ghost use Rattle.kcr_tables.specs.Exact.{rows_at, has_key, has_any, is_item_row, AreShown, AskedAreShown};
+ghost use Rattle.kcr_tables.specs.Held.{people_place, items_place, Tables, Holds};
 ghost use Rattle.kcr_tables.specs.Frame.{Reads};
 ghost use Rattle.kcr_tables.specs.Schema.{register_schema};
 
 use crate::table::{AsCell, Finds, all_rows, rows_under};
 use kcr_base::{Initials, ItemCode, Refusal};
-use kcr_cells::lists::{is_item_named, is_person_named};
 use kcr_custody::Item;
-use kcr_history::{AppointmentsOf, InitialsList, ItemsOf, Selection};
-use kcr_people::{Appointment, Person};
+use kcr_history::{InitialsList, ItemsOf, Selection};
+use kcr_people::Person;
+use kcr_rows::lists::{is_item_named, is_person_named};
 use sqlite::{Alter, Transaction};
 use std::alloc::Global;
 
@@ -158,33 +157,6 @@ pub fn asked_items<S: Alter>(
         Selection::Nothing => Ok(Vec::new(alloc)),
         Selection::Under(ItemsOf::Codes(codes)) => rows_named(alloc, tx, codes.as_slice()),
         Selection::Under(ItemsOf::Bag(serial)) => rows_under(alloc, tx, serial),
-        Selection::All => all_rows(alloc, tx),
-    }
-}
-
-/// The appointments that are asked for, of a place or of a person.
-pub fn asked_appointments<S: Alter>(
-    alloc: Global,
-    tx: &mut Transaction<'_, S>,
-    asked: &Selection<AppointmentsOf>,
-) -> Result<Vec<Appointment>, Refusal>
-    ensures same_reference { tx.new.conn.ghost_name ≡ tx.old.conn.ghost_name }
-    ensures rows { HasCleanDisk (state S.Store tx.new.conn.now) → (t : Tables)
-        → Holds (state S.Store tx.old.conn.now).now t
-        → IfOk result (λ all. all.items ≡ asked_of is_appointment_of asked.now t.appointments) }
-    ensures exact { HasCleanDisk (state S.Store tx.new.conn.now)
-        → (state S.Store tx.old.conn.now).now.schema ≡ register_schema
-        → IfOk result (λ all. AskedAreShown appointment_row appointments_place is_appointment_row asked.now all.items
-        (state S.Store tx.old.conn.now).now.trees) }
-    ensures frame { Reads (state S.Store tx.old.conn.now) (state S.Store tx.new.conn.now) result }
-{
-    match asked {
-        Selection::Nothing => Ok(Vec::new(alloc)),
-        Selection::Under(AppointmentsOf::Place(place)) => {
-            let words = place.text();
-            rows_under(alloc, tx, &words)
-        }
-        Selection::Under(AppointmentsOf::Person(who)) => rows_under(alloc, tx, who),
         Selection::All => all_rows(alloc, tx),
     }
 }

@@ -4,9 +4,8 @@ ghost use Rattle.kcr_tables.specs.SheetLaws as laws;
 
 use crate::table::{Finds, Listed, Put, put_cells};
 use kcr_base::Refusal;
-use kcr_cells::cells::way_cell;
 use kcr_room::SheetRow;
-use kcr_rows::cells::{initials_cell, moment_cell, number_cell};
+use kcr_rows::cells::{initials_cell, moment_cell, number_cell, way_cell};
 use sqlite::{Alter, Transaction};
 
 impl Listed for SheetRow {

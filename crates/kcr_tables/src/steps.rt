@@ -4,9 +4,10 @@ ghost use Rattle.kcr_tables.specs.StepsLaws as laws;
 
 use crate::table::{Finds, Listed, PutWords, put_cells};
 use kcr_base::Refusal;
-use kcr_cells::cells::{seats_words, step_state_cell};
 use kcr_history::StepRow;
-use kcr_rows::cells::{line_cell, moment_or_null_cell, number_cell, text_cell};
+use kcr_rows::cells::{
+    line_cell, moment_or_null_cell, number_cell, seats_words, step_state_cell, text_cell,
+};
 use sqlite::{Alter, Transaction};
 use std::alloc::Global;
 

@@ -14,7 +14,7 @@ ghost use Rattle.kcr_rows.specs.Refusals.{IsFault};
 ghost use Rattle.kcr_rows.proofs.FilterLemmas.{has_value};
 ghost use Rattle.kcr_tables.specs.Schema.{register_schema};
 ghost use Rattle.kcr_tables.specs.Held.{Tables, Holds};
-ghost use Rattle.kcr_cells.specs.Frame.{StaysWithin};
+ghost use Rattle.kcr_rows.specs.Frame.{StaysWithin};
 ghost use Rattle.kcr_tables.specs.Frame.{Reads};
 ghost use Rattle.kcr_tables.specs.Asked.{asked_of, asked_all};
 ghost use Rattle.kcr_tables.specs.Exact.{rows_at, AskedAreShown, WholeIsShown};
@@ -24,10 +24,10 @@ ghost use Rattle.kcr_tables.specs.Table.{Table, IsTable, Finding, IsFinding, wit
 
 use kcr_base::code::Code;
 use kcr_base::{Initials, ItemCode, Key, Refusal, Serial};
-use kcr_cells::statements::{rows_of, write};
-use kcr_cells::stored::Stored;
 use kcr_history::Selection;
 use kcr_rows::cells::{code_cell, initials_cell, item_cell, key_cell, number_cell, serial_cell};
+use kcr_rows::statements::{rows_of, write};
+use kcr_rows::stored::Stored;
 use sqlite::types::ValueRef;
 use sqlite::{Alter, Transaction};
 use std::alloc::Global;

@@ -17,7 +17,7 @@ pub fn create_text(at: usize) -> &'static str
         1 =>
             "CREATE TABLE trainings (who TEXT NOT NULL, role TEXT NOT NULL, since INT NOT NULL, until INT NOT NULL, PRIMARY KEY (who, role, since, until)) STRICT",
         2 =>
-            "CREATE TABLE appointments (place TEXT NOT NULL, since INT NOT NULL, who TEXT NOT NULL, until INT, PRIMARY KEY (place, since)) STRICT",
+            "CREATE TABLE appointments (place TEXT NOT NULL, since INT NOT NULL, who TEXT NOT NULL, until INT, PRIMARY KEY (place, since), UNIQUE (who, since, place)) STRICT",
         3 =>
             "CREATE TABLE boxes (facility TEXT NOT NULL, box INT NOT NULL, place TEXT NOT NULL, PRIMARY KEY (facility, box)) STRICT",
         4 =>

@@ -4,7 +4,7 @@ ghost use Rattle.kcr_tables.specs.VersionsLaws as laws;
 
 use crate::table::{Listed, Put, put_cells};
 use kcr_base::Refusal;
-use kcr_cells::Version;
+use kcr_rows::Version;
 use kcr_rows::cells::number_cell;
 use sqlite::{Alter, Transaction};
 

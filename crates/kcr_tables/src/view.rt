@@ -4,7 +4,7 @@ ghost use Rattle.std.specs.Prelude.{◌≡◌, IfOk};
 ghost use Rattle.sqlite.specs.Held.{state};
 ghost use Rattle.sqlite.specs.State.{HasCleanDisk};
 ghost use Rattle.kcr_history.specs.Views.{IsViewOf, Shows, ShowsStays, is_of_people, is_training_of, is_withdrawal_of};
-ghost use Rattle.kcr_history.specs.Views.{is_appointment_of, is_of_serial, is_item_of, is_of_number, is_mark_of};
+ghost use Rattle.kcr_history.specs.Views.{ShowsAppointments, is_of_serial, is_item_of, is_of_number, is_mark_of};
 ghost use Rattle.kcr_history.specs.Views.{is_step_of, is_exception_of, greatest_number};
 ghost use Rattle.kcr_history.specs.Tables as machine;
 ghost use Rattle.kcr_tables.specs.Asked.{asked_of, asked_all};
@@ -14,8 +14,9 @@ ghost use Rattle.kcr_tables.specs.Held.{Tables, Holds};
 ghost use Rattle.kcr_tables.specs.Joint.{HoldsTables};
 ghost use Rattle.kcr_tables.specs.Schema.{register_schema};
 
+use crate::places::asked_appointments;
 use crate::rooms::asked_stays;
-use crate::several::{asked_appointments, asked_items, asked_people};
+use crate::several::{asked_items, asked_people};
 use crate::table::{asked_rows, asked_whole};
 use kcr_base::Refusal;
 use kcr_custody::{Bag, BoxRow, Item, SafeRow};
@@ -69,7 +70,9 @@ fn staff_rows<S: Alter>(
     ensures withdrawals { HasCleanDisk (state S.Store tx.new.conn.now) → (t : Tables)
         → Holds (state S.Store tx.old.conn.now).now t
         → IfOk result (λ rows. rows.withdrawals.items ≡ asked_of is_withdrawal_of asks.now.withdrawals t.withdrawals) }
-    ensures appointments { HasCleanDisk (state S.Store tx.new.conn.now) → (t : Tables) → Holds (state S.Store tx.old.conn.now).now t → IfOk result (λ rows. rows.appointments.items ≡ asked_of is_appointment_of asks.now.appointments t.appointments) }
+    ensures appointments { HasCleanDisk (state S.Store tx.new.conn.now) → (t : Tables)
+        → Holds (state S.Store tx.old.conn.now).now t
+        → IfOk result (λ rows. ShowsAppointments asks.now.appointments t.appointments rows.appointments.items) }
     ensures exact { HasCleanDisk (state S.Store tx.new.conn.now)
         → (state S.Store tx.old.conn.now).now.schema ≡ register_schema
         → IfOk result (λ rows. StaffIsShown asks.now rows.people.items rows.trainings.items rows.withdrawals.items

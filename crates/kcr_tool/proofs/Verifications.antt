@@ -11,18 +11,21 @@ use Rattle.kcr_tool.specs.Verifications.{TellsVerified, TellsWhole, TellsDiffere
 use Rattle.kcr_verify.specs.declared.verification.Verified.{Verified}
 use Rattle.kcr_verify.specs.declared.verification.Verified.TheVariants.{Whole, Differs}
 
-pub whole_told : (head : List ℕ) (told : Verified) (old new : Option (List ℕ)) (status : ℕ) → TellsVerified head told old new status → status ≡ 0 → TellsWhole head old new
+pub whole_told : (head : List ℕ) (told : Verified) (old new : Option (List ℕ)) (status : ℕ) → TellsVerified head told old new status → status ≡ 0
+    → TellsWhole head old new
 whole_told head (Whole count) old new status t is = (count, t.1)
 whole_told head (Differs difference) old new status t is = absurd (omega (arith, t.0, is))
 
-pub difference_told : (head : List ℕ) (told : Verified) (old new : Option (List ℕ)) (status : ℕ) → TellsVerified head told old new status → status ≡ 1 → TellsDifference old new
+pub difference_told : (head : List ℕ) (told : Verified) (old new : Option (List ℕ)) (status : ℕ) → TellsVerified head told old new status → status ≡ 1
+    → TellsDifference old new
 difference_told head (Whole count) old new status t is = absurd (omega (arith, t.0, is))
 difference_told head (Differs difference) old new status t is = (difference, t.1)
 
 pub status_told : (head : List ℕ) (told : Verified) (old new : Option (List ℕ)) (status : ℕ) → TellsVerified head told old new status → status ≤ 1
 status_told head told old new status t = grind (arith, t)
 
-pub nothing_told : (head : List ℕ) (told : Verified) (count : ℕ) (old new : Option (List ℕ)) (status : ℕ) → TellsVerified head told old new status → told ≡ Whole count → status ≡ 0
+pub nothing_told : (head : List ℕ) (told : Verified) (count : ℕ) (old new : Option (List ℕ)) (status : ℕ) → TellsVerified head told old new status
+    → told ≡ Whole count → status ≡ 0
 nothing_told head told count old new status t is = grind (arith, t, is)
 
 pub difference_front : (head : List ℕ) (old new : Option (List ℕ)) → TellsDifference old new → TellsVerifiedFront head old new

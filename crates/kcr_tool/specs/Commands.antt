@@ -27,7 +27,8 @@ of_ceremony name = with_rule (of_file name) (number_rule (codes "ceremony") 9999
 -- `kcr serve --port N --connections N`
 abbrev pub serve_app : App
 serve_app =
-    with_rule (with_rule (of_file (codes "serve")) (number_rule (codes "port") 65535)) (number_rule (codes "connections") 1000000)
+    with_rule (with_rule (of_file (codes "serve")) (number_rule (codes "port") 65535))
+    (number_rule (codes "connections") 1000000)
 
 -- `kcr rebuild --into FILE`
 abbrev pub rebuild_app : App

@@ -29,12 +29,15 @@ found_line kind subject = kind ++ (subject ++ codes "\n")
 
 -- what an audit found
 abbrev pub finding_line : Finding → List ℕ
-finding_line (Findings.Seating ceremony step) = found_line (codes "finding: seating ") (numbered ceremony (decimal step))
+finding_line (Findings.Seating ceremony step) =
+    found_line (codes "finding: seating ") (numbered ceremony (decimal step))
 finding_line (Findings.Custody item) = found_line (codes "finding: custody ") item
 finding_line (Findings.Bag serial) = found_line (codes "finding: bag ") serial
 finding_line (Findings.Key key) = found_line (codes "finding: key ") key
-finding_line (Findings.Lone ceremony moment) = found_line (codes "finding: lone ") (numbered ceremony (moment_text moment))
-finding_line (Findings.Crowd ceremony moment) = found_line (codes "finding: crowd ") (numbered ceremony (moment_text moment))
+finding_line (Findings.Lone ceremony moment) =
+    found_line (codes "finding: lone ") (numbered ceremony (moment_text moment))
+finding_line (Findings.Crowd ceremony moment) =
+    found_line (codes "finding: crowd ") (numbered ceremony (moment_text moment))
 
 -- the register is the one of its own commands, of which there are so many
 abbrev pub whole_line : List ℕ → ℕ → List ℕ

@@ -1,9 +1,11 @@
 -- What a task leaves on the output.
-use Rattle.std.specs.Prelude.{◌≡◌, ℕ, List, Option, None, IsTrue}
+use Rattle.std.specs.Prelude.{◌≡◌, ⊤, ℕ, List, Option, None, Result, IfErr, IsTrue, OnErr, OnOk}
 use Rattle.std.specs.Io.KnownBytes.{Appends}
 use Rattle.sqlite.specs.Held.{Held, state}
 use Rattle.sqlite.specs.State.{HasCleanDisk}
 use Rattle.sqlite.specs.Store.{Ghosts}
+use Rattle.kcr_base.specs.Counted.{inner_of}
+use Rattle.kcr_base.specs.declared.counted.Counted.{Counted}
 use Rattle.kcr_history.specs.Ceremonies.{is_ceremony}
 use Rattle.kcr_history.specs.History.{History}
 use Rattle.kcr_history.specs.Prints.{annotated, attendance, custody}
@@ -11,9 +13,11 @@ use Rattle.kcr_store.specs.Register.{Seen}
 use Rattle.kcr_desk.specs.Run.{IsServed, IsBroken}
 use Rattle.kcr_desk.specs.Answers.{Standing, IsAnswer, IsReply}
 use Rattle.kcr_print.specs.Written.{WritesFront}
+use Rattle.kcr_tool.specs.Faults.{StopsReport}
 use Rattle.kcr_tool.specs.Lines.{clean_line, listening_line}
 use Rattle.kcr_tool.specs.Audits.{TellsFinding, TellsFront}
 use Rattle.kcr_tool.specs.Verifications.{TellsWhole, TellsDifference, TellsVerifiedFront, verified_head, rebuilt_head}
+use Rattle.kcr_tool.specs.declared.fault.Fault.{Fault}
 use Rattle.kcr_tool.specs.declared.words.Task.{Task}
 use Rattle.kcr_tool.specs.declared.words.Task.TheVariants.{Run, Serve, Print, Attendance, Custody, Audit, Verify}
 use Rattle.kcr_tool.specs.declared.words.Task.TheVariants.{Rebuild}
@@ -97,3 +101,12 @@ abbrev pub OfHistory : {S : Type 0} → Ghosts S → Seen S → (History → Typ
 OfHistory {S} g register Says =
     ((conn : Held S) → HasCleanDisk (state g conn)) → IsTrue register.is_founded → register.torn ≡ None
     → Says register.accepted
+
+-- a task that reports: of a register with a history it is done, or in part where a fault stopped it
+pub record Reports {S W : Type 0} (g : Ghosts S) (contents : W → Option (List ℕ)) (task : Task) (register : Seen S)
+    (old new : Counted W) (result : Result ⊤ Fault) : Type 0 where
+  pub done : OfHistory g register
+      (λ A. OnOk result (Does task A None (contents (inner_of old)) (contents (inner_of new))))
+  pub part : OfHistory g register
+      (λ A. OnErr result (DoesInPart task A None (contents (inner_of old)) (contents (inner_of new))))
+  pub cause : IfErr result (StopsReport old new)

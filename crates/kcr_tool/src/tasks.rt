@@ -1,12 +1,9 @@
 //! The tasks over a register that end by themselves.
-ghost use Rattle.std.specs.Prelude.{◌≡◌, IfErr, OnOk, OnErr, IsTrue};
-ghost use Rattle.std.specs.Io.KnownBytes.{Appends};
+ghost use Rattle.std.specs.Prelude.{IfErr, OnOk, OnErr};
 ghost use Rattle.kcr_base.specs.Counted.{inner_of};
-ghost use Rattle.kcr_history.specs.Ceremonies.{is_ceremony};
-ghost use Rattle.kcr_history.specs.Prints as report;
-ghost use Rattle.kcr_print.specs.Written.{WritesFront};
-ghost use Rattle.kcr_tool.specs.Faults.{HasCause, StopsReport};
-ghost use Rattle.kcr_tool.specs.Runs.{AnswersAll, AnswersInPart, RepliesToAll, RepliesInPart, OfHistory};
+ghost use Rattle.kcr_tool.specs.Faults.{HasCause};
+ghost use Rattle.kcr_tool.specs.Runs.{AnswersAll, AnswersInPart, RepliesToAll, RepliesInPart, Reports, OfHistory};
+ghost use Rattle.kcr_tool.specs.declared.words.Task.TheVariants as task;
 
 use crate::fault::Fault;
 use kcr_base::{CeremonyNumber, Counted};
@@ -47,12 +44,7 @@ pub fn print<S: Alter, W: Write>(
     ceremony: CeremonyNumber,
     output: &mut Counted<W>,
 ) -> Result<(), Fault>
-    ensures done { OfHistory S.Store register.old (λ A. OnOk result (IsTrue (is_ceremony A ceremony)
-        × Appends (W.contents (inner_of output.old)) (W.contents (inner_of output.new))
-        (report.annotated A ceremony))) }
-    ensures part { OfHistory S.Store register.old (λ A. OnErr result
-        (WritesFront (W.contents (inner_of output.old)) (W.contents (inner_of output.new)) (report.annotated A ceremony))) }
-    ensures cause { IfErr result (StopsReport output.old output.new) }
+    ensures { Reports S.Store W.contents (task.Print ceremony) register.old output.old output.new result }
 {
     match annotated(alloc, register, ceremony, output) {
         Ok(()) => Ok(()),
@@ -67,12 +59,7 @@ pub fn attendance<S: Alter, W: Write>(
     ceremony: CeremonyNumber,
     output: &mut Counted<W>,
 ) -> Result<(), Fault>
-    ensures done { OfHistory S.Store register.old (λ A. OnOk result (IsTrue (is_ceremony A ceremony)
-        × Appends (W.contents (inner_of output.old)) (W.contents (inner_of output.new))
-        (report.attendance A ceremony))) }
-    ensures part { OfHistory S.Store register.old (λ A. OnErr result
-        (WritesFront (W.contents (inner_of output.old)) (W.contents (inner_of output.new)) (report.attendance A ceremony))) }
-    ensures cause { IfErr result (StopsReport output.old output.new) }
+    ensures { Reports S.Store W.contents (task.Attendance ceremony) register.old output.old output.new result }
 {
     match attendance_csv(alloc, register, ceremony, output) {
         Ok(()) => Ok(()),
@@ -86,11 +73,7 @@ pub fn whereabouts<S: Alter, W: Write>(
     register: &mut Register<S>,
     output: &mut Counted<W>,
 ) -> Result<(), Fault>
-    ensures done { OfHistory S.Store register.old (λ A. OnOk result
-        (Appends (W.contents (inner_of output.old)) (W.contents (inner_of output.new)) (report.custody A))) }
-    ensures part { OfHistory S.Store register.old (λ A. OnErr result
-        (WritesFront (W.contents (inner_of output.old)) (W.contents (inner_of output.new)) (report.custody A))) }
-    ensures cause { IfErr result (StopsReport output.old output.new) }
+    ensures { Reports S.Store W.contents task.Custody register.old output.old output.new result }
 {
     match custody(alloc, register, output) {
         Ok(()) => Ok(()),

@@ -13,7 +13,7 @@ use Rattle.kcr_history.specs.Machine.{IsRegister}
 use Rattle.kcr_history.specs.Tables.{key_row}
 use Rattle.kcr_history.specs.declared.commands.Entry.{Entry}
 use Rattle.kcr_history.specs.declared.rows.KeyRow.{KeyRow}
-use Rattle.kcr_again.specs.Acts.{IsAct}
+use Rattle.kcr_forms.specs.Acts.{IsAct}
 use Rattle.kcr_verify.specs.Verified.{AreValues, by_number, rows_by_number}
 
 number_total : IsTotalOrder by_number
@@ -38,24 +38,31 @@ all_end P [] x all h = (h, tt)
 all_end P (y ∷ ys) x all h = (all.0, all_end P ys x all.1 h)
 
 module _ (count : NumbersCount) where
-  below : (A : History) → IsRegister A → (row : KeyRow) → length A < row.accepted → AllByRecursion (λ x. AllByRecursion (λ y. by_number x y ≡ Less) (row ∷ [])) (rows_by_number A)
+  below : (A : History) → IsRegister A → (row : KeyRow) → length A < row.accepted
+      → AllByRecursion (λ x. AllByRecursion (λ y. by_number x y ≡ Less) (row ∷ [])) (rows_by_number A)
   below [] h row less = tt
   below (entry ∷ A) h row less =
       let is : entry.answer.accepted ≡ length (entry ∷ A) = count A entry h in
       let low : entry.answer.accepted < row.accepted = omega (arith, is, less) in
-      rw (one_more entry A) (all_end _ (rows_by_number A) (key_row entry) (below A h.1 row (omega (arith, less))) (sym (nat_cmp_is entry.answer.accepted row.accepted Less low), tt))
+      rw (one_more entry A)
+      (all_end _ (rows_by_number A) (key_row entry) (below A h.1 row (omega (arith, less)))
+      (sym (nat_cmp_is entry.answer.accepted row.accepted Less low), tt))
 
   rising : (A : History) → IsRegister A → IsAscending (λ a b. by_number a b ≡ Less) (rows_by_number A)
   rising [] h = tt
   rising (entry ∷ A) h =
       let is : entry.answer.accepted ≡ length (entry ∷ A) = count A entry h in
       rw (one_more entry A)
-      (ascending-append (λ a b. by_number a b ≡ Less) (rows_by_number A) (key_row entry ∷ []) (rising A h.1) (tt, tt) (below A h.1 (key_row entry) (omega (arith, is))))
+      (ascending-append (λ a b. by_number a b ≡ Less) (rows_by_number A) (key_row entry ∷ []) (rising A h.1) (tt, tt)
+      (below A h.1 (key_row entry) (omega (arith, is))))
 
   -- of a register's rows one order is by number
-  pub in_number_order : (A : History) (rows sorted : List KeyRow) → IsRegister A → IsPermutation (map key_row A) rows → IsPermutation rows sorted → IsSorted by_number sorted → sorted ≡ rows_by_number A
+  pub in_number_order : (A : History) (rows sorted : List KeyRow) → IsRegister A → IsPermutation (map key_row A) rows → IsPermutation rows sorted
+      → IsSorted by_number sorted → sorted ≡ rows_by_number A
   in_number_order A rows sorted h same again order =
-      let here : IsPermutation (rows_by_number A) sorted = IsPermutation-trans (rows_by_number A) rows sorted (IsPermutation-trans (rows_by_number A) (map key_row A) rows (IsPermutation-sym (map key_row A) (rows_by_number A) (IsPermutation-reverse (map key_row A))) same) again in
+      let here : IsPermutation (rows_by_number A) sorted = IsPermutation-trans (rows_by_number A) rows sorted
+      (IsPermutation-trans (rows_by_number A) (map key_row A) rows
+      (IsPermutation-sym (map key_row A) (rows_by_number A) (IsPermutation-reverse (map key_row A))) same) again in
       sorted_unique by_number number_total (rows_by_number A) sorted (rising A h) here order
 
 -- the first of the rows by number is that of the entry at the end of a history
@@ -66,7 +73,8 @@ next_entry (x ∷ []) row rest e = let z : row ∷ rest ≡ key_row x ∷ [] = e
 next_entry (x ∷ y ∷ ys) row rest e = by_rows (rows_by_number (y ∷ ys)) refl (e ∙ one_more x (y ∷ ys)) (next_entry (y ∷ ys))
   where
     by_rows : (l : List KeyRow) → rows_by_number (y ∷ ys) ≡ l → row ∷ rest ≡ l ++ key_row x ∷ []
-        → ((row : KeyRow) (rest : List KeyRow) → row ∷ rest ≡ rows_by_number (y ∷ ys) → (before : History) × (entry : Entry) × (y ∷ ys ≡ before ++ entry ∷ []) × (row ≡ key_row entry) × (rest ≡ rows_by_number before))
+        → ((row : KeyRow) (rest : List KeyRow) → row ∷ rest ≡ rows_by_number (y ∷ ys) → (before : History) × (entry : Entry) × (y ∷ ys ≡ before ++ entry ∷ [])
+        × (row ≡ key_row entry) × (rest ≡ rows_by_number before))
         → (before : History) × (entry : Entry) × (x ∷ y ∷ ys ≡ before ++ entry ∷ []) × (row ≡ key_row entry) × (rest ≡ rows_by_number before)
     by_rows [] is h ih = absurd (none_before (rows_by_number ys) (sym (one_more y ys) ∙ is))
       where

@@ -33,7 +33,8 @@ module _ {X : Type 0} (keys : ℕ) (row_of : X → Row) where
   one_order m xs ys up down first second =
       sorted_unique cmp total xs ys (from_map (λ a b. by_key keys a b ≡ Less) row_of xs up) (IsPermutation-trans xs m ys (IsPermutation-sym m xs first) second)
       (sorted_from_ascending cmp total ys
-      (ascending_weaker (λ a b. cmp a b ≡ Less) (λ a b. is_gt (cmp a b) ≡ false) (λ a b less. ap is_gt less) ys (from_map (λ a b. by_key keys a b ≡ Less) row_of ys down)))
+      (ascending_weaker (λ a b. cmp a b ≡ Less) (λ a b. is_gt (cmp a b) ≡ false) (λ a b less. ap is_gt less) ys
+      (from_map (λ a b. by_key keys a b ≡ Less) row_of ys down)))
 
 -- the machine's rows of one table are kept in one order
 pub one_table : {X : Type 0} (table : Table X) (row_of : X → Row) (is_read : X → Type 0) → IsTable table row_of is_read
@@ -41,4 +42,5 @@ pub one_table : {X : Type 0} (table : Table X) (row_of : X → Row) (is_read : X
 one_table {X} table row_of is_read laws m xs ys a b =
     one_order table.place.keys row_of (table.machine_rows m) xs ys
     (subst (λ (l : List X). IsAscending (λ x y. by_key table.place.keys x y ≡ Less) (map row_of l)) (sym a.lists) (laws.keeps a.db a.t a.kept).rising)
-    (subst (λ (l : List X). IsAscending (λ x y. by_key table.place.keys x y ≡ Less) (map row_of l)) (sym b.lists) (laws.keeps b.db b.t b.kept).rising) a.same b.same
+    (subst (λ (l : List X). IsAscending (λ x y. by_key table.place.keys x y ≡ Less) (map row_of l)) (sym b.lists) (laws.keeps b.db b.t b.kept).rising) a.same
+    b.same

@@ -28,7 +28,8 @@ use Rattle.kcr_tables.specs.ExceptionsLaws as exceptions
 use Rattle.kcr_tables.specs.Table as held
 use Rattle.kcr_verify.specs.Verified.{AreOf, HasRows}
 use Rattle.kcr_verify.specs.declared.compare.Table.{Table}
-use Rattle.kcr_verify.specs.declared.compare.Table.TheVariants.{People, Trainings, Withdrawals, Appointments, Boxes, Safes, Bags, Items, Ceremonies, Marks, Steps, Seatings, Sheet, Stays, Exceptions, Keys}
+use Rattle.kcr_verify.specs.declared.compare.Table.TheVariants.{People, Trainings, Withdrawals, Appointments, Boxes, Safes, Bags, Items, Ceremonies, Marks}
+use Rattle.kcr_verify.specs.declared.compare.Table.TheVariants.{Steps, Seatings, Sheet, Stays, Exceptions, Keys}
 use Rattle.kcr_verify.proofs.NumberLemmas.{all_end}
 
 through : {X : Type 0} (xs ys zs : List X) → IsPermutation xs zs → IsPermutation ys zs → IsPermutation xs ys
@@ -111,7 +112,8 @@ one_more_table P tables i table low at all h =
 
 -- what holds of the accepted commands and of each table in the list of the others holds of every table
 abbrev pub other_tables : List Table
-other_tables = People ∷ Trainings ∷ Withdrawals ∷ Appointments ∷ Boxes ∷ Safes ∷ Bags ∷ Items ∷ Ceremonies ∷ Marks ∷ Steps ∷ Seatings ∷ Sheet ∷ Stays ∷ Exceptions ∷ []
+other_tables = People ∷ Trainings ∷ Withdrawals ∷ Appointments ∷ Boxes ∷ Safes ∷ Bags ∷ Items ∷ Ceremonies ∷ Marks ∷ Steps ∷ Seatings ∷ Sheet ∷ Stays
+    ∷ Exceptions ∷ []
 
 pub at_each : (P : Table → Type 0) → P Keys → AllByRecursion P other_tables → (table : Table) → P table
 at_each P keys h People = h.0

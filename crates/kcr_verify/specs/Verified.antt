@@ -6,7 +6,7 @@ use Rattle.std.specs.List.{AllByRecursion}
 use Rattle.sqlite.specs.Held.{state}
 use Rattle.sqlite.specs.State.{HasCleanDisk}
 use Rattle.sqlite.specs.Store.{Ghosts}
-use Rattle.kcr_again.specs.Acts.{IsAct}
+use Rattle.kcr_forms.specs.Acts.{IsAct}
 use Rattle.kcr_base.specs.declared.refusal.Refusal.{Refusal}
 use Rattle.kcr_history.specs.History.{History}
 use Rattle.kcr_history.specs.Machine.{IsRegister}
@@ -77,8 +77,14 @@ HasRows Stays m view = AreRows stays.table m view.stays.items
 HasRows Exceptions m view = AreRows exceptions.table m view.exceptions.items
 HasRows Keys m view = IsPermutation m.keys view.keys.items
 
--- what a call that only reads leaves of a register, whatever it answers
-pub record OnlyLooks {S : Type 0} (g : Ghosts S) {A : Type 0} (old new : Seen S) (result : Result A Refusal) : Type 0 where
+-- a register whose history is known, and that no fault has broken
+pub record IsIntact {S : Type 0} (g : Ghosts S) (register : Seen S) : Type 0 where
+  pub founded : register.is_founded ≡ true
+  pub torn : register.torn ≡ None
+  pub kept : IsKept g register
+
+-- what a call that only reads leaves of such a register, whatever it answers
+pub record OnlyLooks {A S : Type 0} (g : Ghosts S) (old new : Seen S) (result : Result A Refusal) : Type 0 where
   pub founded : new.is_founded ≡ true
   pub torn : IfOk result (λ _. new.torn ≡ None)
   pub same : new.accepted ≡ old.accepted

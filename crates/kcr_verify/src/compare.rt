@@ -1,5 +1,5 @@
 //! Rows that are compared with those of a register.
-ghost use Rattle.std.specs.Prelude.{◌≡◌, ◌↔◌, IsTrue, true, None, IfOk, IfSome, IsPermutation, map};
+ghost use Rattle.std.specs.Prelude.{◌≡◌, ◌↔◌, IsTrue, None, IfOk, IfSome, IsPermutation, map};
 ghost use Rattle.std.specs.List.{AllByRecursion};
 ghost use Rattle.std.specs.List.Sorted.{IsSorted};
 ghost use Rattle.sqlite.specs.State.{HasCleanDisk};
@@ -7,10 +7,9 @@ ghost use Rattle.sqlite.specs.Held.{state};
 ghost use Rattle.kcr_history.specs.Machine.{IsRegister};
 ghost use Rattle.kcr_history.specs.Tables as machine;
 ghost use Rattle.kcr_history.specs.Tables.{key_row};
-ghost use Rattle.kcr_store.specs.Register.{IsKept};
 ghost use Rattle.kcr_store.specs.Whole.{AreRows};
 ghost use Rattle.kcr_verify.specs.declared.compare.Table.{Table as Named};
-ghost use Rattle.kcr_verify.specs.Verified.{HasRows, OnlyLooks, by_number, name_of};
+ghost use Rattle.kcr_verify.specs.Verified.{HasRows, IsIntact, OnlyLooks, by_number, name_of};
 
 use crate::order::put_in_order;
 use kcr_base::Refusal;
@@ -234,9 +233,7 @@ fn has_rows<S: Alter, R: Listed + Compared>(
     register: &mut Register<S>,
     rows: &[R],
 ) -> Result<bool, Refusal>
-    requires founded { register.old.is_founded ≡ true }
-    requires torn { register.old.torn ≡ None }
-    requires kept { IsKept S.Store register.old }
+    requires { IsIntact S.Store register.old }
     ensures are { HasCleanDisk (state S.Store register.new.conn)
         → IfOk result (λ are. IsTrue are ↔ AreRows R.table (machine.tables register.new.accepted) rows.now) }
     ensures register { HasCleanDisk (state S.Store register.new.conn)
@@ -249,9 +246,7 @@ fn has_rows<S: Alter, R: Listed + Compared>(
 
 /// Whether these, which are in the order of their numbers, are the register's accepted commands.
 fn has_commands<S: Alter>(register: &mut Register<S>, rows: &[KeyRow]) -> Result<bool, Refusal>
-    requires founded { register.old.is_founded ≡ true }
-    requires torn { register.old.torn ≡ None }
-    requires kept { IsKept S.Store register.old }
+    requires intact { IsIntact S.Store register.old }
     requires order { IsSorted by_number rows.now }
     ensures are { HasCleanDisk (state S.Store register.new.conn)
         → IfOk result (λ are. IsTrue are ↔ IsPermutation (map key_row register.new.accepted) rows.now) }
@@ -271,9 +266,7 @@ fn has_table<S: Alter>(
     table: Table,
     rows: &WholeView,
 ) -> Result<bool, Refusal>
-    requires founded { register.old.is_founded ≡ true }
-    requires torn { register.old.torn ≡ None }
-    requires kept { IsKept S.Store register.old }
+    requires intact { IsIntact S.Store register.old }
     requires order { IsSorted by_number rows.now.keys.items }
     ensures has { HasCleanDisk (state S.Store register.new.conn)
         → IfOk result (λ has. IsTrue has ↔ HasRows table (machine.tables register.new.accepted) rows.now) }
@@ -307,9 +300,7 @@ fn first_of<S: Alter>(
     tables: &[Table],
     rows: &WholeView,
 ) -> Result<Option<Table>, Refusal>
-    requires founded { register.old.is_founded ≡ true }
-    requires torn { register.old.torn ≡ None }
-    requires kept { IsKept S.Store register.old }
+    requires intact { IsIntact S.Store register.old }
     requires order { IsSorted by_number rows.now.keys.items }
     ensures none { HasCleanDisk (state S.Store register.new.conn) → IfOk result (λ found. found ≡ None
         → AllByRecursion (λ table. HasRows table (machine.tables register.new.accepted) rows.now) tables.now) }
@@ -333,9 +324,7 @@ pub(crate) fn first_difference<S: Alter>(
     register: &mut Register<S>,
     rows: &WholeView,
 ) -> Result<Option<Table>, Refusal>
-    requires founded { register.old.is_founded ≡ true }
-    requires torn { register.old.torn ≡ None }
-    requires kept { IsKept S.Store register.old }
+    requires intact { IsIntact S.Store register.old }
     requires order { IsSorted by_number rows.now.keys.items }
     ensures none { HasCleanDisk (state S.Store register.new.conn) → IfOk result (λ found. found ≡ None
         → (table : Named) → HasRows table (machine.tables register.new.accepted) rows.now) }

@@ -8,12 +8,12 @@ ghost use Rattle.kcr_history.specs.Tables.{key_row};
 ghost use Rattle.kcr_history.specs.declared.commands.Entry.{Entry as Accepted};
 ghost use Rattle.kcr_store.specs.Register.{IsKept};
 ghost use Rattle.kcr_tables.specs.Refusals.{IsFault};
-ghost use Rattle.kcr_again.specs.Acts.{IsAct};
-ghost use Rattle.kcr_verify.specs.Verified.{AreValues, rows_by_number};
+ghost use Rattle.kcr_forms.specs.Acts.{IsAct};
+ghost use Rattle.kcr_verify.specs.Verified.{AreValues, IsIntact, rows_by_number};
 
 use crate::verification::Difference;
-use kcr_again::read_act;
 use kcr_base::Refusal;
+use kcr_forms::read_act;
 use kcr_history::{Command, KeyRow, numbers_count_commands};
 use kcr_laws::laws::answers_are_fixed;
 use kcr_store::Register;
@@ -26,9 +26,7 @@ fn give<S: Alter>(
     row: &KeyRow,
     register: &mut Register<S>,
 ) -> Result<Option<Difference>, Refusal>
-    requires founded { register.old.is_founded ≡ true }
-    requires torn { register.old.torn ≡ None }
-    requires kept { IsKept S.Store register.old }
+    requires { IsIntact S.Store register.old }
     ensures founded { register.new.is_founded ≡ true }
     ensures torn { IfOk result (λ _. register.new.torn ≡ None) }
     ensures cause { IfErr result IsFault }
@@ -67,9 +65,7 @@ pub(crate) fn replay<S: Alter>(
     rows: &[KeyRow],
     register: &mut Register<S>,
 ) -> Result<Option<Difference>, Refusal>
-    requires founded { register.old.is_founded ≡ true }
-    requires torn { register.old.torn ≡ None }
-    requires kept { IsKept S.Store register.old }
+    requires intact { IsIntact S.Store register.old }
     requires empty { register.old.accepted ≡ [] }
     ensures founded { register.new.is_founded ≡ true }
     ensures torn { IfOk result (λ _. register.new.torn ≡ None) }

@@ -9,7 +9,7 @@ ghost use Rattle.kcr_history.specs.Tables.{Tables, tables};
 ghost use Rattle.kcr_store.specs.Register.{IsKept};
 ghost use Rattle.kcr_store.specs.Whole.{IsListed};
 ghost use Rattle.kcr_tables.specs.Refusals.{IsFault};
-ghost use Rattle.kcr_verify.specs.Verified.{AreValues, IsTold};
+ghost use Rattle.kcr_verify.specs.Verified.{AreValues, IsIntact, IsTold};
 
 use crate::compare::{Table, first_difference};
 use crate::order::put_in_order;
@@ -71,10 +71,8 @@ pub fn rebuild<S: Alter>(
     rows: WholeView,
     fresh: &mut Register<S>,
 ) -> Result<Verified, Refusal>
-    requires founded { fresh.old.is_founded ≡ true }
-    requires torn { fresh.old.torn ≡ None }
+    requires intact { IsIntact S.Store fresh.old }
     requires empty { fresh.old.accepted ≡ [] }
-    requires kept { IsKept S.Store fresh.old }
 
     // The fresh register has the history whose tables these are, whoever wrote them.
     ensures told { HasCleanDisk (state S.Store fresh.new.conn) → (m : Tables) → IsListed m rows

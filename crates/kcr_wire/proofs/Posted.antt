@@ -1,4 +1,4 @@
--- A request that may carry a command is answered by its body.
+-- A POST to a path that takes a command is answered by its body.
 use Rattle.std.proofs.Common.{◌≡◌, ℕ, true, List, Ok, Result, Some}
 use Rattle.serde_json.specs.Data.{Data}
 use Rattle.kcr_base.specs.declared.refusal.Refusal.{Refusal}
@@ -7,10 +7,9 @@ use Rattle.kcr_wire.specs.OrMemory.{OrMemory}
 use Rattle.kcr_wire.specs.Targets.{target_of, allowed}
 use Rattle.kcr_wire.specs.Members.{json_of}
 use Rattle.kcr_wire.specs.Commands.{may_post, command_by, command_of}
-use Rattle.kcr_wire.specs.declared.method.Method.{Method}
 use Rattle.kcr_wire.specs.declared.target.Target.{Target}
 
-pub command-posted : (m : Method) (target body : List ℕ) (t : Target) (d : Data) (r : Result Command Refusal)
-    → target_of target ≡ Ok t → may_post m (allowed t) ≡ true → json_of body ≡ Some d → OrMemory r (command_by t d) → OrMemory r (command_of m target body)
+pub command-posted : (target body : List ℕ) (t : Target) (d : Data) (r : Result Command Refusal)
+    → target_of target ≡ Ok t → may_post (allowed t) ≡ true → json_of body ≡ Some d → OrMemory r (command_by t d) → OrMemory r (command_of target body)
 unfolding command_of
-command-posted m target body t d r is_target may is_json h = rw (is_target, may, is_json) h
+command-posted target body t d r is_target may is_json h = rw (is_target, may, is_json) h

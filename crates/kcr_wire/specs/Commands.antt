@@ -1,4 +1,4 @@
--- The command that a request is, or the first of the refusals path, method, json and form.
+-- The command that a POST is, or the first of the refusals path, method, json and form.
 use Rattle.std.specs.Prelude.{ℕ, List, Bool, true, false, Result, Ok, Err, if◌then◌else◌}
 use Rattle.std.specs.Option.{ok_or}
 use Rattle.serde_json.specs.Data.{Data}
@@ -16,8 +16,6 @@ use Rattle.kcr_history.specs.declared.commands.Act.TheVariants as act
 use Rattle.kcr_history.specs.declared.commands.Command.{Command}
 use Rattle.kcr_wire.specs.declared.allow.Allow.{Allow}
 use Rattle.kcr_wire.specs.declared.allow.Allow.TheVariants as allow
-use Rattle.kcr_wire.specs.declared.method.Method.{Method}
-use Rattle.kcr_wire.specs.declared.method.Method.TheVariants as method
 use Rattle.kcr_wire.specs.declared.target.Target.{Target}
 use Rattle.kcr_wire.specs.declared.target.Target.TheVariants as target
 
@@ -138,21 +136,18 @@ act_by _ d = Err refusal.Method
 abbrev pub command_by : Target → Data → Result Command Refusal
 command_by t d = after (key_at d) (λ key. after (act_by t d) (λ does. Ok (record { key = key; act = does })))
 
--- the method is one that may carry a command to such a path
-abbrev pub may_post : Method → Allow → Bool
-may_post method.Get a = false
-may_post method.Head a = false
-may_post method.Other a = false
-may_post method.Post allow.GetHead = false
-may_post method.Post allow.Post = true
-may_post method.Post allow.GetHeadPost = true
+-- a path that takes these methods takes a command
+abbrev pub may_post : Allow → Bool
+may_post allow.GetHead = false
+may_post allow.Post = true
+may_post allow.GetHeadPost = true
 
--- the command of a body that is sent to a path
-abbrev pub posted : Method → Target → List ℕ → Result Command Refusal
-posted m t body =
-    if may_post m (allowed t) then after (ok_or (json_of body) refusal.Json) (command_by t)
+-- the command of a body that is posted to a path
+abbrev pub posted : Target → List ℕ → Result Command Refusal
+posted t body =
+    if may_post (allowed t) then after (ok_or (json_of body) refusal.Json) (command_by t)
     else Err refusal.Method
 
--- the command that a method, a target and a body are
-unfoldable pub command_of : Method → List ℕ → List ℕ → Result Command Refusal
-command_of m target body = after (target_of target) (λ t. posted m t body)
+-- the command that the target and the body of a POST are
+unfoldable pub command_of : List ℕ → List ℕ → Result Command Refusal
+command_of target body = after (target_of target) (λ t. posted t body)

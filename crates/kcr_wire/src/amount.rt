@@ -9,7 +9,9 @@ ghost use Rattle.kcr_wire.specs.Members.{pass_at, people_at, items_at};
 
 use crate::member::formed;
 use kcr_base::{BoxNumber, CeremonyNumber, Initials, ItemCode, Items, Member, People, Refusal};
-use kcr_forms::{box_number, ceremony_number, items_of, people_of, read_initials, read_item};
+use kcr_forms::forms::{
+    box_number, ceremony_number, items_of, people_of, read_initials, read_item,
+};
 use serde_json::Value;
 use std::alloc::{AllocError, Global};
 

@@ -1,4 +1,4 @@
-//! Commands, read off a method, a target and a body.
+//! Commands, read off the target and the body of a POST.
 ghost use Rattle.std.specs.Prelude.{◌≡◌};
 ghost use Rattle.serde_json.specs.View.{view};
 ghost use Rattle.kcr_wire.specs.OrMemory.{OrMemory};
@@ -13,7 +13,6 @@ use crate::member::{
     by_in, day_in, facility_in, from_in, item_in, key_in, moment_in, name_in, place_in, read_body,
     remark_in, role_in, script_in, store_in, until_in, way_in, who_in,
 };
-use crate::method::Method;
 use crate::target::{Paths, Target};
 use kcr_base::{CeremonyNumber, Initials, Place, Refusal, Serial, StepNumber};
 use kcr_custody::SafeNumber;
@@ -285,46 +284,33 @@ fn command_at(alloc: Global, target: &Target, body: &Value) -> Result<Command, R
     Ok(Command { key, act })
 }
 
-// Whether a request with this method may carry a command to a path that takes these methods.
-fn may_post(method: Method, allow: Allow) -> bool
-    ensures { result ≡ may_post method allow }
+// Whether a path that takes these methods takes a command.
+fn may_post(allow: Allow) -> bool
+    ensures { result ≡ may_post allow }
 {
-    method == Method::Post && allow != Allow::GetHead
+    allow != Allow::GetHead
 }
 
 impl Paths {
-    /// The command that a request is, or the first of the refusals that hold: `Path`, `Method` (the
-    /// path is known and takes no POST, or the method is another), `Json`, `Form` with the first
-    /// member that is missing or not of its form. `Memory` may come in the place of any answer.
-    /// `target` is the whole target of the request line; its query is cut off. Members that the
-    /// command does not name are ignored, and of a member given twice the last one counts.
+    /// The command that a POST is, or the first of the refusals that hold: `Path`, `Method` (the path
+    /// is known and takes no POST), `Json`, `Form` with the first member that is missing or not of its
+    /// form. `Memory` may come in the place of any answer. `target` is the whole target of the request
+    /// line; its query is cut off. Members that the command does not name are ignored, and of a member
+    /// given twice the last one counts.
     #[tactic(auto, unfolding(crate::specs::Commands::command_of))]
     pub fn read_command(
         &self,
         alloc: Global,
-        method: Method,
         target: &[u8],
         body: &[u8],
     ) -> Result<Command, Refusal>
-        ensures { OrMemory result (command_of method target.now body.now) }
+        ensures { OrMemory result (command_of target.now body.now) }
     {
         let target = self.target(target)?;
-        if !may_post(method, target.allow()) {
+        if !may_post(target.allow()) {
             return Err(Refusal::Method);
         }
         let value = read_body(alloc, body)?;
         command_at(alloc, &target, &value)
     }
-}
-
-/// The command that a request is, as [`Paths::read_command`] answers it, with the paths made anew.
-pub fn read_command(
-    alloc: Global,
-    method: Method,
-    target: &[u8],
-    body: &[u8],
-) -> Result<Command, Refusal>
-    ensures { OrMemory result (command_of method target.now body.now) }
-{
-    Paths::new(alloc)?.read_command(alloc, method, target, body)
 }

@@ -1,13 +1,11 @@
 //! Inquiries, read off a method and a target.
 ghost use Rattle.std.specs.Prelude.{◌≡◌};
-ghost use Rattle.kcr_wire.specs.OrMemory.{OrMemory};
 ghost use Rattle.kcr_wire.specs.Inquiries.{inquiry_by, inquiry_of};
 
 use crate::method::Method;
 use crate::target::{Paths, Target};
 use kcr_base::{CeremonyNumber, Refusal};
 use kcr_history::Question;
-use std::alloc::Global;
 
 /// What a GET or HEAD asks for: a question, whose answer is a value, or a report, whose answer is a
 /// text.
@@ -50,12 +48,4 @@ impl Paths {
             Method::Post | Method::Other => Err(Refusal::Method),
         }
     }
-}
-
-/// The inquiry that a request is, as [`Paths::read_inquiry`] answers it, with the paths made anew.
-/// `Memory` may come in the place of any answer.
-pub fn read_inquiry(alloc: Global, method: Method, target: &[u8]) -> Result<Inquiry, Refusal>
-    ensures { OrMemory result (inquiry_of method target.now) }
-{
-    Paths::new(alloc)?.read_inquiry(method, target)
 }

@@ -13,8 +13,7 @@ pub mod show;
 pub mod target;
 
 pub use allow::Allow;
-pub use command::read_command;
-pub use inquiry::{Inquiry, read_inquiry};
+pub use inquiry::Inquiry;
 pub use method::Method;
 pub use show::{write_refusal, write_shown};
 pub use target::Paths;

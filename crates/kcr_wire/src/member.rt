@@ -12,7 +12,7 @@ use kcr_base::{
     Text,
 };
 use kcr_custody::Store;
-use kcr_forms::{
+use kcr_forms::forms::{
     read_day, read_facility, read_initials, read_item, read_key, read_moment, read_name,
     read_place, read_remark, read_role, read_store, read_way,
 };

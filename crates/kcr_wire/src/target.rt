@@ -7,7 +7,7 @@ use crate::allow::Allow;
 use crate::route::{Route, router};
 use kcr_base::{CeremonyNumber, Day, Initials, Moment, Place, Refusal, Serial, StepNumber};
 use kcr_custody::SafeNumber;
-use kcr_forms::{
+use kcr_forms::forms::{
     read_ceremony, read_day, read_initials, read_moment, read_place, read_safe, read_serial,
     read_step,
 };

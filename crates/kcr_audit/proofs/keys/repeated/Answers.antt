@@ -8,12 +8,14 @@ use Rattle.kcr_audit.proofs.keys.repeated.Goals as goal
 
 pub returns-then-not-branch : goal.returns-then-not-branch
 returns-then-not-branch c =
-    seen-again c.args.rows.now c.loop-row.row-index c.row-item.result (contains same_text c.loop-row.seen) c.loop-row-test.true c.row-item.is c.loop-row.invariant
+    seen-again c.args.rows.now c.loop-row.row-index c.row-item.result
+    (contains same_text c.loop-row.seen) c.loop-row-test.true c.row-item.is c.loop-row.invariant
     (not-false (contains same_text c.loop-row.seen c.row-item.result.key) (sym c.in_ok-insert.ensures.added ∙ c.if-not-branch.true))
 
 pub loop-row-preserved : goal.loop-row-preserved
 loop-row-preserved c =
-    seen-more c.args.rows.now c.loop-row.row-index c.row-item.result (contains same_text c.loop-row.seen) c.loop-row-test.true c.row-item.is c.loop-row.invariant
+    seen-more c.args.rows.now c.loop-row.row-index c.row-item.result
+    (contains same_text c.loop-row.seen) c.loop-row-test.true c.row-item.is c.loop-row.invariant
     (contains same_text c.insert.new.self)
     (not-true (contains same_text c.loop-row.seen c.row-item.result.key) (sym c.in_ok-insert.ensures.added ∙ c.if-not-branch.false))
     c.in_ok-insert.ensures.updates.0

@@ -7,5 +7,6 @@ pub loop-place-preserved : goal.loop-place-preserved
 loop-place-preserved c =
     let short : length c.args.indices.now ≤ 16 = few c.args.indices.now 16 c.requires.rising c.requires.below in (
       length-set c.loop-place.positions c.loop-place.place _ ∙ c.loop-place.invariant.0,
-      filled_more c.args.indices.now c.loop-place.positions c.loop-place.place c.loop-place-test.true (omega (arith, short, c.loop-place.invariant.0)) c.loop-place.invariant.1,
+      filled_more c.args.indices.now c.loop-place.positions c.loop-place.place c.loop-place-test.true
+          (omega (arith, short, c.loop-place.invariant.0)) c.loop-place.invariant.1,
     )

@@ -8,5 +8,4 @@ pub returns : goal.returns
 returns g c =
     let e = c.attendance_csv-outcome.ensures in
     report_answered g.S.Store c.args.target.now _ Csv attendance c.args.ceremony c.into_inner.result.items
-    (λ some. ((e.broken some).0, (e.broken some).1)) (λ founded whole clean. search (rules, e.printed founded whole clean))
-    e.planned e.clean e.leaves c.report_reply.ensures
+    e.prints (λ founded whole clean. search (rules, e.prints.printed founded whole clean)) e.planned c.report_reply.ensures

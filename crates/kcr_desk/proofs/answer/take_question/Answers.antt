@@ -7,17 +7,17 @@ use Rattle.kcr_desk.proofs.answer.take_question.Goals as goal
 pub returns-in-Ok-write_shown : goal.returns-in-Ok-write_shown
 returns-in-Ok-write_shown g c =
     let e = c.in-Ok.ensures in
-    reading_answered g.S.Store _ _ _ _ _ (λ r. refl) (Ok c.in-Ok.shown) _ e.broken e.shown e.breaks e.same e.tried e.clean e.founded
+    reading_answered g.S.Store _ _ _ _ _ (λ r. refl) (Ok c.in-Ok.shown) _ e.looks e.shown
     (inl (c.text_reply.ensures ∙ ap told_text c.in-Ok-write_shown.ensures))
 
 pub returns-in-Ok : goal.returns-in-Ok
 returns-in-Ok g c =
     let e = c.in-Ok.ensures in
-    reading_answered g.S.Store _ _ _ _ _ (λ r. refl) (Ok c.in-Ok.shown) _ e.broken e.shown e.breaks e.same e.tried e.clean e.founded
+    reading_answered g.S.Store _ _ _ _ _ (λ r. refl) (Ok c.in-Ok.shown) _ e.looks e.shown
     (inr (c.memory_reply.ensures c.args.target.now, (λ is. cc), (λ is. cc)))
 
 pub returns : goal.returns
 returns g c =
     let e = c.in-Err.ensures in
-    reading_answered g.S.Store _ _ _ _ _ (λ r. refl) (Err c.in-Err.refusal) _ e.broken e.shown e.breaks e.same e.tried e.clean e.founded
+    reading_answered g.S.Store _ _ _ _ _ (λ r. refl) (Err c.in-Err.refusal) _ e.looks e.shown
     (refused_or_memory (told_shown c.args.target.now) _ _ c.in-Err.refusal refl c.refused_reply.ensures)

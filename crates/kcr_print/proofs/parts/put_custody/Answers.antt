@@ -1,15 +1,43 @@
-use Rattle.kcr_print.proofs.PartLemmas.{puts_then, puts_more, puts_err}
+use Rattle.std.proofs.Common.{List, ℕ, ap, ◌∙◌}
+use Rattle.std.specs.List.{flat_map}
+use Rattle.kcr_history.specs.History.{History}
+use Rattle.kcr_history.specs.Prints.{safe_line, bag_lines, loose_line, bags_in_order, items_in_order}
+use Rattle.kcr_history.specs.Tables.{safes, tables}
+use Rattle.kcr_print.specs.Lines.{packed_lines}
+use Rattle.kcr_print.proofs.PartLemmas.{puts_then, puts_more, puts_err, puts_text}
+use Rattle.kcr_print.proofs.ReportLemmas.{bags_text, loose_text}
 use Rattle.kcr_print.proofs.parts.put_custody.Goals as goal
 
-pub returns-in_err-put_safes : goal.returns-in_err-put_safes
-returns-in_err-put_safes g c =
-    let fault = c.from_residual.ensures in
-    puts_more _ fault.0 (puts_more _ fault.0 (puts_err _ _ fault.1 c.in_err-put_safes.ensures))
+-- the lines of the safes, of the bags and of the loose items
 
-pub returns-in_err-put_bags : goal.returns-in_err-put_bags
-returns-in_err-put_bags g c =
-    let fault = c.from_residual-in_err-put_bags.ensures in
-    puts_more _ fault.0 (puts_err _ _ fault.1 (puts_then c.in_ok-put_safes.ensures c.in_err-put_bags.ensures))
+abbrev safe_part : History → List ℕ
+safe_part A = flat_map safe_line (safes A)
+
+abbrev bag_part : History → List ℕ
+bag_part A = flat_map (bag_lines (items_in_order A)) (bags_in_order A)
+
+abbrev loose_part : History → List ℕ
+loose_part A = flat_map loose_line (items_in_order A)
+
+pub returns-in_err-put_all : goal.returns-in_err-put_all
+returns-in_err-put_all g c =
+    let fault = c.from_residual.ensures in
+    let safes = puts_text safe_part c.in_err-put_all.ensures (λ _ _ _. ap (flat_map safe_line) (c.start.ensures (tables c.args.register.now.accepted))) in
+    puts_more _ fault.0 (puts_more _ fault.0 (puts_err _ _ fault.1 safes))
+
+pub returns-in_err-put_all-2 : goal.returns-in_err-put_all-2
+returns-in_err-put_all-2 g c =
+    let fault = c.from_residual-in_err-put_all-2.ensures in
+    let A = c.put_all.new.register.accepted in
+    let safes = puts_text safe_part c.in_ok-put_all.ensures (λ _ _ _. ap (flat_map safe_line) (c.start.ensures (tables c.args.register.now.accepted))) in
+    let bags = puts_text bag_part c.in_err-put_all-2.ensures (λ _ _ _. ap (flat_map packed_lines) (c.start-2.ensures (tables A)) ∙ bags_text A) in
+    puts_more _ fault.0 (puts_err _ _ fault.1 (puts_then safes bags))
 
 pub returns : goal.returns
-returns g c = puts_then (puts_then c.in_ok-put_safes.ensures c.in_ok-put_bags.ensures) c.put_loose.ensures
+returns g c =
+    let A = c.put_all.new.register.accepted in
+    let B = c.put_all-2.new.register.accepted in
+    let safes = puts_text safe_part c.in_ok-put_all.ensures (λ _ _ _. ap (flat_map safe_line) (c.start.ensures (tables c.args.register.now.accepted))) in
+    let bags = puts_text bag_part c.in_ok-put_all-2.ensures (λ _ _ _. ap (flat_map packed_lines) (c.start-2.ensures (tables A)) ∙ bags_text A) in
+    let loose = puts_text loose_part c.put_all-3.ensures (λ _ _ _. ap (flat_map loose_line) (c.start-3.ensures (tables B)) ∙ loose_text B) in
+    puts_then (puts_then safes bags) loose

@@ -18,11 +18,11 @@ loop-init g c = record {
 
 pub returns-in_err-row-clause-written : goal.returns-in_err-row-clause-written
 returns-in_err-row-clause-written g c = λ founded torn clean.
-    writes_err _ _ _ _ c.from_residual.ensures.0 (goes_stop _ _ _ _ (c.loop.invariant.goes founded torn (c.next.ensures.clean clean)))
+    writes_err _ _ _ _ c.from_residual.ensures.0 (goes_stop _ _ _ _ (c.loop.invariant.goes founded torn (c.next.ensures.peeks.clean clean)))
 
 pub returns-in_err-put_row-clause-written : goal.returns-in_err-put_row-clause-written
 returns-in_err-put_row-clause-written g c = λ founded torn clean.
-    let goes = c.loop.invariant.goes founded torn (c.next.ensures.clean clean) in
+    let goes = c.loop.invariant.goes founded torn (c.next.ensures.peeks.clean clean) in
     let Says : History → Type 0 = λ A. Gives (g.R.Reading.to_come c.loop.rows.reading (tables A)) c.in_ok-row.field-0
     (g.R.Reading.to_come c.next.new.self.reading (tables A)) in
     let found = of_kept g.S.Store c.args.rows.now.register.now c.loop.rows.register.now c.next.new.self.register.now Says c.loop.invariant.keeps
@@ -35,16 +35,16 @@ pub loop-preserved : goal.loop-preserved
 loop-preserved g c = record {
   same_reference = c.next.ensures.same_reference ∙ c.loop.invariant.same_reference;
   goes = λ founded torn clean.
-      let goes = c.loop.invariant.goes founded torn (c.next.ensures.clean clean) in
+      let goes = c.loop.invariant.goes founded torn (c.next.ensures.peeks.clean clean) in
       let Says : History → Type 0 = λ A. Gives (g.R.Reading.to_come c.loop.rows.reading (tables A)) c.in_ok-row.field-0
       (g.R.Reading.to_come c.next.new.self.reading (tables A)) in
       let found = of_kept g.S.Store c.args.rows.now.register.now c.loop.rows.register.now c.next.new.self.register.now Says c.loop.invariant.keeps
       c.in_ok-row.ensures.gives founded torn clean in
       let is = rw c.in-Some.is at found in
       goes_more g.P.Printed.lines _ _ _ _ _ _ c.in-Some.row goes is c.in_ok-put_row.ensures.written;
-  keeps = keeps_both _ _ _ c.loop.invariant.keeps c.next.ensures.same;
-  clean = λ h. c.loop.invariant.clean (c.next.ensures.clean h);
-  kept = c.next.ensures.kept;
+  keeps = keeps_both _ _ _ c.loop.invariant.keeps c.next.ensures.peeks.same;
+  clean = λ h. c.loop.invariant.clean (c.next.ensures.peeks.clean h);
+  kept = c.next.ensures.peeks.kept;
   calm = c.in_ok-put_row.ensures.told.calm (λ e. cc e) ∙ c.loop.invariant.calm;
 }
 

@@ -5,7 +5,7 @@ use Rattle.sqlite.specs.State.{HasCleanDisk}
 use Rattle.kcr_base.specs.Counted.{inner_of, failures_of}
 use Rattle.kcr_history.specs.Tables.{tables}
 use Rattle.kcr_store.specs.Register.{IsKept}
-use Rattle.kcr_store.specs.Rows.{KeepsHistory, OfHistory}
+use Rattle.kcr_store.specs.Calls.{KeepsHistory, OfHistory}
 use Rattle.kcr_print.proofs.RowLemmas.{Goes}
 use Rattle.kcr_print.proofs.rows.put_rows.Given as goal
 

@@ -3,7 +3,7 @@ use Rattle.sqlite.specs.Order.{Row}
 use Rattle.sqlite.specs.Held.{state}
 use Rattle.sqlite.specs.State.{Shown}
 use Rattle.kcr_rows.proofs.FailLemmas.{if_ok}
-use Rattle.kcr_cells.specs.Rows.{seating_row}
+use Rattle.kcr_rows.specs.Rows.{seating_row}
 use Rattle.kcr_tables.proofs.HoldLemmas.{held_of}
 use Rattle.kcr_tables.proofs.FrameLemmas.{reads_by}
 use Rattle.kcr_reading.proofs.CeremonyLemmas.{seating_text, seating_shows, seated}

@@ -24,4 +24,5 @@ returns-in_err-get-3 c = absurd ((there (fields_of c.args.row.now) (sym c.len.en
 
 pub returns : goal.returns
 returns c =
-    three_are (fields_of c.args.row.now) _ _ _ (sym c.len.ensures ∙ c.if-len-ne3.false) c.in_ok-get.ensures.value c.in_ok-get-2.ensures.value c.in_ok-get-3.ensures.value
+    three_are (fields_of c.args.row.now) _ _ _
+    (sym c.len.ensures ∙ c.if-len-ne3.false) c.in_ok-get.ensures.value c.in_ok-get-2.ensures.value c.in_ok-get-3.ensures.value

@@ -24,7 +24,12 @@ loop-seat-preserved c =
     record {
       on = on_step _ _ _ _ _ _ e _ c.loop-seat.invariant.on leads;
       back = back_step _ _ _ _ _ _ e _ c.loop-seat.invariant.back leads;
-      sixteen = omega (arith, ap length e, length-append c.loop-seat.seats.items (replicate c.in-Some.count c.in-Some.seat), length-replicate c.in-Some.count c.in-Some.seat);
+      sixteen = omega (
+        arith,
+        ap length e,
+        length-append c.loop-seat.seats.items (replicate c.in-Some.count c.in-Some.seat),
+        length-replicate c.in-Some.count c.in-Some.seat,
+      );
     }
 
 pub returns-in-None-clause-only : goal.returns-in-None-clause-only
@@ -36,10 +41,16 @@ stands : (c : goal.In-None) → StandsFor c.args.text.now c.push_seats.new.seats
 stands c =
     let e = c.in_ok-push_seats.ensures in
     let last = rw c.in-None.is at c.in-Some.ensures in
-    let whole : Spells c.args.text.now (c.loop-seat.seats.items ++ replicate c.in-Some.count c.in-Some.seat) = c.loop-seat.invariant.on (replicate c.in-Some.count c.in-Some.seat) last.spells in
+    let whole : Spells c.args.text.now (c.loop-seat.seats.items ++ replicate c.in-Some.count c.in-Some.seat) =
+    c.loop-seat.invariant.on (replicate c.in-Some.count c.in-Some.seat) last.spells in
     record {
       spells = rw e whole;
-      sixteen = omega (arith, ap length e, length-append c.loop-seat.seats.items (replicate c.in-Some.count c.in-Some.seat), length-replicate c.in-Some.count c.in-Some.seat);
+      sixteen = omega (
+        arith,
+        ap length e,
+        length-append c.loop-seat.seats.items (replicate c.in-Some.count c.in-Some.seat),
+        length-replicate c.in-Some.count c.in-Some.seat,
+      );
     }
 
 pub invariant_of-result : goal.invariant_of-result

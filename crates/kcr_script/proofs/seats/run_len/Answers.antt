@@ -13,9 +13,11 @@ loop-i-preserved c k d h =
 pub returns-then-not-is_same-clause-run : goal.returns-then-not-is_same-clause-run
 returns-then-not-is_same-clause-run c =
     let low = ltb-true (kind c.args.first) 9 (sym c.if-not-can_repeat.ensures) in
-    run_of c.args.after.now c.loop-i.i c.args.first low (omega arith) c.loop-i.invariant (λ d h e. true≢false (sym (c.if-not-is_same.ensures.1 (get_or_default c.args.after.now c.loop-i.i _ d h ∙ e))))
+    run_of c.args.after.now c.loop-i.i c.args.first low (omega arith) c.loop-i.invariant
+    (λ d h e. true≢false (sym (c.if-not-is_same.ensures.1 (get_or_default c.args.after.now c.loop-i.i _ d h ∙ e))))
 
 pub returns-clause-run : goal.returns-clause-run
 returns-clause-run c =
     let low = ltb-true (kind c.args.first) 9 (sym c.if-not-can_repeat.ensures) in
-    run_of c.args.after.now (length c.args.after.now) c.args.first low (omega arith) (λ k d h. c.loop-i.invariant k d (omega arith)) (λ d h. absurd (omega arith))
+    run_of c.args.after.now (length c.args.after.now) c.args.first low (omega arith) (λ k d h. c.loop-i.invariant k d (omega arith))
+    (λ d h. absurd (omega arith))

@@ -12,7 +12,9 @@ text_is : (c : goal.In_default) → string_bytes c.loop-seat.text ≡ written c.
 unfolding written
 text_is c =
     let none = nil_from_length c.loop-seat.rest.now c.in_default.ensures.cases in
-    let P : List Seat → Type 0 = λ (rest : List Seat). all_appended (string_bytes c.loop-seat.text) (flat_map groups (runs rest)) ≡ all_appended [] (flat_map groups (runs c.args.seats.now)) in
+    let P : List Seat
+    → Type 0 = λ (rest : List Seat). all_appended (string_bytes c.loop-seat.text) (flat_map groups (runs rest)) ≡ all_appended []
+    (flat_map groups (runs c.args.seats.now)) in
     subst P none c.loop-seat.invariant.same ∙ all_appended_is (flat_map groups (runs c.args.seats.now))
 
 pub returns-clause-text : goal.returns-clause-text
@@ -28,9 +30,13 @@ loop-seat-preserved c =
     let old = string_bytes c.loop-seat.text in
     let run = pair_item (c.in-Some.seat.now, c.run_len-more.result + 1) in
     let left = drop c.run_len-more.result c.in-Some.after.now in
-    let P : List Seat → Type 0 = λ (xs : List Seat). all_appended (string_bytes c.loop-seat.text) (flat_map groups (runs xs)) ≡ all_appended [] (flat_map groups (runs c.args.seats.now)) in
+    let P : List Seat
+    → Type 0 = λ (xs : List Seat). all_appended (string_bytes c.loop-seat.text) (flat_map groups (runs xs)) ≡ all_appended []
+    (flat_map groups (runs c.args.seats.now)) in
     let before = subst P first c.loop-seat.invariant.same in
-    let Q : List Item → Type 0 = λ (items : List Item). all_appended (string_bytes c.loop-seat.text) (flat_map groups items) ≡ all_appended [] (flat_map groups (runs c.args.seats.now)) in
+    let Q : List Item
+    → Type 0 = λ (items : List Item). all_appended (string_bytes c.loop-seat.text) (flat_map groups items) ≡ all_appended []
+    (flat_map groups (runs c.args.seats.now)) in
     let after = subst Q c.run_len-more.ensures.run before in
     let all = rw first at c.loop-seat.invariant.each in
     record {

@@ -15,4 +15,5 @@ pub returns-in-Ok-clause-value : goal.returns-in-Ok-clause-value
 returns-in-Ok-clause-value c =
     let rows = map fields_of c.deref.result.now in
     let same = ap (map fields_of) (sym c.deref.ensures.value) in
-    script_is c.args.text.now rows (subst (AreRows c.args.text.now) same c.in-Ok.ensures.rows) c.read_rows.result c.read_rows.ensures.found c.read_rows.ensures.fault
+    script_is c.args.text.now rows
+    (subst (AreRows c.args.text.now) same c.in-Ok.ensures.rows) c.read_rows.result c.read_rows.ensures.found c.read_rows.ensures.fault

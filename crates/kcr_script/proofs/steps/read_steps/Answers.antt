@@ -28,8 +28,12 @@ loop-row-preserved c =
     record {
       on = λ tail h. rw (push_before _ _ tail _ pushed) (inv.on (c.in-Some-2.step ∷ tail) (on_row _ _ _ _ first c.in-Some-2.step low is tail h));
       back = λ all h. let b = inv.back all h in let r = first_step _ _ _ _ first (Some c.in-Some-2.step) only b.0 b.1 in
-          let same : r.0 ≡ c.in-Some-2.step = (let some = r.1 in cc) in
-          (r.2.0, r.2.1, b.2 ∙ ap (λ (xs : List Step). c.loop-row.steps.items ++ xs) (r.2.2 ∙ ap (λ (x : Step). x ∷ r.2.0) same) ∙ sym (push_before _ _ r.2.0 _ pushed));
+          let same : r.0 ≡ c.in-Some-2.step = (let some = r.1 in cc) in (
+            r.2.0,
+            r.2.1,
+            b.2 ∙ ap (λ (xs : List Step). c.loop-row.steps.items ++ xs) (r.2.2 ∙ ap (λ (x : Step). x ∷ r.2.0) same)
+                ∙ sym (push_before _ _ r.2.0 _ pushed),
+          );
       breaks = λ r h. inv.breaks r (breaks_row _ _ _ _ first c.in-Some-2.step low is r h);
       low = omega arith;
       high = omega arith;

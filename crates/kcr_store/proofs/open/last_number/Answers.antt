@@ -19,5 +19,6 @@ returns-clause-survives g c =
 pub returns-clause-frame : goal.returns-clause-frame
 returns-clause-frame g c =
     let back = c.rollback.ensures in
-    let left = read_back g.S.Store c.args.conn.now _ c.transaction-tx.ensures.begun c.rollback.new.self.0 c.read_last-number.ensures.frame back.survives back.undone back.ended in
+    let left = read_back g.S.Store c.args.conn.now _ c.transaction-tx.ensures.begun c.rollback.new.self.0 c.read_last-number.ensures.frame back.survives
+    back.undone back.ended in
     search rules

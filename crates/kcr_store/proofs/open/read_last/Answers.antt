@@ -2,7 +2,7 @@ use Rattle.std.proofs.Common.{◌∙◌, sym, ap, List, slice_get}
 use Rattle.kcr_history.specs.declared.rows.KeyRow.{KeyRow}
 use Rattle.kcr_history.specs.Tables.{tables}
 use Rattle.kcr_history.proofs.Steps.{greatest-keys}
-use Rattle.kcr_cells.proofs.FrameLemmas.{within_to, within_fails}
+use Rattle.kcr_rows.proofs.FrameLemmas.{within_to, within_fails}
 use Rattle.kcr_tables.proofs.HoldLemmas.{held_of}
 use Rattle.kcr_tables.proofs.ViewLemmas.{told, greatest_told}
 use Rattle.kcr_store.proofs.StoreLemmas.{held_in}

@@ -5,7 +5,7 @@ use Rattle.kcr_history.specs.Tables.{tables}
 use Rattle.kcr_history.proofs.Steps.{greatest-keys}
 use Rattle.kcr_rows.proofs.FailLemmas.{on_ok}
 use Rattle.kcr_rows.proofs.InsideLemmas.{was_clean}
-use Rattle.kcr_cells.proofs.FrameLemmas.{within_then, within_to, within_fails}
+use Rattle.kcr_rows.proofs.FrameLemmas.{within_then, within_to, within_fails}
 use Rattle.kcr_tables.proofs.HoldLemmas.{held_of}
 use Rattle.kcr_tables.proofs.ViewLemmas.{row_under}
 use Rattle.kcr_store.proofs.StoreLemmas.{held_in, decides, refuses, fault_steps, faults}
@@ -31,7 +31,8 @@ returns-in-Some-clause-opened g c clean = on_ok _ c.repeat.result (c.in_ok-kept.
 pub returns-in-Some-clause-frame : goal.returns-in-Some-clause-frame
 returns-in-Some-clause-frame g c =
     within_to c.repeat.result
-    (refuses (state g.S.Store c.args.tx.now.conn.now) (state g.S.Store c.rows_under.new.tx.conn.now) c.args.command.now c.args.count c.repeat.result (λ clean A had number.
+    (refuses (state g.S.Store c.args.tx.now.conn.now) (state g.S.Store c.rows_under.new.tx.conn.now) c.args.command.now c.args.count c.repeat.result
+    (λ clean A had number.
     let held = held_in _ _ (had (c.in_ok-kept.ensures.opened clean)) in
     let rows = c.in_ok-kept.ensures.rows clean held.tables.t (held_of (tables A) _ held) in
     c.repeat.ensures A
@@ -42,12 +43,15 @@ returns-in-Some-clause-frame g c =
 -- ---- the key is new
 
 pub returns-in_err-asked-in-None-clause-frame : goal.returns-in_err-asked-in-None-clause-frame
-returns-in_err-asked-in-None-clause-frame g c = within_to _ (faults (state g.S.Store c.args.tx.now.conn.now) (state g.S.Store c.rows_under.new.tx.conn.now) c.args.command.now c.args.count _ (search rules)) c.in_ok-kept.ensures.frame.within
+returns-in_err-asked-in-None-clause-frame g c = within_to _
+    (faults (state g.S.Store c.args.tx.now.conn.now) (state g.S.Store c.rows_under.new.tx.conn.now) c.args.command.now c.args.count _ (search rules))
+    c.in_ok-kept.ensures.frame.within
 
 pub returns-in_err-view-in-None-clause-frame : goal.returns-in_err-view-in-None-clause-frame
 returns-in_err-view-in-None-clause-frame g c =
     within_then c.in_ok-kept.ensures.frame.within
-    (within_fails _ c.from_residual-in_err-view-in-None.ensures.1 (λ fault clean A had number. fault_steps A c.args.command.now _ fault) c.in_err-view-in-None.ensures.frame.within)
+    (within_fails _ c.from_residual-in_err-view-in-None.ensures.1
+    (λ fault clean A had number. fault_steps A c.args.command.now _ fault) c.in_err-view-in-None.ensures.frame.within)
 
 pub returns-clause-decided : goal.returns-clause-decided
 returns-clause-decided g c clean A had number =
@@ -69,7 +73,8 @@ returns-clause-opened g c clean =
 pub returns-clause-frame : goal.returns-clause-frame
 returns-clause-frame g c =
     within_to c.decide.result
-    (refuses (state g.S.Store c.args.tx.now.conn.now) (state g.S.Store c.view_of.new.tx.conn.now) c.args.command.now c.args.count c.decide.result (λ clean A had number.
+    (refuses (state g.S.Store c.args.tx.now.conn.now) (state g.S.Store c.view_of.new.tx.conn.now) c.args.command.now c.args.count c.decide.result
+    (λ clean A had number.
     let before = was_clean _ _ _ c.in_ok-view-in-None.ensures.frame.within.survives clean in
     let was = had (c.in_ok-kept.ensures.opened before) in
     let held = held_in _ _ was in

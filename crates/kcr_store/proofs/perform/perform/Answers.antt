@@ -2,7 +2,8 @@ use Rattle.std.proofs.Common.{inl, inr, refl, rules}
 use Rattle.sqlite.specs.State.{HasCleanDisk, Survives}
 use Rattle.sqlite.specs.Held.{state}
 use Rattle.kcr_rows.proofs.InsideLemmas.{was_clean}
-use Rattle.kcr_store.proofs.WholeLemmas.{begins, begun_clean, counted_as, either, either_last, made_by, read_back, read_stores, still_counted, whole_done, whole_stands}
+use Rattle.kcr_store.proofs.WholeLemmas.{begins, begun_clean, counted_as, either, either_last, made_by, read_back, read_stores, still_counted, whole_done}
+use Rattle.kcr_store.proofs.WholeLemmas.{whole_stands}
 use Rattle.kcr_store.proofs.perform.perform.Goals as goal
 
 -- ---- refused: the transaction is dropped
@@ -19,7 +20,8 @@ pub returns-in-Err-clause-step : goal.returns-in-Err-clause-step
 returns-in-Err-clause-step g c was clean =
     let back = c.drop-tx.ensures.survives in
     let before = was_clean _ _ _ back (search rules) in
-    let number = was.counts (begun_clean g.S.Store c.args.conn.now _ c.transaction-tx.ensures.begun (was_clean _ _ _ c.prepare.ensures.frame.survives before)) in
+    let number = was.counts
+    (begun_clean g.S.Store c.args.conn.now _ c.transaction-tx.ensures.begun (was_clean _ _ _ c.prepare.ensures.frame.survives before)) in
     c.in-Err.ensures.frame.cause before _
     (read_stores g.S.Store c.args.conn.now _ c.transaction-tx.ensures.begun _ _ c.prepare.ensures.frame.survives back _ was.whole (search rules)) number
 

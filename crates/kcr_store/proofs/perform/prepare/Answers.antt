@@ -1,6 +1,6 @@
 use Rattle.kcr_history.specs.Tables.{tables}
 use Rattle.kcr_rows.proofs.InsideLemmas.{was_clean}
-use Rattle.kcr_cells.proofs.FrameLemmas.{within_then, within_to, within_fails}
+use Rattle.kcr_rows.proofs.FrameLemmas.{within_then, within_to, within_fails}
 use Rattle.kcr_store.proofs.StoreLemmas.{steps, next_stores, fault_steps}
 use Rattle.kcr_store.proofs.perform.prepare.Goals as goal
 

@@ -6,7 +6,7 @@ use Rattle.kcr_history.specs.declared.views.Change.{Change}
 use Rattle.kcr_tables.specs.Held.{Tables, Holds}
 use Rattle.kcr_tables.specs.Changed.{changed, changed_all}
 use Rattle.kcr_rows.proofs.InsideLemmas.{was_clean}
-use Rattle.kcr_cells.proofs.FrameLemmas.{within_then}
+use Rattle.kcr_rows.proofs.FrameLemmas.{within_then}
 use Rattle.kcr_tables.proofs.HoldLemmas.{held_of}
 use Rattle.kcr_tables.proofs.JointLemmas.{changes_hold}
 use Rattle.kcr_tables.proofs.changes.make_changes.Goals as goal
@@ -27,13 +27,15 @@ loop-change-preserved g c =
           let was = had.built (was_clean mid new _ step.frame.survives clean) t held in
           let low : i < length changes = search rules in
           let at : get_or changes i item ≡ item = search rules in
-          let more = fold_more (λ (held : Tables) (x : Change). changed x held) t changes i item low ∙ ap (λ (x : Change). changed x (changed_all (Rattle.std.proofs.Common.take i changes) t)) at in
+          let more = fold_more (λ (held : Tables) (x : Change). changed x held) t changes i item low
+          ∙ ap (λ (x : Change). changed x (changed_all (Rattle.std.proofs.Common.take i changes) t)) at in
           subst (Holds new.now) (sym more) (step.holds clean _ was);
     }
 
 pub returns-clause-holds : goal.returns-clause-holds
 returns-clause-holds g c clean t held =
-    subst (λ l. Holds (state g.S.Store c.loop-change.tx.conn.now).now (changed_all l t)) (take_all c.loop-change.change-index c.args.changes.now (omega arith)) (c.loop-change.invariant.built clean t held)
+    subst (λ l. Holds (state g.S.Store c.loop-change.tx.conn.now).now (changed_all l t)) (take_all c.loop-change.change-index c.args.changes.now (omega arith))
+    (c.loop-change.invariant.built clean t held)
 
 pub returns-clause-tables : goal.returns-clause-tables
 returns-clause-tables g c clean m h =

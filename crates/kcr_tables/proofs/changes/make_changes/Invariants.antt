@@ -2,7 +2,7 @@ use Rattle.std.proofs.Common.{◌≡◌, Ok, take}
 use Rattle.sqlite.specs.Held.{state}
 use Rattle.sqlite.specs.State.{HasCleanDisk}
 use Rattle.kcr_rows.specs.Refusals.{IsFault}
-use Rattle.kcr_cells.specs.Frame.{StaysWithin}
+use Rattle.kcr_rows.specs.Frame.{StaysWithin}
 use Rattle.kcr_tables.specs.Held.{Tables, Holds}
 use Rattle.kcr_tables.specs.Changed.{changed_all}
 use Rattle.kcr_tables.proofs.changes.make_changes.Given as goal

@@ -3,7 +3,7 @@ use Rattle.sqlite.specs.Held.{state}
 use Rattle.sqlite.specs.State.{HasCleanDisk}
 use Rattle.kcr_tables.specs.Held.{Tables, Holds}
 use Rattle.kcr_rows.proofs.InsideLemmas.{was_clean}
-use Rattle.kcr_cells.proofs.FrameLemmas.{within_then, within_fails}
+use Rattle.kcr_rows.proofs.FrameLemmas.{within_then, within_fails}
 use Rattle.kcr_tables.proofs.SafeLemmas.{first_is}
 use Rattle.kcr_tables.proofs.creation.make_rows.Goals as goal
 

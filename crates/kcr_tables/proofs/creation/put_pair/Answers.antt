@@ -1,7 +1,7 @@
 use Rattle.sqlite.specs.Held.{state}
 use Rattle.sqlite.specs.State.{HasCleanDisk}
 use Rattle.kcr_rows.proofs.InsideLemmas.{was_clean}
-use Rattle.kcr_cells.proofs.FrameLemmas.{within_then}
+use Rattle.kcr_rows.proofs.FrameLemmas.{within_then}
 use Rattle.kcr_tables.proofs.creation.put_pair.Goals as goal
 
 pub returns-clause-holds : goal.returns-clause-holds

@@ -1,7 +1,7 @@
 use Rattle.std.proofs.Common.{map}
 use Rattle.sqlite.specs.Held.{state}
 use Rattle.kcr_rows.proofs.FailLemmas.{if_ok}
-use Rattle.kcr_cells.specs.Rows.{key_row}
+use Rattle.kcr_rows.specs.Rows.{key_row}
 use Rattle.kcr_tables.proofs.FrameLemmas.{reads_by}
 use Rattle.kcr_tables.proofs.LastLemmas.{key_sql, key_plain, last_key, key_exact}
 use Rattle.kcr_tables.proofs.last.last_key_row.Goals as goal

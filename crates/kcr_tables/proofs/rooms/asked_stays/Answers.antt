@@ -1,5 +1,5 @@
 use Rattle.sqlite.specs.Held.{state}
-use Rattle.kcr_cells.specs.Rows.{stay_row}
+use Rattle.kcr_rows.specs.Rows.{stay_row}
 use Rattle.kcr_tables.specs.Exact.{is_stay_row}
 use Rattle.kcr_tables.specs.Held.{stays_place}
 use Rattle.kcr_tables.proofs.ExactLemmas.{all_asked}
@@ -7,4 +7,5 @@ use Rattle.kcr_tables.proofs.rooms.asked_stays.Goals as goal
 
 pub returns-in-All-clause-exact : goal.returns-in-All-clause-exact
 returns-in-All-clause-exact g c clean has =
-    all_asked stay_row stays_place is_stay_row c.args.asked.now (state g.S.Store c.args.tx.now.conn.now).now.trees c.in-All.is c.all_rows.result (c.all_rows.ensures.exact clean has)
+    all_asked stay_row stays_place is_stay_row c.args.asked.now (state g.S.Store c.args.tx.now.conn.now).now.trees c.in-All.is c.all_rows.result
+    (c.all_rows.ensures.exact clean has)

@@ -2,7 +2,7 @@ use Rattle.std.proofs.Common.{◌≡◌, Ok, take, filter}
 use Rattle.sqlite.specs.Held.{state}
 use Rattle.sqlite.specs.State.{HasCleanDisk}
 use Rattle.kcr_tables.specs.Frame.{Reads}
-use Rattle.kcr_cells.specs.Rows.{stay_row}
+use Rattle.kcr_rows.specs.Rows.{stay_row}
 use Rattle.kcr_tables.specs.Exact.{rows_at, is_stay_row, AreShown}
 use Rattle.kcr_tables.specs.Schema.{register_schema}
 use Rattle.kcr_tables.specs.Held.{stays_place, Tables, Holds}
@@ -16,5 +16,6 @@ invariant-loop-who g l =
       same_reference : l.tx.conn.ghost_name ≡ l.fn.tx.conn.ghost_name;
       frame : Reads {A = Unit {0}} old now (Ok tt);
       rows : HasCleanDisk now → (t : Tables) → Holds old.now t → Gathered l.asked.ceremony (take l.who-index l.people) t.stays l.rows.items;
-      exact : HasCleanDisk now → old.now.schema ≡ register_schema → AreShown stay_row l.rows.items (filter (is_stay_row l.asked) (rows_at stays_place old.now.trees));
+      exact : HasCleanDisk now → old.now.schema ≡ register_schema
+          → AreShown stay_row l.rows.items (filter (is_stay_row l.asked) (rows_at stays_place old.now.trees));
     }

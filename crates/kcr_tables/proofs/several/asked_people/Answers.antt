@@ -2,7 +2,7 @@ use Rattle.std.proofs.Common.{List, ℕ, IfOk, sym, subst, filter, IsPermutation
 use Rattle.kcr_history.specs.Views.{is_of_people, Shows}
 use Rattle.kcr_history.specs.declared.views.Selection.{Selection}
 use Rattle.sqlite.specs.Held.{state}
-use Rattle.kcr_cells.specs.Rows.{person_row}
+use Rattle.kcr_rows.specs.Rows.{person_row}
 use Rattle.kcr_tables.specs.Exact.{rows_at, has_any, AreShown, AskedAreShown}
 use Rattle.kcr_tables.specs.Held.{people_place}
 use Rattle.kcr_tables.proofs.ExactLemmas.{all_asked}
@@ -14,14 +14,18 @@ pub returns-in-Under-clause-rows : goal.returns-in-Under-clause-rows
 returns-in-Under-clause-rows g c clean t held =
     subst (λ (q : Selection (List (List ℕ))). IfOk c.rows_named.result (λ all. Shows is_of_people q t.people all.items)) (sym c.in-Under.is)
     (if_ok _ _ (λ all so. passing (is_of_people c.in-Under.people) t.people all.items so) c.rows_named.result
-    (subst (λ (ks : List (List ℕ)). IfOk c.rows_named.result (λ all. IsPermutation (filter (is_of_people ks) t.people) all.items)) c.as_slice.ensures (c.rows_named.ensures.rows clean t held)))
+    (subst (λ (ks : List (List ℕ)). IfOk c.rows_named.result (λ all. IsPermutation (filter (is_of_people ks) t.people) all.items)) c.as_slice.ensures
+    (c.rows_named.ensures.rows clean t held)))
 
 pub returns-in-Under-clause-exact : goal.returns-in-Under-clause-exact
 returns-in-Under-clause-exact g c clean has =
     let db = (state g.S.Store c.args.tx.now.conn.now).now.trees in
-    subst (λ (q : Selection (List (List ℕ))). IfOk c.rows_named.result (λ all. AskedAreShown person_row people_place (has_any 0) q all.items db)) (sym c.in-Under.is)
-    (subst (λ (ks : List (List ℕ)). IfOk c.rows_named.result (λ all. AreShown person_row all.items (filter (has_any 0 ks) (rows_at people_place db)))) c.as_slice.ensures (c.rows_named.ensures.exact clean has))
+    subst (λ (q : Selection (List (List ℕ))). IfOk c.rows_named.result (λ all. AskedAreShown person_row people_place (has_any 0) q all.items db))
+    (sym c.in-Under.is)
+    (subst (λ (ks : List (List ℕ)). IfOk c.rows_named.result (λ all. AreShown person_row all.items (filter (has_any 0 ks) (rows_at people_place db))))
+    c.as_slice.ensures (c.rows_named.ensures.exact clean has))
 
 pub returns-in-All-clause-exact : goal.returns-in-All-clause-exact
 returns-in-All-clause-exact g c clean has =
-    all_asked person_row people_place (has_any 0) c.args.asked.now (state g.S.Store c.args.tx.now.conn.now).now.trees c.in-All.is c.all_rows.result (c.all_rows.ensures.exact clean has)
+    all_asked person_row people_place (has_any 0) c.args.asked.now (state g.S.Store c.args.tx.now.conn.now).now.trees c.in-All.is c.all_rows.result
+    (c.all_rows.ensures.exact clean has)

@@ -14,7 +14,8 @@ pub loop-at-init : goal.loop-at-init
 loop-at-init g c = record {
   same_reference = refl;
   frame = reads_none (state g.S.Store c.args.tx.now.conn.now) tt (search rules);
-  rows = λ clean t held. subst (IsPermutation (filter (is_under_any g.T.Finds.finding.is_under []) (g.T.Listed.table.rows_in t))) (sym c.new-rows.ensures.items) (none_named g.T.Finds.finding.is_under (g.T.Listed.table.rows_in t));
+  rows = λ clean t held. subst (IsPermutation (filter (is_under_any g.T.Finds.finding.is_under []) (g.T.Listed.table.rows_in t)))
+      (sym c.new-rows.ensures.items) (none_named g.T.Finds.finding.is_under (g.T.Listed.table.rows_in t));
   exact = λ clean has. tt;
 }
 
@@ -42,30 +43,36 @@ loop-at-preserved g c =
       rows = λ clean t held.
           let before = was_clean mid new _ step.frame.within.survives clean in
           subst₂ (λ ks l. IsPermutation (filter (is_under_any is_under ks) (T.rows_in t)) l) (sym more) (sym c.in_ok-append.ensures.items)
-          (named_more same is_under laws.apart (take i keys) key (T.rows_in t) c.loop-at.rows.items found (had.rows before t held) (step.rows clean t (had.frame.holds before t held)));
+          (named_more same is_under laws.apart (take i keys) key (T.rows_in t) c.loop-at.rows.items found (had.rows before t held)
+          (step.rows clean t (had.frame.holds before t held)));
       exact = λ clean has.
           let before = was_clean mid new _ step.frame.within.survives clean in
           let rows = rows_at T.place old.now.trees in
           subst₂ (λ l ks. EachAreShown g.T.Stored.row_of under rows l ks) (sym c.in_ok-append.ensures.items) (sym more)
           (each_next g.T.Stored.row_of under rows same laws.one (take i keys) key c.loop-at.rows.items found (had.exact before has)
-          (read_later (λ (db : Trees). AreShown g.T.Stored.row_of found (asked_once same under key (take i keys) (rows_at T.place db))) old mid tt had.frame before has (step.exact clean)));
+          (read_later (λ (db : Trees). AreShown g.T.Stored.row_of found (asked_once same under key (take i keys) (rows_at T.place db))) old mid tt had.frame
+          before has (step.exact clean)));
     }
 
 pub returns-in_err-found-clause-frame : goal.returns-in_err-found-clause-frame
 returns-in_err-found-clause-frame g c =
-    reads_then (state g.S.Store c.args.tx.now.conn.now) (state g.S.Store c.loop-at.tx.conn.now) (state g.S.Store c.rows_once.new.tx.conn.now) tt _ c.loop-at.invariant.frame (reads_fails _ _ _ _ c.from_residual.ensures.1 c.in_err-found.ensures.frame)
+    reads_then (state g.S.Store c.args.tx.now.conn.now) (state g.S.Store c.loop-at.tx.conn.now)
+    (state g.S.Store c.rows_once.new.tx.conn.now) tt _ c.loop-at.invariant.frame
+    (reads_fails _ _ _ _ c.from_residual.ensures.1 c.in_err-found.ensures.frame)
 
 pub returns-in_err-append-clause-frame : goal.returns-in_err-append-clause-frame
 returns-in_err-append-clause-frame g c =
     let old = state g.S.Store c.args.tx.now.conn.now in
     let new = state g.S.Store c.rows_once.new.tx.conn.now in
-    reads_to old new c.in_ok-found.found _ (search rules) (reads_then old (state g.S.Store c.loop-at.tx.conn.now) new tt _ c.loop-at.invariant.frame c.in_ok-found.ensures.frame)
+    reads_to old new c.in_ok-found.found _ (search rules)
+    (reads_then old (state g.S.Store c.loop-at.tx.conn.now) new tt _ c.loop-at.invariant.frame c.in_ok-found.ensures.frame)
 
 pub returns-clause-rows : goal.returns-clause-rows
 returns-clause-rows g c clean t held =
     let keys = c.args.keys.now in
     let all : length keys ≤ c.loop-at.at = omega arith in
-    subst (λ ks. IsPermutation (filter (is_under_any g.T.Finds.finding.is_under ks) (g.T.Listed.table.rows_in t)) c.loop-at.rows.items) (take_all c.loop-at.at keys all) (c.loop-at.invariant.rows clean t held)
+    subst (λ ks. IsPermutation (filter (is_under_any g.T.Finds.finding.is_under ks) (g.T.Listed.table.rows_in t)) c.loop-at.rows.items)
+    (take_all c.loop-at.at keys all) (c.loop-at.invariant.rows clean t held)
 
 pub returns-clause-exact : goal.returns-clause-exact
 returns-clause-exact g c clean has =
@@ -73,7 +80,8 @@ returns-clause-exact g c clean has =
     let under = has_key g.T.Finds.finding.column g.K.AsCell.value_of in
     let rows = rows_at g.T.Listed.table.place (state g.S.Store c.args.tx.now.conn.now).now.trees in
     let all : length keys ≤ c.loop-at.at = omega arith in
-    each_any g.T.Stored.row_of under rows c.loop-at.rows.items keys (subst (EachAreShown g.T.Stored.row_of under rows c.loop-at.rows.items) (take_all c.loop-at.at keys all) (c.loop-at.invariant.exact clean has))
+    each_any g.T.Stored.row_of under rows c.loop-at.rows.items keys
+    (subst (EachAreShown g.T.Stored.row_of under rows c.loop-at.rows.items) (take_all c.loop-at.at keys all) (c.loop-at.invariant.exact clean has))
 
 pub returns-clause-frame : goal.returns-clause-frame
 returns-clause-frame g c = reads_to (state g.S.Store c.args.tx.now.conn.now) (state g.S.Store c.loop-at.tx.conn.now) tt _ tt c.loop-at.invariant.frame

@@ -15,7 +15,9 @@ invariant-loop-at g l =
     let now = state g.S.Store l.tx.conn.now in record {
       same_reference : l.tx.conn.ghost_name ≡ l.fn.tx.conn.ghost_name;
       frame : Reads {A = Unit {0}} old now (Ok tt);
-      rows : HasCleanDisk now → (t : Tables) → Holds old.now t → IsPermutation (filter (is_under_any g.T.Finds.finding.is_under (take l.at l.keys)) (g.T.Listed.table.rows_in t)) l.rows.items;
+      rows : HasCleanDisk now → (t : Tables) → Holds old.now t
+          → IsPermutation (filter (is_under_any g.T.Finds.finding.is_under (take l.at l.keys)) (g.T.Listed.table.rows_in t)) l.rows.items;
       exact : HasCleanDisk now → old.now.schema ≡ register_schema
-          → EachAreShown g.T.Stored.row_of (has_key g.T.Finds.finding.column g.K.AsCell.value_of) (rows_at g.T.Listed.table.place old.now.trees) l.rows.items (take l.at l.keys);
+          → EachAreShown g.T.Stored.row_of (has_key g.T.Finds.finding.column g.K.AsCell.value_of) (rows_at g.T.Listed.table.place old.now.trees) l.rows.items
+          (take l.at l.keys);
     }

@@ -18,9 +18,11 @@ returns-clause-rows g c clean t held =
     let value = g.K.AsCell.value_of key in
     let old = state g.S.Store c.args.tx.now.conn.now in
     let new = state g.S.Store c.rows_of.new.tx.conn.now in
-    let shown = subst₂ (λ (sql : List ℕ) (v : Row). IfOk c.rows_of.result (λ all. Shown sql v old new (map g.T.Stored.row_of all.items))) c.find_text.ensures (λ i. c.cell.ensures i ∷ []) (c.rows_of.ensures.shown clean) in
+    let shown = subst₂ (λ (sql : List ℕ) (v : Row). IfOk c.rows_of.result (λ all. Shown sql v old new (map g.T.Stored.row_of all.items))) c.find_text.ensures
+    (λ i. c.cell.ensures i ∷ []) (c.rows_of.ensures.shown clean) in
     if_both _ _ _ (λ all h read.
-    rows_shown g.T.Finds.finding.find_sql T.place (value ∷ []) (has_value g.T.Finds.finding.column value) (g.met.T.Finds.finding_laws.finds key) g.T.Stored.row_of g.T.Stored.is_read T.is_stored laws.one
+    rows_shown g.T.Finds.finding.find_sql T.place (value ∷ []) (has_value g.T.Finds.finding.column value)
+    (g.met.T.Finds.finding_laws.finds key) g.T.Stored.row_of g.T.Stored.is_read T.is_stored laws.one
     (g.T.Finds.finding.is_under key) (g.met.T.Finds.finding_laws.under key) old new all.items held.schema
     h read (T.rows_in t) (laws.stores old.now.trees t held.kept) (laws.keeps old.now.trees t held.kept)) c.rows_of.result shown c.rows_of.ensures.read
 
@@ -31,11 +33,15 @@ returns-clause-exact g c clean has =
     let value = g.K.AsCell.value_of key in
     let old = state g.S.Store c.args.tx.now.conn.now in
     let new = state g.S.Store c.rows_of.new.tx.conn.now in
-    let shown = subst₂ (λ (sql : List ℕ) (v : Row). IfOk c.rows_of.result (λ all. Shown sql v old new (map g.T.Stored.row_of all.items))) c.find_text.ensures (λ i. c.cell.ensures i ∷ []) (c.rows_of.ensures.shown clean) in
-    if_ok _ _ (λ all h. every_row g.T.Finds.finding.find_sql T.place (value ∷ []) (has_value g.T.Finds.finding.column value) (g.met.T.Finds.finding_laws.finds key) g.T.Stored.row_of old new all.items has h) c.rows_of.result shown
+    let shown = subst₂ (λ (sql : List ℕ) (v : Row). IfOk c.rows_of.result (λ all. Shown sql v old new (map g.T.Stored.row_of all.items))) c.find_text.ensures
+    (λ i. c.cell.ensures i ∷ []) (c.rows_of.ensures.shown clean) in
+    if_ok _ _ (λ all h. every_row g.T.Finds.finding.find_sql T.place (value ∷ []) (has_value g.T.Finds.finding.column value)
+    (g.met.T.Finds.finding_laws.finds key) g.T.Stored.row_of old new all.items has h) c.rows_of.result shown
 
 pub returns-clause-frame : goal.returns-clause-frame
 returns-clause-frame g c =
     let old = state g.S.Store c.args.tx.now.conn.now in
     let new = state g.S.Store c.rows_of.new.tx.conn.now in
-    reads_by g.T.Finds.finding.find_sql old new c.rows_of.result (g.met.T.Finds.finding_laws.finds c.args.key.now).bare (subst (λ (sql : List ℕ). HasCleanDisk new → IsPlain (understood old.now.schema sql) → OnOk c.rows_of.result (IsUnchanged old new)) c.find_text.ensures c.rows_of.ensures.same) c.rows_of.ensures.frame
+    reads_by g.T.Finds.finding.find_sql old new c.rows_of.result (g.met.T.Finds.finding_laws.finds c.args.key.now).bare
+    (subst (λ (sql : List ℕ). HasCleanDisk new → IsPlain (understood old.now.schema sql) → OnOk c.rows_of.result (IsUnchanged old new)) c.find_text.ensures
+    c.rows_of.ensures.same) c.rows_of.ensures.frame

@@ -2,7 +2,7 @@ use Rattle.std.proofs.Common.{rules}
 use Rattle.sqlite.specs.Held.{state}
 use Rattle.sqlite.specs.State.{HasCleanDisk}
 use Rattle.kcr_rows.proofs.InsideLemmas.{was_clean}
-use Rattle.kcr_cells.specs.Rows.{mark_row, step_row, exception_row, stay_row}
+use Rattle.kcr_rows.specs.Rows.{mark_row, step_row, exception_row, stay_row}
 use Rattle.kcr_tables.specs.Exact.{has_number, is_stay_row, AskedAreShown}
 use Rattle.kcr_tables.specs.Held.{marks_place, steps_place, exceptions_place, stays_place}
 use Rattle.kcr_tables.proofs.FrameLemmas.{reads_on, fails_as, reads_then, reads_to, read_later}
@@ -15,13 +15,18 @@ pub returns-in_err-marks-clause-frame : goal.returns-in_err-marks-clause-frame
 returns-in_err-marks-clause-frame g c = reads_on c.in_ok-ceremonies.ensures.frame (fails_as c.from_residual-in_err-marks.ensures.1 c.in_err-marks.ensures.frame)
 
 pub returns-in_err-steps-clause-frame : goal.returns-in_err-steps-clause-frame
-returns-in_err-steps-clause-frame g c = reads_on (reads_on c.in_ok-ceremonies.ensures.frame c.in_ok-marks.ensures.frame) (fails_as c.from_residual-in_err-steps.ensures.1 c.in_err-steps.ensures.frame)
+returns-in_err-steps-clause-frame g c = reads_on (reads_on c.in_ok-ceremonies.ensures.frame c.in_ok-marks.ensures.frame)
+    (fails_as c.from_residual-in_err-steps.ensures.1 c.in_err-steps.ensures.frame)
 
 pub returns-in_err-exceptions-clause-frame : goal.returns-in_err-exceptions-clause-frame
-returns-in_err-exceptions-clause-frame g c = reads_on (reads_on (reads_on c.in_ok-ceremonies.ensures.frame c.in_ok-marks.ensures.frame) c.in_ok-steps.ensures.frame) (fails_as c.from_residual-in_err-exceptions.ensures.1 c.in_err-exceptions.ensures.frame)
+returns-in_err-exceptions-clause-frame g c = reads_on
+    (reads_on (reads_on c.in_ok-ceremonies.ensures.frame c.in_ok-marks.ensures.frame) c.in_ok-steps.ensures.frame)
+    (fails_as c.from_residual-in_err-exceptions.ensures.1 c.in_err-exceptions.ensures.frame)
 
 pub returns-in_err-stays-clause-frame : goal.returns-in_err-stays-clause-frame
-returns-in_err-stays-clause-frame g c = reads_on (reads_on (reads_on (reads_on c.in_ok-ceremonies.ensures.frame c.in_ok-marks.ensures.frame) c.in_ok-steps.ensures.frame) c.in_ok-exceptions.ensures.frame) (fails_as c.from_residual-in_err-stays.ensures.1 c.in_err-stays.ensures.frame)
+returns-in_err-stays-clause-frame g c = reads_on
+    (reads_on (reads_on (reads_on c.in_ok-ceremonies.ensures.frame c.in_ok-marks.ensures.frame) c.in_ok-steps.ensures.frame) c.in_ok-exceptions.ensures.frame)
+    (fails_as c.from_residual-in_err-stays.ensures.1 c.in_err-stays.ensures.frame)
 
 pub returns : goal.returns
 returns g c =
@@ -48,10 +53,15 @@ returns g c =
       exact = λ clean has.
           let asks = c.args.asks.now in record {
             ceremonies_are = c.in_ok-ceremonies.ensures.exact (clean0 clean) has;
-            marks_are = read_later (AskedAreShown mark_row marks_place (has_number 0) asks.marks c.in_ok-marks.marks.items) old s0 _ to0 (clean0 clean) has (c.in_ok-marks.ensures.exact (clean1 clean));
-            steps_are = read_later (AskedAreShown step_row steps_place (has_number 0) asks.steps c.in_ok-steps.steps.items) old s1 _ to1 (clean1 clean) has (c.in_ok-steps.ensures.exact (clean2 clean));
-            exceptions_are = read_later (AskedAreShown exception_row exceptions_place (has_number 0) asks.exceptions c.in_ok-exceptions.exceptions.items) old s2 _ to2 (clean2 clean) has (c.in_ok-exceptions.ensures.exact (clean3 clean));
-            stays_are = read_later (AskedAreShown stay_row stays_place is_stay_row asks.stays c.in_ok-stays.stays.items) old s3 _ to3 (clean3 clean) has (c.in_ok-stays.ensures.exact clean);
+            marks_are = read_later (AskedAreShown mark_row marks_place (has_number 0) asks.marks c.in_ok-marks.marks.items) old s0 _ to0 (clean0 clean) has
+                (c.in_ok-marks.ensures.exact (clean1 clean));
+            steps_are = read_later (AskedAreShown step_row steps_place (has_number 0) asks.steps c.in_ok-steps.steps.items) old s1 _ to1 (clean1 clean) has
+                (c.in_ok-steps.ensures.exact (clean2 clean));
+            exceptions_are = read_later
+                (AskedAreShown exception_row exceptions_place (has_number 0) asks.exceptions c.in_ok-exceptions.exceptions.items) old s2 _ to2
+                (clean2 clean) has (c.in_ok-exceptions.ensures.exact (clean3 clean));
+            stays_are = read_later (AskedAreShown stay_row stays_place is_stay_row asks.stays c.in_ok-stays.stays.items) old s3 _ to3 (clean3 clean) has
+                (c.in_ok-stays.ensures.exact clean);
           };
       frame = reads_to old s4 _ _ tt (reads_then old s3 s4 _ _ to3 c.in_ok-stays.ensures.frame);
     }

@@ -2,7 +2,7 @@ use Rattle.std.proofs.Common.{rules}
 use Rattle.sqlite.specs.Held.{state}
 use Rattle.sqlite.specs.State.{HasCleanDisk}
 use Rattle.kcr_rows.proofs.InsideLemmas.{was_clean}
-use Rattle.kcr_cells.specs.Rows.{safe_row, bag_row, item_row}
+use Rattle.kcr_rows.specs.Rows.{safe_row, bag_row, item_row}
 use Rattle.kcr_tables.specs.Exact.{has_text, is_item_row, AskedAreShown, WholeIsShown}
 use Rattle.kcr_tables.specs.Held.{safes_place, bags_place, items_place}
 use Rattle.kcr_tables.proofs.FrameLemmas.{reads_on, fails_as, reads_then, reads_to, read_later}
@@ -15,10 +15,12 @@ pub returns-in_err-safes-clause-frame : goal.returns-in_err-safes-clause-frame
 returns-in_err-safes-clause-frame g c = reads_on c.in_ok-boxes.ensures.frame (fails_as c.from_residual-in_err-safes.ensures.1 c.in_err-safes.ensures.frame)
 
 pub returns-in_err-bags-clause-frame : goal.returns-in_err-bags-clause-frame
-returns-in_err-bags-clause-frame g c = reads_on (reads_on c.in_ok-boxes.ensures.frame c.in_ok-safes.ensures.frame) (fails_as c.from_residual-in_err-bags.ensures.1 c.in_err-bags.ensures.frame)
+returns-in_err-bags-clause-frame g c = reads_on (reads_on c.in_ok-boxes.ensures.frame c.in_ok-safes.ensures.frame)
+    (fails_as c.from_residual-in_err-bags.ensures.1 c.in_err-bags.ensures.frame)
 
 pub returns-in_err-items-clause-frame : goal.returns-in_err-items-clause-frame
-returns-in_err-items-clause-frame g c = reads_on (reads_on (reads_on c.in_ok-boxes.ensures.frame c.in_ok-safes.ensures.frame) c.in_ok-bags.ensures.frame) (fails_as c.from_residual-in_err-items.ensures.1 c.in_err-items.ensures.frame)
+returns-in_err-items-clause-frame g c = reads_on (reads_on (reads_on c.in_ok-boxes.ensures.frame c.in_ok-safes.ensures.frame) c.in_ok-bags.ensures.frame)
+    (fails_as c.from_residual-in_err-items.ensures.1 c.in_err-items.ensures.frame)
 
 pub returns : goal.returns
 returns g c =
@@ -41,9 +43,12 @@ returns g c =
       exact = λ clean has.
           let asks = c.args.asks.now in record {
             boxes_are = c.in_ok-boxes.ensures.exact (clean0 clean) has;
-            safes_are = read_later (WholeIsShown safe_row safes_place asks.safes c.in_ok-safes.safes.items) old s0 _ to0 (clean0 clean) has (c.in_ok-safes.ensures.exact (clean1 clean));
-            bags_are = read_later (AskedAreShown bag_row bags_place (has_text 0) asks.bags c.in_ok-bags.bags.items) old s1 _ to1 (clean1 clean) has (c.in_ok-bags.ensures.exact (clean2 clean));
-            items_are = read_later (AskedAreShown item_row items_place is_item_row asks.items c.in_ok-items.items.items) old s2 _ to2 (clean2 clean) has (c.in_ok-items.ensures.exact clean);
+            safes_are = read_later (WholeIsShown safe_row safes_place asks.safes c.in_ok-safes.safes.items) old s0 _ to0 (clean0 clean) has
+                (c.in_ok-safes.ensures.exact (clean1 clean));
+            bags_are = read_later (AskedAreShown bag_row bags_place (has_text 0) asks.bags c.in_ok-bags.bags.items) old s1 _ to1 (clean1 clean) has
+                (c.in_ok-bags.ensures.exact (clean2 clean));
+            items_are = read_later (AskedAreShown item_row items_place is_item_row asks.items c.in_ok-items.items.items) old s2 _ to2 (clean2 clean) has
+                (c.in_ok-items.ensures.exact clean);
           };
       frame = reads_to old s3 _ _ tt (reads_then old s2 s3 _ _ to2 c.in_ok-items.ensures.frame);
     }

@@ -1,9 +1,11 @@
 use Rattle.std.proofs.Common.{rules}
 use Rattle.sqlite.specs.Held.{state}
 use Rattle.sqlite.specs.State.{HasCleanDisk}
-use Rattle.kcr_history.specs.Views.{is_of_people, is_training_of, is_withdrawal_of, is_appointment_of, is_of_serial, is_item_of, is_of_number, is_mark_of, is_step_of, is_exception_of}
+use Rattle.kcr_history.specs.Views.{is_of_people, is_training_of, is_withdrawal_of, is_of_serial, is_item_of, is_of_number, is_mark_of}
+use Rattle.kcr_history.specs.Views.{is_step_of, is_exception_of}
 use Rattle.kcr_rows.proofs.InsideLemmas.{was_clean}
 use Rattle.kcr_tables.specs.Exact.{CustodyIsShown, CeremoniesAreShown}
+use Rattle.kcr_tables.proofs.AppointmentLemmas.{appointments_shown}
 use Rattle.kcr_tables.proofs.FrameLemmas.{reads_on, fails_as, reads_then, reads_to, read_later}
 use Rattle.kcr_tables.proofs.HoldLemmas.{held_of}
 use Rattle.kcr_tables.proofs.StayLemmas.{stays_shown, apart_of}
@@ -14,10 +16,12 @@ pub returns-in_err-staff-clause-frame : goal.returns-in_err-staff-clause-frame
 returns-in_err-staff-clause-frame g c = fails_as c.from_residual.ensures.1 c.in_err-staff.ensures.frame
 
 pub returns-in_err-custody-clause-frame : goal.returns-in_err-custody-clause-frame
-returns-in_err-custody-clause-frame g c = reads_on c.in_ok-staff.ensures.frame (fails_as c.from_residual-in_err-custody.ensures.1 c.in_err-custody.ensures.frame)
+returns-in_err-custody-clause-frame g c = reads_on c.in_ok-staff.ensures.frame
+    (fails_as c.from_residual-in_err-custody.ensures.1 c.in_err-custody.ensures.frame)
 
 pub returns-in_err-ceremony-clause-frame : goal.returns-in_err-ceremony-clause-frame
-returns-in_err-ceremony-clause-frame g c = reads_on (reads_on c.in_ok-staff.ensures.frame c.in_ok-custody.ensures.frame) (fails_as c.from_residual-in_err-ceremony.ensures.1 c.in_err-ceremony.ensures.frame)
+returns-in_err-ceremony-clause-frame g c = reads_on (reads_on c.in_ok-staff.ensures.frame c.in_ok-custody.ensures.frame)
+    (fails_as c.from_residual-in_err-ceremony.ensures.1 c.in_err-ceremony.ensures.frame)
 
 pub returns : goal.returns
 returns g c =
@@ -43,7 +47,7 @@ returns g c =
             people = shows_on is_of_people asks.people m.people t.people _ s.people (staff.people (clean1 clean) t held);
             trainings = asked_shows is_training_of asks.trainings m.trainings t.trainings _ s.trainings (staff.trainings (clean1 clean) t held);
             withdrawals = asked_shows is_withdrawal_of asks.withdrawals m.withdrawals t.withdrawals _ s.withdrawals (staff.withdrawals (clean1 clean) t held);
-            appointments = asked_shows is_appointment_of asks.appointments m.appointments t.appointments _ s.appointments (staff.appointments (clean1 clean) t held);
+            appointments = appointments_shown asks.appointments m.appointments t.appointments _ s.appointments (staff.appointments (clean1 clean) t held);
             boxes = all_shows asks.boxes m.boxes t.boxes _ s.boxes (custody.boxes (clean2 clean) t held2);
             safes = all_shows asks.safes m.safes t.safes _ s.safes (custody.safes (clean2 clean) t held2);
             bags = asked_shows is_of_serial asks.bags m.bags t.bags _ s.bags (custody.bags (clean2 clean) t held2);
@@ -58,8 +62,13 @@ returns g c =
       exact = λ clean has.
           let asks = c.args.asks.now in record {
             staff = c.in_ok-staff.ensures.exact (clean1 clean) has;
-            custody = read_later (CustodyIsShown asks c.in_ok-custody.custody.boxes.items c.in_ok-custody.custody.safes.items c.in_ok-custody.custody.bags.items c.in_ok-custody.custody.items.items) old s1 _ to1 (clean1 clean) has (c.in_ok-custody.ensures.exact (clean2 clean));
-            ceremonies = read_later (CeremoniesAreShown asks c.in_ok-ceremony.ceremony.ceremonies.items c.in_ok-ceremony.ceremony.marks.items c.in_ok-ceremony.ceremony.steps.items c.in_ok-ceremony.ceremony.exceptions.items c.in_ok-ceremony.ceremony.stays.items) old s2 _ to2 (clean2 clean) has (c.in_ok-ceremony.ensures.exact clean);
+            custody = read_later
+                (CustodyIsShown asks c.in_ok-custody.custody.boxes.items c.in_ok-custody.custody.safes.items c.in_ok-custody.custody.bags.items
+                c.in_ok-custody.custody.items.items) old s1 _ to1 (clean1 clean) has (c.in_ok-custody.ensures.exact (clean2 clean));
+            ceremonies = read_later
+                (CeremoniesAreShown asks c.in_ok-ceremony.ceremony.ceremonies.items c.in_ok-ceremony.ceremony.marks.items c.in_ok-ceremony.ceremony.steps.items
+                c.in_ok-ceremony.ceremony.exceptions.items c.in_ok-ceremony.ceremony.stays.items) old s2 _ to2 (clean2 clean) has
+                (c.in_ok-ceremony.ensures.exact clean);
           };
       frame = reads_to old s3 _ _ tt (reads_then old s2 s3 _ _ to2 c.in_ok-ceremony.ensures.frame);
     }

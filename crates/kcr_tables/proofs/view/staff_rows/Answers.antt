@@ -2,9 +2,9 @@ use Rattle.std.proofs.Common.{rules}
 use Rattle.sqlite.specs.Held.{state}
 use Rattle.sqlite.specs.State.{HasCleanDisk}
 use Rattle.kcr_rows.proofs.InsideLemmas.{was_clean}
-use Rattle.kcr_cells.specs.Rows.{training_row, withdrawal_row, appointment_row}
-use Rattle.kcr_tables.specs.Exact.{has_text, is_appointment_row, AskedAreShown}
-use Rattle.kcr_tables.specs.Held.{trainings_place, withdrawals_place, appointments_place}
+use Rattle.kcr_rows.specs.Rows.{training_row, withdrawal_row}
+use Rattle.kcr_tables.specs.Exact.{has_text, AskedAreShown, AppointmentsAreShown}
+use Rattle.kcr_tables.specs.Held.{trainings_place, withdrawals_place}
 use Rattle.kcr_tables.proofs.FrameLemmas.{reads_on, fails_as, reads_then, reads_to, read_later}
 use Rattle.kcr_tables.proofs.view.staff_rows.Goals as goal
 
@@ -12,13 +12,17 @@ pub returns-in_err-people-clause-frame : goal.returns-in_err-people-clause-frame
 returns-in_err-people-clause-frame g c = fails_as c.from_residual.ensures.1 c.in_err-people.ensures.frame
 
 pub returns-in_err-trainings-clause-frame : goal.returns-in_err-trainings-clause-frame
-returns-in_err-trainings-clause-frame g c = reads_on c.in_ok-people.ensures.frame (fails_as c.from_residual-in_err-trainings.ensures.1 c.in_err-trainings.ensures.frame)
+returns-in_err-trainings-clause-frame g c = reads_on c.in_ok-people.ensures.frame
+    (fails_as c.from_residual-in_err-trainings.ensures.1 c.in_err-trainings.ensures.frame)
 
 pub returns-in_err-withdrawals-clause-frame : goal.returns-in_err-withdrawals-clause-frame
-returns-in_err-withdrawals-clause-frame g c = reads_on (reads_on c.in_ok-people.ensures.frame c.in_ok-trainings.ensures.frame) (fails_as c.from_residual-in_err-withdrawals.ensures.1 c.in_err-withdrawals.ensures.frame)
+returns-in_err-withdrawals-clause-frame g c = reads_on (reads_on c.in_ok-people.ensures.frame c.in_ok-trainings.ensures.frame)
+    (fails_as c.from_residual-in_err-withdrawals.ensures.1 c.in_err-withdrawals.ensures.frame)
 
 pub returns-in_err-appointments-clause-frame : goal.returns-in_err-appointments-clause-frame
-returns-in_err-appointments-clause-frame g c = reads_on (reads_on (reads_on c.in_ok-people.ensures.frame c.in_ok-trainings.ensures.frame) c.in_ok-withdrawals.ensures.frame) (fails_as c.from_residual-in_err-appointments.ensures.1 c.in_err-appointments.ensures.frame)
+returns-in_err-appointments-clause-frame g c = reads_on
+    (reads_on (reads_on c.in_ok-people.ensures.frame c.in_ok-trainings.ensures.frame) c.in_ok-withdrawals.ensures.frame)
+    (fails_as c.from_residual-in_err-appointments.ensures.1 c.in_err-appointments.ensures.frame)
 
 pub returns : goal.returns
 returns g c =
@@ -41,9 +45,13 @@ returns g c =
       exact = λ clean has.
           let asks = c.args.asks.now in record {
             people_are = c.in_ok-people.ensures.exact (clean0 clean) has;
-            trainings_are = read_later (AskedAreShown training_row trainings_place (has_text 0) asks.trainings c.in_ok-trainings.trainings.items) old s0 _ to0 (clean0 clean) has (c.in_ok-trainings.ensures.exact (clean1 clean));
-            withdrawals_are = read_later (AskedAreShown withdrawal_row withdrawals_place (has_text 0) asks.withdrawals c.in_ok-withdrawals.withdrawals.items) old s1 _ to1 (clean1 clean) has (c.in_ok-withdrawals.ensures.exact (clean2 clean));
-            appointments_are = read_later (AskedAreShown appointment_row appointments_place is_appointment_row asks.appointments c.in_ok-appointments.appointments.items) old s2 _ to2 (clean2 clean) has (c.in_ok-appointments.ensures.exact clean);
+            trainings_are = read_later (AskedAreShown training_row trainings_place (has_text 0) asks.trainings c.in_ok-trainings.trainings.items) old s0 _ to0
+                (clean0 clean) has (c.in_ok-trainings.ensures.exact (clean1 clean));
+            withdrawals_are = read_later
+                (AskedAreShown withdrawal_row withdrawals_place (has_text 0) asks.withdrawals c.in_ok-withdrawals.withdrawals.items) old s1 _ to1
+                (clean1 clean) has (c.in_ok-withdrawals.ensures.exact (clean2 clean));
+            appointments_are = read_later (AppointmentsAreShown asks.appointments c.in_ok-appointments.appointments.items) old s2 _ to2 (clean2 clean) has
+                (c.in_ok-appointments.ensures.exact clean);
           };
       frame = reads_to old s3 _ _ tt (reads_then old s2 s3 _ _ to2 c.in_ok-appointments.ensures.frame);
     }

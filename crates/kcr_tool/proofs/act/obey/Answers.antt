@@ -23,7 +23,8 @@ returns-in-Ok-in_memory-clause-part g c none =
     let old = g.W.Write.contents (inner_of c.args.output.now) in
     let new = g.W.Write.contents (inner_of c.perform-in-Ok-in_memory.new.output) in
     let first = c.in-Ok-in_memory.ensures.new in
-    subst (λ (A : History). OnErr c.perform-in-Ok-in_memory.result ((c.perform-in-Ok-in_memory.new.output ≡ c.args.output.now) ⊎ DoesInPart c.args.order.task A input old new)) first.1
+    subst (λ (A : History). OnErr c.perform-in-Ok-in_memory.result
+    ((c.perform-in-Ok-in_memory.new.output ≡ c.args.output.now) ⊎ DoesInPart c.args.order.task A input old new)) first.1
     (c.perform-in-Ok-in_memory.ensures.part never_in_doubt first.0 first.2)
 
 pub returns-in-Ok-in_memory-clause-nothing : goal.returns-in-Ok-in_memory-clause-nothing

@@ -16,11 +16,9 @@ loop-table-preserved g c =
     let low : i < length c.args.tables.now = search rules in
     let yes : IsTrue c.in_ok-has_table.field-0 = search rules in
     record {
-      founded = step.frame.founded;
-      torn = step.frame.torn;
+      intact = record { founded = step.frame.founded; torn = step.frame.torn; kept = step.frame.kept };
       same = step.frame.same ∙ had.same;
       clean = λ now. had.clean (step.frame.clean now);
-      kept = step.frame.kept;
       have = λ now.
           let P = λ (A : History) (table : Table). HasRows table (machine.tables A) c.args.rows.now in
           let before = subst (λ (A : History). AllByRecursion (P A) (take i c.args.tables.now)) (sym step.frame.same) (had.have (step.frame.clean now)) in
@@ -29,4 +27,5 @@ loop-table-preserved g c =
 
 pub returns-clause-none : goal.returns-clause-none
 returns-clause-none g c clean none =
-    subst (AllByRecursion (λ table. HasRows table (machine.tables c.loop-table.register.accepted) c.args.rows.now)) (take_all c.loop-table.table-index c.args.tables.now (omega arith)) (c.loop-table.invariant.have clean)
+    subst (AllByRecursion (λ table. HasRows table (machine.tables c.loop-table.register.accepted) c.args.rows.now))
+    (take_all c.loop-table.table-index c.args.tables.now (omega arith)) (c.loop-table.invariant.have clean)

@@ -1,18 +1,16 @@
-use Rattle.std.proofs.Common.{◌≡◌, true, None, take}
+use Rattle.std.proofs.Common.{◌≡◌, take}
 use Rattle.std.specs.List.{AllByRecursion}
 use Rattle.sqlite.specs.Held.{state}
 use Rattle.sqlite.specs.State.{HasCleanDisk}
 use Rattle.kcr_history.specs.Tables as machine
-use Rattle.kcr_store.specs.Register.{IsKept}
-use Rattle.kcr_verify.specs.Verified.{HasRows}
+use Rattle.kcr_verify.specs.Verified.{HasRows, IsIntact}
 use Rattle.kcr_verify.proofs.compare.first_of.Given as goal
 
 abbrev pub invariant-loop-table : goal.invariant-loop-table
 invariant-loop-table g l = record {
-  founded : l.register.is_founded ≡ true;
-  torn : l.register.torn ≡ None;
+  intact : IsIntact g.S.Store l.register;
   same : l.register.accepted ≡ l.fn.register.accepted;
   clean : HasCleanDisk (state g.S.Store l.register.conn) → HasCleanDisk (state g.S.Store l.fn.register.conn);
-  kept : IsKept g.S.Store l.register;
-  have : HasCleanDisk (state g.S.Store l.register.conn) → AllByRecursion (λ table. HasRows table (machine.tables l.register.accepted) l.rows) (take l.table-index l.tables);
+  have : HasCleanDisk (state g.S.Store l.register.conn)
+      → AllByRecursion (λ table. HasRows table (machine.tables l.register.accepted) l.rows) (take l.table-index l.tables);
 }

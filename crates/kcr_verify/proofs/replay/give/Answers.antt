@@ -6,7 +6,8 @@ use Rattle.kcr_verify.proofs.replay.give.Goals as goal
 
 pub returns-then-eq-clause-own : goal.returns-then-eq-clause-own
 returns-then-eq-clause-own g c clean entry h values is =
-    let read : c.in_ok-act.field-0 ≡ Some entry.command.act = c.in_ok-act.ensures.only entry.command.act values (sym (ap (λ (row : KeyRow). row.command) is) ∙ sym c.as_bytes.ensures) in
+    let read : c.in_ok-act.field-0 ≡ Some entry.command.act = c.in_ok-act.ensures.only entry.command.act values
+    (sym (ap (λ (row : KeyRow). row.command) is) ∙ sym c.as_bytes.ensures) in
     let act : c.in-Some.act ≡ entry.command.act = cc in
     let same = by_parts c.args.row.now.key c.in-Some.act entry.command (ap (λ (row : KeyRow). row.key) is) act in
     let step = c.in-Ok.ensures.step (rw c.requires.founded refl) c.requires.torn clean in
@@ -15,7 +16,8 @@ returns-then-eq-clause-own g c clean entry h values is =
 
 pub returns-in-Ok-clause-own : goal.returns-in-Ok-clause-own
 returns-in-Ok-clause-own g c clean entry h values is =
-    let read : c.in_ok-act.field-0 ≡ Some entry.command.act = c.in_ok-act.ensures.only entry.command.act values (sym (ap (λ (row : KeyRow). row.command) is) ∙ sym c.as_bytes.ensures) in
+    let read : c.in_ok-act.field-0 ≡ Some entry.command.act = c.in_ok-act.ensures.only entry.command.act values
+    (sym (ap (λ (row : KeyRow). row.command) is) ∙ sym c.as_bytes.ensures) in
     let act : c.in-Some.act ≡ entry.command.act = cc in
     let same = by_parts c.args.row.now.key c.in-Some.act entry.command (ap (λ (row : KeyRow). row.key) is) act in
     let step = c.in-Ok.ensures.step (rw c.requires.founded refl) c.requires.torn clean in
@@ -34,9 +36,11 @@ returns g c =
       clean = search rules;
       kept = search rules;
       own = λ clean entry h values is.
-          let read : c.in_ok-act.field-0 ≡ Some entry.command.act = c.in_ok-act.ensures.only entry.command.act values (sym (ap (λ (row : KeyRow). row.command) is) ∙ sym c.as_bytes.ensures) in
+          let read : c.in_ok-act.field-0 ≡ Some entry.command.act = c.in_ok-act.ensures.only entry.command.act values
+          (sym (ap (λ (row : KeyRow). row.command) is) ∙ sym c.as_bytes.ensures) in
           let act : c.in-Some.act ≡ entry.command.act = cc in
           let same = by_parts c.args.row.now.key c.in-Some.act entry.command (ap (λ (row : KeyRow). row.key) is) act in
           let step = c.in-Err.ensures.step (rw c.requires.founded refl) c.requires.torn clean in
-          absurd (not_refused c.args.register.now.accepted entry h _ same c.apply.new.self.accepted c.answers_are_fixed.ensures.either c.in-Err.field-0 step memory disk);
+          absurd (not_refused c.args.register.now.accepted entry h _ same c.apply.new.self.accepted c.answers_are_fixed.ensures.either c.in-Err.field-0 step
+          memory disk);
     }

@@ -14,7 +14,8 @@ use Rattle.kcr_verify.proofs.verification.rebuild.Goals.{in-Some-2, in-None}
 
 pub returns-in-Some-clause-own : goal.returns-in-Some-clause-own
 returns-in-Some-clause-own g c clean A h values listed =
-    let rows = in_number_order c.numbers_count_commands.ensures A c.args.rows.keys.items c.put_in_order.new.rows.items h listed.same.keys c.put_in_order.ensures.same c.put_in_order.ensures.order in
+    let rows = in_number_order c.numbers_count_commands.ensures A c.args.rows.keys.items c.put_in_order.new.rows.items h listed.same.keys
+    c.put_in_order.ensures.same c.put_in_order.ensures.order in
     let none = (c.in_ok-difference.ensures.own clean A h values (c.deref.ensures.value ∙ rows)).0 in
     let is : c.in_ok-difference.field-0 ≡ Some c.in-Some.difference = search rules in
     absurd (there _ _ is none)
@@ -27,7 +28,8 @@ returns-clause-told g c clean m listed =
       | in-Some-2 w ↦ search rules
       | in-None w ↦ (
           let none : c.in_ok-table.field-0 ≡ None = search rules in
-          let own = own_of c.first_difference.new.register.accepted (c.in_ok-table.ensures.register clean) m c.args.rows rows o listed.same (c.in_ok-table.ensures.none clean none) in
+          let own = own_of c.first_difference.new.register.accepted (c.in_ok-table.ensures.register clean) m c.args.rows rows o listed.same
+          (c.in_ok-table.ensures.none clean none) in
           let is : Whole (length c.put_in_order.new.rows.items) ≡ c.match-branch-4.result = search rules in
           subst (IsTold m c.first_difference.new.register.accepted) is own)
     ]
@@ -36,12 +38,14 @@ pub returns-clause-own : goal.returns-clause-own
 returns-clause-own g c clean A h values listed =
     let rows : WholeView = record c.args.rows { keys = c.put_in_order.new.rows } in
     let o : IsInOrder c.args.rows rows = record { others = refl; keys = c.put_in_order.ensures.same } in
-    let by_number = in_number_order c.numbers_count_commands.ensures A c.args.rows.keys.items rows.keys.items h listed.same.keys c.put_in_order.ensures.same c.put_in_order.ensures.order in
+    let by_number = in_number_order c.numbers_count_commands.ensures A c.args.rows.keys.items rows.keys.items h listed.same.keys c.put_in_order.ensures.same
+    c.put_in_order.ensures.order in
     let frame = c.in_ok-table.ensures.frame in
     let given = c.in_ok-difference.ensures.own (frame.clean clean) A h values (c.deref.ensures.value ∙ by_number) in
     let accepted : c.first_difference.new.register.accepted ≡ A = frame.same ∙ given.1 in
     let some = c.in_ok-table.ensures.some clean in
-    let none : c.in_ok-table.field-0 ≡ None = none_differs c.first_difference.new.register.accepted c.args.rows rows o (subst (λ (B : History). IsListed (tables B) c.args.rows) (sym accepted) listed) c.in_ok-table.field-0 some in
+    let none : c.in_ok-table.field-0 ≡ None = none_differs c.first_difference.new.register.accepted c.args.rows rows o
+    (subst (λ (B : History). IsListed (tables B) c.args.rows) (sym accepted) listed) c.in_ok-table.field-0 some in
     let count : length rows.keys.items ≡ length A = ap length by_number ∙ length-reverse (map key_row A) ∙ length-map A key_row in (
       elim c.match-branch-4.branch [
         | in-Some-2 w ↦ search rules

@@ -6,9 +6,11 @@ use Rattle.kcr_base.proofs.DayLemmas.{date_of_number, date_is}
 use Rattle.kcr_base.proofs.day.Day.date.Goals as goal
 
 -- the parts that the calendar gave, and the cast of the year
-found : (c : goal.After-struct_told-1) → (to_z w16 (of_z w16 c.from_days_since_min-date.result.year) ≡ pos (year_of c.args.self)) × (c.from_days_since_min-date.result.month ≡ month_of c.args.self) × (c.from_days_since_min-date.result.day ≡ day_of_month c.args.self)
+found : (c : goal.After-struct_told-1) → (to_z w16 (of_z w16 c.from_days_since_min-date.result.year) ≡ pos (year_of c.args.self))
+    × (c.from_days_since_min-date.result.month ≡ month_of c.args.self) × (c.from_days_since_min-date.result.day ≡ day_of_month c.args.self)
 found c =
-    let h = date_is c.args.self c.from_days_since_min-date.result c.number-number.ensures.range (rw c.number-number.ensures.value at c.from_days_since_min-date.ensures) in
+    let h = date_is c.args.self c.from_days_since_min-date.result c.number-number.ensures.range
+    (rw c.number-number.ensures.value at c.from_days_since_min-date.ensures) in
     let d = date_of_number c.args.self c.number-number.ensures.range in
     let fits : FitsSigned w16 c.from_days_since_min-date.result.year = rw h.0 (omega (arith, signed_arith, d.until)) in
     (to_z-of_z w16 _ fits ∙ h.0, h.1, h.2)

@@ -23,7 +23,10 @@ pub returns-clause-found : goal.returns-clause-found
 returns-clause-found c =
     let d = c.in_ok-day.ensures.found in
     let s = c.in_ok-second.ensures.found in
-    rw c.at.ensures (record { from = omega (arith, d.0.from); until = omega (arith, d.0.until, s.0) }, moment_whole c.in_ok-day.day c.in_ok-second.second c.args.bytes.now s.0 (d.1 ∙ c.split_at.ensures.front) (s.1 ∙ c.split_at.ensures.back))
+    rw c.at.ensures (
+      record { from = omega (arith, d.0.from); until = omega (arith, d.0.until, s.0) },
+      moment_whole c.in_ok-day.day c.in_ok-second.second c.args.bytes.now s.0 (d.1 ∙ c.split_at.ensures.front) (s.1 ∙ c.split_at.ensures.back),
+    )
 
 pub returns-clause-only : goal.returns-clause-only
 returns-clause-only c t valid e =

@@ -7,7 +7,8 @@ use Rattle.kcr_base.proofs.moment.Moment.text.Goals as goal
 
 pub returns-clause-bytes : goal.returns-clause-bytes
 unfolding day_text moment_text
-returns-clause-bytes c = rw (c.text.ensures.bytes, c.day.ensures, c.write_two.ensures, c.write_two-2.ensures, c.write_two-3.ensures, c.number-second.ensures.value) refl
+returns-clause-bytes c = rw
+    (c.text.ensures.bytes, c.day.ensures, c.write_two.ensures, c.write_two-2.ensures, c.write_two-3.ensures, c.number-second.ensures.value) refl
 
 pub returns-clause-ascii : goal.returns-clause-ascii
 returns-clause-ascii c =

@@ -6,7 +6,8 @@ abbrev pub invariant-loop-seat : goal.invariant-loop-seat
 invariant-loop-seat g l = record {
   long : length l.rows.items ≡ l.seat;
   in_range : (i person : ℕ) → i < l.seat → contains (get_or l.rows.items i nobody) person ≡ true → person < g.F.Fits.person_count l.fits;
-  each : (i person : ℕ) → i < l.seat → person < g.F.Fits.person_count l.fits → contains (get_or l.rows.items i nobody) person ≡ g.F.Fits.relation l.fits i person;
+  each : (i person : ℕ) → i < l.seat → person < g.F.Fits.person_count l.fits
+      → contains (get_or l.rows.items i nobody) person ≡ g.F.Fits.relation l.fits i person;
   all : l.steps.all ≤ l.fn.steps.all + l.seat * (1 + 2 * g.F.Fits.person_count l.fits);
   asks : l.steps.asks ≤ l.fn.steps.asks + l.seat * g.F.Fits.person_count l.fits;
 }

@@ -1,5 +1,5 @@
 use Rattle.kcr_store.specs.Opening.{unknown}
 use Rattle.kcr_store.proofs.register.Register+FileStore+FileFrom+Unknown.open.Given as goal
 
-abbrev pub ghost-of : goal.ghost-of
-ghost-of a = unknown
+abbrev pub ghost-adopt : goal.ghost-adopt
+ghost-adopt a = unknown

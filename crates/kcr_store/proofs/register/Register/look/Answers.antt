@@ -1,15 +1,12 @@
 use Rattle.std.proofs.Common.{refl}
-use Rattle.kcr_store.proofs.WholeLemmas.{read_kept}
+use Rattle.kcr_store.proofs.WholeLemmas.{looked, read_kept}
 use Rattle.kcr_store.proofs.register.Register.look.Goals as goal
 
 pub invariant_of-self : goal.invariant_of-self
-invariant_of-self g c = read_kept c.self.invariant c.ask.ensures.frame (rw c.if-self.false refl)
+invariant_of-self g c = read_kept c.self.invariant c.ask-shown.ensures.frame (rw c.if-self.false refl)
 
-pub invariant_of-self-in-Err : goal.invariant_of-self-in-Err
-invariant_of-self-in-Err g c = read_kept c.self.invariant c.ask.ensures.frame (rw c.if-self.false refl)
-
-pub returns-in-Ok-clause-kept : goal.returns-in-Ok-clause-kept
-returns-in-Ok-clause-kept g c = (invariant_of-self g c).kept
-
-pub returns-in-Err-clause-kept : goal.returns-in-Err-clause-kept
-returns-in-Err-clause-kept g c = (invariant_of-self-in-Err g c).kept
+pub returns-clause-looks : goal.returns-clause-looks
+returns-clause-looks g c =
+    let left = c.ask-shown.ensures.frame in
+    let kept = (read_kept c.self.invariant left (rw c.if-self.false refl)).kept in
+    rw (← c.self.view_is, c.hand_on.ensures.same) (looked _ _ _ (rw c.if-self.false refl) refl c.hand_on.ensures.settled left kept)

@@ -10,5 +10,6 @@ pub returns-clause-holds : goal.returns-clause-holds
 returns-clause-holds g c clean t held =
     let old = state g.S.Store c.args.tx.now.conn.now in
     let new = state g.S.Store c.write.new.tx.conn.now in
-    let ran = subst (λ (v : Row). OnOk c.write.result ((count : ℕ) × Executes put_sql v old new (Ok count))) (λ i. c.key_cell.ensures i ∷ c.number_cell.ensures i ∷ c.text_cell.ensures i ∷ c.text_cell-2.ensures i ∷ []) (c.write.ensures.runs clean) in
+    let ran = subst (λ (v : Row). OnOk c.write.result ((count : ℕ) × Executes put_sql v old new (Ok count)))
+    (λ i. c.key_cell.ensures i ∷ c.number_cell.ensures i ∷ c.text_cell.ensures i ∷ c.text_cell-2.ensures i ∷ []) (c.write.ensures.runs clean) in
     on_ok_then _ _ (λ h. puts c.args.self.now old new h.0 t held h.1) c.write.result ran

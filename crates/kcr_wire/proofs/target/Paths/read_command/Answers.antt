@@ -6,6 +6,6 @@ use Rattle.kcr_wire.proofs.target.Paths.read_command.Goals as goal
 
 pub returns : goal.returns
 returns c =
-    command-posted c.args.method c.args.target.now c.args.body.now c.in_ok-target.target (view c.in_ok-value.value) c.command_at.result
+    command-posted c.args.target.now c.args.body.now c.in_ok-target.target (view c.in_ok-value.value) c.command_at.result
     (sym c.target.ensures ∙ c.in_ok-target.was)
-    (ap (may_post c.args.method) (sym c.allow.ensures) ∙ sym c.may_post.ensures ∙ c.if-not-may_post.false) c.in_ok-value.ensures.ok c.command_at.ensures
+    (ap may_post (sym c.allow.ensures) ∙ sym c.may_post.ensures ∙ c.if-not-may_post.false) c.in_ok-value.ensures.ok c.command_at.ensures

@@ -1,6 +1,0 @@
-pub mod Unless
-pub mod BagsTold
-pub mod RoomTold
-pub mod LastStays
-pub mod Plain
-pub mod NotFull

@@ -1,7 +1,0 @@
-use Rattle.kcr_acts.proofs.Unless.{refused, refuses}
-use Rattle.kcr_acts.proofs.people.release.Goals as goal
-
-pub returns-in_err-ended : goal.returns-in_err-ended
-returns-in_err-ended c =
-    rw (← c.deref-2.ensures.value, ← c.deref.ensures.value, ← c.settled-last.ensures)
-    (refuses _ _ _ c.from_residual.result (refused _ _ c.release.result _ c.release.ensures c.in_err-ended.was) c.from_residual.ensures.1)

@@ -1,7 +1,0 @@
-use Rattle.std.proofs.Common.{◌≡◌, drop}
-use Rattle.kcr_acts.specs.SheetRows.{first_unknown}
-use Rattle.kcr_acts.proofs.sheet.first_unknown.Given as goal
-
--- the first of those left is the first of all
-abbrev pub invariant-loop-who : goal.invariant-loop-who
-invariant-loop-who l = first_unknown l.rows (drop l.who-index l.people) ≡ first_unknown l.rows l.people

@@ -1,6 +1,0 @@
-pub mod CeremonyRows
-pub mod CustodyRows
-pub mod RoomRows
-pub mod SheetRows
-pub mod Kinds
-pub mod ByRows

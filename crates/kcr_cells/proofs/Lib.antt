@@ -1,2 +1,0 @@
-pub mod StateLemmas
-pub mod FrameLemmas

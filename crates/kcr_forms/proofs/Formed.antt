@@ -1,0 +1,383 @@
+-- The readers of the forms read the texts of their values and no others.
+use Rattle.std.proofs.Common.{◌≡◌, ℕ, ◌+◌, ◌-◌, ◌*◌, ◌≤◌, ◌<◌, ◌⊎◌, Bool, true, false, not, ◌&&◌, eqb, nat_le, List, [], ◌∷◌, suc}
+use Rattle.std.proofs.Common.{length, get_or, codes, Option, Some, refl, sym, ap, subst, ◌∙◌, arith, All}
+use Rattle.std.specs.Option.{option_map, option_and_then}
+use Rattle.std.specs.Bool.{⊤}
+use Rattle.std.specs.Fmt.{decimal}
+use Rattle.std.specs.Int.Digits.{digits_of}
+use Rattle.std.specs.List.{find, range_with_len, list_all}
+use Rattle.std.specs.Str.Parse.{AllDigits}
+use Rattle.std.specs.Str.{is_utf8, IsUtf8}
+use Rattle.std.specs.Cmp.Lexicographic.{same_text as equal_texts}
+use Rattle.std.proofs.lemmas.Bool.{leb-true}
+use Rattle.std.proofs.lemmas.Fmt.{decimal_injective, decimal-digits_of, decimal_is_IsNumeral}
+use Rattle.std.proofs.lemmas.List.Elements.{All-get_or, All-nil, All-weaker, All-map, All-append, All-head, All-tail, All-from_recursion}
+use Rattle.std.proofs.lemmas.List.Sums.{AllPass-from_list_all}
+use Rattle.std.proofs.lemmas.List.Splits.{slice_split_none, slice_split_at, join_with_byte-slice_split}
+use Rattle.std.proofs.lemmas.Option.{cond_some, option_and_then_some}
+use Rattle.kcr_base.specs.Same.{same_text}
+use Rattle.kcr_base.specs.Day.{IsDay, day_text}
+use Rattle.kcr_base.specs.Facility.{facility_text}
+use Rattle.kcr_base.specs.Initials.{IsCapital, IsInitials}
+use Rattle.kcr_base.specs.Line.{IsPrinting, IsLine}
+use Rattle.kcr_base.specs.Lists.{IsListed, are_apart}
+use Rattle.kcr_base.specs.Moment.{IsMoment, moment_text}
+use Rattle.kcr_base.specs.Number.{IsNumber}
+use Rattle.kcr_base.specs.Reads.{Found, Only}
+use Rattle.kcr_base.specs.Place.{IsPlace, place_text}
+use Rattle.kcr_base.specs.Role.{role_text}
+use Rattle.kcr_base.specs.Serial.{IsDigit, IsSerial}
+use Rattle.kcr_base.specs.declared.place.Facility.{Facility}
+use Rattle.kcr_base.specs.declared.place.Facility.TheVariants.{East, West}
+use Rattle.kcr_base.specs.declared.place.Place.{Place}
+use Rattle.kcr_base.specs.declared.place.Place.TheVariants.{Co, Rksh}
+use Rattle.kcr_base.specs.declared.place.Role.{Role}
+use Rattle.kcr_base.specs.declared.place.Role.TheVariants.{Ca, Iw, Sa, Ssc1, Ssc2, Rkos, Sw}
+use Rattle.kcr_custody.specs.declared.SafeNumber.{SafeNumber}
+use Rattle.kcr_custody.specs.declared.SafeNumber.TheVariants.{One, Two}
+use Rattle.kcr_custody.specs.declared.Store.{Store}
+use Rattle.kcr_custody.specs.declared.Store.TheVariants.{SafeOne, Boxed}
+use Rattle.kcr_room.specs.declared.Way.{Way}
+use Rattle.kcr_room.specs.declared.Way.TheVariants.{Enter, Leave}
+use Rattle.kcr_room.specs.Room.{way_text}
+use Rattle.kcr_history.specs.Texts.{safe_text, store_text, truth_text, listed}
+use Rattle.kcr_forms.specs.Forms.{by_text, number_by_text, initials_of, serial_of, item_of, name_of, remark_of, is_initials, is_serial, is_line, day_of}
+use Rattle.kcr_forms.specs.Forms.{moment_of, ceremony_of, box_of, step_of, role_of, facility_of, way_of, safe_of, places, place_of, store_of, listed_to}
+use Rattle.kcr_forms.specs.Forms.{if_form, is_within}
+use Rattle.kcr_forms.proofs.FormLemmas.{initials-read, serial-read, item-read, name-read, remark-read, listed-new}
+use Rattle.kcr_forms.proofs.TextLemmas.{number-read}
+use Rattle.kcr_forms.proofs.ValueLemmas.{day-read, moment-read, place-read}
+use Rattle.kcr_forms.specs.Acts.{ArePeople, AreItems, IsStore}
+use Rattle.kcr_forms.specs.Told.{script_of, truth_of, each_of, between_commas, people_of, items_of}
+use Rattle.kcr_forms.proofs.Cutting.{Lacks, lacks-literal}
+use Rattle.kcr_forms.proofs.Dates.{day-same, moment-same, day-printing}
+use Rattle.kcr_forms.proofs.Readers.{named, nothing, option_map_some, Reads, Value, InPath, AtLeast, lacks-below, at_least-less}
+use Rattle.kcr_forms.proofs.Scripts.{script-some}
+
+-- ---- the bytes of texts
+
+literal : (low : ℕ) (text : List ℕ) → list_all (λ b. nat_le low b) text ≡ true → AtLeast low text
+literal low text test = All-weaker (λ b. nat_le low b ≡ true) (λ b. low ≤ b) (λ b h. leb-true low b h) text
+    (AllPass-from_list_all (λ b. nat_le low b) text test)
+
+initials-at_least : (text : List ℕ) → IsInitials text → AtLeast 65 text
+initials-at_least text is = All-weaker IsCapital (λ b. 65 ≤ b) (λ b h. h.0) text is.capitals
+
+serial-at_least : (text : List ℕ) → IsSerial text → AtLeast 48 text
+serial-at_least text is = All-weaker (λ b. IsCapital b ⊎ IsDigit b) (λ b. 48 ≤ b) (λ b h. grind arith) text is.each
+
+number-at_least : (limit n : ℕ) → limit < 10000 → IsNumber limit n → AtLeast 48 (decimal n)
+number-at_least limit n few is = rw (decimal-digits_of n (omega (arith, is.from)) (omega (arith, few, is.until)))
+    (All-map (λ b. 48 ≤ b) (λ d. 48 + d) (digits_of 10 n) (λ i d h. omega arith))
+
+-- ---- values that are found by their texts
+
+-- what is found passes the test, and is in the list
+find-at : {X : Type 0} (test : X → Bool) (xs : List X) (v : X) → find test xs ≡ Some v
+    → (test v ≡ true) × ((i : ℕ) × (i < length xs) × (get_or xs i v ≡ v))
+find-at test [] v e = cc
+find-at {X} test (x ∷ xs) v e = by (test x) refl (find-at test xs v)
+  where
+    by : (b : Bool) → test x ≡ b → (find test xs ≡ Some v → (test v ≡ true) × ((i : ℕ) × (i < length xs) × (get_or xs i v ≡ v)))
+        → (test v ≡ true) × ((i : ℕ) × (i < length (x ∷ xs)) × (get_or (x ∷ xs) i v ≡ v))
+    by true t rest = let first : Some x ≡ Some v = rw t at e in let same : x ≡ v = cc in (rw (← same) t, (0, omega arith, same))
+    by false t rest = let r = rest (rw t at e) in (r.0, (suc r.1.0, omega (arith, r.1.1), r.1.2))
+
+by_texts : {V : Type 0} {IsValue : V → Type 0} (text_of : V → List ℕ) (values : List V)
+    → ((v : V) → IsValue v → by_text text_of values (text_of v) ≡ Some v) → Reads IsValue text_of (by_text text_of values)
+by_texts text_of values again = record {
+  found = λ text v e. equal_texts (text_of v) text (sym (find-at (λ w. same_text (text_of w) text) values v e).0);
+  again = again;
+}
+
+number_texts : {IsValue : ℕ → Type 0} (text_of : ℕ → List ℕ) (first last : ℕ)
+    → ((v : ℕ) → IsValue v → number_by_text text_of first last (text_of v) ≡ Some v) → Reads IsValue text_of (number_by_text text_of first last)
+unfolding number_by_text
+number_texts text_of first last again = by_texts text_of (range_with_len first (last + 1 - first)) again
+
+-- a reader of the values reads each again, where no two have one text
+again-by : {V : Type 0} {IsValue : V → Type 0} {text_of : V → List ℕ} {read : List ℕ → Option V}
+    → ((bytes : List ℕ) (r : Option V) → Found IsValue text_of bytes r → Only IsValue text_of bytes r → r ≡ read bytes)
+    → ((v w : V) → IsValue v → IsValue w → text_of v ≡ text_of w → v ≡ w) → (v : V) → IsValue v → read (text_of v) ≡ Some v
+again-by {text_of = text_of} reads same v is = sym (reads (text_of v) (Some v) (is, refl) (λ w is_w e. ap Some (same v w is is_w (sym e))))
+
+-- the texts of listed values are printing where a test of the list says so, and have no slash
+module _ {V : Type 0} {IsValue : V → Type 0} (text_of : V → List ℕ) (values : List V) (reads : Reads IsValue text_of (by_text text_of values)) where
+  tested : (test : ℕ → Bool) → list_all (λ v. list_all test (text_of v)) values ≡ true → (v : V) → IsValue v → list_all test (text_of v) ≡ true
+  tested test all v is =
+      let at = (find-at (λ w. same_text (text_of w) (text_of v)) values v (reads.again v is)).1 in
+      let passes = All-get_or (λ w. list_all test (text_of w) ≡ true) values at.0 v at.1
+      (AllPass-from_list_all (λ w. list_all test (text_of w)) values all) in
+      rw at.2 at passes
+
+  texts-value : list_all (λ v. list_all (λ b. nat_le 32 b) (text_of v)) values ≡ true → Value IsValue text_of (by_text text_of values)
+  texts-value all = record { reads = reads; printing = λ v is. literal 32 (text_of v) (tested (λ b. nat_le 32 b) all v is) }
+
+  texts-path : list_all (λ v. list_all (λ b. not (eqb b 47)) (text_of v)) values ≡ true → InPath IsValue text_of
+  texts-path all = record { no_slash = λ v is. lacks-literal 47 (text_of v) (tested (λ b. not (eqb b 47)) all v is) }
+
+pub days : Value IsDay day_text day_of
+unfolding day_of
+days = record { reads = number_texts day_text 10957 47481 (again-by day-read day-same); printing = λ v _. day-printing v }
+
+pub moments : Reads IsMoment moment_text moment_of
+unfolding moment_of
+moments = number_texts moment_text (10957 * 86400) (47481 * 86400 + 86399) (again-by moment-read moment-same)
+
+decimals : (limit : ℕ) → limit < 10000 → Value (IsNumber limit) decimal (number_by_text decimal 1 limit)
+decimals limit few = record {
+  reads = number_texts decimal 1 limit (again-by
+      (λ bytes r. number-read (IsNumber limit) decimal 1 limit bytes r (λ n low high. record { from = low; until = high }) (λ n is. (is.from, is.until)))
+      (λ m n is_m is_n e. decimal_injective m n (omega (arith, few, is_m.until)) (omega (arith, few, is_n.until)) e));
+  printing = λ v is. at_least-less 48 32 (decimal v) (omega arith) (number-at_least limit v few is);
+}
+
+pub ceremonies : Value (IsNumber 9999) decimal ceremony_of
+unfolding ceremony_of
+ceremonies = decimals 9999 (omega arith)
+
+pub boxes : Value (IsNumber 9999) decimal box_of
+unfolding box_of
+boxes = decimals 9999 (omega arith)
+
+pub steps : Value (IsNumber 400) decimal step_of
+unfolding step_of
+steps = decimals 400 (omega arith)
+
+role-again : (v : Role) → role_of (role_text v) ≡ Some v
+unfolding role_of
+role-again Ca = refl
+role-again Iw = refl
+role-again Sa = refl
+role-again Ssc1 = refl
+role-again Ssc2 = refl
+role-again Rkos = refl
+role-again Sw = refl
+
+pub roles : Value (λ _. ⊤) role_text role_of
+unfolding role_of
+roles =
+    let all = Ca ∷ Iw ∷ Sa ∷ Ssc1 ∷ Ssc2 ∷ Rkos ∷ Sw ∷ [] in
+    texts-value role_text all (by_texts role_text all (λ v _. role-again v)) refl
+
+pub facilities : Value (λ _. ⊤) facility_text facility_of
+unfolding facility_of
+facilities = texts-value facility_text (East ∷ West ∷ []) (by_texts facility_text (East ∷ West ∷ []) (λ v _. again v)) refl
+  where
+    again : (v : Facility) → facility_of (facility_text v) ≡ Some v
+    again East = refl
+    again West = refl
+
+pub ways : Value (λ _. ⊤) way_text way_of
+unfolding way_of
+ways = texts-value way_text (Enter ∷ Leave ∷ []) (by_texts way_text (Enter ∷ Leave ∷ []) (λ v _. again v)) refl
+  where
+    again : (v : Way) → way_of (way_text v) ≡ Some v
+    again Enter = refl
+    again Leave = refl
+
+pub safes : Value (λ _. ⊤) safe_text safe_of
+unfolding safe_of
+safes = texts-value safe_text (One ∷ Two ∷ []) (by_texts safe_text (One ∷ Two ∷ []) (λ v _. again v)) refl
+  where
+    again : (v : SafeNumber) → safe_of (safe_text v) ≡ Some v
+    again One = refl
+    again Two = refl
+
+-- equal texts have equal bytes
+byte : (i : ℕ) {s t : List ℕ} → s ≡ t → get_or s i 0 ≡ get_or t i 0
+byte i e = ap (λ (text : List ℕ). get_or text i 0) e
+
+place-same : (v w : Place) → place_text v ≡ place_text w → v ≡ w
+place-same (Co East n) (Co East m) e = let last : 48 + n ≡ 48 + m = byte 8 e in let same : n ≡ m = omega arith in ap (Co East) same
+place-same (Co West n) (Co West m) e = let last : 48 + n ≡ 48 + m = byte 8 e in let same : n ≡ m = omega arith in ap (Co West) same
+place-same (Rksh n) (Rksh m) e = let last : 48 + n ≡ 48 + m = byte 5 e in let same : n ≡ m = omega arith in ap Rksh same
+place-same (Co East n) (Co West m) e = let apart : 69 ≡ 87 = byte 3 e in absurd (omega (arith, apart))
+place-same (Co West n) (Co East m) e = let apart : 87 ≡ 69 = byte 3 e in absurd (omega (arith, apart))
+place-same (Co facility n) (Rksh m) e = let apart : 67 ≡ 82 = byte 0 e in absurd (omega (arith, apart))
+place-same (Rksh n) (Co facility m) e = let apart : 82 ≡ 67 = byte 0 e in absurd (omega (arith, apart))
+
+pub places-read : Value IsPlace place_text place_of
+unfolding place_of
+places-read = texts-value place_text places (by_texts place_text places (again-by place-read (λ v w _ _. place-same v w))) refl
+
+pub places-path : InPath IsPlace place_text
+unfolding place_of
+places-path = texts-path place_text places places-read.reads refl
+
+-- ---- texts that are their own value
+
+if_forms : {IsValue : List ℕ → Type 0} (test : List ℕ → Bool) → ((v : List ℕ) → IsValue v → if_form (test v) v ≡ Some v)
+    → Reads IsValue (λ text. text) (λ text. if_form (test text) text)
+if_forms test again = record { found = λ text v e. sym (cond_some (test text) text v e).1; again = again }
+
+pub initials : Value IsInitials (λ text. text) initials_of
+unfolding initials_of
+initials = record {
+  reads = if_forms is_initials (λ v is. sym (initials-read (Some v) v (is, refl)));
+  printing = λ v is. at_least-less 65 32 v (omega arith) (initials-at_least v is);
+}
+
+pub serials : Value IsSerial (λ text. text) serial_of
+unfolding serial_of
+serials = record {
+  reads = if_forms is_serial (λ v is. sym (serial-read (Some v) v (is, refl)));
+  printing = λ v is. at_least-less 48 32 v (omega arith) (serial-at_least v is);
+}
+
+pub items : Value IsSerial (λ text. text) item_of
+unfolding item_of
+items = record {
+  reads = if_forms is_serial (λ v is. sym (item-read (Some v) v (is, refl)));
+  printing = λ v is. at_least-less 48 32 v (omega arith) (serial-at_least v is);
+}
+
+pub names : Reads (IsLine 120) (λ text. text) name_of
+unfolding name_of
+names = if_forms (is_line 120) (λ v is. sym (name-read (Some v) v (is, refl)))
+
+pub remarks : Value (IsLine 1000) (λ text. text) remark_of
+unfolding remark_of
+remarks = record {
+  reads = if_forms (is_line 1000) (λ v is. sym (remark-read (Some v) v (is, refl)));
+  printing = λ v is. All-weaker IsPrinting (λ b. 32 ≤ b) (λ b h. h.0) v is.printing;
+}
+
+pub scripts : Reads IsUtf8 (λ text. text) script_of
+unfolding script_of
+scripts = if_forms is_utf8 script-some
+
+-- the value that a word chooses has that word for its text
+chosen : {V : Type 0} (text_of : V → List ℕ) (x : V) {v : V} {text : List ℕ} → text ≡ text_of x → Some x ≡ Some v → text_of v ≡ text
+chosen text_of x {v} is some = let same : x ≡ v = cc in ap text_of (sym same) ∙ sym is
+
+pub truths : Value (λ _. ⊤) truth_text truth_of
+unfolding truth_of
+truths = record {
+  reads = record {
+    found = λ text v e. named text (codes "true") e (chosen truth_text true) (λ e. named text (codes "false") e (chosen truth_text false) nothing);
+    again = λ v _. again v;
+  };
+  printing = λ v _. printing v;
+}
+  where
+    again : (v : Bool) → truth_of (truth_text v) ≡ Some v
+    again true = refl
+    again false = refl
+
+    printing : (v : Bool) → AtLeast 32 (truth_text v)
+    printing true = literal 32 (codes "true") refl
+    printing false = literal 32 (codes "false") refl
+
+-- ---- where a bag is put
+
+store-again : (v : Store) → IsStore v → store_of (store_text v) ≡ Some v
+unfolding store_of
+store-again SafeOne is = refl
+store-again (Boxed n) is = by (same_text (decimal n) (codes "safe1")) refl
+  where
+    by : (b : Bool) → same_text (decimal n) (codes "safe1") ≡ b → store_of (store_text (Boxed n)) ≡ Some (Boxed n)
+    by true e =
+        let digits = (decimal_is_IsNumeral n (omega (arith, is.until))).0.1 in
+        let letter : AllDigits 10 (codes "safe1") = subst (AllDigits 10) (equal_texts (decimal n) (codes "safe1") (sym e)) digits in
+        absurd (omega (arith, letter.0))
+    by false e = rw (e, boxes.reads.again n is) refl
+
+store-printing : (v : Store) → IsStore v → AtLeast 32 (store_text v)
+store-printing SafeOne is = literal 32 (codes "safe1") refl
+store-printing (Boxed n) is = at_least-less 48 32 (decimal n) (omega arith) (number-at_least 9999 n (omega arith) is)
+
+pub stores : Value IsStore store_text store_of
+unfolding store_of
+stores = record {
+  reads = record {
+    found = λ text v e. named text (codes "safe1") e (chosen store_text SafeOne) (λ e.
+        option_map_some Boxed (box_of text) v e (λ n found same. ap store_text (sym same) ∙ boxes.reads.found text n found));
+    again = store-again;
+  };
+  printing = store-printing;
+}
+
+-- ---- lists
+
+each-found : (IsValue : List ℕ → Type 0) (read : List ℕ → Option (List ℕ)) → Reads IsValue (λ text. text) read → (texts list : List (List ℕ))
+    → each_of read texts ≡ Some list → list ≡ texts
+each-found IsValue read reads [] list e = cc
+each-found IsValue read reads (text ∷ texts) list e =
+    option_and_then_some (λ value. option_map (λ values. value ∷ values) (each_of read texts)) (read text) list e (λ value first rest.
+    option_map_some (λ (values : List (List ℕ)). value ∷ values) (each_of read texts) list rest (λ values others same.
+    sym same ∙ (λ j. reads.found text value first j ∷ each-found IsValue read reads texts values others j)))
+
+each-again : (IsValue : List ℕ → Type 0) (read : List ℕ → Option (List ℕ)) → Reads IsValue (λ text. text) read → (list : List (List ℕ))
+    → All IsValue list → each_of read list ≡ Some list
+each-again IsValue read reads [] each = refl
+each-again IsValue read reads (code ∷ codes) each =
+    rw (reads.again code (All-head IsValue code codes each), each-again IsValue read reads codes (All-tail IsValue code codes each)) refl
+
+pieces : (list : List (List ℕ)) → 1 ≤ length list → All (λ code. Lacks 44 code) list → between_commas (listed list) ≡ list
+pieces [] some each = absurd (omega (arith, some))
+pieces (code ∷ []) some each = slice_split_none (λ b. eqb b 44) code (All-head (λ c. Lacks 44 c) code [] each)
+pieces (code ∷ next ∷ more) some each =
+    slice_split_at (λ b. eqb b 44) code 44 (listed (next ∷ more)) (All-head (λ c. Lacks 44 c) code (next ∷ more) each) refl
+    ∙ ap (λ (texts : List (List ℕ)). code ∷ texts) (pieces (next ∷ more) (omega arith) (All-tail (λ c. Lacks 44 c) code (next ∷ more) each))
+
+-- a list of codes that lack commas, each of which its reader reads
+codes-found : (limit : ℕ) (IsValue : List ℕ → Type 0) (read : List ℕ → Option (List ℕ)) → Reads IsValue (λ text. text) read
+    → (text : List ℕ) (list : List (List ℕ))
+    → option_and_then (listed_to limit) (each_of read (between_commas text)) ≡ Some list → listed list ≡ text
+unfolding listed_to
+codes-found limit IsValue read reads text list e =
+    option_and_then_some (listed_to limit) (each_of read (between_commas text)) list e (λ all told few.
+    let same = (cond_some (is_within 1 limit (length all) && are_apart all) all list few).1 in
+    ap listed (sym same ∙ each-found IsValue read reads (between_commas text) all told) ∙ join_with_byte-slice_split 44 text)
+
+codes-again : (limit : ℕ) (IsValue : List ℕ → Type 0) (read : List ℕ → Option (List ℕ)) → Reads IsValue (λ text. text) read
+    → ((code : List ℕ) → IsValue code → Lacks 44 code)
+    → (list : List (List ℕ)) → IsListed limit list → All IsValue list
+    → option_and_then (listed_to limit) (each_of read (between_commas (listed list))) ≡ Some list
+codes-again limit IsValue read reads lacks list is each =
+    ap (λ (texts : List (List ℕ)). option_and_then (listed_to limit) (each_of read texts))
+    (pieces list is.at_least_one (All-weaker IsValue (λ code. Lacks 44 code) lacks list each))
+    ∙ ap (option_and_then (listed_to limit)) (each-again IsValue read reads list each)
+    ∙ sym (listed-new limit list (Some list) (is, refl))
+
+join-at_least : (low : ℕ) (list : List (List ℕ)) → low ≤ 44 → All (λ code. AtLeast low code) list → AtLeast low (listed list)
+join-at_least low [] le each = All-nil (λ b. low ≤ b)
+join-at_least low (code ∷ []) le each = All-head (λ c. AtLeast low c) code [] each
+join-at_least low (code ∷ next ∷ more) le each =
+    All-append (λ b. low ≤ b) code (44 ∷ listed (next ∷ more)) (All-head (λ c. AtLeast low c) code (next ∷ more) each)
+    (All-append (λ b. low ≤ b) (44 ∷ []) (listed (next ∷ more)) (All-from_recursion (λ b. low ≤ b) (44 ∷ []) (le, tt))
+    (join-at_least low (next ∷ more) le (All-tail (λ c. AtLeast low c) code (next ∷ more) each)))
+
+pub people : Value ArePeople listed people_of
+unfolding people_of
+people = record {
+  reads = record {
+    found = λ text v e. codes-found 32 IsInitials initials_of initials.reads text v e;
+    again = λ v are. codes-again 32 IsInitials initials_of initials.reads
+        (λ code is. lacks-below 44 65 code (omega arith) (initials-at_least code is)) v are.listed are.each;
+  };
+  printing = λ v are. join-at_least 32 v (omega arith) (All-weaker IsInitials (λ code. AtLeast 32 code) initials.printing v are.each);
+}
+
+pub item_lists : Value AreItems listed items_of
+unfolding items_of
+item_lists = record {
+  reads = record {
+    found = λ text v e. codes-found 64 IsSerial item_of items.reads text v e;
+    again = λ v are. codes-again 64 IsSerial item_of items.reads
+        (λ code is. lacks-below 44 48 code (omega arith) (serial-at_least code is)) v are.listed are.each;
+  };
+  printing = λ v are. join-at_least 32 v (omega arith) (All-weaker IsSerial (λ code. AtLeast 32 code) items.printing v are.each);
+}
+
+-- ---- texts in paths
+
+pub initials-path : InPath IsInitials (λ text. text)
+initials-path = record { no_slash = λ v is. lacks-below 47 65 v (omega arith) (initials-at_least v is) }
+
+pub serials-path : InPath IsSerial (λ text. text)
+serials-path = record { no_slash = λ v is. lacks-below 47 48 v (omega arith) (serial-at_least v is) }
+
+pub decimals-path : (limit : ℕ) → limit < 10000 → InPath (IsNumber limit) decimal
+decimals-path limit few = record { no_slash = λ v is. lacks-below 47 48 (decimal v) (omega arith) (number-at_least limit v few is) }

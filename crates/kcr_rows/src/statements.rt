@@ -1,0 +1,89 @@
+//! One statement, with what it gave as values: the one module that calls the database.
+
+ghost use Rattle.std.specs.Prelude.{◌≡◌, ◌≢◌, ℕ, map, Ok, IsTrue, IfOk, IfErr, OnOk};
+ghost use Rattle.sqlite.specs.declared.error.Error.TheVariants.{SqliteFailure};
+ghost use Rattle.sqlite.specs.declared.error.ErrorCode.TheVariants.{OutOfMemory};
+ghost use Rattle.sqlite.specs.Held.{state};
+ghost use Rattle.sqlite.specs.Values.{bound};
+ghost use Rattle.sqlite.specs.Listing.{understood};
+ghost use Rattle.sqlite.specs.Given.{IsPlain};
+ghost use Rattle.sqlite.specs.State.{HasCleanDisk, IsUnchanged, Executes, Shown};
+ghost use Rattle.std.specs.List.{AllByRecursion};
+ghost use Rattle.kcr_rows.specs.Refusals.{IsFault};
+ghost use Rattle.kcr_rows.specs.Frame.{StaysWithin};
+
+use crate::stored::Stored;
+use kcr_base::Refusal;
+use sqlite::types::ValueRef;
+use sqlite::{Alter, Error, ErrorCode, Row, Transaction};
+use std::alloc::Global;
+
+/// Out of memory, or else a fault of the disk.
+fn refusal_of(error: Error) -> Refusal
+    ensures memory { error ≡ SqliteFailure OutOfMemory → result ≡ Refusal.Memory }
+    ensures disk { error ≢ SqliteFailure OutOfMemory → result ≡ Refusal.Disk }
+    ensures cause { IsFault result }
+{
+    match error {
+        Error::SqliteFailure(ErrorCode::OutOfMemory) => Refusal::Memory,
+        _ => Refusal::Disk,
+    }
+}
+
+/// The values of rows that a query gave, in their order.
+fn decode_all<T: Stored>(alloc: Global, rows: &[Row]) -> Result<Vec<T>, Refusal>
+    ensures rows { IfOk result (λ all. map T.row_of all.items ≡ rows.now) }
+    ensures read { IfOk result (λ all. AllByRecursion T.is_read all.items) }
+    ensures cause { IfErr result IsFault }
+{
+    let mut all = Vec::new(alloc);
+    for row in rows {
+        all.push(T::decode(alloc, row)?)?;
+    }
+    Ok(all)
+}
+
+/// The rows that a query shows, as values. The error is `Disk` also where a row is no value's.
+pub fn rows_of<S: Alter, T: Stored>(
+    alloc: Global,
+    tx: &mut Transaction<'_, S>,
+    sql: &str,
+    params: &[ValueRef<'_>],
+) -> Result<Vec<T>, Refusal>
+    ensures same_reference { tx.new.conn.ghost_name ≡ tx.old.conn.ghost_name }
+    ensures shown { HasCleanDisk (state S.Store tx.new.conn.now)
+        → IfOk result (λ all. Shown sql.now (bound params.now) (state S.Store tx.old.conn.now)
+        (state S.Store tx.new.conn.now) (map T.row_of all.items)) }
+    ensures read { IfOk result (λ all. AllByRecursion T.is_read all.items) }
+    ensures same { HasCleanDisk (state S.Store tx.new.conn.now)
+        → IsPlain (understood (state S.Store tx.old.conn.now).now.schema sql.now)
+        → OnOk result (IsUnchanged (state S.Store tx.old.conn.now) (state S.Store tx.new.conn.now)) }
+    ensures opened { HasCleanDisk (state S.Store tx.new.conn.now)
+        → OnOk result (IsTrue (state S.Store tx.old.conn.now).is_open) }
+    ensures frame { StaysWithin IsFault (state S.Store tx.old.conn.now) (state S.Store tx.new.conn.now) result }
+{
+    match tx.query_all(sql, params) {
+        Ok(rows) => decode_all(alloc, rows.as_slice()),
+        Err(error) => Err(refusal_of(error)),
+    }
+}
+
+/// Runs a statement that writes. The error is `Disk` also where the statement is refused, as for a key that is taken.
+pub fn write<S: Alter>(
+    tx: &mut Transaction<'_, S>,
+    sql: &str,
+    params: &[ValueRef<'_>],
+) -> Result<(), Refusal>
+    ensures same_reference { tx.new.conn.ghost_name ≡ tx.old.conn.ghost_name }
+    ensures runs { HasCleanDisk (state S.Store tx.new.conn.now)
+        → OnOk result
+        ((count : ℕ)
+        × Executes sql.now (bound params.now) (state S.Store tx.old.conn.now) (state S.Store tx.new.conn.now)
+        (Ok count)) }
+    ensures frame { StaysWithin IsFault (state S.Store tx.old.conn.now) (state S.Store tx.new.conn.now) result }
+{
+    match tx.execute(sql, params) {
+        Ok(_) => Ok(()),
+        Err(error) => Err(refusal_of(error)),
+    }
+}

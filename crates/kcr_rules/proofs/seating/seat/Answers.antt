@@ -1,0 +1,20 @@
+use Rattle.std.proofs.Common.{suc, length, map, refl, ap, ◌∙◌, inl}
+use Rattle.kcr_base.specs.declared.refusal.Refusal.TheVariants.{Short}
+use Rattle.kcr_seats.specs.Outcome.{IsOutcome}
+use Rattle.kcr_history.specs.Fitting.{fits_by}
+use Rattle.kcr_rules.specs.Signing.{fits_of}
+use Rattle.kcr_rules.proofs.seating.seat.Goals as goal
+
+pub returns : goal.returns
+returns c =
+    let v = c.args.view.now in
+    let h : IsOutcome (fits_of (fits_by v.trainings.items v.withdrawals.items v.appointments.items c.facility-facility.result c.day.result) c.args.seats.now c.deref.result.now) (length c.args.seats.now) (length c.deref.result.now) c.in_ok-numbers.field-0 = c.in_ok-numbers.ensures in
+    λ _. inl (
+      map suc c.in-Short.numbers.items,
+      record {
+        numbers = c.in-Short.numbers.items;
+        least = rw (c.in-Short.is, c.deref.ensures.value, c.in_ok-people.ensures, c.facility-facility.ensures, c.ceremony_row.ensures, c.day.ensures) at h;
+        counted = refl;
+      },
+      ap Short (c.from_indices.ensures ∙ ap (map suc) c.deref-in-Short.ensures.value),
+    )

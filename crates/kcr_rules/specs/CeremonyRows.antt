@@ -1,0 +1,150 @@
+-- What the acts on whole ceremonies say, by the rows of a view: planning, opening and closing.
+use Rattle.std.specs.Prelude.{ℕ, ◌+◌, ◌==◌, Bool, true, false, not, ◌&&◌, ◌||◌, nat_lt, List, [], ◌∷◌, map, Option}
+use Rattle.std.specs.Prelude.{Some, None, is_some}
+use Rattle.std.specs.List.{list_any}
+use Rattle.std.specs.Result.{result_unwrap_or}
+use Rattle.kcr_base.specs.Days.{day_of}
+use Rattle.kcr_base.specs.Refuse.{when, first_of, is_late}
+use Rattle.kcr_base.specs.Same.{same_facility}
+use Rattle.kcr_base.specs.declared.place.Facility.{Facility}
+use Rattle.kcr_base.specs.declared.refusal.Refusal.{Refusal}
+use Rattle.kcr_base.specs.declared.refusal.Refusal.TheVariants as Refusals
+use Rattle.kcr_base.specs.declared.refusal.Refusal.TheVariants.{Unknown, Taken, Range, Busy, Full, Unfinished}
+use Rattle.kcr_base.specs.declared.refusal.Part.TheVariants as Parts
+use Rattle.kcr_base.specs.declared.refusal.Thing.TheVariants as Things
+use Rattle.kcr_custody.specs.declared.Bag.{Bag}
+use Rattle.kcr_custody.specs.declared.SafeNumber.TheVariants.{One, Two}
+use Rattle.kcr_custody.specs.Custody.{is_open_by, is_on_table}
+use Rattle.kcr_room.specs.declared.Stay.{Stay}
+use Rattle.kcr_room.specs.Stays.{lasts_at}
+use Rattle.kcr_script.specs.declared.script.Step.{Step}
+use Rattle.kcr_script.specs.Reading.{script_of}
+use Rattle.kcr_history.specs.declared.rows.CeremonyRow.{CeremonyRow}
+use Rattle.kcr_history.specs.declared.rows.CeremonyState.TheVariants as States
+use Rattle.kcr_history.specs.declared.rows.StepRow.{StepRow}
+use Rattle.kcr_history.specs.declared.rows.StepState.{StepState}
+use Rattle.kcr_history.specs.declared.rows.StepState.TheVariants.{Undone}
+use Rattle.kcr_history.specs.declared.views.Change.{Change}
+use Rattle.kcr_history.specs.declared.views.Change.TheVariants.{PutCeremony, PutMark, PutStep}
+use Rattle.kcr_history.specs.declared.views.View.{View}
+use Rattle.kcr_history.specs.Conditions.{no_script}
+use Rattle.kcr_rules.specs.Scene.{ceremony_by, is_open_state, mark_by}
+
+-- OPENING
+
+-- another ceremony of the same facility, which is open
+abbrev pub is_open_beside : CeremonyRow → CeremonyRow → Bool
+is_open_beside row other =
+    not (other.number == row.number) && same_facility other.facility row.facility && is_open_state other.state
+
+-- why the ceremony of the row is not opened
+abbrev pub open_refusal : List CeremonyRow → Bool → ℕ → CeremonyRow → Option Refusal
+open_refusal rows full at row =
+    first_of
+    (when (nat_lt (day_of at) row.day) Range
+    ∷ when (is_some row.opened) Refusals.State
+    ∷ when (list_any (is_open_beside row) rows) Busy
+    ∷ when full Full
+    ∷ [])
+
+-- the same of a ceremony, which may be none
+abbrev pub opening_refusal : List CeremonyRow → Bool → ℕ → ℕ → Option CeremonyRow → Option Refusal
+opening_refusal rows full ceremony at None = Some (Unknown (Things.Ceremony ceremony))
+opening_refusal rows full ceremony at (Some row) = open_refusal rows full at row
+
+-- the ceremony is open from its row's moment on, which is its mark
+abbrev pub opening_changes : ℕ → ℕ → Option CeremonyRow → List Change
+opening_changes ceremony at None = []
+opening_changes ceremony at (Some row) =
+    PutCeremony (record row { state = States.Open; opened = Some at })
+    ∷ PutMark (record { ceremony = ceremony; at = at }) ∷ []
+
+-- CLOSING
+
+abbrev pub is_undone : StepState → Bool
+is_undone Undone = true
+is_undone state = false
+
+-- a step of the ceremony that is neither signed nor passed
+abbrev pub is_undone_of : ℕ → StepRow → Bool
+is_undone_of ceremony row = row.ceremony == ceremony && is_undone row.state
+
+-- a stay in the ceremony's room that begins or ends later than the moment, or has no end
+abbrev pub is_unended : ℕ → ℕ → Stay → Bool
+is_unended ceremony at stay = stay.ceremony == ceremony && (nat_lt at stay.since || lasts_at at stay.until)
+
+-- a bag on the facility's table
+abbrev pub lies_on_table : Facility → Bag → Bool
+lies_on_table facility bag = is_on_table facility (Some bag.spot)
+
+-- what keeps the ceremony of the row from closing
+abbrev pub unfinished_by : View → ℕ → ℕ → CeremonyRow → Option Refusal
+unfinished_by view ceremony at row =
+    first_of
+    (when (list_any (is_undone_of ceremony) view.steps.items) (Unfinished Parts.Steps)
+    ∷ when (list_any (is_unended ceremony at) view.stays.items) (Unfinished Parts.Room)
+    ∷ when (is_open_by view.safes.items row.facility One || is_open_by view.safes.items row.facility Two)
+    (Unfinished Parts.Safes)
+    ∷ when (list_any (lies_on_table row.facility) view.bags.items) (Unfinished Parts.Table)
+    ∷ [])
+
+-- why the ceremony of the row is not closed
+abbrev pub close_refusal : View → Bool → ℕ → ℕ → CeremonyRow → Option Refusal
+close_refusal view full ceremony at row =
+    first_of
+    (when (not (is_open_state row.state)) Refusals.State
+    ∷ is_late at (mark_by view.marks.items ceremony)
+    ∷ when full Full
+    ∷ unfinished_by view ceremony at row
+    ∷ [])
+
+-- the same of a ceremony, which may be none
+abbrev pub closing_refusal : View → Bool → ℕ → ℕ → Option CeremonyRow → Option Refusal
+closing_refusal view full ceremony at None = Some (Unknown (Things.Ceremony ceremony))
+closing_refusal view full ceremony at (Some row) = close_refusal view full ceremony at row
+
+-- the ceremony is closed from the moment on
+abbrev pub closing_changes : ℕ → Option CeremonyRow → List Change
+closing_changes at None = []
+closing_changes at (Some row) = PutCeremony (record row { state = States.Closed; closed = Some at }) ∷ []
+
+-- PLANNING
+
+-- why no ceremony is planned under the number
+abbrev pub plan_refusal : List CeremonyRow → Bool → ℕ → List ℕ → Option Refusal
+plan_refusal rows full number script =
+    first_of
+    (when (is_some (ceremony_by rows number)) Taken
+    ∷ no_script (script_of script)
+    ∷ when full Full
+    ∷ [])
+
+-- a ceremony that is planned
+abbrev pub planned_row : ℕ → Facility → ℕ → CeremonyRow
+planned_row number facility day =
+    record { number = number; facility = facility; day = day; state = States.Planned; opened = None; closed = None }
+
+-- a step of a ceremony, neither signed nor passed, under its number
+abbrev pub undone_row : ℕ → ℕ → Step → StepRow
+undone_row ceremony number step =
+    record {
+      ceremony = ceremony;
+      step = number;
+      activity = step.activity;
+      seats = step.seats;
+      state = Undone;
+      at = None;
+    }
+
+-- the rows of some steps, counting on from a number
+abbrev pub undone_rows : ℕ → ℕ → List Step → List StepRow
+undone_rows ceremony number [] = []
+undone_rows ceremony number (step ∷ steps) = undone_row ceremony number step ∷ undone_rows ceremony (number + 1) steps
+
+-- the ceremony, and its steps from 1 on
+abbrev pub planned_changes : ℕ → Facility → ℕ → List Step → List Change
+planned_changes number facility day steps =
+    PutCeremony (planned_row number facility day) ∷ map PutStep (undone_rows number 1 steps)
+
+abbrev pub plan_changes : ℕ → Facility → ℕ → List ℕ → List Change
+plan_changes number facility day script = planned_changes number facility day (result_unwrap_or (script_of script) [])

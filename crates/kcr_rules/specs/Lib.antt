@@ -1,0 +1,9 @@
+pub mod Scene
+pub mod Signing
+pub mod Own
+pub mod CeremonyRows
+pub mod CustodyRows
+pub mod RoomRows
+pub mod SheetRows
+pub mod Kinds
+pub mod ByRows

@@ -1,0 +1,151 @@
+-- Signatures and exceptions, by the rows of a view: the steps of a ceremony, who fits a seat, and who is seated.
+use Rattle.std.specs.Prelude.{◌≡◌, ℕ, suc, ◌==◌, Bool, true, false, not, ◌&&◌, nat_lt, nat_le, List, [], ◌∷◌, ◌++◌, map}
+use Rattle.std.specs.Prelude.{filter, length, find, get_or, slice_get, Option, Some, None, is_some, is_none, ◌⊎◌}
+use Rattle.kcr_base.specs.Days.{day_of}
+use Rattle.kcr_base.specs.Refuse.{when, first_of, no_ceremony, is_late}
+use Rattle.kcr_base.specs.declared.place.Role.TheVariants.{Ca, Iw}
+use Rattle.kcr_base.specs.declared.refusal.Refusal.{Refusal}
+use Rattle.kcr_base.specs.declared.refusal.Refusal.TheVariants as Refusals
+use Rattle.kcr_base.specs.declared.refusal.Refusal.TheVariants.{Unknown, Order, Full, Short, Disk}
+use Rattle.kcr_base.specs.declared.refusal.Thing.TheVariants as Things
+use Rattle.kcr_room.specs.Stays.{present_in_by}
+use Rattle.kcr_script.specs.declared.seat.Seat.{Seat}
+use Rattle.kcr_script.specs.declared.seat.Seat.TheVariants.{Staff}
+use Rattle.kcr_seats.specs.Seating.{IsFirst, IsLeast}
+use Rattle.kcr_history.specs.declared.rows.StepRow.{StepRow}
+use Rattle.kcr_history.specs.declared.rows.StepState.{StepState}
+use Rattle.kcr_history.specs.declared.rows.StepState.TheVariants.{Undone, Signed, Passed}
+use Rattle.kcr_history.specs.declared.rows.ExceptionRow.{ExceptionRow}
+use Rattle.kcr_history.specs.declared.views.Change.{Change}
+use Rattle.kcr_history.specs.declared.views.Change.TheVariants.{PutMark, PutStep, PutSeating, PutException}
+use Rattle.kcr_history.specs.declared.views.View.{View}
+use Rattle.kcr_history.specs.Fitting.{fits_by}
+use Rattle.kcr_history.specs.Machine.{Sitting}
+use Rattle.kcr_history.specs.Tables.{seat_rows}
+use Rattle.kcr_history.specs.Views.{is_step_of, is_exception_of}
+use Rattle.kcr_rules.specs.Scene.{ceremony_by, facility_by, is_open_row, mark_by}
+
+-- THE STEPS AND EXCEPTIONS OF A CEREMONY
+
+-- the row of a step
+abbrev pub step_by : List StepRow → ℕ → ℕ → Option StepRow
+step_by rows ceremony step = find (λ row. is_step_of ceremony row && row.step == step) rows
+
+-- the seats of the step's row
+abbrev pub seats_by : Option StepRow → List Seat
+seats_by None = []
+seats_by (Some row) = row.seats
+
+abbrev pub is_done : StepState → Bool
+is_done Undone = false
+is_done Signed = true
+is_done Passed = true
+
+-- how many steps of the ceremony are signed or passed
+abbrev pub done_by : List StepRow → ℕ → ℕ
+done_by rows ceremony = length (filter (λ row. is_step_of ceremony row && is_done row.state) rows)
+
+-- the step that is next: one more than those
+abbrev pub next_by : List StepRow → ℕ → ℕ
+next_by rows ceremony = suc (done_by rows ceremony)
+
+-- how many exceptions the ceremony has
+abbrev pub stated_by : List ExceptionRow → ℕ → ℕ
+stated_by rows ceremony = length (filter (is_exception_of ceremony) rows)
+
+-- THE FIRST REFUSAL, but for seats that lack people
+
+abbrev pub sign_refusal : View → Bool → ℕ → ℕ → ℕ → Option Refusal
+sign_refusal view full ceremony step at =
+    first_of
+    (no_ceremony (is_some (ceremony_by view.ceremonies.items ceremony)) ceremony
+    ∷ when (is_none (step_by view.steps.items ceremony step)) (Unknown (Things.Step step))
+    ∷ when (not (is_open_row (ceremony_by view.ceremonies.items ceremony))) Refusals.State
+    ∷ is_late at (mark_by view.marks.items ceremony)
+    ∷ when (not (step == next_by view.steps.items ceremony)) (Order (next_by view.steps.items ceremony))
+    ∷ when full Full
+    ∷ [])
+
+abbrev pub except_refusal : View → Bool → ℕ → Bool → ℕ → Option Refusal
+except_refusal view full ceremony pass at =
+    first_of
+    (no_ceremony (is_some (ceremony_by view.ceremonies.items ceremony)) ceremony
+    ∷ when (not (is_open_row (ceremony_by view.ceremonies.items ceremony))) Refusals.State
+    ∷ is_late at (mark_by view.marks.items ceremony)
+    ∷ when (pass && is_none (step_by view.steps.items ceremony (next_by view.steps.items ceremony)))
+    (Order (next_by view.steps.items ceremony))
+    ∷ when (nat_le 200 (stated_by view.exceptions.items ceremony)) Full
+    ∷ when full Full
+    ∷ [])
+
+-- WHO FITS A SEAT
+
+-- there is a seat, and the person is one for it
+abbrev pub on_seat : (Seat → List ℕ → Bool) → Option Seat → List ℕ → Bool
+on_seat fit None who = false
+on_seat fit (Some seat) who = fit seat who
+
+-- the same by the numbers of seats and people, from 0
+abbrev pub fits_of : (Seat → List ℕ → Bool) → List Seat → List (List ℕ) → ℕ → ℕ → Bool
+fits_of fit seats people seat person = on_seat fit (slice_get seats seat) (get_or people person [])
+
+-- everybody in the room
+abbrev pub room_by : View → Sitting → List (List ℕ)
+room_by view s = present_in_by view.stays.items s.ceremony s.at
+
+-- which of them fits which of the seats
+abbrev pub fits_in : View → Sitting → ℕ → ℕ → Bool
+fits_in view s =
+    fits_of (fits_by view.trainings.items view.withdrawals.items view.appointments.items
+    (facility_by (ceremony_by view.ceremonies.items s.ceremony)) (day_of s.at))
+    s.seats (room_by view s)
+
+-- the people are those whom the search names
+pub record IsSeatedBy (view : View) (s : Sitting) (people : List (List ℕ)) : Type 0 where
+  pub numbers : List ℕ
+  pub first : IsFirst (fits_in view s) (length s.seats) (length (room_by view s)) numbers
+  pub named : people ≡ map (λ person. get_or (room_by view s) person []) numbers
+
+-- the positions are the seats that the search names, counted from 1
+pub record IsShortBy (view : View) (s : Sitting) (positions : List ℕ) : Type 0 where
+  pub numbers : List ℕ
+  pub least : IsLeast (fits_in view s) (length s.seats) (length (room_by view s)) numbers
+  pub counted : positions ≡ map suc numbers
+
+-- nobody is seated: seats lack people, which the refusal names; or there are more people in the room than may be
+abbrev pub IsUnseatedBy : View → Sitting → Refusal → Type 0
+IsUnseatedBy view s refusal =
+    ((positions : List ℕ) × IsShortBy view s positions × (refusal ≡ Short positions))
+    ⊎ ((refusal ≡ Disk) × (nat_lt 128 (length (room_by view s)) ≡ true))
+
+-- the seats of an exception that passes a step
+abbrev pub staff : List Seat
+staff = Staff Ca ∷ Staff Iw ∷ []
+
+-- CHANGES
+
+-- the step's row with what became of it
+abbrev pub step_change : Option StepRow → StepState → ℕ → List Change
+step_change None state at = []
+step_change (Some old) state at = PutStep (record old { state = state; at = Some at }) ∷ []
+
+abbrev pub mark_change : ℕ → ℕ → Change
+mark_change ceremony at = PutMark (record { ceremony = ceremony; at = at })
+
+-- the step's row, the rows of its seats, the mark
+abbrev pub seat_changes : View → StepState → ℕ → ℕ → ℕ → List (List ℕ) → List Change
+seat_changes view state ceremony step at people =
+    step_change (step_by view.steps.items ceremony step) state at ++ map PutSeating (seat_rows ceremony step 0 people)
+    ++ mark_change ceremony at ∷ []
+
+-- the row of an exception
+abbrev pub exception_change : View → ℕ → List ℕ → ℕ → Option ℕ → Change
+exception_change view ceremony text at passed =
+    PutException
+    (record {
+      ceremony = ceremony;
+      exception = suc (stated_by view.exceptions.items ceremony);
+      text = text;
+      at = at;
+      passed = passed;
+    })

@@ -1,0 +1,190 @@
+//! Boxes added, and ceremonies planned and opened, over the rows of a view.
+ghost use Rattle.std.specs.Prelude.{◌≡◌, ◌≤◌, ◌++◌, length, map, Ok, Err, IfOk};
+ghost use Rattle.std.specs.List.{list_any};
+ghost use Rattle.kcr_base.specs.Refuse.{unless};
+ghost use Rattle.kcr_custody.specs.Custody;
+ghost use Rattle.kcr_script.specs.Fault.{IfRow};
+ghost use Rattle.kcr_script.specs.Reading.{script_of};
+ghost use Rattle.kcr_history.specs.declared.commands.Act.TheVariants as Kinds;
+ghost use Rattle.kcr_history.specs.declared.views.Change.TheVariants.{PutStep};
+ghost use Rattle.kcr_rules.specs.ByRows.{ComesTo};
+ghost use Rattle.kcr_rules.specs.CeremonyRows;
+ghost use Rattle.kcr_rules.specs.Scene;
+
+use crate::people::{both, only};
+use crate::scene::ceremony_row;
+use kcr_base::{Day, Facility, Moment, Place, Refusal, Text, Thing};
+use kcr_custody::BoxRow;
+use kcr_history::{CeremonyRow, CeremonyState, Change, MarkRow, StepRow, StepState, View};
+use kcr_script::{Script, Step, read_script};
+use std::alloc::{AllocError, Global};
+
+/// Adds a box.
+#[tactic(auto, using(crate::proofs::Unless::refused, crate::proofs::Unless::accepted))]
+pub(crate) fn add_box(
+    alloc: Global,
+    view: &View,
+    full: bool,
+    facility: Facility,
+    number: u32,
+    place: Place,
+) -> Result<Vec<Change>, Refusal>
+    ensures { ComesTo view.now full (Kinds.AddBox facility number place) result }
+{
+    let row = BoxRow {
+        facility,
+        number,
+        place,
+    };
+    let row = kcr_custody::add_box(&view.boxes, full, row)?;
+    Ok(only(alloc, Change::PutBox(row))?)
+}
+
+/// Whether the ceremony is open.
+pub(crate) fn is_open(state: CeremonyState) -> bool
+    ensures { result ≡ Scene.is_open_state state }
+{
+    match state {
+        CeremonyState::Open => true,
+        CeremonyState::Planned | CeremonyState::Closed => false,
+    }
+}
+
+/// Whether another ceremony is open in the same facility.
+fn is_open_beside(row: CeremonyRow, other: CeremonyRow) -> bool
+    ensures { result ≡ CeremonyRows.is_open_beside row other }
+{
+    other.number != row.number && other.facility == row.facility && is_open(other.state)
+}
+
+/// Whether any other ceremony is open in the same facility.
+fn is_busy(rows: &[CeremonyRow], row: CeremonyRow) -> bool
+    ensures { result ≡ list_any (CeremonyRows.is_open_beside row) rows.now }
+{
+    rows.iter().any(|other| is_open_beside(row, *other))
+}
+
+/// Why the ceremony of the row is not opened.
+fn open_refusal(rows: &[CeremonyRow], full: bool, at: Moment, row: CeremonyRow) -> Option<Refusal>
+    ensures { result ≡ CeremonyRows.open_refusal rows.now full at row }
+{
+    if at.day() < row.day {
+        return Some(Refusal::Range);
+    }
+    if row.opened.is_some() {
+        return Some(Refusal::State);
+    }
+    if is_busy(rows, row) {
+        return Some(Refusal::Busy);
+    }
+    if full {
+        return Some(Refusal::Full);
+    }
+    None
+}
+
+/// Opens a planned ceremony.
+pub(crate) fn open(
+    alloc: Global,
+    view: &View,
+    full: bool,
+    ceremony: u32,
+    at: Moment,
+) -> Result<Vec<Change>, Refusal>
+    ensures { ComesTo view.now full (Kinds.Open ceremony at) result }
+{
+    let Some(row) = ceremony_row(view, ceremony) else {
+        return Err(Refusal::Unknown {
+            thing: Thing::Ceremony(ceremony),
+        });
+    };
+    if let Some(refusal) = open_refusal(&view.ceremonies, full, at, row) {
+        return Err(refusal);
+    }
+    let opened = CeremonyRow {
+        state: CeremonyState::Open,
+        opened: Some(at),
+        ..row
+    };
+    Ok(both(
+        alloc,
+        Change::PutCeremony(opened),
+        Change::PutMark(MarkRow { ceremony, at }),
+    )?)
+}
+
+/// The row of a step that is neither signed nor passed, under its number.
+fn undone(ceremony: u32, number: u32, step: &Step) -> Result<StepRow, AllocError>
+    ensures { IfOk result (λ row. row ≡ CeremonyRows.undone_row ceremony number step.now) }
+{
+    Ok(StepRow {
+        ceremony,
+        step: number,
+        activity: step.activity.clone()?,
+        seats: step.seats.clone()?,
+        state: StepState::Undone,
+        at: None,
+    })
+}
+
+/// Adds the rows of a script's steps to the changes so far.
+fn push_steps(
+    mut changes: Vec<Change>,
+    ceremony: u32,
+    steps: &[Step],
+) -> Result<Vec<Change>, AllocError>
+    requires { length steps.now ≤ 400 }
+    ensures { IfOk result (λ all. all.items ≡ changes.items
+        ++ map PutStep (CeremonyRows.undone_rows ceremony 1 steps.now)) }
+{
+    let mut number = 1u32;
+    for step in steps {
+        changes.push(Change::PutStep(undone(ceremony, number, step)?))?;
+        number += 1;
+    }
+    Ok(changes)
+}
+
+/// The rows of a planned ceremony and of its steps.
+fn planned(
+    alloc: Global,
+    number: u32,
+    facility: Facility,
+    day: Day,
+    script: &Script,
+) -> Result<Vec<Change>, AllocError>
+    ensures { IfOk result (λ changes. changes.items ≡ CeremonyRows.planned_changes number facility day script.now) }
+{
+    let row = CeremonyRow {
+        number,
+        facility,
+        day,
+        state: CeremonyState::Planned,
+        opened: None,
+        closed: None,
+    };
+    let changes = only(alloc, Change::PutCeremony(row))?;
+    push_steps(changes, number, script.as_slice())
+}
+
+/// Plans a ceremony with the steps of its script.
+pub(crate) fn plan(
+    alloc: Global,
+    view: &View,
+    full: bool,
+    number: u32,
+    facility: Facility,
+    day: Day,
+    script: &Text,
+) -> Result<Vec<Change>, Refusal>
+    ensures { ComesTo view.now full (Kinds.Plan number facility day script.now) result }
+{
+    if ceremony_row(view, number).is_some() {
+        return Err(Refusal::Taken);
+    }
+    let steps = read_script(alloc, script.as_bytes())?;
+    if full {
+        return Err(Refusal::Full);
+    }
+    Ok(planned(alloc, number, facility, day, &steps)?)
+}

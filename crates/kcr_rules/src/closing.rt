@@ -1,0 +1,165 @@
+//! Ceremonies closed, over the rows of a view.
+ghost use Rattle.std.specs.Prelude.{◌≡◌};
+ghost use Rattle.std.specs.List.{list_any};
+ghost use Rattle.kcr_custody.specs.Custody;
+ghost use Rattle.kcr_history.specs.declared.commands.Act.TheVariants as Kinds;
+ghost use Rattle.kcr_rules.specs.ByRows.{ComesTo};
+ghost use Rattle.kcr_rules.specs.CeremonyRows;
+ghost use Rattle.kcr_room.specs.Stays;
+
+use crate::ceremonies::is_open;
+use crate::people::only;
+use crate::scene::{ceremony_row, mark};
+use kcr_base::{Facility, Moment, Part, Refusal, Thing};
+use kcr_custody::{Bag, SafeNumber, Spot};
+use kcr_history::{CeremonyRow, CeremonyState, Change, StepRow, StepState, View};
+use kcr_room::Stay;
+use std::alloc::Global;
+
+/// Whether a step was neither signed nor passed.
+fn is_undone(state: StepState) -> bool
+    ensures { result ≡ CeremonyRows.is_undone state }
+{
+    match state {
+        StepState::Undone => true,
+        StepState::Signed | StepState::Passed => false,
+    }
+}
+
+/// Whether the row is a step of the ceremony that was neither signed nor passed.
+fn is_undone_of(ceremony: u32, row: &StepRow) -> bool
+    ensures { result ≡ CeremonyRows.is_undone_of ceremony row.now }
+{
+    row.ceremony == ceremony && is_undone(row.state)
+}
+
+/// Whether a step of the ceremony was neither signed nor passed.
+fn has_undone(view: &View, ceremony: u32) -> bool
+    ensures { result ≡ list_any (CeremonyRows.is_undone_of ceremony) view.now.steps.items }
+{
+    view.steps.iter().any(|row| is_undone_of(ceremony, row))
+}
+
+/// Whether an end is none, or later than the moment.
+fn lasts(at: Moment, until: Option<Moment>) -> bool
+    ensures { result ≡ Stays.lasts_at at until }
+{
+    match until {
+        None => true,
+        Some(until) => at < until,
+    }
+}
+
+/// Whether the stay in the ceremony's room begins or ends later than the moment, or has no end.
+fn is_unended(ceremony: u32, at: Moment, stay: Stay) -> bool
+    ensures { result ≡ CeremonyRows.is_unended ceremony at stay }
+{
+    stay.ceremony == ceremony && (at < stay.since || lasts(at, stay.until))
+}
+
+/// Whether anybody is in the ceremony's room at the moment, or comes or goes later.
+fn is_room_used(view: &View, ceremony: u32, at: Moment) -> bool
+    ensures { result ≡ list_any (CeremonyRows.is_unended ceremony at) view.now.stays.items }
+{
+    view.stays
+        .iter()
+        .any(|stay| is_unended(ceremony, at, *stay))
+}
+
+/// Whether the safe is open.
+fn is_safe_open(view: &View, facility: Facility, safe: SafeNumber) -> bool
+    ensures { result ≡ Custody.is_open_by view.now.safes.items facility safe }
+{
+    kcr_custody::rows::is_open(&view.safes, facility, safe)
+}
+
+/// Whether the bag is on the facility's table.
+fn lies_on_table(facility: Facility, bag: Bag) -> bool
+    ensures { result ≡ CeremonyRows.lies_on_table facility bag }
+{
+    match bag.spot {
+        Spot::Table(other) => other == facility,
+        Spot::Equipment(_) | Spot::InBox(_, _) | Spot::Spent => false,
+    }
+}
+
+/// Whether a bag is on the facility's table.
+fn has_bag_on_table(view: &View, facility: Facility) -> bool
+    ensures { result ≡ list_any (CeremonyRows.lies_on_table facility) view.now.bags.items }
+{
+    view.bags.iter().any(|bag| lies_on_table(facility, *bag))
+}
+
+/// What keeps the ceremony of the row from closing: the first of its steps, its room, the safes, the table.
+fn unfinished(view: &View, ceremony: u32, at: Moment, row: CeremonyRow) -> Option<Refusal>
+    ensures { result ≡ CeremonyRows.unfinished_by view.now ceremony at row }
+{
+    if has_undone(view, ceremony) {
+        return Some(Refusal::Unfinished { part: Part::Steps });
+    }
+    if is_room_used(view, ceremony, at) {
+        return Some(Refusal::Unfinished { part: Part::Room });
+    }
+    if is_safe_open(view, row.facility, SafeNumber::One)
+        || is_safe_open(view, row.facility, SafeNumber::Two)
+    {
+        return Some(Refusal::Unfinished { part: Part::Safes });
+    }
+    if has_bag_on_table(view, row.facility) {
+        return Some(Refusal::Unfinished { part: Part::Table });
+    }
+    None
+}
+
+/// Why the ceremony of the row is not closed.
+fn close_refusal(
+    view: &View,
+    full: bool,
+    ceremony: u32,
+    at: Moment,
+    row: CeremonyRow,
+) -> Option<Refusal>
+    ensures { result ≡ CeremonyRows.close_refusal view.now full ceremony at row }
+{
+    if !is_open(row.state) {
+        return Some(Refusal::State);
+    }
+    if let Some(mark) = mark(view, ceremony)
+        && at < mark
+    {
+        return Some(Refusal::Late { mark });
+    }
+    if full {
+        return Some(Refusal::Full);
+    }
+    if let Some(refusal) = unfinished(view, ceremony, at, row) {
+        return Some(refusal);
+    }
+    None
+}
+
+/// Closes an open ceremony.
+pub(crate) fn close(
+    alloc: Global,
+    view: &View,
+    full: bool,
+    ceremony: u32,
+    at: Moment,
+) -> Result<Vec<Change>, Refusal>
+    ensures { ComesTo view.now full (Kinds.Close ceremony at) result }
+{
+    let Some(row) = ceremony_row(view, ceremony) else {
+        return Err(Refusal::Unknown {
+            thing: Thing::Ceremony(ceremony),
+        });
+    };
+    if let Some(refusal) = close_refusal(view, full, ceremony, at, row) {
+        return Err(refusal);
+    }
+    let closed = CeremonyRow {
+        state: CeremonyState::Closed,
+        closed: Some(at),
+        ..row
+    };
+    Ok(only(alloc, Change::PutCeremony(closed))?)
+}

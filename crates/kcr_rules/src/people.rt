@@ -1,0 +1,217 @@
+//! Acts on people and custodians, over the rows of a view.
+ghost use Rattle.std.specs.Prelude.{◌≡◌, [], ◌∷◌, IfOk, map};
+ghost use Rattle.kcr_history.specs.declared.commands.Act.TheVariants as Kinds;
+ghost use Rattle.kcr_history.specs.declared.views.Change.TheVariants.{PutWithdrawal};
+ghost use Rattle.kcr_base.specs.Refuse.{unless};
+ghost use Rattle.kcr_people.specs.People;
+ghost use Rattle.kcr_rules.specs.ByRows.{ComesTo, new_appointment, settled_by};
+ghost use Rattle.kcr_history.specs.History.{greatest, with_mark};
+
+use kcr_base::{Day, Initials, Moment, Name, Place, Refusal, Role};
+use kcr_history::{Change, MarkRow, View};
+use kcr_people::{Appointment, Person, Training, Withdrawal};
+use std::alloc::{AllocError, Global};
+
+/// The greater of a mark so far, if there is one, and one more.
+fn greater(found: Option<Moment>, at: Moment) -> Option<Moment>
+    ensures { result ≡ with_mark found at }
+{
+    match found {
+        Some(mark) if at <= mark => Some(mark),
+        _ => Some(at),
+    }
+}
+
+/// The greatest of the marks, or None where there is none.
+#[tactic(auto, using(kcr_history::proofs::Marks::next_mark))]
+fn greatest_mark(marks: &[MarkRow]) -> Option<Moment>
+    ensures { result ≡ greatest (map (λ row. row.at) marks.now) }
+{
+    let mut found: Option<Moment> = None;
+    for row in marks {
+        found = greater(found, row.at);
+    }
+    found
+}
+
+/// The settled day: that of the greatest mark, or None where there is no mark.
+pub(crate) fn settled(marks: &[MarkRow]) -> Option<Day>
+    ensures { result ≡ settled_by marks.now }
+{
+    greatest_mark(marks).map(|mark| mark.day())
+}
+
+/// One change alone.
+pub(crate) fn only(alloc: Global, change: Change) -> Result<Vec<Change>, AllocError>
+    ensures { IfOk result (λ changes. changes.items ≡ change ∷ []) }
+{
+    let mut changes = Vec::new(alloc);
+    changes.push(change)?;
+    Ok(changes)
+}
+
+/// Two changes, in this order.
+pub(crate) fn both(alloc: Global, first: Change, second: Change) -> Result<Vec<Change>, AllocError>
+    ensures { IfOk result (λ changes. changes.items ≡ first ∷ second ∷ []) }
+{
+    let mut changes = Vec::new(alloc);
+    changes.push(first)?;
+    changes.push(second)?;
+    Ok(changes)
+}
+
+/// Enters a person: the row to put, or the first refusal.
+pub(crate) fn enter(
+    alloc: Global,
+    view: &View,
+    full: bool,
+    who: Initials,
+    name: &Name,
+) -> Result<Vec<Change>, Refusal>
+    ensures { ComesTo view.now full (Kinds.Enter who name.now) result }
+{
+    let person = Person {
+        who,
+        name: name.clone()?,
+    };
+    let person = kcr_people::enter(&view.people, full, person)?;
+    let mut changes = Vec::new(alloc);
+    changes.push(Change::PutPerson(person))?;
+    Ok(changes)
+}
+
+/// Trains a person.
+#[tactic(auto, using(crate::proofs::Unless::refused, crate::proofs::Unless::accepted))]
+pub(crate) fn train(
+    alloc: Global,
+    view: &View,
+    full: bool,
+    who: Initials,
+    role: Role,
+    since: Day,
+    until: Day,
+) -> Result<Vec<Change>, Refusal>
+    ensures { ComesTo view.now full (Kinds.Train who role since until) result }
+{
+    let training = Training {
+        who,
+        role,
+        since,
+        until,
+    };
+    let row = kcr_people::train(
+        &view.people,
+        &view.trainings,
+        &view.appointments,
+        full,
+        training,
+    )?;
+    Ok(only(alloc, Change::PutTraining(row))?)
+}
+
+/// The rows of withdrawals as changes.
+fn withdrawal_changes(alloc: Global, rows: &[Withdrawal]) -> Result<Vec<Change>, AllocError>
+    ensures { IfOk result (λ changes. changes.items ≡ map PutWithdrawal rows.now) }
+{
+    let mut changes = Vec::new(alloc);
+    for row in rows {
+        changes.push(Change::PutWithdrawal(*row))?;
+    }
+    Ok(changes)
+}
+
+/// Withdraws a person's trainings for a role.
+pub(crate) fn withdraw(
+    alloc: Global,
+    view: &View,
+    full: bool,
+    who: Initials,
+    role: Role,
+    day: Day,
+) -> Result<Vec<Change>, Refusal>
+    ensures { ComesTo view.now full (Kinds.Withdraw who role day) result }
+{
+    let rows = kcr_people::withdraw(
+        alloc,
+        &view.people,
+        &view.trainings,
+        &view.withdrawals,
+        settled(&view.marks),
+        full,
+        who,
+        role,
+        day,
+    )?;
+    let changes = withdrawal_changes(alloc, rows.as_slice())?;
+    Ok(changes)
+}
+
+/// Puts a person in a vacant place.
+#[tactic(auto, using(crate::proofs::Unless::refused, crate::proofs::Unless::accepted))]
+pub(crate) fn appoint(
+    alloc: Global,
+    view: &View,
+    full: bool,
+    place: Place,
+    who: Initials,
+    day: Day,
+) -> Result<Vec<Change>, Refusal>
+    ensures { ComesTo view.now full (Kinds.Appoint place who day) result }
+{
+    let row = kcr_people::appoint(
+        &view.people,
+        &view.trainings,
+        &view.appointments,
+        settled(&view.marks),
+        full,
+        place,
+        who,
+        day,
+    )?;
+    Ok(only(alloc, Change::PutAppointment(row))?)
+}
+
+/// Puts a person in the place of its holder.
+#[tactic(auto, using(crate::proofs::Unless::refused, crate::proofs::Unless::accepted))]
+pub(crate) fn replace(
+    alloc: Global,
+    view: &View,
+    full: bool,
+    place: Place,
+    who: Initials,
+    day: Day,
+) -> Result<Vec<Change>, Refusal>
+    ensures { ComesTo view.now full (Kinds.Replace place who day) result }
+{
+    let (ended, row) = kcr_people::replace(
+        &view.people,
+        &view.trainings,
+        &view.appointments,
+        settled(&view.marks),
+        full,
+        place,
+        who,
+        day,
+    )?;
+    Ok(both(
+        alloc,
+        Change::PutAppointment(ended),
+        Change::PutAppointment(row),
+    )?)
+}
+
+/// Makes a place vacant.
+#[tactic(auto, using(crate::proofs::Unless::refused, crate::proofs::Unless::accepted))]
+pub(crate) fn release(
+    alloc: Global,
+    view: &View,
+    full: bool,
+    place: Place,
+    day: Day,
+) -> Result<Vec<Change>, Refusal>
+    ensures { ComesTo view.now full (Kinds.Release place day) result }
+{
+    let last = settled(&view.marks);
+    let ended = kcr_people::release(&view.appointments, last, full, place, day)?;
+    Ok(only(alloc, Change::PutAppointment(ended))?)
+}

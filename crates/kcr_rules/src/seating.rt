@@ -1,0 +1,167 @@
+//! Who is seated: the people in the room, the seats that each of them fits, and the search over both.
+ghost use Rattle.std.specs.Prelude.{◌≡◌, ◌≢◌, ◌&&◌, [], ◌<◌, ◌≤◌, nat_le, MatchResult, IfOk, EachIndex, slice_index};
+ghost use Rattle.std.specs.Prelude.{get_or, length, map, filter};
+ghost use Rattle.kcr_base.specs.declared.refusal.Refusal.TheVariants.{Memory};
+ghost use Rattle.kcr_seats.specs.Outcome.{IsOutcome};
+ghost use Rattle.kcr_history.specs.Fitting.{fits_by};
+ghost use Rattle.kcr_history.specs.Machine.{Sitting};
+ghost use Rattle.kcr_history.specs.Views.{is_training_of};
+ghost use Rattle.kcr_rules.specs.Own.{own_of};
+ghost use Rattle.kcr_rules.specs.Signing;
+
+use crate::scene;
+use kcr_base::{Day, Facility, Initials, Moment, Positions, Refusal};
+use kcr_history::{InitialsList, View, fits};
+use kcr_people::{Appointment, Training, Withdrawal};
+use kcr_script::Seat;
+use kcr_seats::{Fits, Outcome};
+use std::alloc::{AllocError, Global};
+
+/// At most this many people are in a room.
+const MOST_PEOPLE: usize = 128;
+
+/// The seats and people of one search, with the rows that tell who fits what. Each person's trainings stand by
+/// themselves, since the search asks for every seat and person.
+#[derive(Drop)]
+struct Room<'a> {
+    seats: &'a [Seat],
+    people: &'a [Initials],
+    trainings: &'a [Training],
+    own: &'a [Vec<Training>],
+    withdrawals: &'a [Withdrawal],
+    rows: &'a [Appointment],
+    facility: Facility,
+    day: Day,
+    ghost split: { map (λ rows. rows.items) own.now ≡ own_of trainings.now people.now },
+}
+
+impl Fits for Room<'_> {
+    ghost seat_count = { λ room. length room.seats.now };
+
+    ghost person_count = { λ room. length room.people.now };
+
+    ghost relation = { λ room. Signing.fits_of
+        (fits_by room.trainings.now room.withdrawals.now room.rows.now room.facility room.day) room.seats.now
+        room.people.now };
+
+    fn seats(&self) -> usize {
+        self.seats.len()
+    }
+
+    fn people(&self) -> usize {
+        self.people.len()
+    }
+
+    fn fits(&self, seat: usize, person: usize) -> bool {
+        fits(
+            &self.own[person],
+            self.withdrawals,
+            self.rows,
+            self.facility,
+            self.day,
+            self.seats[seat],
+            self.people[person],
+        )
+    }
+}
+
+/// The trainings of a person.
+fn trainings_of(
+    alloc: Global,
+    trainings: &[Training],
+    who: Initials,
+) -> Result<Vec<Training>, AllocError>
+    ensures { IfOk result (λ own. own.items ≡ filter (is_training_of who) trainings.now) }
+{
+    let mut own = Vec::new(alloc);
+    for row in trainings {
+        if row.who == who {
+            own.push(*row)?;
+        }
+    }
+    Ok(own)
+}
+
+/// The trainings of each of the people.
+fn own_trainings(
+    alloc: Global,
+    trainings: &[Training],
+    people: &[Initials],
+) -> Result<Vec<Vec<Training>>, AllocError>
+    ensures { IfOk result (λ own. map (λ rows. rows.items) own.items ≡ own_of trainings.now people.now) }
+{
+    let mut own = Vec::new(alloc);
+    for who in people {
+        own.push(trainings_of(alloc, trainings, *who)?)?;
+    }
+    Ok(own)
+}
+
+/// Seats these people by their numbers, or names seats that too few of them fit.
+fn search(
+    alloc: Global,
+    view: &View,
+    facility: Facility,
+    day: Day,
+    seats: &[Seat],
+    people: &[Initials],
+) -> Result<Outcome, AllocError>
+    requires seats { length seats.now ≤ 16 }
+    requires people { length people.now ≤ 128 }
+    ensures { IfOk result (λ answer. IsOutcome
+        (Signing.fits_of (fits_by view.now.trainings.items view.now.withdrawals.items view.now.appointments.items
+        facility day) seats.now people.now)
+        (length seats.now) (length people.now) answer) }
+{
+    let own = own_trainings(alloc, &view.trainings, people)?;
+    let room = Room {
+        seats,
+        people,
+        trainings: &view.trainings,
+        own: &own,
+        withdrawals: &view.withdrawals,
+        rows: &view.appointments,
+        facility,
+        day,
+    };
+    kcr_seats::seat_uncounted(alloc, &room)
+}
+
+/// The people with these numbers.
+fn named(alloc: Global, people: &[Initials], numbers: &[usize]) -> Result<InitialsList, AllocError>
+    requires { EachIndex numbers.now (λ i. slice_index numbers.now i < length people.now) }
+    ensures { IfOk result (λ list. list ≡ map (λ person. get_or people.now person []) numbers.now) }
+{
+    let mut list = Vec::new(alloc);
+    for number in numbers {
+        list.push(people[*number])?;
+    }
+    Ok(InitialsList::new(list))
+}
+
+/// Fills the seats in the room of a ceremony: the people seat by seat, or the refusal that names seats that too few
+/// people fit. A room with more people than may be in one is no register's: then the database gave wrong rows.
+pub fn seat(
+    alloc: Global,
+    view: &View,
+    ceremony: u32,
+    at: Moment,
+    seats: &[Seat],
+) -> Result<InitialsList, Refusal>
+    requires few { length seats.now ≤ 16 }
+    ensures { let s : Sitting = record { ceremony = ceremony; at = at; seats = seats.now } in MatchResult result
+        (λ people. Signing.IsSeatedBy view.now s people × (length people ≤ 16))
+        (λ refusal. refusal ≢ Memory → Signing.IsUnseatedBy view.now s refusal) }
+{
+    let facility = scene::facility(&scene::ceremony_row(view, ceremony));
+    let people = scene::present(alloc, view, ceremony, at)?;
+    if people.len() > MOST_PEOPLE {
+        return Err(Refusal::Disk);
+    }
+    match search(alloc, view, facility, at.day(), seats, &people)? {
+        Outcome::Seated(numbers) => Ok(named(alloc, &people, &numbers)?),
+        Outcome::Short(numbers) => Err(Refusal::Short {
+            seats: Positions::from_indices(&numbers),
+        }),
+    }
+}

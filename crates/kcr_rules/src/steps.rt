@@ -1,0 +1,255 @@
+//! Steps and exceptions of a ceremony, over the rows of a view: which step is next, why a step may not be signed or an
+//! exception not be stated, their seats aside, and the rows that both put.
+ghost use Rattle.std.specs.Prelude.{◌≡◌, ◌≤◌, ◌++◌, ◌∷◌, [], None, Some, suc, length, map, option_copied, true, false};
+ghost use Rattle.std.specs.Prelude.{nat_lt, MatchResult, IfOk, OnOk};
+ghost use Rattle.kcr_history.specs.Tables.{seat_rows};
+ghost use Rattle.kcr_history.specs.declared.views.Change.TheVariants as Changes;
+ghost use Rattle.kcr_rules.specs.Signing;
+
+use crate::scene;
+use kcr_base::{Initials, Moment, Refusal, Remark, Thing};
+use kcr_history::{
+    Change, ExceptionRow, InitialsList, MarkRow, SeatingRow, StepRow, StepState, View,
+};
+use kcr_script::Seat;
+use std::alloc::{AllocError, Global};
+
+/// At most this many steps a script has.
+const MOST_STEPS: usize = 400;
+
+/// At most this many exceptions are stated in a ceremony.
+const MOST_EXCEPTIONS: usize = 200;
+
+/// Whether a step is signed or passed.
+fn is_done(state: StepState) -> bool
+    ensures { result ≡ Signing.is_done state }
+{
+    match state {
+        StepState::Undone => false,
+        StepState::Signed | StepState::Passed => true,
+    }
+}
+
+/// How many steps of the ceremony are signed or passed.
+fn done(rows: &[StepRow], ceremony: u32) -> usize
+    ensures { result ≡ Signing.done_by rows.now ceremony }
+{
+    rows.iter()
+        .filter(|row| row.ceremony == ceremony && is_done(row.state))
+        .count()
+}
+
+/// How many exceptions the ceremony has.
+fn stated(rows: &[ExceptionRow], ceremony: u32) -> usize
+    ensures { result ≡ Signing.stated_by rows.now ceremony }
+{
+    rows.iter().filter(|row| row.ceremony == ceremony).count()
+}
+
+/// The row of a step, counted from 1; None where the ceremony has no such step.
+pub fn step_row(rows: &[StepRow], ceremony: u32, step: u32) -> Option<&StepRow>
+    ensures { option_copied result ≡ Signing.step_by rows.now ceremony step }
+{
+    rows.iter()
+        .find(|row| row.ceremony == ceremony && row.step == step)
+}
+
+/// The number, counted from 1, of the step that is next: one more than are signed or passed. The refusal is 34, where
+/// more steps are done than a script has: no register has such rows.
+pub fn next(view: &View, ceremony: u32) -> Result<u32, Refusal>
+    ensures { MatchResult result
+        (λ step. step ≡ Signing.next_by view.now.steps.items ceremony)
+        (λ _. nat_lt 400 (Signing.done_by view.now.steps.items ceremony) ≡ true) }
+{
+    let done = done(&view.steps, ceremony);
+    if done > MOST_STEPS {
+        return Err(Refusal::Disk);
+    }
+    Ok(done as u32 + 1)
+}
+
+/// Whether the step may be signed, but for its seats, or the first refusal: there is no such ceremony or step (12), the
+/// ceremony is not open (20), the moment is before its mark (22), another step is next (23), or the register is full
+/// (27). It is 34 where `next` is.
+pub fn may_sign(
+    view: &View,
+    full: bool,
+    ceremony: u32,
+    step: u32,
+    at: Moment,
+) -> Result<(), Refusal>
+    ensures { MatchResult result
+        (λ _. Signing.sign_refusal view.now full ceremony step at ≡ None)
+        (λ refusal. nat_lt 400 (Signing.done_by view.now.steps.items ceremony) ≡ false
+        → Signing.sign_refusal view.now full ceremony step at ≡ Some refusal) }
+{
+    let row = scene::ceremony_row(view, ceremony);
+    if row.is_none() {
+        return Err(Refusal::Unknown {
+            thing: Thing::Ceremony(ceremony),
+        });
+    }
+    if step_row(&view.steps, ceremony, step).is_none() {
+        return Err(Refusal::Unknown {
+            thing: Thing::Step(step),
+        });
+    }
+    if !scene::is_open(&row) {
+        return Err(Refusal::State);
+    }
+    if let Some(mark) = scene::mark(view, ceremony)
+        && at < mark
+    {
+        return Err(Refusal::Late { mark });
+    }
+    let next = next(view, ceremony)?;
+    if step != next {
+        return Err(Refusal::Order { next });
+    }
+    if full {
+        return Err(Refusal::Full);
+    }
+    Ok(())
+}
+
+/// The number of the exception, counted from 1, where it may be stated, but for the seats of one that passes a step, or
+/// the first refusal: there is no such ceremony (12), it is not open (20), the moment is before its mark (22), no step
+/// is left to pass (23), or the ceremony has 200 exceptions or the register is full (27). It is 34 where `next` is.
+pub fn may_except(
+    view: &View,
+    full: bool,
+    ceremony: u32,
+    pass: bool,
+    at: Moment,
+) -> Result<u32, Refusal>
+    ensures { MatchResult result
+        (λ number. (Signing.except_refusal view.now full ceremony pass at ≡ None)
+        × (number ≡ suc (Signing.stated_by view.now.exceptions.items ceremony)))
+        (λ refusal. nat_lt 400 (Signing.done_by view.now.steps.items ceremony) ≡ false
+        → Signing.except_refusal view.now full ceremony pass at ≡ Some refusal) }
+{
+    let row = scene::ceremony_row(view, ceremony);
+    if row.is_none() {
+        return Err(Refusal::Unknown {
+            thing: Thing::Ceremony(ceremony),
+        });
+    }
+    if !scene::is_open(&row) {
+        return Err(Refusal::State);
+    }
+    if let Some(mark) = scene::mark(view, ceremony)
+        && at < mark
+    {
+        return Err(Refusal::Late { mark });
+    }
+    let next = next(view, ceremony)?;
+    if pass && step_row(&view.steps, ceremony, next).is_none() {
+        return Err(Refusal::Order { next });
+    }
+    let stated = stated(&view.exceptions, ceremony);
+    if full || stated >= MOST_EXCEPTIONS {
+        return Err(Refusal::Full);
+    }
+    Ok(stated as u32 + 1)
+}
+
+/// Adds the step's row with what became of it.
+fn add_step(
+    changes: &mut Vec<Change>,
+    old: Option<&StepRow>,
+    state: StepState,
+    at: Moment,
+) -> Result<(), AllocError>
+    ensures { OnOk result
+        (changes.new.items ≡ changes.old.items ++ Signing.step_change (option_copied old.entry) state at) }
+{
+    if let Some(old) = old {
+        changes.push(Change::PutStep(StepRow {
+            ceremony: old.ceremony,
+            step: old.step,
+            activity: old.activity.clone()?,
+            seats: old.seats.clone()?,
+            state,
+            at: Some(at),
+        }))?;
+    }
+    Ok(())
+}
+
+/// Adds the rows of the seats.
+fn add_seats(
+    changes: &mut Vec<Change>,
+    ceremony: u32,
+    step: u32,
+    people: &[Initials],
+) -> Result<(), AllocError>
+    requires { length people.now ≤ 16 }
+    ensures { OnOk result
+        (changes.new.items ≡ changes.old.items ++ map Changes.PutSeating (seat_rows ceremony step 0 people.now)) }
+{
+    for i in 0..people.len() {
+        changes.push(Change::PutSeating(SeatingRow {
+            ceremony,
+            step,
+            seat: i as u32 + 1,
+            who: people[i],
+        }))?;
+    }
+    Ok(())
+}
+
+/// The changes of a step that is signed or passed: its row, those of its seats in order, and the mark.
+pub fn seat_changes(
+    alloc: Global,
+    view: &View,
+    state: StepState,
+    ceremony: u32,
+    step: u32,
+    at: Moment,
+    people: &InitialsList,
+) -> Result<Vec<Change>, AllocError>
+    requires { length people.now ≤ 16 }
+    ensures { IfOk result (λ changes. changes.items ≡ Signing.seat_changes view.now state ceremony step at people.now) }
+{
+    let mut changes = Vec::new(alloc);
+    let old = step_row(&view.steps, ceremony, step);
+    add_step(&mut changes, old, state, at)?;
+    add_seats(&mut changes, ceremony, step, people.as_slice())?;
+    changes.push(Change::PutMark(MarkRow { ceremony, at }))?;
+    Ok(changes)
+}
+
+/// The seats of the step's row, 16 at most; none where there is no row.
+pub fn seats_of(row: Option<&StepRow>) -> &[Seat]
+    ensures is { result.now ≡ Signing.seats_by (option_copied row.entry) }
+    ensures few { length result.now ≤ 16 }
+{
+    match row {
+        None => &[],
+        Some(row) => row.seats.as_slice(),
+    }
+}
+
+/// Adds an exception's row, with the step that it passes. The error is out of memory; the changes are then of no use.
+pub fn add_exception(
+    changes: &mut Vec<Change>,
+    view: &View,
+    ceremony: u32,
+    number: u32,
+    text: &Remark,
+    at: Moment,
+    passed: Option<u32>,
+) -> Result<(), AllocError>
+    requires { number ≡ suc (Signing.stated_by view.now.exceptions.items ceremony) }
+    ensures { OnOk result
+        (changes.new.items ≡ changes.old.items ++ Signing.exception_change view.now ceremony text.now at passed ∷ []) }
+{
+    changes.push(Change::PutException(ExceptionRow {
+        ceremony,
+        exception: number,
+        text: text.clone()?,
+        at,
+        passed,
+    }))?;
+    Ok(())
+}

@@ -1,0 +1,93 @@
+-- What is shown of appointments: of a place and of a person the one that began last.
+use Rattle.std.proofs.Common.{◌≡◌, inl, inr, ◌≤◌, ◌&&◌, nat_le, Bool, true, ℕ, List, [], ◌∷◌, ◌++◌, filter, refl, sym, subst}
+use Rattle.std.specs.List.{list_any}
+use Rattle.std.specs.List.Sorted.{IsPermutation}
+use Rattle.std.proofs.lemmas.Bool.{and_from, le-leb}
+use Rattle.std.proofs.lemmas.List.Elements.{All-from_recursion}
+use Rattle.std.proofs.lemmas.List.Sorted.{All-permutation, IsPermutation-sym, IsPermutation-trans}
+use Rattle.sqlite_rules.specs.Lists.{Has}
+use Rattle.sqlite_rules.proofs.ListLemmas.{all_has, all_from}
+use Rattle.kcr_base.proofs.Members.{IsIn, in-any, in-append, in-front, in-behind, in-order}
+use Rattle.kcr_people.specs.declared.Appointment.{Appointment}
+use Rattle.kcr_history.specs.declared.views.AppointmentsOf.{AppointmentsOf}
+use Rattle.kcr_history.specs.declared.views.AppointmentsOf.TheVariants as Wanted
+use Rattle.kcr_history.specs.declared.views.Selection.{Selection}
+use Rattle.kcr_history.specs.declared.views.Selection.TheVariants.{Nothing, Under, All}
+use Rattle.kcr_history.specs.Views.{ShowsLastOf, ShowsAppointmentsOf, ShowsAppointments, is_appointment_to, is_appointment_of}
+use Rattle.kcr_base.specs.declared.place.Place.{Place}
+use Rattle.kcr_rows.specs.Greatest.{IsGreatest}
+use Rattle.kcr_tables.proofs.HasLemmas.{filter_from, filter_to, filter_is}
+
+is_in : (x : Appointment) (xs : List Appointment) → Has xs x → IsIn x xs
+is_in x [] h = h
+is_in x (y ∷ xs) (inl same) = inl same
+is_in x (y ∷ xs) (inr h) = inr (is_in x xs h)
+
+-- where the row passes, one that is shown passes too and begins no earlier
+abbrev Reached : (Appointment → Bool) → List Appointment → Appointment → Type 0
+Reached test rows row = test row ≡ true → list_any (λ shown. test shown && nat_le row.since shown.since) rows ≡ true
+
+abbrev pub IsLast : (Appointment → Bool) → List Appointment → List Appointment → Type 0
+IsLast test table shown = IsGreatest (λ (x : Appointment). x.since) (filter test table) shown
+
+module _ (test : Appointment → Bool) (table shown : List Appointment) (last : IsLast test table shown) where
+  -- what is shown is the table's
+  pub from_table : (x : Appointment) → IsIn x shown → IsIn x table
+  from_table x i = elim last [
+    | inl none ↦ absurd (subst (IsIn x) none.1 i)
+    | inr some ↦ is_in x table
+        (filter_from test table x (elim (subst (IsIn x) some.1 i) [ inl same ↦ subst (Has (filter test table)) (sym same) some.2 | inr none ↦ absurd none ]))
+  ]
+
+  -- and no other that passes began later, also where more is shown
+  pub none_later : (rows : List Appointment) → ((x : Appointment) → IsIn x shown → IsIn x rows) → ShowsLastOf test table rows
+  none_later rows among =
+      All-from_recursion (Reached test rows) table (all_from (Reached test rows) table (λ x there passes. elim last [
+        | inl none ↦ absurd (subst (λ l. Has l x) none.0 (filter_to test table x there passes))
+        | inr some ↦ (
+            let low = all_has (λ (y : Appointment). y.since ≤ some.0.since) (filter test table) x some.3 (filter_to test table x there passes) in
+            in-any (λ (y : Appointment). test y && nat_le x.since y.since) some.0 rows (among some.0 (subst (IsIn some.0) (sym some.1) (inl refl)))
+            (and_from _ _ (filter_passes some.0 some.2) (le-leb x.since some.0.since low)))
+      ]))
+    where
+      filter_passes : (x : Appointment) → Has (filter test table) x → test x ≡ true
+      filter_passes x h = filter_is test table x h
+
+-- the last to a place, that of a person, and both
+pub to_shown : (place : Place) (table shown : List Appointment) → IsLast (is_appointment_to place) table shown
+    → ShowsAppointments (Under (Wanted.Place place)) table shown
+to_shown place table shown last =
+    (from_table (is_appointment_to place) table shown last, none_later (is_appointment_to place) table shown last shown (λ x i. i))
+
+pub of_shown : (who : List ℕ) (table shown : List Appointment) → IsLast (is_appointment_of who) table shown
+    → ShowsAppointments (Under (Wanted.Person who)) table shown
+of_shown who table shown last =
+    (from_table (is_appointment_of who) table shown last, none_later (is_appointment_of who) table shown last shown (λ x i. i))
+
+pub both_shown : (place : Place) (who : List ℕ) (table front behind : List Appointment) → IsLast (is_appointment_to place) table front
+    → IsLast (is_appointment_of who) table behind → ShowsAppointments (Under (Wanted.Both place who)) table (front ++ behind)
+both_shown place who table front behind to of = (
+  λ x i. elim (in-append x front behind i) [
+    | inl f ↦ from_table (is_appointment_to place) table front to x f
+    | inr b ↦ from_table (is_appointment_of who) table behind of x b
+  ],
+  (
+    none_later (is_appointment_to place) table front to (front ++ behind) (λ x i. in-front x front behind i),
+    none_later (is_appointment_of who) table behind of (front ++ behind) (λ x i. in-behind x front behind i),
+  ),
+)
+
+-- the same of a table that has its rows in another order
+pub appointments_shown : (asked : Selection AppointmentsOf) (xs ys rows : List Appointment) → IsPermutation xs ys → ShowsAppointments asked ys rows
+    → ShowsAppointments asked xs rows
+appointments_shown Nothing xs ys rows same h = tt
+appointments_shown All xs ys rows same h = IsPermutation-trans _ _ _ same h
+appointments_shown (Under asked) xs ys rows same h = (λ x i. in-order x xs ys same (h.0 x i), lasts asked h.1)
+  where
+    turned : (test : Appointment → Bool) → ShowsLastOf test ys rows → ShowsLastOf test xs rows
+    turned test = All-permutation (Reached test rows) ys xs (IsPermutation-sym xs ys same)
+
+    lasts : (asked : AppointmentsOf) → ShowsAppointmentsOf asked ys rows → ShowsAppointmentsOf asked xs rows
+    lasts (Wanted.Place place) l = turned (is_appointment_to place) l
+    lasts (Wanted.Person who) l = turned (is_appointment_of who) l
+    lasts (Wanted.Both place who) l = (turned (is_appointment_to place) l.0, turned (is_appointment_of who) l.1)
