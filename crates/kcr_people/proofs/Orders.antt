@@ -27,7 +27,8 @@ trained-order ts us ws vs p q who role day =
 pub trained_from-order : (ts us : List Training) (ws vs : List Withdrawal) → IsPermutation ts us → IsPermutation ws vs → (who : List ℕ) (role : Role) (day : ℕ)
     → trained_from_by us vs who role day ≡ trained_from_by ts ws who role day
 trained_from-order ts us ws vs p q who role day =
-    any-same (λ row. trains vs who role (max row.since day) row) (λ row. trains ws who role (max row.since day) row) us (λ row. trains-order ws vs q who role (max row.since day) row)
+    any-same (λ row. trains vs who role (max row.since day) row) (λ row. trains ws who role (max row.since day) row) us
+    (λ row. trains-order ws vs q who role (max row.since day) row)
     ∙ sym (list_any-IsPermutation (λ row. trains ws who role (max row.since day) row) ts us p)
 
 -- THE FIRST ROW THAT PASSES

@@ -131,7 +131,8 @@ any-and p g (x ∷ xs) = grind (arith, any-and p g xs)
 -- whether a training that the table has is withdrawn afterwards
 withdrawn-after : (ts : List Training) (ws : List Withdrawal) (who : List ℕ) (role : Role) (day : ℕ) (t : Training) (d : ℕ)
     → list_any (is_row_of ws day t) ts ≡ true
-    → is_withdrawn_by (put_all same_withdrawn (withdrawn_rows ts ws who role day) ws) t d ≡ ((ends_from who role day t && nat_le day d) || is_withdrawn_by ws t d)
+    → is_withdrawn_by (put_all same_withdrawn (withdrawn_rows ts ws who role day) ws) t d
+    ≡ ((ends_from who role day t && nat_le day d) || is_withdrawn_by ws t d)
 withdrawn-after ts ws who role day t d own =
     put_all-bears t d day ws (filter (ends_from who role day) ts) ws
     ∙ ap (λ b. cond b (nat_le (least_day ws t day) d) (is_withdrawn_by ws t d)) its_row
@@ -163,7 +164,8 @@ covered who p role r day d t h =
 
 trains-after : (ts : List Training) (ws : List Withdrawal) (who : List ℕ) (role : Role) (day : ℕ) (p : List ℕ) (r : Role) (d : ℕ) (t : Training)
     → list_any (is_row_of ws day t) ts ≡ true
-    → trains (put_all same_withdrawn (withdrawn_rows ts ws who role day) ws) p r d t ≡ (trains ws p r d t && not (same_text p who && same_role r role && nat_le day d))
+    → trains (put_all same_withdrawn (withdrawn_rows ts ws who role day) ws) p r d t
+    ≡ (trains ws p r d t && not (same_text p who && same_role r role && nat_le day d))
 trains-after ts ws who role day p r d t own =
     ap (λ b. covers p r d t && not b) (withdrawn-after ts ws who role day t d own) ∙ by_cover (covers p r d t) refl
   where
@@ -171,14 +173,19 @@ trains-after ts ws who role day p r d t own =
     rest g w = grind arith
 
     by_cover : (b : Bool) → covers p r d t ≡ b
-        → (b && not ((ends_from who role day t && nat_le day d) || is_withdrawn_by ws t d)) ≡ ((b && not (is_withdrawn_by ws t d)) && not (same_text p who && same_role r role && nat_le day d))
-    by_cover true e = ap (λ g. not (g || is_withdrawn_by ws t d)) (covered who p role r day d t e) ∙ rest (same_text p who && same_role r role && nat_le day d) (is_withdrawn_by ws t d)
+        → (b && not ((ends_from who role day t && nat_le day d) || is_withdrawn_by ws t d))
+        ≡ ((b && not (is_withdrawn_by ws t d)) && not (same_text p who && same_role r role && nat_le day d))
+    by_cover true e =
+        ap (λ g. not (g || is_withdrawn_by ws t d)) (covered who p role r day d t e)
+        ∙ rest (same_text p who && same_role r role && nat_le day d) (is_withdrawn_by ws t d)
     by_cover false e = refl
 
 pub trained-after : (ts : List Training) (ws : List Withdrawal) (who : List ℕ) (role : Role) (day : ℕ) (p : List ℕ) (r : Role) (d : ℕ)
-    → trained_by ts (put_all same_withdrawn (withdrawn_rows ts ws who role day) ws) p r d ≡ (trained_by ts ws p r d && not (same_text p who && same_role r role && nat_le day d))
+    → trained_by ts (put_all same_withdrawn (withdrawn_rows ts ws who role day) ws) p r d
+    ≡ (trained_by ts ws p r d && not (same_text p who && same_role r role && nat_le day d))
 trained-after ts ws who role day p r d =
-    any-alike (trains (put_all same_withdrawn (withdrawn_rows ts ws who role day) ws) p r d) (λ t. trains ws p r d t && not (same_text p who && same_role r role && nat_le day d))
+    any-alike (trains (put_all same_withdrawn (withdrawn_rows ts ws who role day) ws) p r d)
+    (λ t. trains ws p r d t && not (same_text p who && same_role r role && nat_le day d))
     (λ t. list_any (is_row_of ws day t) ts ≡ true) (λ t own. trains-after ts ws who role day p r d t own) ts
     (each-own (is_row_of ws day) (λ t. is_of-own (withdrawal_of ws day t)) ts ts (λ x h. h))
     ∙ any-and (trains ws p r d) (not (same_text p who && same_role r role && nat_le day d)) ts

@@ -146,6 +146,10 @@ abbrev pub settles : Option ℕ → ℕ → Option Refusal
 settles None day = None
 settles (Some last) day = when (nat_le day last) (Settled last)
 
+-- the day is not after the settled day, or the register is full
+abbrev pub settled_or_full : Option ℕ → Bool → ℕ → Option Refusal
+settled_or_full settled full day = first_of (settles settled day ∷ when full Full ∷ [])
+
 -- the appointment to the place that has no end begins on the day or later
 abbrev pub not_after_first_day : List Appointment → Place → ℕ → Option Refusal
 not_after_first_day rows place day = when (begins_too_late (open_row_by rows place) day) Range

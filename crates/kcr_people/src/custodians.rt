@@ -4,8 +4,9 @@ ghost use Rattle.kcr_base.specs.Refuse.{unless};
 ghost use Rattle.kcr_people.specs.People;
 ghost use Rattle.kcr_people.specs.declared.Appointment.{Appointment};
 
+use crate::checks::{check_day, check_person};
 use crate::{Appointment, Person, Training, rows};
-use kcr_base::{Day, Initials, Place, Refusal, Thing};
+use kcr_base::{Day, Initials, Place, Refusal};
 
 /// The row of a person who is put in a place from a day on. The first refusal that holds, of:
 /// `Unknown`, the person is not in the register; `Apart`, the person was once trained; `Held`, on
@@ -28,11 +29,7 @@ pub fn appoint(
         (record { place = place; who = who; since = day; until = None }) }
 {
     let row = Appointment::new(place, who, day);
-    if !rows::is_person(people, row.who) {
-        return Err(Refusal::Unknown {
-            thing: Thing::Person(row.who),
-        });
-    }
+    check_person(people, row.who)?;
     if rows::ever_trained(trainings, row.who) {
         return Err(Refusal::Apart);
     }
@@ -41,14 +38,7 @@ pub fn appoint(
     {
         return Err(Refusal::Held);
     }
-    if let Some(last) = settled
-        && row.since <= last
-    {
-        return Err(Refusal::Settled { day: last });
-    }
-    if full {
-        return Err(Refusal::Full);
-    }
+    check_day(settled, full, row.since)?;
     Ok(row)
 }
 
@@ -76,11 +66,7 @@ pub fn replace(
         (People.end_of (People.open_row_by appointments.now place) day new, new) }
 {
     let new = Appointment::new(place, who, day);
-    if !rows::is_person(people, new.who) {
-        return Err(Refusal::Unknown {
-            thing: Thing::Person(new.who),
-        });
-    }
+    check_person(people, new.who)?;
     let standing = rows::open_row(appointments, new.place);
     if rows::begins_too_late(&standing, new.since) {
         return Err(Refusal::Range);
@@ -94,14 +80,7 @@ pub fn replace(
     let Some(old) = &standing else {
         return Err(Refusal::Vacant);
     };
-    if let Some(last) = settled
-        && new.since <= last
-    {
-        return Err(Refusal::Settled { day: last });
-    }
-    if full {
-        return Err(Refusal::Full);
-    }
+    check_day(settled, full, new.since)?;
     let ended = Appointment {
         until: Some(new.since),
         ..*old
@@ -131,14 +110,7 @@ pub fn release(
     let Some(old) = &standing else {
         return Err(Refusal::Vacant);
     };
-    if let Some(last) = settled
-        && day <= last
-    {
-        return Err(Refusal::Settled { day: last });
-    }
-    if full {
-        return Err(Refusal::Full);
-    }
+    check_day(settled, full, day)?;
     Ok(Appointment {
         until: Some(day),
         ..*old

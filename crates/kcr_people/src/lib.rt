@@ -2,6 +2,7 @@
 //! say of a day, and what each act makes of them, or the first reason why it is refused.
 #![tactic(auto)]
 
+mod checks;
 pub mod custodians;
 pub mod laws;
 pub mod people;

@@ -3,8 +3,9 @@ ghost use Rattle.std.specs.Prelude.{◌≡◌, IfSome, Err};
 ghost use Rattle.kcr_base.specs.Refuse.{unless, Decides};
 ghost use Rattle.kcr_people.specs.People;
 
+use crate::checks::{check_day, check_person};
 use crate::{Appointment, Person, Training, Withdrawal, WithdrawalRows, rows};
-use kcr_base::{Day, Initials, Refusal, Role, Thing};
+use kcr_base::{Day, Initials, Refusal, Role};
 use std::alloc::Global;
 
 /// The row of a person who is entered. The first refusal that holds, of: `Taken`, the initials are
@@ -35,11 +36,7 @@ pub fn train(
     ensures { result ≡
         unless (People.train_refusal people.now trainings.now appointments.now full row) row }
 {
-    if !rows::is_person(people, row.who) {
-        return Err(Refusal::Unknown {
-            thing: Thing::Person(row.who),
-        });
-    }
+    check_person(people, row.who)?;
     if rows::has_training(trainings, row) {
         return Err(Refusal::Taken);
     }
@@ -53,39 +50,6 @@ pub fn train(
         return Err(Refusal::Full);
     }
     Ok(row)
-}
-
-/// The first reason why no training is withdrawn.
-fn withdraw_refusal(
-    people: &[Person],
-    trainings: &[Training],
-    withdrawals: &[Withdrawal],
-    settled: Option<Day>,
-    full: bool,
-    who: Initials,
-    role: Role,
-    day: Day,
-) -> Option<Refusal>
-    ensures { result ≡ People.withdraw_refusal
-        people.now trainings.now withdrawals.now settled full who role day }
-{
-    if !rows::is_person(people, who) {
-        return Some(Refusal::Unknown {
-            thing: Thing::Person(who),
-        });
-    }
-    if !rows::trained_from(trainings, withdrawals, who, role, day) {
-        return Some(Refusal::Vacant);
-    }
-    if let Some(last) = settled
-        && day <= last
-    {
-        return Some(Refusal::Settled { day: last });
-    }
-    if full {
-        return Some(Refusal::Full);
-    }
-    None
 }
 
 /// The rows that withdraw every training of a person for a role from a day on: one for each that
@@ -113,18 +77,11 @@ pub fn withdraw(
         (People.withdraw_refusal people.now trainings.now withdrawals.now settled full who role day)
         (λ refusal. result ≡ Err refusal) }
 {
-    if let Some(refusal) = withdraw_refusal(
-        people,
-        trainings,
-        withdrawals,
-        settled,
-        full,
-        who,
-        role,
-        day,
-    ) {
-        return Err(refusal);
+    check_person(people, who)?;
+    if !rows::trained_from(trainings, withdrawals, who, role, day) {
+        return Err(Refusal::Vacant);
     }
+    check_day(settled, full, day)?;
     let rows = rows::withdrawn_rows(alloc, trainings, withdrawals, who, role, day)?;
     Ok(WithdrawalRows::new(rows))
 }

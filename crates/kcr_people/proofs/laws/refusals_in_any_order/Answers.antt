@@ -10,7 +10,11 @@ returns-clause-enter c = λ people others p full who. rw (← list_any-IsPermuta
 
 pub returns-clause-train : goal.returns-clause-train
 returns-clause-train c = λ people persons trainings others rows puts p t x full row.
-    rw (← list_any-IsPermutation (λ old. same_text old.who row.who) people persons p, ← list_any-IsPermutation (same_training row) trainings others t, ← list_any-IsPermutation (λ old. same_text old.who row.who) rows puts x)
+    rw (
+      ← list_any-IsPermutation (λ old. same_text old.who row.who) people persons p,
+      ← list_any-IsPermutation (same_training row) trainings others t,
+      ← list_any-IsPermutation (λ old. same_text old.who row.who) rows puts x,
+    )
 
 pub returns-clause-withdraw : goal.returns-clause-withdraw
 returns-clause-withdraw c = λ people persons trainings others withdrawals rest p t w settled full who role day.
@@ -18,11 +22,21 @@ returns-clause-withdraw c = λ people persons trainings others withdrawals rest 
 
 pub returns-clause-appoint : goal.returns-clause-appoint
 returns-clause-appoint c = λ people persons trainings others rows puts p t x settled full place who day.
-    rw (← list_any-IsPermutation (λ row. same_text row.who who) people persons p, ← list_any-IsPermutation (λ row. same_text row.who who) trainings others t, ← list_any-IsPermutation (λ row. same_place row.place place && lasts_beyond day row) rows puts x, ← list_any-IsPermutation (λ row. same_text row.who who && lasts_beyond day row) rows puts x)
+    rw (
+      ← list_any-IsPermutation (λ row. same_text row.who who) people persons p,
+      ← list_any-IsPermutation (λ row. same_text row.who who) trainings others t,
+      ← list_any-IsPermutation (λ row. same_place row.place place && lasts_beyond day row) rows puts x,
+      ← list_any-IsPermutation (λ row. same_text row.who who && lasts_beyond day row) rows puts x,
+    )
 
 pub returns-clause-replace : goal.returns-clause-replace
 returns-clause-replace c = λ people persons trainings others rows puts p t x settled full place who day one.
-    rw (find-one (stands place) rows puts x one, ← list_any-IsPermutation (λ row. same_text row.who who) people persons p, ← list_any-IsPermutation (λ row. same_text row.who who) trainings others t, ← list_any-IsPermutation (λ row. same_text row.who who && lasts_beyond day row) rows puts x)
+    rw (
+      find-one (stands place) rows puts x one,
+      ← list_any-IsPermutation (λ row. same_text row.who who) people persons p,
+      ← list_any-IsPermutation (λ row. same_text row.who who) trainings others t,
+      ← list_any-IsPermutation (λ row. same_text row.who who && lasts_beyond day row) rows puts x,
+    )
 
 pub returns-clause-release : goal.returns-clause-release
 returns-clause-release c = λ rows puts x settled full place day one. rw (find-one (stands place) rows puts x one)

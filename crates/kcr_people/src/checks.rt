@@ -1,0 +1,34 @@
+//! What several acts test: nothing, or the refusal.
+ghost use Rattle.std.specs.Prelude.{◌≡◌};
+ghost use Rattle.kcr_base.specs.Refuse.{unless, no_person};
+ghost use Rattle.kcr_people.specs.People;
+
+use crate::{Person, rows};
+use kcr_base::{Day, Initials, Refusal, Thing};
+
+/// The person is in the register.
+pub(crate) fn check_person(people: &[Person], who: Initials) -> Result<(), Refusal>
+    ensures { result ≡ unless (no_person (People.is_person_by people.now who) who) tt }
+{
+    if !rows::is_person(people, who) {
+        return Err(Refusal::Unknown {
+            thing: Thing::Person(who),
+        });
+    }
+    Ok(())
+}
+
+/// The day is after the settled day, and the register takes more commands.
+pub(crate) fn check_day(settled: Option<Day>, full: bool, day: Day) -> Result<(), Refusal>
+    ensures { result ≡ unless (People.settled_or_full settled full day) tt }
+{
+    if let Some(last) = settled
+        && day <= last
+    {
+        return Err(Refusal::Settled { day: last });
+    }
+    if full {
+        return Err(Refusal::Full);
+    }
+    Ok(())
+}
