@@ -1,6 +1,7 @@
 -- Safes, boxes, bags and items, by rows.
-use Rattle.std.specs.Prelude.{ℕ, Bool, true, false, not, ◌&&◌, ◌||◌, nat_eq, List, [], ◌∷◌, map, filter, find}
+use Rattle.std.specs.Prelude.{◌≡◌, ℕ, Bool, true, false, not, ◌&&◌, ◌||◌, nat_eq, List, [], ◌∷◌, map, filter, find}
 use Rattle.std.specs.Prelude.{Option, Some, None, option_map, option_and_then, is_some, is_none, if◌then◌else◌}
+use Rattle.std.specs.Prelude.{Result, MatchResult}
 use Rattle.std.specs.List.{list_any, list_all}
 use Rattle.kcr_base.specs.Same.{same_text, same_facility, same_place}
 use Rattle.kcr_base.specs.Refuse.{when, first_of, no_person, no_ceremony, is_late}
@@ -124,6 +125,10 @@ abbrev pub packed : List ℕ → List (List ℕ) → List Item
 packed serial codes = map (within serial) codes
 
 -- WHAT SEVERAL ACTS TEST
+
+-- a test passes where it has no refusal, and else answers the refusal
+abbrev pub Tests : {X : Type 0} → Option Refusal → Result X Refusal → Type 0
+Tests refusal result = MatchResult result (λ _. refusal ≡ None) (λ r. refusal ≡ Some r)
 
 -- the ceremony is not open, the moment is before its mark, or the register is full
 abbrev pub not_ready : Scene → Option Refusal

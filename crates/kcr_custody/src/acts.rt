@@ -1,33 +1,18 @@
 //! What the register does with safes, boxes, bags and items: the changed rows, or the first refusal.
-ghost use Rattle.std.specs.Prelude.{◌≡◌, List, true, false};
+ghost use Rattle.std.specs.Prelude.{◌≡◌, List};
 ghost use Rattle.kcr_base.specs.Refuse.{unless, Decides};
 ghost use Rattle.kcr_custody.specs.Custody;
 ghost use Rattle.kcr_custody.specs.declared.Spot.TheVariants.{Table, Spent};
 ghost use Rattle.kcr_custody.specs.declared.Rest.TheVariants.{Loose};
 
+use crate::checks::{
+    check_bag, check_box, check_ca, check_ceremony, check_holder, check_ready, check_safe,
+};
 use crate::{
     Bag, BoxRow, Item, ItemRows, Keeper, Moved, Rest, SafeNumber, SafeRow, Scene, Spot, Store, rows,
 };
-use kcr_base::{Absentee, ItemCode, Refusal, Role, Serial, Thing};
+use kcr_base::{Absentee, ItemCode, Refusal, Serial, Thing};
 use std::alloc::Global;
-
-/// Why the ceremony takes no act of custody at the moment.
-fn not_ready(scene: &Scene) -> Option<Refusal>
-    ensures { result ≡ Custody.not_ready scene.now }
-{
-    if !scene.is_open {
-        return Some(Refusal::State);
-    }
-    if let Some(mark) = scene.mark
-        && scene.at < mark
-    {
-        return Some(Refusal::Late { mark });
-    }
-    if scene.is_full {
-        return Some(Refusal::Full);
-    }
-    None
-}
 
 /// A box added: the row as it is handed in. Refused: 13 where the facility has the number or the place has a box, 14
 /// where the place is no Crypto Officer's place of the facility, 27 where the register is full.
@@ -53,22 +38,12 @@ pub fn add_item(scene: &Scene, items: &[Item], code: ItemCode) -> Result<Item, R
     ensures { result ≡ unless (Custody.add_item_refusal scene.now items.now code)
         (record { code = code; rest = Loose scene.now.facility }) }
 {
-    if !scene.is_known {
-        return Err(Refusal::Unknown {
-            thing: Thing::Ceremony(scene.ceremony),
-        });
-    }
+    check_ceremony(scene)?;
     if rows::rest(items, code).is_some() {
         return Err(Refusal::Taken);
     }
-    if let Some(refusal) = not_ready(scene) {
-        return Err(refusal);
-    }
-    if !scene.has_ca {
-        return Err(Refusal::Absent {
-            who: Absentee::Role(Role::Ca),
-        });
-    }
+    check_ready(scene)?;
+    check_ca(scene)?;
     Ok(Item {
         code,
         rest: Rest::Loose(scene.facility),
@@ -85,8 +60,10 @@ fn may_turn(by: &Keeper, safe: SafeNumber) -> bool
     }
 }
 
-/// Opens or shuts a safe.
-fn turn_safe(
+/// A safe opened, or shut. Refused: 12 without the ceremony or the person, 20 where the ceremony is not open, 22 before
+/// its mark, 27 full, 28 where the safe is already open, or shut, 30 where the person is not in the room or not trained
+/// for this safe.
+pub fn turn_safe(
     scene: &Scene,
     safes: &[SafeRow],
     safe: SafeNumber,
@@ -96,19 +73,13 @@ fn turn_safe(
     ensures { result ≡ unless (Custody.turn_refusal scene.now safes.now safe is_open by.now)
         (record { facility = scene.now.facility; safe = safe; is_open = is_open }) }
 {
-    if !scene.is_known {
-        return Err(Refusal::Unknown {
-            thing: Thing::Ceremony(scene.ceremony),
-        });
-    }
+    check_ceremony(scene)?;
     if !by.is_known {
         return Err(Refusal::Unknown {
             thing: Thing::Person(by.who),
         });
     }
-    if let Some(refusal) = not_ready(scene) {
-        return Err(refusal);
-    }
+    check_ready(scene)?;
     if rows::is_open(safes, scene.facility, safe) == is_open {
         return Err(Refusal::Safe);
     }
@@ -122,33 +93,6 @@ fn turn_safe(
         safe,
         is_open,
     })
-}
-
-/// A safe opened. Refused: 12 without the ceremony or the person, 20 where the ceremony is not open, 22 before its
-/// mark, 27 full, 28 where the safe is open, 30 where the person is not in the room or not trained for this safe.
-pub fn open_safe(
-    scene: &Scene,
-    safes: &[SafeRow],
-    safe: SafeNumber,
-    by: &Keeper,
-) -> Result<SafeRow, Refusal>
-    ensures { result ≡ unless (Custody.turn_refusal scene.now safes.now safe true by.now)
-        (record { facility = scene.now.facility; safe = safe; is_open = true }) }
-{
-    turn_safe(scene, safes, safe, true, by)
-}
-
-/// A safe shut. Refused as opening is; 28 where the safe is shut.
-pub fn shut_safe(
-    scene: &Scene,
-    safes: &[SafeRow],
-    safe: SafeNumber,
-    by: &Keeper,
-) -> Result<SafeRow, Refusal>
-    ensures { result ≡ unless (Custody.turn_refusal scene.now safes.now safe false by.now)
-        (record { facility = scene.now.facility; safe = safe; is_open = false }) }
-{
-    turn_safe(scene, safes, safe, false, by)
 }
 
 /// A bag taken from a safe to the table; `has_holder` tells whether the holder of the place of its box is in the room
@@ -166,41 +110,17 @@ pub fn take(
     ensures { result ≡ unless (Custody.take_refusal scene.now safes.now boxes.now bags.now serial has_holder)
         (record { serial = serial; spot = Table scene.now.facility }) }
 {
-    if !scene.is_known {
-        return Err(Refusal::Unknown {
-            thing: Thing::Ceremony(scene.ceremony),
-        });
-    }
-    let spot = rows::spot(bags, serial);
-    if spot.is_none() {
-        return Err(Refusal::Unknown {
-            thing: Thing::Bag(serial),
-        });
-    }
-    if let Some(refusal) = not_ready(scene) {
-        return Err(refusal);
-    }
-    let safe = rows::safe_of(scene.facility, spot);
-    if let Some(safe) = safe
-        && !rows::is_open(safes, scene.facility, safe)
-    {
-        return Err(Refusal::Safe);
-    }
+    check_ceremony(scene)?;
+    check_bag(bags, serial)?;
+    check_ready(scene)?;
+    let safe = rows::safe_of(scene.facility, rows::spot(bags, serial));
+    check_safe(safes, scene.facility, safe)?;
     if safe.is_none() {
         return Err(Refusal::Elsewhere);
     }
-    if !scene.has_ca {
-        return Err(Refusal::Absent {
-            who: Absentee::Role(Role::Ca),
-        });
-    }
-    if let Some(place) = rows::place_for_take(boxes, bags, scene.facility, serial)
-        && !has_holder
-    {
-        return Err(Refusal::Absent {
-            who: Absentee::Place(place),
-        });
-    }
+    check_ca(scene)?;
+    let place = rows::place_for_take(boxes, bags, scene.facility, serial);
+    check_holder(place, has_holder)?;
     Ok(Bag {
         serial,
         spot: Spot::Table(scene.facility),
@@ -222,80 +142,21 @@ pub fn put(
     ensures { result ≡ unless (Custody.put_refusal scene.now safes.now boxes.now bags.now serial to has_holder)
         (record { serial = serial; spot = Custody.spot_of_store scene.now.facility to }) }
 {
-    if !scene.is_known {
-        return Err(Refusal::Unknown {
-            thing: Thing::Ceremony(scene.ceremony),
-        });
-    }
-    let spot = rows::spot(bags, serial);
-    if spot.is_none() {
-        return Err(Refusal::Unknown {
-            thing: Thing::Bag(serial),
-        });
-    }
-    let number = rows::box_of_store(&to);
-    let place = rows::place_for_put(boxes, scene.facility, &to);
-    if let Some(number) = number
-        && place.is_none()
-    {
-        return Err(Refusal::Unknown {
-            thing: Thing::Box(number),
-        });
-    }
-    if let Some(refusal) = not_ready(scene) {
-        return Err(refusal);
-    }
-    if !rows::is_open(safes, scene.facility, rows::safe_of_store(&to)) {
-        return Err(Refusal::Safe);
-    }
-    if !rows::is_on_table(scene.facility, spot) {
+    check_ceremony(scene)?;
+    check_bag(bags, serial)?;
+    check_box(boxes, scene.facility, rows::box_of_store(&to))?;
+    check_ready(scene)?;
+    check_safe(safes, scene.facility, Some(rows::safe_of_store(&to)))?;
+    if !rows::is_on_table(scene.facility, rows::spot(bags, serial)) {
         return Err(Refusal::Elsewhere);
     }
-    if !scene.has_ca {
-        return Err(Refusal::Absent {
-            who: Absentee::Role(Role::Ca),
-        });
-    }
-    if let Some(place) = place
-        && !has_holder
-    {
-        return Err(Refusal::Absent {
-            who: Absentee::Place(place),
-        });
-    }
+    check_ca(scene)?;
+    let place = rows::place_for_put(boxes, scene.facility, &to);
+    check_holder(place, has_holder)?;
     Ok(Bag {
         serial,
         spot: rows::spot_of_store(scene.facility, &to),
     })
-}
-
-/// Why the bag is not cut.
-fn cut_refusal(scene: &Scene, bags: &[Bag], serial: Serial) -> Option<Refusal>
-    ensures { result ≡ Custody.cut_refusal scene.now bags.now serial }
-{
-    if !scene.is_known {
-        return Some(Refusal::Unknown {
-            thing: Thing::Ceremony(scene.ceremony),
-        });
-    }
-    let spot = rows::spot(bags, serial);
-    if spot.is_none() {
-        return Some(Refusal::Unknown {
-            thing: Thing::Bag(serial),
-        });
-    }
-    if let Some(refusal) = not_ready(scene) {
-        return Some(refusal);
-    }
-    if !rows::is_on_table(scene.facility, spot) {
-        return Some(Refusal::Elsewhere);
-    }
-    if !scene.has_ca {
-        return Some(Refusal::Absent {
-            who: Absentee::Role(Role::Ca),
-        });
-    }
-    None
 }
 
 /// A bag on the table cut: it is spent, and its items are loose at the facility. Refused: 12 without the ceremony or
@@ -314,9 +175,13 @@ pub fn cut(
           items = Custody.loosened items.now serial scene.now.facility;
         }) result }
 {
-    if let Some(refusal) = cut_refusal(scene, bags, serial) {
-        return Err(refusal);
+    check_ceremony(scene)?;
+    check_bag(bags, serial)?;
+    check_ready(scene)?;
+    if !rows::is_on_table(scene.facility, rows::spot(bags, serial)) {
+        return Err(Refusal::Elsewhere);
     }
+    check_ca(scene)?;
     let loose = rows::loosened(alloc, items, serial, scene.facility)?;
     Ok(Moved {
         bag: Bag {
@@ -325,43 +190,6 @@ pub fn cut(
         },
         items: ItemRows::new(loose),
     })
-}
-
-/// Why the items are not sealed.
-fn seal_refusal(
-    scene: &Scene,
-    bags: &[Bag],
-    items: &[Item],
-    serial: Serial,
-    codes: &[ItemCode],
-) -> Option<Refusal>
-    ensures { result ≡ Custody.seal_refusal scene.now bags.now items.now serial codes.now }
-{
-    if !scene.is_known {
-        return Some(Refusal::Unknown {
-            thing: Thing::Ceremony(scene.ceremony),
-        });
-    }
-    if let Some(code) = rows::first_missing(items, codes) {
-        return Some(Refusal::Unknown {
-            thing: Thing::Item(code),
-        });
-    }
-    if rows::spot(bags, serial).is_some() {
-        return Some(Refusal::Taken);
-    }
-    if let Some(refusal) = not_ready(scene) {
-        return Some(refusal);
-    }
-    if !rows::are_loose_at(items, codes, scene.facility) {
-        return Some(Refusal::Elsewhere);
-    }
-    if !scene.has_ca {
-        return Some(Refusal::Absent {
-            who: Absentee::Role(Role::Ca),
-        });
-    }
-    None
 }
 
 /// Loose items of the facility sealed into a bag with a new serial, on its table. Refused: 12 without the ceremony or
@@ -381,9 +209,20 @@ pub fn seal(
           items = Custody.packed serial codes.now;
         }) result }
 {
-    if let Some(refusal) = seal_refusal(scene, bags, items, serial, codes) {
-        return Err(refusal);
+    check_ceremony(scene)?;
+    if let Some(code) = rows::first_missing(items, codes) {
+        return Err(Refusal::Unknown {
+            thing: Thing::Item(code),
+        });
     }
+    if rows::spot(bags, serial).is_some() {
+        return Err(Refusal::Taken);
+    }
+    check_ready(scene)?;
+    if !rows::are_loose_at(items, codes, scene.facility) {
+        return Err(Refusal::Elsewhere);
+    }
+    check_ca(scene)?;
     let packed = rows::packed(alloc, serial, codes)?;
     Ok(Moved {
         bag: Bag {

@@ -10,11 +10,12 @@ use kcr_base::{BoxNumber, Facility, Initials, ItemCode, Moment, Place, Serial};
 use std::marker::Model;
 
 pub mod acts;
+mod checks;
 pub mod laws;
 pub mod rows;
 pub mod spots;
 
-pub use acts::{add_box, add_item, cut, open_safe, put, seal, shut_safe, take};
+pub use acts::{add_box, add_item, cut, put, seal, take, turn_safe};
 pub use rows::{place_for_put, place_for_take};
 
 /// Which safe of a facility: safe 1 holds equipment, safe 2 credentials in deposit boxes.
