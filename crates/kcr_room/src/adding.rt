@@ -3,10 +3,11 @@ ghost use Rattle.std.specs.Prelude.{MatchResult, Some, ◌≢◌, ◌≡◌, IfO
 ghost use Rattle.std.specs.List.{find, filter, list_any};
 ghost use Rattle.kcr_base.specs.declared.refusal.Refusal.TheVariants.{Memory};
 ghost use Rattle.kcr_room.specs.Adding;
+ghost use Rattle.kcr_room.specs.declared.Request.{Request};
 ghost use Rattle.kcr_room.specs.declared.Way.TheVariants.{Enter, Leave};
 
 use crate::traffic::crowding_of;
-use crate::{Stay, Way};
+use crate::{Request, Stay, Way};
 use kcr_base::{Initials, Moment, Refusal, not_later, same_person};
 use std::alloc::{AllocError, Global};
 
@@ -76,24 +77,20 @@ fn is_out_of_turn_in(stays: &[Stay], ceremony: u32, way: Way, at: Moment, who: I
 }
 
 // The first of the people whose turn it is not.
-fn first_out_of_turn(
-    stays: &[Stay],
-    ceremony: u32,
-    way: Way,
-    at: Moment,
-    people: &[Initials],
-) -> Option<Initials>
-    ensures { result ≡ find (Adding.is_out_of_turn_in stays.now ceremony way at) people.now }
+fn first_out_of_turn(stays: &[Stay], request: &Request<'_>) -> Option<Initials>
+    ensures { let asked : Request = request.now in result
+        ≡ find (Adding.is_out_of_turn_in stays.now asked.ceremony asked.way asked.at) asked.people.now }
 {
-    for who in people {
-        if is_out_of_turn_in(stays, ceremony, way, at, *who) {
+    for who in request.people {
+        if is_out_of_turn_in(stays, request.ceremony, request.way, request.at, *who) {
             return Some(*who);
         }
     }
     None
 }
 
-fn is_among(people: &[Initials], who: Initials) -> bool
+/// Whether a person is one of some people.
+pub fn is_among(people: &[Initials], who: Initials) -> bool
     ensures { result ≡ Adding.is_among people.now who }
 {
     people.iter().any(|other| same_person(who, *other))
@@ -132,24 +129,31 @@ fn ends_by(ceremony: u32, people: &[Initials], stay: &Stay) -> bool
     stay.ceremony == ceremony && is_among(people, stay.who) && is_open(stay.until)
 }
 
+/// The stays of a ceremony.
+pub fn stays_in(alloc: Global, stays: &[Stay], ceremony: u32) -> Result<Vec<Stay>, AllocError>
+    ensures { IfOk result (λ own. own.items ≡ filter (Adding.of_ceremony ceremony) stays.now) }
+{
+    let mut own = Vec::new(alloc);
+    for stay in stays {
+        if stay.ceremony == ceremony {
+            own.push(*stay)?;
+        }
+    }
+    Ok(own)
+}
+
 // The ceremony's stays with those who come.
 fn after_enter(
     alloc: Global,
     stays: &[Stay],
-    ceremony: u32,
-    people: &[Initials],
-    at: Moment,
+    request: &Request<'_>,
 ) -> Result<Vec<Stay>, AllocError>
-    ensures { IfOk result (λ later. later.items ≡ Adding.after stays.now ceremony Enter people.now at) }
+    ensures { let asked : Request = request.now in IfOk result (λ later.
+        later.items ≡ Adding.after stays.now asked.ceremony Enter asked.people.now asked.at) }
 {
-    let mut later = Vec::new(alloc);
-    for stay in stays {
-        if stay.ceremony == ceremony {
-            later.push(*stay)?;
-        }
-    }
-    for who in people {
-        later.push(new_stay(ceremony, at, *who))?;
+    let mut later = stays_in(alloc, stays, request.ceremony)?;
+    for who in request.people {
+        later.push(new_stay(request.ceremony, request.at, *who))?;
     }
     Ok(later)
 }
@@ -158,81 +162,68 @@ fn after_enter(
 fn after_leave(
     alloc: Global,
     stays: &[Stay],
-    ceremony: u32,
-    people: &[Initials],
-    at: Moment,
+    request: &Request<'_>,
 ) -> Result<Vec<Stay>, AllocError>
-    ensures { IfOk result (λ later. later.items ≡ Adding.after stays.now ceremony Leave people.now at) }
+    ensures { let asked : Request = request.now in IfOk result (λ later.
+        later.items ≡ Adding.after stays.now asked.ceremony Leave asked.people.now asked.at) }
 {
-    let mut later = Vec::new(alloc);
-    for stay in stays {
-        if stay.ceremony == ceremony {
-            later.push(closed(people, at, stay))?;
-        }
-    }
-    Ok(later)
-}
-
-fn after(
-    alloc: Global,
-    stays: &[Stay],
-    ceremony: u32,
-    way: Way,
-    people: &[Initials],
-    at: Moment,
-) -> Result<Vec<Stay>, AllocError>
-    ensures { IfOk result (λ later. later.items ≡ Adding.after stays.now ceremony way people.now at) }
-{
-    match way {
-        Way::Enter => after_enter(alloc, stays, ceremony, people, at),
-        Way::Leave => after_leave(alloc, stays, ceremony, people, at),
-    }
-}
-
-fn new_stays(
-    alloc: Global,
-    ceremony: u32,
-    people: &[Initials],
-    at: Moment,
-) -> Result<Vec<Stay>, AllocError>
-    ensures { IfOk result (λ changed. changed.items ≡ map (Adding.new_stay ceremony at) people.now) }
-{
-    people
+    stays
         .iter()
-        .map(|who| new_stay(ceremony, at, *who))
+        .filter(|stay| stay.ceremony == request.ceremony)
+        .map(|stay| closed(request.people, request.at, stay))
+        .collect(alloc)
+}
+
+// The ceremony's stays after the request.
+fn after(alloc: Global, stays: &[Stay], request: &Request<'_>) -> Result<Vec<Stay>, AllocError>
+    ensures { let asked : Request = request.now in IfOk result (λ later.
+        later.items ≡ Adding.after stays.now asked.ceremony asked.way asked.people.now asked.at) }
+{
+    match request.way {
+        Way::Enter => after_enter(alloc, stays, request),
+        Way::Leave => after_leave(alloc, stays, request),
+    }
+}
+
+fn new_stays(alloc: Global, request: &Request<'_>) -> Result<Vec<Stay>, AllocError>
+    ensures { let asked : Request = request.now in IfOk result (λ changed.
+        changed.items ≡ map (Adding.new_stay asked.ceremony asked.at) asked.people.now) }
+{
+    request
+        .people
+        .iter()
+        .map(|who| new_stay(request.ceremony, request.at, *who))
         .collect(alloc)
 }
 
 fn ended_stays(
     alloc: Global,
     stays: &[Stay],
-    ceremony: u32,
-    people: &[Initials],
-    at: Moment,
+    request: &Request<'_>,
 ) -> Result<Vec<Stay>, AllocError>
-    ensures { IfOk result (λ changed. changed.items ≡ map (Adding.closed people.now at)
-        (filter (Adding.ends_by ceremony people.now) stays.now)) }
+    ensures { let asked : Request = request.now in IfOk result (λ changed.
+        changed.items ≡ map (Adding.closed asked.people.now asked.at)
+        (filter (Adding.ends_by asked.ceremony asked.people.now) stays.now)) }
 {
     stays
         .iter()
-        .filter(|stay| ends_by(ceremony, people, *stay))
-        .map(|stay| closed(people, at, stay))
+        .filter(|stay| ends_by(request.ceremony, request.people, *stay))
+        .map(|stay| closed(request.people, request.at, stay))
         .collect(alloc)
 }
 
+// The stays that the request changes.
 fn changed_stays(
     alloc: Global,
     stays: &[Stay],
-    ceremony: u32,
-    way: Way,
-    people: &[Initials],
-    at: Moment,
+    request: &Request<'_>,
 ) -> Result<Vec<Stay>, AllocError>
-    ensures { IfOk result (λ changed. changed.items ≡ Adding.changed_stays stays.now ceremony way people.now at) }
+    ensures { let asked : Request = request.now in IfOk result (λ changed.
+        changed.items ≡ Adding.changed_stays stays.now asked.ceremony asked.way asked.people.now asked.at) }
 {
-    match way {
-        Way::Enter => new_stays(alloc, ceremony, people, at),
-        Way::Leave => ended_stays(alloc, stays, ceremony, people, at),
+    match request.way {
+        Way::Enter => new_stays(alloc, request),
+        Way::Leave => ended_stays(alloc, stays, request),
     }
 }
 
@@ -281,29 +272,28 @@ fn later_refusal(
 pub fn add_stays(
     alloc: Global,
     stays: &[Stay],
-    ceremony: u32,
     mark: Moment,
     full: bool,
-    way: Way,
-    people: &[Initials],
-    at: Moment,
+    request: &Request<'_>,
 ) -> Result<Vec<Stay>, Refusal>
-    ensures { MatchResult result
-        (λ changed. (Adding.stays_refusal stays.now ceremony mark full way people.now at ≡ None)
-        × (changed.items ≡ Adding.changed_stays stays.now ceremony way people.now at))
+    ensures { let asked : Request = request.now in MatchResult result
+        (λ changed. (Adding.stays_refusal
+        stays.now asked.ceremony mark full asked.way asked.people.now asked.at ≡ None)
+        × (changed.items ≡ Adding.changed_stays stays.now asked.ceremony asked.way asked.people.now asked.at))
         (λ refusal. refusal ≢ Memory
-        → Adding.stays_refusal stays.now ceremony mark full way people.now at ≡ Some refusal) }
+        → Adding.stays_refusal stays.now asked.ceremony mark full asked.way asked.people.now asked.at
+        ≡ Some refusal) }
 {
-    if not_later(at, mark) {
+    if not_later(request.at, mark) {
         return Err(Refusal::Late { mark });
     }
-    if let Some(who) = first_out_of_turn(stays, ceremony, way, at, people) {
+    if let Some(who) = first_out_of_turn(stays, request) {
         return Err(Refusal::Turn { who });
     }
-    let later = after(alloc, stays, ceremony, way, people, at)?;
-    if let Some(refusal) = later_refusal(alloc, &later, ceremony, full, way)? {
+    let later = after(alloc, stays, request)?;
+    if let Some(refusal) = later_refusal(alloc, &later, request.ceremony, full, request.way)? {
         return Err(refusal);
     }
-    let changed = changed_stays(alloc, stays, ceremony, way, people, at)?;
+    let changed = changed_stays(alloc, stays, request)?;
     Ok(changed)
 }

@@ -12,7 +12,7 @@ ghost use Rattle.std.specs.Prelude.{⊤, codes, ◌≡◌};
 ghost use Rattle.kcr_base.specs.Reads.{Found, Only};
 ghost use Rattle.kcr_room.specs.Room.{way_text};
 
-pub use adding::add_stays;
+pub use adding::{add_stays, is_among, stays_in};
 use kcr_base::{Initials, Moment};
 pub use presence::{first_lone, holds, is_crowded, present_in};
 pub use stays::stays_of;
@@ -69,4 +69,15 @@ pub struct Stay {
     pub since: Moment,
     /// The first moment at which the person is not there any more, or None while there is no end.
     pub until: Option<Moment>,
+}
+
+/// A request of the sheet: these people come into the room of a ceremony, or go out of it, at a
+/// moment.
+#[derive(Drop)]
+pub struct Request<'a> {
+    /// The ceremony's number.
+    pub ceremony: u32,
+    pub way: Way,
+    pub people: &'a [Initials],
+    pub at: Moment,
 }

@@ -5,4 +5,5 @@ use Rattle.kcr_room.proofs.adding.first_out_of_turn.Given as goal
 
 abbrev pub invariant-loop-who : goal.invariant-loop-who
 invariant-loop-who l =
-    find (is_out_of_turn_in l.stays l.ceremony l.way l.at) (drop l.who-index l.people) ≡ find (is_out_of_turn_in l.stays l.ceremony l.way l.at) l.people
+    find (is_out_of_turn_in l.stays l.request.ceremony l.request.way l.request.at) (drop l.who-index l.request.people.now)
+    ≡ find (is_out_of_turn_in l.stays l.request.ceremony l.request.way l.request.at) l.request.people.now
