@@ -1,7 +1,8 @@
 -- Texts with commas between them, one text after the other; the texts of replies and refusals, piece by piece.
 use denote.Shadow.{shadow}
 use denote.Text.{Utf8}
-use Rattle.std.proofs.Common.{◌≡◌, ℕ, zero, suc, ◌+◌, ◌<◌, ◌^◌, List, [], ◌∷◌, ◌++◌, map, take, length, get_or, codes, refl, sym, ap, ◌∙◌, append_assoc, append-nil, add-one, arith}
+use Rattle.std.proofs.Common.{◌≡◌, ℕ, zero, suc, ◌+◌, ◌<◌, ◌^◌, List, [], ◌∷◌, ◌++◌, map, take, length, get_or, codes, refl, sym, ap, ◌∙◌}
+use Rattle.std.proofs.Common.{append_assoc, append-nil, add-one, arith}
 use Rattle.std.specs.Prelude.{Result, Ok, Err, IfOk}
 use Rattle.std.specs.Fmt.{decimal}
 use Rattle.std.specs.Int.Digits.{digits_of}
@@ -49,7 +50,8 @@ pub record IsJoined {X : Type 0} (told said before : List ℕ) (xs : List X) : T
   pub utf8 : shadow (Utf8 before)
 
 -- the text of a result
-pub ok_text : {E : Type 0} {T : Type 0} (result : Result T E) (bytes : T → List ℕ) (a b : List ℕ) → a ≡ b → IfOk result (λ text. bytes text ≡ a) → IfOk result (λ text. bytes text ≡ b)
+pub ok_text : {E : Type 0} {T : Type 0} (result : Result T E) (bytes : T → List ℕ) (a b : List ℕ) → a ≡ b
+    → IfOk result (λ text. bytes text ≡ a) → IfOk result (λ text. bytes text ≡ b)
 ok_text (Ok text) bytes a b e h = h ∙ e
 ok_text (Err error) bytes a b e h = h
 

@@ -92,12 +92,15 @@ holder_after : (A : History) (act : Act) (place : Place) (d : ℕ) → fault A a
     → holder_by (appointments A) place d ≡ holder A place d
     → holder_by (appointments_after act (appointments A)) place d ≡ told_holder (next_holder place d act) (last_said (next_holder place d) A)
 holder_after A (Appoint at who since) place d f o ih =
-    first-row (same_place at place && nat_le since d) (record { place = at; who = who; since = since; until = None }) (find (holds place d) (appointments A)) (last_said (next_holder place d) A) ih
+    first-row (same_place at place && nat_le since d) (record { place = at; who = who; since = since; until = None })
+    (find (holds place d) (appointments A)) (last_said (next_holder place d) A) ih
 holder_after A (Replace at who since) place d f o ih =
     by_word (same_place at place && nat_le since d) refl
   where
     by_word : (b : Bool) → (same_place at place && nat_le since d) ≡ b
-        → option_map (λ row. row.who) (cond (b && true) (Some (record { place = at; who = who; since = since; until = None })) (find (holds place d) (map (ended at since) (appointments A))))
+        → option_map (λ row. row.who)
+        (cond (b && true) (Some (record { place = at; who = who; since = since; until = None }))
+        (find (holds place d) (map (ended at since) (appointments A))))
         ≡ told_holder (cond b (Some (Some who)) None) (last_said (next_holder place d) A)
     by_word true e = refl
     by_word false e = find-ended at place since d (appointments A) e ∙ ih
@@ -109,12 +112,16 @@ holder_after A (Release at since) place d f o ih =
     by_word true e =
         let q = and_parts (same_place at place) (nat_le since d) e in
         let free = (released A at since f o).0 in
-        let here : place_held_from_by (map (ended at since) (appointments A)) place since ≡ false = subst (λ p. place_held_from_by (map (ended at since) (appointments A)) p since ≡ false) (place-same at place q.0) free in
-        rw (find-none (holds place d) (map (ended at since) (appointments A)) (free-none place since d (map (ended at since) (appointments A)) (leb-true since d q.1) here))
+        let rows = map (ended at since) (appointments A) in
+        let here : place_held_from_by rows place since ≡ false =
+        subst (λ p. place_held_from_by rows p since ≡ false) (place-same at place q.0) free
+        in
+        rw (find-none (holds place d) rows (free-none place since d rows (leb-true since d q.1) here))
     by_word false e = find-ended at place since d (appointments A) e ∙ ih
 holder_after A act place d f o ih = ih
 
 -- the holder by the rows of a register is the holder by its history
 pub holder-appointments : (A : History) → IsRegister A → (place : Place) (d : ℕ) → holder_by (appointments A) place d ≡ holder A place d
 holder-appointments [] h place d = refl
-holder-appointments (entry ∷ A) h place d = holder_after A entry.command.act place d (took A entry h.0).no_fault (orderly A h.1) (holder-appointments A h.1 place d)
+holder-appointments (entry ∷ A) h place d =
+    holder_after A entry.command.act place d (took A entry h.0).no_fault (orderly A h.1) (holder-appointments A h.1 place d)

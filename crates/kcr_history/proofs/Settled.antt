@@ -50,7 +50,9 @@ all_more (Some m) ms cs h = all-more (λ c. list_any (λ m. eqb m.0 c) ms) _ cs 
 
 marked_after : (act : Act) (ms : List (ℕ × ℕ)) (cs : List ℕ) → list_all (λ c. list_any (λ m. eqb m.0 c) ms) cs ≡ true
     → list_all (λ c. list_any (λ m. eqb m.0 c) (cons_option (marked act) ms)) (cons_option (opened_number act) cs) ≡ true
-marked_after (Open ceremony at) ms cs h = and_from (eqb ceremony ceremony || list_any (λ m. eqb m.0 ceremony) ms) _ (rw (eq-eqb ceremony ceremony refl)) (all_more (Some (ceremony, at)) ms cs h)
+marked_after (Open ceremony at) ms cs h =
+    and_from (eqb ceremony ceremony || list_any (λ m. eqb m.0 ceremony) ms) _ (rw (eq-eqb ceremony ceremony refl))
+    (all_more (Some (ceremony, at)) ms cs h)
 marked_after act ms cs h = all_more (marked act) ms cs h
 
 opened_marked : (A : History) → list_all (has_mark A) (all_said opened_number A) ≡ true
@@ -70,4 +72,6 @@ row_marks A (c ∷ cs) h =
 pub settled-rows : (A : History) (rows : List MarkRow) → IsPermutation (marks A) rows → option_map day_of (greatest (map (λ row. row.at) rows)) ≡ settled A
 settled-rows A rows p =
     let own = row_marks A (all_said opened_number A) (opened_marked A) in
-    ap (option_map day_of) (greatest-order (map (λ row. row.at) (marks A)) (map (λ row. row.at) rows) (IsPermutation-map (λ row. row.at) (marks A) rows p) ∙ ap greatest own)
+    let moments : List MarkRow → List ℕ = map (λ row. row.at) in
+    let same = greatest-order (moments (marks A)) (moments rows) (IsPermutation-map (λ row. row.at) (marks A) rows p) in
+    ap (option_map day_of) (same ∙ ap greatest own)

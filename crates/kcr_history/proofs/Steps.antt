@@ -38,7 +38,8 @@ took_seats A entry s (inl (people, first, a)) = (Some people, told _ _ a.0)
 took_seats A entry s (inr (positions, least, r)) = absurd (longer entry A r.1)
 
 took_none : (A : History) (entry : Entry) (o : Option Sitting)
-    → MatchOption o (accepts A entry.command (answer_to A entry.command.act None) (Accepts entry.answer) (entry ∷ A)) (λ s. seats A entry.command s (Accepts entry.answer) (entry ∷ A))
+    → MatchOption o (accepts A entry.command (answer_to A entry.command.act None) (Accepts entry.answer) (entry ∷ A))
+    (λ s. seats A entry.command s (Accepts entry.answer) (entry ∷ A))
     → Told A entry
 took_none A entry None h = (None, told _ _ h.0)
 took_none A entry (Some s) h = took_seats A entry s h

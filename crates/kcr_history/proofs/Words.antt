@@ -66,7 +66,11 @@ pub row_of_key-keys : (A : History) (key : List ℕ) → row_of_key key (keys A)
 row_of_key-keys [] key = refl
 row_of_key-keys (entry ∷ A) key =
     ap (λ o. cond (same_text entry.command.key key) (Some (key_row entry)) o) (row_of_key-keys A key)
-    ∙ (elim (same_text entry.command.key key) as (λ b. cond b (Some (key_row entry)) (option_map key_row (entry_of A key)) ≡ option_map key_row (cond b (Some entry) (entry_of A key))) [ true ↦ refl | false ↦ refl ])
+    ∙ by_test (same_text entry.command.key key)
+  where
+    by_test : (b : Bool) → cond b (Some (key_row entry)) (option_map key_row (entry_of A key)) ≡ option_map key_row (cond b (Some entry) (entry_of A key))
+    by_test true = refl
+    by_test false = refl
 
 -- a ceremony has a row where it was planned
 planned_after : (act : Act) (c : ℕ) (numbers : List ℕ) (plan : Option Planned) → list_any (λ k. eqb k c) numbers ≡ is_some plan

@@ -3,4 +3,13 @@ use Rattle.kcr_history.proofs.replies.answer_text.Goals as goal
 
 pub returns : goal.returns
 returns c =
-    rw (c.from_string.ensures, c.in_ok-push_str-2.ensures.bytes, c.in_ok-text-4.ensures, c.in_ok-text-3.ensures, c.in_ok-text-2.ensures, c.in_ok-push_str.ensures.bytes, c.format.ensures.text, c.in_ok-text.ensures.ok) (answer _ _ _ _)
+    rw (
+      c.from_string.ensures,
+      c.in_ok-push_str-2.ensures.bytes,
+      c.in_ok-text-4.ensures,
+      c.in_ok-text-3.ensures,
+      c.in_ok-text-2.ensures,
+      c.in_ok-push_str.ensures.bytes,
+      c.format.ensures.text,
+      c.in_ok-text.ensures.ok,
+    ) (answer _ _ _ _)
