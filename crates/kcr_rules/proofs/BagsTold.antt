@@ -1,7 +1,7 @@
 -- What the acts on a bag tell over the scene and the holder that the rows of a view give.
-use Rattle.std.proofs.Common.{◌≡◌, ℕ, Bool, List, Some, None, Result, Ok, Err, ap, ◌∙◌}
+use Rattle.std.proofs.Common.{◌≡◌, ℕ, Bool, List, Option, Some, None, Result, Ok, Err, ap, ◌∙◌}
 use Rattle.kcr_base.specs.Refuse.{unless}
-use Rattle.kcr_base.specs.declared.place.Role.TheVariants.{Ca}
+use Rattle.kcr_base.specs.declared.place.Place.{Place}
 use Rattle.kcr_base.specs.declared.refusal.Refusal.{Refusal}
 use Rattle.kcr_custody.specs.declared.Bag.{Bag}
 use Rattle.kcr_custody.specs.declared.BoxRow.{BoxRow}
@@ -9,37 +9,51 @@ use Rattle.kcr_custody.specs.declared.SafeRow.{SafeRow}
 use Rattle.kcr_custody.specs.declared.Scene.{Scene}
 use Rattle.kcr_custody.specs.declared.Spot.TheVariants.{Table}
 use Rattle.kcr_custody.specs.declared.Store.{Store}
-use Rattle.kcr_custody.specs.Custody.{take_refusal, put_refusal, spot_of_store}
+use Rattle.kcr_custody.specs.Custody.{take_refusal, put_refusal, spot_of_store, place_of, box_of, box_of_store, spot_by}
 use Rattle.kcr_history.specs.declared.views.View.{View}
-use Rattle.kcr_rules.specs.Scene.{facility_in, scene_by, scene_in, is_attended_by}
+use Rattle.kcr_rules.specs.Scene.{facility_in, scene_in}
 use Rattle.kcr_rules.specs.CustodyRows.{has_keeper_by, place_to_take, place_to_put, take_refusal_in, put_refusal_in}
 use Rattle.kcr_rules.proofs.Unless.{refused, accepted}
 
-module _ (view : View) (full : Bool) (c : ℕ) (t : List ℕ) (at : ℕ) (has_ca has_holder : Bool) (scene : Scene) (safes : List SafeRow) (boxes : List BoxRow)
-    (bags : List Bag) (result : Result Bag Refusal)
-    (ca : has_ca ≡ is_attended_by view Ca c at) (e : scene ≡ scene_by view c at full has_ca)
-    (of_safes : safes ≡ view.safes.items) (of_boxes : boxes ≡ view.boxes.items) (of_bags : bags ≡ view.bags.items) where
-  here : scene ≡ scene_in view full c at
-  here = e ∙ ap (scene_by view c at full) ca
+module _ (view : View) (full : Bool) (c at : ℕ) (scene : Scene) (here : scene ≡ scene_in view full c at) where
+  pub place_taken : (boxes : List BoxRow) (bags : List Bag) (t : List ℕ) → boxes ≡ view.boxes.items → bags ≡ view.bags.items
+      → place_of boxes scene.facility (box_of (spot_by bags t)) ≡ place_to_take view c t
+  place_taken boxes bags t of_boxes of_bags = λ i. place_of (of_boxes i) (here i).facility (box_of (spot_by (of_bags i) t))
 
-  module _ (holder : has_holder ≡ has_keeper_by view c at (place_to_take view c t))
-      (g : result ≡ unless (take_refusal scene safes boxes bags t has_holder) (record { serial = t; spot = Table scene.facility })) where
-    told_take : result ≡ unless (take_refusal_in view full c t at) (record { serial = t; spot = Table (facility_in view c) })
-    told_take = g ∙ (λ i. unless (take_refusal (here i) (of_safes i) (of_boxes i) (of_bags i) t (holder i)) (record { serial = t; spot = Table (here i).facility }))
+  pub place_put : (boxes : List BoxRow) (to : Store) → boxes ≡ view.boxes.items
+      → place_of boxes scene.facility (box_of_store to) ≡ place_to_put view c to
+  place_put boxes to of_boxes = λ i. place_of (of_boxes i) (here i).facility (box_of_store to)
 
-    pub take-refused : (r : Refusal) → result ≡ Err r → take_refusal_in view full c t at ≡ Some r
-    take-refused r h = refused _ _ result r told_take h
+  module _ (t : List ℕ) (place : Option Place) (has_holder : Bool) (safes : List SafeRow) (boxes : List BoxRow) (bags : List Bag)
+      (result : Result Bag Refusal) (holder : has_holder ≡ has_keeper_by view c at place)
+      (of_safes : safes ≡ view.safes.items) (of_boxes : boxes ≡ view.boxes.items) (of_bags : bags ≡ view.bags.items) where
+    module _ (asked : place ≡ place_to_take view c t)
+        (g : result ≡ unless (take_refusal scene safes boxes bags t has_holder) (record { serial = t; spot = Table scene.facility })) where
+      told_take : result ≡ unless (take_refusal_in view full c t at) (record { serial = t; spot = Table (facility_in view c) })
+      told_take =
+          let keeper = holder ∙ ap (has_keeper_by view c at) asked in
+          g ∙ (λ i. unless (take_refusal (here i) (of_safes i) (of_boxes i) (of_bags i) t (keeper i))
+          (record { serial = t; spot = Table (here i).facility }))
 
-    pub take-accepted : (bag : Bag) → result ≡ Ok bag → (take_refusal_in view full c t at ≡ None) × (bag ≡ record { serial = t; spot = Table (facility_in view c) })
-    take-accepted bag h = accepted _ _ result bag told_take h
+      pub take-refused : (r : Refusal) → result ≡ Err r → take_refusal_in view full c t at ≡ Some r
+      take-refused r h = refused _ _ result r told_take h
 
-  module _ (to : Store) (holder : has_holder ≡ has_keeper_by view c at (place_to_put view c to))
-      (g : result ≡ unless (put_refusal scene safes boxes bags t to has_holder) (record { serial = t; spot = spot_of_store scene.facility to })) where
-    told_put : result ≡ unless (put_refusal_in view full c t to at) (record { serial = t; spot = spot_of_store (facility_in view c) to })
-    told_put = g ∙ (λ i. unless (put_refusal (here i) (of_safes i) (of_boxes i) (of_bags i) t to (holder i)) (record { serial = t; spot = spot_of_store (here i).facility to }))
+      pub take-accepted : (bag : Bag) → result ≡ Ok bag
+          → (take_refusal_in view full c t at ≡ None) × (bag ≡ record { serial = t; spot = Table (facility_in view c) })
+      take-accepted bag h = accepted _ _ result bag told_take h
 
-    pub put-refused : (r : Refusal) → result ≡ Err r → put_refusal_in view full c t to at ≡ Some r
-    put-refused r h = refused _ _ result r told_put h
+    module _ (to : Store) (asked : place ≡ place_to_put view c to)
+        (g : result ≡ unless (put_refusal scene safes boxes bags t to has_holder)
+        (record { serial = t; spot = spot_of_store scene.facility to })) where
+      told_put : result ≡ unless (put_refusal_in view full c t to at) (record { serial = t; spot = spot_of_store (facility_in view c) to })
+      told_put =
+          let keeper = holder ∙ ap (has_keeper_by view c at) asked in
+          g ∙ (λ i. unless (put_refusal (here i) (of_safes i) (of_boxes i) (of_bags i) t to (keeper i))
+          (record { serial = t; spot = spot_of_store (here i).facility to }))
 
-    pub put-accepted : (bag : Bag) → result ≡ Ok bag → (put_refusal_in view full c t to at ≡ None) × (bag ≡ record { serial = t; spot = spot_of_store (facility_in view c) to })
-    put-accepted bag h = accepted _ _ result bag told_put h
+      pub put-refused : (r : Refusal) → result ≡ Err r → put_refusal_in view full c t to at ≡ Some r
+      put-refused r h = refused _ _ result r told_put h
+
+      pub put-accepted : (bag : Bag) → result ≡ Ok bag
+          → (put_refusal_in view full c t to at ≡ None) × (bag ≡ record { serial = t; spot = spot_of_store (facility_in view c) to })
+      put-accepted bag h = accepted _ _ result bag told_put h

@@ -20,7 +20,8 @@ later-step f s None = by_test (nat_le s.since f.since)
     by_test false = refl
 later-step f s (Some o) = by_tests (nat_le s.since f.since) refl (nat_le o.since s.since) refl
   where
-    by_tests : (x : Bool) → nat_le s.since f.since ≡ x → (y : Bool) → nat_le o.since s.since ≡ y → later_of (cond x (Some f) (Some s)) (Some o) ≡ later_stay f (cond y (Some s) (Some o))
+    by_tests : (x : Bool) → nat_le s.since f.since ≡ x → (y : Bool) → nat_le o.since s.since ≡ y
+        → later_of (cond x (Some f) (Some s)) (Some o) ≡ later_stay f (cond y (Some s) (Some o))
     by_tests true e true g =
         let a = leb-true s.since f.since e in
         let b = leb-true o.since s.since g in
@@ -32,13 +33,16 @@ later-step f s (Some o) = by_tests (nat_le s.since f.since) refl (nat_le o.since
         let b = leb-false o.since s.since g in
         rw (g, lt-leb o.since f.since (omega (arith, a, b))) refl
 
-pub further_stay : (who : List ℕ) (found : Option Stay) (stay : Stay) (stays : List Stay) → later_of (next_last who found stay) (last_stay stays who) ≡ later_of found (last_stay (stay ∷ stays) who)
+pub further_stay : (who : List ℕ) (found : Option Stay) (stay : Stay) (stays : List Stay)
+    → later_of (next_last who found stay) (last_stay stays who) ≡ later_of found (last_stay (stay ∷ stays) who)
 further_stay who found stay stays = by_test (same_text stay.who who)
   where
     by_found : (o : Option Stay) → later_of (next_last_of o stay) (last_stay stays who) ≡ later_of o (later_stay stay (last_stay stays who))
     by_found None = refl
     by_found (Some f) = later-step f stay (last_stay stays who)
 
-    by_test : (b : Bool) → later_of (cond b (next_last_of found stay) found) (last_stay stays who) ≡ later_of found (last_of (cond b (stay ∷ filter (λ s. same_text s.who who) stays) (filter (λ s. same_text s.who who) stays)))
+    by_test : (b : Bool)
+        → later_of (cond b (next_last_of found stay) found) (last_stay stays who)
+        ≡ later_of found (last_of (cond b (stay ∷ filter (λ s. same_text s.who who) stays) (filter (λ s. same_text s.who who) stays)))
     by_test true = by_found found
     by_test false = refl

@@ -1,7 +1,8 @@
 -- An act without a refusal is not decided over a full register: each kind of act has that among its refusals.
 use Rattle.std.proofs.Common.{◌≡◌, Bool, false, None, arith}
 use Rattle.kcr_history.specs.declared.commands.Act.{Act}
-use Rattle.kcr_history.specs.declared.commands.Act.TheVariants.{Enter, Train, Withdraw, Appoint, Replace, Release, AddBox, AddItem, Plan, Open, Close, Sheet, TurnSafe, Sign, Except, Seal, Take, Put, Cut}
+use Rattle.kcr_history.specs.declared.commands.Act.TheVariants.{Enter, Train, Withdraw, Appoint, Replace, Release, AddBox, AddItem, Plan, Open}
+use Rattle.kcr_history.specs.declared.commands.Act.TheVariants.{Close, Sheet, TurnSafe, Sign, Except, Seal, Take, Put, Cut}
 use Rattle.kcr_history.specs.declared.views.View.{View}
 use Rattle.kcr_rules.specs.ByRows.{refusal_by}
 

@@ -23,9 +23,11 @@ trains_own withdrawals who role day row h = grind (arith, h)
 
 trained_own : (trainings : List Training) (withdrawals : List Withdrawal) (who : List ℕ) (role : Role) (day : ℕ)
     → trained_by (filter (is_training_of who) trainings) withdrawals who role day ≡ trained_by trainings withdrawals who role day
-trained_own trainings withdrawals who role day = any-filter_same (trains withdrawals who role day) (is_training_of who) true (trains_own withdrawals who role day) trainings
+trained_own trainings withdrawals who role day =
+    any-filter_same (trains withdrawals who role day) (is_training_of who) true (trains_own withdrawals who role day) trainings
 
-pub fits_own : (trainings : List Training) (withdrawals : List Withdrawal) (rows : List Appointment) (facility : Facility) (day : ℕ) (seat : Seat) (who : List ℕ)
+pub fits_own : (trainings : List Training) (withdrawals : List Withdrawal) (rows : List Appointment) (facility : Facility) (day : ℕ)
+    (seat : Seat) (who : List ℕ)
     → fits_by (filter (is_training_of who) trainings) withdrawals rows facility day seat who ≡ fits_by trainings withdrawals rows facility day seat who
 fits_own trainings withdrawals rows facility day (Staff role) who = trained_own trainings withdrawals who role day
 fits_own trainings withdrawals rows facility day AnyCo who = refl
@@ -34,7 +36,8 @@ fits_own trainings withdrawals rows facility day (Co n) who = refl
 fits_own trainings withdrawals rows facility day (Rksh n) who = refl
 
 -- the trainings that stand at a person's place are the person's own
-pub own_row : {V : Type 0} (items : V → List Training) (trainings : List Training) (people : List (List ℕ)) (own : List V) → map items own ≡ own_of trainings people
+pub own_row : {V : Type 0} (items : V → List Training) (trainings : List Training) (people : List (List ℕ)) (own : List V)
+    → map items own ≡ own_of trainings people
     → (person : ℕ) (d : V) → person < length people → items (get_or own person d) ≡ filter (is_training_of (get_or people person [])) trainings
 own_row items trainings people own split person d there =
     let many : length own ≡ length people = sym (length-map own items) ∙ ap length split ∙ length-map people _ in

@@ -6,7 +6,8 @@ use Rattle.kcr_history.specs.declared.views.View.{View}
 use Rattle.kcr_rules.specs.declared.acts.Acted.{Acted}
 use Rattle.kcr_rules.specs.ByRows.{HasChanges, HasActed}
 
-pub plain-acted : (view : View) (full : Bool) (act : Act) (acted : Acted) → ((ceremony step at : ℕ) → act ≡ Sign ceremony step at → ⊥) → ((ceremony : ℕ) (text : List ℕ) (pass : Bool) (at : ℕ) → act ≡ Except ceremony text pass at → ⊥)
+pub plain-acted : (view : View) (full : Bool) (act : Act) (acted : Acted) → ((ceremony step at : ℕ) → act ≡ Sign ceremony step at → ⊥)
+    → ((ceremony : ℕ) (text : List ℕ) (pass : Bool) (at : ℕ) → act ≡ Except ceremony text pass at → ⊥)
     → HasChanges view full act acted.changes.items → acted.exception ≡ None → acted.seating ≡ None → acted.step ≡ None → HasActed view full act acted
 plain-acted view full (Sign ceremony step at) acted s e h x p k = absurd (s ceremony step at refl)
 plain-acted view full (Except ceremony text pass at) acted s e h x p k = absurd (e ceremony text pass at refl)

@@ -1,13 +1,17 @@
 -- What the rows of a view say of a ceremony: its plan, its state, its mark, who is in its room.
-use Rattle.std.specs.Prelude.{ℕ, Bool, true, false, List, find, Option, Some, None, option_map, is_some, unwrap_or}
+use Rattle.std.specs.Prelude.{ℕ, Bool, true, false, not, List, [], ◌∷◌, find, Option, Some, None, option_map, is_some}
+use Rattle.std.specs.Prelude.{unwrap_or}
 use Rattle.std.specs.List.{list_any}
 use Rattle.kcr_base.specs.Days.{day_of}
+use Rattle.kcr_base.specs.Refuse.{when, first_of, is_late}
 use Rattle.kcr_base.specs.Same.{same_text}
 use Rattle.kcr_base.specs.declared.place.Facility.{Facility}
 use Rattle.kcr_base.specs.declared.place.Facility.TheVariants.{East}
 use Rattle.kcr_base.specs.declared.place.Place.{Place}
 use Rattle.kcr_base.specs.declared.place.Role.{Role}
 use Rattle.kcr_base.specs.declared.place.Role.TheVariants.{Ca}
+use Rattle.kcr_base.specs.declared.refusal.Refusal.{Refusal}
+use Rattle.kcr_base.specs.declared.refusal.Refusal.TheVariants as Refusals
 use Rattle.kcr_people.specs.People.{trained_by, holder_by}
 use Rattle.kcr_custody.specs.declared.Scene.{Scene}
 use Rattle.kcr_room.specs.declared.Stay.{Stay}
@@ -52,6 +56,11 @@ facility_in view ceremony = facility_by (ceremony_by view.ceremonies.items cerem
 -- the mark of the ceremony, none where it was never opened
 abbrev pub mark_by : List MarkRow → ℕ → Option ℕ
 mark_by rows ceremony = option_map (λ row. row.at) (find (is_mark_of ceremony) rows)
+
+-- a ceremony in this state is not open, or the moment is before the ceremony's mark
+abbrev pub not_running : View → ℕ → CeremonyState → ℕ → Option Refusal
+not_running view ceremony state at =
+    first_of (when (not (is_open_state state)) Refusals.State ∷ is_late at (mark_by view.marks.items ceremony) ∷ [])
 
 -- THE ROOM
 

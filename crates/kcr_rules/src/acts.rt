@@ -7,6 +7,7 @@ ghost use Rattle.kcr_rules.specs.Kinds.{is_on_bag, is_in_room, is_on_ceremony, i
 use crate::{ceremonies, closing, custody, people, room, sheet, signing};
 use kcr_base::Refusal;
 use kcr_history::{Act, Change, InitialsList, View};
+use kcr_room::Request;
 use std::alloc::Global;
 
 /// What an act that is accepted comes to: the rows that it puts, and what it is answered beside its number.
@@ -73,7 +74,15 @@ fn room_changes(alloc: Global, view: &View, full: bool, act: &Act) -> Result<Vec
             way,
             who,
             at,
-        } => sheet::add_rows(alloc, view, full, ceremony.get(), *way, who.as_slice(), *at),
+        } => {
+            let request = Request {
+                ceremony: ceremony.get(),
+                way: *way,
+                people: who.as_slice(),
+                at: *at,
+            };
+            sheet::add_rows(alloc, view, full, &request)
+        }
         Act::TurnSafe {
             ceremony,
             safe,

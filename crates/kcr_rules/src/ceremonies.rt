@@ -9,13 +9,12 @@ ghost use Rattle.kcr_history.specs.declared.commands.Act.TheVariants as Kinds;
 ghost use Rattle.kcr_history.specs.declared.views.Change.TheVariants.{PutStep};
 ghost use Rattle.kcr_rules.specs.ByRows.{ComesTo};
 ghost use Rattle.kcr_rules.specs.CeremonyRows;
-ghost use Rattle.kcr_rules.specs.Scene;
 
-use crate::people::{both, only};
-use crate::scene::ceremony_row;
-use kcr_base::{Day, Facility, Moment, Place, Refusal, Text, Thing};
+use crate::changes::{only, with_mark};
+use crate::scene::{ceremony_row, is_open_state, known};
+use kcr_base::{Day, Facility, Moment, Place, Refusal, Text};
 use kcr_custody::BoxRow;
-use kcr_history::{CeremonyRow, CeremonyState, Change, MarkRow, StepRow, StepState, View};
+use kcr_history::{CeremonyRow, CeremonyState, Change, StepRow, StepState, View};
 use kcr_script::{Script, Step, read_script};
 use std::alloc::{AllocError, Global};
 
@@ -40,21 +39,11 @@ pub(crate) fn add_box(
     Ok(only(alloc, Change::PutBox(row))?)
 }
 
-/// Whether the ceremony is open.
-pub(crate) fn is_open(state: CeremonyState) -> bool
-    ensures { result ≡ Scene.is_open_state state }
-{
-    match state {
-        CeremonyState::Open => true,
-        CeremonyState::Planned | CeremonyState::Closed => false,
-    }
-}
-
 /// Whether another ceremony is open in the same facility.
 fn is_open_beside(row: CeremonyRow, other: CeremonyRow) -> bool
     ensures { result ≡ CeremonyRows.is_open_beside row other }
 {
-    other.number != row.number && other.facility == row.facility && is_open(other.state)
+    other.number != row.number && other.facility == row.facility && is_open_state(other.state)
 }
 
 /// Whether any other ceremony is open in the same facility.
@@ -93,11 +82,7 @@ pub(crate) fn open(
 ) -> Result<Vec<Change>, Refusal>
     ensures { ComesTo view.now full (Kinds.Open ceremony at) result }
 {
-    let Some(row) = ceremony_row(view, ceremony) else {
-        return Err(Refusal::Unknown {
-            thing: Thing::Ceremony(ceremony),
-        });
-    };
+    let row = known(view, ceremony)?;
     if let Some(refusal) = open_refusal(&view.ceremonies, full, at, row) {
         return Err(refusal);
     }
@@ -106,11 +91,7 @@ pub(crate) fn open(
         opened: Some(at),
         ..row
     };
-    Ok(both(
-        alloc,
-        Change::PutCeremony(opened),
-        Change::PutMark(MarkRow { ceremony, at }),
-    )?)
+    Ok(with_mark(alloc, Change::PutCeremony(opened), ceremony, at)?)
 }
 
 /// The row of a step that is neither signed nor passed, under its number.

@@ -2,15 +2,15 @@
 ghost use Rattle.std.specs.Prelude.{◌≡◌};
 ghost use Rattle.std.specs.List.{list_any};
 ghost use Rattle.kcr_custody.specs.Custody;
+ghost use Rattle.kcr_custody.specs.Custody.{Tests};
 ghost use Rattle.kcr_history.specs.declared.commands.Act.TheVariants as Kinds;
 ghost use Rattle.kcr_rules.specs.ByRows.{ComesTo};
 ghost use Rattle.kcr_rules.specs.CeremonyRows;
 ghost use Rattle.kcr_room.specs.Stays;
 
-use crate::ceremonies::is_open;
-use crate::people::only;
-use crate::scene::{ceremony_row, mark};
-use kcr_base::{Facility, Moment, Part, Refusal, Thing};
+use crate::changes::only;
+use crate::scene::{check_running, known};
+use kcr_base::{Facility, Moment, Part, Refusal};
 use kcr_custody::{Bag, SafeNumber, Spot};
 use kcr_history::{CeremonyRow, CeremonyState, Change, StepRow, StepState, View};
 use kcr_room::Stay;
@@ -90,52 +90,25 @@ fn has_bag_on_table(view: &View, facility: Facility) -> bool
     view.bags.iter().any(|bag| lies_on_table(facility, *bag))
 }
 
-/// What keeps the ceremony of the row from closing: the first of its steps, its room, the safes, the table.
-fn unfinished(view: &View, ceremony: u32, at: Moment, row: CeremonyRow) -> Option<Refusal>
-    ensures { result ≡ CeremonyRows.unfinished_by view.now ceremony at row }
+/// The ceremony of the row is finished: its steps, its room, the safes and the table, in this order.
+fn check_finished(view: &View, ceremony: u32, at: Moment, row: CeremonyRow) -> Result<(), Refusal>
+    ensures { Tests (CeremonyRows.unfinished_by view.now ceremony at row) result }
 {
     if has_undone(view, ceremony) {
-        return Some(Refusal::Unfinished { part: Part::Steps });
+        return Err(Refusal::Unfinished { part: Part::Steps });
     }
     if is_room_used(view, ceremony, at) {
-        return Some(Refusal::Unfinished { part: Part::Room });
+        return Err(Refusal::Unfinished { part: Part::Room });
     }
     if is_safe_open(view, row.facility, SafeNumber::One)
         || is_safe_open(view, row.facility, SafeNumber::Two)
     {
-        return Some(Refusal::Unfinished { part: Part::Safes });
+        return Err(Refusal::Unfinished { part: Part::Safes });
     }
     if has_bag_on_table(view, row.facility) {
-        return Some(Refusal::Unfinished { part: Part::Table });
+        return Err(Refusal::Unfinished { part: Part::Table });
     }
-    None
-}
-
-/// Why the ceremony of the row is not closed.
-fn close_refusal(
-    view: &View,
-    full: bool,
-    ceremony: u32,
-    at: Moment,
-    row: CeremonyRow,
-) -> Option<Refusal>
-    ensures { result ≡ CeremonyRows.close_refusal view.now full ceremony at row }
-{
-    if !is_open(row.state) {
-        return Some(Refusal::State);
-    }
-    if let Some(mark) = mark(view, ceremony)
-        && at < mark
-    {
-        return Some(Refusal::Late { mark });
-    }
-    if full {
-        return Some(Refusal::Full);
-    }
-    if let Some(refusal) = unfinished(view, ceremony, at, row) {
-        return Some(refusal);
-    }
-    None
+    Ok(())
 }
 
 /// Closes an open ceremony.
@@ -148,14 +121,12 @@ pub(crate) fn close(
 ) -> Result<Vec<Change>, Refusal>
     ensures { ComesTo view.now full (Kinds.Close ceremony at) result }
 {
-    let Some(row) = ceremony_row(view, ceremony) else {
-        return Err(Refusal::Unknown {
-            thing: Thing::Ceremony(ceremony),
-        });
-    };
-    if let Some(refusal) = close_refusal(view, full, ceremony, at, row) {
-        return Err(refusal);
+    let row = known(view, ceremony)?;
+    check_running(view, ceremony, row.state, at)?;
+    if full {
+        return Err(Refusal::Full);
     }
+    check_finished(view, ceremony, at, row)?;
     let closed = CeremonyRow {
         state: CeremonyState::Closed,
         closed: Some(at),

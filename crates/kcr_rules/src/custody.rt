@@ -1,4 +1,6 @@
 //! Acts on bags, over the rows of a view.
+#![tactic(auto, using(crate::proofs::Unless::refused, crate::proofs::Unless::accepted))]
+
 ghost use Rattle.std.specs.Prelude.{◌≡◌, ◌∷◌, ◌++◌, IfOk, OnOk, map};
 ghost use Rattle.kcr_base.specs.Refuse.{unless, Decides};
 ghost use Rattle.kcr_custody.specs.declared.Spot.TheVariants.{Table, Spent};
@@ -7,20 +9,13 @@ ghost use Rattle.kcr_history.specs.declared.commands.Act.TheVariants as Kinds;
 ghost use Rattle.kcr_history.specs.declared.views.Change.TheVariants.{PutBag, PutItem, PutMark};
 ghost use Rattle.kcr_rules.specs.ByRows.{ComesTo};
 ghost use Rattle.kcr_rules.specs.CustodyRows;
-ghost use Rattle.kcr_rules.specs.Scene.{facility_in};
 
+use crate::changes::with_mark;
 use crate::scene;
-use kcr_base::{Facility, Items, Moment, Place, Refusal, Role, Serial};
-use kcr_custody::{Bag, Item, Moved, Scene, Store};
+use kcr_base::{Items, Moment, Place, Refusal, Role, Serial};
+use kcr_custody::{Item, Moved, Store};
 use kcr_history::{Change, View};
 use std::alloc::{AllocError, Global};
-
-/// Where a ceremony takes place.
-fn facility_in(view: &View, ceremony: u32) -> Facility
-    ensures { result ≡ facility_in view.now ceremony }
-{
-    scene::facility(&scene::ceremony_row(view, ceremony))
-}
 
 /// Whether the holder of a place is in the room; false where no place is meant.
 fn has_keeper(
@@ -58,7 +53,7 @@ fn moved_changes(
     ensures { IfOk result (λ changes. changes.items ≡ PutBag moved.now.bag
         ∷ PutMark (record { ceremony = ceremony; at = at }) ∷ map PutItem moved.now.items) }
 {
-    let mut changes = scene::with_mark(alloc, Change::PutBag(moved.bag), ceremony, at)?;
+    let mut changes = with_mark(alloc, Change::PutBag(moved.bag), ceremony, at)?;
     add_items(&mut changes, moved.items.as_slice())?;
     Ok(changes)
 }
@@ -88,24 +83,7 @@ pub(crate) fn seal(
     Ok(moved_changes(alloc, &moved, ceremony, at)?)
 }
 
-/// Whether the holder of the place of a bag's box is in the room; false where the bag is in no box.
-fn has_keeper_to_take(
-    alloc: Global,
-    view: &View,
-    ceremony: u32,
-    serial: Serial,
-    at: Moment,
-) -> Result<bool, AllocError>
-    ensures { IfOk result (λ answer. answer ≡ CustodyRows.has_keeper_by view.now ceremony at
-        (CustodyRows.place_to_take view.now ceremony serial)) }
-{
-    let facility = facility_in(view, ceremony);
-    let place = kcr_custody::place_for_take(&view.boxes, &view.bags, facility, serial);
-    has_keeper(alloc, view, ceremony, at, place)
-}
-
 /// Takes a bag out of a safe.
-#[tactic(auto, using(crate::proofs::Unless::refused, crate::proofs::Unless::accepted))]
 pub(crate) fn take(
     alloc: Global,
     view: &View,
@@ -116,9 +94,9 @@ pub(crate) fn take(
 ) -> Result<Vec<Change>, Refusal>
     ensures { ComesTo view.now full (Kinds.Take ceremony serial at) result }
 {
-    let has_holder = has_keeper_to_take(alloc, view, ceremony, serial, at)?;
-    let has_ca = scene::is_attended(alloc, view, Role::Ca, ceremony, at)?;
-    let scene = scene::scene(view, ceremony, at, full, has_ca);
+    let scene = scene::attended_scene(alloc, view, full, ceremony, at)?;
+    let place = kcr_custody::place_for_take(&view.boxes, &view.bags, scene.facility, serial);
+    let has_holder = has_keeper(alloc, view, ceremony, at, place)?;
     let bag = kcr_custody::take(
         &scene,
         &view.safes,
@@ -127,26 +105,10 @@ pub(crate) fn take(
         serial,
         has_holder,
     )?;
-    Ok(scene::with_mark(alloc, Change::PutBag(bag), ceremony, at)?)
-}
-
-/// Whether the holder of the place of the box that a bag is put into is in the room; false where it is put into no box.
-fn has_keeper_to_put(
-    alloc: Global,
-    view: &View,
-    ceremony: u32,
-    to: Store,
-    at: Moment,
-) -> Result<bool, AllocError>
-    ensures { IfOk result (λ answer. answer ≡ CustodyRows.has_keeper_by view.now ceremony at
-        (CustodyRows.place_to_put view.now ceremony to)) }
-{
-    let place = kcr_custody::place_for_put(&view.boxes, facility_in(view, ceremony), &to);
-    has_keeper(alloc, view, ceremony, at, place)
+    Ok(with_mark(alloc, Change::PutBag(bag), ceremony, at)?)
 }
 
 /// Puts a bag into safe 1 or into a box.
-#[tactic(auto, using(crate::proofs::Unless::refused, crate::proofs::Unless::accepted))]
 pub(crate) fn put(
     alloc: Global,
     view: &View,
@@ -158,9 +120,9 @@ pub(crate) fn put(
 ) -> Result<Vec<Change>, Refusal>
     ensures { ComesTo view.now full (Kinds.Put ceremony serial to at) result }
 {
-    let has_holder = has_keeper_to_put(alloc, view, ceremony, to, at)?;
-    let has_ca = scene::is_attended(alloc, view, Role::Ca, ceremony, at)?;
-    let scene = scene::scene(view, ceremony, at, full, has_ca);
+    let scene = scene::attended_scene(alloc, view, full, ceremony, at)?;
+    let place = kcr_custody::place_for_put(&view.boxes, scene.facility, &to);
+    let has_holder = has_keeper(alloc, view, ceremony, at, place)?;
     let bag = kcr_custody::put(
         &scene,
         &view.safes,
@@ -170,7 +132,7 @@ pub(crate) fn put(
         to,
         has_holder,
     )?;
-    Ok(scene::with_mark(alloc, Change::PutBag(bag), ceremony, at)?)
+    Ok(with_mark(alloc, Change::PutBag(bag), ceremony, at)?)
 }
 
 /// Cuts a bag open.

@@ -10,6 +10,7 @@
 
 mod acts;
 mod ceremonies;
+mod changes;
 mod closing;
 mod custody;
 mod people;

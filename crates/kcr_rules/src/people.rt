@@ -1,5 +1,7 @@
 //! Acts on people and custodians, over the rows of a view.
-ghost use Rattle.std.specs.Prelude.{◌≡◌, [], ◌∷◌, IfOk, map};
+#![tactic(auto, using(crate::proofs::Unless::refused, crate::proofs::Unless::accepted))]
+
+ghost use Rattle.std.specs.Prelude.{◌≡◌, IfOk, map};
 ghost use Rattle.kcr_history.specs.declared.commands.Act.TheVariants as Kinds;
 ghost use Rattle.kcr_history.specs.declared.views.Change.TheVariants.{PutWithdrawal};
 ghost use Rattle.kcr_base.specs.Refuse.{unless};
@@ -7,6 +9,7 @@ ghost use Rattle.kcr_people.specs.People;
 ghost use Rattle.kcr_rules.specs.ByRows.{ComesTo, new_appointment, settled_by};
 ghost use Rattle.kcr_history.specs.History.{greatest, with_mark};
 
+use crate::changes::{both, only};
 use kcr_base::{Day, Initials, Moment, Name, Place, Refusal, Role};
 use kcr_history::{Change, MarkRow, View};
 use kcr_people::{Appointment, Person, Training, Withdrawal};
@@ -41,25 +44,6 @@ pub(crate) fn settled(marks: &[MarkRow]) -> Option<Day>
     greatest_mark(marks).map(|mark| mark.day())
 }
 
-/// One change alone.
-pub(crate) fn only(alloc: Global, change: Change) -> Result<Vec<Change>, AllocError>
-    ensures { IfOk result (λ changes. changes.items ≡ change ∷ []) }
-{
-    let mut changes = Vec::new(alloc);
-    changes.push(change)?;
-    Ok(changes)
-}
-
-/// Two changes, in this order.
-pub(crate) fn both(alloc: Global, first: Change, second: Change) -> Result<Vec<Change>, AllocError>
-    ensures { IfOk result (λ changes. changes.items ≡ first ∷ second ∷ []) }
-{
-    let mut changes = Vec::new(alloc);
-    changes.push(first)?;
-    changes.push(second)?;
-    Ok(changes)
-}
-
 /// Enters a person: the row to put, or the first refusal.
 pub(crate) fn enter(
     alloc: Global,
@@ -75,13 +59,10 @@ pub(crate) fn enter(
         name: name.clone()?,
     };
     let person = kcr_people::enter(&view.people, full, person)?;
-    let mut changes = Vec::new(alloc);
-    changes.push(Change::PutPerson(person))?;
-    Ok(changes)
+    Ok(only(alloc, Change::PutPerson(person))?)
 }
 
 /// Trains a person.
-#[tactic(auto, using(crate::proofs::Unless::refused, crate::proofs::Unless::accepted))]
 pub(crate) fn train(
     alloc: Global,
     view: &View,
@@ -147,7 +128,6 @@ pub(crate) fn withdraw(
 }
 
 /// Puts a person in a vacant place.
-#[tactic(auto, using(crate::proofs::Unless::refused, crate::proofs::Unless::accepted))]
 pub(crate) fn appoint(
     alloc: Global,
     view: &View,
@@ -172,7 +152,6 @@ pub(crate) fn appoint(
 }
 
 /// Puts a person in the place of its holder.
-#[tactic(auto, using(crate::proofs::Unless::refused, crate::proofs::Unless::accepted))]
 pub(crate) fn replace(
     alloc: Global,
     view: &View,
@@ -201,7 +180,6 @@ pub(crate) fn replace(
 }
 
 /// Makes a place vacant.
-#[tactic(auto, using(crate::proofs::Unless::refused, crate::proofs::Unless::accepted))]
 pub(crate) fn release(
     alloc: Global,
     view: &View,

@@ -1,4 +1,6 @@
 //! Acts in the room of a ceremony, over the rows of a view: a safe opened or shut, an item added.
+#![tactic(auto, using(crate::proofs::Unless::refused, crate::proofs::Unless::accepted))]
+
 ghost use Rattle.std.specs.Prelude.{◌≡◌, IfOk};
 ghost use Rattle.kcr_base.specs.Refuse.{unless};
 ghost use Rattle.kcr_custody.specs.Custody;
@@ -7,9 +9,10 @@ ghost use Rattle.kcr_history.specs.declared.commands.Act.TheVariants as Kinds;
 ghost use Rattle.kcr_rules.specs.RoomRows;
 ghost use Rattle.kcr_rules.specs.ByRows.{ComesTo};
 
+use crate::changes::with_mark;
 use crate::scene;
 use kcr_base::{Initials, ItemCode, Moment, Refusal, Role};
-use kcr_custody::{Item, Keeper, SafeNumber, SafeRow, Scene};
+use kcr_custody::{Keeper, SafeNumber};
 use kcr_history::{Change, View};
 use std::alloc::{AllocError, Global};
 
@@ -33,26 +36,7 @@ fn keeper(
     })
 }
 
-/// The row of a safe that is opened or shut, by the rows of the view.
-fn turned(
-    view: &View,
-    scene: &Scene,
-    safe: SafeNumber,
-    is_open: bool,
-    by: &Keeper,
-) -> Result<SafeRow, Refusal>
-    ensures { result ≡ unless (Custody.turn_refusal scene.now view.now.safes.items safe is_open by.now)
-        (record { facility = scene.now.facility; safe = safe; is_open = is_open }) }
-{
-    if is_open {
-        kcr_custody::open_safe(scene, &view.safes, safe, by)
-    } else {
-        kcr_custody::shut_safe(scene, &view.safes, safe, by)
-    }
-}
-
 /// Opens or shuts a safe.
-#[tactic(auto, using(crate::proofs::Unless::refused, crate::proofs::Unless::accepted))]
 pub(crate) fn turn_safe(
     alloc: Global,
     view: &View,
@@ -67,12 +51,11 @@ pub(crate) fn turn_safe(
 {
     let scene = scene::scene(view, ceremony, at, full, false);
     let keeper = keeper(alloc, view, ceremony, by, at)?;
-    let row = turned(view, &scene, safe, is_open, &keeper)?;
-    Ok(scene::with_mark(alloc, Change::PutSafe(row), ceremony, at)?)
+    let row = kcr_custody::turn_safe(&scene, &view.safes, safe, is_open, &keeper)?;
+    Ok(with_mark(alloc, Change::PutSafe(row), ceremony, at)?)
 }
 
 /// Adds an item, loose at the ceremony's facility.
-#[tactic(auto, using(crate::proofs::Unless::refused, crate::proofs::Unless::accepted))]
 pub(crate) fn add_item(
     alloc: Global,
     view: &View,
@@ -83,8 +66,7 @@ pub(crate) fn add_item(
 ) -> Result<Vec<Change>, Refusal>
     ensures { ComesTo view.now full (Kinds.AddItem ceremony item at) result }
 {
-    let has_ca = scene::is_attended(alloc, view, Role::Ca, ceremony, at)?;
-    let scene = scene::scene(view, ceremony, at, full, has_ca);
+    let scene = scene::attended_scene(alloc, view, full, ceremony, at)?;
     let row = kcr_custody::add_item(&scene, &view.items, item)?;
-    Ok(scene::with_mark(alloc, Change::PutItem(row), ceremony, at)?)
+    Ok(with_mark(alloc, Change::PutItem(row), ceremony, at)?)
 }

@@ -1,29 +1,42 @@
 //! What the rows of a view say of a ceremony: its state, its mark, and who is in its room.
-ghost use Rattle.std.specs.Prelude.{◌≡◌, IfOk, option_copied, [], ◌∷◌};
+ghost use Rattle.std.specs.Prelude.{◌≡◌, IfOk, MatchResult, Some, None};
 ghost use Rattle.std.specs.List.{list_any};
-ghost use Rattle.kcr_base.specs.Same.{same_text};
+ghost use Rattle.kcr_base.specs.declared.refusal.Refusal.TheVariants.{Unknown};
+ghost use Rattle.kcr_base.specs.declared.refusal.Thing.TheVariants as Things;
+ghost use Rattle.kcr_custody.specs.Custody.{Tests};
 ghost use Rattle.kcr_people.specs.People.{holder_by};
 ghost use Rattle.kcr_room.specs.Stays.{present_in_by};
-ghost use Rattle.kcr_history.specs.declared.views.Change.TheVariants.{PutMark};
 ghost use Rattle.kcr_rules.specs.Scene;
 
-use kcr_base::{Day, Facility, Initials, Moment, Place, Role, same_person};
+use kcr_base::{Day, Facility, Initials, Moment, Place, Refusal, Role, Thing};
 use kcr_custody::Scene as CustodyScene;
-use kcr_history::{CeremonyRow, CeremonyState, Change, MarkRow, View};
+use kcr_history::{CeremonyRow, CeremonyState, View};
+use kcr_room::is_among;
 use std::alloc::{AllocError, Global};
-
-/// The first row of the ceremony.
-fn row_of<'a>(rows: &'a [CeremonyRow], ceremony: u32) -> Option<&'a CeremonyRow>
-    ensures { option_copied result ≡ Scene.ceremony_by rows.now ceremony }
-{
-    rows.iter().find(|row| row.number == ceremony)
-}
 
 /// The row of a ceremony, None where there is no such ceremony.
 pub fn ceremony_row(view: &View, ceremony: u32) -> Option<CeremonyRow>
     ensures { result ≡ Scene.ceremony_by view.now.ceremonies.items ceremony }
 {
-    row_of(&view.ceremonies, ceremony).copied()
+    view.ceremonies
+        .iter()
+        .copied()
+        .find(|row| row.number == ceremony)
+}
+
+/// The row of a ceremony; the refusal is that there is no such ceremony.
+pub fn known(view: &View, ceremony: u32) -> Result<CeremonyRow, Refusal>
+    ensures { MatchResult result
+        (λ row. Scene.ceremony_by view.now.ceremonies.items ceremony ≡ Some row)
+        (λ refusal. (Scene.ceremony_by view.now.ceremonies.items ceremony ≡ None)
+        × (refusal ≡ Unknown (Things.Ceremony ceremony))) }
+{
+    match ceremony_row(view, ceremony) {
+        Some(row) => Ok(row),
+        None => Err(Refusal::Unknown {
+            thing: Thing::Ceremony(ceremony),
+        }),
+    }
 }
 
 /// The mark of a ceremony, None where it was never opened.
@@ -37,7 +50,7 @@ pub fn mark(view: &View, ceremony: u32) -> Option<Moment>
 }
 
 /// The facility of a ceremony that is there; of another any.
-pub fn facility(row: &Option<CeremonyRow>) -> Facility
+fn facility(row: &Option<CeremonyRow>) -> Facility
     ensures { result ≡ Scene.facility_by row.now }
 {
     match row {
@@ -46,17 +59,51 @@ pub fn facility(row: &Option<CeremonyRow>) -> Facility
     }
 }
 
+/// Where a ceremony takes place.
+pub fn facility_in(view: &View, ceremony: u32) -> Facility
+    ensures { result ≡ Scene.facility_in view.now ceremony }
+{
+    facility(&ceremony_row(view, ceremony))
+}
+
+/// Whether a ceremony in this state is open.
+pub fn is_open_state(state: CeremonyState) -> bool
+    ensures { result ≡ Scene.is_open_state state }
+{
+    match state {
+        CeremonyState::Open => true,
+        CeremonyState::Planned | CeremonyState::Closed => false,
+    }
+}
+
 /// Whether a ceremony is there and open.
-pub fn is_open(row: &Option<CeremonyRow>) -> bool
+fn is_open(row: &Option<CeremonyRow>) -> bool
     ensures { result ≡ Scene.is_open_row row.now }
 {
     match row {
-        Some(row) => match row.state {
-            CeremonyState::Open => true,
-            CeremonyState::Planned | CeremonyState::Closed => false,
-        },
+        Some(row) => is_open_state(row.state),
         None => false,
     }
+}
+
+/// The ceremony, which is in this state, is open, and the moment is not before its mark.
+pub fn check_running(
+    view: &View,
+    ceremony: u32,
+    state: CeremonyState,
+    at: Moment,
+) -> Result<(), Refusal>
+    ensures { Tests (Scene.not_running view.now ceremony state at) result }
+{
+    if !is_open_state(state) {
+        return Err(Refusal::State);
+    }
+    if let Some(mark) = mark(view, ceremony)
+        && at < mark
+    {
+        return Err(Refusal::Late { mark });
+    }
+    Ok(())
 }
 
 /// What an act of custody takes from its ceremony.
@@ -86,13 +133,6 @@ pub fn present(
     ensures { IfOk result (λ people. people.items ≡ present_in_by view.now.stays.items ceremony at) }
 {
     kcr_room::present_in(alloc, &view.stays, ceremony, at)
-}
-
-/// Whether a person is one of some people.
-fn is_among(people: &[Initials], who: Initials) -> bool
-    ensures { result ≡ list_any (same_text who) people.now }
-{
-    people.iter().any(|other| same_person(who, *other))
 }
 
 /// Whether a person is in the room of a ceremony.
@@ -137,6 +177,20 @@ pub fn is_attended(
     Ok(has_trained(view, &people, role, at.day()))
 }
 
+/// What an act of custody takes from its ceremony, with whether a CA is in the room.
+pub fn attended_scene(
+    alloc: Global,
+    view: &View,
+    full: bool,
+    ceremony: u32,
+    at: Moment,
+) -> Result<CustodyScene, AllocError>
+    ensures { IfOk result (λ scene. scene ≡ Scene.scene_in view.now full ceremony at) }
+{
+    let has_ca = is_attended(alloc, view, Role::Ca, ceremony, at)?;
+    Ok(scene(view, ceremony, at, full, has_ca))
+}
+
 /// Who holds a place on a day.
 pub fn holder(view: &View, place: Place, day: Day) -> Option<Initials>
     ensures { result ≡ holder_by view.now.appointments.items place day }
@@ -158,19 +212,4 @@ pub fn has_holder_in(
         Some(who) => is_in(alloc, view, who, ceremony, at),
         None => Ok(false),
     }
-}
-
-/// A change and the row of the ceremony's mark, in this order.
-pub fn with_mark(
-    alloc: Global,
-    change: Change,
-    ceremony: u32,
-    at: Moment,
-) -> Result<Vec<Change>, AllocError>
-    ensures { IfOk result (λ changes. changes.items ≡ change ∷ PutMark (record { ceremony = ceremony; at = at }) ∷ []) }
-{
-    let mut changes = Vec::new(alloc);
-    changes.push(change)?;
-    changes.push(Change::PutMark(MarkRow { ceremony, at }))?;
-    Ok(changes)
 }

@@ -153,7 +153,7 @@ pub fn seat(
         (λ people. Signing.IsSeatedBy view.now s people × (length people ≤ 16))
         (λ refusal. refusal ≢ Memory → Signing.IsUnseatedBy view.now s refusal) }
 {
-    let facility = scene::facility(&scene::ceremony_row(view, ceremony));
+    let facility = scene::facility_in(view, ceremony);
     let people = scene::present(alloc, view, ceremony, at)?;
     if people.len() > MOST_PEOPLE {
         return Err(Refusal::Disk);

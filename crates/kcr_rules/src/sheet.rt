@@ -1,18 +1,20 @@
 //! Requests of the sheet, over the rows of a view: people come into a room or go out of it.
-ghost use Rattle.std.specs.Prelude.{◌≡◌, ◌≢◌, ◌++◌, IfOk, MatchResult, Some, None, map, filter};
-ghost use Rattle.std.specs.List.{list_any};
-ghost use Rattle.kcr_base.specs.Same.{same_text};
+ghost use Rattle.std.specs.Prelude.{◌≡◌, ◌≢◌, ◌++◌, IfOk, MatchResult, Some, None, map};
 ghost use Rattle.kcr_base.specs.declared.refusal.Refusal.TheVariants.{Memory};
+ghost use Rattle.kcr_custody.specs.Custody.{Tests};
 ghost use Rattle.kcr_room.specs.Adding;
+ghost use Rattle.kcr_room.specs.declared.Request.{Request};
 ghost use Rattle.kcr_history.specs.Views;
+ghost use Rattle.kcr_history.specs.declared.commands.Act.TheVariants as Kinds;
 ghost use Rattle.kcr_history.specs.declared.views.Change.TheVariants.{PutSheet, PutStay};
+ghost use Rattle.kcr_rules.specs.ByRows.{ComesTo};
 ghost use Rattle.kcr_rules.specs.SheetRows;
 
-use crate::scene;
+use crate::scene::{is_open_state, known, mark};
 use kcr_base::{Initials, Moment, Refusal, Thing, not_later, same_person};
 use kcr_history::{Change, View};
 use kcr_people::Person;
-use kcr_room::{SheetRow, Stay, Way};
+use kcr_room::{Request, SheetRow, Stay, is_among, stays_in};
 use std::alloc::{AllocError, Global};
 
 /// The later of a stay found so far and a further one.
@@ -64,31 +66,18 @@ fn elsewhere(stays: &[Stay], ceremony: u32, who: Initials) -> Option<Stay>
     }
 }
 
-/// The stays of a ceremony.
-fn stays_of(alloc: Global, stays: &[Stay], ceremony: u32) -> Result<Vec<Stay>, AllocError>
-    ensures { IfOk result (λ own. own.items ≡ filter (Adding.of_ceremony ceremony) stays.now) }
-{
-    let mut own = Vec::new(alloc);
-    for stay in stays {
-        if stay.ceremony == ceremony {
-            own.push(*stay)?;
-        }
-    }
-    Ok(own)
-}
-
 /// The stays that a request bears on: those of the ceremony, and of the people the last ones elsewhere.
 fn stays_of_request(
     alloc: Global,
     stays: &[Stay],
-    ceremony: u32,
-    people: &[Initials],
+    request: &Request<'_>,
 ) -> Result<Vec<Stay>, AllocError>
-    ensures { IfOk result (λ some. some.items ≡ SheetRows.stays_of_request stays.now ceremony people.now) }
+    ensures { IfOk result (λ some.
+        some.items ≡ SheetRows.stays_of_request stays.now request.now.ceremony request.now.people.now) }
 {
-    let mut some = stays_of(alloc, stays, ceremony)?;
-    for who in people {
-        if let Some(stay) = elsewhere(stays, ceremony, *who) {
+    let mut some = stays_in(alloc, stays, request.ceremony)?;
+    for who in request.people {
+        if let Some(stay) = elsewhere(stays, request.ceremony, *who) {
             some.push(stay)?;
         }
     }
@@ -107,13 +96,6 @@ fn first_unknown(rows: &[Person], people: &[Initials]) -> Option<Initials>
     None
 }
 
-/// Whether a person is one of some people.
-fn is_among(people: &[Initials], who: Initials) -> bool
-    ensures { result ≡ list_any (same_text who) people.now }
-{
-    people.iter().any(|other| same_person(who, *other))
-}
-
 /// The first of the people who is named again.
 fn first_twice(people: &[Initials]) -> Option<Initials>
     ensures { result ≡ SheetRows.first_twice people.now }
@@ -130,69 +112,40 @@ fn first_twice(people: &[Initials]) -> Option<Initials>
 fn changed_stays(
     alloc: Global,
     stays: &[Stay],
-    ceremony: u32,
     mark: Option<Moment>,
     full: bool,
-    way: Way,
-    people: &[Initials],
-    at: Moment,
+    request: &Request<'_>,
 ) -> Result<Vec<Stay>, Refusal>
-    ensures { MatchResult result
-        (λ changed. (SheetRows.room_refusal stays.now ceremony mark full way people.now at ≡ None)
-        × (changed.items ≡ Adding.changed_stays stays.now ceremony way people.now at))
+    ensures { let asked : Request = request.now in MatchResult result
+        (λ changed. (SheetRows.room_refusal stays.now asked.ceremony mark full asked.way asked.people.now asked.at ≡ None)
+        × (changed.items ≡ Adding.changed_stays stays.now asked.ceremony asked.way asked.people.now asked.at))
         (λ refusal. refusal ≢ Memory
-        → SheetRows.room_refusal stays.now ceremony mark full way people.now at ≡ Some refusal) }
+        → SheetRows.room_refusal stays.now asked.ceremony mark full asked.way asked.people.now asked.at ≡ Some refusal) }
 {
-    match mark {
-        None => Err(Refusal::State),
-        Some(mark) => {
-            if not_later(at, mark) {
-                return Err(Refusal::Late { mark });
-            }
-            if let Some(who) = first_twice(people) {
-                return Err(Refusal::Turn { who });
-            }
-            kcr_room::add_stays(alloc, stays, ceremony, mark, full, way, people, at)
-        }
+    let Some(mark) = mark else {
+        return Err(Refusal::State);
+    };
+    if not_later(request.at, mark) {
+        return Err(Refusal::Late { mark });
     }
-}
-
-/// The first of the people who is not in the register, by the rows of the view.
-fn unknown_of(view: &View, people: &[Initials]) -> Option<Initials>
-    ensures { result ≡ SheetRows.first_unknown view.now.people.items people.now }
-{
-    first_unknown(&view.people, people)
-}
-
-/// The stays that a request bears on, by the rows of the view.
-fn stays_shown(
-    alloc: Global,
-    view: &View,
-    ceremony: u32,
-    people: &[Initials],
-) -> Result<Vec<Stay>, AllocError>
-    ensures { IfOk result (λ some. some.items ≡ SheetRows.stays_of_request view.now.stays.items ceremony people.now) }
-{
-    stays_of_request(alloc, &view.stays, ceremony, people)
+    if let Some(who) = first_twice(request.people) {
+        return Err(Refusal::Turn { who });
+    }
+    kcr_room::add_stays(alloc, stays, mark, full, request)
 }
 
 /// The rows of the sheet that a request adds, as changes.
-fn row_changes(
-    alloc: Global,
-    ceremony: u32,
-    way: Way,
-    people: &[Initials],
-    at: Moment,
-) -> Result<Vec<Change>, AllocError>
-    ensures { IfOk result (λ changes. changes.items ≡ map PutSheet (map (Adding.new_row ceremony way at) people.now)) }
+fn row_changes(alloc: Global, request: &Request<'_>) -> Result<Vec<Change>, AllocError>
+    ensures { let asked : Request = request.now in IfOk result (λ changes.
+        changes.items ≡ map PutSheet (map (Adding.new_row asked.ceremony asked.way asked.at) asked.people.now)) }
 {
     let mut changes = Vec::new(alloc);
-    for who in people {
+    for who in request.people {
         let row = SheetRow {
-            ceremony,
+            ceremony: request.ceremony,
             who: *who,
-            way,
-            at,
+            way: request.way,
+            at: request.at,
         };
         changes.push(Change::PutSheet(row))?;
     }
@@ -210,26 +163,20 @@ fn with_stays(changes: Vec<Change>, stays: &[Stay]) -> Result<Vec<Change>, Alloc
     Ok(all)
 }
 
-/// Why a request is refused before its room is looked at: the ceremony or one of the people is not there, or the
-/// ceremony is not open.
-fn early_refusal(view: &View, ceremony: u32, people: &[Initials]) -> Option<Refusal>
-    ensures { result ≡ SheetRows.early_refusal view.now ceremony people.now }
+/// The ceremony and the people are there, and the ceremony is open.
+fn check_known(view: &View, ceremony: u32, people: &[Initials]) -> Result<(), Refusal>
+    ensures { Tests (SheetRows.early_refusal view.now ceremony people.now) result }
 {
-    let row = scene::ceremony_row(view, ceremony);
-    if row.is_none() {
-        return Some(Refusal::Unknown {
-            thing: Thing::Ceremony(ceremony),
-        });
-    }
-    if let Some(who) = unknown_of(view, people) {
-        return Some(Refusal::Unknown {
+    let row = known(view, ceremony)?;
+    if let Some(who) = first_unknown(&view.people, people) {
+        return Err(Refusal::Unknown {
             thing: Thing::Person(who),
         });
     }
-    if !scene::is_open(&row) {
-        return Some(Refusal::State);
+    if !is_open_state(row.state) {
+        return Err(Refusal::State);
     }
-    None
+    Ok(())
 }
 
 /// The stays that a request changes, or the first refusal by the mark and the room, by the rows of the view.
@@ -237,20 +184,18 @@ fn room_changes(
     alloc: Global,
     view: &View,
     full: bool,
-    ceremony: u32,
-    way: Way,
-    people: &[Initials],
-    at: Moment,
+    request: &Request<'_>,
 ) -> Result<Vec<Stay>, Refusal>
-    ensures { MatchResult result
-        (λ changed. (SheetRows.late_refusal view.now full ceremony way people.now at ≡ None)
+    ensures { let asked : Request = request.now in MatchResult result
+        (λ changed. (SheetRows.late_refusal view.now full asked.ceremony asked.way asked.people.now asked.at ≡ None)
         × (changed.items ≡ Adding.changed_stays
-        (SheetRows.stays_of_request view.now.stays.items ceremony people.now) ceremony way people.now at))
-        (λ refusal. refusal ≢ Memory → SheetRows.late_refusal view.now full ceremony way people.now at ≡ Some refusal) }
+        (SheetRows.stays_of_request view.now.stays.items asked.ceremony asked.people.now)
+        asked.ceremony asked.way asked.people.now asked.at))
+        (λ refusal. refusal ≢ Memory
+        → SheetRows.late_refusal view.now full asked.ceremony asked.way asked.people.now asked.at ≡ Some refusal) }
 {
-    let some = stays_shown(alloc, view, ceremony, people)?;
-    let mark = scene::mark(view, ceremony);
-    changed_stays(alloc, &some, ceremony, mark, full, way, people, at)
+    let some = stays_of_request(alloc, &view.stays, request)?;
+    changed_stays(alloc, &some, mark(view, request.ceremony), full, request)
 }
 
 /// Lists people who come into the room of a ceremony, or go out of it: the rows to put, or the first refusal.
@@ -258,25 +203,13 @@ pub(crate) fn add_rows(
     alloc: Global,
     view: &View,
     full: bool,
-    ceremony: u32,
-    way: Way,
-    people: &[Initials],
-    at: Moment,
+    request: &Request<'_>,
 ) -> Result<Vec<Change>, Refusal>
-    ensures { MatchResult result
-        (λ changes. (SheetRows.sheet_refusal_by view.now full ceremony way people.now at ≡ None)
-        × (changes.items ≡ SheetRows.sheet_changes_by view.now ceremony way people.now at))
-        (λ refusal. refusal ≢ Memory
-        → SheetRows.sheet_refusal_by view.now full ceremony way people.now at ≡ Some refusal) }
+    ensures { let asked : Request = request.now in
+        ComesTo view.now full (Kinds.Sheet asked.ceremony asked.way asked.people.now asked.at) result }
 {
-    if let Some(refusal) = early_refusal(view, ceremony, people) {
-        return Err(refusal);
-    }
-    match room_changes(alloc, view, full, ceremony, way, people, at) {
-        Ok(changed) => {
-            let rows = row_changes(alloc, ceremony, way, people, at)?;
-            Ok(with_stays(rows, &changed)?)
-        }
-        Err(refusal) => Err(refusal),
-    }
+    check_known(view, request.ceremony, request.people)?;
+    let changed = room_changes(alloc, view, full, request)?;
+    let rows = row_changes(alloc, request)?;
+    Ok(with_stays(rows, &changed)?)
 }

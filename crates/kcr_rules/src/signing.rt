@@ -1,10 +1,11 @@
 //! Signatures of steps and script exceptions, over the rows of a view.
-ghost use Rattle.std.specs.Prelude.{◌≢◌, true, false, MatchResult};
+ghost use Rattle.std.specs.Prelude.{◌≢◌, MatchResult};
 ghost use Rattle.kcr_base.specs.declared.refusal.Refusal.TheVariants.{Memory};
 ghost use Rattle.kcr_history.specs.declared.commands.Act.TheVariants as Kinds;
 ghost use Rattle.kcr_rules.specs.ByRows.{HasActed, IsRefused};
 
 use crate::acts::Acted;
+use crate::changes::only;
 use crate::seating;
 use crate::steps::{add_exception, may_except, may_sign, next, seat_changes, seats_of, step_row};
 use kcr_base::{Moment, Refusal, Remark, Role};
@@ -40,20 +41,31 @@ pub(crate) fn sign(
     })
 }
 
-/// States an exception that passes the next step.
-fn pass_over(
+/// States an exception, which may pass the next step.
+pub(crate) fn except(
     alloc: Global,
     view: &View,
     full: bool,
     ceremony: u32,
     text: &Remark,
+    pass: bool,
     at: Moment,
 ) -> Result<Acted, Refusal>
     ensures { MatchResult result
-        (λ acted. HasActed view.now full (Kinds.Except ceremony text.now true at) acted)
-        (λ refusal. refusal ≢ Memory → IsRefused view.now full (Kinds.Except ceremony text.now true at) refusal) }
+        (λ acted. HasActed view.now full (Kinds.Except ceremony text.now pass at) acted)
+        (λ refusal. refusal ≢ Memory → IsRefused view.now full (Kinds.Except ceremony text.now pass at) refusal) }
 {
-    let exception = may_except(view, full, ceremony, true, at)?;
+    let exception = may_except(view, full, ceremony, pass, at)?;
+    if !pass {
+        let mut changes = only(alloc, Change::PutMark(MarkRow { ceremony, at }))?;
+        add_exception(&mut changes, view, ceremony, exception, text, at, None)?;
+        return Ok(Acted {
+            changes,
+            exception: Some(exception),
+            seating: None,
+            step: None,
+        });
+    }
     let step = next(view, ceremony)?;
     let people = seating::seat(alloc, view, ceremony, at, &STAFF)?;
     let mut changes = seat_changes(alloc, view, StepState::Passed, ceremony, step, at, &people)?;
@@ -72,50 +84,4 @@ fn pass_over(
         seating: Some(people),
         step: Some(step),
     })
-}
-
-/// States an exception that passes no step.
-fn state(
-    alloc: Global,
-    view: &View,
-    full: bool,
-    ceremony: u32,
-    text: &Remark,
-    at: Moment,
-) -> Result<Acted, Refusal>
-    ensures { MatchResult result
-        (λ acted. HasActed view.now full (Kinds.Except ceremony text.now false at) acted)
-        (λ refusal. refusal ≢ Memory → IsRefused view.now full (Kinds.Except ceremony text.now false at) refusal) }
-{
-    let exception = may_except(view, full, ceremony, false, at)?;
-    let mut changes = Vec::new(alloc);
-    changes.push(Change::PutMark(MarkRow { ceremony, at }))?;
-    add_exception(&mut changes, view, ceremony, exception, text, at, None)?;
-    Ok(Acted {
-        changes,
-        exception: Some(exception),
-        seating: None,
-        step: None,
-    })
-}
-
-/// States an exception.
-pub(crate) fn except(
-    alloc: Global,
-    view: &View,
-    full: bool,
-    ceremony: u32,
-    text: &Remark,
-    pass: bool,
-    at: Moment,
-) -> Result<Acted, Refusal>
-    ensures { MatchResult result
-        (λ acted. HasActed view.now full (Kinds.Except ceremony text.now pass at) acted)
-        (λ refusal. refusal ≢ Memory → IsRefused view.now full (Kinds.Except ceremony text.now pass at) refusal) }
-{
-    if pass {
-        pass_over(alloc, view, full, ceremony, text, at)
-    } else {
-        state(alloc, view, full, ceremony, text, at)
-    }
 }

@@ -6,7 +6,7 @@ ghost use Rattle.kcr_history.specs.Tables.{seat_rows};
 ghost use Rattle.kcr_history.specs.declared.views.Change.TheVariants as Changes;
 ghost use Rattle.kcr_rules.specs.Signing;
 
-use crate::scene;
+use crate::scene::{check_running, known};
 use kcr_base::{Initials, Moment, Refusal, Remark, Thing};
 use kcr_history::{
     Change, ExceptionRow, InitialsList, MarkRow, SeatingRow, StepRow, StepState, View,
@@ -83,25 +83,13 @@ pub fn may_sign(
         (λ refusal. nat_lt 400 (Signing.done_by view.now.steps.items ceremony) ≡ false
         → Signing.sign_refusal view.now full ceremony step at ≡ Some refusal) }
 {
-    let row = scene::ceremony_row(view, ceremony);
-    if row.is_none() {
-        return Err(Refusal::Unknown {
-            thing: Thing::Ceremony(ceremony),
-        });
-    }
+    let row = known(view, ceremony)?;
     if step_row(&view.steps, ceremony, step).is_none() {
         return Err(Refusal::Unknown {
             thing: Thing::Step(step),
         });
     }
-    if !scene::is_open(&row) {
-        return Err(Refusal::State);
-    }
-    if let Some(mark) = scene::mark(view, ceremony)
-        && at < mark
-    {
-        return Err(Refusal::Late { mark });
-    }
+    check_running(view, ceremony, row.state, at)?;
     let next = next(view, ceremony)?;
     if step != next {
         return Err(Refusal::Order { next });
@@ -128,20 +116,8 @@ pub fn may_except(
         (λ refusal. nat_lt 400 (Signing.done_by view.now.steps.items ceremony) ≡ false
         → Signing.except_refusal view.now full ceremony pass at ≡ Some refusal) }
 {
-    let row = scene::ceremony_row(view, ceremony);
-    if row.is_none() {
-        return Err(Refusal::Unknown {
-            thing: Thing::Ceremony(ceremony),
-        });
-    }
-    if !scene::is_open(&row) {
-        return Err(Refusal::State);
-    }
-    if let Some(mark) = scene::mark(view, ceremony)
-        && at < mark
-    {
-        return Err(Refusal::Late { mark });
-    }
+    let row = known(view, ceremony)?;
+    check_running(view, ceremony, row.state, at)?;
     let next = next(view, ceremony)?;
     if pass && step_row(&view.steps, ceremony, next).is_none() {
         return Err(Refusal::Order { next });

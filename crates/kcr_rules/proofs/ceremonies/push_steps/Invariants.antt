@@ -7,6 +7,7 @@ use Rattle.kcr_rules.proofs.ceremonies.push_steps.Given as goal
 abbrev pub invariant-loop-step : goal.invariant-loop-step
 invariant-loop-step l =
     record {
-      rows : l.changes.items ++ map PutStep (undone_rows l.ceremony l.number (drop l.step-index l.steps)) ≡ l.fn.changes.items ++ map PutStep (undone_rows l.ceremony 1 l.steps);
+      rows : l.changes.items ++ map PutStep (undone_rows l.ceremony l.number (drop l.step-index l.steps))
+          ≡ l.fn.changes.items ++ map PutStep (undone_rows l.ceremony 1 l.steps);
       counted : l.number ≡ l.step-index + 1;
     }

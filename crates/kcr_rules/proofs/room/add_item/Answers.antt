@@ -6,6 +6,6 @@ pub returns-in_err-row : goal.returns-in_err-row
 returns-in_err-row c =
     let told = rw c.deref.ensures.value at c.add_item.ensures in
     refuses _ _ _ c.from_residual-in_err-row.result
-    (add_item-refused c.args.view.now c.args.full c.args.ceremony c.args.item c.args.at c.in_ok-has_ca.has_ca c.scene-scene.result c.add_item.result
-    c.in_ok-has_ca.ensures c.scene-scene.ensures told _ c.in_err-row.was)
+    (add_item-refused c.args.view.now c.args.full c.args.ceremony c.args.item c.args.at c.in_ok-scene.scene c.add_item.result
+    c.in_ok-scene.ensures told _ c.in_err-row.was)
     c.from_residual-in_err-row.ensures.1

@@ -6,5 +6,9 @@ use Rattle.kcr_rules.proofs.seating.search.Goals as goal
 
 pub returns : goal.returns
 returns c =
-    let h : IfOk c.seat_uncounted.result (λ answer. IsOutcome (fits_of (fits_by c.deref-2.result.now c.deref-4.result.now c.deref-5.result.now c.args.facility c.args.day) c.args.seats.now c.args.people.now) (length c.args.seats.now) (length c.args.people.now) answer) = c.seat_uncounted.ensures in
+    let fit = fits_by c.deref-2.result.now c.deref-4.result.now c.deref-5.result.now c.args.facility c.args.day in
+    let seats = c.args.seats.now in
+    let people = c.args.people.now in
+    let h : IfOk c.seat_uncounted.result (λ answer. IsOutcome (fits_of fit seats people) (length seats) (length people) answer) =
+    c.seat_uncounted.ensures in
     rw (c.deref-2.ensures.value, c.deref-4.ensures.value, c.deref-5.ensures.value) at h

@@ -5,4 +5,6 @@ use Rattle.kcr_rules.proofs.sheet.row_changes.Given as goal
 
 -- what is there is the rows of the people so far
 abbrev pub invariant-loop-who : goal.invariant-loop-who
-invariant-loop-who l = l.changes.items ≡ map PutSheet (map (new_row l.ceremony l.way l.at) (take l.who-index l.people))
+invariant-loop-who l =
+    l.changes.items
+    ≡ map PutSheet (map (new_row l.request.ceremony l.request.way l.request.at) (take l.who-index l.request.people.now))

@@ -15,6 +15,8 @@ returns c =
     let fit = λ (trainings : List Training). fits_by trainings room.withdrawals.now room.rows.now room.facility room.day in
     c.fits.ensures
     ∙ ap (fit c.deref.result.now seat) (get_or_default room.people.now c.args.person _ [] c.requires.person)
-    ∙ ap (λ rows. fit rows seat who) (c.deref.ensures.value ∙ own_row (λ rows. rows.items) room.trainings.now room.people.now room.own.now room.split c.args.person _ c.requires.person)
+    ∙ ap (λ rows. fit rows seat who)
+    (c.deref.ensures.value
+    ∙ own_row (λ rows. rows.items) room.trainings.now room.people.now room.own.now room.split c.args.person _ c.requires.person)
     ∙ fits_own room.trainings.now room.withdrawals.now room.rows.now room.facility room.day seat who
     ∙ fits_there (fit room.trainings.now) room.seats.now room.people.now c.args.seat c.args.person (Staff Ca) [] c.requires.seat c.requires.person
