@@ -1,5 +1,6 @@
 -- When a room would be too full, and when somebody would be alone in it.
-use Rattle.std.proofs.Common.{◌≡◌, ℕ, Bool, true, false, not, ◌==◌, nat_lt, nat_le, List, [], ◌∷◌, find, Option, Some, None, option_map, refl, ap, inl, inr, arith}
+use Rattle.std.proofs.Common.{◌≡◌, ℕ, Bool, true, false, not, ◌==◌, nat_lt, nat_le, List, [], ◌∷◌, find, Option, Some, None, option_map, refl, ap}
+use Rattle.std.proofs.Common.{inl, inr, arith}
 use Rattle.std.proofs.lemmas.Bool.{both_ways, ltb-true, lt-ltb, eqb-true, eqb-false, eq-eqb, cases_order}
 use Rattle.kcr_base.specs.Refuse.{when, no_people, is_not_later}
 use Rattle.kcr_base.specs.declared.refusal.Refusal.{Refusal}

@@ -1,5 +1,6 @@
 -- A later command never makes an earlier seating wrong.
-use Rattle.std.proofs.Common.{◌≡◌, ℕ, ◌<◌, ◌≤◌, Bool, true, false, ◌||◌, ◌&&◌, ◌==◌, nat_le, List, [], ◌∷◌, map, filter, Option, Some, None, MatchOption, option_map, refl, sym, ap, ◌∙◌, arith, inl, inr}
+use Rattle.std.proofs.Common.{◌≡◌, ℕ, ◌<◌, ◌≤◌, Bool, true, false, ◌||◌, ◌&&◌, ◌==◌, nat_le, List, [], ◌∷◌, map, filter, Option, Some, None}
+use Rattle.std.proofs.Common.{MatchOption, option_map, refl, sym, ap, ◌∙◌, arith, inl, inr}
 use Rattle.std.specs.Prelude.{unwrap_or, is_some}
 use Rattle.std.specs.List.{list_any, list_all, filter_map, cons_option}
 use Rattle.std.proofs.lemmas.Bool.{true≢false, and_parts, and_from, eqb-true, eq-eqb, leb-true, le-leb, false≢true, or_left, or_right, or_cases}
@@ -23,7 +24,8 @@ use Rattle.kcr_history.specs.declared.commands.Answer.{Answer}
 use Rattle.kcr_history.specs.declared.commands.Entry.{Entry}
 use Rattle.kcr_history.specs.History.{History, all_said, greatest, max_with}
 use Rattle.kcr_history.specs.Training.{trained, holder}
-use Rattle.kcr_history.specs.Ceremonies.{Planned, planned_as, plan_of, is_ceremony, facility_of, steps_of, opened, marked, mark, opened_number, all_marks, settled}
+use Rattle.kcr_history.specs.Ceremonies.{Planned, planned_as, plan_of, is_ceremony, facility_of, steps_of, opened, marked, mark, opened_number}
+use Rattle.kcr_history.specs.Ceremonies.{all_marks, settled}
 use Rattle.kcr_history.specs.Room.{sheet, is_in}
 use Rattle.kcr_history.specs.Seating.{fits, eligible, is_seating, one_to_seven}
 use Rattle.kcr_history.specs.Tables.{seats_at}

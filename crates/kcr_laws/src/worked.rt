@@ -14,6 +14,8 @@ ghost use Rattle.kcr_custody.specs.declared.Rest.TheVariants as Rests;
 ghost use Rattle.kcr_script.specs.declared.seat.Seat.{Seat};
 ghost use Rattle.kcr_script.specs.declared.seat.Seat.TheVariants.{Staff};
 ghost use Rattle.kcr_history.specs.declared.rows.CeremonyState.TheVariants as States;
+ghost use Rattle.kcr_history.specs.declared.rows.StepRow.{StepRow};
+ghost use Rattle.kcr_history.specs.declared.rows.StepState.{StepState};
 ghost use Rattle.kcr_history.specs.declared.rows.StepState.TheVariants as StepStates;
 ghost use Rattle.kcr_history.specs.declared.commands.Act.TheVariants.{Enter, Train, Withdraw, AddBox, Appoint, Replace};
 ghost use Rattle.kcr_history.specs.declared.commands.Act.TheVariants.{Release, Plan, Open, Close, Sign, Except};
@@ -493,31 +495,18 @@ pub fn rows_of_the_examples()
           closed = Some (clock 20 15 0);
         } ∷ [] }
     ensures marks { (tables three_steps_done).marks ≡ record { ceremony = 61; at = clock 20 13 0 } ∷ [] }
-    ensures steps { let seats : List Seat = Staff Ca ∷ Staff Iw ∷ [] in (tables three_steps_done).steps ≡
+    ensures steps { let row : ℕ → StepState → ℕ → StepRow = λ step state at.
         record {
           ceremony = 61;
-          step = 3;
+          step = step;
           activity = codes "Check bags";
-          seats = seats;
-          state = StepStates.Signed;
-          at = Some (clock 20 13 0);
-        }
-        ∷ record {
-          ceremony = 61;
-          step = 2;
-          activity = codes "Check bags";
-          seats = seats;
-          state = StepStates.Passed;
-          at = Some (clock 20 12 0);
-        }
-        ∷ record {
-          ceremony = 61;
-          step = 1;
-          activity = codes "Check bags";
-          seats = seats;
-          state = StepStates.Signed;
-          at = Some (clock 20 10 0);
-        } ∷ [] }
+          seats = Staff Ca ∷ Staff Iw ∷ [];
+          state = state;
+          at = Some at;
+        } in
+        (tables three_steps_done).steps ≡
+        row 3 StepStates.Signed (clock 20 13 0) ∷ row 2 StepStates.Passed (clock 20 12 0)
+        ∷ row 1 StepStates.Signed (clock 20 10 0) ∷ [] }
     ensures seatings { (tables signed_by_two).seatings ≡
         record { ceremony = 61; step = 1; seat = 2; who = AA } ∷ record { ceremony = 61; step = 1; seat = 1; who = BB }
         ∷ [] }
