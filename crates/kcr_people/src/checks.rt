@@ -3,14 +3,14 @@ ghost use Rattle.std.specs.Prelude.{◌≡◌};
 ghost use Rattle.kcr_base.specs.Refuse.{unless, no_person};
 ghost use Rattle.kcr_people.specs.People;
 
-use crate::{Person, rows};
+use crate::{Roster, rows};
 use kcr_base::{Day, Initials, Refusal, Thing};
 
 /// The person is in the register.
-pub(crate) fn check_person(people: &[Person], who: Initials) -> Result<(), Refusal>
-    ensures { result ≡ unless (no_person (People.is_person_by people.now who) who) tt }
+pub(crate) fn check_person(roster: &Roster<'_>, who: Initials) -> Result<(), Refusal>
+    ensures { result ≡ unless (no_person (People.is_person_by roster.now.people.now who) who) tt }
 {
-    if !rows::is_person(people, who) {
+    if !rows::is_person(roster.people, who) {
         return Err(Refusal::Unknown {
             thing: Thing::Person(who),
         });
@@ -19,15 +19,15 @@ pub(crate) fn check_person(people: &[Person], who: Initials) -> Result<(), Refus
 }
 
 /// The day is after the settled day, and the register takes more commands.
-pub(crate) fn check_day(settled: Option<Day>, full: bool, day: Day) -> Result<(), Refusal>
-    ensures { result ≡ unless (People.settled_or_full settled full day) tt }
+pub(crate) fn check_day(roster: &Roster<'_>, day: Day) -> Result<(), Refusal>
+    ensures { result ≡ unless (People.settled_or_full roster.now.settled roster.now.is_full day) tt }
 {
-    if let Some(last) = settled
+    if let Some(last) = roster.settled
         && day <= last
     {
         return Err(Refusal::Settled { day: last });
     }
-    if full {
+    if roster.is_full {
         return Err(Refusal::Full);
     }
     Ok(())

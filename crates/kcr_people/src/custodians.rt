@@ -3,9 +3,10 @@ ghost use Rattle.std.specs.Prelude.{◌≡◌, Some, None};
 ghost use Rattle.kcr_base.specs.Refuse.{unless};
 ghost use Rattle.kcr_people.specs.People;
 ghost use Rattle.kcr_people.specs.declared.Appointment.{Appointment};
+ghost use Rattle.kcr_people.specs.declared.Roster.{Roster};
 
 use crate::checks::{check_day, check_person};
-use crate::{Appointment, Person, Training, rows};
+use crate::{Appointment, Roster, rows};
 use kcr_base::{Day, Initials, Place, Refusal};
 
 /// The row of a person who is put in a place from a day on. The first refusal that holds, of:
@@ -14,31 +15,27 @@ use kcr_base::{Day, Initials, Place, Refusal};
 /// not after the settled day, the day of the greatest mark of all ceremonies; `Full`, the register
 /// takes no more commands.
 pub fn appoint(
-    people: &[Person],
-    trainings: &[Training],
-    appointments: &[Appointment],
-    settled: Option<Day>,
-    full: bool,
+    roster: &Roster<'_>,
     place: Place,
     who: Initials,
     day: Day,
 ) -> Result<Appointment, Refusal>
-    ensures { result ≡ unless
+    ensures { let by : Roster = roster.now in result ≡ unless
         (People.appoint_refusal
-        people.now trainings.now appointments.now settled full place who day)
+        by.people.now by.trainings.now by.appointments.now by.settled by.is_full place who day)
         (record { place = place; who = who; since = day; until = None }) }
 {
     let row = Appointment::new(place, who, day);
-    check_person(people, row.who)?;
-    if rows::ever_trained(trainings, row.who) {
+    check_person(roster, row.who)?;
+    if rows::ever_trained(roster.trainings, row.who) {
         return Err(Refusal::Apart);
     }
-    if rows::place_held_from(appointments, row.place, row.since)
-        || rows::person_holds_from(appointments, row.who, row.since)
+    if rows::place_held_from(roster.appointments, row.place, row.since)
+        || rows::person_holds_from(roster.appointments, row.who, row.since)
     {
         return Err(Refusal::Held);
     }
-    check_day(settled, full, row.since)?;
+    check_day(roster, row.since)?;
     Ok(row)
 }
 
@@ -49,38 +46,34 @@ pub fn appoint(
 /// place; `Vacant`, each row of the place has an end, or there is none; `Settled` and `Full` as for
 /// an appointment.
 pub fn replace(
-    people: &[Person],
-    trainings: &[Training],
-    appointments: &[Appointment],
-    settled: Option<Day>,
-    full: bool,
+    roster: &Roster<'_>,
     place: Place,
     who: Initials,
     day: Day,
 ) -> Result<(Appointment, Appointment), Refusal>
-    ensures { let new : Appointment =
-        record { place = place; who = who; since = day; until = None } in
+    ensures { let by : Roster = roster.now in
+        let new : Appointment = record { place = place; who = who; since = day; until = None } in
         result ≡ unless
         (People.replace_refusal
-        people.now trainings.now appointments.now settled full place who day)
-        (People.end_of (People.open_row_by appointments.now place) day new, new) }
+        by.people.now by.trainings.now by.appointments.now by.settled by.is_full place who day)
+        (People.end_of (People.open_row_by by.appointments.now place) day new, new) }
 {
     let new = Appointment::new(place, who, day);
-    check_person(people, new.who)?;
-    let standing = rows::open_row(appointments, new.place);
+    check_person(roster, new.who)?;
+    let standing = rows::open_row(roster.appointments, new.place);
     if rows::begins_too_late(&standing, new.since) {
         return Err(Refusal::Range);
     }
-    if rows::ever_trained(trainings, new.who) {
+    if rows::ever_trained(roster.trainings, new.who) {
         return Err(Refusal::Apart);
     }
-    if rows::person_holds_from(appointments, new.who, new.since) {
+    if rows::person_holds_from(roster.appointments, new.who, new.since) {
         return Err(Refusal::Held);
     }
     let Some(old) = &standing else {
         return Err(Refusal::Vacant);
     };
-    check_day(settled, full, new.since)?;
+    check_day(roster, new.since)?;
     let ended = Appointment {
         until: Some(new.since),
         ..*old
@@ -92,25 +85,19 @@ pub fn replace(
 /// that holds, of: `Range`, the row of the place that has no end begins on the day or later;
 /// `Vacant`, each row of the place has an end, or there is none; `Settled` and `Full` as for an
 /// appointment.
-pub fn release(
-    appointments: &[Appointment],
-    settled: Option<Day>,
-    full: bool,
-    place: Place,
-    day: Day,
-) -> Result<Appointment, Refusal>
-    ensures { result ≡ unless
-        (People.release_refusal appointments.now settled full place day)
-        (People.end_of (People.open_row_by appointments.now place) day (People.nobody place day)) }
+pub fn release(roster: &Roster<'_>, place: Place, day: Day) -> Result<Appointment, Refusal>
+    ensures { let by : Roster = roster.now in result ≡ unless
+        (People.release_refusal by.appointments.now by.settled by.is_full place day)
+        (People.end_of (People.open_row_by by.appointments.now place) day (People.nobody place day)) }
 {
-    let standing = rows::open_row(appointments, place);
+    let standing = rows::open_row(roster.appointments, place);
     if rows::begins_too_late(&standing, day) {
         return Err(Refusal::Range);
     }
     let Some(old) = &standing else {
         return Err(Refusal::Vacant);
     };
-    check_day(settled, full, day)?;
+    check_day(roster, day)?;
     Ok(Appointment {
         until: Some(day),
         ..*old

@@ -54,6 +54,19 @@ pub struct Appointment {
     pub until: Option<Day>,
 }
 
+/// What an act on people or places is decided by: the rows, in any order, and how the register stands.
+#[derive(Drop)]
+pub struct Roster<'a> {
+    pub people: &'a [Person],
+    pub trainings: &'a [Training],
+    pub withdrawals: &'a [Withdrawal],
+    pub appointments: &'a [Appointment],
+    /// The settled day: the day of the greatest mark of all ceremonies.
+    pub settled: Option<Day>,
+    /// Whether the register takes no more commands.
+    pub is_full: bool,
+}
+
 impl Appointment {
     ghost use Rattle.std.specs.Prelude.{◌≡◌, None};
 

@@ -2,15 +2,16 @@
 ghost use Rattle.std.specs.Prelude.{◌≡◌, IfSome, Err};
 ghost use Rattle.kcr_base.specs.Refuse.{unless, Decides};
 ghost use Rattle.kcr_people.specs.People;
+ghost use Rattle.kcr_people.specs.declared.Roster.{Roster};
 
 use crate::checks::{check_day, check_person};
-use crate::{Appointment, Person, Training, Withdrawal, WithdrawalRows, rows};
+use crate::{Person, Roster, Training, WithdrawalRows, rows};
 use kcr_base::{Day, Initials, Refusal, Role};
 use std::alloc::Global;
 
 /// The row of a person who is entered. The first refusal that holds, of: `Taken`, the initials are
-/// in the register; `Full`. As with every act here, `full` tells that the register takes no more
-/// commands, the rows may come in any order, and a refusal leaves them as they are.
+/// in the register; `Full`, which `full` tells, the register takes no more commands. As with every
+/// act here the rows may come in any order, and a refusal leaves them as they are.
 pub fn enter(people: &[Person], full: bool, person: Person) -> Result<Person, Refusal>
     ensures { result ≡ unless (People.enter_refusal people.now full person.who) person }
 {
@@ -26,27 +27,21 @@ pub fn enter(people: &[Person], full: bool, person: Person) -> Result<Person, Re
 /// The row of a training that is entered. The first refusal that holds, of: `Unknown`, the person
 /// is not in the register; `Taken`, the very same training is there, withdrawn or not; `Range`, it
 /// ends before it begins; `Apart`, the person was once put in a place; `Full`.
-pub fn train(
-    people: &[Person],
-    trainings: &[Training],
-    appointments: &[Appointment],
-    full: bool,
-    row: Training,
-) -> Result<Training, Refusal>
-    ensures { result ≡
-        unless (People.train_refusal people.now trainings.now appointments.now full row) row }
+pub fn train(roster: &Roster<'_>, row: Training) -> Result<Training, Refusal>
+    ensures { let by : Roster = roster.now in result ≡ unless
+        (People.train_refusal by.people.now by.trainings.now by.appointments.now by.is_full row) row }
 {
-    check_person(people, row.who)?;
-    if rows::has_training(trainings, row) {
+    check_person(roster, row.who)?;
+    if rows::has_training(roster.trainings, row) {
         return Err(Refusal::Taken);
     }
     if row.until < row.since {
         return Err(Refusal::Range);
     }
-    if rows::ever_put(appointments, row.who) {
+    if rows::ever_put(roster.appointments, row.who) {
         return Err(Refusal::Apart);
     }
-    if full {
+    if roster.is_full {
         return Err(Refusal::Full);
     }
     Ok(row)
@@ -61,27 +56,25 @@ pub fn train(
 /// ceremonies; `Full`. `Memory` comes only where none of these holds.
 pub fn withdraw(
     alloc: Global,
-    people: &[Person],
-    trainings: &[Training],
-    withdrawals: &[Withdrawal],
-    settled: Option<Day>,
-    full: bool,
+    roster: &Roster<'_>,
     who: Initials,
     role: Role,
     day: Day,
 ) -> Result<WithdrawalRows, Refusal>
-    ensures decides { Decides
-        (People.withdraw_refusal people.now trainings.now withdrawals.now settled full who role day)
-        (People.withdrawn_rows trainings.now withdrawals.now who role day) result }
-    ensures refused { IfSome
-        (People.withdraw_refusal people.now trainings.now withdrawals.now settled full who role day)
+    ensures decides { let by : Roster = roster.now in Decides
+        (People.withdraw_refusal
+        by.people.now by.trainings.now by.withdrawals.now by.settled by.is_full who role day)
+        (People.withdrawn_rows by.trainings.now by.withdrawals.now who role day) result }
+    ensures refused { let by : Roster = roster.now in IfSome
+        (People.withdraw_refusal
+        by.people.now by.trainings.now by.withdrawals.now by.settled by.is_full who role day)
         (λ refusal. result ≡ Err refusal) }
 {
-    check_person(people, who)?;
-    if !rows::trained_from(trainings, withdrawals, who, role, day) {
+    check_person(roster, who)?;
+    if !rows::trained_from(roster.trainings, roster.withdrawals, who, role, day) {
         return Err(Refusal::Vacant);
     }
-    check_day(settled, full, day)?;
-    let rows = rows::withdrawn_rows(alloc, trainings, withdrawals, who, role, day)?;
+    check_day(roster, day)?;
+    let rows = rows::withdrawn_rows(alloc, roster.trainings, roster.withdrawals, who, role, day)?;
     Ok(WithdrawalRows::new(rows))
 }

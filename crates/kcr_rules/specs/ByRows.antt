@@ -7,6 +7,7 @@ use Rattle.kcr_base.specs.declared.place.Place.{Place}
 use Rattle.kcr_base.specs.declared.refusal.Refusal.{Refusal}
 use Rattle.kcr_base.specs.declared.refusal.Refusal.TheVariants.{Memory}
 use Rattle.kcr_people.specs.declared.Appointment.{Appointment}
+use Rattle.kcr_people.specs.declared.Roster.{Roster}
 use Rattle.kcr_people.specs.People.{enter_refusal, train_refusal, withdraw_refusal, appoint_refusal, replace_refusal}
 use Rattle.kcr_people.specs.People.{release_refusal, withdrawn_rows, open_row_by, end_of, nobody}
 use Rattle.kcr_custody.specs.Custody.{add_box_refusal}
@@ -36,6 +37,15 @@ use Rattle.kcr_rules.specs.Signing.{IsSeatedBy, IsUnseatedBy, mark_change, seat_
 -- the settled day: the day of the greatest mark
 abbrev pub settled_by : List MarkRow → Option ℕ
 settled_by marks = option_map day_of (greatest (map (λ row. row.at) marks))
+
+-- the roster has the view's people, trainings, withdrawals and appointments, its settled day, and whether it is full
+pub record IsRoster (view : View) (full : Bool) (roster : Roster) : Type 0 where
+  pub people : roster.people.now ≡ view.people.items
+  pub trainings : roster.trainings.now ≡ view.trainings.items
+  pub withdrawals : roster.withdrawals.now ≡ view.withdrawals.items
+  pub appointments : roster.appointments.now ≡ view.appointments.items
+  pub settled : roster.settled ≡ settled_by view.marks.items
+  pub is_full : roster.is_full ≡ full
 
 -- the first refusal of an act, but for its key
 abbrev pub refusal_by : View → Bool → Act → Option Refusal

@@ -6,13 +6,13 @@ ghost use Rattle.kcr_history.specs.declared.commands.Act.TheVariants as Kinds;
 ghost use Rattle.kcr_history.specs.declared.views.Change.TheVariants.{PutWithdrawal};
 ghost use Rattle.kcr_base.specs.Refuse.{unless};
 ghost use Rattle.kcr_people.specs.People;
-ghost use Rattle.kcr_rules.specs.ByRows.{ComesTo, new_appointment, settled_by};
+ghost use Rattle.kcr_rules.specs.ByRows.{ComesTo, IsRoster, settled_by};
 ghost use Rattle.kcr_history.specs.History.{greatest, with_mark};
 
 use crate::changes::{both, only};
 use kcr_base::{Day, Initials, Moment, Name, Place, Refusal, Role};
 use kcr_history::{Change, MarkRow, View};
-use kcr_people::{Appointment, Person, Training, Withdrawal};
+use kcr_people::{Person, Roster, Training, Withdrawal};
 use std::alloc::{AllocError, Global};
 
 /// The greater of a mark so far, if there is one, and one more.
@@ -42,6 +42,20 @@ pub(crate) fn settled(marks: &[MarkRow]) -> Option<Day>
     ensures { result ≡ settled_by marks.now }
 {
     greatest_mark(marks).map(|mark| mark.day())
+}
+
+/// What acts on people and places are decided by.
+fn roster(view: &View, full: bool) -> Roster<'_>
+    ensures { IsRoster view.now full result }
+{
+    Roster {
+        people: &view.people,
+        trainings: &view.trainings,
+        withdrawals: &view.withdrawals,
+        appointments: &view.appointments,
+        settled: settled(&view.marks),
+        is_full: full,
+    }
 }
 
 /// Enters a person: the row to put, or the first refusal.
@@ -80,13 +94,7 @@ pub(crate) fn train(
         since,
         until,
     };
-    let row = kcr_people::train(
-        &view.people,
-        &view.trainings,
-        &view.appointments,
-        full,
-        training,
-    )?;
+    let row = kcr_people::train(&roster(view, full), training)?;
     Ok(only(alloc, Change::PutTraining(row))?)
 }
 
@@ -112,17 +120,7 @@ pub(crate) fn withdraw(
 ) -> Result<Vec<Change>, Refusal>
     ensures { ComesTo view.now full (Kinds.Withdraw who role day) result }
 {
-    let rows = kcr_people::withdraw(
-        alloc,
-        &view.people,
-        &view.trainings,
-        &view.withdrawals,
-        settled(&view.marks),
-        full,
-        who,
-        role,
-        day,
-    )?;
+    let rows = kcr_people::withdraw(alloc, &roster(view, full), who, role, day)?;
     let changes = withdrawal_changes(alloc, rows.as_slice())?;
     Ok(changes)
 }
@@ -138,16 +136,7 @@ pub(crate) fn appoint(
 ) -> Result<Vec<Change>, Refusal>
     ensures { ComesTo view.now full (Kinds.Appoint place who day) result }
 {
-    let row = kcr_people::appoint(
-        &view.people,
-        &view.trainings,
-        &view.appointments,
-        settled(&view.marks),
-        full,
-        place,
-        who,
-        day,
-    )?;
+    let row = kcr_people::appoint(&roster(view, full), place, who, day)?;
     Ok(only(alloc, Change::PutAppointment(row))?)
 }
 
@@ -162,16 +151,7 @@ pub(crate) fn replace(
 ) -> Result<Vec<Change>, Refusal>
     ensures { ComesTo view.now full (Kinds.Replace place who day) result }
 {
-    let (ended, row) = kcr_people::replace(
-        &view.people,
-        &view.trainings,
-        &view.appointments,
-        settled(&view.marks),
-        full,
-        place,
-        who,
-        day,
-    )?;
+    let (ended, row) = kcr_people::replace(&roster(view, full), place, who, day)?;
     Ok(both(
         alloc,
         Change::PutAppointment(ended),
@@ -189,7 +169,6 @@ pub(crate) fn release(
 ) -> Result<Vec<Change>, Refusal>
     ensures { ComesTo view.now full (Kinds.Release place day) result }
 {
-    let last = settled(&view.marks);
-    let ended = kcr_people::release(&view.appointments, last, full, place, day)?;
+    let ended = kcr_people::release(&roster(view, full), place, day)?;
     Ok(only(alloc, Change::PutAppointment(ended))?)
 }
