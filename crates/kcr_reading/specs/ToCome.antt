@@ -1,8 +1,6 @@
 -- What of the rows that are read one at a time is still to come, by the tables of the machine.
 use Rattle.std.specs.Prelude.{◌≡◌, ℕ, ◌+◌, ◌*◌, ◌==◌, Bool, true, false, ◌&&◌, nat_lt, List, [], ◌∷◌, map, filter}
-use Rattle.std.specs.Prelude.{Option, Some, None, Result, IfOk}
-use Rattle.sqlite.specs.State.{State, HasCleanDisk}
-use Rattle.kcr_base.specs.declared.refusal.Refusal.{Refusal}
+use Rattle.std.specs.Prelude.{Option, Some, None}
 use Rattle.kcr_base.specs.Same.{is_before, facility_number}
 use Rattle.kcr_rows.specs.States.{safe_digit}
 use Rattle.kcr_custody.specs.Custody.{lies_in}
@@ -19,7 +17,6 @@ use Rattle.kcr_history.specs.Tables as machine
 use Rattle.kcr_history.specs.declared.rows.ExceptionRow.{ExceptionRow}
 use Rattle.kcr_history.specs.declared.rows.SeatingRow.{SeatingRow}
 use Rattle.kcr_history.specs.declared.rows.StepRow.{StepRow}
-use Rattle.kcr_tables.specs.Joint.{HoldsTables}
 use Rattle.kcr_reading.specs.declared.bags.PackedBag.{PackedBag}
 use Rattle.kcr_reading.specs.declared.stays.NamedStay.{NamedStay}
 use Rattle.kcr_reading.specs.declared.steps.SeatedStep.{SeatedStep}
@@ -38,10 +35,6 @@ is_past (Some last) number = nat_lt last number
 abbrev pub is_behind : Option (List ℕ) → List ℕ → Bool
 is_behind None text = true
 is_behind (Some last) text = is_before last text
-
--- where the database holds tables of the machine, the call says this of them and of what it gives
-abbrev pub ByTables : {A : Type 0} → State → State → Result A Refusal → (machine.Tables → A → Type 0) → Type 0
-ByTables old new result Says = HasCleanDisk new → (m : machine.Tables) → HoldsTables m old.now → IfOk result (Says m)
 
 -- STEPS
 

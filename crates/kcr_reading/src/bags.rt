@@ -1,13 +1,11 @@
 //! The bags, each with its items.
 
-ghost use Rattle.std.specs.Prelude.{◌≡◌, None, IsTrue, IfOk, OnOk, map, filter, slice_get};
+ghost use Rattle.std.specs.Prelude.{◌≡◌, None, IfOk, map, filter, slice_get};
 ghost use Rattle.sqlite.specs.Held.{state};
-ghost use Rattle.sqlite.specs.State.{HasCleanDisk};
 ghost use Rattle.kcr_custody.specs.Custody.{lies_in};
 ghost use Rattle.kcr_history.specs.Tables as machine;
-ghost use Rattle.kcr_tables.specs.Frame.{Reads};
-ghost use Rattle.kcr_tables.specs.Joint.{HoldsTables};
-ghost use Rattle.kcr_reading.specs.ToCome.{Gives, ByTables, serials_past, items_by_code, packed_bags, bags_past};
+ghost use Rattle.kcr_tables.specs.Frame.{TellsOpen, TellsMachine, Reads};
+ghost use Rattle.kcr_reading.specs.ToCome.{Gives, serials_past, items_by_code, packed_bags, bags_past};
 
 use crate::reading::Reading;
 use crate::seek::first_row;
@@ -56,10 +54,9 @@ fn bag_behind<S: Alter>(
     last: &Option<Serial>,
 ) -> Result<Option<Bag>, Refusal>
     ensures same_reference { tx.new.conn.ghost_name ≡ tx.old.conn.ghost_name }
-    ensures first { ByTables (state S.Store tx.old.conn.now)
-        (state S.Store tx.new.conn.now) result (λ m found. found ≡ slice_get (serials_past last.now m) 0) }
-    ensures opened { HasCleanDisk (state S.Store tx.new.conn.now)
-        → OnOk result (IsTrue (state S.Store tx.old.conn.now).is_open) }
+    ensures first { TellsMachine (state S.Store tx.old.conn.now) (state S.Store tx.new.conn.now) result
+        (λ m found. found ≡ slice_get (serials_past last.now m) 0) }
+    ensures opened { TellsOpen (state S.Store tx.old.conn.now) (state S.Store tx.new.conn.now) result }
     ensures frame { Reads (state S.Store tx.old.conn.now) (state S.Store tx.new.conn.now) result }
 {
     match last {
@@ -85,11 +82,9 @@ fn next_bag<S: Alter>(
     last: &mut Option<Serial>,
 ) -> Result<Option<Bag>, Refusal>
     ensures same_reference { tx.new.conn.ghost_name ≡ tx.old.conn.ghost_name }
-    ensures gives { ByTables (state S.Store tx.old.conn.now)
-        (state S.Store tx.new.conn.now) result (λ m found. Gives (serials_past last.old m) found
-        (serials_past last.new m)) }
-    ensures opened { HasCleanDisk (state S.Store tx.new.conn.now)
-        → OnOk result (IsTrue (state S.Store tx.old.conn.now).is_open) }
+    ensures gives { TellsMachine (state S.Store tx.old.conn.now) (state S.Store tx.new.conn.now) result
+        (λ m found. Gives (serials_past last.old m) found (serials_past last.new m)) }
+    ensures opened { TellsOpen (state S.Store tx.old.conn.now) (state S.Store tx.new.conn.now) result }
     ensures frame { Reads (state S.Store tx.old.conn.now) (state S.Store tx.new.conn.now) result }
 {
     let found = bag_behind(alloc, tx, last)?;
@@ -106,10 +101,9 @@ fn items_within<S: Alter>(
     serial: &Serial,
 ) -> Result<Vec<Item>, Refusal>
     ensures same_reference { tx.new.conn.ghost_name ≡ tx.old.conn.ghost_name }
-    ensures rows { ByTables (state S.Store tx.old.conn.now)
-        (state S.Store tx.new.conn.now) result (λ m rows. rows.items ≡ filter (lies_in serial.now) (items_by_code m)) }
-    ensures opened { HasCleanDisk (state S.Store tx.new.conn.now)
-        → OnOk result (IsTrue (state S.Store tx.old.conn.now).is_open) }
+    ensures rows { TellsMachine (state S.Store tx.old.conn.now) (state S.Store tx.new.conn.now) result
+        (λ m rows. rows.items ≡ filter (lies_in serial.now) (items_by_code m)) }
+    ensures opened { TellsOpen (state S.Store tx.old.conn.now) (state S.Store tx.new.conn.now) result }
     ensures frame { Reads (state S.Store tx.old.conn.now) (state S.Store tx.new.conn.now) result }
 {
     rows_under(alloc, tx, serial)

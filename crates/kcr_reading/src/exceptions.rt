@@ -1,12 +1,10 @@
 //! The exceptions of a ceremony.
 
-ghost use Rattle.std.specs.Prelude.{◌≡◌, None, IsTrue, IfOk, OnOk};
+ghost use Rattle.std.specs.Prelude.{◌≡◌, None};
 ghost use Rattle.sqlite.specs.Held.{state};
-ghost use Rattle.sqlite.specs.State.{HasCleanDisk};
 ghost use Rattle.kcr_history.specs.Tables as machine;
-ghost use Rattle.kcr_tables.specs.Frame.{Reads};
-ghost use Rattle.kcr_tables.specs.Joint.{HoldsTables};
-ghost use Rattle.kcr_reading.specs.ToCome.{Gives, ByTables, exceptions_of, exceptions_past};
+ghost use Rattle.kcr_tables.specs.Frame.{TellsOpen, TellsMachine, Reads};
+ghost use Rattle.kcr_reading.specs.ToCome.{Gives, exceptions_of, exceptions_past};
 
 use crate::reading::Reading;
 use crate::seek::{first_row, past_cell};
@@ -24,11 +22,9 @@ fn next_exception<S: Alter>(
     last: &mut Option<u32>,
 ) -> Result<Option<ExceptionRow>, Refusal>
     ensures same_reference { tx.new.conn.ghost_name ≡ tx.old.conn.ghost_name }
-    ensures gives { ByTables (state S.Store tx.old.conn.now)
-        (state S.Store tx.new.conn.now) result (λ m found. Gives (exceptions_past last.old ceremony m) found
-        (exceptions_past last.new ceremony m)) }
-    ensures opened { HasCleanDisk (state S.Store tx.new.conn.now)
-        → OnOk result (IsTrue (state S.Store tx.old.conn.now).is_open) }
+    ensures gives { TellsMachine (state S.Store tx.old.conn.now) (state S.Store tx.new.conn.now) result
+        (λ m found. Gives (exceptions_past last.old ceremony m) found (exceptions_past last.new ceremony m)) }
+    ensures opened { TellsOpen (state S.Store tx.old.conn.now) (state S.Store tx.new.conn.now) result }
     ensures frame { Reads (state S.Store tx.old.conn.now) (state S.Store tx.new.conn.now) result }
 {
     let found: Option<ExceptionRow> = first_row(

@@ -1,12 +1,10 @@
 //! The loose items.
 
-ghost use Rattle.std.specs.Prelude.{◌≡◌, None, IsTrue, IfOk, OnOk, slice_get};
+ghost use Rattle.std.specs.Prelude.{◌≡◌, None, slice_get};
 ghost use Rattle.sqlite.specs.Held.{state};
-ghost use Rattle.sqlite.specs.State.{HasCleanDisk};
 ghost use Rattle.kcr_history.specs.Tables as machine;
-ghost use Rattle.kcr_tables.specs.Frame.{Reads};
-ghost use Rattle.kcr_tables.specs.Joint.{HoldsTables};
-ghost use Rattle.kcr_reading.specs.ToCome.{Gives, ByTables, loose_items, loose_past};
+ghost use Rattle.kcr_tables.specs.Frame.{TellsOpen, TellsMachine, Reads};
+ghost use Rattle.kcr_reading.specs.ToCome.{Gives, loose_items, loose_past};
 
 use crate::reading::Reading;
 use crate::seek::first_row;
@@ -23,10 +21,9 @@ fn loose_behind<S: Alter>(
     last: &Option<ItemCode>,
 ) -> Result<Option<Item>, Refusal>
     ensures same_reference { tx.new.conn.ghost_name ≡ tx.old.conn.ghost_name }
-    ensures first { ByTables (state S.Store tx.old.conn.now)
-        (state S.Store tx.new.conn.now) result (λ m found. found ≡ slice_get (loose_past last.now m) 0) }
-    ensures opened { HasCleanDisk (state S.Store tx.new.conn.now)
-        → OnOk result (IsTrue (state S.Store tx.old.conn.now).is_open) }
+    ensures first { TellsMachine (state S.Store tx.old.conn.now) (state S.Store tx.new.conn.now) result
+        (λ m found. found ≡ slice_get (loose_past last.now m) 0) }
+    ensures opened { TellsOpen (state S.Store tx.old.conn.now) (state S.Store tx.new.conn.now) result }
     ensures frame { Reads (state S.Store tx.old.conn.now) (state S.Store tx.new.conn.now) result }
 {
     match last {
@@ -52,11 +49,9 @@ fn next_loose<S: Alter>(
     last: &mut Option<ItemCode>,
 ) -> Result<Option<Item>, Refusal>
     ensures same_reference { tx.new.conn.ghost_name ≡ tx.old.conn.ghost_name }
-    ensures gives { ByTables (state S.Store tx.old.conn.now)
-        (state S.Store tx.new.conn.now) result (λ m found. Gives (loose_past last.old m) found
-        (loose_past last.new m)) }
-    ensures opened { HasCleanDisk (state S.Store tx.new.conn.now)
-        → OnOk result (IsTrue (state S.Store tx.old.conn.now).is_open) }
+    ensures gives { TellsMachine (state S.Store tx.old.conn.now) (state S.Store tx.new.conn.now) result
+        (λ m found. Gives (loose_past last.old m) found (loose_past last.new m)) }
+    ensures opened { TellsOpen (state S.Store tx.old.conn.now) (state S.Store tx.new.conn.now) result }
     ensures frame { Reads (state S.Store tx.old.conn.now) (state S.Store tx.new.conn.now) result }
 {
     let found = loose_behind(alloc, tx, last)?;

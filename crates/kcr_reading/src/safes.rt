@@ -1,12 +1,10 @@
 //! The four safes.
 
-ghost use Rattle.std.specs.Prelude.{◌≡◌, None, IsTrue, IfOk, OnOk, find};
+ghost use Rattle.std.specs.Prelude.{◌≡◌, None, find};
 ghost use Rattle.sqlite.specs.Held.{state};
-ghost use Rattle.sqlite.specs.State.{HasCleanDisk};
 ghost use Rattle.kcr_history.specs.Tables as machine;
-ghost use Rattle.kcr_tables.specs.Frame.{Reads};
-ghost use Rattle.kcr_tables.specs.Joint.{HoldsTables};
-ghost use Rattle.kcr_reading.specs.ToCome.{Gives, ByTables, is_past, safe_place, safes_in_order, safes_past};
+ghost use Rattle.kcr_tables.specs.Frame.{TellsOpen, TellsMachine, Reads};
+ghost use Rattle.kcr_reading.specs.ToCome.{Gives, is_past, safe_place, safes_in_order, safes_past};
 
 use crate::reading::Reading;
 use kcr_base::{Facility, Refusal};
@@ -55,11 +53,9 @@ fn next_safe<S: Alter>(
     last: &mut Option<u32>,
 ) -> Result<Option<SafeRow>, Refusal>
     ensures same_reference { tx.new.conn.ghost_name ≡ tx.old.conn.ghost_name }
-    ensures gives { ByTables (state S.Store tx.old.conn.now)
-        (state S.Store tx.new.conn.now) result (λ m found. Gives (safes_past last.old m) found
-        (safes_past last.new m)) }
-    ensures opened { HasCleanDisk (state S.Store tx.new.conn.now)
-        → OnOk result (IsTrue (state S.Store tx.old.conn.now).is_open) }
+    ensures gives { TellsMachine (state S.Store tx.old.conn.now) (state S.Store tx.new.conn.now) result
+        (λ m found. Gives (safes_past last.old m) found (safes_past last.new m)) }
+    ensures opened { TellsOpen (state S.Store tx.old.conn.now) (state S.Store tx.new.conn.now) result }
     ensures frame { Reads (state S.Store tx.old.conn.now) (state S.Store tx.new.conn.now) result }
 {
     let rows: Vec<SafeRow> = all_rows(alloc, tx)?;

@@ -1,13 +1,11 @@
 //! One row of a table: the first that passes a test.
 
-ghost use Rattle.std.specs.Prelude.{◌≡◌, OnOk, IfOk, IsTrue, Option, pos, ℤ};
+ghost use Rattle.std.specs.Prelude.{◌≡◌, Option, pos, ℤ};
 ghost use Rattle.sqlite.specs.Held.{state};
-ghost use Rattle.sqlite.specs.State.{HasCleanDisk};
 ghost use Rattle.sqlite.specs.Values.{bound, bound_value};
 ghost use Rattle.sqlite.specs.Value.{owned};
 ghost use Rattle.sqlite.specs.declared.types.Value.TheVariants.{Int};
-ghost use Rattle.kcr_tables.specs.Held.{Tables, Holds};
-ghost use Rattle.kcr_tables.specs.Frame.{Reads};
+ghost use Rattle.kcr_tables.specs.Frame.{TellsOpen, Tells, Reads};
 ghost use Rattle.kcr_reading.specs.First.{Choice, ShowsFirst, IsFirst, bound_of};
 
 use kcr_base::Refusal;
@@ -37,10 +35,9 @@ pub(crate) fn first_row<S: Alter, T: Listed>(
 ) -> Result<Option<T>, Refusal>
     ensures same_reference { tx.new.conn.ghost_name ≡ tx.old.conn.ghost_name }
     ensures row { (choice : Choice) → ShowsFirst sql.now T.table.place (bound params.now) choice
-        → HasCleanDisk (state S.Store tx.new.conn.now) → (t : Tables) → Holds (state S.Store tx.old.conn.now).now t
-        → IfOk result (IsFirst T.row_of choice (T.table.rows_in t)) }
-    ensures opened { HasCleanDisk (state S.Store tx.new.conn.now)
-        → OnOk result (IsTrue (state S.Store tx.old.conn.now).is_open) }
+        → Tells (state S.Store tx.old.conn.now) (state S.Store tx.new.conn.now) result
+        (λ t found. IsFirst T.row_of choice (T.table.rows_in t) found) }
+    ensures opened { TellsOpen (state S.Store tx.old.conn.now) (state S.Store tx.new.conn.now) result }
     ensures frame { (choice : Choice) → ShowsFirst sql.now T.table.place (bound params.now) choice
         → Reads (state S.Store tx.old.conn.now) (state S.Store tx.new.conn.now) result }
 {

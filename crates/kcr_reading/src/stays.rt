@@ -1,18 +1,16 @@
 //! The stays in the room of a ceremony, each with the name of the person.
 
-ghost use Rattle.std.specs.Prelude.{◌≡◌, None, IsTrue, IfOk, OnOk, filter, slice_get};
+ghost use Rattle.std.specs.Prelude.{◌≡◌, None, filter, slice_get};
 ghost use Rattle.sqlite.specs.Held.{state};
-ghost use Rattle.sqlite.specs.State.{HasCleanDisk};
 ghost use Rattle.sqlite.specs.Value.{owned};
 ghost use Rattle.sqlite.specs.Values.{bound_value};
 ghost use Rattle.sqlite.specs.declared.types.Value.TheVariants.{Int};
 ghost use Rattle.kcr_room.specs.Stays.{attendance_in_by};
 ghost use Rattle.kcr_history.specs.Prints.{name_of};
 ghost use Rattle.kcr_history.specs.Tables as machine;
-ghost use Rattle.kcr_tables.specs.Frame.{Reads};
-ghost use Rattle.kcr_tables.specs.Joint.{HoldsTables};
+ghost use Rattle.kcr_tables.specs.Frame.{TellsOpen, TellsMachine, Reads};
 ghost use Rattle.kcr_reading.specs.First.{bound_of};
-ghost use Rattle.kcr_reading.specs.ToCome.{Gives, ByTables, begins_with, begins_after, since_of, listed_past};
+ghost use Rattle.kcr_reading.specs.ToCome.{Gives, begins_with, begins_after, since_of, listed_past};
 ghost use Rattle.kcr_reading.specs.ToCome.{named_stays, stays_past};
 
 use crate::reading::Reading;
@@ -51,11 +49,9 @@ fn stay_together<S: Alter>(
     last: &Stay,
 ) -> Result<Option<Stay>, Refusal>
     ensures same_reference { tx.new.conn.ghost_name ≡ tx.old.conn.ghost_name }
-    ensures first { ByTables (state S.Store tx.old.conn.now)
-        (state S.Store tx.new.conn.now) result (λ m found. found ≡ slice_get
-        (filter (begins_with last.now) (attendance_in_by m.stays ceremony)) 0) }
-    ensures opened { HasCleanDisk (state S.Store tx.new.conn.now)
-        → OnOk result (IsTrue (state S.Store tx.old.conn.now).is_open) }
+    ensures first { TellsMachine (state S.Store tx.old.conn.now) (state S.Store tx.new.conn.now) result
+        (λ m found. found ≡ slice_get (filter (begins_with last.now) (attendance_in_by m.stays ceremony)) 0) }
+    ensures opened { TellsOpen (state S.Store tx.old.conn.now) (state S.Store tx.new.conn.now) result }
     ensures frame { Reads (state S.Store tx.old.conn.now) (state S.Store tx.new.conn.now) result }
 {
     first_row(
@@ -78,11 +74,9 @@ fn stay_later<S: Alter>(
     last: &Option<Stay>,
 ) -> Result<Option<Stay>, Refusal>
     ensures same_reference { tx.new.conn.ghost_name ≡ tx.old.conn.ghost_name }
-    ensures first { ByTables (state S.Store tx.old.conn.now)
-        (state S.Store tx.new.conn.now) result (λ m found. found ≡ slice_get
-        (filter (begins_after last.now) (attendance_in_by m.stays ceremony)) 0) }
-    ensures opened { HasCleanDisk (state S.Store tx.new.conn.now)
-        → OnOk result (IsTrue (state S.Store tx.old.conn.now).is_open) }
+    ensures first { TellsMachine (state S.Store tx.old.conn.now) (state S.Store tx.new.conn.now) result
+        (λ m found. found ≡ slice_get (filter (begins_after last.now) (attendance_in_by m.stays ceremony)) 0) }
+    ensures opened { TellsOpen (state S.Store tx.old.conn.now) (state S.Store tx.new.conn.now) result }
     ensures frame { Reads (state S.Store tx.old.conn.now) (state S.Store tx.new.conn.now) result }
 {
     first_row(
@@ -101,10 +95,9 @@ fn stay_behind<S: Alter>(
     last: &Option<Stay>,
 ) -> Result<Option<Stay>, Refusal>
     ensures same_reference { tx.new.conn.ghost_name ≡ tx.old.conn.ghost_name }
-    ensures first { ByTables (state S.Store tx.old.conn.now)
-        (state S.Store tx.new.conn.now) result (λ m found. found ≡ slice_get (listed_past last.now ceremony m) 0) }
-    ensures opened { HasCleanDisk (state S.Store tx.new.conn.now)
-        → OnOk result (IsTrue (state S.Store tx.old.conn.now).is_open) }
+    ensures first { TellsMachine (state S.Store tx.old.conn.now) (state S.Store tx.new.conn.now) result
+        (λ m found. found ≡ slice_get (listed_past last.now ceremony m) 0) }
+    ensures opened { TellsOpen (state S.Store tx.old.conn.now) (state S.Store tx.new.conn.now) result }
     ensures frame { Reads (state S.Store tx.old.conn.now) (state S.Store tx.new.conn.now) result }
 {
     match last {
@@ -126,11 +119,9 @@ fn next_stay<S: Alter>(
     last: &mut Option<Stay>,
 ) -> Result<Option<Stay>, Refusal>
     ensures same_reference { tx.new.conn.ghost_name ≡ tx.old.conn.ghost_name }
-    ensures gives { ByTables (state S.Store tx.old.conn.now)
-        (state S.Store tx.new.conn.now) result (λ m found. Gives (listed_past last.old ceremony m) found
-        (listed_past last.new ceremony m)) }
-    ensures opened { HasCleanDisk (state S.Store tx.new.conn.now)
-        → OnOk result (IsTrue (state S.Store tx.old.conn.now).is_open) }
+    ensures gives { TellsMachine (state S.Store tx.old.conn.now) (state S.Store tx.new.conn.now) result
+        (λ m found. Gives (listed_past last.old ceremony m) found (listed_past last.new ceremony m)) }
+    ensures opened { TellsOpen (state S.Store tx.old.conn.now) (state S.Store tx.new.conn.now) result }
     ensures frame { Reads (state S.Store tx.old.conn.now) (state S.Store tx.new.conn.now) result }
 {
     let found = stay_behind(alloc, tx, ceremony, last)?;
@@ -148,10 +139,9 @@ fn name_of<S: Alter>(
     who: &Initials,
 ) -> Result<Name, Refusal>
     ensures same_reference { tx.new.conn.ghost_name ≡ tx.old.conn.ghost_name }
-    ensures name { ByTables (state S.Store tx.old.conn.now)
-        (state S.Store tx.new.conn.now) result (λ m name. name ≡ name_of m.people who.now) }
-    ensures opened { HasCleanDisk (state S.Store tx.new.conn.now)
-        → OnOk result (IsTrue (state S.Store tx.old.conn.now).is_open) }
+    ensures name { TellsMachine (state S.Store tx.old.conn.now) (state S.Store tx.new.conn.now) result
+        (λ m name. name ≡ name_of m.people who.now) }
+    ensures opened { TellsOpen (state S.Store tx.old.conn.now) (state S.Store tx.new.conn.now) result }
     ensures frame { Reads (state S.Store tx.old.conn.now) (state S.Store tx.new.conn.now) result }
 {
     let mut people: Vec<Person> = rows_under(alloc, tx, who)?;

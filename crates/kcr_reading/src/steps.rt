@@ -1,13 +1,11 @@
 //! The steps of a ceremony, each with the people who filled its seats.
 
-ghost use Rattle.std.specs.Prelude.{◌≡◌, None, IsTrue, IfOk, OnOk, map};
+ghost use Rattle.std.specs.Prelude.{◌≡◌, None, IfOk, map};
 ghost use Rattle.sqlite.specs.Held.{state};
-ghost use Rattle.sqlite.specs.State.{HasCleanDisk};
 ghost use Rattle.kcr_history.specs.Prints.{seated_at};
 ghost use Rattle.kcr_history.specs.Tables as machine;
-ghost use Rattle.kcr_tables.specs.Frame.{Reads};
-ghost use Rattle.kcr_tables.specs.Joint.{HoldsTables};
-ghost use Rattle.kcr_reading.specs.ToCome.{Gives, ByTables, rows_past, seated_steps, steps_past};
+ghost use Rattle.kcr_tables.specs.Frame.{TellsOpen, TellsMachine, Reads};
+ghost use Rattle.kcr_reading.specs.ToCome.{Gives, rows_past, seated_steps, steps_past};
 
 use crate::reading::Reading;
 use crate::seek::{first_row, past_cell};
@@ -57,11 +55,9 @@ fn next_step<S: Alter>(
     last: &mut Option<u32>,
 ) -> Result<Option<StepRow>, Refusal>
     ensures same_reference { tx.new.conn.ghost_name ≡ tx.old.conn.ghost_name }
-    ensures gives { ByTables (state S.Store tx.old.conn.now)
-        (state S.Store tx.new.conn.now) result (λ m found. Gives (rows_past last.old ceremony m) found
-        (rows_past last.new ceremony m)) }
-    ensures opened { HasCleanDisk (state S.Store tx.new.conn.now)
-        → OnOk result (IsTrue (state S.Store tx.old.conn.now).is_open) }
+    ensures gives { TellsMachine (state S.Store tx.old.conn.now) (state S.Store tx.new.conn.now) result
+        (λ m found. Gives (rows_past last.old ceremony m) found (rows_past last.new ceremony m)) }
+    ensures opened { TellsOpen (state S.Store tx.old.conn.now) (state S.Store tx.new.conn.now) result }
     ensures frame { Reads (state S.Store tx.old.conn.now) (state S.Store tx.new.conn.now) result }
 {
     let found: Option<StepRow> = first_row(
@@ -84,10 +80,9 @@ fn seatings_at<S: Alter>(
     step: u32,
 ) -> Result<Vec<SeatingRow>, Refusal>
     ensures same_reference { tx.new.conn.ghost_name ≡ tx.old.conn.ghost_name }
-    ensures rows { ByTables (state S.Store tx.old.conn.now) (state S.Store tx.new.conn.now) result
+    ensures rows { TellsMachine (state S.Store tx.old.conn.now) (state S.Store tx.new.conn.now) result
         (λ m rows. map (λ row. row.who) rows.items ≡ seated_at m.seatings ceremony step) }
-    ensures opened { HasCleanDisk (state S.Store tx.new.conn.now)
-        → OnOk result (IsTrue (state S.Store tx.old.conn.now).is_open) }
+    ensures opened { TellsOpen (state S.Store tx.old.conn.now) (state S.Store tx.new.conn.now) result }
     ensures frame { Reads (state S.Store tx.old.conn.now) (state S.Store tx.new.conn.now) result }
 {
     rows_of(

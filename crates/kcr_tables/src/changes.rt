@@ -7,9 +7,9 @@ ghost use Rattle.kcr_history.specs.Tables as machine;
 ghost use Rattle.kcr_history.specs.Changes.{changed_by};
 ghost use Rattle.kcr_rows.specs.Refusals.{IsFault};
 ghost use Rattle.kcr_rows.specs.Frame.{StaysWithin};
-ghost use Rattle.kcr_tables.specs.Held.{Tables, Holds};
 ghost use Rattle.kcr_tables.specs.Changed.{changed, changed_all};
 ghost use Rattle.kcr_tables.specs.Joint.{HoldsTables};
+ghost use Rattle.kcr_tables.specs.Frame.{Leaves};
 
 use crate::table::{Put, PutWords};
 use kcr_base::Refusal;
@@ -24,9 +24,8 @@ fn make_change<S: Alter>(
     change: &Change,
 ) -> Result<(), Refusal>
     ensures same_reference { tx.new.conn.ghost_name ≡ tx.old.conn.ghost_name }
-    ensures holds { HasCleanDisk (state S.Store tx.new.conn.now) → (t : Tables)
-        → Holds (state S.Store tx.old.conn.now).now t
-        → OnOk result (Holds (state S.Store tx.new.conn.now).now (changed change.now t)) }
+    ensures holds { Leaves (state S.Store tx.old.conn.now) (state S.Store tx.new.conn.now) result
+        (λ t. changed change.now t) }
     ensures frame { StaysWithin IsFault (state S.Store tx.old.conn.now) (state S.Store tx.new.conn.now) result }
 {
     match change {
@@ -58,9 +57,8 @@ pub fn make_changes<S: Alter>(
     changes: &[Change],
 ) -> Result<(), Refusal>
     ensures same_reference { tx.new.conn.ghost_name ≡ tx.old.conn.ghost_name }
-    ensures holds { HasCleanDisk (state S.Store tx.new.conn.now) → (t : Tables)
-        → Holds (state S.Store tx.old.conn.now).now t
-        → OnOk result (Holds (state S.Store tx.new.conn.now).now (changed_all changes.now t)) }
+    ensures holds { Leaves (state S.Store tx.old.conn.now) (state S.Store tx.new.conn.now) result
+        (λ t. changed_all changes.now t) }
     ensures tables { HasCleanDisk (state S.Store tx.new.conn.now) → (m : machine.Tables)
         → HoldsTables m (state S.Store tx.old.conn.now).now
         → OnOk result (HoldsTables (changed_by changes.now m) (state S.Store tx.new.conn.now).now) }

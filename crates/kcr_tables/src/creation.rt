@@ -10,12 +10,13 @@ ghost use Rattle.kcr_rows.specs.Columns.{AreEmpty};
 ghost use Rattle.kcr_rows.specs.Keyed.{put_in};
 ghost use Rattle.kcr_rows.specs.Rows.{safe_row};
 ghost use Rattle.kcr_rows.specs.Frame.{StaysWithin};
-ghost use Rattle.kcr_tables.specs.Held.{Tables, Holds};
+ghost use Rattle.kcr_tables.specs.Held.{Holds};
 ghost use Rattle.kcr_tables.specs.First.{empty_tables, first_tables, shut};
 ghost use Rattle.kcr_tables.specs.Joint.{HoldsTables};
 ghost use Rattle.kcr_tables.specs.Made.{first};
 ghost use Rattle.kcr_tables.specs.Schema.{all_tables};
 ghost use Rattle.kcr_custody.specs.declared.SafeNumber.TheVariants.{One, Two};
+ghost use Rattle.kcr_tables.specs.Frame.{Leaves};
 
 use crate::table::Put;
 use crate::texts::{COUNT, create_text};
@@ -66,11 +67,10 @@ fn create_all<S: Alter>(tx: &mut Transaction<'_, S>) -> Result<(), Refusal>
 /// Puts the two safes of a facility, which are shut.
 fn put_pair<S: Alter>(tx: &mut Transaction<'_, S>, facility: Facility) -> Result<(), Refusal>
     ensures same_reference { tx.new.conn.ghost_name ≡ tx.old.conn.ghost_name }
-    ensures holds { HasCleanDisk (state S.Store tx.new.conn.now) → (t : Tables)
-        → Holds (state S.Store tx.old.conn.now).now t
-        → OnOk result
-        (Holds (state S.Store tx.new.conn.now).now
-        (record t { safes = put_in 2 safe_row (shut facility Two) (put_in 2 safe_row (shut facility One) t.safes) })) }
+    ensures holds { Leaves (state S.Store tx.old.conn.now) (state S.Store tx.new.conn.now) result
+        (λ t. record t {
+          safes = put_in 2 safe_row (shut facility Two) (put_in 2 safe_row (shut facility One) t.safes);
+        }) }
     ensures frame { StaysWithin IsFault (state S.Store tx.old.conn.now) (state S.Store tx.new.conn.now) result }
 {
     let equipment = SafeRow {

@@ -1,16 +1,14 @@
 //! The row with the greatest number.
 
-ghost use Rattle.std.specs.Prelude.{◌≡◌, map, filter, IfOk, OnOk, IsTrue};
+ghost use Rattle.std.specs.Prelude.{◌≡◌, map, filter};
 ghost use Rattle.sqlite.specs.Held.{state};
-ghost use Rattle.sqlite.specs.State.{HasCleanDisk};
 ghost use Rattle.kcr_base.specs.Same.{same_text};
 ghost use Rattle.kcr_history.specs.Views.{is_appointment_to, is_appointment_of};
 ghost use Rattle.kcr_rows.specs.Greatest.{IsGreatest};
 ghost use Rattle.kcr_rows.specs.Rows.{key_row, stay_row, appointment_row};
 ghost use Rattle.kcr_tables.specs.Exact.{rows_at, rows_to, rows_of_person, has_text, IsOneOf};
-ghost use Rattle.kcr_tables.specs.Held.{keys_place, stays_place, Tables, Holds};
-ghost use Rattle.kcr_tables.specs.Frame.{Reads};
-ghost use Rattle.kcr_tables.specs.Schema.{register_schema};
+ghost use Rattle.kcr_tables.specs.Held.{keys_place, stays_place};
+ghost use Rattle.kcr_tables.specs.Frame.{TellsOpen, Tells, TellsExactly, Reads};
 
 use kcr_base::{Initials, Place, Refusal};
 use kcr_history::KeyRow;
@@ -29,15 +27,11 @@ pub fn last_key_row<S: Alter>(
     tx: &mut Transaction<'_, S>,
 ) -> Result<Vec<KeyRow>, Refusal>
     ensures same_reference { tx.new.conn.ghost_name ≡ tx.old.conn.ghost_name }
-    ensures rows { HasCleanDisk (state S.Store tx.new.conn.now) → (t : Tables)
-        → Holds (state S.Store tx.old.conn.now).now t
-        → IfOk result (λ all. IsGreatest (λ x. x.accepted) t.keys all.items) }
-    ensures exact { HasCleanDisk (state S.Store tx.new.conn.now)
-        → (state S.Store tx.old.conn.now).now.schema ≡ register_schema
-        → IfOk result (λ all. IsOneOf (rows_at keys_place (state S.Store tx.old.conn.now).now.trees)
-        (map key_row all.items)) }
-    ensures opened { HasCleanDisk (state S.Store tx.new.conn.now)
-        → OnOk result (IsTrue (state S.Store tx.old.conn.now).is_open) }
+    ensures rows { Tells (state S.Store tx.old.conn.now) (state S.Store tx.new.conn.now) result
+        (λ t all. IsGreatest (λ x. x.accepted) t.keys all.items) }
+    ensures exact { TellsExactly (state S.Store tx.old.conn.now) (state S.Store tx.new.conn.now) result
+        (λ db all. IsOneOf (rows_at keys_place db) (map key_row all.items)) }
+    ensures opened { TellsOpen (state S.Store tx.old.conn.now) (state S.Store tx.new.conn.now) result }
     ensures frame { Reads (state S.Store tx.old.conn.now) (state S.Store tx.new.conn.now) result }
 {
     rows_of(
@@ -55,14 +49,10 @@ pub fn last_stay_of<S: Alter>(
     who: &Initials,
 ) -> Result<Vec<Stay>, Refusal>
     ensures same_reference { tx.new.conn.ghost_name ≡ tx.old.conn.ghost_name }
-    ensures rows { HasCleanDisk (state S.Store tx.new.conn.now) → (t : Tables)
-        → Holds (state S.Store tx.old.conn.now).now t
-        → IfOk result (λ all. IsGreatest (λ x. x.since) (filter (λ x. same_text x.who who.now) t.stays) all.items) }
-    ensures exact { HasCleanDisk (state S.Store tx.new.conn.now)
-        → (state S.Store tx.old.conn.now).now.schema ≡ register_schema
-        → IfOk result (λ all. IsOneOf
-        (filter (has_text 0 who.now) (rows_at stays_place (state S.Store tx.old.conn.now).now.trees))
-        (map stay_row all.items)) }
+    ensures rows { Tells (state S.Store tx.old.conn.now) (state S.Store tx.new.conn.now) result
+        (λ t all. IsGreatest (λ x. x.since) (filter (λ x. same_text x.who who.now) t.stays) all.items) }
+    ensures exact { TellsExactly (state S.Store tx.old.conn.now) (state S.Store tx.new.conn.now) result
+        (λ db all. IsOneOf (filter (has_text 0 who.now) (rows_at stays_place db)) (map stay_row all.items)) }
     ensures frame { Reads (state S.Store tx.old.conn.now) (state S.Store tx.new.conn.now) result }
 {
     let c0 = initials_cell(who);
@@ -81,13 +71,10 @@ pub fn last_appointment_to<S: Alter>(
     place: Place,
 ) -> Result<Vec<Appointment>, Refusal>
     ensures same_reference { tx.new.conn.ghost_name ≡ tx.old.conn.ghost_name }
-    ensures rows { HasCleanDisk (state S.Store tx.new.conn.now) → (t : Tables)
-        → Holds (state S.Store tx.old.conn.now).now t
-        → IfOk result (λ all. IsGreatest (λ x. x.since) (filter (is_appointment_to place) t.appointments) all.items) }
-    ensures exact { HasCleanDisk (state S.Store tx.new.conn.now)
-        → (state S.Store tx.old.conn.now).now.schema ≡ register_schema
-        → IfOk result (λ all. IsOneOf (rows_to place (state S.Store tx.old.conn.now).now.trees)
-        (map appointment_row all.items)) }
+    ensures rows { Tells (state S.Store tx.old.conn.now) (state S.Store tx.new.conn.now) result
+        (λ t all. IsGreatest (λ x. x.since) (filter (is_appointment_to place) t.appointments) all.items) }
+    ensures exact { TellsExactly (state S.Store tx.old.conn.now) (state S.Store tx.new.conn.now) result
+        (λ db all. IsOneOf (rows_to place db) (map appointment_row all.items)) }
     ensures frame { Reads (state S.Store tx.old.conn.now) (state S.Store tx.new.conn.now) result }
 {
     let words = place.text();
@@ -107,13 +94,10 @@ pub fn last_appointment_of<S: Alter>(
     who: &Initials,
 ) -> Result<Vec<Appointment>, Refusal>
     ensures same_reference { tx.new.conn.ghost_name ≡ tx.old.conn.ghost_name }
-    ensures rows { HasCleanDisk (state S.Store tx.new.conn.now) → (t : Tables)
-        → Holds (state S.Store tx.old.conn.now).now t
-        → IfOk result (λ all. IsGreatest (λ x. x.since) (filter (is_appointment_of who.now) t.appointments) all.items) }
-    ensures exact { HasCleanDisk (state S.Store tx.new.conn.now)
-        → (state S.Store tx.old.conn.now).now.schema ≡ register_schema
-        → IfOk result (λ all. IsOneOf (rows_of_person who.now (state S.Store tx.old.conn.now).now.trees)
-        (map appointment_row all.items)) }
+    ensures rows { Tells (state S.Store tx.old.conn.now) (state S.Store tx.new.conn.now) result
+        (λ t all. IsGreatest (λ x. x.since) (filter (is_appointment_of who.now) t.appointments) all.items) }
+    ensures exact { TellsExactly (state S.Store tx.old.conn.now) (state S.Store tx.new.conn.now) result
+        (λ db all. IsOneOf (rows_of_person who.now db) (map appointment_row all.items)) }
     ensures frame { Reads (state S.Store tx.old.conn.now) (state S.Store tx.new.conn.now) result }
 {
     let c0 = initials_cell(who);

@@ -1,15 +1,12 @@
 //! The appointments that are asked for: of a place and of a person the one that began last.
 
-ghost use Rattle.std.specs.Prelude.{◌≡◌, IfOk};
+ghost use Rattle.std.specs.Prelude.{◌≡◌};
 ghost use Rattle.sqlite.specs.Held.{state};
-ghost use Rattle.sqlite.specs.State.{HasCleanDisk};
 ghost use Rattle.kcr_history.specs.Views.{ShowsAppointments};
 ghost use Rattle.kcr_history.specs.declared.views.AppointmentsOf.TheVariants as Wanted;
 ghost use Rattle.kcr_history.specs.declared.views.Selection.TheVariants as Selections;
 ghost use Rattle.kcr_tables.specs.Exact.{AppointmentsAreShown};
-ghost use Rattle.kcr_tables.specs.Held.{Tables, Holds};
-ghost use Rattle.kcr_tables.specs.Frame.{Reads};
-ghost use Rattle.kcr_tables.specs.Schema.{register_schema};
+ghost use Rattle.kcr_tables.specs.Frame.{Tells, TellsExactly, Reads};
 
 use crate::last::{last_appointment_of, last_appointment_to};
 use crate::table::all_rows;
@@ -27,14 +24,10 @@ fn last_of_both<S: Alter>(
     who: &Initials,
 ) -> Result<Vec<Appointment>, Refusal>
     ensures same_reference { tx.new.conn.ghost_name ≡ tx.old.conn.ghost_name }
-    ensures rows { HasCleanDisk (state S.Store tx.new.conn.now) → (t : Tables)
-        → Holds (state S.Store tx.old.conn.now).now t
-        → IfOk result (λ all. ShowsAppointments (Selections.Under (Wanted.Both place who.now)) t.appointments
-        all.items) }
-    ensures exact { HasCleanDisk (state S.Store tx.new.conn.now)
-        → (state S.Store tx.old.conn.now).now.schema ≡ register_schema
-        → IfOk result (λ all. AppointmentsAreShown (Selections.Under (Wanted.Both place who.now)) all.items
-        (state S.Store tx.old.conn.now).now.trees) }
+    ensures rows { Tells (state S.Store tx.old.conn.now) (state S.Store tx.new.conn.now) result
+        (λ t all. ShowsAppointments (Selections.Under (Wanted.Both place who.now)) t.appointments all.items) }
+    ensures exact { TellsExactly (state S.Store tx.old.conn.now) (state S.Store tx.new.conn.now) result
+        (λ db all. AppointmentsAreShown (Selections.Under (Wanted.Both place who.now)) all.items db) }
     ensures frame { Reads (state S.Store tx.old.conn.now) (state S.Store tx.new.conn.now) result }
 {
     let mut rows = last_appointment_to(alloc, tx, place)?;
@@ -50,12 +43,10 @@ pub fn asked_appointments<S: Alter>(
     asked: &Selection<AppointmentsOf>,
 ) -> Result<Vec<Appointment>, Refusal>
     ensures same_reference { tx.new.conn.ghost_name ≡ tx.old.conn.ghost_name }
-    ensures rows { HasCleanDisk (state S.Store tx.new.conn.now) → (t : Tables)
-        → Holds (state S.Store tx.old.conn.now).now t
-        → IfOk result (λ all. ShowsAppointments asked.now t.appointments all.items) }
-    ensures exact { HasCleanDisk (state S.Store tx.new.conn.now)
-        → (state S.Store tx.old.conn.now).now.schema ≡ register_schema
-        → IfOk result (λ all. AppointmentsAreShown asked.now all.items (state S.Store tx.old.conn.now).now.trees) }
+    ensures rows { Tells (state S.Store tx.old.conn.now) (state S.Store tx.new.conn.now) result
+        (λ t all. ShowsAppointments asked.now t.appointments all.items) }
+    ensures exact { TellsExactly (state S.Store tx.old.conn.now) (state S.Store tx.new.conn.now) result
+        (λ db all. AppointmentsAreShown asked.now all.items db) }
     ensures frame { Reads (state S.Store tx.old.conn.now) (state S.Store tx.new.conn.now) result }
 {
     match asked {

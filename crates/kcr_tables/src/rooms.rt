@@ -1,17 +1,15 @@
 //! The stays that are asked for: those of a ceremony, and of some people the one that began last.
 
-ghost use Rattle.std.specs.Prelude.{◌≡◌, ◌==◌, not, List, filter, IfOk};
+ghost use Rattle.std.specs.Prelude.{◌≡◌, ◌==◌, not, List, filter};
 ghost use Rattle.sqlite.specs.Held.{state};
-ghost use Rattle.sqlite.specs.State.{HasCleanDisk};
 ghost use Rattle.kcr_history.specs.Views.{ShowsStays, ShowsStaysOf};
 ghost use Rattle.kcr_base.specs.Same.{same_text};
 ghost use Rattle.kcr_room.specs.declared.Stay.{Stay as AnyStay};
 ghost use Rattle.kcr_rows.specs.Greatest.{IsGreatest};
 ghost use Rattle.kcr_rows.specs.Rows.{stay_row};
 ghost use Rattle.kcr_tables.specs.Exact.{rows_at, is_stay_row, AreShown, AskedAreShown};
-ghost use Rattle.kcr_tables.specs.Held.{stays_place, Tables, Holds};
-ghost use Rattle.kcr_tables.specs.Frame.{Reads};
-ghost use Rattle.kcr_tables.specs.Schema.{register_schema};
+ghost use Rattle.kcr_tables.specs.Held.{stays_place};
+ghost use Rattle.kcr_tables.specs.Frame.{Tells, TellsExactly, Reads};
 
 use crate::last::last_stay_of;
 use crate::table::{all_rows, rows_under};
@@ -29,10 +27,8 @@ fn last_elsewhere<S: Alter>(
     who: &Initials,
 ) -> Result<Vec<Stay>, Refusal>
     ensures same_reference { tx.new.conn.ghost_name ≡ tx.old.conn.ghost_name }
-    ensures rows { HasCleanDisk (state S.Store tx.new.conn.now) → (t : Tables)
-        → Holds (state S.Store tx.old.conn.now).now t
-        → IfOk result (λ all. (last : List AnyStay)
-        × IsGreatest (λ x. x.since) (filter (λ x. same_text x.who who.now) t.stays) last
+    ensures rows { Tells (state S.Store tx.old.conn.now) (state S.Store tx.new.conn.now) result
+        (λ t all. (last : List AnyStay) × IsGreatest (λ x. x.since) (filter (λ x. same_text x.who who.now) t.stays) last
         × (all.items ≡ filter (λ x. not (x.ceremony == ceremony)) last)) }
     ensures frame { Reads (state S.Store tx.old.conn.now) (state S.Store tx.new.conn.now) result }
 {
@@ -48,12 +44,10 @@ fn stays_and_last<S: Alter>(
     asked: &StaysOf,
 ) -> Result<Vec<Stay>, Refusal>
     ensures same_reference { tx.new.conn.ghost_name ≡ tx.old.conn.ghost_name }
-    ensures rows { HasCleanDisk (state S.Store tx.new.conn.now) → (t : Tables)
-        → Holds (state S.Store tx.old.conn.now).now t → IfOk result (λ all. ShowsStaysOf asked.now t.stays all.items) }
-    ensures exact { HasCleanDisk (state S.Store tx.new.conn.now)
-        → (state S.Store tx.old.conn.now).now.schema ≡ register_schema
-        → IfOk result (λ all. AreShown stay_row all.items
-        (filter (is_stay_row asked.now) (rows_at stays_place (state S.Store tx.old.conn.now).now.trees))) }
+    ensures rows { Tells (state S.Store tx.old.conn.now) (state S.Store tx.new.conn.now) result
+        (λ t all. ShowsStaysOf asked.now t.stays all.items) }
+    ensures exact { TellsExactly (state S.Store tx.old.conn.now) (state S.Store tx.new.conn.now) result
+        (λ db all. AreShown stay_row all.items (filter (is_stay_row asked.now) (rows_at stays_place db))) }
     ensures frame { Reads (state S.Store tx.old.conn.now) (state S.Store tx.new.conn.now) result }
 {
     let mut rows = rows_under(alloc, tx, &asked.ceremony)?;
@@ -72,12 +66,10 @@ pub fn asked_stays<S: Alter>(
     asked: &Selection<StaysOf>,
 ) -> Result<Vec<Stay>, Refusal>
     ensures same_reference { tx.new.conn.ghost_name ≡ tx.old.conn.ghost_name }
-    ensures rows { HasCleanDisk (state S.Store tx.new.conn.now) → (t : Tables)
-        → Holds (state S.Store tx.old.conn.now).now t → IfOk result (λ all. ShowsStays asked.now t.stays all.items) }
-    ensures exact { HasCleanDisk (state S.Store tx.new.conn.now)
-        → (state S.Store tx.old.conn.now).now.schema ≡ register_schema
-        → IfOk result (λ all. AskedAreShown stay_row stays_place is_stay_row asked.now all.items
-        (state S.Store tx.old.conn.now).now.trees) }
+    ensures rows { Tells (state S.Store tx.old.conn.now) (state S.Store tx.new.conn.now) result
+        (λ t all. ShowsStays asked.now t.stays all.items) }
+    ensures exact { TellsExactly (state S.Store tx.old.conn.now) (state S.Store tx.new.conn.now) result
+        (λ db all. AskedAreShown stay_row stays_place is_stay_row asked.now all.items db) }
     ensures frame { Reads (state S.Store tx.old.conn.now) (state S.Store tx.new.conn.now) result }
 {
     match asked {

@@ -1,19 +1,17 @@
 //! Rows that are asked for by a list of keys, or in one of two ways.
 
-ghost use Rattle.std.specs.Prelude.{◌≡◌, Bool, true, IsPermutation, IfOk, filter};
+ghost use Rattle.std.specs.Prelude.{◌≡◌, Bool, true, IsPermutation, filter};
 ghost use Rattle.std.specs.List.{list_any};
 ghost use Rattle.std.proofs.Common.{ap};
 ghost use Rattle.std.proofs.lemmas.Slice.Eq.{bytes_eq-Decides};
 ghost use Rattle.sqlite.specs.Held.{state};
-ghost use Rattle.sqlite.specs.State.{HasCleanDisk};
 ghost use Rattle.kcr_base.specs.Same.{same_text};
 ghost use Rattle.kcr_history.specs.Views.{Shows, is_of_people, is_item_of};
 ghost use Rattle.kcr_rows.specs.Rows.{person_row, item_row};
 ghost use Rattle.kcr_tables.specs.Asked.{asked_once, is_under_any};
 ghost use Rattle.kcr_tables.specs.Exact.{rows_at, has_key, has_any, is_item_row, AreShown, AskedAreShown};
-ghost use Rattle.kcr_tables.specs.Held.{people_place, items_place, Tables, Holds};
-ghost use Rattle.kcr_tables.specs.Frame.{Reads};
-ghost use Rattle.kcr_tables.specs.Schema.{register_schema};
+ghost use Rattle.kcr_tables.specs.Held.{people_place, items_place};
+ghost use Rattle.kcr_tables.specs.Frame.{Tells, TellsExactly, Reads};
 
 use crate::table::{AsCell, Finds, all_rows, rows_under};
 use kcr_base::{Initials, ItemCode, Refusal};
@@ -73,13 +71,11 @@ fn rows_once<S: Alter, K: AsCell, T: FindsNamed<K>>(
     before: &[K],
 ) -> Result<Vec<T>, Refusal>
     ensures same_reference { tx.new.conn.ghost_name ≡ tx.old.conn.ghost_name }
-    ensures rows { HasCleanDisk (state S.Store tx.new.conn.now)
-        → (t : Tables) → Holds (state S.Store tx.old.conn.now).now t → IfOk result (λ all. all.items
-        ≡ asked_once T.same T.finding.is_under key.now before.now (T.table.rows_in t)) }
-    ensures exact { HasCleanDisk (state S.Store tx.new.conn.now)
-        → (state S.Store tx.old.conn.now).now.schema ≡ register_schema
-        → IfOk result (λ all. AreShown T.row_of all.items (asked_once T.same (has_key T.finding.column K.value_of)
-        key.now before.now (rows_at T.table.place (state S.Store tx.old.conn.now).now.trees))) }
+    ensures rows { Tells (state S.Store tx.old.conn.now) (state S.Store tx.new.conn.now) result
+        (λ t all. all.items ≡ asked_once T.same T.finding.is_under key.now before.now (T.table.rows_in t)) }
+    ensures exact { TellsExactly (state S.Store tx.old.conn.now) (state S.Store tx.new.conn.now) result
+        (λ db all. AreShown T.row_of all.items (asked_once T.same (has_key T.finding.column K.value_of) key.now
+        before.now (rows_at T.table.place db))) }
     ensures frame { Reads (state S.Store tx.old.conn.now) (state S.Store tx.new.conn.now) result }
 {
     if T::is_named(key, before) {
@@ -96,14 +92,11 @@ fn rows_named<S: Alter, K: AsCell, T: FindsNamed<K>>(
     keys: &[K],
 ) -> Result<Vec<T>, Refusal>
     ensures same_reference { tx.new.conn.ghost_name ≡ tx.old.conn.ghost_name }
-    ensures rows { HasCleanDisk (state S.Store tx.new.conn.now)
-        → (t : Tables) → Holds (state S.Store tx.old.conn.now).now t → IfOk result (λ all. IsPermutation
-        (filter (is_under_any T.finding.is_under keys.now) (T.table.rows_in t)) all.items) }
-    ensures exact { HasCleanDisk (state S.Store tx.new.conn.now)
-        → (state S.Store tx.old.conn.now).now.schema ≡ register_schema
-        → IfOk result (λ all. AreShown T.row_of all.items
-        (filter (is_under_any (has_key T.finding.column K.value_of) keys.now)
-        (rows_at T.table.place (state S.Store tx.old.conn.now).now.trees))) }
+    ensures rows { Tells (state S.Store tx.old.conn.now) (state S.Store tx.new.conn.now) result
+        (λ t all. IsPermutation (filter (is_under_any T.finding.is_under keys.now) (T.table.rows_in t)) all.items) }
+    ensures exact { TellsExactly (state S.Store tx.old.conn.now) (state S.Store tx.new.conn.now) result
+        (λ db all. AreShown T.row_of all.items (filter (is_under_any (has_key T.finding.column K.value_of) keys.now)
+        (rows_at T.table.place db))) }
     ensures frame { Reads (state S.Store tx.old.conn.now) (state S.Store tx.new.conn.now) result }
 {
     let mut rows = Vec::new(alloc);
@@ -121,13 +114,10 @@ pub fn asked_people<S: Alter>(
     asked: &Selection<InitialsList>,
 ) -> Result<Vec<Person>, Refusal>
     ensures same_reference { tx.new.conn.ghost_name ≡ tx.old.conn.ghost_name }
-    ensures rows { HasCleanDisk (state S.Store tx.new.conn.now) → (t : Tables)
-        → Holds (state S.Store tx.old.conn.now).now t
-        → IfOk result (λ all. Shows is_of_people asked.now t.people all.items) }
-    ensures exact { HasCleanDisk (state S.Store tx.new.conn.now)
-        → (state S.Store tx.old.conn.now).now.schema ≡ register_schema
-        → IfOk result (λ all. AskedAreShown person_row people_place (has_any 0) asked.now all.items
-        (state S.Store tx.old.conn.now).now.trees) }
+    ensures rows { Tells (state S.Store tx.old.conn.now) (state S.Store tx.new.conn.now) result
+        (λ t all. Shows is_of_people asked.now t.people all.items) }
+    ensures exact { TellsExactly (state S.Store tx.old.conn.now) (state S.Store tx.new.conn.now) result
+        (λ db all. AskedAreShown person_row people_place (has_any 0) asked.now all.items db) }
     ensures frame { Reads (state S.Store tx.old.conn.now) (state S.Store tx.new.conn.now) result }
 {
     match asked {
@@ -144,13 +134,10 @@ pub fn asked_items<S: Alter>(
     asked: &Selection<ItemsOf>,
 ) -> Result<Vec<Item>, Refusal>
     ensures same_reference { tx.new.conn.ghost_name ≡ tx.old.conn.ghost_name }
-    ensures rows { HasCleanDisk (state S.Store tx.new.conn.now) → (t : Tables)
-        → Holds (state S.Store tx.old.conn.now).now t
-        → IfOk result (λ all. Shows is_item_of asked.now t.items all.items) }
-    ensures exact { HasCleanDisk (state S.Store tx.new.conn.now)
-        → (state S.Store tx.old.conn.now).now.schema ≡ register_schema
-        → IfOk result (λ all. AskedAreShown item_row items_place is_item_row asked.now all.items
-        (state S.Store tx.old.conn.now).now.trees) }
+    ensures rows { Tells (state S.Store tx.old.conn.now) (state S.Store tx.new.conn.now) result
+        (λ t all. Shows is_item_of asked.now t.items all.items) }
+    ensures exact { TellsExactly (state S.Store tx.old.conn.now) (state S.Store tx.new.conn.now) result
+        (λ db all. AskedAreShown item_row items_place is_item_row asked.now all.items db) }
     ensures frame { Reads (state S.Store tx.old.conn.now) (state S.Store tx.new.conn.now) result }
 {
     match asked {

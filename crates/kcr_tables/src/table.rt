@@ -1,24 +1,18 @@
 //! What a table of the register is, and the calls that read and change any of them inside a transaction.
 
-ghost use Rattle.std.specs.Prelude.{◌≡◌, map, filter, IsPermutation, IfOk, OnOk, IsTrue};
+ghost use Rattle.std.specs.Prelude.{◌≡◌, map, filter, IsPermutation};
 ghost use Rattle.sqlite.specs.Held.{state};
-ghost use Rattle.sqlite.specs.State.{HasCleanDisk};
 ghost use Rattle.sqlite.specs.declared.types.Value.{Value as Cell};
 ghost use Rattle.sqlite.specs.declared.types.Value.TheVariants.{Int, Text};
 ghost use Rattle.std.specs.Prelude.{pos};
 ghost use Rattle.sqlite.specs.Values.{bound, bound_value};
 ghost use Rattle.sqlite.specs.Value.{owned};
-ghost use Rattle.kcr_history.specs.Tables as machine;
-ghost use Rattle.kcr_rows.specs.Keyed.{cells};
 ghost use Rattle.kcr_rows.specs.Refusals.{IsFault};
 ghost use Rattle.kcr_rows.proofs.FilterLemmas.{has_value};
-ghost use Rattle.kcr_tables.specs.Schema.{register_schema};
-ghost use Rattle.kcr_tables.specs.Held.{Tables, Holds};
 ghost use Rattle.kcr_rows.specs.Frame.{StaysWithin};
-ghost use Rattle.kcr_tables.specs.Frame.{Reads};
+ghost use Rattle.kcr_tables.specs.Frame.{TellsOpen, Tells, TellsMachine, TellsExactly, Leaves, Reads};
 ghost use Rattle.kcr_tables.specs.Asked.{asked_of, asked_all};
 ghost use Rattle.kcr_tables.specs.Exact.{rows_at, AskedAreShown, WholeIsShown};
-ghost use Rattle.kcr_tables.specs.Joint.{HoldsTables};
 ghost use Rattle.kcr_tables.specs.Statements.{PutsRow};
 ghost use Rattle.kcr_tables.specs.Table.{Table, IsTable, Finding, IsFinding, with_put};
 
@@ -123,10 +117,8 @@ pub trait Put: Listed {
     /// before stays.
     fn put<S: Alter>(&self, tx: &mut Transaction<'_, S>) -> Result<(), Refusal>
         ensures same_reference { tx.new.conn.ghost_name ≡ tx.old.conn.ghost_name }
-        ensures holds { HasCleanDisk (state S.Store tx.new.conn.now)
-            → (t : Tables) → Holds (state S.Store tx.old.conn.now).now t
-            → OnOk result (Holds (state S.Store tx.new.conn.now).now
-            (with_put Self.Listed.table Self.Stored.row_of self.now t)) }
+        ensures holds { Leaves (state S.Store tx.old.conn.now) (state S.Store tx.new.conn.now) result
+            (λ t. with_put Self.Listed.table Self.Stored.row_of self.now t) }
         ensures frame { StaysWithin IsFault (state S.Store tx.old.conn.now) (state S.Store tx.new.conn.now) result };
 }
 
@@ -135,10 +127,8 @@ pub trait PutWords: Listed {
     /// Puts the row, as `Put::put` does.
     fn put_words<S: Alter>(&self, alloc: Global, tx: &mut Transaction<'_, S>) -> Result<(), Refusal>
         ensures same_reference { tx.new.conn.ghost_name ≡ tx.old.conn.ghost_name }
-        ensures holds { HasCleanDisk (state S.Store tx.new.conn.now)
-            → (t : Tables) → Holds (state S.Store tx.old.conn.now).now t
-            → OnOk result (Holds (state S.Store tx.new.conn.now).now
-            (with_put Self.Listed.table Self.Stored.row_of self.now t)) }
+        ensures holds { Leaves (state S.Store tx.old.conn.now) (state S.Store tx.new.conn.now) result
+            (λ t. with_put Self.Listed.table Self.Stored.row_of self.now t) }
         ensures frame { StaysWithin IsFault (state S.Store tx.old.conn.now) (state S.Store tx.new.conn.now) result };
 }
 
@@ -149,19 +139,13 @@ pub fn all_rows<S: Alter, T: Listed>(
     tx: &mut Transaction<'_, S>,
 ) -> Result<Vec<T>, Refusal>
     ensures same_reference { tx.new.conn.ghost_name ≡ tx.old.conn.ghost_name }
-    ensures rows { HasCleanDisk (state S.Store tx.new.conn.now)
-        → (t : Tables) → Holds (state S.Store tx.old.conn.now).now t
-        → IfOk result (λ all. all.items ≡ T.table.rows_in t) }
-    ensures machine { HasCleanDisk (state S.Store tx.new.conn.now)
-        → (m : machine.Tables) → HoldsTables m (state S.Store tx.old.conn.now).now
-        → IfOk result (λ all. IsPermutation (T.table.machine_rows m) all.items) }
-    ensures exact { HasCleanDisk (state S.Store tx.new.conn.now)
-        → (state S.Store tx.old.conn.now).now.schema ≡ register_schema
-        → IfOk result (λ all. IsPermutation
-        (map (cells T.table.place) ((state S.Store tx.old.conn.now).now.trees T.table.place.tree))
-        (map T.row_of all.items)) }
-    ensures opened { HasCleanDisk (state S.Store tx.new.conn.now)
-        → OnOk result (IsTrue (state S.Store tx.old.conn.now).is_open) }
+    ensures rows { Tells (state S.Store tx.old.conn.now) (state S.Store tx.new.conn.now) result
+        (λ t all. all.items ≡ T.table.rows_in t) }
+    ensures machine { TellsMachine (state S.Store tx.old.conn.now) (state S.Store tx.new.conn.now) result
+        (λ m all. IsPermutation (T.table.machine_rows m) all.items) }
+    ensures exact { TellsExactly (state S.Store tx.old.conn.now) (state S.Store tx.new.conn.now) result
+        (λ db all. IsPermutation (rows_at T.table.place db) (map T.row_of all.items)) }
+    ensures opened { TellsOpen (state S.Store tx.old.conn.now) (state S.Store tx.new.conn.now) result }
     ensures frame { Reads (state S.Store tx.old.conn.now) (state S.Store tx.new.conn.now) result }
 {
     rows_of(alloc, tx, T::all_text(), &[])
@@ -175,17 +159,12 @@ pub fn rows_under<S: Alter, K: AsCell, T: Finds<K>>(
     key: &K,
 ) -> Result<Vec<T>, Refusal>
     ensures same_reference { tx.new.conn.ghost_name ≡ tx.old.conn.ghost_name }
-    ensures rows { HasCleanDisk (state S.Store tx.new.conn.now)
-        → (t : Tables) → Holds (state S.Store tx.old.conn.now).now t
-        → IfOk result (λ all. all.items ≡ filter (T.finding.is_under key.now) (T.table.rows_in t)) }
-    ensures exact { HasCleanDisk (state S.Store tx.new.conn.now)
-        → (state S.Store tx.old.conn.now).now.schema ≡ register_schema
-        → IfOk result (λ all. IsPermutation
-        (filter (has_value T.finding.column (K.value_of key.now))
-        (rows_at T.table.place (state S.Store tx.old.conn.now).now.trees))
+    ensures rows { Tells (state S.Store tx.old.conn.now) (state S.Store tx.new.conn.now) result
+        (λ t all. all.items ≡ filter (T.finding.is_under key.now) (T.table.rows_in t)) }
+    ensures exact { TellsExactly (state S.Store tx.old.conn.now) (state S.Store tx.new.conn.now) result
+        (λ db all. IsPermutation (filter (has_value T.finding.column (K.value_of key.now)) (rows_at T.table.place db))
         (map T.row_of all.items)) }
-    ensures opened { HasCleanDisk (state S.Store tx.new.conn.now)
-        → OnOk result (IsTrue (state S.Store tx.old.conn.now).is_open) }
+    ensures opened { TellsOpen (state S.Store tx.old.conn.now) (state S.Store tx.new.conn.now) result }
     ensures frame { Reads (state S.Store tx.old.conn.now) (state S.Store tx.new.conn.now) result }
 {
     rows_of(alloc, tx, T::find_text(), &[key.cell()])
@@ -199,14 +178,11 @@ pub fn asked_rows<S: Alter, K: AsCell, T: Finds<K>>(
     asked: &Selection<K>,
 ) -> Result<Vec<T>, Refusal>
     ensures same_reference { tx.new.conn.ghost_name ≡ tx.old.conn.ghost_name }
-    ensures rows { HasCleanDisk (state S.Store tx.new.conn.now)
-        → (t : Tables) → Holds (state S.Store tx.old.conn.now).now t
-        → IfOk result (λ all. all.items ≡ asked_of T.finding.is_under asked.now (T.table.rows_in t)) }
-    ensures exact { HasCleanDisk (state S.Store tx.new.conn.now)
-        → (state S.Store tx.old.conn.now).now.schema ≡ register_schema
-        → IfOk result (λ all. AskedAreShown T.row_of T.table.place
-        (λ key. has_value T.finding.column (K.value_of key)) asked.now all.items
-        (state S.Store tx.old.conn.now).now.trees) }
+    ensures rows { Tells (state S.Store tx.old.conn.now) (state S.Store tx.new.conn.now) result
+        (λ t all. all.items ≡ asked_of T.finding.is_under asked.now (T.table.rows_in t)) }
+    ensures exact { TellsExactly (state S.Store tx.old.conn.now) (state S.Store tx.new.conn.now) result
+        (λ db all. AskedAreShown T.row_of T.table.place (λ key. has_value T.finding.column (K.value_of key)) asked.now
+        all.items db) }
     ensures frame { Reads (state S.Store tx.old.conn.now) (state S.Store tx.new.conn.now) result }
 {
     match asked {
@@ -223,13 +199,10 @@ pub fn asked_whole<S: Alter, T: Listed>(
     asked: bool,
 ) -> Result<Vec<T>, Refusal>
     ensures same_reference { tx.new.conn.ghost_name ≡ tx.old.conn.ghost_name }
-    ensures rows { HasCleanDisk (state S.Store tx.new.conn.now)
-        → (t : Tables) → Holds (state S.Store tx.old.conn.now).now t
-        → IfOk result (λ all. all.items ≡ asked_all asked (T.table.rows_in t)) }
-    ensures exact { HasCleanDisk (state S.Store tx.new.conn.now)
-        → (state S.Store tx.old.conn.now).now.schema ≡ register_schema
-        → IfOk result (λ all. WholeIsShown T.row_of T.table.place asked all.items
-        (state S.Store tx.old.conn.now).now.trees) }
+    ensures rows { Tells (state S.Store tx.old.conn.now) (state S.Store tx.new.conn.now) result
+        (λ t all. all.items ≡ asked_all asked (T.table.rows_in t)) }
+    ensures exact { TellsExactly (state S.Store tx.old.conn.now) (state S.Store tx.new.conn.now) result
+        (λ db all. WholeIsShown T.row_of T.table.place asked all.items db) }
     ensures frame { Reads (state S.Store tx.old.conn.now) (state S.Store tx.new.conn.now) result }
 {
     if asked {
@@ -251,9 +224,8 @@ pub fn put_cells<S: Alter, T: Listed>(
     requires cells { bound cells.now ≡ T.row_of row.now }
     requires stored { T.table.is_stored row.now }
     ensures same_reference { tx.new.conn.ghost_name ≡ tx.old.conn.ghost_name }
-    ensures holds { HasCleanDisk (state S.Store tx.new.conn.now)
-        → (t : Tables) → Holds (state S.Store tx.old.conn.now).now t
-        → OnOk result (Holds (state S.Store tx.new.conn.now).now (with_put T.table T.row_of row.now t)) }
+    ensures holds { Leaves (state S.Store tx.old.conn.now) (state S.Store tx.new.conn.now) result
+        (λ t. with_put T.table T.row_of row.now t) }
     ensures frame { StaysWithin IsFault (state S.Store tx.old.conn.now) (state S.Store tx.new.conn.now) result }
 {
     let _value = row;

@@ -9,10 +9,8 @@ ghost use Rattle.kcr_history.specs.Views.{is_step_of, is_exception_of, greatest_
 ghost use Rattle.kcr_history.specs.Tables as machine;
 ghost use Rattle.kcr_tables.specs.Asked.{asked_of, asked_all};
 ghost use Rattle.kcr_tables.specs.Exact.{StaffIsShown, CustodyIsShown, CeremoniesAreShown, NoneIsStrange};
-ghost use Rattle.kcr_tables.specs.Frame.{Reads};
-ghost use Rattle.kcr_tables.specs.Held.{Tables, Holds};
+ghost use Rattle.kcr_tables.specs.Frame.{Tells, TellsExactly, Reads};
 ghost use Rattle.kcr_tables.specs.Joint.{HoldsTables};
-ghost use Rattle.kcr_tables.specs.Schema.{register_schema};
 
 use crate::places::asked_appointments;
 use crate::rooms::asked_stays;
@@ -61,22 +59,17 @@ fn staff_rows<S: Alter>(
     asks: &Asks,
 ) -> Result<StaffRows, Refusal>
     ensures same_reference { tx.new.conn.ghost_name ≡ tx.old.conn.ghost_name }
-    ensures people { HasCleanDisk (state S.Store tx.new.conn.now) → (t : Tables)
-        → Holds (state S.Store tx.old.conn.now).now t
-        → IfOk result (λ rows. Shows is_of_people asks.now.people t.people rows.people.items) }
-    ensures trainings { HasCleanDisk (state S.Store tx.new.conn.now) → (t : Tables)
-        → Holds (state S.Store tx.old.conn.now).now t
-        → IfOk result (λ rows. rows.trainings.items ≡ asked_of is_training_of asks.now.trainings t.trainings) }
-    ensures withdrawals { HasCleanDisk (state S.Store tx.new.conn.now) → (t : Tables)
-        → Holds (state S.Store tx.old.conn.now).now t
-        → IfOk result (λ rows. rows.withdrawals.items ≡ asked_of is_withdrawal_of asks.now.withdrawals t.withdrawals) }
-    ensures appointments { HasCleanDisk (state S.Store tx.new.conn.now) → (t : Tables)
-        → Holds (state S.Store tx.old.conn.now).now t
-        → IfOk result (λ rows. ShowsAppointments asks.now.appointments t.appointments rows.appointments.items) }
-    ensures exact { HasCleanDisk (state S.Store tx.new.conn.now)
-        → (state S.Store tx.old.conn.now).now.schema ≡ register_schema
-        → IfOk result (λ rows. StaffIsShown asks.now rows.people.items rows.trainings.items rows.withdrawals.items
-        rows.appointments.items (state S.Store tx.old.conn.now).now.trees) }
+    ensures people { Tells (state S.Store tx.old.conn.now) (state S.Store tx.new.conn.now) result
+        (λ t rows. Shows is_of_people asks.now.people t.people rows.people.items) }
+    ensures trainings { Tells (state S.Store tx.old.conn.now) (state S.Store tx.new.conn.now) result
+        (λ t rows. rows.trainings.items ≡ asked_of is_training_of asks.now.trainings t.trainings) }
+    ensures withdrawals { Tells (state S.Store tx.old.conn.now) (state S.Store tx.new.conn.now) result
+        (λ t rows. rows.withdrawals.items ≡ asked_of is_withdrawal_of asks.now.withdrawals t.withdrawals) }
+    ensures appointments { Tells (state S.Store tx.old.conn.now) (state S.Store tx.new.conn.now) result
+        (λ t rows. ShowsAppointments asks.now.appointments t.appointments rows.appointments.items) }
+    ensures exact { TellsExactly (state S.Store tx.old.conn.now) (state S.Store tx.new.conn.now) result
+        (λ db rows. StaffIsShown asks.now rows.people.items rows.trainings.items rows.withdrawals.items
+        rows.appointments.items db) }
     ensures frame { Reads (state S.Store tx.old.conn.now) (state S.Store tx.new.conn.now) result }
 {
     let people = asked_people(alloc, tx, &asks.people)?;
@@ -98,22 +91,16 @@ fn custody_rows<S: Alter>(
     asks: &Asks,
 ) -> Result<CustodyRows, Refusal>
     ensures same_reference { tx.new.conn.ghost_name ≡ tx.old.conn.ghost_name }
-    ensures boxes { HasCleanDisk (state S.Store tx.new.conn.now) → (t : Tables)
-        → Holds (state S.Store tx.old.conn.now).now t
-        → IfOk result (λ rows. rows.boxes.items ≡ asked_all asks.now.boxes t.boxes) }
-    ensures safes { HasCleanDisk (state S.Store tx.new.conn.now) → (t : Tables)
-        → Holds (state S.Store tx.old.conn.now).now t
-        → IfOk result (λ rows. rows.safes.items ≡ asked_all asks.now.safes t.safes) }
-    ensures bags { HasCleanDisk (state S.Store tx.new.conn.now) → (t : Tables)
-        → Holds (state S.Store tx.old.conn.now).now t
-        → IfOk result (λ rows. rows.bags.items ≡ asked_of is_of_serial asks.now.bags t.bags) }
-    ensures items { HasCleanDisk (state S.Store tx.new.conn.now) → (t : Tables)
-        → Holds (state S.Store tx.old.conn.now).now t
-        → IfOk result (λ rows. Shows is_item_of asks.now.items t.items rows.items.items) }
-    ensures exact { HasCleanDisk (state S.Store tx.new.conn.now)
-        → (state S.Store tx.old.conn.now).now.schema ≡ register_schema
-        → IfOk result (λ rows. CustodyIsShown asks.now rows.boxes.items rows.safes.items rows.bags.items
-        rows.items.items (state S.Store tx.old.conn.now).now.trees) }
+    ensures boxes { Tells (state S.Store tx.old.conn.now) (state S.Store tx.new.conn.now) result
+        (λ t rows. rows.boxes.items ≡ asked_all asks.now.boxes t.boxes) }
+    ensures safes { Tells (state S.Store tx.old.conn.now) (state S.Store tx.new.conn.now) result
+        (λ t rows. rows.safes.items ≡ asked_all asks.now.safes t.safes) }
+    ensures bags { Tells (state S.Store tx.old.conn.now) (state S.Store tx.new.conn.now) result
+        (λ t rows. rows.bags.items ≡ asked_of is_of_serial asks.now.bags t.bags) }
+    ensures items { Tells (state S.Store tx.old.conn.now) (state S.Store tx.new.conn.now) result
+        (λ t rows. Shows is_item_of asks.now.items t.items rows.items.items) }
+    ensures exact { TellsExactly (state S.Store tx.old.conn.now) (state S.Store tx.new.conn.now) result
+        (λ db rows. CustodyIsShown asks.now rows.boxes.items rows.safes.items rows.bags.items rows.items.items db) }
     ensures frame { Reads (state S.Store tx.old.conn.now) (state S.Store tx.new.conn.now) result }
 {
     let boxes = asked_whole(alloc, tx, asks.boxes)?;
@@ -135,25 +122,19 @@ fn ceremony_rows<S: Alter>(
     asks: &Asks,
 ) -> Result<CeremonyRows, Refusal>
     ensures same_reference { tx.new.conn.ghost_name ≡ tx.old.conn.ghost_name }
-    ensures ceremonies { HasCleanDisk (state S.Store tx.new.conn.now) → (t : Tables)
-        → Holds (state S.Store tx.old.conn.now).now t
-        → IfOk result (λ rows. rows.ceremonies.items ≡ asked_of is_of_number asks.now.ceremonies t.ceremonies) }
-    ensures marks { HasCleanDisk (state S.Store tx.new.conn.now) → (t : Tables)
-        → Holds (state S.Store tx.old.conn.now).now t
-        → IfOk result (λ rows. rows.marks.items ≡ asked_of is_mark_of asks.now.marks t.marks) }
-    ensures steps { HasCleanDisk (state S.Store tx.new.conn.now) → (t : Tables)
-        → Holds (state S.Store tx.old.conn.now).now t
-        → IfOk result (λ rows. rows.steps.items ≡ asked_of is_step_of asks.now.steps t.steps) }
-    ensures exceptions { HasCleanDisk (state S.Store tx.new.conn.now) → (t : Tables)
-        → Holds (state S.Store tx.old.conn.now).now t
-        → IfOk result (λ rows. rows.exceptions.items ≡ asked_of is_exception_of asks.now.exceptions t.exceptions) }
-    ensures stays { HasCleanDisk (state S.Store tx.new.conn.now) → (t : Tables)
-        → Holds (state S.Store tx.old.conn.now).now t
-        → IfOk result (λ rows. ShowsStays asks.now.stays t.stays rows.stays.items) }
-    ensures exact { HasCleanDisk (state S.Store tx.new.conn.now)
-        → (state S.Store tx.old.conn.now).now.schema ≡ register_schema
-        → IfOk result (λ rows. CeremoniesAreShown asks.now rows.ceremonies.items rows.marks.items rows.steps.items
-        rows.exceptions.items rows.stays.items (state S.Store tx.old.conn.now).now.trees) }
+    ensures ceremonies { Tells (state S.Store tx.old.conn.now) (state S.Store tx.new.conn.now) result
+        (λ t rows. rows.ceremonies.items ≡ asked_of is_of_number asks.now.ceremonies t.ceremonies) }
+    ensures marks { Tells (state S.Store tx.old.conn.now) (state S.Store tx.new.conn.now) result
+        (λ t rows. rows.marks.items ≡ asked_of is_mark_of asks.now.marks t.marks) }
+    ensures steps { Tells (state S.Store tx.old.conn.now) (state S.Store tx.new.conn.now) result
+        (λ t rows. rows.steps.items ≡ asked_of is_step_of asks.now.steps t.steps) }
+    ensures exceptions { Tells (state S.Store tx.old.conn.now) (state S.Store tx.new.conn.now) result
+        (λ t rows. rows.exceptions.items ≡ asked_of is_exception_of asks.now.exceptions t.exceptions) }
+    ensures stays { Tells (state S.Store tx.old.conn.now) (state S.Store tx.new.conn.now) result
+        (λ t rows. ShowsStays asks.now.stays t.stays rows.stays.items) }
+    ensures exact { TellsExactly (state S.Store tx.old.conn.now) (state S.Store tx.new.conn.now) result
+        (λ db rows. CeremoniesAreShown asks.now rows.ceremonies.items rows.marks.items rows.steps.items
+        rows.exceptions.items rows.stays.items db) }
     ensures frame { Reads (state S.Store tx.old.conn.now) (state S.Store tx.new.conn.now) result }
 {
     let ceremonies = asked_rows(alloc, tx, &asks.ceremonies)?;
@@ -170,8 +151,10 @@ fn ceremony_rows<S: Alter>(
     })
 }
 
-/// The rows of `view_of`.
-fn rows_asked<S: Alter>(
+/// The rows asked for, of each table, and beside them the number of the last accepted command, which the caller gives.
+/// Of a table that is not asked for nothing is read. Nothing is changed. The error is `Memory` when out of memory, and
+/// else `Disk`: the device failed, or a row asked for is one that no register stores.
+pub fn view_of<S: Alter>(
     alloc: Global,
     tx: &mut Transaction<'_, S>,
     asks: &Asks,
@@ -181,9 +164,8 @@ fn rows_asked<S: Alter>(
     ensures view { HasCleanDisk (state S.Store tx.new.conn.now) → (m : machine.Tables)
         → HoldsTables m (state S.Store tx.old.conn.now).now → accepted ≡ greatest_number m.keys
         → IfOk result (IsViewOf asks.now m) }
-    ensures exact { HasCleanDisk (state S.Store tx.new.conn.now)
-        → (state S.Store tx.old.conn.now).now.schema ≡ register_schema
-        → IfOk result (λ view. NoneIsStrange asks.now view (state S.Store tx.old.conn.now).now.trees) }
+    ensures exact { TellsExactly (state S.Store tx.old.conn.now) (state S.Store tx.new.conn.now) result
+        (λ db view. NoneIsStrange asks.now view db) }
     ensures frame { Reads (state S.Store tx.old.conn.now) (state S.Store tx.new.conn.now) result }
 {
     let staff = staff_rows(alloc, tx, asks)?;
@@ -205,25 +187,4 @@ fn rows_asked<S: Alter>(
         exceptions: ceremony.exceptions,
         accepted,
     })
-}
-
-/// The rows asked for, of each table, and beside them the number of the last accepted command, which the caller gives.
-/// Of a table that is not asked for nothing is read. Nothing is changed. The error is `Memory` when out of memory, and
-/// else `Disk`: the device failed, or a row asked for is one that no register stores.
-pub fn view_of<S: Alter>(
-    alloc: Global,
-    tx: &mut Transaction<'_, S>,
-    asks: &Asks,
-    accepted: u32,
-) -> Result<View, Refusal>
-    ensures same_reference { tx.new.conn.ghost_name ≡ tx.old.conn.ghost_name }
-    ensures view { HasCleanDisk (state S.Store tx.new.conn.now) → (m : machine.Tables)
-        → HoldsTables m (state S.Store tx.old.conn.now).now → accepted ≡ greatest_number m.keys
-        → IfOk result (IsViewOf asks.now m) }
-    ensures exact { HasCleanDisk (state S.Store tx.new.conn.now)
-        → (state S.Store tx.old.conn.now).now.schema ≡ register_schema
-        → IfOk result (λ view. NoneIsStrange asks.now view (state S.Store tx.old.conn.now).now.trees) }
-    ensures frame { Reads (state S.Store tx.old.conn.now) (state S.Store tx.new.conn.now) result }
-{
-    rows_asked(alloc, tx, asks, accepted)
 }

@@ -10,7 +10,7 @@ use Rattle.kcr_tables.proofs.FrameLemmas.{reads_on, fails_as, reads_then, reads_
 use Rattle.kcr_tables.proofs.HoldLemmas.{held_of}
 use Rattle.kcr_tables.proofs.StayLemmas.{stays_shown, apart_of}
 use Rattle.kcr_tables.proofs.ViewLemmas.{shows_on, asked_shows, all_shows}
-use Rattle.kcr_tables.proofs.view.rows_asked.Goals as goal
+use Rattle.kcr_tables.proofs.view.view_of.Goals as goal
 
 pub returns-in_err-staff-clause-frame : goal.returns-in_err-staff-clause-frame
 returns-in_err-staff-clause-frame g c = fails_as c.from_residual.ensures.1 c.in_err-staff.ensures.frame
