@@ -105,10 +105,11 @@ def key_test(t):
 def lemmas_joint():
     puts = [t for t in TABLES if t.change]
     out = "-- How the rows in the order of their keys meet the machine's rows, which stand in any order.\n"
-    out += """use Rattle.std.proofs.Common.{◌≡◌, ◌&&◌, List, [], ◌∷◌, map, drop, pos, refl, ◌∙◌, IsPermutation, Less}
+    out += """use Rattle.std.proofs.Common.{◌≡◌, ◌&&◌, ℕ, List, [], ◌∷◌, map, drop, pos, refl, ◌∙◌, IsPermutation, Less}
 use Rattle.std.specs.Ordering.{is_eq}
 use Rattle.std.proofs.lemmas.List.Sorted.{IsPermutation-refl, IsPermutation-sym, IsPermutation-trans}
 use Rattle.sqlite.specs.declared.types.Value.TheVariants.{Int, Text}
+use Rattle.sqlite.specs.Order.{Row}
 use Rattle.sqlite.specs.Tree.{Trees, IsAscending}
 use Rattle.sqlite.specs.Effect.{Database}
 use Rattle.kcr_history.specs.declared.views.Change.{Change}
@@ -138,18 +139,20 @@ use Rattle.kcr_tables.proofs.HoldLemmas.{held_of, tables_of}
 """
     for t in puts:
         out += f"\npub key_of_{t.name} : (new old : {t.type}) → {t.same} new old ≡ is_eq (by_key {t.keys} ({t.row_of} old) ({t.row_of} new))\nkey_of_{t.name} new old = {key_test(t)}\n"
-    out += "\n-- ---- changes\n\n-- the rows of each table rise by their keys\npub record Rises (t : Tables) : Type 0 where\n"
+    out += "\n-- ---- changes\n\n-- the rows of values rise by so many keys\nabbrev pub Rise : {X : Type 0} → ℕ → (X → Row) → List X → Type 0\nRise keys row_of xs = IsAscending (λ a b. by_key keys a b ≡ Less) (map row_of xs)\n\n-- those of each table do\npub record Rises (t : Tables) : Type 0 where\n"
     for t in puts:
-        out += f"  pub {t.name} : IsAscending (λ a b. by_key {t.keys} a b ≡ Less) (map {t.row_of} t.{t.name})\n"
-    out += "\npub kept_rises : (db : Trees) (t : Tables) → Kept db t → Rises t\nkept_rises db t k = record { " + "; ".join(f"{t.name} = k.{t.name}.rising" for t in puts) + " }\n"
-    out += "\npub changed_rises : (c : Change) (t : Tables) → Rises t → Rises (changed c t)\n"
+        out += f"  pub {t.name} : Rise {t.keys} {t.row_of} t.{t.name}\n"
+    out += "\npub kept_rises : (db : Trees) (t : Tables) → Kept db t → Rises t\nkept_rises db t k = record {\n"
     for t in puts:
-        fields = [f"{u.name} = " + (f"put_in_rising {t.keys} {t.row_of} row t.{t.name} r.{t.name}" if u is t else f"r.{u.name}") for u in puts]
-        out += f"changed_rises ({t.change} row) t r = record {{ {'; '.join(fields)} }}\n"
-    out += "\n-- one change: its table's rows are those of the machine, in another order\npub changed_stands : (c : Change) (m : machine.Tables) (t : Tables) → Rises t → Stands m t → Stands (changes.changed c m) (changed c t)\n"
+        out += f"  {t.name} = k.{t.name}.rising;\n"
+    out += "}\n\npub changed_rises : (c : Change) (t : Tables) → Rises t → Rises (changed c t)\nchanged_rises c t r = record {\n"
     for t in puts:
-        fields = [f"{u.name} = " + (f"put-stands {t.keys} {t.row_of} {t.same} key_of_{t.name} row m.{t.name} t.{t.name} r.{t.name} s.{t.name}" if u is t else f"s.{u.name}") for u in puts]
-        out += f"changed_stands ({t.change} row) m t r s = record {{ {'; '.join(fields)}; versions = s.versions }}\n"
+        out += f"  {t.name} = elim c as (λ c. Rise {t.keys} {t.row_of} (changed c t).{t.name})\n      [ {t.change} row ↦ put_in_rising {t.keys} {t.row_of} row t.{t.name} r.{t.name} | _ ↦ r.{t.name} ];\n"
+    out += "}\n\n-- one change: its table's rows are those of the machine, in another order\npub changed_stands : (c : Change) (m : machine.Tables) (t : Tables) → Rises t → Stands m t → Stands (changes.changed c m) (changed c t)\nchanged_stands c m t r s = record {\n"
+    for t in puts:
+        put = f"put-stands {t.keys} {t.row_of} {t.same} key_of_{t.name} row m.{t.name} t.{t.name} r.{t.name} s.{t.name}"
+        out += f"  {t.name} = elim c as (λ c. IsPermutation (changes.changed c m).{t.name} (changed c t).{t.name})\n      [ {t.change} row ↦ {put} | _ ↦ s.{t.name} ];\n"
+    out += f"  versions = elim c as (λ c. (changed c t).versions ≡ first_tables.versions) [ {puts[0].change} row ↦ s.versions | _ ↦ s.versions ];\n}}\n"
     out += """
 -- the changes one after the other
 pub all_stand : (list : List Change) (m : machine.Tables) (t : Tables) → Rises t → Stands m t → Stands (changes.changed_by list m) (changed_all list t)

@@ -1,8 +1,9 @@
 -- How the rows in the order of their keys meet the machine's rows, which stand in any order.
-use Rattle.std.proofs.Common.{◌≡◌, ◌&&◌, List, [], ◌∷◌, map, drop, pos, refl, ◌∙◌, Less}
+use Rattle.std.proofs.Common.{◌≡◌, ◌&&◌, ℕ, List, [], ◌∷◌, map, drop, pos, refl, ◌∙◌, IsPermutation, Less}
 use Rattle.std.specs.Ordering.{is_eq}
 use Rattle.std.proofs.lemmas.List.Sorted.{IsPermutation-refl, IsPermutation-sym, IsPermutation-trans}
 use Rattle.sqlite.specs.declared.types.Value.TheVariants.{Int, Text}
+use Rattle.sqlite.specs.Order.{Row}
 use Rattle.sqlite.specs.Tree.{Trees, IsAscending}
 use Rattle.sqlite.specs.Effect.{Database}
 use Rattle.kcr_history.specs.declared.views.Change.{Change}
@@ -121,64 +122,134 @@ key_of_withdrawals new old =
 
 -- ---- changes
 
--- the rows of each table rise by their keys
+-- the rows of values rise by so many keys
+abbrev pub Rise : {X : Type 0} → ℕ → (X → Row) → List X → Type 0
+Rise keys row_of xs = IsAscending (λ a b. by_key keys a b ≡ Less) (map row_of xs)
+
+-- those of each table do
 pub record Rises (t : Tables) : Type 0 where
-  pub people : IsAscending (λ a b. by_key 1 a b ≡ Less) (map person_row t.people)
-  pub trainings : IsAscending (λ a b. by_key 4 a b ≡ Less) (map training_row t.trainings)
-  pub appointments : IsAscending (λ a b. by_key 2 a b ≡ Less) (map appointment_row t.appointments)
-  pub boxes : IsAscending (λ a b. by_key 2 a b ≡ Less) (map box_row t.boxes)
-  pub safes : IsAscending (λ a b. by_key 2 a b ≡ Less) (map safe_row t.safes)
-  pub bags : IsAscending (λ a b. by_key 1 a b ≡ Less) (map bag_row t.bags)
-  pub items : IsAscending (λ a b. by_key 1 a b ≡ Less) (map item_row t.items)
-  pub ceremonies : IsAscending (λ a b. by_key 1 a b ≡ Less) (map ceremony_row t.ceremonies)
-  pub marks : IsAscending (λ a b. by_key 1 a b ≡ Less) (map mark_row t.marks)
-  pub steps : IsAscending (λ a b. by_key 2 a b ≡ Less) (map step_row t.steps)
-  pub seatings : IsAscending (λ a b. by_key 3 a b ≡ Less) (map seating_row t.seatings)
-  pub sheet : IsAscending (λ a b. by_key 2 a b ≡ Less) (map sheet_row t.sheet)
-  pub exceptions : IsAscending (λ a b. by_key 2 a b ≡ Less) (map exception_row t.exceptions)
-  pub keys : IsAscending (λ a b. by_key 1 a b ≡ Less) (map key_row t.keys)
-  pub stays : IsAscending (λ a b. by_key 2 a b ≡ Less) (map stay_row t.stays)
-  pub withdrawals : IsAscending (λ a b. by_key 4 a b ≡ Less) (map withdrawal_row t.withdrawals)
+  pub people : Rise 1 person_row t.people
+  pub trainings : Rise 4 training_row t.trainings
+  pub appointments : Rise 2 appointment_row t.appointments
+  pub boxes : Rise 2 box_row t.boxes
+  pub safes : Rise 2 safe_row t.safes
+  pub bags : Rise 1 bag_row t.bags
+  pub items : Rise 1 item_row t.items
+  pub ceremonies : Rise 1 ceremony_row t.ceremonies
+  pub marks : Rise 1 mark_row t.marks
+  pub steps : Rise 2 step_row t.steps
+  pub seatings : Rise 3 seating_row t.seatings
+  pub sheet : Rise 2 sheet_row t.sheet
+  pub exceptions : Rise 2 exception_row t.exceptions
+  pub keys : Rise 1 key_row t.keys
+  pub stays : Rise 2 stay_row t.stays
+  pub withdrawals : Rise 4 withdrawal_row t.withdrawals
 
 pub kept_rises : (db : Trees) (t : Tables) → Kept db t → Rises t
-kept_rises db t k = record { people = k.people.rising; trainings = k.trainings.rising; appointments = k.appointments.rising; boxes = k.boxes.rising; safes = k.safes.rising; bags = k.bags.rising; items = k.items.rising; ceremonies = k.ceremonies.rising; marks = k.marks.rising; steps = k.steps.rising; seatings = k.seatings.rising; sheet = k.sheet.rising; exceptions = k.exceptions.rising; keys = k.keys.rising; stays = k.stays.rising; withdrawals = k.withdrawals.rising }
+kept_rises db t k = record {
+  people = k.people.rising;
+  trainings = k.trainings.rising;
+  appointments = k.appointments.rising;
+  boxes = k.boxes.rising;
+  safes = k.safes.rising;
+  bags = k.bags.rising;
+  items = k.items.rising;
+  ceremonies = k.ceremonies.rising;
+  marks = k.marks.rising;
+  steps = k.steps.rising;
+  seatings = k.seatings.rising;
+  sheet = k.sheet.rising;
+  exceptions = k.exceptions.rising;
+  keys = k.keys.rising;
+  stays = k.stays.rising;
+  withdrawals = k.withdrawals.rising;
+}
 
 pub changed_rises : (c : Change) (t : Tables) → Rises t → Rises (changed c t)
-changed_rises (PutPerson row) t r = record { people = put_in_rising 1 person_row row t.people r.people; trainings = r.trainings; appointments = r.appointments; boxes = r.boxes; safes = r.safes; bags = r.bags; items = r.items; ceremonies = r.ceremonies; marks = r.marks; steps = r.steps; seatings = r.seatings; sheet = r.sheet; exceptions = r.exceptions; keys = r.keys; stays = r.stays; withdrawals = r.withdrawals }
-changed_rises (PutTraining row) t r = record { people = r.people; trainings = put_in_rising 4 training_row row t.trainings r.trainings; appointments = r.appointments; boxes = r.boxes; safes = r.safes; bags = r.bags; items = r.items; ceremonies = r.ceremonies; marks = r.marks; steps = r.steps; seatings = r.seatings; sheet = r.sheet; exceptions = r.exceptions; keys = r.keys; stays = r.stays; withdrawals = r.withdrawals }
-changed_rises (PutAppointment row) t r = record { people = r.people; trainings = r.trainings; appointments = put_in_rising 2 appointment_row row t.appointments r.appointments; boxes = r.boxes; safes = r.safes; bags = r.bags; items = r.items; ceremonies = r.ceremonies; marks = r.marks; steps = r.steps; seatings = r.seatings; sheet = r.sheet; exceptions = r.exceptions; keys = r.keys; stays = r.stays; withdrawals = r.withdrawals }
-changed_rises (PutBox row) t r = record { people = r.people; trainings = r.trainings; appointments = r.appointments; boxes = put_in_rising 2 box_row row t.boxes r.boxes; safes = r.safes; bags = r.bags; items = r.items; ceremonies = r.ceremonies; marks = r.marks; steps = r.steps; seatings = r.seatings; sheet = r.sheet; exceptions = r.exceptions; keys = r.keys; stays = r.stays; withdrawals = r.withdrawals }
-changed_rises (PutSafe row) t r = record { people = r.people; trainings = r.trainings; appointments = r.appointments; boxes = r.boxes; safes = put_in_rising 2 safe_row row t.safes r.safes; bags = r.bags; items = r.items; ceremonies = r.ceremonies; marks = r.marks; steps = r.steps; seatings = r.seatings; sheet = r.sheet; exceptions = r.exceptions; keys = r.keys; stays = r.stays; withdrawals = r.withdrawals }
-changed_rises (PutBag row) t r = record { people = r.people; trainings = r.trainings; appointments = r.appointments; boxes = r.boxes; safes = r.safes; bags = put_in_rising 1 bag_row row t.bags r.bags; items = r.items; ceremonies = r.ceremonies; marks = r.marks; steps = r.steps; seatings = r.seatings; sheet = r.sheet; exceptions = r.exceptions; keys = r.keys; stays = r.stays; withdrawals = r.withdrawals }
-changed_rises (PutItem row) t r = record { people = r.people; trainings = r.trainings; appointments = r.appointments; boxes = r.boxes; safes = r.safes; bags = r.bags; items = put_in_rising 1 item_row row t.items r.items; ceremonies = r.ceremonies; marks = r.marks; steps = r.steps; seatings = r.seatings; sheet = r.sheet; exceptions = r.exceptions; keys = r.keys; stays = r.stays; withdrawals = r.withdrawals }
-changed_rises (PutCeremony row) t r = record { people = r.people; trainings = r.trainings; appointments = r.appointments; boxes = r.boxes; safes = r.safes; bags = r.bags; items = r.items; ceremonies = put_in_rising 1 ceremony_row row t.ceremonies r.ceremonies; marks = r.marks; steps = r.steps; seatings = r.seatings; sheet = r.sheet; exceptions = r.exceptions; keys = r.keys; stays = r.stays; withdrawals = r.withdrawals }
-changed_rises (PutMark row) t r = record { people = r.people; trainings = r.trainings; appointments = r.appointments; boxes = r.boxes; safes = r.safes; bags = r.bags; items = r.items; ceremonies = r.ceremonies; marks = put_in_rising 1 mark_row row t.marks r.marks; steps = r.steps; seatings = r.seatings; sheet = r.sheet; exceptions = r.exceptions; keys = r.keys; stays = r.stays; withdrawals = r.withdrawals }
-changed_rises (PutStep row) t r = record { people = r.people; trainings = r.trainings; appointments = r.appointments; boxes = r.boxes; safes = r.safes; bags = r.bags; items = r.items; ceremonies = r.ceremonies; marks = r.marks; steps = put_in_rising 2 step_row row t.steps r.steps; seatings = r.seatings; sheet = r.sheet; exceptions = r.exceptions; keys = r.keys; stays = r.stays; withdrawals = r.withdrawals }
-changed_rises (PutSeating row) t r = record { people = r.people; trainings = r.trainings; appointments = r.appointments; boxes = r.boxes; safes = r.safes; bags = r.bags; items = r.items; ceremonies = r.ceremonies; marks = r.marks; steps = r.steps; seatings = put_in_rising 3 seating_row row t.seatings r.seatings; sheet = r.sheet; exceptions = r.exceptions; keys = r.keys; stays = r.stays; withdrawals = r.withdrawals }
-changed_rises (PutSheet row) t r = record { people = r.people; trainings = r.trainings; appointments = r.appointments; boxes = r.boxes; safes = r.safes; bags = r.bags; items = r.items; ceremonies = r.ceremonies; marks = r.marks; steps = r.steps; seatings = r.seatings; sheet = put_in_rising 2 sheet_row row t.sheet r.sheet; exceptions = r.exceptions; keys = r.keys; stays = r.stays; withdrawals = r.withdrawals }
-changed_rises (PutException row) t r = record { people = r.people; trainings = r.trainings; appointments = r.appointments; boxes = r.boxes; safes = r.safes; bags = r.bags; items = r.items; ceremonies = r.ceremonies; marks = r.marks; steps = r.steps; seatings = r.seatings; sheet = r.sheet; exceptions = put_in_rising 2 exception_row row t.exceptions r.exceptions; keys = r.keys; stays = r.stays; withdrawals = r.withdrawals }
-changed_rises (PutKey row) t r = record { people = r.people; trainings = r.trainings; appointments = r.appointments; boxes = r.boxes; safes = r.safes; bags = r.bags; items = r.items; ceremonies = r.ceremonies; marks = r.marks; steps = r.steps; seatings = r.seatings; sheet = r.sheet; exceptions = r.exceptions; keys = put_in_rising 1 key_row row t.keys r.keys; stays = r.stays; withdrawals = r.withdrawals }
-changed_rises (PutStay row) t r = record { people = r.people; trainings = r.trainings; appointments = r.appointments; boxes = r.boxes; safes = r.safes; bags = r.bags; items = r.items; ceremonies = r.ceremonies; marks = r.marks; steps = r.steps; seatings = r.seatings; sheet = r.sheet; exceptions = r.exceptions; keys = r.keys; stays = put_in_rising 2 stay_row row t.stays r.stays; withdrawals = r.withdrawals }
-changed_rises (PutWithdrawal row) t r = record { people = r.people; trainings = r.trainings; appointments = r.appointments; boxes = r.boxes; safes = r.safes; bags = r.bags; items = r.items; ceremonies = r.ceremonies; marks = r.marks; steps = r.steps; seatings = r.seatings; sheet = r.sheet; exceptions = r.exceptions; keys = r.keys; stays = r.stays; withdrawals = put_in_rising 4 withdrawal_row row t.withdrawals r.withdrawals }
+changed_rises c t r = record {
+  people = elim c as (λ c. Rise 1 person_row (changed c t).people)
+      [ PutPerson row ↦ put_in_rising 1 person_row row t.people r.people | _ ↦ r.people ];
+  trainings = elim c as (λ c. Rise 4 training_row (changed c t).trainings)
+      [ PutTraining row ↦ put_in_rising 4 training_row row t.trainings r.trainings | _ ↦ r.trainings ];
+  appointments = elim c as (λ c. Rise 2 appointment_row (changed c t).appointments)
+      [ PutAppointment row ↦ put_in_rising 2 appointment_row row t.appointments r.appointments | _ ↦ r.appointments ];
+  boxes = elim c as (λ c. Rise 2 box_row (changed c t).boxes)
+      [ PutBox row ↦ put_in_rising 2 box_row row t.boxes r.boxes | _ ↦ r.boxes ];
+  safes = elim c as (λ c. Rise 2 safe_row (changed c t).safes)
+      [ PutSafe row ↦ put_in_rising 2 safe_row row t.safes r.safes | _ ↦ r.safes ];
+  bags = elim c as (λ c. Rise 1 bag_row (changed c t).bags)
+      [ PutBag row ↦ put_in_rising 1 bag_row row t.bags r.bags | _ ↦ r.bags ];
+  items = elim c as (λ c. Rise 1 item_row (changed c t).items)
+      [ PutItem row ↦ put_in_rising 1 item_row row t.items r.items | _ ↦ r.items ];
+  ceremonies = elim c as (λ c. Rise 1 ceremony_row (changed c t).ceremonies)
+      [ PutCeremony row ↦ put_in_rising 1 ceremony_row row t.ceremonies r.ceremonies | _ ↦ r.ceremonies ];
+  marks = elim c as (λ c. Rise 1 mark_row (changed c t).marks)
+      [ PutMark row ↦ put_in_rising 1 mark_row row t.marks r.marks | _ ↦ r.marks ];
+  steps = elim c as (λ c. Rise 2 step_row (changed c t).steps)
+      [ PutStep row ↦ put_in_rising 2 step_row row t.steps r.steps | _ ↦ r.steps ];
+  seatings = elim c as (λ c. Rise 3 seating_row (changed c t).seatings)
+      [ PutSeating row ↦ put_in_rising 3 seating_row row t.seatings r.seatings | _ ↦ r.seatings ];
+  sheet = elim c as (λ c. Rise 2 sheet_row (changed c t).sheet)
+      [ PutSheet row ↦ put_in_rising 2 sheet_row row t.sheet r.sheet | _ ↦ r.sheet ];
+  exceptions = elim c as (λ c. Rise 2 exception_row (changed c t).exceptions)
+      [ PutException row ↦ put_in_rising 2 exception_row row t.exceptions r.exceptions | _ ↦ r.exceptions ];
+  keys = elim c as (λ c. Rise 1 key_row (changed c t).keys)
+      [ PutKey row ↦ put_in_rising 1 key_row row t.keys r.keys | _ ↦ r.keys ];
+  stays = elim c as (λ c. Rise 2 stay_row (changed c t).stays)
+      [ PutStay row ↦ put_in_rising 2 stay_row row t.stays r.stays | _ ↦ r.stays ];
+  withdrawals = elim c as (λ c. Rise 4 withdrawal_row (changed c t).withdrawals)
+      [ PutWithdrawal row ↦ put_in_rising 4 withdrawal_row row t.withdrawals r.withdrawals | _ ↦ r.withdrawals ];
+}
 
 -- one change: its table's rows are those of the machine, in another order
 pub changed_stands : (c : Change) (m : machine.Tables) (t : Tables) → Rises t → Stands m t → Stands (changes.changed c m) (changed c t)
-changed_stands (PutPerson row) m t r s = record { people = put-stands 1 person_row same_person key_of_people row m.people t.people r.people s.people; trainings = s.trainings; appointments = s.appointments; boxes = s.boxes; safes = s.safes; bags = s.bags; items = s.items; ceremonies = s.ceremonies; marks = s.marks; steps = s.steps; seatings = s.seatings; sheet = s.sheet; exceptions = s.exceptions; keys = s.keys; stays = s.stays; withdrawals = s.withdrawals; versions = s.versions }
-changed_stands (PutTraining row) m t r s = record { people = s.people; trainings = put-stands 4 training_row same_training key_of_trainings row m.trainings t.trainings r.trainings s.trainings; appointments = s.appointments; boxes = s.boxes; safes = s.safes; bags = s.bags; items = s.items; ceremonies = s.ceremonies; marks = s.marks; steps = s.steps; seatings = s.seatings; sheet = s.sheet; exceptions = s.exceptions; keys = s.keys; stays = s.stays; withdrawals = s.withdrawals; versions = s.versions }
-changed_stands (PutAppointment row) m t r s = record { people = s.people; trainings = s.trainings; appointments = put-stands 2 appointment_row same_appointment key_of_appointments row m.appointments t.appointments r.appointments s.appointments; boxes = s.boxes; safes = s.safes; bags = s.bags; items = s.items; ceremonies = s.ceremonies; marks = s.marks; steps = s.steps; seatings = s.seatings; sheet = s.sheet; exceptions = s.exceptions; keys = s.keys; stays = s.stays; withdrawals = s.withdrawals; versions = s.versions }
-changed_stands (PutBox row) m t r s = record { people = s.people; trainings = s.trainings; appointments = s.appointments; boxes = put-stands 2 box_row same_box key_of_boxes row m.boxes t.boxes r.boxes s.boxes; safes = s.safes; bags = s.bags; items = s.items; ceremonies = s.ceremonies; marks = s.marks; steps = s.steps; seatings = s.seatings; sheet = s.sheet; exceptions = s.exceptions; keys = s.keys; stays = s.stays; withdrawals = s.withdrawals; versions = s.versions }
-changed_stands (PutSafe row) m t r s = record { people = s.people; trainings = s.trainings; appointments = s.appointments; boxes = s.boxes; safes = put-stands 2 safe_row same_safe_row key_of_safes row m.safes t.safes r.safes s.safes; bags = s.bags; items = s.items; ceremonies = s.ceremonies; marks = s.marks; steps = s.steps; seatings = s.seatings; sheet = s.sheet; exceptions = s.exceptions; keys = s.keys; stays = s.stays; withdrawals = s.withdrawals; versions = s.versions }
-changed_stands (PutBag row) m t r s = record { people = s.people; trainings = s.trainings; appointments = s.appointments; boxes = s.boxes; safes = s.safes; bags = put-stands 1 bag_row same_bag key_of_bags row m.bags t.bags r.bags s.bags; items = s.items; ceremonies = s.ceremonies; marks = s.marks; steps = s.steps; seatings = s.seatings; sheet = s.sheet; exceptions = s.exceptions; keys = s.keys; stays = s.stays; withdrawals = s.withdrawals; versions = s.versions }
-changed_stands (PutItem row) m t r s = record { people = s.people; trainings = s.trainings; appointments = s.appointments; boxes = s.boxes; safes = s.safes; bags = s.bags; items = put-stands 1 item_row same_item key_of_items row m.items t.items r.items s.items; ceremonies = s.ceremonies; marks = s.marks; steps = s.steps; seatings = s.seatings; sheet = s.sheet; exceptions = s.exceptions; keys = s.keys; stays = s.stays; withdrawals = s.withdrawals; versions = s.versions }
-changed_stands (PutCeremony row) m t r s = record { people = s.people; trainings = s.trainings; appointments = s.appointments; boxes = s.boxes; safes = s.safes; bags = s.bags; items = s.items; ceremonies = put-stands 1 ceremony_row same_ceremony key_of_ceremonies row m.ceremonies t.ceremonies r.ceremonies s.ceremonies; marks = s.marks; steps = s.steps; seatings = s.seatings; sheet = s.sheet; exceptions = s.exceptions; keys = s.keys; stays = s.stays; withdrawals = s.withdrawals; versions = s.versions }
-changed_stands (PutMark row) m t r s = record { people = s.people; trainings = s.trainings; appointments = s.appointments; boxes = s.boxes; safes = s.safes; bags = s.bags; items = s.items; ceremonies = s.ceremonies; marks = put-stands 1 mark_row same_mark key_of_marks row m.marks t.marks r.marks s.marks; steps = s.steps; seatings = s.seatings; sheet = s.sheet; exceptions = s.exceptions; keys = s.keys; stays = s.stays; withdrawals = s.withdrawals; versions = s.versions }
-changed_stands (PutStep row) m t r s = record { people = s.people; trainings = s.trainings; appointments = s.appointments; boxes = s.boxes; safes = s.safes; bags = s.bags; items = s.items; ceremonies = s.ceremonies; marks = s.marks; steps = put-stands 2 step_row same_step key_of_steps row m.steps t.steps r.steps s.steps; seatings = s.seatings; sheet = s.sheet; exceptions = s.exceptions; keys = s.keys; stays = s.stays; withdrawals = s.withdrawals; versions = s.versions }
-changed_stands (PutSeating row) m t r s = record { people = s.people; trainings = s.trainings; appointments = s.appointments; boxes = s.boxes; safes = s.safes; bags = s.bags; items = s.items; ceremonies = s.ceremonies; marks = s.marks; steps = s.steps; seatings = put-stands 3 seating_row same_seating key_of_seatings row m.seatings t.seatings r.seatings s.seatings; sheet = s.sheet; exceptions = s.exceptions; keys = s.keys; stays = s.stays; withdrawals = s.withdrawals; versions = s.versions }
-changed_stands (PutSheet row) m t r s = record { people = s.people; trainings = s.trainings; appointments = s.appointments; boxes = s.boxes; safes = s.safes; bags = s.bags; items = s.items; ceremonies = s.ceremonies; marks = s.marks; steps = s.steps; seatings = s.seatings; sheet = put-stands 2 sheet_row same_sheet_row key_of_sheet row m.sheet t.sheet r.sheet s.sheet; exceptions = s.exceptions; keys = s.keys; stays = s.stays; withdrawals = s.withdrawals; versions = s.versions }
-changed_stands (PutException row) m t r s = record { people = s.people; trainings = s.trainings; appointments = s.appointments; boxes = s.boxes; safes = s.safes; bags = s.bags; items = s.items; ceremonies = s.ceremonies; marks = s.marks; steps = s.steps; seatings = s.seatings; sheet = s.sheet; exceptions = put-stands 2 exception_row same_exception key_of_exceptions row m.exceptions t.exceptions r.exceptions s.exceptions; keys = s.keys; stays = s.stays; withdrawals = s.withdrawals; versions = s.versions }
-changed_stands (PutKey row) m t r s = record { people = s.people; trainings = s.trainings; appointments = s.appointments; boxes = s.boxes; safes = s.safes; bags = s.bags; items = s.items; ceremonies = s.ceremonies; marks = s.marks; steps = s.steps; seatings = s.seatings; sheet = s.sheet; exceptions = s.exceptions; keys = put-stands 1 key_row same_key_row key_of_keys row m.keys t.keys r.keys s.keys; stays = s.stays; withdrawals = s.withdrawals; versions = s.versions }
-changed_stands (PutStay row) m t r s = record { people = s.people; trainings = s.trainings; appointments = s.appointments; boxes = s.boxes; safes = s.safes; bags = s.bags; items = s.items; ceremonies = s.ceremonies; marks = s.marks; steps = s.steps; seatings = s.seatings; sheet = s.sheet; exceptions = s.exceptions; keys = s.keys; stays = put-stands 2 stay_row same_stay key_of_stays row m.stays t.stays r.stays s.stays; withdrawals = s.withdrawals; versions = s.versions }
-changed_stands (PutWithdrawal row) m t r s = record { people = s.people; trainings = s.trainings; appointments = s.appointments; boxes = s.boxes; safes = s.safes; bags = s.bags; items = s.items; ceremonies = s.ceremonies; marks = s.marks; steps = s.steps; seatings = s.seatings; sheet = s.sheet; exceptions = s.exceptions; keys = s.keys; stays = s.stays; withdrawals = put-stands 4 withdrawal_row same_withdrawn key_of_withdrawals row m.withdrawals t.withdrawals r.withdrawals s.withdrawals; versions = s.versions }
+changed_stands c m t r s = record {
+  people = elim c as (λ c. IsPermutation (changes.changed c m).people (changed c t).people)
+      [ PutPerson row ↦ put-stands 1 person_row same_person key_of_people row m.people t.people r.people s.people | _ ↦ s.people ];
+  trainings = elim c as (λ c. IsPermutation (changes.changed c m).trainings (changed c t).trainings)
+      [ PutTraining row ↦ put-stands 4 training_row same_training key_of_trainings row m.trainings t.trainings r.trainings s.trainings | _ ↦ s.trainings ];
+  appointments = elim c as (λ c. IsPermutation (changes.changed c m).appointments (changed c t).appointments) [
+    | PutAppointment row ↦ put-stands 2 appointment_row same_appointment key_of_appointments row m.appointments t.appointments r.appointments
+        s.appointments
+    | _ ↦ s.appointments
+  ];
+  boxes = elim c as (λ c. IsPermutation (changes.changed c m).boxes (changed c t).boxes)
+      [ PutBox row ↦ put-stands 2 box_row same_box key_of_boxes row m.boxes t.boxes r.boxes s.boxes | _ ↦ s.boxes ];
+  safes = elim c as (λ c. IsPermutation (changes.changed c m).safes (changed c t).safes)
+      [ PutSafe row ↦ put-stands 2 safe_row same_safe_row key_of_safes row m.safes t.safes r.safes s.safes | _ ↦ s.safes ];
+  bags = elim c as (λ c. IsPermutation (changes.changed c m).bags (changed c t).bags)
+      [ PutBag row ↦ put-stands 1 bag_row same_bag key_of_bags row m.bags t.bags r.bags s.bags | _ ↦ s.bags ];
+  items = elim c as (λ c. IsPermutation (changes.changed c m).items (changed c t).items)
+      [ PutItem row ↦ put-stands 1 item_row same_item key_of_items row m.items t.items r.items s.items | _ ↦ s.items ];
+  ceremonies = elim c as (λ c. IsPermutation (changes.changed c m).ceremonies (changed c t).ceremonies) [
+    | PutCeremony row ↦ put-stands 1 ceremony_row same_ceremony key_of_ceremonies row m.ceremonies t.ceremonies r.ceremonies
+        s.ceremonies
+    | _ ↦ s.ceremonies
+  ];
+  marks = elim c as (λ c. IsPermutation (changes.changed c m).marks (changed c t).marks)
+      [ PutMark row ↦ put-stands 1 mark_row same_mark key_of_marks row m.marks t.marks r.marks s.marks | _ ↦ s.marks ];
+  steps = elim c as (λ c. IsPermutation (changes.changed c m).steps (changed c t).steps)
+      [ PutStep row ↦ put-stands 2 step_row same_step key_of_steps row m.steps t.steps r.steps s.steps | _ ↦ s.steps ];
+  seatings = elim c as (λ c. IsPermutation (changes.changed c m).seatings (changed c t).seatings)
+      [ PutSeating row ↦ put-stands 3 seating_row same_seating key_of_seatings row m.seatings t.seatings r.seatings s.seatings | _ ↦ s.seatings ];
+  sheet = elim c as (λ c. IsPermutation (changes.changed c m).sheet (changed c t).sheet)
+      [ PutSheet row ↦ put-stands 2 sheet_row same_sheet_row key_of_sheet row m.sheet t.sheet r.sheet s.sheet | _ ↦ s.sheet ];
+  exceptions = elim c as (λ c. IsPermutation (changes.changed c m).exceptions (changed c t).exceptions) [
+    | PutException row ↦ put-stands 2 exception_row same_exception key_of_exceptions row m.exceptions t.exceptions r.exceptions
+        s.exceptions
+    | _ ↦ s.exceptions
+  ];
+  keys = elim c as (λ c. IsPermutation (changes.changed c m).keys (changed c t).keys)
+      [ PutKey row ↦ put-stands 1 key_row same_key_row key_of_keys row m.keys t.keys r.keys s.keys | _ ↦ s.keys ];
+  stays = elim c as (λ c. IsPermutation (changes.changed c m).stays (changed c t).stays)
+      [ PutStay row ↦ put-stands 2 stay_row same_stay key_of_stays row m.stays t.stays r.stays s.stays | _ ↦ s.stays ];
+  withdrawals = elim c as (λ c. IsPermutation (changes.changed c m).withdrawals (changed c t).withdrawals) [
+    | PutWithdrawal row ↦ put-stands 4 withdrawal_row same_withdrawn key_of_withdrawals row m.withdrawals t.withdrawals r.withdrawals
+        s.withdrawals
+    | _ ↦ s.withdrawals
+  ];
+  versions = elim c as (λ c. (changed c t).versions ≡ first_tables.versions) [ PutPerson row ↦ s.versions | _ ↦ s.versions ];
+}
 
 -- the changes one after the other
 pub all_stand : (list : List Change) (m : machine.Tables) (t : Tables) → Rises t → Stands m t → Stands (changes.changed_by list m) (changed_all list t)
