@@ -1,15 +1,14 @@
 -- A reading of a table that gives the first row alone.
-use Rattle.std.proofs.Common.{◌≡◌, ℕ, List, [], ◌∷◌, ◌++◌, map, filter, take, length, slice_get, Option, Some, None, ◌<◌, arith, refl, sym, ap, subst, ◌∙◌}
+use Rattle.std.proofs.Common.{◌≡◌, ℕ, List, [], ◌∷◌, ◌++◌, map, filter, take, length, slice_get, Option, Some, None, ◌<◌, arith, pos, refl, sym, ap, subst, ◌∙◌}
 use Rattle.std.proofs.Common.{Less}
-use Rattle.std.specs.List.{AllByRecursion, list_all}
+use Rattle.std.specs.List.{AllByRecursion}
 use Rattle.std.specs.Option.{option_to_list}
 use Rattle.std.specs.List.Sorted.{IsPermutation}
 use Rattle.std.proofs.lemmas.List.{map-id, take-map}
 use Rattle.std.proofs.lemmas.List.Sorted.{IsPermutation-map, IsPermutation-trans, IsPermutation-sym}
 use Rattle.sqlite.specs.declared.types.Value.TheVariants.{Null}
 use Rattle.sqlite.specs.Order.{Row}
-use Rattle.sqlite.specs.Term.{holds}
-use Rattle.sqlite.specs.Query.{Query, IsAnswer, Output, output, output_cmp}
+use Rattle.sqlite.specs.Query.{Query, IsAnswer, Output, output_cmp}
 use Rattle.sqlite.specs.Tree.{Trees, IsAscending}
 use Rattle.sqlite.specs.State.{State, Shown}
 use Rattle.sqlite.specs.Program.{overlay}
@@ -18,7 +17,7 @@ use Rattle.sqlite_sql.proofs.QueryLemmas.{output_cmp_total}
 use Rattle.sqlite_trees.proofs.ListLemmas.{map-map, filter-map, IsPermutation-filter, ascending-map, ascending_weaker, all-permutation, all-filter}
 use Rattle.sqlite_keyed.proofs.SortLemmas.{sorted_unique}
 use Rattle.kcr_rows.specs.Keyed.{cells, Place, Keeps}
-use Rattle.kcr_rows.proofs.ReadLemmas.{matched, map_same}
+use Rattle.kcr_rows.proofs.ReadLemmas.{kept_cells}
 use Rattle.kcr_rows.proofs.TableLemmas.{same_values}
 use Rattle.kcr_tables.specs.Schema.{register_schema}
 use Rattle.kcr_reading.specs.First.{first_of, Choice, ShowsFirst}
@@ -38,26 +37,15 @@ module _ (sql : List ℕ) (place : Place) (params : Row) (choice : Choice) (s : 
       → IsAscending (λ a b. choice.compare a b ≡ Less) those
       → IsAnswer q (overlay db []) params rows → rows ≡ take 1 those
   first_rows db rows those same up a =
-      let entries = db place.tree in
-      let shown = cells place in
-      let p = λ (r : Row). list_all (holds (params ∷ r ∷ [])) s.test in
-      let staged : a.staged ≡ map (λ r. params ∷ r ∷ []) (filter p (overlay db [] place.tree)) = a.grouped
-      ∙ matched p (λ r. params ∷ r ∷ []) (overlay db [] place.tree) in
-      let over : overlay db [] place.tree ≡ entries = rw s.low in
-      let same_test : filter p entries ≡ filter (λ r. choice.passes (shown r)) entries = λ i. filter (λ r. s.tests r i) entries in
-      let outs : a.kept ≡ map ranked (filter choice.passes (map shown entries)) =
-      a.distinct ∙ ap (map (output q)) (staged ∙ ap (λ l. map (λ r. params ∷ r ∷ []) (filter p l)) over ∙ ap (map (λ r. params ∷ r ∷ [])) same_test)
-      ∙ map-map (output q) (λ r. params ∷ r ∷ []) (filter (λ r. choice.passes (shown r)) entries)
-      ∙ map_same _ (λ r. ranked (shown r)) s.shows (filter (λ r. choice.passes (shown r)) entries)
-      ∙ sym (map-map ranked shown (filter (λ r. choice.passes (shown r)) entries))
-      ∙ ap (map ranked) (sym (filter-map choice.passes shown entries)) in
+      let kept : a.kept ≡ map ranked (filter choice.passes (map (cells place) (db place.tree))) =
+      kept_cells place s.test s.project s.order (pos 1) params choice.passes ranked s.shows s.tests s.low db rows a in
       let turned = IsPermutation-map ranked _ _ (IsPermutation-sym _ _ same) in
       let strict : IsAscending (λ x y. output_cmp q x y ≡ Less) (map ranked those) =
       ascending-map (λ x y. output_cmp q x y ≡ Less) ranked those
       (ascending_weaker _ (λ x y. output_cmp q (ranked x) (ranked y) ≡ Less) (λ x y h. s.sorts x y ∙ h) _ up) in
       let ordered : a.ordered ≡ map ranked those =
       sorted_unique (output_cmp q) (output_cmp_total q) _ _ strict
-      (IsPermutation-trans _ _ _ (subst (IsPermutation (map ranked those)) (sym outs) turned) a.same) a.sorted in
+      (IsPermutation-trans _ _ _ (subst (IsPermutation (map ranked those)) (sym kept) turned) a.same) a.sorted in
       a.shown ∙ ap (λ l. take 1 (map (λ (o : Output). o.1) l)) ordered ∙ ap (take 1) (map-map (λ (o : Output). o.1) ranked those ∙ map-id those)
 
   module _ {X : Type 0} (row_of : X → Row) where

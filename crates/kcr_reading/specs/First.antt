@@ -4,31 +4,21 @@ use Rattle.std.specs.Prelude.{Option, Some, None, IsPermutation}
 use Rattle.std.specs.List.{list_all}
 use Rattle.std.specs.declared.cmp.Ordering.{Ordering}
 use Rattle.std.specs.declared.cmp.Ordering.TheVariants.{Less}
-use Rattle.sqlite.specs.declared.types.Value.TheVariants.{Int}
 use Rattle.sqlite.specs.Order.{Row}
-use Rattle.sqlite.specs.Term.{Term, lit, holds}
-use Rattle.sqlite.specs.Query.{Query, inner, end, output, output_cmp}
+use Rattle.sqlite.specs.Term.{Term, holds}
+use Rattle.sqlite.specs.Query.{Query, output, output_cmp}
 use Rattle.sqlite.specs.Command.TheVariants.{Select}
 use Rattle.sqlite.specs.Listing.{understood, reads_listing}
 use Rattle.sqlite.specs.Tree.{IsAscending}
 use Rattle.sqlite.proofs.Callers.{IsPlain, command_of}
 use Rattle.sqlite_value.specs.declared.keys.Key.{Key}
 use Rattle.kcr_rows.specs.Keyed.{Place, cells}
+use Rattle.kcr_rows.proofs.ReadLemmas.{asking}
 use Rattle.kcr_tables.specs.Schema.{register_schema}
 
 -- the query on one table that shows these terms of the first row that passes
 abbrev pub first_of : ℕ → List Term → List Term → List (Term × Key) → Query
-first_of tree test project order = record {
-  from = inner tree end;
-  filter = test;
-  group = None;
-  project = project;
-  distinct = false;
-  collations = [];
-  order = order;
-  limit = lit (Int (pos 1));
-  offset = lit (Int (pos 0));
-}
+first_of tree test project order = asking tree test project order (pos 1)
 
 -- how a text chooses a row: which rows pass, by which values they are sorted, and which of two comes first
 pub record Choice : Type 0 where

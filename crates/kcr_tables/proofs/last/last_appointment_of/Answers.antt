@@ -1,30 +1,21 @@
-use Rattle.std.proofs.Common.{[], ◌∷◌, map, IfOk, subst}
-use Rattle.sqlite.specs.Order.{Row}
+use Rattle.std.proofs.Common.{rules, [], ◌∷◌, refl, filter}
+use Rattle.kcr_history.specs.Views.{is_appointment_of}
 use Rattle.sqlite.specs.Held.{state}
-use Rattle.sqlite.specs.State.{Shown}
-use Rattle.kcr_rows.proofs.FailLemmas.{if_ok}
 use Rattle.kcr_rows.specs.Rows.{appointment_row}
+use Rattle.kcr_tables.specs.AppointmentsLaws as laws
 use Rattle.kcr_tables.proofs.FrameLemmas.{reads_by}
-use Rattle.kcr_tables.proofs.LastLemmas.{of_person_sql, of_person_plain, last_of_person, of_person_exact}
+use Rattle.kcr_tables.proofs.LastLemmas.{last_of_person, tells_one, tells_last, appointments_of, of_person_sql}
 use Rattle.kcr_tables.proofs.last.last_appointment_of.Goals as goal
 
-pub returns-clause-rows : goal.returns-clause-rows
-returns-clause-rows g c clean t held =
+pub returns : goal.returns
+returns g c =
     let old = state g.S.Store c.args.tx.now.conn.now in
     let new = state g.S.Store c.rows_of.new.tx.conn.now in
-    let shown = subst (λ (v : Row). IfOk c.rows_of.result (λ all. Shown of_person_sql v old new (map appointment_row all.items))) (λ i. c.initials_cell-c0.ensures i ∷ [])
-    (c.rows_of.ensures.shown clean) in
-    if_ok _ _ (λ all h. last_of_person c.args.who.now old new all.items t held h) c.rows_of.result shown
-
-pub returns-clause-exact : goal.returns-clause-exact
-returns-clause-exact g c clean has =
-    let old = state g.S.Store c.args.tx.now.conn.now in
-    let new = state g.S.Store c.rows_of.new.tx.conn.now in
-    let shown = subst (λ (v : Row). IfOk c.rows_of.result (λ all. Shown of_person_sql v old new (map appointment_row all.items))) (λ i. c.initials_cell-c0.ensures i ∷ [])
-    (c.rows_of.ensures.shown clean) in
-    if_ok _ _ (λ all h. of_person_exact c.args.who.now old new (map appointment_row all.items) has h) c.rows_of.result shown
-
-pub returns-clause-frame : goal.returns-clause-frame
-returns-clause-frame g c =
-    let did = c.rows_of.ensures in
-    reads_by of_person_sql (state g.S.Store c.args.tx.now.conn.now) (state g.S.Store c.rows_of.new.tx.conn.now) c.rows_of.result of_person_plain did.same did.frame
+    let text = last_of_person c.args.who.now in record {
+      same_reference = search rules;
+      rows = tells_last text old new c.rows_of.result appointment_row (λ v. v.items) (λ i. c.initials_cell-c0.ensures i ∷ []) c.rows_of.ensures.shown
+          (λ x y. laws.one x y tt tt) (λ x. x.since) (λ x. refl) (λ t. t.appointments)
+          (λ t. filter (is_appointment_of c.args.who.now) t.appointments) (λ t k. k.appointments) (λ t. appointments_of c.args.who.now t.appointments);
+      exact = tells_one text old new c.rows_of.result appointment_row (λ v. v.items) (λ i. c.initials_cell-c0.ensures i ∷ []) c.rows_of.ensures.shown;
+      frame = reads_by of_person_sql old new c.rows_of.result text.bare c.rows_of.ensures.same c.rows_of.ensures.frame;
+    }

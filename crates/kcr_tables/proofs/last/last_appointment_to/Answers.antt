@@ -1,31 +1,24 @@
-use Rattle.std.proofs.Common.{[], ◌∷◌, map, IfOk, subst, ap, ◌∙◌}
-use Rattle.sqlite.specs.Order.{Row}
+use Rattle.std.proofs.Common.{rules, [], ◌∷◌, refl, ap, filter, ◌∙◌}
 use Rattle.sqlite.specs.declared.types.Value.TheVariants.{Text}
+use Rattle.kcr_history.specs.Views.{is_appointment_to}
 use Rattle.sqlite.specs.Held.{state}
-use Rattle.sqlite.specs.State.{Shown}
-use Rattle.kcr_rows.proofs.FailLemmas.{if_ok}
 use Rattle.kcr_rows.specs.Rows.{appointment_row}
+use Rattle.kcr_tables.specs.AppointmentsLaws as laws
 use Rattle.kcr_tables.proofs.FrameLemmas.{reads_by}
-use Rattle.kcr_tables.proofs.LastLemmas.{to_place_sql, to_place_plain, last_to_place, to_place_exact}
+use Rattle.kcr_tables.proofs.LastLemmas.{last_to_place, tells_one, tells_last, appointments_to, to_place_sql}
 use Rattle.kcr_tables.proofs.last.last_appointment_to.Goals as goal
 
-pub returns-clause-rows : goal.returns-clause-rows
-returns-clause-rows g c clean t held =
+pub returns : goal.returns
+returns g c =
     let old = state g.S.Store c.args.tx.now.conn.now in
     let new = state g.S.Store c.rows_of.new.tx.conn.now in
-    let shown = subst (λ (v : Row). IfOk c.rows_of.result (λ all. Shown to_place_sql v old new (map appointment_row all.items))) (λ i. (c.code_cell-c0.ensures ∙ ap Text c.text-words.ensures) i ∷ [])
-    (c.rows_of.ensures.shown clean) in
-    if_ok _ _ (λ all h. last_to_place c.args.place old new all.items t held h) c.rows_of.result shown
-
-pub returns-clause-exact : goal.returns-clause-exact
-returns-clause-exact g c clean has =
-    let old = state g.S.Store c.args.tx.now.conn.now in
-    let new = state g.S.Store c.rows_of.new.tx.conn.now in
-    let shown = subst (λ (v : Row). IfOk c.rows_of.result (λ all. Shown to_place_sql v old new (map appointment_row all.items))) (λ i. (c.code_cell-c0.ensures ∙ ap Text c.text-words.ensures) i ∷ [])
-    (c.rows_of.ensures.shown clean) in
-    if_ok _ _ (λ all h. to_place_exact c.args.place old new (map appointment_row all.items) has h) c.rows_of.result shown
-
-pub returns-clause-frame : goal.returns-clause-frame
-returns-clause-frame g c =
-    let did = c.rows_of.ensures in
-    reads_by to_place_sql (state g.S.Store c.args.tx.now.conn.now) (state g.S.Store c.rows_of.new.tx.conn.now) c.rows_of.result to_place_plain did.same did.frame
+    let text = last_to_place c.args.place in record {
+      same_reference = search rules;
+      rows = tells_last text old new c.rows_of.result appointment_row (λ v. v.items) (λ i. (c.code_cell-c0.ensures ∙ ap Text c.text-words.ensures) i ∷ [])
+          c.rows_of.ensures.shown
+          (λ x y. laws.one x y tt tt) (λ x. x.since) (λ x. refl) (λ t. t.appointments)
+          (λ t. filter (is_appointment_to c.args.place) t.appointments) (λ t k. k.appointments) (λ t. appointments_to c.args.place t.appointments);
+      exact = tells_one text old new c.rows_of.result appointment_row (λ v. v.items) (λ i. (c.code_cell-c0.ensures ∙ ap Text c.text-words.ensures) i ∷ [])
+          c.rows_of.ensures.shown;
+      frame = reads_by to_place_sql old new c.rows_of.result text.bare c.rows_of.ensures.same c.rows_of.ensures.frame;
+    }

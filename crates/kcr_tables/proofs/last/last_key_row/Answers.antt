@@ -1,25 +1,24 @@
-use Rattle.std.proofs.Common.{map}
+use Rattle.std.proofs.Common.{rules, refl, map, subst}
 use Rattle.sqlite.specs.Held.{state}
 use Rattle.kcr_rows.proofs.FailLemmas.{if_ok}
+use Rattle.kcr_rows.proofs.TableLemmas.{filter_every}
 use Rattle.kcr_rows.specs.Rows.{key_row}
+use Rattle.kcr_tables.specs.Exact.{rows_at, IsOneOf}
+use Rattle.kcr_tables.specs.Held.{keys_place}
+use Rattle.kcr_tables.specs.KeysLaws as laws
 use Rattle.kcr_tables.proofs.FrameLemmas.{reads_by}
-use Rattle.kcr_tables.proofs.LastLemmas.{key_sql, key_plain, last_key, key_exact}
+use Rattle.kcr_tables.proofs.LastLemmas.{last_key, tells_one, tells_last, key_sql}
 use Rattle.kcr_tables.proofs.last.last_key_row.Goals as goal
 
-pub returns-clause-rows : goal.returns-clause-rows
-returns-clause-rows g c clean t held =
+pub returns : goal.returns
+returns g c =
     let old = state g.S.Store c.args.tx.now.conn.now in
-    let new = state g.S.Store c.rows_of.new.tx.conn.now in
-    let shown = c.rows_of.ensures.shown clean in
-    if_ok _ _ (λ all h. last_key old new all.items t held h) c.rows_of.result shown
-
-pub returns-clause-exact : goal.returns-clause-exact
-returns-clause-exact g c clean has =
-    let old = state g.S.Store c.args.tx.now.conn.now in
-    let new = state g.S.Store c.rows_of.new.tx.conn.now in
-    if_ok _ _ (λ all h. key_exact old new (map key_row all.items) has h) c.rows_of.result (c.rows_of.ensures.shown clean)
-
-pub returns-clause-frame : goal.returns-clause-frame
-returns-clause-frame g c =
-    let did = c.rows_of.ensures in
-    reads_by key_sql (state g.S.Store c.args.tx.now.conn.now) (state g.S.Store c.rows_of.new.tx.conn.now) c.rows_of.result key_plain did.same did.frame
+    let new = state g.S.Store c.rows_of.new.tx.conn.now in record {
+      same_reference = search rules;
+      rows = tells_last last_key old new c.rows_of.result key_row (λ v. v.items) refl c.rows_of.ensures.shown
+          (λ x y. laws.one x y tt tt) (λ x. x.accepted) (λ x. refl) (λ t. t.keys) (λ t. t.keys) (λ t k. k.keys) (λ t. filter_every t.keys);
+      exact = λ clean has. if_ok _ _ (λ v. subst (λ l. IsOneOf l (map key_row v.items)) (filter_every (rows_at keys_place old.now.trees))) c.rows_of.result
+          (tells_one last_key old new c.rows_of.result key_row (λ v. v.items) refl c.rows_of.ensures.shown clean has);
+      opened = c.rows_of.ensures.opened;
+      frame = reads_by key_sql old new c.rows_of.result last_key.bare c.rows_of.ensures.same c.rows_of.ensures.frame;
+    }
