@@ -36,9 +36,8 @@ def same_fields(t):
     return out
 
 
-def shows(t, text, place, params="[]", test="[]", passes="λ _. true", args=""):
-    fields = record(test=test, project="project", order="order", names="names", **{"is": "(refl, refl)"}, bare="(refl, refl)", shows="λ r. refl", tests="λ r. refl", sorts="λ a b. refl", low="refl")
-    return fields
+def shows(test="[]"):
+    return record(test=test, project="project", order="order", names="names", bare="(refl, refl)", **{"is": "refl"})
 
 
 def still(t):
@@ -58,32 +57,16 @@ still old new rows t sound keeps stored others k = {lines(fields)}"""
 
 
 def puts(t):
-    cols = t.columns
-    key = listed(str(i + 1) for i in range(t.keys))
-    others = listed(f"({listed(str(i + 1) for i in other)})" for other in t.others)
-    given = [f"col 0 {i}" for i in range(len(cols))]
-    casts = listed(c.kind.cast.format(x=f"x.{c.field}") for c in cols)
     fields = {
         "at": t.at,
         "name": codes(t.name),
         "columns": listed(t.schema_columns()),
-        "others": others,
-        "terms": listed(["lit Null", *given]),
-        "test": f"op2 (Compare Eq Binary) (col 1 0) (col 0 {len(cols)}) ∷ []",
-        "sets": listed(["col 1 0", "col 1 0", *given]),
-        "here": "refl",
-        "alone": "λ olds news. refl",
-        "compares": "λ a b. refl",
-        "fulls": "λ a. refl",
+        "others": listed(f"({listed(str(i + 1) for i in other)})" for other in t.others),
+        "terms": f"new_terms {len(t.columns)}",
+        "test": f"update_test {len(t.columns)}",
+        "sets": f"update_terms {len(t.columns)}",
+        "casts": f"λ x i. {listed(c.kind.cast.format(x=f'x.{c.field}') for c in t.columns)}",
         "bare": "(refl, refl)",
-        "given": "λ x. refl",
-        "casts": f"λ x i. {casts}",
-        "shown": "λ x id. refl",
-        "filled": "λ x. refl",
-        "tests": "λ x entries there r. refl",
-        "gives": "λ x entries there r. refl",
-        "low": "refl",
-        "shared": "λ a b. refl",
         "is": "refl",
     }
     return f"""
@@ -108,7 +91,6 @@ def finds(t, r):
         own = f"place_text x.{field}" if r.ty == "Place" else f"x.{field}"
         own = f"({own})" if " " in own else own
         proof = f"value_is ({cols[place].value('x')}) ({value}) refl refl ∙ sym ({ties} {own} {r.arg})"
-    test = f"op2 (Compare Eq Binary) (col 1 {t.places()[place]}) (col 0 0) ∷ []"
     value_of = "(λ n. Int (pos n))" if r.ty == "u32" else "Text"
     way = record(is_under=is_under_of(t, r), column=place, find_sql=codes(t.text_of(r)))
     return f"""
@@ -119,7 +101,8 @@ abbrev pub {p} : Finding ({arg_ty}) {t.type}
 
 shows_{p} : ({r.arg} : {arg_ty}) → ShowsRows {p}.find_sql {t.place} ({value} ∷ []) (has_value {place} ({value}))
 unfolding understood everything
-shows_{p} {r.arg} = {shows(t, p, t.place, test=test)}
+shows_{p} {r.arg} =
+    {shows(f"is_given {t.places()[place]}")}
 
 under_{p} : ({r.arg} : {arg_ty}) (x : {t.type}) → has_value {place} ({value}) ({t.row_of} x) ≡ {applied_to(t, r)}
 under_{p} {r.arg} x = {proof}
@@ -184,20 +167,16 @@ def laws(t):
     out += """use Rattle.std.specs.Bool.{⊤}
 use Rattle.std.specs.List.{AllByRecursion}
 use Rattle.std.proofs.lemmas.List.Sorted.{IsPermutation-refl}
-use Rattle.sqlite.specs.declared.types.Value.TheVariants.{Null, Int, Text}
+use Rattle.sqlite.specs.declared.types.Value.TheVariants.{Int, Text}
 """
     if any("column r" in is_same for is_same in fields.values()):
         out += "use Rattle.sqlite.specs.Order.{Row, column}\n"
-    out += """use Rattle.sqlite.specs.Term.{Term, lit, col, op2}
-use Rattle.sqlite.specs.Collation.TheVariants.{Binary}
+    out += """use Rattle.sqlite.specs.Term.{Term}
 use Rattle.sqlite.specs.Tree.{Trees}
 use Rattle.sqlite.specs.Edit.{IsNoIndex}
 use Rattle.sqlite.specs.Listing.{understood}
 use Rattle.sqlite_catalog.specs.Listing.{IsSound}
-use Rattle.sqlite_sql.specs.declared.ops.BinaryOp.TheVariants.{Compare}
-use Rattle.sqlite_sql.specs.declared.ops.CompareOp.TheVariants.{Eq}
 use Rattle.sqlite_value.specs.declared.keys.Key.{Key}
-use Rattle.sqlite_value.specs.Keys.{ascending}
 use Rattle.sqlite_tied.specs.Compute.{everything}
 use Rattle.kcr_base.specs.Same.{same_text}
 use Rattle.kcr_base.specs.Place.{place_text}
@@ -223,14 +202,14 @@ use Rattle.kcr_base.specs.Place.{place_text}
     if facts:
         out += f"use Rattle.kcr_rows.specs.States.{{{', '.join(facts)}}}\n"
     out += f"use Rattle.kcr_tables.specs.Schema.{{register_schema}}\nuse Rattle.kcr_tables.specs.Held.{{Tables, Kept, {', '.join(u.place for u in TABLES)}}}\n"
-    out += "use Rattle.kcr_tables.specs.First.{first_tables}\nuse Rattle.kcr_tables.specs.Parts.{text_in, number_in}\nuse Rattle.kcr_tables.specs.Statements.{ShowsRows, PutsRow}\nuse Rattle.kcr_tables.specs.Table.{Table, IsTable, Finding, IsFinding}\n"
-    out += f"\nabbrev pub project : List Term\nproject = {listed(f'col 1 {at}' for at in t.places())}\n"
-    out += f"\nabbrev order : List (Term × Key)\norder = {listed(f'(col 1 {at}, ascending Binary)' for at in t.places()[: t.keys])}\n"
+    out += "use Rattle.kcr_tables.specs.First.{first_tables}\nuse Rattle.kcr_tables.specs.Parts.{text_in, number_in}\nuse Rattle.kcr_tables.specs.Statements.{shown_columns, key_order, is_given, ShowsRows, new_terms, update_test, update_terms, PutsRow}\nuse Rattle.kcr_tables.specs.Table.{Table, IsTable, Finding, IsFinding}\n"
+    out += f"\nabbrev pub project : List Term\nproject = shown_columns {t.place}\n"
+    out += f"\nabbrev order : List (Term × Key)\norder = key_order {t.place}\n"
     out += f"\nabbrev pub names : List (List ℕ)\nnames = {listed(codes(c.name) for c in cols)}\n"
     out += table(t)
     out += f"\n-- no two values stand for one row\npub one : (x y : {t.type}) → {read_of('x')} → {stored_of('y')} → {t.row_of} x ≡ {t.row_of} y → x ≡ y\n"
     out += f"one x y read held h = λ i. {record(**fields)}\n"
-    out += f"\nlists : ShowsRows table.all_sql {t.place} [] (λ _. true)\nunfolding understood everything\nlists = {shows(t, 'all', t.place)}\n"
+    out += f"\nlists : ShowsRows table.all_sql {t.place} [] (λ _. true)\nunfolding understood everything\nlists = {shows()}\n"
     for r in t.readings:
         if not r.greatest:
             out += finds(t, r)

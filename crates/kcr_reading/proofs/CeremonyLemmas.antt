@@ -14,7 +14,6 @@ use Rattle.sqlite.specs.Listing.{understood}
 use Rattle.sqlite_sql.specs.declared.ops.BinaryOp.TheVariants.{Compare}
 use Rattle.sqlite_sql.specs.declared.ops.CompareOp.TheVariants.{Eq, Gt}
 use Rattle.sqlite_trees.proofs.ListLemmas.{IsPermutation-filter}
-use Rattle.sqlite_value.specs.Keys.{ascending}
 use Rattle.sqlite_tied.specs.Compute.{everything}
 use Rattle.kcr_rows.specs.Keyed.{by_key}
 use Rattle.kcr_rows.proofs.TableLemmas.{each_is}
@@ -28,12 +27,12 @@ use Rattle.kcr_tables.specs.ExceptionsLaws as exceptions
 use Rattle.kcr_tables.specs.Held.{Tables, Holds, exceptions_place, steps_place, seatings_place}
 use Rattle.kcr_tables.specs.Joint.{KeepsTables, Stands}
 use Rattle.kcr_tables.specs.SeatingsLaws as seatings
-use Rattle.kcr_tables.specs.Statements.{ShowsRows}
+use Rattle.kcr_tables.specs.Statements.{key_order, Choice, ShowsRows}
 use Rattle.kcr_tables.specs.StepsLaws as steps
 use Rattle.kcr_tables.proofs.StatementLemmas.{rows_shown}
-use Rattle.kcr_reading.specs.First.{Choice, ShowsFirst, IsFirst, bound_of}
+use Rattle.kcr_reading.specs.First.{ShowsFirst, IsFirst, bound_of}
 use Rattle.kcr_reading.specs.ToCome.{Gives, is_past, exceptions_past, rows_past}
-use Rattle.kcr_reading.proofs.ChoiceLemmas.{by_test, shows_first, rise, first_come, next_come}
+use Rattle.kcr_reading.proofs.ChoiceLemmas.{by_test, rise, first_come, next_come}
 use Rattle.kcr_reading.proofs.NumberLemmas.{behind_number, equal_number, one_test, with_tests, same_ceremony, same_step, number_later}
 use Rattle.kcr_reading.proofs.OrderLemmas.{moved, numbers_ordered}
 
@@ -94,8 +93,7 @@ exceptions_text =
 pub exceptions_shown : (ceremony : ℕ) (last : Option ℕ) → ShowsFirst exceptions_text exceptions_place (number_params ceremony last) (numbered ceremony last)
 unfolding understood everything
 exceptions_shown ceremony last =
-    shows_first number_test exceptions.project ((col 1 1, ascending Binary) ∷ (col 1 2, ascending Binary) ∷ []) exceptions.names
-    (refl, refl) (refl, refl) (λ r. refl) (λ r. refl) (λ a b. refl) refl
+    record { test = number_test; project = exceptions.project; order = key_order exceptions_place; names = exceptions.names; bare = (refl, refl); is = refl }
 
 pub next_exception : (ceremony : ℕ) (last : Option ℕ) (m : machine.Tables) {db : Trees} (k : KeepsTables m db) (found : Option ExceptionRow)
     → IsFirst exception_row (numbered ceremony last) k.t.exceptions found
@@ -111,8 +109,7 @@ steps_text = codes "SELECT ceremony, step, activity, seats, state, at FROM steps
 pub steps_shown : (ceremony : ℕ) (last : Option ℕ) → ShowsFirst steps_text steps_place (number_params ceremony last) (numbered ceremony last)
 unfolding understood everything
 steps_shown ceremony last =
-    shows_first number_test steps.project ((col 1 1, ascending Binary) ∷ (col 1 2, ascending Binary) ∷ []) steps.names
-    (refl, refl) (refl, refl) (λ r. refl) (λ r. refl) (λ a b. refl) refl
+    record { test = number_test; project = steps.project; order = key_order steps_place; names = steps.names; bare = (refl, refl); is = refl }
 
 pub next_step : (ceremony : ℕ) (last : Option ℕ) (m : machine.Tables) {db : Trees} (k : KeepsTables m db) (found : Option StepRow)
     → IsFirst step_row (numbered ceremony last) k.t.steps found
@@ -135,18 +132,8 @@ passes ceremony step = (by_test 3 seating_test (seating_params ceremony step)).p
 
 pub seating_shows : (ceremony step : ℕ) → ShowsRows seating_text seatings_place (seating_params ceremony step) (passes ceremony step)
 unfolding understood everything
-seating_shows ceremony step = record {
-  test = seating_test;
-  project = seatings.project;
-  names = seatings.names;
-  order = (col 1 1, ascending Binary) ∷ (col 1 2, ascending Binary) ∷ (col 1 3, ascending Binary) ∷ [];
-  is = (refl, refl);
-  bare = (refl, refl);
-  shows = λ r. refl;
-  tests = λ r. refl;
-  sorts = λ a b. refl;
-  low = refl;
-}
+seating_shows ceremony step =
+    record { test = seating_test; project = seatings.project; order = key_order seatings_place; names = seatings.names; bare = (refl, refl); is = refl }
 
 abbrev is_at : ℕ → ℕ → SeatingRow → Bool
 is_at ceremony step x = x.ceremony == ceremony && x.step == step

@@ -1,5 +1,5 @@
 -- Rows of a table, read one at a time: what a text chooses, and which of them comes next.
-use Rattle.std.proofs.Common.{◌≡◌, ℕ, ◌^◌, ◌&&◌, nat_le, Bool, true, false, List, [], ◌∷◌, map, filter, take, slice_get, Option, Some, Ordering, Less, Result}
+use Rattle.std.proofs.Common.{◌≡◌, ℕ, ◌&&◌, Bool, true, List, [], ◌∷◌, map, filter, take, slice_get, Option, Some, Ordering, Less, Result}
 use Rattle.std.proofs.Common.{sym, ap, subst, ◌∙◌}
 use Rattle.std.specs.Prelude.{IfOk}
 use Rattle.std.specs.List.{list_all}
@@ -7,25 +7,20 @@ use Rattle.std.specs.Cmp.{IsTotalOrder}
 use Rattle.sqlite.specs.declared.types.Value.TheVariants.{Null}
 use Rattle.sqlite.specs.Effect.{Database}
 use Rattle.sqlite.specs.Order.{Row}
-use Rattle.sqlite.specs.Query.{output, output_cmp}
-use Rattle.sqlite.specs.Command.TheVariants.{Select}
-use Rattle.sqlite.specs.Listing.{understood, reads_listing}
 use Rattle.sqlite.specs.Term.{Term, holds}
-use Rattle.sqlite.proofs.Callers.{IsPlain, command_of}
-use Rattle.sqlite_value.specs.declared.keys.Key.{Key}
 use Rattle.sqlite.specs.Tree.{IsAscending}
 use Rattle.sqlite_trees.proofs.ListLemmas.{ascending_weaker, ascending_from_map, ascending-filter, IsPermutation-same}
 use Rattle.kcr_base.specs.declared.refusal.Refusal.{Refusal}
-use Rattle.kcr_rows.specs.Keyed.{Place, by_key, cells}
+use Rattle.kcr_rows.specs.Keyed.{Place, by_key}
 use Rattle.kcr_rows.proofs.FailLemmas.{if_ok}
 use Rattle.kcr_rows.proofs.FilterLemmas.{filter_as}
 use Rattle.kcr_room.proofs.Lists.{filter-and}
 use Rattle.kcr_history.specs.Tables as machine
 use Rattle.kcr_tables.specs.Held.{Tables, Holds}
 use Rattle.kcr_tables.specs.Joint.{HoldsTables, KeepsTables}
-use Rattle.kcr_tables.specs.Schema.{register_schema}
 use Rattle.kcr_tables.proofs.HoldLemmas.{held_of}
-use Rattle.kcr_reading.specs.First.{Choice, ShowsFirst, IsFirst, first_of}
+use Rattle.kcr_tables.specs.Statements.{Choice}
+use Rattle.kcr_reading.specs.First.{ShowsFirst, IsFirst}
 use Rattle.kcr_reading.specs.ToCome.{Gives}
 use Rattle.kcr_reading.proofs.NumberLemmas.{rises_among}
 use Rattle.kcr_reading.proofs.OrderLemmas.{later, moved, gives_first}
@@ -39,18 +34,6 @@ by_test keys test params = record {
   rank = take keys;
   compare = by_key keys;
 }
-
--- what a text shows, by what each part of it computes to
-pub shows_first : {sql : List ℕ} {place : Place} {params : Row} {choice : Choice} (test project : List Term) (order : List (Term × Key)) (names : List (List ℕ))
-    → (command_of (understood register_schema sql) ≡ Select (record { lets = []; body = first_of place.tree test project order }) names)
-    × (reads_listing register_schema sql ≡ false)
-    → IsPlain (understood register_schema sql)
-    → ((r : Row) → output (first_of place.tree test project order) (params ∷ r ∷ []) ≡ (choice.rank (cells place r), cells place r))
-    → ((r : Row) → list_all (holds (params ∷ r ∷ [])) test ≡ choice.passes (cells place r))
-    → ((a b : Row) → output_cmp (first_of place.tree test project order) (choice.rank a, a) (choice.rank b, b) ≡ choice.compare a b)
-    → nat_le (2 ^ 31) place.tree ≡ false → ShowsFirst sql place params choice
-shows_first test project order names is bare shows tests sorts low =
-    record { test = test; project = project; order = order; names = names; is = is; bare = bare; shows = shows; tests = tests; sorts = sorts; low = low }
 
 -- the text chooses the same by other words for its parameters
 pub shown_by : {sql : List ℕ} {place : Place} {params given : Row} {choice : Choice} → ShowsFirst sql place params choice → given ≡ params

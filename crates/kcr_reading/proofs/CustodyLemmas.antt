@@ -15,7 +15,6 @@ use Rattle.sqlite.specs.Listing.{understood}
 use Rattle.sqlite_sql.specs.declared.ops.BinaryOp.TheVariants.{Compare, Is}
 use Rattle.sqlite_sql.specs.declared.ops.CompareOp.TheVariants.{Gt}
 use Rattle.sqlite_trees.proofs.ListLemmas.{ascending_weaker, ascending_from_map}
-use Rattle.sqlite_value.specs.Keys.{ascending}
 use Rattle.sqlite_value.proofs.OrderLemmas.{value_cmp-Text, value_cmp_total}
 use Rattle.sqlite_tied.specs.Compute.{everything}
 use Rattle.kcr_base.specs.declared.place.Facility.{Facility}
@@ -38,9 +37,10 @@ use Rattle.kcr_tables.specs.BagsLaws as bags
 use Rattle.kcr_tables.specs.Held.{bags_place, items_place}
 use Rattle.kcr_tables.specs.ItemsLaws as items
 use Rattle.kcr_tables.specs.Joint.{KeepsTables}
-use Rattle.kcr_reading.specs.First.{Choice, ShowsFirst, IsFirst}
+use Rattle.kcr_tables.specs.Statements.{key_order, Choice}
+use Rattle.kcr_reading.specs.First.{ShowsFirst, IsFirst}
 use Rattle.kcr_reading.specs.ToCome.{Gives, is_past, is_behind, is_loose, loose_past, items_by_code, serials_past, safe_place, safes_in_order, safes_past}
-use Rattle.kcr_reading.proofs.ChoiceLemmas.{by_test, shows_first, first_come, next_come}
+use Rattle.kcr_reading.proofs.ChoiceLemmas.{by_test, first_come, next_come}
 use Rattle.kcr_reading.proofs.NumberLemmas.{behind_text, one_test, text_key, text_later, number_cmp, number_later}
 use Rattle.kcr_reading.proofs.OrderLemmas.{moved, ordered, numbers_ordered, gives_first}
 
@@ -104,11 +104,9 @@ bags_choice last = by_test 1 (behind_test last) (behind_params last)
 pub bags_shown : (last : Option (List ℕ)) → ShowsFirst (bags_text last) bags_place (behind_params last) (bags_choice last)
 unfolding understood everything
 bags_shown None =
-    shows_first (behind_test None) bags.project ((col 1 1, ascending Binary) ∷ []) bags.names
-    (refl, refl) (refl, refl) (λ r. refl) (λ r. refl) (λ a b. refl) refl
+    record { test = behind_test None; project = bags.project; order = key_order bags_place; names = bags.names; bare = (refl, refl); is = refl }
 bags_shown (Some last) =
-    shows_first (behind_test (Some last)) bags.project ((col 1 1, ascending Binary) ∷ []) bags.names
-    (refl, refl) (refl, refl) (λ r. refl) (λ r. refl) (λ a b. refl) refl
+    record { test = behind_test (Some last); project = bags.project; order = key_order bags_place; names = bags.names; bare = (refl, refl); is = refl }
 
 pub first_bag : (last : Option (List ℕ)) (m : machine.Tables) {db : Trees} (k : KeepsTables m db) (found : Option Bag)
     → IsFirst bag_row (bags_choice last) k.t.bags found → found ≡ slice_get (serials_past last m) 0
@@ -141,11 +139,9 @@ loose_choice last = by_test 1 (loose_test last) (behind_params last)
 pub loose_shown : (last : Option (List ℕ)) → ShowsFirst (loose_text last) items_place (behind_params last) (loose_choice last)
 unfolding understood everything
 loose_shown None =
-    shows_first (loose_test None) items.project ((col 1 1, ascending Binary) ∷ []) items.names
-    (refl, refl) (refl, refl) (λ r. refl) (λ r. refl) (λ a b. refl) refl
+    record { test = loose_test None; project = items.project; order = key_order items_place; names = items.names; bare = (refl, refl); is = refl }
 loose_shown (Some last) =
-    shows_first (loose_test (Some last)) items.project ((col 1 1, ascending Binary) ∷ []) items.names
-    (refl, refl) (refl, refl) (λ r. refl) (λ r. refl) (λ a b. refl) refl
+    record { test = loose_test (Some last); project = items.project; order = key_order items_place; names = items.names; bare = (refl, refl); is = refl }
 
 is_chosen : (last : Option (List ℕ)) (x : Item) → (loose_choice last).passes (item_row x) ≡ (is_loose x && is_behind last x.code)
 unfolding binary value_cmp

@@ -17,10 +17,11 @@ use Rattle.sqlite_sql.proofs.QueryLemmas.{output_cmp_total}
 use Rattle.sqlite_trees.proofs.ListLemmas.{map-map, filter-map, IsPermutation-filter, ascending-map, ascending_weaker, all-permutation, all-filter}
 use Rattle.sqlite_keyed.proofs.SortLemmas.{sorted_unique}
 use Rattle.kcr_rows.specs.Keyed.{cells, Place, Keeps}
-use Rattle.kcr_rows.proofs.ReadLemmas.{kept_cells}
+use Rattle.kcr_rows.proofs.ReadLemmas.{asking, kept_cells}
 use Rattle.kcr_rows.proofs.TableLemmas.{same_values}
 use Rattle.kcr_tables.specs.Schema.{register_schema}
-use Rattle.kcr_reading.specs.First.{first_of, Choice, ShowsFirst}
+use Rattle.kcr_tables.specs.Statements.{Choice}
+use Rattle.kcr_reading.specs.First.{ShowsFirst}
 
 all_take : {X : Type 0} (P : X → Type 0) (xs : List X) → AllByRecursion P xs → AllByRecursion P (take 1 xs)
 all_take P [] all = tt
@@ -28,7 +29,7 @@ all_take P (x ∷ xs) all = (all.0, tt)
 
 module _ (sql : List ℕ) (place : Place) (params : Row) (choice : Choice) (s : ShowsFirst sql place params choice) where
   abbrev q : Query
-  q = first_of place.tree s.test s.project s.order
+  q = asking place.tree s.test s.project s.order (pos 1)
 
   abbrev ranked : Row → Output
   ranked r = (choice.rank r, r)
@@ -38,11 +39,12 @@ module _ (sql : List ℕ) (place : Place) (params : Row) (choice : Choice) (s : 
       → IsAnswer q (overlay db []) params rows → rows ≡ take 1 those
   first_rows db rows those same up a =
       let kept : a.kept ≡ map ranked (filter choice.passes (map (cells place) (db place.tree))) =
-      kept_cells place s.test s.project s.order (pos 1) params choice.passes ranked s.shows s.tests s.low db rows a in
+      kept_cells place s.test s.project s.order (pos 1) params choice.passes ranked
+      (λ r i. (s.is i).shows r) (λ r i. (s.is i).passes r) (λ i. (s.is i).is_far) db rows a in
       let turned = IsPermutation-map ranked _ _ (IsPermutation-sym _ _ same) in
       let strict : IsAscending (λ x y. output_cmp q x y ≡ Less) (map ranked those) =
       ascending-map (λ x y. output_cmp q x y ≡ Less) ranked those
-      (ascending_weaker _ (λ x y. output_cmp q (ranked x) (ranked y) ≡ Less) (λ x y h. s.sorts x y ∙ h) _ up) in
+      (ascending_weaker _ (λ x y. output_cmp q (ranked x) (ranked y) ≡ Less) (λ x y h. (λ i. (s.is i).compares x y) ∙ h) _ up) in
       let ordered : a.ordered ≡ map ranked those =
       sorted_unique (output_cmp q) (output_cmp_total q) _ _ strict
       (IsPermutation-trans _ _ _ (subst (IsPermutation (map ranked those)) (sym kept) turned) a.same) a.sorted in
@@ -56,7 +58,7 @@ module _ (sql : List ℕ) (place : Place) (params : Row) (choice : Choice) (s : 
         → (those : List X) → IsPermutation (filter (λ x. choice.passes (row_of x)) ys) those
         → IsAscending (λ a b. choice.compare (row_of a) (row_of b) ≡ Less) those → xs ≡ take 1 those
     shown_first IsRead IsStored one old new xs has h read ys held keeps those same up =
-        let it = reads_as sql params old new register_schema has _ s.is.0 s.bare s.is.1 (map row_of xs) h in
+        let it = reads_as sql params old new register_schema has _ (λ i. (s.is i).command) s.bare (λ i. (s.is i).reads_catalog) (map row_of xs) h in
         let stored : IsPermutation (filter choice.passes (map (cells place) (old.now.trees place.tree))) (map row_of those) =
         IsPermutation-trans _ _ _ (IsPermutation-sym _ _ (IsPermutation-filter choice.passes _ _ keeps.same))
         (subst (λ l. IsPermutation l (map row_of those)) (sym (filter-map choice.passes row_of ys)) (IsPermutation-map row_of _ _ same)) in

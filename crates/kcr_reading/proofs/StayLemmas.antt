@@ -46,9 +46,10 @@ use Rattle.kcr_tables.specs.Held.{stays_place}
 use Rattle.kcr_tables.specs.Joint.{KeepsTables}
 use Rattle.kcr_tables.specs.StaysLaws as laws
 use Rattle.kcr_tables.proofs.HasLemmas.{has_right, filter_from, filter_to, filter_is, one_key_of}
-use Rattle.kcr_reading.specs.First.{Choice, ShowsFirst, IsFirst, bound_of}
+use Rattle.kcr_tables.specs.Statements.{key_order, Choice}
+use Rattle.kcr_reading.specs.First.{ShowsFirst, IsFirst, bound_of}
 use Rattle.kcr_reading.specs.ToCome.{Gives, is_behind, since_of, begins_with, begins_after, is_stay_past, listed_past}
-use Rattle.kcr_reading.proofs.ChoiceLemmas.{by_test, shows_first}
+use Rattle.kcr_reading.proofs.ChoiceLemmas.{by_test}
 use Rattle.kcr_reading.proofs.NumberLemmas.{number_cmp, behind_number, behind_text, equal_number, one_test, with_tests, text_key, rises_among}
 use Rattle.kcr_reading.proofs.OrderLemmas.{later, moved, apart_on, sorted, gives_first}
 
@@ -153,8 +154,7 @@ together ceremony last = by_test 2 together_test (together_params ceremony last)
 pub shows_together : (ceremony : ℕ) (last : Stay) → ShowsFirst together_text stays_place (together_params ceremony last) (together ceremony last)
 unfolding understood everything
 shows_together ceremony last =
-    shows_first together_test laws.project ((col 1 1, ascending Binary) ∷ (col 1 2, ascending Binary) ∷ []) laws.names
-    (refl, refl) (refl, refl) (λ r. refl) (λ r. refl) (λ a b. refl) refl
+    record { test = together_test; project = laws.project; order = key_order stays_place; names = laws.names; bare = (refl, refl); is = refl }
 
 passes_together : (ceremony : ℕ) (last x : Stay) → (together ceremony last).passes (stay_row x) ≡ (is_of ceremony x && begins_with last x)
 unfolding binary
@@ -199,8 +199,7 @@ begins_later ceremony last =
 pub shows_later : (ceremony : ℕ) (last : Option Stay) → ShowsFirst later_text stays_place (later_params ceremony last) (begins_later ceremony last)
 unfolding understood everything
 shows_later ceremony last =
-    shows_first later_test laws.project ((col 1 2, ascending Binary) ∷ (col 1 1, ascending Binary) ∷ []) laws.names
-    (refl, refl) (refl, refl) (λ r. refl) (λ r. refl) (λ a b. refl) refl
+    record { test = later_test; project = laws.project; order = (col 1 2, ascending Binary) ∷ (col 1 1, ascending Binary) ∷ []; names = laws.names; bare = (refl, refl); is = refl }
 
 passes_later : (ceremony : ℕ) (last : Option Stay) (x : Stay) → (begins_later ceremony last).passes (stay_row x) ≡ (is_of ceremony x && begins_after last x)
 unfolding binary

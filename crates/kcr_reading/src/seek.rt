@@ -6,7 +6,8 @@ ghost use Rattle.sqlite.specs.Values.{bound, bound_value};
 ghost use Rattle.sqlite.specs.Value.{owned};
 ghost use Rattle.sqlite.specs.declared.types.Value.TheVariants.{Int};
 ghost use Rattle.kcr_tables.specs.Frame.{TellsOpen, Tells, Reads};
-ghost use Rattle.kcr_reading.specs.First.{Choice, ShowsFirst, IsFirst, bound_of};
+ghost use Rattle.kcr_tables.specs.Statements.{Choice};
+ghost use Rattle.kcr_reading.specs.First.{ShowsFirst, IsFirst, bound_of};
 
 use kcr_base::Refusal;
 use kcr_rows::statements::rows_of;

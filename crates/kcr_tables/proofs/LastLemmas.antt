@@ -1,22 +1,18 @@
 -- The statements that show the row with the greatest number.
-use Rattle.std.proofs.Common.{◌≡◌, ℕ, pos, ◌^◌, nat_le, Bool, List, [], ◌∷◌, map, filter, codes, true, false, refl, sym, ap, subst, ◌∙◌, IsPermutation}
+use Rattle.std.proofs.Common.{◌≡◌, ℕ, pos, Bool, List, [], ◌∷◌, map, filter, codes, true, refl, sym, ap, subst, ◌∙◌, IsPermutation}
 use Rattle.std.proofs.Common.{Result, IfOk}
-use Rattle.std.specs.List.{list_all}
 use Rattle.std.proofs.lemmas.List.{map-id}
 use Rattle.std.proofs.lemmas.List.Sorted.{IsPermutation-map}
 use Rattle.sqlite.specs.declared.types.Value.TheVariants.{Null, Int, Text}
 use Rattle.sqlite.specs.Order.{Row, column}
 use Rattle.sqlite.specs.Program.{overlay}
-use Rattle.sqlite.specs.Query.{Output, IsAnswer, output}
-use Rattle.sqlite.specs.Term.{Term, col, op2, holds}
+use Rattle.sqlite.specs.Query.{Output, IsAnswer, key_cmp}
+use Rattle.sqlite.specs.Term.{Term}
 use Rattle.sqlite.specs.Collation.TheVariants.{Binary}
-use Rattle.sqlite.specs.Command.TheVariants.{Select}
 use Rattle.sqlite.specs.State.{State, Shown, HasCleanDisk}
-use Rattle.sqlite.specs.Listing.{understood, reads_listing}
-use Rattle.sqlite.proofs.Callers.{IsPlain, command_of, reads_as}
+use Rattle.sqlite.specs.Listing.{understood}
+use Rattle.sqlite.proofs.Callers.{IsPlain, reads_as}
 use Rattle.sqlite_trees.proofs.ListLemmas.{map-map}
-use Rattle.sqlite_sql.specs.declared.ops.BinaryOp.TheVariants.{Compare}
-use Rattle.sqlite_sql.specs.declared.ops.CompareOp.TheVariants.{Eq}
 use Rattle.sqlite_tied.specs.Compute.{everything}
 use Rattle.kcr_base.specs.Same.{same_text}
 use Rattle.kcr_base.specs.Place.{place_text}
@@ -29,29 +25,35 @@ use Rattle.kcr_rows.proofs.FailLemmas.{if_ok}
 use Rattle.kcr_rows.proofs.FilterLemmas.{value_is, filter_as}
 use Rattle.kcr_rows.proofs.GreatestLemmas.{greatest, with_number, shown_greatest}
 use Rattle.kcr_rows.proofs.ReadLemmas.{kept_cells}
-use Rattle.kcr_rows.specs.Keyed.{Place, Keeps, cells}
+use Rattle.kcr_rows.specs.Keyed.{Place, Keeps}
 use Rattle.kcr_rows.proofs.SameLemmas.{text_ties, place_ties}
 use Rattle.kcr_rows.specs.Rows.{stay_row, appointment_row}
 use Rattle.kcr_room.specs.declared.Stay.{Stay}
 use Rattle.kcr_tables.specs.Schema.{register_schema}
 use Rattle.kcr_tables.specs.Exact.{rows_at, has_text, IsOneOf}
 use Rattle.kcr_tables.specs.Frame.{Tells, TellsExactly}
+use Rattle.kcr_tables.specs.Statements.{is_given, Choice, showing, showing_by}
 use Rattle.kcr_tables.specs.Held.{Tables, Kept, keys_place, stays_place, appointments_place}
 use Rattle.kcr_tables.specs.AppointmentsLaws as appointments
 use Rattle.kcr_tables.specs.KeysLaws as keys
 use Rattle.kcr_tables.specs.StaysLaws as stays
 use Rattle.kcr_tables.proofs.ExactLemmas.{one_of}
 
+-- the rows that pass, the greatest number in this column first
+abbrev by_number : ℕ → (Row → Bool) → Choice
+by_number at passes = record {
+  passes = passes;
+  rank = λ row. column row at ∷ [];
+  compare = λ a b. key_cmp 0 (record { collation = Binary; descending = true } ∷ []) (column a at ∷ []) (column b at ∷ []);
+}
+
 -- the text shows, of the rows of a table that pass, one with the greatest number in a column, counted from 0
 pub record ShowsLast (place : Place) (project : List Term) (names : List (List ℕ)) (sql : List ℕ) (params : Row) (passes : Row → Bool) (at : ℕ)
     : Type 0 where
   pub test : List Term
-  pub is : (command_of (understood register_schema sql) ≡ Select (record { lets = []; body = greatest place test project at }) names)
-      × (reads_listing register_schema sql ≡ false)
   pub bare : IsPlain (understood register_schema sql)
-  pub shows : (r : Row) → output (greatest place test project at) (params ∷ r ∷ []) ≡ with_number at (cells place r)
-  pub tests : (r : Row) → list_all (holds (params ∷ r ∷ [])) test ≡ passes (cells place r)
-  pub low : nat_le (2 ^ 31) place.tree ≡ false
+  pub is : showing sql place params (by_number at passes) test (greatest place test project at)
+      ≡ showing_by place (by_number at passes) (greatest place test project at) names
 
 module _ {place : Place} {project : List Term} {names : List (List ℕ)} {sql : List ℕ} {params : Row} {passes : Row → Bool} {at : ℕ}
     (s : ShowsLast place project names sql params passes at) where
@@ -59,12 +61,13 @@ module _ {place : Place} {project : List Term} {names : List (List ℕ)} {sql : 
   shown_one : (old new : State) (rows : List Row) → old.now.schema ≡ register_schema → Shown sql params old new rows
       → IsOneOf (filter passes (rows_at place old.now.trees)) rows
   shown_one old new rows has h =
-      let read = reads_as sql params old new register_schema has _ s.is.0 s.bare s.is.1 rows h in
+      let read = reads_as sql params old new register_schema has _ (λ i. (s.is i).command) s.bare (λ i. (s.is i).reads_catalog) rows h in
       let a : IsAnswer (greatest place s.test project at) (overlay old.now.trees []) params rows = read.answer Null in
       let out = with_number at in
       let second = λ (o : Output). o.1 in
       let passed = filter passes (rows_at place old.now.trees) in
-      let kept : a.kept ≡ map out passed = kept_cells place s.test project _ (pos 1) params passes out s.shows s.tests s.low old.now.trees rows a in
+      let kept : a.kept ≡ map out passed = kept_cells place s.test project _ (pos 1) params passes out
+      (λ r i. (s.is i).shows r) (λ r i. (s.is i).passes r) (λ i. (s.is i).is_far) old.now.trees rows a in
       let firsts : map second a.kept ≡ passed = ap (map second) kept ∙ map-map second out passed ∙ map-id passed in
       one_of passed (map second a.ordered) (subst (λ l. IsPermutation l (map second a.ordered)) firsts (IsPermutation-map second _ _ a.same)) rows a.shown
 
@@ -83,12 +86,9 @@ module _ {place : Place} {project : List Term} {names : List (List ℕ)} {sql : 
         → ((t : Tables) → filter (λ x. passes (row_of x)) (rows_in t) ≡ wanted t) → Tells old new r (λ t all. IsGreatest number (wanted t) (items all))
     tells_last one number numbered rows_in wanted keeps are clean t held = if_ok _ _ (λ all h.
         subst (λ l. IsGreatest number l (items all)) (are t)
-        (shown_greatest place register_schema sql params s.test project at names passes s.is s.bare s.shows s.tests s.low row_of one number numbered
+        (shown_greatest place register_schema sql params s.test project at names passes (λ i. (s.is i).command, λ i. (s.is i).reads_catalog) s.bare
+        (λ r i. (s.is i).shows r) (λ r i. (s.is i).passes r) (λ i. (s.is i).is_far) row_of one number numbered
         old new (items all) held.schema h (rows_in t) (keeps t held.kept))) r (shown clean)
-
--- the column has the value of the parameter
-abbrev is_given : ℕ → List Term
-is_given at = op2 (Compare Eq Binary) (col 1 at) (col 0 0) ∷ []
 
 -- ---- the last accepted command
 
@@ -97,7 +97,7 @@ key_sql = codes "SELECT \"key\", accepted, command, reply FROM keys ORDER BY acc
 
 pub last_key : ShowsLast keys_place keys.project keys.names key_sql [] (λ _. true) 1
 unfolding understood everything
-last_key = record { test = []; is = (refl, refl); bare = (refl, refl); shows = λ r. refl; tests = λ r. refl; low = refl }
+last_key = record { test = []; bare = (refl, refl); is = refl }
 
 -- ---- the stay of a person that began last
 
@@ -106,7 +106,7 @@ stay_sql = codes "SELECT who, since, ceremony, until FROM stays WHERE who = ?1 O
 
 pub last_stay : (who : List ℕ) → ShowsLast stays_place stays.project stays.names stay_sql (Text who ∷ []) (has_text 0 who) 1
 unfolding understood everything
-last_stay who = record { test = is_given 1; is = (refl, refl); bare = (refl, refl); shows = λ r. refl; tests = λ r. refl; low = refl }
+last_stay who = record { test = is_given 1; bare = (refl, refl); is = refl }
 
 pub stays_of : (who : List ℕ) (stays : List Stay) → filter (λ x. has_text 0 who (stay_row x)) stays ≡ filter (λ x. same_text x.who who) stays
 stays_of who = filter_as _ _ (λ x. value_is (Text x.who) (Text who) refl refl ∙ sym (text_ties x.who who))
@@ -119,7 +119,7 @@ to_place_sql = codes "SELECT place, since, who, until FROM appointments WHERE pl
 pub last_to_place : (place : Custodian)
     → ShowsLast appointments_place appointments.project appointments.names to_place_sql (Text (place_text place) ∷ []) (has_text 0 (place_text place)) 1
 unfolding understood everything
-last_to_place place = record { test = is_given 1; is = (refl, refl); bare = (refl, refl); shows = λ r. refl; tests = λ r. refl; low = refl }
+last_to_place place = record { test = is_given 1; bare = (refl, refl); is = refl }
 
 pub appointments_to : (place : Custodian) (all : List Appointment)
     → filter (λ x. has_text 0 (place_text place) (appointment_row x)) all ≡ filter (is_appointment_to place) all
@@ -134,7 +134,7 @@ of_person_sql = codes "SELECT place, since, who, until FROM appointments WHERE w
 pub last_of_person : (who : List ℕ)
     → ShowsLast appointments_place appointments.project appointments.names of_person_sql (Text who ∷ []) (has_text 2 who) 1
 unfolding understood everything
-last_of_person who = record { test = is_given 3; is = (refl, refl); bare = (refl, refl); shows = λ r. refl; tests = λ r. refl; low = refl }
+last_of_person who = record { test = is_given 3; bare = (refl, refl); is = refl }
 
 pub appointments_of : (who : List ℕ) (all : List Appointment) → filter (λ x. has_text 2 who (appointment_row x)) all ≡ filter (is_appointment_of who) all
 appointments_of who = filter_as _ _ (λ x. value_is (Text x.who) (Text who) refl refl ∙ sym (text_ties x.who who))

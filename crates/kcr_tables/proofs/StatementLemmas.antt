@@ -18,23 +18,27 @@ module _ {X : Type 0} (sql : List ℕ) (place : Place) (params : Row) (passes : 
       → (old new : State) (xs : List X) → old.now.schema ≡ register_schema → Shown sql params old new (map row_of xs) → AllByRecursion IsRead xs
       → (ys : List X) → AllByRecursion IsStored ys → Keeps place old.now.trees (map row_of ys) → xs ≡ filter test ys
   rows_shown IsRead IsStored one test same old new xs has h read ys stored keeps =
-      shown_checked place register_schema sql params s.test s.project s.order s.names passes s.is s.bare s.shows s.tests s.sorts s.low row_of IsRead IsStored
+      shown_checked place register_schema sql params s.test s.project s.order s.names passes (λ i. (s.is i).command, λ i. (s.is i).reads_catalog) s.bare
+      (λ r i. (s.is i).shows r) (λ r i. (s.is i).passes r) (λ a b i. (s.is i).compares a b) (λ i. (s.is i).is_far) row_of IsRead IsStored
       one old new xs has h read ys stored keeps
       ∙ filter_as (λ y. passes (row_of y)) test same ys
 
   -- whatever the tree has, the values stand for its rows that pass
   pub every_row : (old new : State) (xs : List X) → old.now.schema ≡ register_schema → Shown sql params old new (map row_of xs)
       → IsPermutation (filter passes (map (cells place) (old.now.trees place.tree))) (map row_of xs)
-  every_row old new xs has h = shown_exact place register_schema sql params s.test s.project s.order s.names passes s.is s.bare s.shows s.tests s.sorts s.low
-      row_of old new xs has h
+  every_row old new xs has h =
+      shown_exact place register_schema sql params s.test s.project s.order s.names passes (λ i. (s.is i).command, λ i. (s.is i).reads_catalog) s.bare
+      (λ r i. (s.is i).shows r) (λ r i. (s.is i).passes r) (λ a b i. (s.is i).compares a b) (λ i. (s.is i).is_far) row_of old new xs has h
 
 pub row_put : {X : Type 0} (sql : List ℕ) (place : Place) (row_of : X → Row) → PutsRow sql place row_of → (x : X) (old new : State) (count : ℕ)
     → old.now.schema ≡ register_schema → Executes sql (row_of x) old new (Ok count)
     → (new.now.schema ≡ register_schema) × Changes place register_schema (row_of x) old.now.trees new.now.trees
 row_put sql place row_of p x old new count has h =
-    executes_upsert place register_schema p.at p.name p.columns p.others p.here p.alone p.compares p.fulls sql p.terms p.bare (row_of x) (p.given x)
-    (p.casts x) (p.shown x) (p.filled x)
-    p.test p.sets (p.tests x) (p.gives x) p.low p.shared p.is old new count has h
+    executes_upsert place register_schema p.at p.name p.columns p.others (λ i. (p.is i).here) (λ olds news i. (p.is i).alone olds news)
+    (λ a b i. (p.is i).compares a b) (λ a i. (p.is i).fulls a) sql p.terms p.bare (row_of x) (λ i. (p.is i).given x) (p.casts x)
+    (λ id i. (p.is i).shown x id) (λ i. (p.is i).filled x) p.test p.sets (λ entries there r i. (p.is i).tests x entries there r)
+    (λ entries there r i. (p.is i).gives x entries there r) (λ i. (p.is i).is_far) (λ a b i. (p.is i).shared a b) (λ i. (p.is i).command)
+    old new count has h
 
 -- the rows that the tree has then
 pub rows_put : {X : Type 0} (place : Place) (row_of : X → Row) (IsStored : X → Type 0) (x : X) → IsStored x → (old new : Trees)

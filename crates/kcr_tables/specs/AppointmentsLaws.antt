@@ -2,18 +2,14 @@
 use Rattle.std.proofs.Common.{◌≡◌, ◌≢◌, ℕ, pos, List, [], ◌∷◌, map, codes, true, refl, ap}
 use Rattle.std.specs.Bool.{⊤}
 use Rattle.std.specs.List.{AllByRecursion}
-use Rattle.sqlite.specs.declared.types.Value.TheVariants.{Null, Text}
+use Rattle.sqlite.specs.declared.types.Value.TheVariants.{Text}
 use Rattle.sqlite.specs.Order.{Row, column}
-use Rattle.sqlite.specs.Term.{Term, lit, col, op2}
-use Rattle.sqlite.specs.Collation.TheVariants.{Binary}
+use Rattle.sqlite.specs.Term.{Term}
 use Rattle.sqlite.specs.Tree.{Trees}
 use Rattle.sqlite.specs.Edit.{IsNoIndex}
 use Rattle.sqlite.specs.Listing.{understood}
 use Rattle.sqlite_catalog.specs.Listing.{IsSound}
-use Rattle.sqlite_sql.specs.declared.ops.BinaryOp.TheVariants.{Compare}
-use Rattle.sqlite_sql.specs.declared.ops.CompareOp.TheVariants.{Eq}
 use Rattle.sqlite_value.specs.declared.keys.Key.{Key}
-use Rattle.sqlite_value.specs.Keys.{ascending}
 use Rattle.sqlite_tied.specs.Compute.{everything}
 use Rattle.kcr_base.specs.Place.{place_text}
 use Rattle.kcr_rows.specs.Columns.{words, number, number_or_null}
@@ -30,14 +26,15 @@ use Rattle.kcr_tables.specs.Held.{safes_place, bags_place, items_place, ceremoni
 use Rattle.kcr_tables.specs.Held.{seatings_place, sheet_place, exceptions_place, versions_place, keys_place}
 use Rattle.kcr_tables.specs.Held.{stays_place, withdrawals_place}
 use Rattle.kcr_tables.specs.Parts.{text_in, number_in}
-use Rattle.kcr_tables.specs.Statements.{ShowsRows, PutsRow}
+use Rattle.kcr_tables.specs.Statements.{shown_columns, key_order, ShowsRows, new_terms, update_test, update_terms}
+use Rattle.kcr_tables.specs.Statements.{PutsRow}
 use Rattle.kcr_tables.specs.Table.{Table, IsTable}
 
 abbrev pub project : List Term
-project = col 1 1 ∷ col 1 2 ∷ col 1 3 ∷ col 1 4 ∷ []
+project = shown_columns appointments_place
 
 abbrev order : List (Term × Key)
-order = (col 1 1, ascending Binary) ∷ (col 1 2, ascending Binary) ∷ []
+order = key_order appointments_place
 
 abbrev pub names : List (List ℕ)
 names = codes "place" ∷ codes "since" ∷ codes "who" ∷ codes "until" ∷ []
@@ -58,7 +55,7 @@ one x y read held h = λ i. record { place = one_place x.place y.place (ap (text
 
 lists : ShowsRows table.all_sql appointments_place [] (λ _. true)
 unfolding understood everything
-lists = record { test = []; project = project; order = order; names = names; is = (refl, refl); bare = (refl, refl); shows = λ r. refl; tests = λ r. refl; sorts = λ a b. refl; low = refl }
+lists = record { test = []; project = project; order = order; names = names; bare = (refl, refl); is = refl }
 
 -- ---- a row put under its key
 
@@ -72,22 +69,11 @@ puts = record {
   name = codes "appointments";
   columns = words (codes "place") ∷ number (codes "since") ∷ words (codes "who") ∷ number_or_null (codes "until") ∷ [];
   others = (3 ∷ 2 ∷ 1 ∷ []) ∷ [];
-  terms = lit Null ∷ col 0 0 ∷ col 0 1 ∷ col 0 2 ∷ col 0 3 ∷ [];
-  test = op2 (Compare Eq Binary) (col 1 0) (col 0 4) ∷ [];
-  sets = col 1 0 ∷ col 1 0 ∷ col 0 0 ∷ col 0 1 ∷ col 0 2 ∷ col 0 3 ∷ [];
-  here = refl;
-  alone = λ olds news. refl;
-  compares = λ a b. refl;
-  fulls = λ a. refl;
-  bare = (refl, refl);
-  given = λ x. refl;
+  terms = new_terms 4;
+  test = update_test 4;
+  sets = update_terms 4;
   casts = λ x i. Text (place_text x.place) ∷ cast_int (pos x.since) i ∷ Text x.who ∷ cast_or_null x.until i ∷ [];
-  shown = λ x id. refl;
-  filled = λ x. refl;
-  tests = λ x entries there r. refl;
-  gives = λ x entries there r. refl;
-  low = refl;
-  shared = λ a b. refl;
+  bare = (refl, refl);
   is = refl;
 }
 

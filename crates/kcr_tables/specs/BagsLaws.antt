@@ -1,17 +1,13 @@
 -- What the table bags proves of its texts, and of its place among the others.
 use Rattle.std.proofs.Common.{◌≡◌, ◌≢◌, ℕ, List, [], ◌∷◌, map, codes, true, refl, sym, ap, ◌∙◌}
 use Rattle.std.specs.List.{AllByRecursion}
-use Rattle.sqlite.specs.declared.types.Value.TheVariants.{Null, Text}
-use Rattle.sqlite.specs.Term.{Term, lit, col, op2}
-use Rattle.sqlite.specs.Collation.TheVariants.{Binary}
+use Rattle.sqlite.specs.declared.types.Value.TheVariants.{Text}
+use Rattle.sqlite.specs.Term.{Term}
 use Rattle.sqlite.specs.Tree.{Trees}
 use Rattle.sqlite.specs.Edit.{IsNoIndex}
 use Rattle.sqlite.specs.Listing.{understood}
 use Rattle.sqlite_catalog.specs.Listing.{IsSound}
-use Rattle.sqlite_sql.specs.declared.ops.BinaryOp.TheVariants.{Compare}
-use Rattle.sqlite_sql.specs.declared.ops.CompareOp.TheVariants.{Eq}
 use Rattle.sqlite_value.specs.declared.keys.Key.{Key}
-use Rattle.sqlite_value.specs.Keys.{ascending}
 use Rattle.sqlite_tied.specs.Compute.{everything}
 use Rattle.kcr_history.specs.Views.{is_of_serial}
 use Rattle.kcr_rows.specs.Columns.{words}
@@ -30,14 +26,15 @@ use Rattle.kcr_tables.specs.Held.{safes_place, bags_place, items_place, ceremoni
 use Rattle.kcr_tables.specs.Held.{seatings_place, sheet_place, exceptions_place, versions_place, keys_place}
 use Rattle.kcr_tables.specs.Held.{stays_place, withdrawals_place}
 use Rattle.kcr_tables.specs.Parts.{text_in}
-use Rattle.kcr_tables.specs.Statements.{ShowsRows, PutsRow}
+use Rattle.kcr_tables.specs.Statements.{shown_columns, key_order, is_given, ShowsRows, new_terms, update_test}
+use Rattle.kcr_tables.specs.Statements.{update_terms, PutsRow}
 use Rattle.kcr_tables.specs.Table.{Table, IsTable, Finding, IsFinding}
 
 abbrev pub project : List Term
-project = col 1 1 ∷ col 1 2 ∷ []
+project = shown_columns bags_place
 
 abbrev order : List (Term × Key)
-order = (col 1 1, ascending Binary) ∷ []
+order = key_order bags_place
 
 abbrev pub names : List (List ℕ)
 names = codes "serial" ∷ codes "spot" ∷ []
@@ -58,7 +55,7 @@ one x y read held h = λ i. record { serial = text_in 0 (h i); spot = one_spot x
 
 lists : ShowsRows table.all_sql bags_place [] (λ _. true)
 unfolding understood everything
-lists = record { test = []; project = project; order = order; names = names; is = (refl, refl); bare = (refl, refl); shows = λ r. refl; tests = λ r. refl; sorts = λ a b. refl; low = refl }
+lists = record { test = []; project = project; order = order; names = names; bare = (refl, refl); is = refl }
 
 -- ---- the row of the bag with this serial, alone, or none
 
@@ -67,7 +64,8 @@ bag_of = record { is_under = λ serial x. is_of_serial serial x; column = 0; fin
 
 shows_bag_of : (serial : List ℕ) → ShowsRows bag_of.find_sql bags_place (Text serial ∷ []) (has_value 0 (Text serial))
 unfolding understood everything
-shows_bag_of serial = record { test = op2 (Compare Eq Binary) (col 1 1) (col 0 0) ∷ []; project = project; order = order; names = names; is = (refl, refl); bare = (refl, refl); shows = λ r. refl; tests = λ r. refl; sorts = λ a b. refl; low = refl }
+shows_bag_of serial =
+    record { test = is_given 1; project = project; order = order; names = names; bare = (refl, refl); is = refl }
 
 under_bag_of : (serial : List ℕ) (x : Bag) → has_value 0 (Text serial) (bag_row x) ≡ is_of_serial serial x
 under_bag_of serial x = value_is (Text x.serial) (Text serial) refl refl ∙ sym (text_ties x.serial serial)
@@ -87,22 +85,11 @@ puts = record {
   name = codes "bags";
   columns = words (codes "serial") ∷ words (codes "spot") ∷ [];
   others = [];
-  terms = lit Null ∷ col 0 0 ∷ col 0 1 ∷ [];
-  test = op2 (Compare Eq Binary) (col 1 0) (col 0 2) ∷ [];
-  sets = col 1 0 ∷ col 1 0 ∷ col 0 0 ∷ col 0 1 ∷ [];
-  here = refl;
-  alone = λ olds news. refl;
-  compares = λ a b. refl;
-  fulls = λ a. refl;
-  bare = (refl, refl);
-  given = λ x. refl;
+  terms = new_terms 2;
+  test = update_test 2;
+  sets = update_terms 2;
   casts = λ x i. Text x.serial ∷ Text (spot_text x.spot) ∷ [];
-  shown = λ x id. refl;
-  filled = λ x. refl;
-  tests = λ x entries there r. refl;
-  gives = λ x entries there r. refl;
-  low = refl;
-  shared = λ a b. refl;
+  bare = (refl, refl);
   is = refl;
 }
 

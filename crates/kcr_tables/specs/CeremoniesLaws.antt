@@ -2,18 +2,14 @@
 use Rattle.std.proofs.Common.{◌≡◌, ◌≢◌, ℕ, pos, List, [], ◌∷◌, map, codes, true, refl, sym, ap, ◌∙◌}
 use Rattle.std.specs.Bool.{⊤}
 use Rattle.std.specs.List.{AllByRecursion}
-use Rattle.sqlite.specs.declared.types.Value.TheVariants.{Null, Int, Text}
+use Rattle.sqlite.specs.declared.types.Value.TheVariants.{Int, Text}
 use Rattle.sqlite.specs.Order.{Row, column}
-use Rattle.sqlite.specs.Term.{Term, lit, col, op2}
-use Rattle.sqlite.specs.Collation.TheVariants.{Binary}
+use Rattle.sqlite.specs.Term.{Term}
 use Rattle.sqlite.specs.Tree.{Trees}
 use Rattle.sqlite.specs.Edit.{IsNoIndex}
 use Rattle.sqlite.specs.Listing.{understood}
 use Rattle.sqlite_catalog.specs.Listing.{IsSound}
-use Rattle.sqlite_sql.specs.declared.ops.BinaryOp.TheVariants.{Compare}
-use Rattle.sqlite_sql.specs.declared.ops.CompareOp.TheVariants.{Eq}
 use Rattle.sqlite_value.specs.declared.keys.Key.{Key}
-use Rattle.sqlite_value.specs.Keys.{ascending}
 use Rattle.sqlite_tied.specs.Compute.{everything}
 use Rattle.kcr_history.specs.Views.{is_of_number}
 use Rattle.kcr_rows.specs.Columns.{words, number, number_or_null}
@@ -33,14 +29,15 @@ use Rattle.kcr_tables.specs.Held.{safes_place, bags_place, items_place, ceremoni
 use Rattle.kcr_tables.specs.Held.{seatings_place, sheet_place, exceptions_place, versions_place, keys_place}
 use Rattle.kcr_tables.specs.Held.{stays_place, withdrawals_place}
 use Rattle.kcr_tables.specs.Parts.{text_in, number_in}
-use Rattle.kcr_tables.specs.Statements.{ShowsRows, PutsRow}
+use Rattle.kcr_tables.specs.Statements.{shown_columns, key_order, is_given, ShowsRows, new_terms, update_test}
+use Rattle.kcr_tables.specs.Statements.{update_terms, PutsRow}
 use Rattle.kcr_tables.specs.Table.{Table, IsTable, Finding, IsFinding}
 
 abbrev pub project : List Term
-project = col 1 1 ∷ col 1 2 ∷ col 1 3 ∷ col 1 4 ∷ col 1 5 ∷ col 1 6 ∷ []
+project = shown_columns ceremonies_place
 
 abbrev order : List (Term × Key)
-order = (col 1 1, ascending Binary) ∷ []
+order = key_order ceremonies_place
 
 abbrev pub names : List (List ℕ)
 names = codes "number" ∷ codes "facility" ∷ codes "day" ∷ codes "state" ∷ codes "opened" ∷ codes "closed" ∷ []
@@ -61,7 +58,7 @@ one x y read held h = λ i. record { number = number_in 0 (h i); facility = one_
 
 lists : ShowsRows table.all_sql ceremonies_place [] (λ _. true)
 unfolding understood everything
-lists = record { test = []; project = project; order = order; names = names; is = (refl, refl); bare = (refl, refl); shows = λ r. refl; tests = λ r. refl; sorts = λ a b. refl; low = refl }
+lists = record { test = []; project = project; order = order; names = names; bare = (refl, refl); is = refl }
 
 -- ---- the row of the ceremony with this number, alone, or none
 
@@ -71,7 +68,8 @@ ceremony_of = record { is_under = λ number x. is_of_number number x; column = 0
 shows_ceremony_of : (number : ℕ)
     → ShowsRows ceremony_of.find_sql ceremonies_place (Int (pos number) ∷ []) (has_value 0 (Int (pos number)))
 unfolding understood everything
-shows_ceremony_of number = record { test = op2 (Compare Eq Binary) (col 1 1) (col 0 0) ∷ []; project = project; order = order; names = names; is = (refl, refl); bare = (refl, refl); shows = λ r. refl; tests = λ r. refl; sorts = λ a b. refl; low = refl }
+shows_ceremony_of number =
+    record { test = is_given 1; project = project; order = order; names = names; bare = (refl, refl); is = refl }
 
 under_ceremony_of : (number : ℕ) (x : CeremonyRow)
     → has_value 0 (Int (pos number)) (ceremony_row x) ≡ is_of_number number x
@@ -94,23 +92,12 @@ puts = record {
   columns = number (codes "number") ∷ words (codes "facility") ∷ number (codes "day") ∷ number (codes "state")
       ∷ number_or_null (codes "opened") ∷ number_or_null (codes "closed") ∷ [];
   others = [];
-  terms = lit Null ∷ col 0 0 ∷ col 0 1 ∷ col 0 2 ∷ col 0 3 ∷ col 0 4 ∷ col 0 5 ∷ [];
-  test = op2 (Compare Eq Binary) (col 1 0) (col 0 6) ∷ [];
-  sets = col 1 0 ∷ col 1 0 ∷ col 0 0 ∷ col 0 1 ∷ col 0 2 ∷ col 0 3 ∷ col 0 4 ∷ col 0 5 ∷ [];
-  here = refl;
-  alone = λ olds news. refl;
-  compares = λ a b. refl;
-  fulls = λ a. refl;
-  bare = (refl, refl);
-  given = λ x. refl;
+  terms = new_terms 6;
+  test = update_test 6;
+  sets = update_terms 6;
   casts = λ x i. cast_int (pos x.number) i ∷ Text (facility_text x.facility) ∷ cast_int (pos x.day) i
       ∷ cast_int (pos (ceremony_number x.state)) i ∷ cast_or_null x.opened i ∷ cast_or_null x.closed i ∷ [];
-  shown = λ x id. refl;
-  filled = λ x. refl;
-  tests = λ x entries there r. refl;
-  gives = λ x entries there r. refl;
-  low = refl;
-  shared = λ a b. refl;
+  bare = (refl, refl);
   is = refl;
 }
 

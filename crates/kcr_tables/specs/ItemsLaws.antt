@@ -2,18 +2,14 @@
 use Rattle.std.proofs.Common.{◌≡◌, ◌≢◌, ℕ, List, [], ◌∷◌, map, codes, true, refl, sym, ap, ◌∙◌}
 use Rattle.std.specs.Bool.{⊤}
 use Rattle.std.specs.List.{AllByRecursion}
-use Rattle.sqlite.specs.declared.types.Value.TheVariants.{Null, Text}
+use Rattle.sqlite.specs.declared.types.Value.TheVariants.{Text}
 use Rattle.sqlite.specs.Order.{Row, column}
-use Rattle.sqlite.specs.Term.{Term, lit, col, op2}
-use Rattle.sqlite.specs.Collation.TheVariants.{Binary}
+use Rattle.sqlite.specs.Term.{Term}
 use Rattle.sqlite.specs.Tree.{Trees}
 use Rattle.sqlite.specs.Edit.{IsNoIndex}
 use Rattle.sqlite.specs.Listing.{understood}
 use Rattle.sqlite_catalog.specs.Listing.{IsSound}
-use Rattle.sqlite_sql.specs.declared.ops.BinaryOp.TheVariants.{Compare}
-use Rattle.sqlite_sql.specs.declared.ops.CompareOp.TheVariants.{Eq}
 use Rattle.sqlite_value.specs.declared.keys.Key.{Key}
-use Rattle.sqlite_value.specs.Keys.{ascending}
 use Rattle.sqlite_tied.specs.Compute.{everything}
 use Rattle.kcr_base.specs.Same.{same_text}
 use Rattle.kcr_history.specs.Views.{is_item_of}
@@ -32,14 +28,15 @@ use Rattle.kcr_tables.specs.Held.{safes_place, bags_place, items_place, ceremoni
 use Rattle.kcr_tables.specs.Held.{seatings_place, sheet_place, exceptions_place, versions_place, keys_place}
 use Rattle.kcr_tables.specs.Held.{stays_place, withdrawals_place}
 use Rattle.kcr_tables.specs.Parts.{text_in}
-use Rattle.kcr_tables.specs.Statements.{ShowsRows, PutsRow}
+use Rattle.kcr_tables.specs.Statements.{shown_columns, key_order, is_given, ShowsRows, new_terms, update_test}
+use Rattle.kcr_tables.specs.Statements.{update_terms, PutsRow}
 use Rattle.kcr_tables.specs.Table.{Table, IsTable, Finding, IsFinding}
 
 abbrev pub project : List Term
-project = col 1 1 ∷ col 1 2 ∷ col 1 3 ∷ []
+project = shown_columns items_place
 
 abbrev order : List (Term × Key)
-order = (col 1 1, ascending Binary) ∷ []
+order = key_order items_place
 
 abbrev pub names : List (List ℕ)
 names = codes "code" ∷ codes "facility" ∷ codes "serial" ∷ []
@@ -60,7 +57,7 @@ one x y read held h = λ i. record { code = text_in 0 (h i); rest = one_rest x.r
 
 lists : ShowsRows table.all_sql items_place [] (λ _. true)
 unfolding understood everything
-lists = record { test = []; project = project; order = order; names = names; is = (refl, refl); bare = (refl, refl); shows = λ r. refl; tests = λ r. refl; sorts = λ a b. refl; low = refl }
+lists = record { test = []; project = project; order = order; names = names; bare = (refl, refl); is = refl }
 
 -- ---- the row of the item with this code, alone, or none
 
@@ -69,7 +66,8 @@ item_of = record { is_under = λ code x. same_text x.code code; column = 0; find
 
 shows_item_of : (code : List ℕ) → ShowsRows item_of.find_sql items_place (Text code ∷ []) (has_value 0 (Text code))
 unfolding understood everything
-shows_item_of code = record { test = op2 (Compare Eq Binary) (col 1 1) (col 0 0) ∷ []; project = project; order = order; names = names; is = (refl, refl); bare = (refl, refl); shows = λ r. refl; tests = λ r. refl; sorts = λ a b. refl; low = refl }
+shows_item_of code =
+    record { test = is_given 1; project = project; order = order; names = names; bare = (refl, refl); is = refl }
 
 under_item_of : (code : List ℕ) (x : Item) → has_value 0 (Text code) (item_row x) ≡ same_text x.code code
 under_item_of code x = value_is (Text x.code) (Text code) refl refl ∙ sym (text_ties x.code code)
@@ -85,7 +83,8 @@ items_within = record { is_under = λ serial x. is_item_of (Wanted.Bag serial) x
 shows_items_within : (serial : List ℕ)
     → ShowsRows items_within.find_sql items_place (Text serial ∷ []) (has_value 2 (Text serial))
 unfolding understood everything
-shows_items_within serial = record { test = op2 (Compare Eq Binary) (col 1 3) (col 0 0) ∷ []; project = project; order = order; names = names; is = (refl, refl); bare = (refl, refl); shows = λ r. refl; tests = λ r. refl; sorts = λ a b. refl; low = refl }
+shows_items_within serial =
+    record { test = is_given 3; project = project; order = order; names = names; bare = (refl, refl); is = refl }
 
 under_items_within : (serial : List ℕ) (x : Item)
     → has_value 2 (Text serial) (item_row x) ≡ is_item_of (Wanted.Bag serial) x
@@ -106,22 +105,11 @@ puts = record {
   name = codes "items";
   columns = words (codes "code") ∷ words_or_null (codes "facility") ∷ words_or_null (codes "serial") ∷ [];
   others = (3 ∷ 1 ∷ []) ∷ [];
-  terms = lit Null ∷ col 0 0 ∷ col 0 1 ∷ col 0 2 ∷ [];
-  test = op2 (Compare Eq Binary) (col 1 0) (col 0 3) ∷ [];
-  sets = col 1 0 ∷ col 1 0 ∷ col 0 0 ∷ col 0 1 ∷ col 0 2 ∷ [];
-  here = refl;
-  alone = λ olds news. refl;
-  compares = λ a b. refl;
-  fulls = λ a. refl;
-  bare = (refl, refl);
-  given = λ x. refl;
+  terms = new_terms 3;
+  test = update_test 3;
+  sets = update_terms 3;
   casts = λ x i. Text x.code ∷ cast_loose x.rest i ∷ cast_within x.rest i ∷ [];
-  shown = λ x id. refl;
-  filled = λ x. refl;
-  tests = λ x entries there r. refl;
-  gives = λ x entries there r. refl;
-  low = refl;
-  shared = λ a b. refl;
+  bare = (refl, refl);
   is = refl;
 }
 

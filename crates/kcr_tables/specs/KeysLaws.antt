@@ -3,16 +3,12 @@ use Rattle.std.proofs.Common.{◌≡◌, ◌≢◌, ℕ, List, [], ◌∷◌, ma
 use Rattle.std.specs.Bool.{⊤}
 use Rattle.std.specs.List.{AllByRecursion}
 use Rattle.sqlite.specs.declared.types.Value.TheVariants.{Text}
-use Rattle.sqlite.specs.Term.{Term, col, op2}
-use Rattle.sqlite.specs.Collation.TheVariants.{Binary}
+use Rattle.sqlite.specs.Term.{Term}
 use Rattle.sqlite.specs.Tree.{Trees}
 use Rattle.sqlite.specs.Edit.{IsNoIndex}
 use Rattle.sqlite.specs.Listing.{understood}
 use Rattle.sqlite_catalog.specs.Listing.{IsSound}
-use Rattle.sqlite_sql.specs.declared.ops.BinaryOp.TheVariants.{Compare}
-use Rattle.sqlite_sql.specs.declared.ops.CompareOp.TheVariants.{Eq}
 use Rattle.sqlite_value.specs.declared.keys.Key.{Key}
-use Rattle.sqlite_value.specs.Keys.{ascending}
 use Rattle.sqlite_tied.specs.Compute.{everything}
 use Rattle.kcr_history.specs.Views.{is_of_key}
 use Rattle.kcr_rows.specs.Keyed.{Keeps}
@@ -27,14 +23,14 @@ use Rattle.kcr_tables.specs.Held.{safes_place, bags_place, items_place, ceremoni
 use Rattle.kcr_tables.specs.Held.{seatings_place, sheet_place, exceptions_place, versions_place, keys_place}
 use Rattle.kcr_tables.specs.Held.{stays_place, withdrawals_place}
 use Rattle.kcr_tables.specs.Parts.{text_in, number_in}
-use Rattle.kcr_tables.specs.Statements.{ShowsRows}
+use Rattle.kcr_tables.specs.Statements.{shown_columns, key_order, is_given, ShowsRows}
 use Rattle.kcr_tables.specs.Table.{Table, IsTable, Finding, IsFinding}
 
 abbrev pub project : List Term
-project = col 1 1 ∷ col 1 0 ∷ col 1 3 ∷ col 1 4 ∷ []
+project = shown_columns keys_place
 
 abbrev order : List (Term × Key)
-order = (col 1 1, ascending Binary) ∷ []
+order = key_order keys_place
 
 abbrev pub names : List (List ℕ)
 names = codes "key" ∷ codes "accepted" ∷ codes "command" ∷ codes "reply" ∷ []
@@ -55,7 +51,7 @@ one x y read held h = λ i. record { key = text_in 0 (h i); accepted = number_in
 
 lists : ShowsRows table.all_sql keys_place [] (λ _. true)
 unfolding understood everything
-lists = record { test = []; project = project; order = order; names = names; is = (refl, refl); bare = (refl, refl); shows = λ r. refl; tests = λ r. refl; sorts = λ a b. refl; low = refl }
+lists = record { test = []; project = project; order = order; names = names; bare = (refl, refl); is = refl }
 
 -- ---- the row of this key, alone, or none
 
@@ -64,7 +60,8 @@ key_row_of = record { is_under = λ key x. is_of_key key x; column = 0; find_sql
 
 shows_key_row_of : (key : List ℕ) → ShowsRows key_row_of.find_sql keys_place (Text key ∷ []) (has_value 0 (Text key))
 unfolding understood everything
-shows_key_row_of key = record { test = op2 (Compare Eq Binary) (col 1 1) (col 0 0) ∷ []; project = project; order = order; names = names; is = (refl, refl); bare = (refl, refl); shows = λ r. refl; tests = λ r. refl; sorts = λ a b. refl; low = refl }
+shows_key_row_of key =
+    record { test = is_given 1; project = project; order = order; names = names; bare = (refl, refl); is = refl }
 
 under_key_row_of : (key : List ℕ) (x : KeyRow) → has_value 0 (Text key) (key_row x) ≡ is_of_key key x
 under_key_row_of key x = value_is (Text x.key) (Text key) refl refl ∙ sym (text_ties x.key key)

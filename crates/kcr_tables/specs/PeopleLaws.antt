@@ -2,17 +2,13 @@
 use Rattle.std.proofs.Common.{◌≡◌, ◌≢◌, ℕ, List, [], ◌∷◌, map, codes, true, refl, sym, ◌∙◌}
 use Rattle.std.specs.Bool.{⊤}
 use Rattle.std.specs.List.{AllByRecursion}
-use Rattle.sqlite.specs.declared.types.Value.TheVariants.{Null, Text}
-use Rattle.sqlite.specs.Term.{Term, lit, col, op2}
-use Rattle.sqlite.specs.Collation.TheVariants.{Binary}
+use Rattle.sqlite.specs.declared.types.Value.TheVariants.{Text}
+use Rattle.sqlite.specs.Term.{Term}
 use Rattle.sqlite.specs.Tree.{Trees}
 use Rattle.sqlite.specs.Edit.{IsNoIndex}
 use Rattle.sqlite.specs.Listing.{understood}
 use Rattle.sqlite_catalog.specs.Listing.{IsSound}
-use Rattle.sqlite_sql.specs.declared.ops.BinaryOp.TheVariants.{Compare}
-use Rattle.sqlite_sql.specs.declared.ops.CompareOp.TheVariants.{Eq}
 use Rattle.sqlite_value.specs.declared.keys.Key.{Key}
-use Rattle.sqlite_value.specs.Keys.{ascending}
 use Rattle.sqlite_tied.specs.Compute.{everything}
 use Rattle.kcr_base.specs.Same.{same_text}
 use Rattle.kcr_rows.specs.Columns.{words}
@@ -28,14 +24,15 @@ use Rattle.kcr_tables.specs.Held.{safes_place, bags_place, items_place, ceremoni
 use Rattle.kcr_tables.specs.Held.{seatings_place, sheet_place, exceptions_place, versions_place, keys_place}
 use Rattle.kcr_tables.specs.Held.{stays_place, withdrawals_place}
 use Rattle.kcr_tables.specs.Parts.{text_in}
-use Rattle.kcr_tables.specs.Statements.{ShowsRows, PutsRow}
+use Rattle.kcr_tables.specs.Statements.{shown_columns, key_order, is_given, ShowsRows, new_terms, update_test}
+use Rattle.kcr_tables.specs.Statements.{update_terms, PutsRow}
 use Rattle.kcr_tables.specs.Table.{Table, IsTable, Finding, IsFinding}
 
 abbrev pub project : List Term
-project = col 1 1 ∷ col 1 2 ∷ []
+project = shown_columns people_place
 
 abbrev order : List (Term × Key)
-order = (col 1 1, ascending Binary) ∷ []
+order = key_order people_place
 
 abbrev pub names : List (List ℕ)
 names = codes "who" ∷ codes "name" ∷ []
@@ -56,7 +53,7 @@ one x y read held h = λ i. record { who = text_in 0 (h i); name = text_in 1 (h 
 
 lists : ShowsRows table.all_sql people_place [] (λ _. true)
 unfolding understood everything
-lists = record { test = []; project = project; order = order; names = names; is = (refl, refl); bare = (refl, refl); shows = λ r. refl; tests = λ r. refl; sorts = λ a b. refl; low = refl }
+lists = record { test = []; project = project; order = order; names = names; bare = (refl, refl); is = refl }
 
 -- ---- the row of the person with these initials, alone, or none
 
@@ -65,7 +62,8 @@ person_of = record { is_under = λ who x. same_text x.who who; column = 0; find_
 
 shows_person_of : (who : List ℕ) → ShowsRows person_of.find_sql people_place (Text who ∷ []) (has_value 0 (Text who))
 unfolding understood everything
-shows_person_of who = record { test = op2 (Compare Eq Binary) (col 1 1) (col 0 0) ∷ []; project = project; order = order; names = names; is = (refl, refl); bare = (refl, refl); shows = λ r. refl; tests = λ r. refl; sorts = λ a b. refl; low = refl }
+shows_person_of who =
+    record { test = is_given 1; project = project; order = order; names = names; bare = (refl, refl); is = refl }
 
 under_person_of : (who : List ℕ) (x : Person) → has_value 0 (Text who) (person_row x) ≡ same_text x.who who
 under_person_of who x = value_is (Text x.who) (Text who) refl refl ∙ sym (text_ties x.who who)
@@ -85,22 +83,11 @@ puts = record {
   name = codes "people";
   columns = words (codes "who") ∷ words (codes "name") ∷ [];
   others = [];
-  terms = lit Null ∷ col 0 0 ∷ col 0 1 ∷ [];
-  test = op2 (Compare Eq Binary) (col 1 0) (col 0 2) ∷ [];
-  sets = col 1 0 ∷ col 1 0 ∷ col 0 0 ∷ col 0 1 ∷ [];
-  here = refl;
-  alone = λ olds news. refl;
-  compares = λ a b. refl;
-  fulls = λ a. refl;
-  bare = (refl, refl);
-  given = λ x. refl;
+  terms = new_terms 2;
+  test = update_test 2;
+  sets = update_terms 2;
   casts = λ x i. Text x.who ∷ Text x.name ∷ [];
-  shown = λ x id. refl;
-  filled = λ x. refl;
-  tests = λ x entries there r. refl;
-  gives = λ x entries there r. refl;
-  low = refl;
-  shared = λ a b. refl;
+  bare = (refl, refl);
   is = refl;
 }
 

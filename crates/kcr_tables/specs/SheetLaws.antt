@@ -2,17 +2,13 @@
 use Rattle.std.proofs.Common.{◌≡◌, ◌≢◌, ℕ, pos, List, [], ◌∷◌, map, codes, true, refl, sym, ap, ◌∙◌, ◌==◌}
 use Rattle.std.specs.Bool.{⊤}
 use Rattle.std.specs.List.{AllByRecursion}
-use Rattle.sqlite.specs.declared.types.Value.TheVariants.{Null, Int, Text}
-use Rattle.sqlite.specs.Term.{Term, lit, col, op2}
-use Rattle.sqlite.specs.Collation.TheVariants.{Binary}
+use Rattle.sqlite.specs.declared.types.Value.TheVariants.{Int, Text}
+use Rattle.sqlite.specs.Term.{Term}
 use Rattle.sqlite.specs.Tree.{Trees}
 use Rattle.sqlite.specs.Edit.{IsNoIndex}
 use Rattle.sqlite.specs.Listing.{understood}
 use Rattle.sqlite_catalog.specs.Listing.{IsSound}
-use Rattle.sqlite_sql.specs.declared.ops.BinaryOp.TheVariants.{Compare}
-use Rattle.sqlite_sql.specs.declared.ops.CompareOp.TheVariants.{Eq}
 use Rattle.sqlite_value.specs.declared.keys.Key.{Key}
-use Rattle.sqlite_value.specs.Keys.{ascending}
 use Rattle.sqlite_tied.specs.Compute.{everything}
 use Rattle.kcr_rows.specs.Columns.{words, number}
 use Rattle.kcr_rows.specs.Keyed.{Keeps}
@@ -30,14 +26,15 @@ use Rattle.kcr_tables.specs.Held.{safes_place, bags_place, items_place, ceremoni
 use Rattle.kcr_tables.specs.Held.{seatings_place, sheet_place, exceptions_place, versions_place, keys_place}
 use Rattle.kcr_tables.specs.Held.{stays_place, withdrawals_place}
 use Rattle.kcr_tables.specs.Parts.{text_in, number_in}
-use Rattle.kcr_tables.specs.Statements.{ShowsRows, PutsRow}
+use Rattle.kcr_tables.specs.Statements.{shown_columns, key_order, is_given, ShowsRows, new_terms, update_test}
+use Rattle.kcr_tables.specs.Statements.{update_terms, PutsRow}
 use Rattle.kcr_tables.specs.Table.{Table, IsTable, Finding, IsFinding}
 
 abbrev pub project : List Term
-project = col 1 1 ∷ col 1 2 ∷ col 1 3 ∷ col 1 4 ∷ []
+project = shown_columns sheet_place
 
 abbrev order : List (Term × Key)
-order = (col 1 1, ascending Binary) ∷ (col 1 2, ascending Binary) ∷ []
+order = key_order sheet_place
 
 abbrev pub names : List (List ℕ)
 names = codes "who" ∷ codes "at" ∷ codes "ceremony" ∷ codes "way" ∷ []
@@ -58,7 +55,7 @@ one x y read held h = λ i. record { who = text_in 0 (h i); at = number_in 1 (h 
 
 lists : ShowsRows table.all_sql sheet_place [] (λ _. true)
 unfolding understood everything
-lists = record { test = []; project = project; order = order; names = names; is = (refl, refl); bare = (refl, refl); shows = λ r. refl; tests = λ r. refl; sorts = λ a b. refl; low = refl }
+lists = record { test = []; project = project; order = order; names = names; bare = (refl, refl); is = refl }
 
 -- ---- the rows of one ceremony
 
@@ -68,7 +65,8 @@ sheet_of = record { is_under = λ ceremony x. x.ceremony == ceremony; column = 2
 shows_sheet_of : (ceremony : ℕ)
     → ShowsRows sheet_of.find_sql sheet_place (Int (pos ceremony) ∷ []) (has_value 2 (Int (pos ceremony)))
 unfolding understood everything
-shows_sheet_of ceremony = record { test = op2 (Compare Eq Binary) (col 1 3) (col 0 0) ∷ []; project = project; order = order; names = names; is = (refl, refl); bare = (refl, refl); shows = λ r. refl; tests = λ r. refl; sorts = λ a b. refl; low = refl }
+shows_sheet_of ceremony =
+    record { test = is_given 3; project = project; order = order; names = names; bare = (refl, refl); is = refl }
 
 under_sheet_of : (ceremony : ℕ) (x : SheetRow) → has_value 2 (Int (pos ceremony)) (sheet_row x) ≡ x.ceremony == ceremony
 under_sheet_of ceremony x = value_is (Int (pos x.ceremony)) (Int (pos ceremony)) refl refl
@@ -89,23 +87,12 @@ puts = record {
   name = codes "sheet";
   columns = words (codes "who") ∷ number (codes "at") ∷ number (codes "ceremony") ∷ number (codes "way") ∷ [];
   others = [];
-  terms = lit Null ∷ col 0 0 ∷ col 0 1 ∷ col 0 2 ∷ col 0 3 ∷ [];
-  test = op2 (Compare Eq Binary) (col 1 0) (col 0 4) ∷ [];
-  sets = col 1 0 ∷ col 1 0 ∷ col 0 0 ∷ col 0 1 ∷ col 0 2 ∷ col 0 3 ∷ [];
-  here = refl;
-  alone = λ olds news. refl;
-  compares = λ a b. refl;
-  fulls = λ a. refl;
-  bare = (refl, refl);
-  given = λ x. refl;
+  terms = new_terms 4;
+  test = update_test 4;
+  sets = update_terms 4;
   casts = λ x i. Text x.who ∷ cast_int (pos x.at) i ∷ cast_int (pos x.ceremony) i ∷ cast_int (pos (way_number x.way)) i
       ∷ [];
-  shown = λ x id. refl;
-  filled = λ x. refl;
-  tests = λ x entries there r. refl;
-  gives = λ x entries there r. refl;
-  low = refl;
-  shared = λ a b. refl;
+  bare = (refl, refl);
   is = refl;
 }
 

@@ -1,18 +1,14 @@
 -- What the table steps proves of its texts, and of its place among the others.
 use Rattle.std.proofs.Common.{◌≡◌, ◌≢◌, ℕ, pos, List, [], ◌∷◌, map, codes, true, refl, sym, ap, ◌∙◌}
 use Rattle.std.specs.List.{AllByRecursion}
-use Rattle.sqlite.specs.declared.types.Value.TheVariants.{Null, Int, Text}
+use Rattle.sqlite.specs.declared.types.Value.TheVariants.{Int, Text}
 use Rattle.sqlite.specs.Order.{Row, column}
-use Rattle.sqlite.specs.Term.{Term, lit, col, op2}
-use Rattle.sqlite.specs.Collation.TheVariants.{Binary}
+use Rattle.sqlite.specs.Term.{Term}
 use Rattle.sqlite.specs.Tree.{Trees}
 use Rattle.sqlite.specs.Edit.{IsNoIndex}
 use Rattle.sqlite.specs.Listing.{understood}
 use Rattle.sqlite_catalog.specs.Listing.{IsSound}
-use Rattle.sqlite_sql.specs.declared.ops.BinaryOp.TheVariants.{Compare}
-use Rattle.sqlite_sql.specs.declared.ops.CompareOp.TheVariants.{Eq}
 use Rattle.sqlite_value.specs.declared.keys.Key.{Key}
-use Rattle.sqlite_value.specs.Keys.{ascending}
 use Rattle.sqlite_tied.specs.Compute.{everything}
 use Rattle.kcr_history.specs.Views.{is_step_of}
 use Rattle.kcr_rows.specs.Columns.{words, number, number_or_null}
@@ -33,14 +29,15 @@ use Rattle.kcr_tables.specs.Held.{safes_place, bags_place, items_place, ceremoni
 use Rattle.kcr_tables.specs.Held.{seatings_place, sheet_place, exceptions_place, versions_place, keys_place}
 use Rattle.kcr_tables.specs.Held.{stays_place, withdrawals_place}
 use Rattle.kcr_tables.specs.Parts.{text_in, number_in}
-use Rattle.kcr_tables.specs.Statements.{ShowsRows, PutsRow}
+use Rattle.kcr_tables.specs.Statements.{shown_columns, key_order, is_given, ShowsRows, new_terms, update_test}
+use Rattle.kcr_tables.specs.Statements.{update_terms, PutsRow}
 use Rattle.kcr_tables.specs.Table.{Table, IsTable, Finding, IsFinding}
 
 abbrev pub project : List Term
-project = col 1 1 ∷ col 1 2 ∷ col 1 3 ∷ col 1 4 ∷ col 1 5 ∷ col 1 6 ∷ []
+project = shown_columns steps_place
 
 abbrev order : List (Term × Key)
-order = (col 1 1, ascending Binary) ∷ (col 1 2, ascending Binary) ∷ []
+order = key_order steps_place
 
 abbrev pub names : List (List ℕ)
 names = codes "ceremony" ∷ codes "step" ∷ codes "activity" ∷ codes "seats" ∷ codes "state" ∷ codes "at" ∷ []
@@ -61,7 +58,7 @@ one x y read held h = λ i. record { ceremony = number_in 0 (h i); step = number
 
 lists : ShowsRows table.all_sql steps_place [] (λ _. true)
 unfolding understood everything
-lists = record { test = []; project = project; order = order; names = names; is = (refl, refl); bare = (refl, refl); shows = λ r. refl; tests = λ r. refl; sorts = λ a b. refl; low = refl }
+lists = record { test = []; project = project; order = order; names = names; bare = (refl, refl); is = refl }
 
 -- ---- the rows of one ceremony
 
@@ -71,7 +68,8 @@ steps_of = record { is_under = λ ceremony x. is_step_of ceremony x; column = 0;
 shows_steps_of : (ceremony : ℕ)
     → ShowsRows steps_of.find_sql steps_place (Int (pos ceremony) ∷ []) (has_value 0 (Int (pos ceremony)))
 unfolding understood everything
-shows_steps_of ceremony = record { test = op2 (Compare Eq Binary) (col 1 1) (col 0 0) ∷ []; project = project; order = order; names = names; is = (refl, refl); bare = (refl, refl); shows = λ r. refl; tests = λ r. refl; sorts = λ a b. refl; low = refl }
+shows_steps_of ceremony =
+    record { test = is_given 1; project = project; order = order; names = names; bare = (refl, refl); is = refl }
 
 under_steps_of : (ceremony : ℕ) (x : StepRow) → has_value 0 (Int (pos ceremony)) (step_row x) ≡ is_step_of ceremony x
 under_steps_of ceremony x = value_is (Int (pos x.ceremony)) (Int (pos ceremony)) refl refl
@@ -93,23 +91,12 @@ puts = record {
   columns = number (codes "ceremony") ∷ number (codes "step") ∷ words (codes "activity") ∷ words (codes "seats")
       ∷ number (codes "state") ∷ number_or_null (codes "at") ∷ [];
   others = [];
-  terms = lit Null ∷ col 0 0 ∷ col 0 1 ∷ col 0 2 ∷ col 0 3 ∷ col 0 4 ∷ col 0 5 ∷ [];
-  test = op2 (Compare Eq Binary) (col 1 0) (col 0 6) ∷ [];
-  sets = col 1 0 ∷ col 1 0 ∷ col 0 0 ∷ col 0 1 ∷ col 0 2 ∷ col 0 3 ∷ col 0 4 ∷ col 0 5 ∷ [];
-  here = refl;
-  alone = λ olds news. refl;
-  compares = λ a b. refl;
-  fulls = λ a. refl;
-  bare = (refl, refl);
-  given = λ x. refl;
+  terms = new_terms 6;
+  test = update_test 6;
+  sets = update_terms 6;
   casts = λ x i. cast_int (pos x.ceremony) i ∷ cast_int (pos x.step) i ∷ Text x.activity ∷ Text (written x.seats)
       ∷ cast_int (pos (step_number x.state)) i ∷ cast_or_null x.at i ∷ [];
-  shown = λ x id. refl;
-  filled = λ x. refl;
-  tests = λ x entries there r. refl;
-  gives = λ x entries there r. refl;
-  low = refl;
-  shared = λ a b. refl;
+  bare = (refl, refl);
   is = refl;
 }
 

@@ -2,17 +2,13 @@
 use Rattle.std.proofs.Common.{◌≡◌, ◌≢◌, ℕ, pos, List, [], ◌∷◌, map, codes, true, refl, sym, ap, ◌∙◌}
 use Rattle.std.specs.Bool.{⊤}
 use Rattle.std.specs.List.{AllByRecursion}
-use Rattle.sqlite.specs.declared.types.Value.TheVariants.{Null, Text}
-use Rattle.sqlite.specs.Term.{Term, lit, col, op2}
-use Rattle.sqlite.specs.Collation.TheVariants.{Binary}
+use Rattle.sqlite.specs.declared.types.Value.TheVariants.{Text}
+use Rattle.sqlite.specs.Term.{Term}
 use Rattle.sqlite.specs.Tree.{Trees}
 use Rattle.sqlite.specs.Edit.{IsNoIndex}
 use Rattle.sqlite.specs.Listing.{understood}
 use Rattle.sqlite_catalog.specs.Listing.{IsSound}
-use Rattle.sqlite_sql.specs.declared.ops.BinaryOp.TheVariants.{Compare}
-use Rattle.sqlite_sql.specs.declared.ops.CompareOp.TheVariants.{Eq}
 use Rattle.sqlite_value.specs.declared.keys.Key.{Key}
-use Rattle.sqlite_value.specs.Keys.{ascending}
 use Rattle.sqlite_tied.specs.Compute.{everything}
 use Rattle.kcr_history.specs.Views.{is_training_of}
 use Rattle.kcr_rows.specs.Columns.{words, number}
@@ -30,15 +26,15 @@ use Rattle.kcr_tables.specs.Held.{safes_place, bags_place, items_place, ceremoni
 use Rattle.kcr_tables.specs.Held.{seatings_place, sheet_place, exceptions_place, versions_place, keys_place}
 use Rattle.kcr_tables.specs.Held.{stays_place, withdrawals_place}
 use Rattle.kcr_tables.specs.Parts.{text_in, number_in}
-use Rattle.kcr_tables.specs.Statements.{ShowsRows, PutsRow}
+use Rattle.kcr_tables.specs.Statements.{shown_columns, key_order, is_given, ShowsRows, new_terms, update_test}
+use Rattle.kcr_tables.specs.Statements.{update_terms, PutsRow}
 use Rattle.kcr_tables.specs.Table.{Table, IsTable, Finding, IsFinding}
 
 abbrev pub project : List Term
-project = col 1 1 ∷ col 1 2 ∷ col 1 3 ∷ col 1 4 ∷ []
+project = shown_columns trainings_place
 
 abbrev order : List (Term × Key)
-order = (col 1 1, ascending Binary) ∷ (col 1 2, ascending Binary) ∷ (col 1 3, ascending Binary)
-    ∷ (col 1 4, ascending Binary) ∷ []
+order = key_order trainings_place
 
 abbrev pub names : List (List ℕ)
 names = codes "who" ∷ codes "role" ∷ codes "since" ∷ codes "until" ∷ []
@@ -59,7 +55,7 @@ one x y read held h = λ i. record { who = text_in 0 (h i); role = one_role x.ro
 
 lists : ShowsRows table.all_sql trainings_place [] (λ _. true)
 unfolding understood everything
-lists = record { test = []; project = project; order = order; names = names; is = (refl, refl); bare = (refl, refl); shows = λ r. refl; tests = λ r. refl; sorts = λ a b. refl; low = refl }
+lists = record { test = []; project = project; order = order; names = names; bare = (refl, refl); is = refl }
 
 -- ---- the rows of one person
 
@@ -69,7 +65,8 @@ trainings_of = record { is_under = λ who x. is_training_of who x; column = 0; f
 shows_trainings_of : (who : List ℕ)
     → ShowsRows trainings_of.find_sql trainings_place (Text who ∷ []) (has_value 0 (Text who))
 unfolding understood everything
-shows_trainings_of who = record { test = op2 (Compare Eq Binary) (col 1 1) (col 0 0) ∷ []; project = project; order = order; names = names; is = (refl, refl); bare = (refl, refl); shows = λ r. refl; tests = λ r. refl; sorts = λ a b. refl; low = refl }
+shows_trainings_of who =
+    record { test = is_given 1; project = project; order = order; names = names; bare = (refl, refl); is = refl }
 
 under_trainings_of : (who : List ℕ) (x : Training) → has_value 0 (Text who) (training_row x) ≡ is_training_of who x
 under_trainings_of who x = value_is (Text x.who) (Text who) refl refl ∙ sym (text_ties x.who who)
@@ -89,22 +86,11 @@ puts = record {
   name = codes "trainings";
   columns = words (codes "who") ∷ words (codes "role") ∷ number (codes "since") ∷ number (codes "until") ∷ [];
   others = [];
-  terms = lit Null ∷ col 0 0 ∷ col 0 1 ∷ col 0 2 ∷ col 0 3 ∷ [];
-  test = op2 (Compare Eq Binary) (col 1 0) (col 0 4) ∷ [];
-  sets = col 1 0 ∷ col 1 0 ∷ col 0 0 ∷ col 0 1 ∷ col 0 2 ∷ col 0 3 ∷ [];
-  here = refl;
-  alone = λ olds news. refl;
-  compares = λ a b. refl;
-  fulls = λ a. refl;
-  bare = (refl, refl);
-  given = λ x. refl;
+  terms = new_terms 4;
+  test = update_test 4;
+  sets = update_terms 4;
   casts = λ x i. Text x.who ∷ Text (role_text x.role) ∷ cast_int (pos x.since) i ∷ cast_int (pos x.until) i ∷ [];
-  shown = λ x id. refl;
-  filled = λ x. refl;
-  tests = λ x entries there r. refl;
-  gives = λ x entries there r. refl;
-  low = refl;
-  shared = λ a b. refl;
+  bare = (refl, refl);
   is = refl;
 }
 

@@ -3,17 +3,12 @@ use Rattle.std.proofs.Common.{◌≡◌, ◌≢◌, IsPermutation, ℕ, pos, Lis
 use Rattle.std.specs.Bool.{⊤}
 use Rattle.std.specs.List.{AllByRecursion}
 use Rattle.std.proofs.lemmas.List.Sorted.{IsPermutation-refl}
-use Rattle.sqlite.specs.declared.types.Value.TheVariants.{Null}
-use Rattle.sqlite.specs.Term.{Term, lit, col, op2}
-use Rattle.sqlite.specs.Collation.TheVariants.{Binary}
+use Rattle.sqlite.specs.Term.{Term}
 use Rattle.sqlite.specs.Tree.{Trees}
 use Rattle.sqlite.specs.Edit.{IsNoIndex}
 use Rattle.sqlite.specs.Listing.{understood}
 use Rattle.sqlite_catalog.specs.Listing.{IsSound}
-use Rattle.sqlite_sql.specs.declared.ops.BinaryOp.TheVariants.{Compare}
-use Rattle.sqlite_sql.specs.declared.ops.CompareOp.TheVariants.{Eq}
 use Rattle.sqlite_value.specs.declared.keys.Key.{Key}
-use Rattle.sqlite_value.specs.Keys.{ascending}
 use Rattle.sqlite_tied.specs.Compute.{everything}
 use Rattle.kcr_rows.specs.Columns.{number}
 use Rattle.kcr_rows.specs.Keyed.{Keeps}
@@ -28,14 +23,15 @@ use Rattle.kcr_tables.specs.Held.{seatings_place, sheet_place, exceptions_place,
 use Rattle.kcr_tables.specs.Held.{stays_place, withdrawals_place}
 use Rattle.kcr_tables.specs.First.{first_tables}
 use Rattle.kcr_tables.specs.Parts.{number_in}
-use Rattle.kcr_tables.specs.Statements.{ShowsRows, PutsRow}
+use Rattle.kcr_tables.specs.Statements.{shown_columns, key_order, ShowsRows, new_terms, update_test, update_terms}
+use Rattle.kcr_tables.specs.Statements.{PutsRow}
 use Rattle.kcr_tables.specs.Table.{Table, IsTable}
 
 abbrev pub project : List Term
-project = col 1 1 ∷ []
+project = shown_columns versions_place
 
 abbrev order : List (Term × Key)
-order = (col 1 1, ascending Binary) ∷ []
+order = key_order versions_place
 
 abbrev pub names : List (List ℕ)
 names = codes "number" ∷ []
@@ -56,7 +52,7 @@ one x y read held h = λ i. record { number = number_in 0 (h i) }
 
 lists : ShowsRows table.all_sql versions_place [] (λ _. true)
 unfolding understood everything
-lists = record { test = []; project = project; order = order; names = names; is = (refl, refl); bare = (refl, refl); shows = λ r. refl; tests = λ r. refl; sorts = λ a b. refl; low = refl }
+lists = record { test = []; project = project; order = order; names = names; bare = (refl, refl); is = refl }
 
 -- ---- a row put under its key
 
@@ -70,22 +66,11 @@ puts = record {
   name = codes "versions";
   columns = number (codes "number") ∷ [];
   others = [];
-  terms = lit Null ∷ col 0 0 ∷ [];
-  test = op2 (Compare Eq Binary) (col 1 0) (col 0 1) ∷ [];
-  sets = col 1 0 ∷ col 1 0 ∷ col 0 0 ∷ [];
-  here = refl;
-  alone = λ olds news. refl;
-  compares = λ a b. refl;
-  fulls = λ a. refl;
-  bare = (refl, refl);
-  given = λ x. refl;
+  terms = new_terms 1;
+  test = update_test 1;
+  sets = update_terms 1;
   casts = λ x i. cast_int (pos x.number) i ∷ [];
-  shown = λ x id. refl;
-  filled = λ x. refl;
-  tests = λ x entries there r. refl;
-  gives = λ x entries there r. refl;
-  low = refl;
-  shared = λ a b. refl;
+  bare = (refl, refl);
   is = refl;
 }
 
