@@ -150,7 +150,7 @@ use Rattle.kcr_tables.proofs.HoldLemmas.{held_of, tables_of}
         out += f"  {t.name} = elim c as (λ c. Rise {t.keys} {t.row_of} (changed c t).{t.name})\n      [ {t.change} row ↦ put_in_rising {t.keys} {t.row_of} row t.{t.name} r.{t.name} | _ ↦ r.{t.name} ];\n"
     out += "}\n\n-- one change: its table's rows are those of the machine, in another order\npub changed_stands : (c : Change) (m : machine.Tables) (t : Tables) → Rises t → Stands m t → Stands (changes.changed c m) (changed c t)\nchanged_stands c m t r s = record {\n"
     for t in puts:
-        put = f"put-stands {t.keys} {t.row_of} {t.same} key_of_{t.name} row m.{t.name} t.{t.name} r.{t.name} s.{t.name}"
+        put = f"put-stands {t.keys} {t.row_of} {t.same} key_of_{t.name} row _ _ r.{t.name} s.{t.name}"
         out += f"  {t.name} = elim c as (λ c. IsPermutation (changes.changed c m).{t.name} (changed c t).{t.name})\n      [ {t.change} row ↦ {put} | _ ↦ s.{t.name} ];\n"
     out += f"  versions = elim c as (λ c. (changed c t).versions ≡ first_tables.versions) [ {puts[0].change} row ↦ s.versions | _ ↦ s.versions ];\n}}\n"
     out += """

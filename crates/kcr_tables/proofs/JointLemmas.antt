@@ -205,49 +205,37 @@ changed_rises c t r = record {
 pub changed_stands : (c : Change) (m : machine.Tables) (t : Tables) → Rises t → Stands m t → Stands (changes.changed c m) (changed c t)
 changed_stands c m t r s = record {
   people = elim c as (λ c. IsPermutation (changes.changed c m).people (changed c t).people)
-      [ PutPerson row ↦ put-stands 1 person_row same_person key_of_people row m.people t.people r.people s.people | _ ↦ s.people ];
+      [ PutPerson row ↦ put-stands 1 person_row same_person key_of_people row _ _ r.people s.people | _ ↦ s.people ];
   trainings = elim c as (λ c. IsPermutation (changes.changed c m).trainings (changed c t).trainings)
-      [ PutTraining row ↦ put-stands 4 training_row same_training key_of_trainings row m.trainings t.trainings r.trainings s.trainings | _ ↦ s.trainings ];
-  appointments = elim c as (λ c. IsPermutation (changes.changed c m).appointments (changed c t).appointments) [
-    | PutAppointment row ↦ put-stands 2 appointment_row same_appointment key_of_appointments row m.appointments t.appointments r.appointments
-        s.appointments
-    | _ ↦ s.appointments
-  ];
+      [ PutTraining row ↦ put-stands 4 training_row same_training key_of_trainings row _ _ r.trainings s.trainings | _ ↦ s.trainings ];
+  appointments = elim c as (λ c. IsPermutation (changes.changed c m).appointments (changed c t).appointments)
+      [ PutAppointment row ↦ put-stands 2 appointment_row same_appointment key_of_appointments row _ _ r.appointments s.appointments | _ ↦ s.appointments ];
   boxes = elim c as (λ c. IsPermutation (changes.changed c m).boxes (changed c t).boxes)
-      [ PutBox row ↦ put-stands 2 box_row same_box key_of_boxes row m.boxes t.boxes r.boxes s.boxes | _ ↦ s.boxes ];
+      [ PutBox row ↦ put-stands 2 box_row same_box key_of_boxes row _ _ r.boxes s.boxes | _ ↦ s.boxes ];
   safes = elim c as (λ c. IsPermutation (changes.changed c m).safes (changed c t).safes)
-      [ PutSafe row ↦ put-stands 2 safe_row same_safe_row key_of_safes row m.safes t.safes r.safes s.safes | _ ↦ s.safes ];
+      [ PutSafe row ↦ put-stands 2 safe_row same_safe_row key_of_safes row _ _ r.safes s.safes | _ ↦ s.safes ];
   bags = elim c as (λ c. IsPermutation (changes.changed c m).bags (changed c t).bags)
-      [ PutBag row ↦ put-stands 1 bag_row same_bag key_of_bags row m.bags t.bags r.bags s.bags | _ ↦ s.bags ];
+      [ PutBag row ↦ put-stands 1 bag_row same_bag key_of_bags row _ _ r.bags s.bags | _ ↦ s.bags ];
   items = elim c as (λ c. IsPermutation (changes.changed c m).items (changed c t).items)
-      [ PutItem row ↦ put-stands 1 item_row same_item key_of_items row m.items t.items r.items s.items | _ ↦ s.items ];
-  ceremonies = elim c as (λ c. IsPermutation (changes.changed c m).ceremonies (changed c t).ceremonies) [
-    | PutCeremony row ↦ put-stands 1 ceremony_row same_ceremony key_of_ceremonies row m.ceremonies t.ceremonies r.ceremonies
-        s.ceremonies
-    | _ ↦ s.ceremonies
-  ];
+      [ PutItem row ↦ put-stands 1 item_row same_item key_of_items row _ _ r.items s.items | _ ↦ s.items ];
+  ceremonies = elim c as (λ c. IsPermutation (changes.changed c m).ceremonies (changed c t).ceremonies)
+      [ PutCeremony row ↦ put-stands 1 ceremony_row same_ceremony key_of_ceremonies row _ _ r.ceremonies s.ceremonies | _ ↦ s.ceremonies ];
   marks = elim c as (λ c. IsPermutation (changes.changed c m).marks (changed c t).marks)
-      [ PutMark row ↦ put-stands 1 mark_row same_mark key_of_marks row m.marks t.marks r.marks s.marks | _ ↦ s.marks ];
+      [ PutMark row ↦ put-stands 1 mark_row same_mark key_of_marks row _ _ r.marks s.marks | _ ↦ s.marks ];
   steps = elim c as (λ c. IsPermutation (changes.changed c m).steps (changed c t).steps)
-      [ PutStep row ↦ put-stands 2 step_row same_step key_of_steps row m.steps t.steps r.steps s.steps | _ ↦ s.steps ];
+      [ PutStep row ↦ put-stands 2 step_row same_step key_of_steps row _ _ r.steps s.steps | _ ↦ s.steps ];
   seatings = elim c as (λ c. IsPermutation (changes.changed c m).seatings (changed c t).seatings)
-      [ PutSeating row ↦ put-stands 3 seating_row same_seating key_of_seatings row m.seatings t.seatings r.seatings s.seatings | _ ↦ s.seatings ];
+      [ PutSeating row ↦ put-stands 3 seating_row same_seating key_of_seatings row _ _ r.seatings s.seatings | _ ↦ s.seatings ];
   sheet = elim c as (λ c. IsPermutation (changes.changed c m).sheet (changed c t).sheet)
-      [ PutSheet row ↦ put-stands 2 sheet_row same_sheet_row key_of_sheet row m.sheet t.sheet r.sheet s.sheet | _ ↦ s.sheet ];
-  exceptions = elim c as (λ c. IsPermutation (changes.changed c m).exceptions (changed c t).exceptions) [
-    | PutException row ↦ put-stands 2 exception_row same_exception key_of_exceptions row m.exceptions t.exceptions r.exceptions
-        s.exceptions
-    | _ ↦ s.exceptions
-  ];
+      [ PutSheet row ↦ put-stands 2 sheet_row same_sheet_row key_of_sheet row _ _ r.sheet s.sheet | _ ↦ s.sheet ];
+  exceptions = elim c as (λ c. IsPermutation (changes.changed c m).exceptions (changed c t).exceptions)
+      [ PutException row ↦ put-stands 2 exception_row same_exception key_of_exceptions row _ _ r.exceptions s.exceptions | _ ↦ s.exceptions ];
   keys = elim c as (λ c. IsPermutation (changes.changed c m).keys (changed c t).keys)
-      [ PutKey row ↦ put-stands 1 key_row same_key_row key_of_keys row m.keys t.keys r.keys s.keys | _ ↦ s.keys ];
+      [ PutKey row ↦ put-stands 1 key_row same_key_row key_of_keys row _ _ r.keys s.keys | _ ↦ s.keys ];
   stays = elim c as (λ c. IsPermutation (changes.changed c m).stays (changed c t).stays)
-      [ PutStay row ↦ put-stands 2 stay_row same_stay key_of_stays row m.stays t.stays r.stays s.stays | _ ↦ s.stays ];
-  withdrawals = elim c as (λ c. IsPermutation (changes.changed c m).withdrawals (changed c t).withdrawals) [
-    | PutWithdrawal row ↦ put-stands 4 withdrawal_row same_withdrawn key_of_withdrawals row m.withdrawals t.withdrawals r.withdrawals
-        s.withdrawals
-    | _ ↦ s.withdrawals
-  ];
+      [ PutStay row ↦ put-stands 2 stay_row same_stay key_of_stays row _ _ r.stays s.stays | _ ↦ s.stays ];
+  withdrawals = elim c as (λ c. IsPermutation (changes.changed c m).withdrawals (changed c t).withdrawals)
+      [ PutWithdrawal row ↦ put-stands 4 withdrawal_row same_withdrawn key_of_withdrawals row _ _ r.withdrawals s.withdrawals | _ ↦ s.withdrawals ];
   versions = elim c as (λ c. (changed c t).versions ≡ first_tables.versions) [ PutPerson row ↦ s.versions | _ ↦ s.versions ];
 }
 
