@@ -1,4 +1,5 @@
 """Writes what a table proves of its texts, and of its place among the others."""
+from table_layout import DEFINITIONS
 from table_list import TABLES
 from table_specs import uses
 from table_writer import write, codes, listed
@@ -208,7 +209,8 @@ use Rattle.kcr_base.specs.Place.{place_text}
     out += f"\nabbrev pub names : List (List ℕ)\nnames = {listed(codes(c.name) for c in cols)}\n"
     out += table(t)
     out += f"\n-- no two values stand for one row\npub one : (x y : {t.type}) → {read_of('x')} → {stored_of('y')} → {t.row_of} x ≡ {t.row_of} y → x ≡ y\n"
-    out += f"one x y read held h = λ i. {record(**fields)}\n"
+    one = f"one x y read held h = λ i. {record(**fields)}\n"
+    out += one if len(one) <= DEFINITIONS else f"one x y read held h = λ i. {lines(fields)}"
     out += f"\nlists : ShowsRows table.all_sql {t.place} [] (λ _. true)\nunfolding understood everything\nlists = {shows()}\n"
     for r in t.readings:
         if not r.greatest:

@@ -198,8 +198,14 @@ begins_later ceremony last =
 
 pub shows_later : (ceremony : ℕ) (last : Option Stay) → ShowsFirst later_text stays_place (later_params ceremony last) (begins_later ceremony last)
 unfolding understood everything
-shows_later ceremony last =
-    record { test = later_test; project = laws.project; order = (col 1 2, ascending Binary) ∷ (col 1 1, ascending Binary) ∷ []; names = laws.names; bare = (refl, refl); is = refl }
+shows_later ceremony last = record {
+  test = later_test;
+  project = laws.project;
+  order = (col 1 2, ascending Binary) ∷ (col 1 1, ascending Binary) ∷ [];
+  names = laws.names;
+  bare = (refl, refl);
+  is = refl;
+}
 
 passes_later : (ceremony : ℕ) (last : Option Stay) (x : Stay) → (begins_later ceremony last).passes (stay_row x) ≡ (is_of ceremony x && begins_after last x)
 unfolding binary

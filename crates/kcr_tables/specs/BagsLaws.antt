@@ -51,7 +51,10 @@ table = record {
 
 -- no two values stand for one row
 pub one : (x y : Bag) → HasBoxNumber x → HasBoxNumber y → bag_row x ≡ bag_row y → x ≡ y
-one x y read held h = λ i. record { serial = text_in 0 (h i); spot = one_spot x.spot y.spot read held (ap (text_in 1) h) i }
+one x y read held h = λ i. record {
+  serial = text_in 0 (h i);
+  spot = one_spot x.spot y.spot read held (ap (text_in 1) h) i;
+}
 
 lists : ShowsRows table.all_sql bags_place [] (λ _. true)
 unfolding understood everything

@@ -50,7 +50,11 @@ table = record {
 
 -- no two values stand for one row
 pub one : (x y : BoxRow) → ⊤ → ⊤ → box_row x ≡ box_row y → x ≡ y
-one x y read held h = λ i. record { facility = one_facility x.facility y.facility (ap (text_in 0) h) i; number = number_in 1 (h i); place = one_place x.place y.place (ap (text_in 2) h) i }
+one x y read held h = λ i. record {
+  facility = one_facility x.facility y.facility (ap (text_in 0) h) i;
+  number = number_in 1 (h i);
+  place = one_place x.place y.place (ap (text_in 2) h) i;
+}
 
 lists : ShowsRows table.all_sql boxes_place [] (λ _. true)
 unfolding understood everything

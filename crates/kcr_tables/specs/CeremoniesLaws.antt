@@ -54,7 +54,14 @@ table = record {
 
 -- no two values stand for one row
 pub one : (x y : CeremonyRow) → ⊤ → ⊤ → ceremony_row x ≡ ceremony_row y → x ≡ y
-one x y read held h = λ i. record { number = number_in 0 (h i); facility = one_facility x.facility y.facility (ap (text_in 1) h) i; day = number_in 2 (h i); state = one_ceremony_state x.state y.state (ap (number_in 3) h) i; opened = one_number x.opened y.opened (ap (λ (r : Row). column r 4) h) i; closed = one_number x.closed y.closed (ap (λ (r : Row). column r 5) h) i }
+one x y read held h = λ i. record {
+  number = number_in 0 (h i);
+  facility = one_facility x.facility y.facility (ap (text_in 1) h) i;
+  day = number_in 2 (h i);
+  state = one_ceremony_state x.state y.state (ap (number_in 3) h) i;
+  opened = one_number x.opened y.opened (ap (λ (r : Row). column r 4) h) i;
+  closed = one_number x.closed y.closed (ap (λ (r : Row). column r 5) h) i;
+}
 
 lists : ShowsRows table.all_sql ceremonies_place [] (λ _. true)
 unfolding understood everything

@@ -52,7 +52,13 @@ table = record {
 
 -- no two values stand for one row
 pub one : (x y : ExceptionRow) → ⊤ → ⊤ → exception_row x ≡ exception_row y → x ≡ y
-one x y read held h = λ i. record { ceremony = number_in 0 (h i); exception = number_in 1 (h i); text = text_in 2 (h i); at = number_in 3 (h i); passed = one_number x.passed y.passed (ap (λ (r : Row). column r 4) h) i }
+one x y read held h = λ i. record {
+  ceremony = number_in 0 (h i);
+  exception = number_in 1 (h i);
+  text = text_in 2 (h i);
+  at = number_in 3 (h i);
+  passed = one_number x.passed y.passed (ap (λ (r : Row). column r 4) h) i;
+}
 
 lists : ShowsRows table.all_sql exceptions_place [] (λ _. true)
 unfolding understood everything

@@ -22,7 +22,8 @@ Tells old new result Says = HasCleanDisk new → (t : Tables) → Holds old.now 
 
 -- of them as the machine has them
 abbrev pub TellsMachine : {A : Type 0} → State → State → Result A Refusal → (machine.Tables → A → Type 0) → Type 0
-TellsMachine old new result Says = HasCleanDisk new → (m : machine.Tables) → HoldsTables m old.now → IfOk result (Says m)
+TellsMachine old new result Says =
+    HasCleanDisk new → (m : machine.Tables) → HoldsTables m old.now → IfOk result (Says m)
 
 -- of the trees of a database that has the register's schema, whatever the rows in them are
 abbrev pub TellsExactly : {A : Type 0} → State → State → Result A Refusal → (Trees → A → Type 0) → Type 0

@@ -53,7 +53,10 @@ table = record {
 
 -- no two values stand for one row
 pub one : (x y : Item) → ⊤ → ⊤ → item_row x ≡ item_row y → x ≡ y
-one x y read held h = λ i. record { code = text_in 0 (h i); rest = one_rest x.rest y.rest (ap (λ (r : Row). column r 1) h) (ap (λ (r : Row). column r 2) h) i }
+one x y read held h = λ i. record {
+  code = text_in 0 (h i);
+  rest = one_rest x.rest y.rest (ap (λ (r : Row). column r 1) h) (ap (λ (r : Row). column r 2) h) i;
+}
 
 lists : ShowsRows table.all_sql items_place [] (λ _. true)
 unfolding understood everything

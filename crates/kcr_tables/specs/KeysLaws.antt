@@ -47,7 +47,12 @@ table = record {
 
 -- no two values stand for one row
 pub one : (x y : KeyRow) → ⊤ → ⊤ → key_row x ≡ key_row y → x ≡ y
-one x y read held h = λ i. record { key = text_in 0 (h i); accepted = number_in 1 (h i); command = text_in 2 (h i); reply = text_in 3 (h i) }
+one x y read held h = λ i. record {
+  key = text_in 0 (h i);
+  accepted = number_in 1 (h i);
+  command = text_in 2 (h i);
+  reply = text_in 3 (h i);
+}
 
 lists : ShowsRows table.all_sql keys_place [] (λ _. true)
 unfolding understood everything

@@ -52,7 +52,11 @@ table = record {
 
 -- no two values stand for one row
 pub one : (x y : SafeRow) → ⊤ → ⊤ → safe_row x ≡ safe_row y → x ≡ y
-one x y read held h = λ i. record { facility = one_facility x.facility y.facility (ap (text_in 0) h) i; safe = one_safe x.safe y.safe (ap (number_in 1) h) i; is_open = one_truth x.is_open y.is_open (ap (number_in 2) h) i }
+one x y read held h = λ i. record {
+  facility = one_facility x.facility y.facility (ap (text_in 0) h) i;
+  safe = one_safe x.safe y.safe (ap (number_in 1) h) i;
+  is_open = one_truth x.is_open y.is_open (ap (number_in 2) h) i;
+}
 
 lists : ShowsRows table.all_sql safes_place [] (λ _. true)
 unfolding understood everything

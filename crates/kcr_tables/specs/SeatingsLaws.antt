@@ -49,7 +49,12 @@ table = record {
 
 -- no two values stand for one row
 pub one : (x y : SeatingRow) → ⊤ → ⊤ → seating_row x ≡ seating_row y → x ≡ y
-one x y read held h = λ i. record { ceremony = number_in 0 (h i); step = number_in 1 (h i); seat = number_in 2 (h i); who = text_in 3 (h i) }
+one x y read held h = λ i. record {
+  ceremony = number_in 0 (h i);
+  step = number_in 1 (h i);
+  seat = number_in 2 (h i);
+  who = text_in 3 (h i);
+}
 
 lists : ShowsRows table.all_sql seatings_place [] (λ _. true)
 unfolding understood everything

@@ -51,7 +51,12 @@ table = record {
 
 -- no two values stand for one row
 pub one : (x y : SheetRow) → ⊤ → ⊤ → sheet_row x ≡ sheet_row y → x ≡ y
-one x y read held h = λ i. record { who = text_in 0 (h i); at = number_in 1 (h i); ceremony = number_in 2 (h i); way = one_way x.way y.way (ap (number_in 3) h) i }
+one x y read held h = λ i. record {
+  who = text_in 0 (h i);
+  at = number_in 1 (h i);
+  ceremony = number_in 2 (h i);
+  way = one_way x.way y.way (ap (number_in 3) h) i;
+}
 
 lists : ShowsRows table.all_sql sheet_place [] (λ _. true)
 unfolding understood everything

@@ -52,7 +52,12 @@ table = record {
 
 -- no two values stand for one row
 pub one : (x y : Stay) → ⊤ → ⊤ → stay_row x ≡ stay_row y → x ≡ y
-one x y read held h = λ i. record { who = text_in 0 (h i); since = number_in 1 (h i); ceremony = number_in 2 (h i); until = one_number x.until y.until (ap (λ (r : Row). column r 3) h) i }
+one x y read held h = λ i. record {
+  who = text_in 0 (h i);
+  since = number_in 1 (h i);
+  ceremony = number_in 2 (h i);
+  until = one_number x.until y.until (ap (λ (r : Row). column r 3) h) i;
+}
 
 lists : ShowsRows table.all_sql stays_place [] (λ _. true)
 unfolding understood everything

@@ -54,7 +54,14 @@ table = record {
 
 -- no two values stand for one row
 pub one : (x y : StepRow) → HasOnlyTheseSeats x → HasSeatsText y → step_row x ≡ step_row y → x ≡ y
-one x y read held h = λ i. record { ceremony = number_in 0 (h i); step = number_in 1 (h i); activity = text_in 2 (h i); seats = one_seats x.seats y.seats read held (ap (text_in 3) h) i; state = one_step_state x.state y.state (ap (number_in 4) h) i; at = one_number x.at y.at (ap (λ (r : Row). column r 5) h) i }
+one x y read held h = λ i. record {
+  ceremony = number_in 0 (h i);
+  step = number_in 1 (h i);
+  activity = text_in 2 (h i);
+  seats = one_seats x.seats y.seats read held (ap (text_in 3) h) i;
+  state = one_step_state x.state y.state (ap (number_in 4) h) i;
+  at = one_number x.at y.at (ap (λ (r : Row). column r 5) h) i;
+}
 
 lists : ShowsRows table.all_sql steps_place [] (λ _. true)
 unfolding understood everything

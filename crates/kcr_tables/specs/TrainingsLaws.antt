@@ -51,7 +51,12 @@ table = record {
 
 -- no two values stand for one row
 pub one : (x y : Training) → ⊤ → ⊤ → training_row x ≡ training_row y → x ≡ y
-one x y read held h = λ i. record { who = text_in 0 (h i); role = one_role x.role y.role (ap (text_in 1) h) i; since = number_in 2 (h i); until = number_in 3 (h i) }
+one x y read held h = λ i. record {
+  who = text_in 0 (h i);
+  role = one_role x.role y.role (ap (text_in 1) h) i;
+  since = number_in 2 (h i);
+  until = number_in 3 (h i);
+}
 
 lists : ShowsRows table.all_sql trainings_place [] (λ _. true)
 unfolding understood everything
