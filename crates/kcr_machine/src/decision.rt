@@ -84,7 +84,7 @@ fn decide_by_rows(alloc: Global, view: &View, command: &Command) -> Result<Verdi
 /// For every history A that the machine leads to, and in whose tables the key has no row: where the view holds the rows
 /// of the tables of A that the command asks for, in any order, and the number of its last command, the result is the
 /// machine's step from A, and the changes lead from the tables of A to those after it, up to the order of rows. The
-/// act's own refusals come in the order of their numbers, and 27 where 4,000,000,000 commands have been accepted. Want
+/// act's own refusals come in the order of their numbers, and 27 where 4,000,000,000 commands have been accepted. Out
 /// of memory (33) may be answered in place of all of these; it changes nothing. Over any other view there is some
 /// answer. A signature and an exception that passes a step record the first seating of the people in the room, or else
 /// are refused (32) with a least shortage.
