@@ -3,6 +3,7 @@ ghost use Rattle.std.specs.Prelude.{◌≡◌, ◌≤◌, ◌++◌, length, map,
 ghost use Rattle.std.specs.List.{list_any};
 ghost use Rattle.kcr_base.specs.Refuse.{unless};
 ghost use Rattle.kcr_custody.specs.Custody;
+ghost use Rattle.kcr_custody.specs.Custody.{Tests};
 ghost use Rattle.kcr_script.specs.Fault.{IfRow};
 ghost use Rattle.kcr_script.specs.Reading.{script_of};
 ghost use Rattle.kcr_history.specs.declared.commands.Act.TheVariants as Kinds;
@@ -53,23 +54,28 @@ fn is_busy(rows: &[CeremonyRow], row: CeremonyRow) -> bool
     rows.iter().any(|other| is_open_beside(row, *other))
 }
 
-/// Why the ceremony of the row is not opened.
-fn open_refusal(rows: &[CeremonyRow], full: bool, at: Moment, row: CeremonyRow) -> Option<Refusal>
-    ensures { result ≡ CeremonyRows.open_refusal rows.now full at row }
+/// The ceremony of the row may be opened: its day is there, it was never opened, and no other is open beside it.
+fn check_opening(
+    rows: &[CeremonyRow],
+    full: bool,
+    at: Moment,
+    row: CeremonyRow,
+) -> Result<(), Refusal>
+    ensures { Tests (CeremonyRows.open_refusal rows.now full at row) result }
 {
     if at.day() < row.day {
-        return Some(Refusal::Range);
+        return Err(Refusal::Range);
     }
     if row.opened.is_some() {
-        return Some(Refusal::State);
+        return Err(Refusal::State);
     }
     if is_busy(rows, row) {
-        return Some(Refusal::Busy);
+        return Err(Refusal::Busy);
     }
     if full {
-        return Some(Refusal::Full);
+        return Err(Refusal::Full);
     }
-    None
+    Ok(())
 }
 
 /// Opens a planned ceremony.
@@ -83,9 +89,7 @@ pub(crate) fn open(
     ensures { ComesTo view.now full (Kinds.Open ceremony at) result }
 {
     let row = known(view, ceremony)?;
-    if let Some(refusal) = open_refusal(&view.ceremonies, full, at, row) {
-        return Err(refusal);
-    }
+    check_opening(&view.ceremonies, full, at, row)?;
     let opened = CeremonyRow {
         state: CeremonyState::Open,
         opened: Some(at),
