@@ -5,7 +5,7 @@ use Rattle.sqlite.specs.Schema.{Schema}
 use Rattle.sqlite.specs.Effect.{Database}
 use Rattle.sqlite.proofs.ListingLemmas.{empty_is_sound}
 use Rattle.sqlite.specs.Start.{FindsIn}
-use Rattle.sqlite.specs.State.{State, Opens, HasCleanDisk, IsLive}
+use Rattle.sqlite.specs.State.{State, Opens, HasCleanDisk, IsLive, Survives}
 use Rattle.sqlite.specs.Store.{Ghosts}
 use Rattle.sqlite.specs.Tree.{Trees}
 use Rattle.sqlite.specs.Held.{Held, state}
@@ -21,6 +21,8 @@ use Rattle.kcr_store.specs.Stored.{Stores, IsTables}
 use Rattle.kcr_store.specs.Register.{Shows, IsWhole}
 use Rattle.sqlite_wal.specs.Recovery.{Image}
 use Rattle.kcr_store.specs.Opening.{IsBrought, IsFounded, IsHeld, IsHeldIn}
+use Rattle.kcr_store.specs.Frame.{StaysOutside}
+use Rattle.kcr_store.proofs.WholeLemmas.{begun_has, made_outside}
 
 -- how many tables there are in a database that looks like a register of this version
 counted : (version : ℕ) (s : Schema) → LooksLike version s → length s.tables ≡ length (take (14 + version) all_tables)
@@ -126,9 +128,19 @@ module _ {S : Type 0} (g : Ghosts S) (old begun : Held S) (is : begun ≡ record
 
 -- ---- a register of an older version, brought to this one
 
-pub brought_tables : {version : ℕ} {before : Database} (db : Database) → ((A : History) → StoresAs version A before → HoldsTables (tables A) db)
+brought_tables : {version : ℕ} {before : Database} (db : Database) → ((A : History) → StoresAs version A before → HoldsTables (tables A) db)
     → IsBrought version before db.trees
 brought_tables db holds = record { tables = λ A s. record { register = s.tables.register; kept = (holds A s).tables } }
+
+-- and a crash leaves what was there or such tables, whether the commit came or not
+pub renewed_outside : {S Known : Type 0} (g : Ghosts S) (old begun : Held S) → begun ≡ record old { in_transaction = true } → (mid : State)
+    → Survives (state g begun) mid (λ _. ⊥) → (version : ℕ)
+    → (HasCleanDisk mid → (A : History) → StoresAs version A (state g begun).now → Known × HoldsTables (tables A) mid.now)
+    → (end : Held S) → Survives mid (state g end) (λ db. db ≡ mid.now.trees) → end.in_transaction ≡ false
+    → StaysOutside g (IsBrought version (state g old).now) old end
+renewed_outside g old begun is mid within version brought end then out =
+    made_outside g old begun is mid within end (IsBrought version (state g old).now) then
+    (λ clean. brought_tables mid.now (λ A stored. (brought clean A (begun_has g old begun (StoresAs version A) is stored)).1)) out
 
 -- ---- what the files held is what the connection shows
 

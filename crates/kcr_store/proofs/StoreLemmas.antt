@@ -78,16 +78,20 @@ pub counts_after : (A : History) (x : Command) (answer : Option Answer) (count :
 counts_after A x None count is h = is
 counts_after A x (Some answer) count is h = numbers A (record { command = x; answer = answer }) h
 
--- a decision that answers, beside what else is known
-pub decides : (A : History) (x : Command) (P : Type 0) (r : Result Verdict Refusal) → IsDecision A x r → P → IfOk r (λ v. IsDecision A x (Ok v) × P)
-decides A x P (Ok v) d p = (d, p)
-decides A x P (Err e) d p = tt
+-- over the tables of each history it is the machine's decision, and the tables stay
+abbrev pub IsDecided : State → State → ℕ → Command → Result Verdict Refusal → Type 0
+IsDecided old new count x r = OfStored old new (λ A. count ≡ length A → IsDecision A x r × HoldsTables (tables A) new.now)
 
--- the refusal of a decision is the machine's
-pub refuses : (old new : State) (x : Command) (count : ℕ) (r : Result Verdict Refusal) → OfStored old new (λ A. count ≡ length A → IsDecision A x r)
-    → IfErr r (λ e. OfStored old new (λ A. count ≡ length A → Steps A x (Err e) A))
-refuses old new x count (Ok v) d = tt
-refuses old new x count (Err e) d = λ clean A had is. (refl, λ memory disk. d clean A had is memory)
+module _ (old new : State) (count : ℕ) (x : Command) where
+  pub decided : (r : Result Verdict Refusal) → IsDecided old new count x r
+      → OfStored old new (λ A. count ≡ length A → IfOk r (λ v. IsDecision A x (Ok v) × HoldsTables (tables A) new.now))
+  decided (Ok v) d = d
+  decided (Err e) d = λ clean A had is. tt
+
+  -- the refusal of a decision is the machine's
+  pub refused : (r : Result Verdict Refusal) → IsDecided old new count x r → IfErr r (λ e. OfStored old new (λ A. count ≡ length A → Steps A x (Err e) A))
+  refused (Ok v) d = tt
+  refused (Err e) d = λ clean A had is. (refl, λ memory disk. (d clean A had is).0 memory)
 
 -- out of memory and a fault of the device leave the history
 pub fault_steps : (A : History) (x : Command) (e : Refusal) → IsFault e → Steps A x (Err e) A

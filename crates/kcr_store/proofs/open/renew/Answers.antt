@@ -1,11 +1,9 @@
 use Rattle.std.proofs.Common.{◌+◌, rules}
-use Rattle.sqlite.specs.Held.{state}
-use Rattle.kcr_older.specs.Older.{HoldsUpTo, StoresAs}
+use Rattle.kcr_older.specs.Older.{HoldsUpTo}
 use Rattle.kcr_older.specs.Versions.{number_of}
 use Rattle.kcr_rows.proofs.InsideLemmas.{was_clean}
-use Rattle.kcr_store.specs.Opening.{IsBrought}
-use Rattle.kcr_store.proofs.OpenLemmas.{brought_tables}
-use Rattle.kcr_store.proofs.WholeLemmas.{begun_has, made_outside}
+use Rattle.kcr_store.proofs.OpenLemmas.{renewed_outside}
+use Rattle.kcr_store.proofs.WholeLemmas.{begun_has}
 use Rattle.kcr_store.proofs.open.renew.Goals as goal
 
 pub returns-in-Ok-clause-version : goal.returns-in-Ok-clause-version
@@ -23,19 +21,13 @@ returns-in-Ok-false-clause-version g c clean t held is =
 pub returns-in-Ok-clause-frame : goal.returns-in-Ok-clause-frame
 returns-in-Ok-clause-frame g c =
     let left =
-    made_outside g.S.Store c.args.conn.now _ c.transaction-tx.ensures.begun _ c.bring.ensures.frame.survives c.commit.new.self.0
-    (IsBrought (number_of c.args.from) (state g.S.Store c.args.conn.now).now)
-    c.commit.ensures.survives
-    (λ clean. brought_tables _ (λ A s. (c.in-Ok-true.ensures.brought clean A
-    (begun_has g.S.Store c.args.conn.now _ (StoresAs (number_of c.args.from) A) c.transaction-tx.ensures.begun s)).1)) c.commit.ensures.ended in
+    renewed_outside g.S.Store c.args.conn.now _ c.transaction-tx.ensures.begun _ c.bring.ensures.frame.survives (number_of c.args.from)
+    c.in-Ok-true.ensures.brought c.commit.new.self.0 c.commit.ensures.survives c.commit.ensures.ended in
     search rules
 
 pub returns-in-Err-commit-clause-frame : goal.returns-in-Err-commit-clause-frame
 returns-in-Err-commit-clause-frame g c =
     let left =
-    made_outside g.S.Store c.args.conn.now _ c.transaction-tx.ensures.begun _ c.bring.ensures.frame.survives c.commit.new.self.0
-    (IsBrought (number_of c.args.from) (state g.S.Store c.args.conn.now).now)
-    c.commit.ensures.survives
-    (λ clean. brought_tables _ (λ A s. (c.in-Ok-true.ensures.brought clean A
-    (begun_has g.S.Store c.args.conn.now _ (StoresAs (number_of c.args.from) A) c.transaction-tx.ensures.begun s)).1)) c.commit.ensures.ended in
+    renewed_outside g.S.Store c.args.conn.now _ c.transaction-tx.ensures.begun _ c.bring.ensures.frame.survives (number_of c.args.from)
+    c.in-Ok-true.ensures.brought c.commit.new.self.0 c.commit.ensures.survives c.commit.ensures.ended in
     search rules
