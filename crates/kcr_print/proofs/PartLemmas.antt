@@ -12,13 +12,14 @@ use Rattle.kcr_base.specs.declared.counted.Counted.{Counted}
 use Rattle.kcr_base.specs.declared.refusal.Refusal.{Refusal}
 use Rattle.kcr_history.specs.History.{History}
 use Rattle.kcr_history.specs.Tables as machine
-use Rattle.kcr_history.specs.Tables.{tables}
+use Rattle.kcr_history.specs.Tables.{ceremony_row, tables}
 use Rattle.kcr_tables.specs.Refusals.{IsFault}
 use Rattle.kcr_store.specs.Register.{Seen, IsKept}
-use Rattle.kcr_store.specs.Calls.{KeepsHistory, OfHistory}
-use Rattle.kcr_store.specs.Rows.{Begins}
+use Rattle.kcr_history.specs.declared.rows.CeremonyRow.{CeremonyRow}
+use Rattle.kcr_store.specs.Calls.{KeepsHistory, OfHistory, Peeks}
+use Rattle.kcr_store.specs.Rows.{Begins, IsRowOf, HasNoRow, MayHaveNoRow, IsNotPlanned, NamesCeremony}
 use Rattle.kcr_store.specs.declared.rows.Rows.{Rows}
-use Rattle.kcr_print.specs.Reports.{Stops, IsPrinted, Puts, TellsWrites}
+use Rattle.kcr_print.specs.Reports.{Stops, IsPrinted, Puts, PutsPlanned, TellsWrites}
 use Rattle.kcr_print.specs.Written.{Writes}
 use Rattle.kcr_print.specs.declared.fault.PrintFault.{PrintFault}
 use Rattle.kcr_print.specs.declared.fault.PrintFault.TheVariants.{Refused, Write}
@@ -38,11 +39,11 @@ cause_weaker M (Err e) h = stops_weaker M e h
 
 -- WHERE IT IS WHOLE
 
-pub on_ok : {T E : Type 0} (r : Result T E) (P : Type 0) → P → OnOk r P
+on_ok : {T E : Type 0} (r : Result T E) (P : Type 0) → P → OnOk r P
 on_ok (Ok v) P p = p
 on_ok (Err e) P p = tt
 
-pub not_ok : {T E : Type 0} (r : Result T E) (P : Type 0) → IsErr r → OnOk r P
+not_ok : {T E : Type 0} (r : Result T E) (P : Type 0) → IsErr r → OnOk r P
 not_ok (Ok v) P h = absurd (false≢true h)
 not_ok (Err e) P h = tt
 
@@ -52,11 +53,6 @@ printed_then : (D : Refusal → Type 0) (r : Result ⊤ PrintFault) (a b c : Opt
     → IsPrinted D (x ++ y) r a c
 printed_then D (Ok v) a b c x y p q = appends_both a b c x y p q
 printed_then D (Err e) a b c x y p q = (front_both a b c x y p q.0, q.1)
-
-printed_more : (D : Refusal → Type 0) (r : Result ⊤ PrintFault) (a b : Option (List ℕ)) (x y : List ℕ) → IsErr r → IsPrinted D x r a b
-    → IsPrinted D (x ++ y) r a b
-printed_more D (Ok v) a b x y h p = absurd (false≢true h)
-printed_more D (Err e) a b x y h p = (front_longer a b x y p.0, p.1)
 
 printed_weaker : (D : Refusal → Type 0) (r : Result ⊤ PrintFault) (a b : Option (List ℕ)) (x : List ℕ) → IsPrinted (λ _. ⊥) x r a b → IsPrinted D x r a b
 printed_weaker D (Ok v) a b x p = p
@@ -119,10 +115,13 @@ module _ {S W : Type 0} {g : Ghosts S} {contents : W → Option (List ℕ)} {D :
   puts_as printed cause p = record { printed = printed; cause = cause; keeps = p.keeps; clean = p.clean; kept = p.kept; told = p.told }
 
   -- a part that stops, and what would have followed
-  pub puts_more : {a b : Seen S} {x y : Counted W} {r : Result ⊤ PrintFault} {t : History → List ℕ} (u : History → List ℕ) → IsErr r
-      → Puts g contents a b x y r D M t → Puts g contents a b x y r D M (λ A. t A ++ u A)
-  puts_more {a} {r = r} {t} u h p =
-      puts_as (λ founded torn clean. printed_more (D a.accepted) r _ _ (t a.accepted) (u a.accepted) h (p.printed founded torn clean)) p.cause p
+  pub puts_more : {a b : Seen S} {x y : Counted W} {e : PrintFault} {t : History → List ℕ} (u : History → List ℕ)
+      → Puts g contents a b x y (Err e) D M t → Puts g contents a b x y (Err e) D M (λ A. t A ++ u A)
+  puts_more {a} {x = x} {y} {t = t} u p =
+      puts_as
+      (λ founded torn clean.
+      let front = p.printed founded torn clean in
+      (front_longer (contents (inner_of x)) (contents (inner_of y)) (t a.accepted) (u a.accepted) front.0, front.1)) p.cause p
 
   -- the error that is handed on
   pub puts_err : {a b : Seen S} {x y : Counted W} {t : History → List ℕ} (r : Result ⊤ PrintFault) (e : PrintFault) → IsErrAnd r (λ fault. fault ≡ e)
@@ -199,3 +198,44 @@ module _ {S W : Type 0} {g : Ghosts S} {contents : W → Option (List ℕ)} wher
       } in
       let from = subst (λ (s : Seen S). Puts g contents s ended x y r (λ _ _. ⊥) (λ _. ⊥) text) begins.same done in
       subst (λ (s : Seen S). Puts g contents old s x y r (λ _ _. ⊥) (λ _. ⊥) text) (sym ends) from
+
+  -- rows that a reading gives from its start at a ceremony, by what the report says of them
+  pub puts_reading : {D : History → Refusal → Type 0} {M : Refusal → Type 0} {a b : Seen S} {x y : Counted W} {r : Result ⊤ PrintFault} {Row : Type 0}
+      {to_come : machine.Tables → List Row} {number ceremony : ℕ} (lines : Row → List ℕ) (first : ℕ → machine.Tables → List Row)
+      (text : ℕ → History → List ℕ) → ((m : machine.Tables) → to_come m ≡ first number m) → number ≡ ceremony
+      → OfHistory g a b (λ A. flat_map lines (first number (tables A)) ≡ text number A)
+      → Puts g contents a b x y r (λ _ _. ⊥) (λ _. ⊥) (λ A. flat_map lines (to_come (tables A))) → Puts g contents a b x y r D M (text ceremony)
+  puts_reading {a = a} lines first text starts same is p =
+      let A = a.accepted in
+      puts_weaker (puts_text (text _) p
+      (λ founded torn clean. ap (flat_map lines) (starts (tables A)) ∙ is founded torn clean ∙ ap (λ k. text k A) same))
+
+  -- THE REPORT OF A CEREMONY
+
+  -- one that stops is not whole, so nothing is said of its ceremony
+  pub stops_planned : {a b : Seen S} {x y : Counted W} {report : History → ℕ → List ℕ} {ceremony : ℕ} (r : Result ⊤ PrintFault) {e : PrintFault}
+      → IsErr r → IsErrAnd r (λ fault. fault ≡ e)
+      → Puts g contents a b x y (Err e) (λ A. IsNotPlanned A ceremony) (NamesCeremony ceremony) (λ A. report A ceremony)
+      → PutsPlanned report ceremony g contents a b x y r
+  stops_planned r {e} err is p = record { puts = puts_err r e is p; planned = λ founded torn clean. not_ok r _ err }
+
+  -- one that is whole is of a ceremony whose row was read
+  pub ends_planned : {a c : Seen S} {x y : Counted W} {report : History → ℕ → List ℕ} {ceremony : ℕ} {r : Result ⊤ PrintFault} {row : CeremonyRow}
+      (b : Seen S) → OfHistory g a b (λ A. IsRowOf A ceremony row) → (HasCleanDisk (state g c.conn) → HasCleanDisk (state g b.conn))
+      → Puts g contents a c x y r (λ A. IsNotPlanned A ceremony) (NamesCeremony ceremony) (λ A. report A ceremony)
+      → PutsPlanned report ceremony g contents a c x y r
+  ends_planned {r = r} b row clean p = record { puts = p; planned = λ founded torn now. on_ok r _ (row founded torn (clean now)).planned }
+
+  -- the row of the ceremony was refused, and nothing was written
+  pub no_planned : {a b : Seen S} {x : Counted W} {ceremony : ℕ} {refusal : Refusal} {t : History → List ℕ}
+      → Peeks {A = CeremonyRow} g (MayHaveNoRow ceremony) a b (Err refusal) → OfHistory g a b (λ A. HasNoRow A ceremony refusal) → a.torn ≡ None
+      → Puts g contents a b x x (Err (Refused refusal)) (λ A. IsNotPlanned A ceremony) (NamesCeremony ceremony) t
+  no_planned peeks why whole = puts_nothing why (peeks.cause whole) peeks.same peeks.clean peeks.kept
+
+  -- the row of the ceremony was read, and what it says is written
+  pub row_line : {a b : Seen S} {x y : Counted W} {r : Result ⊤ PrintFault} {ceremony : ℕ} {row : CeremonyRow} (lines : CeremonyRow → List ℕ)
+      → Peeks g (MayHaveNoRow ceremony) a b (Ok row) → OfHistory g a b (λ A. IsRowOf A ceremony row)
+      → Writes r (contents (inner_of x)) (contents (inner_of y)) (lines row) → IfErr r (Stops (λ _. ⊥)) → TellsWrites x y r
+      → Puts g contents a b x y r (λ A. IsNotPlanned A ceremony) (NamesCeremony ceremony) (λ A. lines (ceremony_row A ceremony))
+  row_line {row = row} lines peeks is =
+      puts_line (lines row) (λ founded torn clean. ap lines (is founded torn clean).row_is) peeks.same peeks.clean peeks.kept

@@ -1,10 +1,18 @@
 -- Rows that are written one after the other.
 use Rattle.std.proofs.Common.{◌≡◌, ℕ, List, [], ◌∷◌, ◌++◌, refl, sym, ap, ◌∙◌, subst, append_assoc, append-nil}
-use Rattle.std.specs.Prelude.{Option, Result, Ok, Err, IsErr}
+use Rattle.std.specs.Prelude.{Option, Some, Result, Ok, Err, IsErr}
 use Rattle.std.specs.Io.KnownBytes.{Appends}
 use Rattle.std.specs.List.{flat_map}
 use Rattle.std.proofs.lemmas.Bool.{false≢true}
+use Rattle.sqlite.specs.Store.{Ghosts}
+use Rattle.kcr_history.specs.History.{History}
+use Rattle.kcr_history.specs.Tables as machine
+use Rattle.kcr_history.specs.Tables.{tables}
+use Rattle.kcr_reading.specs.ToCome.{Gives}
+use Rattle.kcr_store.specs.Register.{Seen}
+use Rattle.kcr_store.specs.Calls.{KeepsHistory, OfHistory}
 use Rattle.kcr_print.specs.Written.{Writes, WritesFront}
+use Rattle.kcr_print.proofs.PartLemmas.{of_kept}
 use Rattle.kcr_print.proofs.WrittenLemmas.{appends_both, appends_nothing, front_both, front_longer}
 
 -- some bytes were written of the whole, and these are left of it
@@ -47,3 +55,13 @@ goes_stop a b whole rest g =
 pub writes_err : {T E : Type 0} (r : Result T E) (a b : Option (List ℕ)) (whole : List ℕ) → IsErr r → WritesFront a b whole → Writes r a b whole
 writes_err (Ok v) a b whole h p = absurd (false≢true h)
 writes_err (Err e) a b whole h p = p
+
+-- the row that a call gave was the first of those to come, by the history that the calls before it kept
+pub row_given : {S R Row : Type 0} (g : Ghosts S) (to_come : R → machine.Tables → List Row) (a b c : Seen S)
+    {before after : R} {given : Option Row} {row : Row} → KeepsHistory a b
+    → OfHistory g b c (λ A. Gives (to_come before (tables A)) given (to_come after (tables A))) → given ≡ Some row
+    → OfHistory g a c (λ A. to_come before (tables A) ≡ row ∷ to_come after (tables A))
+row_given {Row = Row} g to_come a b c {before} {after} {given} keeps gives is founded torn clean =
+    let Says : History → Type 0 = λ A. Gives (to_come before (tables A)) given (to_come after (tables A)) in
+    subst (λ (o : Option Row). Gives (to_come before (tables a.accepted)) o (to_come after (tables a.accepted))) is
+    (of_kept g a b c Says keeps gives founded torn clean)

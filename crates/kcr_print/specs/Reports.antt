@@ -1,6 +1,6 @@
 -- What a call that writes a report leaves.
 use Rattle.std.specs.Prelude.{◌≡◌, ◌≢◌, ◌<◌, ◌⊎◌, ◌↔◌, ⊤, ℕ, List, Option, None, Result, Err, IfErr, MatchResult}
-use Rattle.std.specs.Prelude.{IsSome, unwrap_or}
+use Rattle.std.specs.Prelude.{IsSome, IsTrue, OnOk, unwrap_or}
 use Rattle.std.specs.Io.KnownBytes.{Appends}
 use Rattle.sqlite.specs.Store.{Ghosts}
 use Rattle.sqlite.specs.Held.{state}
@@ -9,10 +9,12 @@ use Rattle.kcr_base.specs.Counted.{inner_of, failures_of}
 use Rattle.kcr_base.specs.declared.counted.Counted.{Counted}
 use Rattle.kcr_base.specs.declared.refusal.Refusal.{Refusal}
 use Rattle.kcr_base.specs.declared.refusal.Refusal.TheVariants as Refusals
+use Rattle.kcr_history.specs.Ceremonies.{is_ceremony}
 use Rattle.kcr_history.specs.History.{History}
 use Rattle.kcr_tables.specs.Refusals.{IsFault}
 use Rattle.kcr_store.specs.Register.{Seen, IsKept}
 use Rattle.kcr_store.specs.Calls.{KeepsHistory, OfHistory}
+use Rattle.kcr_store.specs.Rows.{IsNotPlanned, NamesCeremony}
 use Rattle.kcr_print.specs.Written.{WritesFront}
 use Rattle.kcr_print.specs.declared.fault.PrintFault.{PrintFault}
 use Rattle.kcr_print.specs.declared.fault.PrintFault.TheVariants.{Refused, Write}
@@ -65,3 +67,24 @@ pub record Prints {S W : Type 0} (g : Ghosts S) (contents : W → Option (List �
   pub clean : HasCleanDisk (state g after.conn) → HasCleanDisk (state g before.conn)
   pub kept : IsKept g after
   pub told : TellsWrites old new result
+
+-- what is printed whole is of a ceremony that was planned
+abbrev pub IsOfPlanned : {S : Type 0} → Ghosts S → Seen S → Seen S → Result ⊤ PrintFault → ℕ → Type 0
+IsOfPlanned g before after result ceremony =
+    OfHistory g before after (λ A. OnOk result (IsTrue (is_ceremony A ceremony)))
+
+-- a part of the report of a ceremony: it is denied only where the ceremony was never planned
+pub record PutsPlanned {S W : Type 0} (report : History → ℕ → List ℕ) (ceremony : ℕ) (g : Ghosts S)
+    (contents : W → Option (List ℕ)) (before after : Seen S) (old new : Counted W)
+    (result : Result ⊤ PrintFault) : Type 0 where
+  pub puts : Puts g contents before after old new result
+      (λ A. IsNotPlanned A ceremony) (NamesCeremony ceremony) (λ A. report A ceremony)
+  pub planned : IsOfPlanned g before after result ceremony
+
+-- the report of a ceremony: it is denied only where the ceremony was never planned
+pub record PrintsPlanned {S W : Type 0} (report : History → ℕ → List ℕ) (ceremony : ℕ) (g : Ghosts S)
+    (contents : W → Option (List ℕ)) (before after : Seen S) (old new : Counted W)
+    (result : Result ⊤ PrintFault) : Type 0 where
+  pub prints : Prints g contents before after old new result
+      (λ A. IsNotPlanned A ceremony) (NamesCeremony ceremony) (λ A. report A ceremony)
+  pub planned : IsOfPlanned g before after result ceremony

@@ -1,14 +1,11 @@
 //! The parts of the reports. None of them breaks the register after a fault of the device.
 
-ghost use Rattle.std.specs.Prelude.{◌≡◌, IsTrue, OnOk, None};
+ghost use Rattle.std.specs.Prelude.{◌≡◌, None};
 ghost use Rattle.std.specs.List.{flat_map};
-ghost use Rattle.kcr_history.specs.Ceremonies.{is_ceremony};
 ghost use Rattle.kcr_history.specs.Prints as report;
 ghost use Rattle.kcr_history.specs.Tables.{tables};
 ghost use Rattle.kcr_store.specs.Register.{IsKept};
-ghost use Rattle.kcr_store.specs.Calls.{OfHistory};
-ghost use Rattle.kcr_store.specs.Rows.{IsNotPlanned, NamesCeremony};
-ghost use Rattle.kcr_print.specs.Reports.{Puts};
+ghost use Rattle.kcr_print.specs.Reports.{Puts, PutsPlanned};
 
 use crate::fault::PrintFault;
 use crate::printed::Printed;
@@ -49,9 +46,8 @@ pub(crate) fn put_script<S: Alter, W: Write>(
 ) -> Result<(), PrintFault>
     requires kept { IsKept S.Store register.old }
     requires whole { register.old.torn ≡ None }
-    ensures puts { Puts S.Store W.contents register.old register.new writer.old writer.new result
-        (λ A. IsNotPlanned A ceremony) (NamesCeremony ceremony) (λ A. report.annotated A ceremony) }
-    ensures planned { OfHistory S.Store register.old register.new (λ A. OnOk result (IsTrue (is_ceremony A ceremony))) }
+    ensures { PutsPlanned report.annotated ceremony S.Store W.contents register.old register.new writer.old writer.new
+        result }
 {
     let number = ceremony.get();
     let row = register.ceremony_row(ceremony)?;
@@ -70,9 +66,8 @@ pub(crate) fn put_attendance<S: Alter, W: Write>(
 ) -> Result<(), PrintFault>
     requires kept { IsKept S.Store register.old }
     requires whole { register.old.torn ≡ None }
-    ensures puts { Puts S.Store W.contents register.old register.new writer.old writer.new result
-        (λ A. IsNotPlanned A ceremony) (NamesCeremony ceremony) (λ A. report.attendance A ceremony) }
-    ensures planned { OfHistory S.Store register.old register.new (λ A. OnOk result (IsTrue (is_ceremony A ceremony))) }
+    ensures { PutsPlanned report.attendance ceremony S.Store W.contents register.old register.new writer.old writer.new
+        result }
 {
     let _planned = register.ceremony_row(ceremony)?;
     put_row(alloc, &Header, writer)?;

@@ -1,12 +1,9 @@
 //! The three reports.
 
-ghost use Rattle.std.specs.Prelude.{◌≡◌, IsTrue, OnOk};
-ghost use Rattle.kcr_history.specs.Ceremonies.{is_ceremony};
+ghost use Rattle.std.specs.Prelude.{◌≡◌};
 ghost use Rattle.kcr_history.specs.Prints as report;
 ghost use Rattle.kcr_store.specs.Register.{IsKept};
-ghost use Rattle.kcr_store.specs.Calls.{OfHistory};
-ghost use Rattle.kcr_store.specs.Rows.{IsNotPlanned, NamesCeremony};
-ghost use Rattle.kcr_print.specs.Reports.{Leaves, Prints};
+ghost use Rattle.kcr_print.specs.Reports.{Leaves, Prints, PrintsPlanned};
 
 use crate::fault::PrintFault;
 use crate::parts::{put_attendance, put_custody, put_script};
@@ -47,10 +44,8 @@ pub fn annotated<S: Alter, W: Write>(
     ceremony: CeremonyNumber,
     writer: &mut Counted<W>,
 ) -> Result<(), PrintFault>
-    ensures prints { Prints S.Store W.contents register.old register.new writer.old writer.new result
-        (λ A. IsNotPlanned A ceremony) (NamesCeremony ceremony) (λ A. report.annotated A ceremony) }
-    // What is printed whole is of a ceremony that was planned.
-    ensures planned { OfHistory S.Store register.old register.new (λ A. OnOk result (IsTrue (is_ceremony A ceremony))) }
+    ensures { PrintsPlanned report.annotated ceremony S.Store W.contents register.old register.new writer.old writer.new
+        result }
 {
     if register.is_broken() {
         return Err(PrintFault::Refused(Refusal::Broken));
@@ -67,10 +62,8 @@ pub fn attendance_csv<S: Alter, W: Write>(
     ceremony: CeremonyNumber,
     writer: &mut Counted<W>,
 ) -> Result<(), PrintFault>
-    ensures prints { Prints S.Store W.contents register.old register.new writer.old writer.new result
-        (λ A. IsNotPlanned A ceremony) (NamesCeremony ceremony) (λ A. report.attendance A ceremony) }
-    // What is printed whole is of a ceremony that was planned.
-    ensures planned { OfHistory S.Store register.old register.new (λ A. OnOk result (IsTrue (is_ceremony A ceremony))) }
+    ensures { PrintsPlanned report.attendance ceremony S.Store W.contents register.old register.new writer.old writer.new
+        result }
 {
     if register.is_broken() {
         return Err(PrintFault::Refused(Refusal::Broken));

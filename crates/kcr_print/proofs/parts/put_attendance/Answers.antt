@@ -1,52 +1,42 @@
-use Rattle.std.proofs.Common.{ℕ, List, refl, ap, ◌∙◌}
+use Rattle.std.proofs.Common.{ℕ, List}
 use Rattle.std.specs.List.{flat_map}
 use Rattle.kcr_room.specs.Stays.{stays_by, attendance_in_by}
 use Rattle.kcr_history.specs.History.{History}
 use Rattle.kcr_history.specs.Prints.{stay_line}
 use Rattle.kcr_history.specs.Room.{sheet}
-use Rattle.kcr_history.specs.Tables.{people, tables}
+use Rattle.kcr_history.specs.Tables.{people}
+use Rattle.kcr_reading.specs.ToCome.{named_stays}
 use Rattle.kcr_print.specs.Lines.{header_line, named_line}
 use Rattle.kcr_print.proofs.ReportLemmas.{register_attendance}
-use Rattle.kcr_print.proofs.PartLemmas.{on_ok, not_ok, puts_then, puts_more, puts_err, puts_weaker, puts_text, puts_line, puts_nothing}
+use Rattle.kcr_print.proofs.PartLemmas.{puts_then, puts_more, puts_reading, stops_planned, ends_planned, no_planned, row_line}
 use Rattle.kcr_print.proofs.parts.put_attendance.Goals as goal
-
-abbrev header : History → List ℕ
-header A = header_line
 
 abbrev stays : ℕ → History → List ℕ
 stays ceremony A = flat_map (stay_line (people A)) (attendance_in_by (stays_by (sheet A)) ceremony)
 
-pub returns-in_err-_planned-clause-puts : goal.returns-in_err-_planned-clause-puts
-returns-in_err-_planned-clause-puts g c =
+pub returns-in_err-_planned : goal.returns-in_err-_planned
+returns-in_err-_planned g c =
+    let fault = c.from_residual.ensures in
     let said = c.in_err-_planned.ensures in
-    puts_err _ _ c.from_residual.ensures.1 (puts_nothing said.row (said.peeks.cause c.requires.whole) said.peeks.same said.peeks.clean said.peeks.kept)
+    stops_planned _ fault.0 fault.1 (no_planned said.peeks said.row c.requires.whole)
 
-pub returns-in_err-put_row-clause-puts : goal.returns-in_err-put_row-clause-puts
-returns-in_err-put_row-clause-puts g c =
-    let n = c.args.ceremony in
+pub returns-in_err-put_row : goal.returns-in_err-put_row
+returns-in_err-put_row g c =
     let fault = c.from_residual-in_err-put_row.ensures in
     let row = c.in_ok-_planned.ensures in
     let said = c.in_err-put_row.ensures in
-    puts_more {t = header} (stays n) fault.0 (puts_err _ _ fault.1
-    (puts_line header_line (λ founded torn clean. refl) row.peeks.same row.peeks.clean row.peeks.kept said.written said.cause said.told))
+    stops_planned _ fault.0 fault.1
+    (puts_more (stays c.args.ceremony) (row_line (λ _. header_line) row.peeks row.row said.written said.cause said.told))
 
-pub returns-clause-puts : goal.returns-clause-puts
-returns-clause-puts g c =
-    let n = c.args.ceremony in
+pub returns : goal.returns
+returns g c =
     let row = c.in_ok-_planned.ensures in
-    let said = c.in_ok-put_row.ensures in
-    let before = c.ceremony_row.new.self in
-    puts_then {t = header} (puts_line header_line (λ founded torn clean. refl) row.peeks.same row.peeks.clean row.peeks.kept said.written said.cause said.told)
-    (puts_weaker (puts_text (stays n) c.put_all.ensures
-    (λ founded torn clean. ap (flat_map named_line) (c.start.ensures (tables before.accepted)) ∙ register_attendance g.S.Store before row.peeks.kept (g.met.S.Store.survives before.conn.store) founded torn
-    (c.put_all.ensures.clean clean) c.get.result ∙ ap (λ k. stays k before.accepted) c.get.ensures.value)))
-
-pub returns-in_err-_planned-clause-planned : goal.returns-in_err-_planned-clause-planned
-returns-in_err-_planned-clause-planned g c = λ founded torn clean. not_ok _ _ c.from_residual.ensures.0
-
-pub returns-in_err-put_row-clause-planned : goal.returns-in_err-put_row-clause-planned
-returns-in_err-put_row-clause-planned g c = λ founded torn clean. not_ok _ _ c.from_residual-in_err-put_row.ensures.0
-
-pub returns-clause-planned : goal.returns-clause-planned
-returns-clause-planned g c = λ founded torn clean.
-    on_ok c.put_all.result _ (c.in_ok-_planned.ensures.row founded torn (c.put_all.ensures.clean clean)).planned
+    let head = c.in_ok-put_row.ensures in
+    let read = c.ceremony_row.new.self in
+    let clean = c.put_all.ensures.clean in
+    ends_planned read row.row clean
+    (puts_then (row_line (λ _. header_line) row.peeks row.row head.written head.cause head.told)
+    (puts_reading named_line named_stays stays c.start.ensures c.get.ensures.value
+    (λ founded torn now.
+    register_attendance g.S.Store read row.peeks.kept (g.met.S.Store.survives read.conn.store) founded torn (clean now) c.get.result)
+    c.put_all.ensures))

@@ -21,17 +21,15 @@ loose_part A = flat_map loose_line (items_in_order A)
 
 pub returns-in_err-put_all : goal.returns-in_err-put_all
 returns-in_err-put_all g c =
-    let fault = c.from_residual.ensures in
     let safes = puts_text safe_part c.in_err-put_all.ensures (λ _ _ _. ap (flat_map safe_line) (c.start.ensures (tables c.args.register.now.accepted))) in
-    puts_more _ fault.0 (puts_more _ fault.0 (puts_err _ _ fault.1 safes))
+    puts_err _ _ c.from_residual.ensures.1 (puts_more loose_part (puts_more bag_part safes))
 
 pub returns-in_err-put_all-2 : goal.returns-in_err-put_all-2
 returns-in_err-put_all-2 g c =
-    let fault = c.from_residual-in_err-put_all-2.ensures in
     let A = c.put_all.new.register.accepted in
     let safes = puts_text safe_part c.in_ok-put_all.ensures (λ _ _ _. ap (flat_map safe_line) (c.start.ensures (tables c.args.register.now.accepted))) in
     let bags = puts_text bag_part c.in_err-put_all-2.ensures (λ _ _ _. ap (flat_map packed_lines) (c.start-2.ensures (tables A)) ∙ bags_text A) in
-    puts_more _ fault.0 (puts_err _ _ fault.1 (puts_then safes bags))
+    puts_err _ _ c.from_residual-in_err-put_all-2.ensures.1 (puts_more loose_part (puts_then safes bags))
 
 pub returns : goal.returns
 returns g c =

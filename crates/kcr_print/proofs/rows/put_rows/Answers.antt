@@ -1,9 +1,6 @@
 use Rattle.std.proofs.Common.{refl, ◌∙◌}
-use Rattle.kcr_history.specs.History.{History}
-use Rattle.kcr_history.specs.Tables.{tables}
-use Rattle.kcr_reading.specs.ToCome.{Gives}
-use Rattle.kcr_print.proofs.PartLemmas.{keeps_refl, keeps_both, of_kept}
-use Rattle.kcr_print.proofs.RowLemmas.{goes_start, goes_more, goes_front, goes_stop, writes_err}
+use Rattle.kcr_print.proofs.PartLemmas.{keeps_refl, keeps_both}
+use Rattle.kcr_print.proofs.RowLemmas.{goes_start, goes_more, goes_front, goes_stop, row_given, writes_err}
 use Rattle.kcr_print.proofs.rows.put_rows.Goals as goal
 
 pub loop-init : goal.loop-init
@@ -23,11 +20,8 @@ returns-in_err-row-clause-written g c = λ founded torn clean.
 pub returns-in_err-put_row-clause-written : goal.returns-in_err-put_row-clause-written
 returns-in_err-put_row-clause-written g c = λ founded torn clean.
     let goes = c.loop.invariant.goes founded torn (c.next.ensures.peeks.clean clean) in
-    let Says : History → Type 0 = λ A. Gives (g.R.Reading.to_come c.loop.rows.reading (tables A)) c.in_ok-row.field-0
-    (g.R.Reading.to_come c.next.new.self.reading (tables A)) in
-    let found = of_kept g.S.Store c.args.rows.now.register.now c.loop.rows.register.now c.next.new.self.register.now Says c.loop.invariant.keeps
-    c.in_ok-row.ensures.gives founded torn clean in
-    let is = rw c.in-Some.is at found in
+    let is = row_given g.S.Store g.R.Reading.to_come c.args.rows.now.register.now c.loop.rows.register.now c.next.new.self.register.now
+    c.loop.invariant.keeps c.in_ok-row.ensures.gives c.in-Some.is founded torn clean in
     writes_err _ _ _ _ c.from_residual-in_err-put_row.ensures.0
     (goes_front g.P.Printed.lines _ _ _ _ _ _ c.in-Some.row goes is c.in_err-put_row.ensures.written)
 
@@ -36,11 +30,8 @@ loop-preserved g c = record {
   same_reference = c.next.ensures.same_reference ∙ c.loop.invariant.same_reference;
   goes = λ founded torn clean.
       let goes = c.loop.invariant.goes founded torn (c.next.ensures.peeks.clean clean) in
-      let Says : History → Type 0 = λ A. Gives (g.R.Reading.to_come c.loop.rows.reading (tables A)) c.in_ok-row.field-0
-      (g.R.Reading.to_come c.next.new.self.reading (tables A)) in
-      let found = of_kept g.S.Store c.args.rows.now.register.now c.loop.rows.register.now c.next.new.self.register.now Says c.loop.invariant.keeps
-      c.in_ok-row.ensures.gives founded torn clean in
-      let is = rw c.in-Some.is at found in
+      let is = row_given g.S.Store g.R.Reading.to_come c.args.rows.now.register.now c.loop.rows.register.now c.next.new.self.register.now
+      c.loop.invariant.keeps c.in_ok-row.ensures.gives c.in-Some.is founded torn clean in
       goes_more g.P.Printed.lines _ _ _ _ _ _ c.in-Some.row goes is c.in_ok-put_row.ensures.written;
   keeps = keeps_both _ _ _ c.loop.invariant.keeps c.next.ensures.peeks.same;
   clean = λ h. c.loop.invariant.clean (c.next.ensures.peeks.clean h);
