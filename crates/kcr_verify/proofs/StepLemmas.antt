@@ -9,7 +9,10 @@ use Rattle.kcr_base.specs.declared.refusal.Refusal.{Refusal}
 use Rattle.kcr_base.specs.declared.refusal.Refusal.TheVariants.{Memory, Disk}
 use Rattle.kcr_history.specs.History.{History}
 use Rattle.kcr_history.specs.Machine.{IsRegister, machine, Accepts, Refuses}
-use Rattle.kcr_history.specs.Texts.{answer_text}
+use Rattle.kcr_forms.specs.Acts.{IsAct}
+use Rattle.kcr_history.specs.Tables.{key_row}
+use Rattle.kcr_history.specs.Texts.{answer_text, command_text}
+use Rattle.kcr_history.specs.declared.rows.KeyRow.{KeyRow}
 use Rattle.kcr_history.specs.declared.commands.Act.{Act}
 use Rattle.kcr_history.specs.declared.commands.Answer.{Answer}
 use Rattle.kcr_history.specs.declared.commands.Command.{Command}
@@ -27,8 +30,17 @@ pub there : {X : Type 0} (o : Option X) (x : X) → o ≡ Some x → o ≡ None 
 there o x is none = let both : Some x ≡ None = sym is ∙ none in cc
 
 -- a command by its parts
-pub by_parts : (key : List ℕ) (act : Act) (command : Command) → key ≡ command.key → act ≡ command.act → record { key = key; act = act } ≡ command
+by_parts : (key : List ℕ) (act : Act) (command : Command) → key ≡ command.key → act ≡ command.act → record { key = key; act = act } ≡ command
 by_parts key act command p q = ap₂ (λ (k : List ℕ) (a : Act). let c : Command = record { key = k; act = a } in c) p q
+
+-- the command that was read again of an entry's row is the entry's
+pub read_again : {found : Option Act} {text : List ℕ} {act : Act} (row : KeyRow) (entry : Entry) → IsAct entry.command.act → row ≡ key_row entry
+    → text ≡ row.command → ((told : Act) → IsAct told → command_text told ≡ text → found ≡ Some told) → found ≡ Some act
+    → record { key = row.key; act = act } ≡ entry.command
+read_again {found} {text} {act} row entry values is bytes only read =
+    let told : found ≡ Some entry.command.act = only entry.command.act values (sym (ap (λ (r : KeyRow). r.command) is) ∙ sym bytes) in
+    let same : act ≡ entry.command.act = cc in
+    by_parts row.key act entry.command (ap (λ (r : KeyRow). r.key) is) same
 
 -- what the law of answers says
 abbrev pub IsFixed : Type 0

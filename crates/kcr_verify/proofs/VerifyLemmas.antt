@@ -115,20 +115,38 @@ abbrev pub other_tables : List Table
 other_tables = People ∷ Trainings ∷ Withdrawals ∷ Appointments ∷ Boxes ∷ Safes ∷ Bags ∷ Items ∷ Ceremonies ∷ Marks ∷ Steps ∷ Seatings ∷ Sheet ∷ Stays
     ∷ Exceptions ∷ []
 
+-- in each name below are the facts of that table and of those behind it
 pub at_each : (P : Table → Type 0) → P Keys → AllByRecursion P other_tables → (table : Table) → P table
-at_each P keys h People = h.0
-at_each P keys h Trainings = h.1.0
-at_each P keys h Withdrawals = h.1.1.0
-at_each P keys h Appointments = h.1.1.1.0
-at_each P keys h Boxes = h.1.1.1.1.0
-at_each P keys h Safes = h.1.1.1.1.1.0
-at_each P keys h Bags = h.1.1.1.1.1.1.0
-at_each P keys h Items = h.1.1.1.1.1.1.1.0
-at_each P keys h Ceremonies = h.1.1.1.1.1.1.1.1.0
-at_each P keys h Marks = h.1.1.1.1.1.1.1.1.1.0
-at_each P keys h Steps = h.1.1.1.1.1.1.1.1.1.1.0
-at_each P keys h Seatings = h.1.1.1.1.1.1.1.1.1.1.1.0
-at_each P keys h Sheet = h.1.1.1.1.1.1.1.1.1.1.1.1.0
-at_each P keys h Stays = h.1.1.1.1.1.1.1.1.1.1.1.1.1.0
-at_each P keys h Exceptions = h.1.1.1.1.1.1.1.1.1.1.1.1.1.1.0
-at_each P keys h Keys = keys
+at_each P keys people table =
+    let trainings = people.1 in
+    let withdrawals = trainings.1 in
+    let appointments = withdrawals.1 in
+    let boxes = appointments.1 in
+    let safes = boxes.1 in
+    let bags = safes.1 in
+    let items = bags.1 in
+    let ceremonies = items.1 in
+    let marks = ceremonies.1 in
+    let steps = marks.1 in
+    let seatings = steps.1 in
+    let sheet = seatings.1 in
+    let stays = sheet.1 in
+    let exceptions = stays.1 in
+    elim table as P [
+      | People ↦ people.0
+      | Trainings ↦ trainings.0
+      | Withdrawals ↦ withdrawals.0
+      | Appointments ↦ appointments.0
+      | Boxes ↦ boxes.0
+      | Safes ↦ safes.0
+      | Bags ↦ bags.0
+      | Items ↦ items.0
+      | Ceremonies ↦ ceremonies.0
+      | Marks ↦ marks.0
+      | Steps ↦ steps.0
+      | Seatings ↦ seatings.0
+      | Sheet ↦ sheet.0
+      | Stays ↦ stays.0
+      | Exceptions ↦ exceptions.0
+      | Keys ↦ keys
+    ]

@@ -8,7 +8,8 @@ use Rattle.kcr_verify.proofs.compare.has_commands.Goals as goal
 
 pub returns-clause-register : goal.returns-clause-register
 returns-clause-register g c clean =
-    subst IsRegister (sym c.in_ok-commands.ensures.looks.same) (c.in_ok-commands.ensures.shown (rw c.requires.intact.founded refl) c.requires.intact.torn clean).0
+    subst IsRegister (sym c.in_ok-commands.ensures.looks.same)
+    (c.in_ok-commands.ensures.shown (rw c.requires.intact.founded refl) c.requires.intact.torn clean).0
 
 pub returns-clause-are : goal.returns-clause-are
 returns-clause-are g c clean =
