@@ -4,6 +4,7 @@ pub mod QuietLemmas
 pub mod HeadLemmas
 pub mod FoundLemmas
 pub mod WaitingLemmas
+pub mod TakingLemmas
 pub mod TurnLemmas
 pub mod ServeLemmas
 pub mod CutLemmas

@@ -1,7 +1,8 @@
 -- What one turn of the desk found and answered.
-use Rattle.std.specs.Prelude.{◌≡◌, ℕ, ◌+◌, List, ◌++◌, Option, Some, slice_range}
+use Rattle.std.specs.Prelude.{◌≡◌, ℕ, ◌+◌, List, ◌++◌, Option, Some, Result, MatchResult, slice_range}
 use Rattle.httparse.specs.Spans.{span_bytes}
 use Rattle.httparse.specs.declared.spans.RequestSpans.{RequestSpans}
+use Rattle.kcr_desk.specs.declared.fault.DeskFault.{DeskFault}
 use Rattle.kcr_desk.specs.declared.head.Plan.{Plan}
 use Rattle.kcr_desk.specs.declared.stream.Turn.{Turn}
 use Rattle.kcr_desk.specs.declared.stream.Turn.TheVariants.{Message, Ended}
@@ -24,6 +25,13 @@ pub record BreaksTurn (left old_contents new_contents : Option (List ℕ)) (wait
   pub next : List ℕ
   pub is_next : (bytes : List ℕ) → left ≡ Some bytes → IsNext bytes next
   pub written : WritesFront old_contents new_contents (waited ++ next)
+
+-- the turn, or how far it was answered where a fault came
+abbrev pub EndsTurn : Result Turn DeskFault → Option (List ℕ) → List ℕ → Option (List ℕ) → Option (List ℕ)
+    → List ℕ → List ℕ → Type 0
+EndsTurn result left buf old_contents new_contents waited waiting =
+    MatchResult result (IsTurn left buf old_contents new_contents waited waiting)
+    (λ _. BreaksTurn left old_contents new_contents waited)
 
 -- what the register is asked by the message that buf begins with
 abbrev pub asked_by : List ℕ → RequestSpans → Plan → Asked

@@ -11,7 +11,7 @@ ghost use Rattle.kcr_print.specs.Written.{WritesFront};
 ghost use Rattle.kcr_desk.specs.Run.{IsServed, IsBroken, Exchange, Begins, messages_of, exchange_text, output};
 ghost use Rattle.std.specs.List.{flat_map};
 ghost use Rattle.kcr_desk.specs.Stream.{Message, Ending, IsCut};
-ghost use Rattle.kcr_desk.specs.Turn.{IsTurn, BreaksTurn, asked_by};
+ghost use Rattle.kcr_desk.specs.Turn.{EndsTurn, asked_by};
 
 use crate::fault::DeskFault;
 use crate::head::{Plan, is_head_method};
@@ -52,10 +52,8 @@ fn take_message<R: Read, W: Write>(
     plan: Plan,
 ) -> Result<Turn, DeskFault>
     requires { HasPlan intake.old.buffer.items spans plan }
-    ensures turn { IfOk result (IsTurn (left R.remaining intake.old reader.old) intake.new.buffer.items
-        (W.contents (inner_of writer.old)) (W.contents (inner_of writer.new)) waiting.old.items waiting.new.items) }
-    ensures breaks { OnErr result (BreaksTurn (left R.remaining intake.old reader.old)
-        (W.contents (inner_of writer.old)) (W.contents (inner_of writer.new)) waiting.old.items) }
+    ensures turn { EndsTurn result (left R.remaining intake.old reader.old) intake.new.buffer.items
+        (W.contents (inner_of writer.old)) (W.contents (inner_of writer.new)) waiting.old.items waiting.new.items }
     ensures takes { TakesIn R.remaining intake.old intake.new reader.old reader.new result }
     ensures calm { OnOk result (failures_of writer.new ≡ failures_of writer.old) }
     ensures write_fault { IsErrOf result DeskFault.Write → failures_of writer.old < failures_of writer.new }
@@ -76,10 +74,8 @@ fn next_turn<R: Read, W: Write>(
     writer: &mut Counted<W>,
     waiting: &mut Page,
 ) -> Result<Turn, DeskFault>
-    ensures turn { IfOk result (IsTurn (left R.remaining intake.old reader.old) intake.new.buffer.items
-        (W.contents (inner_of writer.old)) (W.contents (inner_of writer.new)) waiting.old.items waiting.new.items) }
-    ensures breaks { OnErr result (BreaksTurn (left R.remaining intake.old reader.old)
-        (W.contents (inner_of writer.old)) (W.contents (inner_of writer.new)) waiting.old.items) }
+    ensures turn { EndsTurn result (left R.remaining intake.old reader.old) intake.new.buffer.items
+        (W.contents (inner_of writer.old)) (W.contents (inner_of writer.new)) waiting.old.items waiting.new.items }
     ensures takes { TakesIn R.remaining intake.old intake.new reader.old reader.new result }
     ensures calm { OnOk result (failures_of writer.new ≡ failures_of writer.old) }
     ensures write_fault { IsErrOf result DeskFault.Write → failures_of writer.old < failures_of writer.new }

@@ -1,12 +1,12 @@
 use Rattle.std.proofs.lemmas.List.{append-nil}
-use Rattle.std.proofs.lemmas.Result.{err_from_is_err_and, IfOk-weaker, on_err_weaker}
+use Rattle.std.proofs.lemmas.Result.{err_from_is_err_and, MatchResult-weaker}
 use Rattle.kcr_desk.specs.Stream.{quiet, refused}
 use Rattle.kcr_desk.specs.declared.stream.Turn.TheVariants.{Ended}
 use Rattle.kcr_desk.proofs.TurnLemmas.{breaks_at_once, ends_before, breaks_ending, turn_later, breaks_later}
 use Rattle.kcr_desk.proofs.stream.next_turn.Goals as goal
 
-pub returns-in_err-take_head-clause-breaks : goal.returns-in_err-take_head-clause-breaks
-returns-in_err-take_head-clause-breaks g c =
+pub returns-in_err-take_head-clause-turn : goal.returns-in_err-take_head-clause-turn
+returns-in_err-take_head-clause-turn g c =
     let p = err_from_is_err_and c.from_residual.result c.from_residual.ensures.1 in
     rw p.1 (breaks_at_once _ _ _ c.in_err-take_head.ensures.gathered)
 
@@ -15,8 +15,8 @@ returns-in-Quiet-clause-turn g c =
     let found = rw c.in-Quiet.is at c.in_ok-take_head.ensures.found in
     (quiet, ends_before _ _ quiet c.in_ok-take_head.ensures.takes.kept found, rw append-nil c.in_ok-take_head.ensures.gathered)
 
-pub returns-in_err-put_refusal-in-Refused-clause-breaks : goal.returns-in_err-put_refusal-in-Refused-clause-breaks
-returns-in_err-put_refusal-in-Refused-clause-breaks g c =
+pub returns-in_err-put_refusal-in-Refused-clause-turn : goal.returns-in_err-put_refusal-in-Refused-clause-turn
+returns-in_err-put_refusal-in-Refused-clause-turn g c =
     let p = err_from_is_err_and c.from_residual-in_err-put_refusal-in-Refused.result c.from_residual-in_err-put_refusal-in-Refused.ensures.1 in
     let found = rw c.in-Refused.is at c.in_ok-take_head.ensures.found in
     rw p.1 (breaks_later _ c.in_ok-take_head.ensures.takes.kept c.in_ok-take_head.ensures.gathered
@@ -31,11 +31,7 @@ returns-in_ok-put_refusal-in-Refused-clause-turn g c =
 
 pub returns-in-Whole-clause-turn : goal.returns-in-Whole-clause-turn
 returns-in-Whole-clause-turn g c =
-    IfOk-weaker c.take_message.result _ _
-    (turn_later c.take_message.new.intake.buffer.items _ _ c.in_ok-take_head.ensures.takes.kept c.in_ok-take_head.ensures.gathered)
-    c.take_message.ensures.turn
-
-pub returns-in-Whole-clause-breaks : goal.returns-in-Whole-clause-breaks
-returns-in-Whole-clause-breaks g c =
-    on_err_weaker c.take_message.result (breaks_later _ c.in_ok-take_head.ensures.takes.kept c.in_ok-take_head.ensures.gathered)
-    c.take_message.ensures.breaks
+    let stays = c.in_ok-take_head.ensures.takes.kept in
+    let gathered = c.in_ok-take_head.ensures.gathered in
+    MatchResult-weaker c.take_message.result c.take_message.ensures.turn
+    (turn_later c.take_message.new.intake.buffer.items _ _ stays gathered) (λ _. breaks_later _ stays gathered)

@@ -6,7 +6,7 @@ use Rattle.kcr_desk.proofs.stream.serve_stream.Goals as goal
 pub returns-in_err-next_turn-clause-broken : goal.returns-in_err-next_turn-clause-broken
 returns-in_err-next_turn-clause-broken g c =
     let p = err_from_is_err_and c.from_residual.result c.from_residual.ensures.1 in
-    rw p.1 (turn_broken c.messages.invariant.serving c.in_err-next_turn.ensures.breaks)
+    rw p.1 (turn_broken c.messages.invariant.serving c.in_err-next_turn.ensures.turn)
 
 pub messages-preserved : goal.messages-preserved
 messages-preserved g c =

@@ -15,16 +15,16 @@ use Rattle.kcr_desk.proofs.stream.take_message.Given.{Over}
 use Rattle.kcr_desk.proofs.stream.take_message.Goals as goal
 use Rattle.kcr_desk.proofs.stream.take_message.Goals.{After-put_refusal}
 
-pub returns-in_err-put_continue-clause-breaks : goal.returns-in_err-put_continue-clause-breaks
-returns-in_err-put_continue-clause-breaks g c =
+pub returns-in_err-put_continue-clause-turn : goal.returns-in_err-put_continue-clause-turn
+returns-in_err-put_continue-clause-turn g c =
     let p = err_from_is_err_and c.from_residual.result c.from_residual.ensures.1 in
     rw p.1 (breaks_continue (g.R.Read.remaining c.args.reader.now.inner) c.requires (λ bytes is. is) c.in_err-put_continue.ensures.gathered)
 
 pub overflow_add-spans : goal.overflow_add-spans
 overflow_add-spans g c = omega (arith, c.requires.fits)
 
-pub returns-in_err-take_body-clause-breaks : goal.returns-in_err-take_body-clause-breaks
-returns-in_err-take_body-clause-breaks g c =
+pub returns-in_err-take_body-clause-turn : goal.returns-in_err-take_body-clause-turn
+returns-in_err-take_body-clause-turn g c =
     let p = err_from_is_err_and c.from_residual-in_err-take_body.result c.from_residual-in_err-take_body.ensures.1 in
     rw p.1 (breaks_continue (g.R.Read.remaining c.args.reader.now.inner) c.requires (λ bytes is. is)
     (sent_front _ c.in_ok-put_continue.ensures.gathered c.in_err-take_body.ensures.gathered))
@@ -60,10 +60,10 @@ so_far g c =
     with_more_behind c.args.waiting.now.items (continue_text c.args.plan) (answer_text c.is_head_method-bare.result true (told_of Cut))
     (sent_on c.in_ok-put_continue.ensures.gathered c.in_ok-take_body.ensures.gathered)
 
-pub returns-in_err-put_refusal-clause-breaks : goal.returns-in_err-put_refusal-clause-breaks
-returns-in_err-put_refusal-clause-breaks g c =
+pub returns-in_err-put_refusal-clause-turn : goal.returns-in_err-put_refusal-clause-turn
+returns-in_err-put_refusal-clause-turn g c =
     let p = err_from_is_err_and c.from_residual-in_err-put_refusal.result c.from_residual-in_err-put_refusal.ensures.1 in
-    let at = (goal.at.returns-in_err-put_refusal-clause-breaks g c).After-put_refusal in
+    let at = (goal.at.returns-in_err-put_refusal-clause-turn g c).After-put_refusal in
     rw p.1 (breaks_ending (cut_off c.args.plan c.is_head_method-bare.result) (cut_at_end g at)
     (sent_front _ (so_far g at) c.in_err-put_refusal.ensures.gathered))
 

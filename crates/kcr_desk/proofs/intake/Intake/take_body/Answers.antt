@@ -5,4 +5,4 @@ use Rattle.kcr_desk.proofs.intake.Intake.take_body.Goals as goal
 pub returns-in_err-fill-clause-gathered : goal.returns-in_err-fill-clause-gathered
 returns-in_err-fill-clause-gathered g c =
     let p = err_from_is_err_and c.from_residual.result c.from_residual.ensures.1 in
-    rw p.1 (sent_front _ c.body.invariant.gathered c.in_err-fill.ensures.gathered)
+    rw p.1 (sent_front _ c.body.invariant.taken.gathered c.in_err-fill.ensures.gathered)

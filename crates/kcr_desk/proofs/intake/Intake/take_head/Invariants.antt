@@ -1,18 +1,11 @@
-use Rattle.std.proofs.Common.{◌≡◌, ◌≤◌, ◌-◌, ◌+◌, ◌*◌, vec_len}
-use Rattle.kcr_desk.specs.Intake.{Stays, left}
-use Rattle.kcr_desk.specs.Waiting.{Gathered}
+use Rattle.std.proofs.Common.{◌-◌}
+use Rattle.kcr_desk.proofs.TakingLemmas.{TakesSoFar}
 use Rattle.kcr_desk.proofs.intake.Intake.take_head.Given as goal
 
 abbrev pub invariant-head : goal.invariant-head
-invariant-head g l = record {
-  kept : Stays (left g.R.Read.remaining l.initial.self l.initial.reader) (left g.R.Read.remaining l.self l.reader);
-  room : vec_len l.self.buffer + 4096 * l.initial.self.reads ≤ vec_len l.initial.self.buffer + 4096 * l.self.reads;
-  gathered : Gathered (g.W.Write.contents l.initial.writer.inner) (g.W.Write.contents l.writer.inner)
-      l.initial.waiting.items l.waiting.items;
-  calm_reader : l.reader.failed.count ≡ l.initial.reader.failed.count;
-  calm_writer : l.writer.failed.count ≡ l.initial.writer.failed.count;
-  counted : l.reader.given.count + l.initial.self.reads ≡ l.initial.reader.given.count + l.self.reads;
-}
+invariant-head g l =
+    TakesSoFar g.R.Read.remaining g.W.Write.contents l.initial.self l.self l.initial.reader l.reader l.initial.writer l.writer
+    l.initial.waiting.items l.waiting.items
 
 abbrev pub decreases-head : goal.decreases-head
 decreases-head g l = 1000000 - l.self.reads
