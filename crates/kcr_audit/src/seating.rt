@@ -1,9 +1,7 @@
 //! Steps that were signed or passed, and whether their recorded people are a seating of their seats.
 ghost use Rattle.std.specs.Prelude.{◌≡◌, ◌++◌, ◌≤◌, ◌∷◌, ℕ, nat_le, take, drop, length, map, find, filter, option_map};
 ghost use Rattle.std.specs.Prelude.{◌&&◌, ◌==◌, IfOk};
-ghost use Rattle.std.specs.List.{list_any};
 ghost use Rattle.kcr_base.specs.Days.{day_of};
-ghost use Rattle.kcr_base.specs.Same.{same_text};
 ghost use Rattle.kcr_room.specs.Room;
 ghost use Rattle.kcr_history.specs.Audit;
 ghost use Rattle.kcr_history.specs.Prints;
@@ -11,7 +9,7 @@ ghost use Rattle.kcr_history.specs.declared.views.Finding.TheVariants as Finding
 ghost use Rattle.kcr_audit.specs.Sought.{IsSought};
 ghost use Rattle.kcr_audit.specs.Wrongs;
 
-use kcr_base::{Initials, Moment, Role, not_later, same_person};
+use kcr_base::{Initials, Moment, Role, is_among, not_later, same_person};
 use kcr_history::{CeremonyRow, Finding, SeatingRow, StepRow, StepState, WholeView, fits};
 use kcr_room::{SheetRow, Way};
 use kcr_script::Seat;
@@ -83,13 +81,6 @@ fn is_eligible(
             seat,
             who,
         )
-}
-
-/// Whether the person is one of these.
-fn is_among(people: &[Initials], who: Initials) -> bool
-    ensures { result ≡ list_any (same_text who) people.now }
-{
-    people.iter().any(|other| same_person(who, *other))
 }
 
 /// Whether the people, all distinct, are each eligible for the seat in their position.

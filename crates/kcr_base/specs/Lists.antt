@@ -3,10 +3,14 @@ use Rattle.std.specs.Prelude.{◌≡◌, ℕ, ◌≤◌, Bool, true, not, ◌&&�
 use Rattle.std.specs.List.{list_any}
 use Rattle.kcr_base.specs.Same.{same_text}
 
+-- the code is one of these
+abbrev pub is_among : List (List ℕ) → List ℕ → Bool
+is_among codes code = list_any (same_text code) codes
+
 -- each code once
 abbrev pub are_apart : List (List ℕ) → Bool
 are_apart [] = true
-are_apart (code ∷ rest) = not (list_any (same_text code) rest) && are_apart rest
+are_apart (code ∷ rest) = not (is_among rest code) && are_apart rest
 
 -- at least one code, at most as many as the limit, each of them once
 pub record IsListed (limit : ℕ) (codes : List (List ℕ)) : Type 0 where

@@ -26,6 +26,10 @@ abbrev pub unless : {X : Type 0} → Option Refusal → X → Result X Refusal
 unless (Some refusal) value = Err refusal
 unless None value = Ok value
 
+-- a test passes where it has no refusal, and else answers the refusal
+abbrev pub Tests : {X : Type 0} → Option Refusal → Result X Refusal → Type 0
+Tests refusal result = MatchResult result (λ _. refusal ≡ None) (λ r. refusal ≡ Some r)
+
 -- the same of a call that may want memory instead: it answers the value, or the refusal
 abbrev pub Decides : {X : Type 0} → Option Refusal → X → Result X Refusal → Type 0
 Decides refusal value result =

@@ -1,9 +1,8 @@
 //! The people and the items that a command names: lists in the order in which they are given, of which none is named
 //! twice.
 ghost use Rattle.std.specs.Prelude.{◌≡◌, ◌↔◌, IsTrue, SomeIff};
-ghost use Rattle.std.specs.List.{list_any};
+ghost use Rattle.kcr_base.specs.Lists;
 ghost use Rattle.kcr_base.specs.Lists.{IsListed, are_apart};
-ghost use Rattle.kcr_base.specs.Same;
 
 use crate::initials::Initials;
 use crate::same::{same_person, same_text};
@@ -106,8 +105,8 @@ impl Clone for Items {
 }
 
 /// Whether the person is one of these people.
-fn is_among(who: Initials, people: &[Initials]) -> bool
-    ensures { result ≡ list_any (Same.same_text who) people.now }
+pub fn is_among(people: &[Initials], who: Initials) -> bool
+    ensures { result ≡ Lists.is_among people.now who }
 {
     people.iter().any(|other| same_person(who, *other))
 }
@@ -117,7 +116,7 @@ fn are_people_apart(people: &[Initials]) -> bool
     ensures { result ≡ are_apart people.now }
 {
     for (index, who) in people.iter().enumerate() {
-        if is_among(*who, &people[index + 1..]) {
+        if is_among(&people[index + 1..], *who) {
             return false;
         }
     }
@@ -125,8 +124,8 @@ fn are_people_apart(people: &[Initials]) -> bool
 }
 
 /// Whether the item is one of these items.
-fn is_item_among(item: ItemCode, items: &[ItemCode]) -> bool
-    ensures { result ≡ list_any (Same.same_text item) items.now }
+pub fn is_item_among(items: &[ItemCode], item: ItemCode) -> bool
+    ensures { result ≡ Lists.is_among items.now item }
 {
     items
         .iter()
@@ -138,7 +137,7 @@ fn are_items_apart(items: &[ItemCode]) -> bool
     ensures { result ≡ are_apart items.now }
 {
     for (index, item) in items.iter().enumerate() {
-        if is_item_among(*item, &items[index + 1..]) {
+        if is_item_among(&items[index + 1..], *item) {
             return false;
         }
     }

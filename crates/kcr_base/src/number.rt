@@ -1,114 +1,84 @@
 //! The numbers of ceremonies, boxes and steps, counted from 1, and their texts in decimal.
 ghost use Rattle.std.specs.Prelude.{◌≡◌, ◌↔◌, ℕ, ◌<◌, ◌^◌, IsTrue, IfSome, Some, SomeIff};
 ghost use Rattle.std.specs.Fmt.{decimal};
+ghost use Rattle.std.proofs.Common.{arith};
 ghost use Rattle.kcr_base.specs.Number.{IsNumber, IsNumberText};
 
-use std::marker::Model;
+use std::marker::{Model, PhantomData};
 use std::str;
 
 /// The number of a ceremony, from 1 to 9,999.
-#[derive(Clone, Copy, PartialEq, Eq)]
-pub struct CeremonyNumber {
-    number: u32,
-}
-
-impl Model for CeremonyNumber {
-    ghost use Rattle.std.specs.Prelude.{ℕ};
-    ghost use Rattle.kcr_base.specs.Number.{IsNumber};
-
-    ghost Value = { ℕ };
-
-    ghost view = { λ s. s.number };
-
-    ghost invariant = { λ s. IsNumber 9999 s.number };
-
-    ghost inverse = { λ n. record { number = n } };
-}
-
-impl CeremonyNumber {
-    /// The ceremony's number, or None where it is not of 1 to 9,999.
-    pub fn new(number: u32) -> Option<CeremonyNumber>
-        ensures { SomeIff result (IsNumber 9999 number) number }
-    {
-        if is_number(9_999, number) {
-            Some(CeremonyNumber { number })
-        } else {
-            None
-        }
-    }
-
-    /// The number that these bytes are in decimal, without sign or leading zeros, or None where they are none.
-    pub fn read(bytes: &[u8]) -> Option<CeremonyNumber>
-        ensures found { IfSome result (IsNumberText 9999 bytes.now) }
-        ensures only { (n : ℕ) → IsNumberText 9999 bytes.now n → result ≡ Some n }
-    {
-        CeremonyNumber::new(read_number(bytes)?)
-    }
-
-    /// As a number.
-    pub fn get(self) -> u32
-        ensures value { result ≡ self }
-        ensures range { IsNumber 9999 self }
-    {
-        self.number
-    }
-}
+pub type CeremonyNumber = Number<OfCeremony>;
 
 /// The number of a box in safe 2 of its facility, from 1 to 9,999.
-#[derive(Clone, Copy, PartialEq, Eq)]
-pub struct BoxNumber {
-    number: u32,
-}
-
-impl Model for BoxNumber {
-    ghost use Rattle.std.specs.Prelude.{ℕ};
-    ghost use Rattle.kcr_base.specs.Number.{IsNumber};
-
-    ghost Value = { ℕ };
-
-    ghost view = { λ s. s.number };
-
-    ghost invariant = { λ s. IsNumber 9999 s.number };
-
-    ghost inverse = { λ n. record { number = n } };
-}
-
-impl BoxNumber {
-    /// The box's number, or None where it is not of 1 to 9,999.
-    pub fn new(number: u32) -> Option<BoxNumber>
-        ensures { SomeIff result (IsNumber 9999 number) number }
-    {
-        if is_number(9_999, number) {
-            Some(BoxNumber { number })
-        } else {
-            None
-        }
-    }
-
-    /// The number that these bytes are in decimal, without sign or leading zeros, or None where they are none.
-    pub fn read(bytes: &[u8]) -> Option<BoxNumber>
-        ensures found { IfSome result (IsNumberText 9999 bytes.now) }
-        ensures only { (n : ℕ) → IsNumberText 9999 bytes.now n → result ≡ Some n }
-    {
-        BoxNumber::new(read_number(bytes)?)
-    }
-
-    /// As a number.
-    pub fn get(self) -> u32
-        ensures value { result ≡ self }
-        ensures range { IsNumber 9999 self }
-    {
-        self.number
-    }
-}
+pub type BoxNumber = Number<OfBox>;
 
 /// The number of a step in its ceremony's script, from 1 to 400.
-#[derive(Clone, Copy, PartialEq, Eq)]
-pub struct StepNumber {
-    number: u32,
+pub type StepNumber = Number<OfStep>;
+
+/// What is numbered, from 1 up to a greatest number.
+pub trait Numbered {
+    /// The greatest number.
+    ghost limit: { ℕ };
+
+    /// The greatest number.
+    fn limit() -> u32
+        ensures { result ≡ limit };
+
+    // It is one of 32 bits.
+    ghost fits: { limit < 2 ^ 32 };
 }
 
-impl Model for StepNumber {
+/// That a number is a ceremony's.
+#[derive(Clone, Copy, PartialEq, Eq)]
+pub struct OfCeremony;
+
+impl Numbered for OfCeremony {
+    ghost limit = { 9999 };
+
+    fn limit() -> u32 {
+        9_999
+    }
+
+    ghost fits = { omega arith };
+}
+
+/// That a number is a box's.
+#[derive(Clone, Copy, PartialEq, Eq)]
+pub struct OfBox;
+
+impl Numbered for OfBox {
+    ghost limit = { 9999 };
+
+    fn limit() -> u32 {
+        9_999
+    }
+
+    ghost fits = { omega arith };
+}
+
+/// That a number is a step's.
+#[derive(Clone, Copy, PartialEq, Eq)]
+pub struct OfStep;
+
+impl Numbered for OfStep {
+    ghost limit = { 400 };
+
+    fn limit() -> u32 {
+        400
+    }
+
+    ghost fits = { omega arith };
+}
+
+/// The number of one of its kind, `K`, from 1 to the greatest.
+#[derive(Clone, Copy, PartialEq, Eq)]
+pub struct Number<K: Numbered> {
+    number: u32,
+    of: PhantomData<K>,
+}
+
+impl<K: Numbered> Model for Number<K> {
     ghost use Rattle.std.specs.Prelude.{ℕ};
     ghost use Rattle.kcr_base.specs.Number.{IsNumber};
 
@@ -116,40 +86,42 @@ impl Model for StepNumber {
 
     ghost view = { λ s. s.number };
 
-    ghost invariant = { λ s. IsNumber 400 s.number };
+    ghost invariant = { λ s. IsNumber K.limit s.number };
 
-    ghost inverse = { λ n. record { number = n } };
+    ghost inverse = { λ n. record { number = n; of = record {} } };
 }
 
-impl StepNumber {
-    /// The step's number, or None where it is not of 1 to 400.
-    pub fn new(number: u32) -> Option<StepNumber>
-        ensures { SomeIff result (IsNumber 400 number) number }
+impl<K: Numbered> Number<K> {
+    /// The number, or None where it is not of 1 to the greatest.
+    pub fn new(number: u32) -> Option<Self>
+        ensures { SomeIff result (IsNumber K.limit number) number }
     {
-        if is_number(400, number) {
-            Some(StepNumber { number })
+        if is_number(K::limit(), number) {
+            Some(Number {
+                number,
+                of: PhantomData,
+            })
         } else {
             None
         }
     }
 
     /// The number that these bytes are in decimal, without sign or leading zeros, or None where they are none.
-    pub fn read(bytes: &[u8]) -> Option<StepNumber>
-        ensures found { IfSome result (IsNumberText 400 bytes.now) }
-        ensures only { (n : ℕ) → IsNumberText 400 bytes.now n → result ≡ Some n }
+    pub fn read(bytes: &[u8]) -> Option<Self>
+        ensures found { IfSome result (IsNumberText K.limit bytes.now) }
+        ensures only { (n : ℕ) → IsNumberText K.limit bytes.now n → result ≡ Some n }
     {
-        StepNumber::new(read_number(bytes)?)
+        Number::new(read_number(bytes)?)
     }
 
     /// As a number.
     pub fn get(self) -> u32
         ensures value { result ≡ self }
-        ensures range { IsNumber 400 self }
+        ensures range { IsNumber K.limit self }
     {
         self.number
     }
 }
-
 /// Whether the number is of 1 to `limit`.
 fn is_number(limit: u32, number: u32) -> bool
     ensures { IsTrue result ↔ IsNumber limit number }

@@ -126,10 +126,6 @@ packed serial codes = map (within serial) codes
 
 -- WHAT SEVERAL ACTS TEST
 
--- a test passes where it has no refusal, and else answers the refusal
-abbrev pub Tests : {X : Type 0} → Option Refusal → Result X Refusal → Type 0
-Tests refusal result = MatchResult result (λ _. refusal ≡ None) (λ r. refusal ≡ Some r)
-
 -- the ceremony is not open, the moment is before its mark, or the register is full
 abbrev pub not_ready : Scene → Option Refusal
 not_ready scene =

@@ -1,7 +1,6 @@
 //! What several acts test: nothing, or the refusal.
-ghost use Rattle.kcr_base.specs.Refuse.{no_ceremony};
+ghost use Rattle.kcr_base.specs.Refuse.{Tests, no_ceremony};
 ghost use Rattle.kcr_custody.specs.Custody;
-ghost use Rattle.kcr_custody.specs.Custody.{Tests};
 
 use crate::{Bag, BoxRow, SafeNumber, SafeRow, Scene, rows};
 use kcr_base::{Absentee, Facility, Place, Refusal, Role, Serial, Thing};

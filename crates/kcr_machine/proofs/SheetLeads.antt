@@ -15,7 +15,9 @@ use Rattle.kcr_room.specs.declared.Way.{Way}
 use Rattle.kcr_room.specs.declared.Way.TheVariants.{Enter, Leave}
 use Rattle.kcr_room.specs.Room.{later, last_onto, last_row_of}
 use Rattle.kcr_room.specs.Stays.{stays_by}
-use Rattle.kcr_room.specs.Adding.{is_open, is_inside, is_inside_of, is_out_of_turn_in, is_out_of_turn_by, new_row, new_stay, is_among, closed, of_ceremony}
+use Rattle.kcr_base.specs.Lists.{is_among}
+use Rattle.kcr_room.specs.Adding.{is_open, is_inside, is_inside_of, is_out_of_turn_in, is_out_of_turn_by, new_row, new_stay, closed, of_ceremony}
+use Rattle.kcr_base.specs.Lists.{is_among}
 use Rattle.kcr_room.specs.Adding.{ends_by, changed_stays, reaches, turn_refusal}
 use Rattle.kcr_base.specs.Lists.{are_apart}
 use Rattle.kcr_base.proofs.SameLemmas.{same-is, same-itself, same-turned}

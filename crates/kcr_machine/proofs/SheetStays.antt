@@ -11,7 +11,9 @@ use Rattle.kcr_room.specs.declared.Stay.{Stay}
 use Rattle.kcr_room.specs.declared.Way.{Way}
 use Rattle.kcr_room.specs.declared.Way.TheVariants.{Enter, Leave}
 use Rattle.kcr_room.specs.Stays.{stays_by}
-use Rattle.kcr_room.specs.Adding.{is_open, ends_from, reaches, is_inside, is_inside_of, is_out_of_turn_in, new_stay, is_among, closed}
+use Rattle.kcr_base.specs.Lists.{is_among}
+use Rattle.kcr_room.specs.Adding.{is_open, ends_from, reaches, is_inside, is_inside_of, is_out_of_turn_in, new_stay, closed}
+use Rattle.kcr_base.specs.Lists.{is_among}
 use Rattle.kcr_room.specs.Adding.{new_row}
 use Rattle.kcr_room.specs.Laws.{IsSheet}
 use Rattle.kcr_room.proofs.Sheets.{same-turns, added, row-added, made-in-turn}

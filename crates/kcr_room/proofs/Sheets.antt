@@ -8,7 +8,9 @@ use Rattle.std.proofs.lemmas.List.Folds.{list_any-append}
 use Rattle.kcr_room.specs.Room.{is_enter, later, last_row, last_enters, last_row_of, is_ahead}
 use Rattle.kcr_room.specs.Stays.{stays_by}
 use Rattle.kcr_room.proofs.Followed.{cut, stays_next, stays-snoc}
-use Rattle.kcr_room.specs.Adding.{is_open, ends_from, reaches, is_inside, is_inside_of, is_out_of_turn_in, is_among, new_stay, closed, of_ceremony, after}
+use Rattle.kcr_base.specs.Lists.{is_among}
+use Rattle.kcr_room.specs.Adding.{is_open, ends_from, reaches, is_inside, is_inside_of, is_out_of_turn_in, new_stay, closed, of_ceremony, after}
+use Rattle.kcr_base.specs.Lists.{is_among}
 use Rattle.kcr_room.specs.Adding.{turn_refusal, is_no_turn, is_out_of_turn, is_out_of_turn_by, new_row}
 use Rattle.kcr_base.specs.Lists.{are_apart}
 use Rattle.kcr_room.specs.Laws.{in_turn_onto, IsSheet}

@@ -2,6 +2,7 @@
 use Rattle.std.specs.Prelude.{ℕ, ◌==◌, Bool, true, false, not, ◌&&◌, ◌||◌, nat_lt, nat_le, List, [], ◌∷◌, ◌++◌, map}
 use Rattle.std.specs.Prelude.{filter, length, Option, Some, None, option_map, if◌then◌else◌}
 use Rattle.std.specs.List.{list_any, count_by, find}
+use Rattle.kcr_base.specs.Lists.{is_among}
 use Rattle.kcr_base.specs.Same.{same_text}
 use Rattle.kcr_base.specs.Refuse.{when, first_of, is_not_later}
 use Rattle.kcr_base.specs.declared.refusal.Refusal.{Refusal}
@@ -41,10 +42,6 @@ abbrev pub is_out_of_turn_in : List Stay → ℕ → Way → ℕ → List ℕ �
 is_out_of_turn_in stays ceremony Enter at who = list_any (reaches who at) stays || list_any (is_inside who) stays
 is_out_of_turn_in stays ceremony Leave at who =
     list_any (reaches who at) stays || not (list_any (is_inside_of ceremony who) stays)
-
--- the stay is of one of the people
-abbrev pub is_among : List (List ℕ) → List ℕ → Bool
-is_among people who = list_any (same_text who) people
 
 -- the stay of somebody who comes
 abbrev pub new_stay : ℕ → ℕ → List ℕ → Stay

@@ -8,7 +8,7 @@ ghost use Rattle.kcr_room.specs.declared.Way.TheVariants.{Enter, Leave};
 
 use crate::traffic::crowding_of;
 use crate::{Request, Stay, Way};
-use kcr_base::{Initials, Moment, Refusal, not_later, same_person};
+use kcr_base::{Initials, Moment, Refusal, is_among, not_later, same_person};
 use std::alloc::{AllocError, Global};
 
 fn is_open(until: Option<Moment>) -> bool
@@ -89,13 +89,6 @@ fn first_out_of_turn(stays: &[Stay], request: &Request<'_>) -> Option<Initials>
     None
 }
 
-/// Whether a person is one of some people.
-pub fn is_among(people: &[Initials], who: Initials) -> bool
-    ensures { result ≡ Adding.is_among people.now who }
-{
-    people.iter().any(|other| same_person(who, *other))
-}
-
 fn closed(people: &[Initials], at: Moment, stay: &Stay) -> Stay
     ensures { result ≡ Adding.closed people.now at stay.now }
 {
@@ -129,7 +122,7 @@ fn ends_by(ceremony: u32, people: &[Initials], stay: &Stay) -> bool
     stay.ceremony == ceremony && is_among(people, stay.who) && is_open(stay.until)
 }
 
-/// The stays of a ceremony.
+/// The stays of a ceremony, in their order. The error comes only when out of memory.
 pub fn stays_in(alloc: Global, stays: &[Stay], ceremony: u32) -> Result<Vec<Stay>, AllocError>
     ensures { IfOk result (λ own. own.items ≡ filter (Adding.of_ceremony ceremony) stays.now) }
 {

@@ -6,7 +6,6 @@
 #![tactic(auto)]
 
 pub mod cells;
-pub mod lists;
 mod rows;
 pub mod statements;
 pub mod stored;

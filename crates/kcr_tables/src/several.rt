@@ -14,11 +14,10 @@ ghost use Rattle.kcr_tables.specs.Held.{people_place, items_place};
 ghost use Rattle.kcr_tables.specs.Frame.{Tells, TellsExactly, Reads};
 
 use crate::table::{AsCell, Finds, all_rows, rows_under};
-use kcr_base::{Initials, ItemCode, Refusal};
+use kcr_base::{Initials, ItemCode, Refusal, is_among, is_item_among};
 use kcr_custody::Item;
 use kcr_history::{InitialsList, ItemsOf, Selection};
 use kcr_people::Person;
-use kcr_rows::lists::{is_item_named, is_person_named};
 use sqlite::{Alter, Transaction};
 use std::alloc::Global;
 
@@ -43,7 +42,7 @@ impl FindsNamed<Initials> for Person {
     ghost same = { same_text };
 
     fn is_named(key: &Initials, among: &[Initials]) -> bool {
-        is_person_named(key, among)
+        is_among(among, *key)
     }
 
     ghost one = { λ key other h. (bytes_eq-Decides key other).0 h };
@@ -55,7 +54,7 @@ impl FindsNamed<ItemCode> for Item {
     ghost same = { same_text };
 
     fn is_named(key: &ItemCode, among: &[ItemCode]) -> bool {
-        is_item_named(key, among)
+        is_item_among(among, *key)
     }
 
     ghost one = { λ key other h. (bytes_eq-Decides key other).0 h };
