@@ -136,8 +136,9 @@ alike-more rows c way at people turn alike r o h k same e d = by_parts (in-appen
     by_parts (inr g) (inr n) = ap (enters d) (new-of c way at people r g).2 ∙ sym (ap (enters d) (new-of c way at people o n).2)
 
 alike-after : (A : History) (act : Act) → fault A act ≡ None → AreAlike (sheet A) → AreAlike (sheet_after act (sheet A))
-alike-after A (Sheet c way people at) f ih = alike-more (sheet A) c way at people
-    (turns A c way at people (none_holds (conditions A (Sheet c way people at)) f).1.1.1.1.1.0) ih
+alike-after A (Sheet c way people at) f ih =
+    let n = none_holds (conditions A (Sheet c way people at)) f in
+    alike-more (sheet A) c way at people (turns A c way at people (assumption n)) ih
 alike-after A act f ih = ih
 
 -- in a register's sheet two rows of one person at one moment say the same

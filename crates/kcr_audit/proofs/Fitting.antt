@@ -36,7 +36,7 @@ use Rattle.kcr_history.proofs.Trained.{trained-rows}
 use Rattle.kcr_history.proofs.Words.{planned-number}
 use Rattle.kcr_audit.specs.Whole.{tables_of}
 use Rattle.kcr_audit.proofs.Alike.{shown-in}
-use Rattle.kcr_laws.proofs.Finds.{only-holder}
+use Rattle.kcr_laws.proofs.Staffed.{fits-all}
 
 -- the row of a planned ceremony
 pub ceremony-found : (A : History) (view : WholeView) → IsPermutation (ceremonies A) view.ceremonies.items → (c : ℕ) → is_ceremony A c ≡ true
@@ -49,32 +49,13 @@ ceremony-found A view p c k =
     (sym (list_any-IsPermutation (λ row. row.number == c) (ceremonies A) view.ceremonies.items p) ∙ any-map (λ row. row.number == c) (ceremony_row A) numbers
     ∙ planned-number A c ∙ k)
 
--- who holds a place
-holder-same : (A : History) → IsRegister A → (rows : List Appointment) → IsPermutation (appointments A) rows → (place : Place) (day : ℕ)
-    → holder_by rows place day ≡ holder A place day
-holder-same A h rows p place day =
-    ap (option_map (λ row. row.who)) (find-order (holds place day) (appointments A) rows p (λ r e. only-holder place day r (appointments A) (orderly A h).0 e))
-    ∙ holder-appointments A h place day
-
 -- SEATS
 
 module _ (A : History) (h : IsRegister A) (view : WholeView) (same : SameTables (tables A) (tables_of view)) where
-  held : (place : Place) (day : ℕ) (who : List ℕ) → is_holder_by view.appointments.items place day who ≡ is_holder A place day who
-  held place day who = ap (is_this who) (holder-same A h view.appointments.items same.appointments place day)
-
   fits-same : (facility : Facility) (day : ℕ) (seat : Seat) (who : List ℕ)
       → fits_by view.trainings.items view.withdrawals.items view.appointments.items facility day seat who ≡ fits A facility day seat who
-  fits-same facility day (Staff role) who =
-      trained-order (trainings A) view.trainings.items (withdrawals A) view.withdrawals.items same.trainings same.withdrawals who role day
-      ∙ trained-rows A h who role day
-  fits-same facility day AnyCo who =
-      any-same (λ n. is_holder_by view.appointments.items (Places.Co facility n) day who) (λ n. is_holder A (Places.Co facility n) day who) one_to_seven
-      (λ n. held (Places.Co facility n) day who)
-  fits-same facility day (Co n) who = held (Places.Co facility n) day who
-  fits-same facility day AnyRksh who =
-      any-same (λ n. is_holder_by view.appointments.items (Places.Rksh n) day who) (λ n. is_holder A (Places.Rksh n) day who) one_to_seven
-      (λ n. held (Places.Rksh n) day who)
-  fits-same facility day (Rksh n) who = held (Places.Rksh n) day who
+  fits-same =
+      fits-all A h view.trainings.items view.withdrawals.items view.appointments.items same.trainings same.withdrawals same.appointments
 
   eligible-same : (c t : ℕ) (seat : Seat) (who : List ℕ) → eligible_by view (ceremony_row A c) t seat who ≡ eligible A c t seat who
   eligible-same c t seat who =

@@ -20,3 +20,4 @@ pub mod Hall
 pub mod Shortages
 pub mod Answered
 pub mod Refused
+pub mod Staffed

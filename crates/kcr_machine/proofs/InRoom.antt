@@ -1,5 +1,5 @@
 -- Who is in a room, who is trained and who holds a place: by the rows that a view shows, as by the history.
-use Rattle.std.proofs.Common.{◌≡◌, ℕ, true, List, map, filter, reverse, option_map, sym, ap, ◌∙◌, arith}
+use Rattle.std.proofs.Common.{◌≡◌, ℕ, true, List, map, filter, reverse, sym, ap, ◌∙◌, arith}
 use Rattle.std.specs.List.{list_any}
 use Rattle.std.specs.List.Sorted.{IsPermutation}
 use Rattle.std.proofs.lemmas.List.Sorted.{IsPermutation-reverse}
@@ -7,12 +7,10 @@ use Rattle.kcr_base.specs.Days.{day_of}
 use Rattle.kcr_base.specs.Same.{same_text}
 use Rattle.kcr_base.specs.declared.place.Place.{Place}
 use Rattle.kcr_base.specs.declared.place.Role.{Role}
-use Rattle.kcr_base.proofs.ListLemmas.{any-same, find-order}
-use Rattle.kcr_people.specs.declared.Appointment.{Appointment}
+use Rattle.kcr_base.proofs.ListLemmas.{any-same}
 use Rattle.kcr_people.specs.declared.Training.{Training}
 use Rattle.kcr_people.specs.declared.Withdrawal.{Withdrawal}
-use Rattle.kcr_people.specs.People.{trained_by, holder_by, holds}
-use Rattle.kcr_people.proofs.Orders.{trained-order}
+use Rattle.kcr_people.specs.People.{trained_by}
 use Rattle.kcr_room.specs.declared.Stay.{Stay}
 use Rattle.kcr_room.specs.Room.{ascending}
 use Rattle.kcr_room.specs.Stays as Stays
@@ -23,17 +21,16 @@ use Rattle.kcr_room.proofs.Orders.{present-order}
 use Rattle.kcr_room.proofs.Keeping.{present_are_in}
 use Rattle.kcr_history.specs.declared.views.View.{View}
 use Rattle.kcr_history.specs.History.{History}
-use Rattle.kcr_history.specs.Training.{trained, holder}
+use Rattle.kcr_history.specs.Training.{trained}
 use Rattle.kcr_history.specs.Room.{sheet, is_in, present}
 use Rattle.kcr_history.specs.Room as Rooms
 use Rattle.kcr_history.specs.Tables.{trainings, withdrawals, appointments}
 use Rattle.kcr_history.specs.Views.{is_stay_of, is_training_of, is_withdrawal_of}
 use Rattle.kcr_history.specs.Conditions.{has_holder_in}
 use Rattle.kcr_history.specs.Machine.{IsRegister}
-use Rattle.kcr_history.proofs.Orderly.{orderly, holder-appointments}
 use Rattle.kcr_history.proofs.Trained.{trained-rows}
 use Rattle.kcr_rules.specs.Scene.{is_in_by, is_attended_by, has_holder_in_by}
-use Rattle.kcr_laws.proofs.Finds.{only-holder}
+use Rattle.kcr_laws.proofs.Staffed.{trained-all, holder-all}
 use Rattle.kcr_machine.proofs.Keyed.{Shown}
 use Rattle.kcr_machine.proofs.People.{trained-shown}
 
@@ -61,12 +58,7 @@ module _ (A : History) (c : ℕ) (rows : List Stay) (p : Shown (is_stay_of c) (r
 
 -- TRAINING
 
--- whether a person is trained, by all trainings and withdrawals
-pub trained-all : (A : History) → IsRegister A → (us : List Training) (vs : List Withdrawal) → IsPermutation (trainings A) us → IsPermutation (withdrawals A) vs
-    → (who : List ℕ) (role : Role) (day : ℕ) → trained_by us vs who role day ≡ trained A who role day
-trained-all A h us vs p q who role day = trained-order (trainings A) us (withdrawals A) vs p q who role day ∙ trained-rows A h who role day
-
--- the same by those of the person
+-- whether a person is trained, by the trainings and withdrawals of the person
 pub trained-own : (A : History) → IsRegister A → (us : List Training) (vs : List Withdrawal) → (who : List ℕ) → Shown (is_training_of who) (trainings A) us
     → Shown (is_withdrawal_of who) (withdrawals A) vs
     → (role : Role) (day : ℕ) → trained_by us vs who role day ≡ trained A who role day
@@ -81,17 +73,10 @@ attended-shown A h view c s p q role t =
     (present_in_by view.stays.items c t) (λ who. trained-all A h view.trainings.items view.withdrawals.items p q who role (day_of t))
     ∙ ap (list_any (λ who. trained A who role (day_of t))) (present-shown A c view.stays.items s t)
 
--- who holds a place, by all appointments
-pub holder-shown : (A : History) → IsRegister A → (rows : List Appointment) → IsPermutation (appointments A) rows → (place : Place) (day : ℕ)
-    → holder_by rows place day ≡ holder A place day
-holder-shown A h rows p place day =
-    ap (option_map (λ row. row.who)) (find-order (holds place day) (appointments A) rows p (λ r e. only-holder place day r (appointments A) (orderly A h).0 e))
-    ∙ holder-appointments A h place day
-
 -- whether the place has a holder, who is in the room
 pub holder_in-shown : (A : History) → IsRegister A → (view : View) (c : ℕ) → Shown (is_stay_of c) (reverse (stays_by (sheet A))) view.stays.items
     → IsPermutation (appointments A) view.appointments.items
     → (place : Place) (t : ℕ) → has_holder_in_by view place c t ≡ has_holder_in A place c t
 holder_in-shown A h view c s p place t =
     let inside : (who : List ℕ) → is_in_by view.stays.items who c t ≡ is_in A who c t = λ who. in-shown A c view.stays.items s who t in
-    grind (arith, holder-shown A h view.appointments.items p place (day_of t), inside)
+    grind (arith, holder-all A h view.appointments.items p place (day_of t), inside)

@@ -115,12 +115,12 @@ in_time A c at h = let n = none_ready A c at h in (met (is_open A c) State n.0, 
 pub ready : (A : History) (act : Act) → fault A act ≡ None → IsReady A (marked act) (opened_number act)
 ready A (Sign c k at) f = let n = none_holds (conditions A (Sign c k at)) f in (met (is_open A c) State (assumption n), assumption n)
 ready A (Except c text pass at) f = let n = none_holds (conditions A (Except c text pass at)) f in (met (is_open A c) State (assumption n), assumption n)
-ready A (AddItem c item at) f = in_time A c at (none_holds (conditions A (AddItem c item at)) f).1.1.0
-ready A (TurnSafe c safe state by at) f = in_time A c at (none_holds (conditions A (TurnSafe c safe state by at)) f).1.1.0
-ready A (Seal c serial items at) f = in_time A c at (none_holds (conditions A (Seal c serial items at)) f).1.1.1.0
-ready A (Take c serial at) f = in_time A c at (none_holds (conditions A (Take c serial at)) f).1.1.0
-ready A (Put c serial to at) f = in_time A c at (none_holds (conditions A (Put c serial to at)) f).1.1.1.0
-ready A (Cut c serial at) f = in_time A c at (none_holds (conditions A (Cut c serial at)) f).1.1.0
+ready A (AddItem c item at) f = let n = none_holds (conditions A (AddItem c item at)) f in in_time A c at (assumption n)
+ready A (TurnSafe c safe state by at) f = let n = none_holds (conditions A (TurnSafe c safe state by at)) f in in_time A c at (assumption n)
+ready A (Seal c serial items at) f = let n = none_holds (conditions A (Seal c serial items at)) f in in_time A c at (assumption n)
+ready A (Take c serial at) f = let n = none_holds (conditions A (Take c serial at)) f in in_time A c at (assumption n)
+ready A (Put c serial to at) f = let n = none_holds (conditions A (Put c serial to at)) f in in_time A c at (assumption n)
+ready A (Cut c serial at) f = let n = none_holds (conditions A (Cut c serial at)) f in in_time A c at (assumption n)
 ready A act f = tt
 
 pub open-opened : (A : History) (c : ℕ) → is_open A c ≡ true → is_some (opened A c) ≡ true

@@ -43,8 +43,9 @@ use Rattle.kcr_rules.specs.Signing.{seat_changes, exception_change}
 use Rattle.kcr_machine.specs.RowDecision.{new_key_row}
 use Rattle.kcr_laws.proofs.Alone.{rooms}
 use Rattle.kcr_laws.proofs.Done.{next_signed}
+use Rattle.kcr_laws.proofs.Staffed.{trained-all, fits-all}
 use Rattle.std.proofs.lemmas.Option.{same_Some, none-some}
-use Rattle.kcr_machine.proofs.InRoom.{holder-shown, present-shown, trained-all}
+use Rattle.kcr_machine.proofs.InRoom.{present-shown}
 use Rattle.kcr_machine.proofs.Keyed.{Shown, put-new}
 use Rattle.kcr_machine.proofs.Leads.{FaultShown, SeatsLeadOn, changed-append, command_of, entry_as, new_key}
 use Rattle.kcr_machine.proofs.Scenes.{facility-shown, is_open-shown, known-shown, mark-shown, marks-put}
@@ -87,12 +88,6 @@ pub seats-shown : (A : History) → IsRegister A → (c : ℕ) (view : View) →
     → seats_by (step_by view.steps.items c k) ≡ seats_at (steps_of A c) k
 seats-shown A h c view p k e = rw (step-shown A h c view.steps.items p k, e) refl
 
--- who holds a place, by all appointments
-is_holder-shown : (A : History) → IsRegister A → (view : View) → IsPermutation (appointments A) view.appointments.items
-    → (place : Place) (day : ℕ) (who : List ℕ)
-    → is_holder_by view.appointments.items place day who ≡ is_holder A place day who
-is_holder-shown A h view p place day who = ap (is_this who) (holder-shown A h view.appointments.items p place day)
-
 -- who fits a seat, by all trainings, withdrawals and appointments
 abbrev by_view : History → View → Sitting → Seat → List ℕ → Bool
 by_view A view s = fits_by view.trainings.items view.withdrawals.items view.appointments.items (facility_of A s.ceremony) (day_of s.at)
@@ -102,15 +97,8 @@ pub fits-shown : (A : History) → IsRegister A → (view : View) → IsPermutat
     → (f : Facility) (day : ℕ) (o : Option Seat) (who : List ℕ)
     → on_seat (fits_by view.trainings.items view.withdrawals.items view.appointments.items f day) o who ≡ on_seat (fits A f day) o who
 fits-shown A h view p q r f day None who = refl
-fits-shown A h view p q r f day (Some (Staff role)) who = trained-all A h view.trainings.items view.withdrawals.items p q who role day
-fits-shown A h view p q r f day (Some AnyCo) who =
-    any-same (λ n. is_holder_by view.appointments.items (Places.Co f n) day who) (λ n. is_holder A (Places.Co f n) day who)
-    one_to_seven (λ n. is_holder-shown A h view r (Places.Co f n) day who)
-fits-shown A h view p q r f day (Some (Co n)) who = is_holder-shown A h view r (Places.Co f n) day who
-fits-shown A h view p q r f day (Some AnyRksh) who =
-    any-same (λ n. is_holder_by view.appointments.items (Places.Rksh n) day who) (λ n. is_holder A (Places.Rksh n) day who)
-    one_to_seven (λ n. is_holder-shown A h view r (Places.Rksh n) day who)
-fits-shown A h view p q r f day (Some (Rksh n)) who = is_holder-shown A h view r (Places.Rksh n) day who
+fits-shown A h view p q r f day (Some seat) who =
+    fits-all A h view.trainings.items view.withdrawals.items view.appointments.items p q r f day seat who
 
 -- of the seats of a passing exception trainings and withdrawals are enough
 pub staff-shown : (A : History) → IsRegister A → (view : View) → IsPermutation (trainings A) view.trainings.items

@@ -67,6 +67,16 @@ shares_on : (tables : List Table) (a b c : Trees) → KeepsRows tables a b → K
 shares_on [] a b c one two = tt
 shares_on (t ∷ tables) a b c one two = (two.0 ∙ one.0, shares_on tables a b c one.1 two.1)
 
+front_of : (count : ℕ) (tables : List Table) (a b : Trees) → KeepsRows tables a b → KeepsRows (take count tables) a b
+front_of zero tables a b k = tt
+front_of (suc count) [] a b k = tt
+front_of (suc count) (t ∷ tables) a b k = (k.0, front_of count tables a b k.1)
+
+behind : (count : ℕ) (tables : List Table) (a b : Trees) → KeepsRows tables a b → KeepsRows (drop count tables) a b
+behind zero tables a b k = k
+behind (suc count) [] a b k = tt
+behind (suc count) (t ∷ tables) a b k = behind count tables a b k.1
+
 -- trees that share the first 15 tables with those of a register keep its rows in them, beside stays and withdrawals of their own
 shares_kept : (whole db : Trees) (t u : Tables) → Kept whole t → KeepsRows (take 15 all_tables) whole db → IsSound register_schema db
     → Keeps stays_place db (map stay_row u.stays) → Keeps withdrawals_place db (map withdrawal_row u.withdrawals)
@@ -75,13 +85,8 @@ shares_kept whole db t u k s sound own_stays own_withdrawals =
     let still : (place : Place) (rows : List Row) → db place.tree ≡ whole place.tree → Keeps place whole rows → Keeps place db rows
     = λ place rows. keeps_on place whole db rows in
     -- the tables behind the first seven, which the search does not reach from the front
-    let later : KeepsRows (drop 7 (take 15 all_tables)) whole db = s.1.1.1.1.1.1.1 in
+    let later = behind 7 (take 15 all_tables) whole db s in
     search (rules, still, own_stays, own_withdrawals)
-
-front_of : (count : ℕ) (tables : List Table) (a b : Trees) → KeepsRows tables a b → KeepsRows (take count tables) a b
-front_of zero tables a b k = tt
-front_of (suc count) [] a b k = tt
-front_of (suc count) (t ∷ tables) a b k = (k.0, front_of count tables a b k.1)
 
 pub grown_from_1 : (old mid new : Database) (t : Tables) → HoldsUpTo 15 old t → Gains 15 stays old mid → Gains 16 withdrawals mid new
     → Holds new (record t { stays = []; withdrawals = [] })

@@ -59,29 +59,29 @@ item_found text item e =
     (f.1, (bytes_decides (item_text item) text).0 f.0)
 
 -- what holds of 1 to 7
-of_seven : (P : ℕ → Type 0) → AllByRecursion P one_to_seven → (n : ℕ) → 1 ≤ n → n ≤ 7 → P n
-of_seven P h zero low high = absurd (omega arith)
-of_seven P h (suc zero) low high = h.0
-of_seven P h (suc (suc zero)) low high = h.1.0
-of_seven P h (suc (suc (suc zero))) low high = h.1.1.0
-of_seven P h (suc (suc (suc (suc zero)))) low high = h.1.1.1.0
-of_seven P h (suc (suc (suc (suc (suc zero))))) low high = h.1.1.1.1.0
-of_seven P h (suc (suc (suc (suc (suc (suc zero)))))) low high = h.1.1.1.1.1.0
-of_seven P h (suc (suc (suc (suc (suc (suc (suc zero))))))) low high = h.1.1.1.1.1.1.0
-of_seven P h (suc (suc (suc (suc (suc (suc (suc (suc n)))))))) low high = absurd (omega arith)
+of_seven : (P : ℕ → Type 0) → P 1 → P 2 → P 3 → P 4 → P 5 → P 6 → P 7 → (n : ℕ) → 1 ≤ n → n ≤ 7 → P n
+of_seven P one two three four five six seven zero low high = absurd (omega arith)
+of_seven P one two three four five six seven (suc zero) low high = one
+of_seven P one two three four five six seven (suc (suc zero)) low high = two
+of_seven P one two three four five six seven (suc (suc (suc zero))) low high = three
+of_seven P one two three four five six seven (suc (suc (suc (suc zero)))) low high = four
+of_seven P one two three four five six seven (suc (suc (suc (suc (suc zero))))) low high = five
+of_seven P one two three four five six seven (suc (suc (suc (suc (suc (suc zero)))))) low high = six
+of_seven P one two three four five six seven (suc (suc (suc (suc (suc (suc (suc zero))))))) low high = seven
+of_seven P one two three four five six seven (suc (suc (suc (suc (suc (suc (suc (suc n)))))))) low high = absurd (omega arith)
 
 abbrev Again : Seat → ℕ → Type 0
 Again seat count = item_of (item_text (pair_item (seat, count))) ≡ Some (pair_item (seat, count))
 
 again : (seat : Seat) (count : ℕ) → IsItem (pair_item (seat, count)) → Again seat count
 again (Co n) count is =
-    let one = of_seven (λ (m : ℕ). Again (Co m) 1) (refl, (refl, (refl, (refl, (refl, (refl, (refl, tt))))))) n is.seat.0 is.seat.1 in
+    let one = of_seven (λ (m : ℕ). Again (Co m) 1) refl refl refl refl refl refl refl n is.seat.0 is.seat.1 in
     subst (Again (Co n)) (sym (is.numbered refl)) one
 again (Rksh n) count is =
-    let one = of_seven (λ (m : ℕ). Again (Rksh m) 1) (refl, (refl, (refl, (refl, (refl, (refl, (refl, tt))))))) n is.seat.0 is.seat.1 in
+    let one = of_seven (λ (m : ℕ). Again (Rksh m) 1) refl refl refl refl refl refl refl n is.seat.0 is.seat.1 in
     subst (Again (Rksh n)) (sym (is.numbered refl)) one
-again (Staff Ca) count is = of_seven (Again (Staff Ca)) (refl, (refl, (refl, (refl, (refl, (refl, (refl, tt))))))) count is.one is.seven
-again other count is = of_seven (Again other) (refl, (refl, (refl, (refl, (refl, (refl, (refl, tt))))))) count is.one is.seven
+again (Staff Ca) count is = of_seven (Again (Staff Ca)) refl refl refl refl refl refl refl count is.one is.seven
+again other count is = of_seven (Again other) refl refl refl refl refl refl refl count is.one is.seven
 
 pub item_again : (item : Item) → IsItem item → item_of (item_text item) ≡ Some item
 item_again item is = again item.seat item.count is

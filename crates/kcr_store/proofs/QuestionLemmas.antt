@@ -28,7 +28,8 @@ use Rattle.kcr_history.specs.Room.{sheet, present}
 use Rattle.kcr_history.specs.Tables.{tables, items, bags, ceremonies, ceremony_row, planned_number}
 use Rattle.kcr_history.specs.Views.{is_of_serial, is_of_number, is_stay_of}
 use Rattle.kcr_machine.proofs.BagsWords.{spot-shown}
-use Rattle.kcr_machine.proofs.InRoom.{holder-shown, present-shown}
+use Rattle.kcr_laws.proofs.Staffed.{holder-all}
+use Rattle.kcr_machine.proofs.InRoom.{present-shown}
 use Rattle.kcr_machine.proofs.Scenes.{ceremony-shown}
 use Rattle.kcr_tables.specs.Held.{Tables}
 use Rattle.kcr_tables.specs.Joint.{Stands}
@@ -55,7 +56,7 @@ some_kept test (x ∷ xs) = by_test (test x) (some_kept test xs)
 module _ (A : History) (register : IsRegister A) (t : Tables) (stands : Stands (tables A) t) where
   -- who holds which place on a day
   pub holders_shown : (day : ℕ) → holders_by (λ place. holder_by t.appointments place day) ≡ holders_on A day
-  holders_shown day = λ i. holders_by (λ place. holder-shown A register t.appointments stands.appointments place day i)
+  holders_shown day = λ i. holders_by (λ place. holder-all A register t.appointments stands.appointments place day i)
 
   -- where the bag lies
   pub spot_shown : (serial : List ℕ) (rows : List Bag) → rows ≡ filter (is_of_serial serial) t.bags → spot_by rows serial ≡ spot A serial

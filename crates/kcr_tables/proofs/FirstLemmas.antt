@@ -12,28 +12,31 @@ use Rattle.kcr_tables.specs.Schema.{all_tables}
 use Rattle.kcr_tables.specs.Made.{first}
 
 pub holds_nothing : (db : Database) → db.schema ≡ first 17 → AreEmpty all_tables db.trees → IsSound (first 17) db.trees → Holds db empty_tables
-holds_nothing db is e sound = record {
-  schema = is;
-  kept = record {
-    sound = sound;
-    people = bare people_place db.trees e.0;
-    trainings = bare trainings_place db.trees e.1.0;
-    appointments = bare appointments_place db.trees e.1.1.0;
-    boxes = bare boxes_place db.trees e.1.1.1.0;
-    safes = bare safes_place db.trees e.1.1.1.1.0;
-    bags = bare bags_place db.trees e.1.1.1.1.1.0;
-    items = bare items_place db.trees e.1.1.1.1.1.1.0;
-    ceremonies = bare ceremonies_place db.trees e.1.1.1.1.1.1.1.0;
-    marks = bare marks_place db.trees e.1.1.1.1.1.1.1.1.0;
-    steps = bare steps_place db.trees e.1.1.1.1.1.1.1.1.1.0;
-    seatings = bare seatings_place db.trees e.1.1.1.1.1.1.1.1.1.1.0;
-    sheet = bare sheet_place db.trees e.1.1.1.1.1.1.1.1.1.1.1.0;
-    exceptions = bare exceptions_place db.trees e.1.1.1.1.1.1.1.1.1.1.1.1.0;
-    versions = bare versions_place db.trees e.1.1.1.1.1.1.1.1.1.1.1.1.1.0;
-    keys = bare keys_place db.trees e.1.1.1.1.1.1.1.1.1.1.1.1.1.1.0;
-    stays = bare stays_place db.trees e.1.1.1.1.1.1.1.1.1.1.1.1.1.1.1.0;
-    withdrawals = bare withdrawals_place db.trees e.1.1.1.1.1.1.1.1.1.1.1.1.1.1.1.1.0;
-    spot = tt;
-    seats = tt;
-  };
-}
+holds_nothing db is empty sound =
+    let (people, (trainings, (appointments, (boxes, (safes, (bags, (items, (ceremonies, (marks, others))))))))) = empty in
+    let (steps, (seatings, (sheet, (exceptions, (versions, (keys, (stays, (withdrawals, _)))))))) = others in
+    record {
+      schema = is;
+      kept = record {
+        sound = sound;
+        people = bare people_place db.trees people;
+        trainings = bare trainings_place db.trees trainings;
+        appointments = bare appointments_place db.trees appointments;
+        boxes = bare boxes_place db.trees boxes;
+        safes = bare safes_place db.trees safes;
+        bags = bare bags_place db.trees bags;
+        items = bare items_place db.trees items;
+        ceremonies = bare ceremonies_place db.trees ceremonies;
+        marks = bare marks_place db.trees marks;
+        steps = bare steps_place db.trees steps;
+        seatings = bare seatings_place db.trees seatings;
+        sheet = bare sheet_place db.trees sheet;
+        exceptions = bare exceptions_place db.trees exceptions;
+        versions = bare versions_place db.trees versions;
+        keys = bare keys_place db.trees keys;
+        stays = bare stays_place db.trees stays;
+        withdrawals = bare withdrawals_place db.trees withdrawals;
+        spot = tt;
+        seats = tt;
+      };
+    }

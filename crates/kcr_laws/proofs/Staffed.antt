@@ -1,0 +1,52 @@
+-- Who is trained, who holds a place and who fits a seat: by all rows of a register, in whatever order, as by its history.
+use Rattle.std.proofs.Common.{◌≡◌, ℕ, List, option_map, ap, ◌∙◌}
+use Rattle.std.specs.List.Sorted.{IsPermutation}
+use Rattle.kcr_base.specs.Same.{is_this}
+use Rattle.kcr_base.specs.declared.place.Facility.{Facility}
+use Rattle.kcr_base.specs.declared.place.Place.{Place}
+use Rattle.kcr_base.specs.declared.place.Place.TheVariants as Places
+use Rattle.kcr_base.specs.declared.place.Role.{Role}
+use Rattle.kcr_base.proofs.ListLemmas.{any-same, find-order}
+use Rattle.kcr_people.specs.declared.Appointment.{Appointment}
+use Rattle.kcr_people.specs.declared.Training.{Training}
+use Rattle.kcr_people.specs.declared.Withdrawal.{Withdrawal}
+use Rattle.kcr_people.specs.People.{trained_by, holder_by, holds}
+use Rattle.kcr_people.proofs.Orders.{trained-order}
+use Rattle.kcr_script.specs.declared.seat.Seat.{Seat}
+use Rattle.kcr_script.specs.declared.seat.Seat.TheVariants.{Staff, AnyCo, AnyRksh, Co, Rksh}
+use Rattle.kcr_history.specs.History.{History}
+use Rattle.kcr_history.specs.Fitting.{is_holder_by, fits_by}
+use Rattle.kcr_history.specs.Seating.{fits, one_to_seven}
+use Rattle.kcr_history.specs.Training.{trained, holder, is_holder}
+use Rattle.kcr_history.specs.Tables.{trainings, withdrawals, appointments}
+use Rattle.kcr_history.specs.Machine.{IsRegister}
+use Rattle.kcr_history.proofs.Orderly.{orderly, holder-appointments}
+use Rattle.kcr_history.proofs.Trained.{trained-rows}
+use Rattle.kcr_laws.proofs.Finds.{only-holder}
+
+module _ (A : History) (h : IsRegister A) (us : List Training) (vs : List Withdrawal) (p : IsPermutation (trainings A) us)
+    (q : IsPermutation (withdrawals A) vs) where
+  pub trained-all : (who : List ℕ) (role : Role) (day : ℕ) → trained_by us vs who role day ≡ trained A who role day
+  trained-all who role day = trained-order (trainings A) us (withdrawals A) vs p q who role day ∙ trained-rows A h who role day
+
+module _ (A : History) (h : IsRegister A) (rows : List Appointment) (p : IsPermutation (appointments A) rows) where
+  pub holder-all : (place : Place) (day : ℕ) → holder_by rows place day ≡ holder A place day
+  holder-all place day =
+      ap (option_map (λ row. row.who)) (find-order (holds place day) (appointments A) rows p (λ r e. only-holder place day r (appointments A) (orderly A h).0 e))
+      ∙ holder-appointments A h place day
+
+  is_holder-all : (place : Place) (day : ℕ) (who : List ℕ) → is_holder_by rows place day who ≡ is_holder A place day who
+  is_holder-all place day who = ap (is_this who) (holder-all place day)
+
+module _ (A : History) (h : IsRegister A) (us : List Training) (vs : List Withdrawal) (rows : List Appointment) (p : IsPermutation (trainings A) us)
+    (q : IsPermutation (withdrawals A) vs) (r : IsPermutation (appointments A) rows) where
+  pub fits-all : (f : Facility) (day : ℕ) (seat : Seat) (who : List ℕ) → fits_by us vs rows f day seat who ≡ fits A f day seat who
+  fits-all f day (Staff role) who = trained-all A h us vs p q who role day
+  fits-all f day AnyCo who =
+      any-same (λ n. is_holder_by rows (Places.Co f n) day who) (λ n. is_holder A (Places.Co f n) day who) one_to_seven
+      (λ n. is_holder-all A h rows r (Places.Co f n) day who)
+  fits-all f day (Co n) who = is_holder-all A h rows r (Places.Co f n) day who
+  fits-all f day AnyRksh who =
+      any-same (λ n. is_holder_by rows (Places.Rksh n) day who) (λ n. is_holder A (Places.Rksh n) day who) one_to_seven
+      (λ n. is_holder-all A h rows r (Places.Rksh n) day who)
+  fits-all f day (Rksh n) who = is_holder-all A h rows r (Places.Rksh n) day who
