@@ -22,7 +22,7 @@ LETTERS = "ABCDEFGHIJKLMNOPQRSTUVWXYZ"
 TABLES = pathlib.Path(__file__).resolve().parent.parent / "tools" / "tables.py"
 KEY = 'SELECT "key", accepted, command, reply FROM keys WHERE "key" = ?1 ORDER BY "key"'
 PERSON = "SELECT who, name FROM people WHERE who = ?1 ORDER BY who"
-PUT_PERSON = "INSERT INTO people (who, name) VALUES (?1, ?2) ON CONFLICT (who) DO UPDATE SET who = ?1, name = ?2"
+PUT_PERSON = "INSERT INTO people (who, name) VALUES (?1, ?2)"
 PUT_KEY = 'INSERT INTO keys ("key", accepted, command, reply) VALUES (?1, ?2, ?3, ?4)'
 
 

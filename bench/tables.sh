@@ -15,6 +15,6 @@ done
 mkdir -p "$work/crates/bench_tables/src"
 cp bench/tables/main.txt "$work/crates/bench_tables/src/main.rt"
 cp bench/tables/stdin "$work/crates/bench_tables/stdin"
-printf 'bench_tables: kcr_base kcr_people kcr_history kcr_tables sqlite anyhow\n' >> "$work/crates.txt"
+printf 'bench_tables: kcr_base kcr_history kcr_tables sqlite anyhow\n' >> "$work/crates.txt"
 cd "$work/crates/bench_tables"
 rt run

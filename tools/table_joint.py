@@ -4,6 +4,11 @@ from table_specs import uses
 from table_writer import write
 
 
+def parts(names, rest):
+    """The pattern of pairs that gives these names, and the last one to what is left."""
+    return "".join(f"({name}, " for name in names) + rest + ")" * len(names)
+
+
 def lemmas_make():
     n = len(TABLES)
     out = f"""-- One CREATE TABLE after the other.
@@ -68,17 +73,20 @@ use Rattle.kcr_tables.specs.Schema.{{all_tables}}
 use Rattle.kcr_tables.specs.Made.{{first}}
 
 pub holds_nothing : (db : Database) → db.schema ≡ first {n} → AreEmpty all_tables db.trees → IsSound (first {n}) db.trees → Holds db empty_tables
-holds_nothing db is e sound = record {{
-  schema = is;
-  kept = record {{
-    sound = sound;
+holds_nothing db is empty sound =
+    let {parts([t.name for t in TABLES[:9]], "others")} = empty in
+    let {parts([t.name for t in TABLES[9:]], "_")} = others in
+    record {{
+      schema = is;
+      kept = record {{
+        sound = sound;
 """
     for t in TABLES:
-        out += f"    {t.name} = bare {t.place} db.trees e{'.1' * t.at}.0;\n"
+        out += f"        {t.name} = bare {t.place} db.trees {t.name};\n"
     for t in TABLES:
         if t.is_stored:
-            out += f"    {t.stored_fact} = tt;\n"
-    out += "  };\n}\n"
+            out += f"        {t.stored_fact} = tt;\n"
+    out += "      };\n    }\n"
     write("proofs/FirstLemmas.antt", out)
 
 

@@ -57,19 +57,39 @@ pub still : (old new : Trees) (rows : List {t.type}) (t : Tables) → IsSound re
 still old new rows t sound keeps stored others k = {lines(fields)}"""
 
 
+def terms(t):
+    """What a row that is entered is made of: the row id in front, and NULL where a column is the row id."""
+    if not t.alias:
+        return f"new_terms {len(t.columns)}"
+    front = [f"col 0 {i}" for i, c in enumerate(t.columns) if c.name == t.alias]
+    return listed(front + ["lit Null" if c.name == t.alias else f"col 0 {i}" for i, c in enumerate(t.columns)])
+
+
+def given(t):
+    """The row of a value `x` as the text gives it to the table."""
+    if not t.alias:
+        return f"Null ∷ {t.row_of} x"
+    front = [c.value("x") for c in t.columns if c.name == t.alias]
+    return listed(front + ["Null" if c.name == t.alias else c.value("x") for c in t.columns])
+
+
+def casts(t):
+    """The same as it is stored, along the line `i`."""
+    stored = [c.kind.cast.format(x=f"x.{c.field}") for c in t.columns]
+    if not t.always_new:
+        return listed(stored)
+    front = [cast for c, cast in zip(t.columns, stored) if c.name == t.alias] or ["cast_null i"]
+    return listed(front + ["cast_null i" if c.name == t.alias else cast for c, cast in zip(t.columns, stored)])
+
+
 def puts(t):
-    fields = {
-        "at": t.at,
-        "name": codes(t.name),
-        "columns": listed(t.schema_columns()),
-        "others": listed(f"({listed(str(i + 1) for i in other)})" for other in t.others),
-        "terms": f"new_terms {len(t.columns)}",
-        "test": f"update_test {len(t.columns)}",
-        "sets": f"update_terms {len(t.columns)}",
-        "casts": f"λ x i. {listed(c.kind.cast.format(x=f'x.{c.field}') for c in t.columns)}",
-        "bare": "(refl, refl)",
-        "is": "refl",
-    }
+    fields = {"at": t.at, "table": t.name, "terms": terms(t)}
+    if t.always_new:
+        fields["given"] = f"λ x. {given(t)}"
+    else:
+        fields["test"] = f"update_test {len(t.columns)}"
+        fields["sets"] = f"update_terms {len(t.columns)}"
+    fields |= {"casts": f"λ x i. {casts(t)}", "bare": "(refl, refl)", "is": "refl"}
     return f"""
 -- ---- a row put under its key
 
@@ -78,7 +98,8 @@ put_sql = {codes(t.put_text())}
 
 pub puts : PutsRow put_sql {t.place} {t.row_of}
 unfolding understood everything
-puts = {lines(fields)}"""
+puts = {'inr' if t.always_new else 'inl'} ({lines(fields).rstrip()})
+"""
 
 
 def finds(t, r):
@@ -163,16 +184,16 @@ def laws(t):
     stored_of = (lambda x: f"{t.is_stored} {x}") if t.is_stored else (lambda x: "⊤")
     read_of = (lambda x: f"{t.is_read} {x}") if t.is_read else (lambda x: "⊤")
     out = f"-- What the table {t.name} proves of its texts, and of its place among the others.\n"
-    common = ["◌≡◌", "◌≢◌", "IsPermutation", "ℕ", "pos", "List", "[]", "◌∷◌", "map", "codes", "true", "refl", "sym", "ap", "subst", "◌∙◌", "◌==◌"]
+    common = ["◌≡◌", "◌≢◌", "inl", "inr", "IsPermutation", "ℕ", "pos", "List", "[]", "◌∷◌", "map", "codes", "true", "refl", "sym", "ap", "subst", "◌∙◌", "◌==◌"]
     out += f"use Rattle.std.proofs.Common.{{{', '.join(common)}}}\n"
     out += """use Rattle.std.specs.Bool.{⊤}
 use Rattle.std.specs.List.{AllByRecursion}
 use Rattle.std.proofs.lemmas.List.Sorted.{IsPermutation-refl}
-use Rattle.sqlite.specs.declared.types.Value.TheVariants.{Int, Text}
+use Rattle.sqlite.specs.declared.types.Value.TheVariants.{Null, Int, Text}
 """
     if any("column r" in is_same for is_same in fields.values()):
         out += "use Rattle.sqlite.specs.Order.{Row, column}\n"
-    out += """use Rattle.sqlite.specs.Term.{Term}
+    out += """use Rattle.sqlite.specs.Term.{Term, lit, col}
 use Rattle.sqlite.specs.Tree.{Trees}
 use Rattle.sqlite.specs.Edit.{IsNoIndex}
 use Rattle.sqlite.specs.Listing.{understood}
@@ -189,8 +210,8 @@ use Rattle.kcr_base.specs.Place.{place_text}
         out += "use Rattle.kcr_history.specs.declared.views.AppointmentsOf.TheVariants as Wanted\n"
     if t.name == "items":
         out += "use Rattle.kcr_history.specs.declared.views.ItemsOf.TheVariants as Wanted\n"
-    out += "use Rattle.kcr_rows.specs.Columns.{words, number, words_or_null, number_or_null}\nuse Rattle.kcr_rows.specs.Keyed.{Keeps}\n"
-    out += "use Rattle.kcr_rows.proofs.FilterLemmas.{has_value, value_is}\nuse Rattle.kcr_rows.proofs.WriteLemmas.{cast_int}\nuse Rattle.kcr_rows.proofs.TableLemmas.{keeps_still, each_is}\n"
+    out += "use Rattle.kcr_rows.specs.Keyed.{Keeps}\n"
+    out += "use Rattle.kcr_rows.proofs.FilterLemmas.{has_value, value_is}\nuse Rattle.kcr_rows.proofs.WriteLemmas.{cast_null, cast_int}\nuse Rattle.kcr_rows.proofs.TableLemmas.{keeps_still, each_is}\n"
     ones = sorted({c.kind.one for c in cols if c.kind.one} & ONES)
     out += f"use Rattle.kcr_rows.proofs.SameLemmas.{{{', '.join(ones + ['text_ties', 'number_ties'])}}}\n"
     own = sorted(({c.kind.one for c in cols if c.kind.one} - ONES) | {x for c in cols for x in c.kind.casts if x != "cast_int"})
@@ -202,7 +223,7 @@ use Rattle.kcr_base.specs.Place.{place_text}
     facts = sorted({x for x in (t.is_read, t.is_stored) if x})
     if facts:
         out += f"use Rattle.kcr_rows.specs.States.{{{', '.join(facts)}}}\n"
-    out += f"use Rattle.kcr_tables.specs.Schema.{{register_schema}}\nuse Rattle.kcr_tables.specs.Held.{{Tables, Kept, {', '.join(u.place for u in TABLES)}}}\n"
+    out += f"use Rattle.kcr_tables.specs.Schema.{{register_schema, {t.name}}}\nuse Rattle.kcr_tables.specs.Held.{{Tables, Kept, {', '.join(u.place for u in TABLES)}}}\n"
     out += "use Rattle.kcr_tables.specs.First.{first_tables}\nuse Rattle.kcr_tables.specs.Parts.{text_in, number_in}\nuse Rattle.kcr_tables.specs.Statements.{shown_columns, key_order, is_given, ShowsRows, new_terms, update_test, update_terms, PutsRow}\nuse Rattle.kcr_tables.specs.Table.{Table, IsTable, Finding, IsFinding}\n"
     out += f"\nabbrev pub project : List Term\nproject = shown_columns {t.place}\n"
     out += f"\nabbrev order : List (Term × Key)\norder = key_order {t.place}\n"
@@ -215,7 +236,5 @@ use Rattle.kcr_base.specs.Place.{place_text}
     for r in t.readings:
         if not r.greatest:
             out += finds(t, r)
-    if not t.alias:
-        out += puts(t)
-    out += still(t) + table_laws(t)
+    out += puts(t) + still(t) + table_laws(t)
     write(f"specs/{t.laws}.antt", out)

@@ -98,7 +98,7 @@ class Reading:
 
 
 class Table:
-    def __init__(self, name, row, type_, crate, module, columns, keys, doc, change=None, same=None, turned=False, others=(), readings=(), alias=None,
+    def __init__(self, name, row, type_, crate, module, columns, keys, doc, change=None, same=None, turned=False, others=(), readings=(), alias=None, always_new=False,
                  is_read=None, is_stored=None, stored_fact=None):
         self.name, self.row, self.type = name, row, type_
         self.crate = crate
@@ -106,7 +106,8 @@ class Table:
         self.columns, self.keys, self.doc = columns, keys, doc
         self.change, self.same, self.turned = change, same, turned
         self.others, self.readings = others, readings
-        self.alias = alias  # the column that is the row id: such a table has a key of one column, and its rows are entered and never changed
+        self.alias = alias  # the column that is the row id: such a table has a key of one column
+        self.always_new = always_new  # a row that is put has a key that no row had: it is entered, and never changed
         self.is_read, self.is_stored, self.stored_fact = is_read, is_stored, stored_fact
         self.row_of = f"{row}_row"
         self.place = f"{name}_place"
@@ -131,7 +132,7 @@ class Table:
     def put_text(self):
         marks = ", ".join(f"?{i + 1}" for i in range(len(self.columns)))
         sets = ", ".join(f"{c.sql} = ?{i + 1}" for i, c in enumerate(self.columns))
-        over = "" if self.alias else f" ON CONFLICT ({self.order()}) DO UPDATE SET {sets}"
+        over = "" if self.always_new else f" ON CONFLICT ({self.order()}) DO UPDATE SET {sets}"
         return f"INSERT INTO {self.name} ({self.names()}) VALUES ({marks}){over}"
 
     def create_text(self):
@@ -177,18 +178,18 @@ def of_ceremony(table, word=None, column="ceremony"):
 TABLES = [
     Table("people", "person", "Person", "kcr_people", "", [Column("who", INITIALS), Column("name", LINE)], 1,
           "a person under their initials",
-          "PutPerson", "same_person",
+          "PutPerson", "same_person", always_new=True,
           readings=[Reading("person_of", "The row of the person with these initials, alone, or none", "who", "who", "&Initials", INITIALS, "same_text {x}.who {v}")]),
     Table("trainings", "training", "Training", "kcr_people", "", [Column("who", INITIALS), Column("role", ROLE), Column("since", DAY), Column("until", DAY)], 4,
           "a training of a person for a role, all of it its key",
-          "PutTraining", "same_training", turned=True, readings=[of_person("trainings", "is_training_of")]),
+          "PutTraining", "same_training", turned=True, always_new=True, readings=[of_person("trainings", "is_training_of")]),
     Table("appointments", "appointment", "Appointment", "kcr_people", "", [Column("place", PLACE), Column("since", DAY), Column("who", INITIALS), Column("until", DAY_OR_NULL)], 2,
           "who holds a custodian's place, under the place and the first day",
           "PutAppointment", "same_appointment", others=[[2, 1, 0]],
           readings=[Reading("last_appointment_to", "The row of the place's appointment that began last, alone, or none", "place", "place", "Place", PLACE, "same_place {x}.place {v}", ask="is_appointment_to {v}", greatest="since"),
                     Reading("last_appointment_of", "The row of the person's appointment that began last, alone, or none", "who", "who", "&Initials", INITIALS, "same_text {x}.who {v}", ask="is_appointment_of {v}", greatest="since")]),
     Table("boxes", "box", "BoxRow", "kcr_custody", "", [Column("facility", FACILITY), Column("box", NUMBER, "number"), Column("place", PLACE)], 2,
-          "a box under its facility and number", "PutBox", "same_box"),
+          "a box under its facility and number", "PutBox", "same_box", always_new=True),
     Table("safes", "safe", "SafeRow", "kcr_custody", "", [Column("facility", FACILITY), Column("safe", SAFE), Column("state", TRUTH, "is_open")], 2,
           "a safe under its facility and number", "PutSafe", "same_safe_row"),
     Table("bags", "bag", "Bag", "kcr_custody", "", [Column("serial", SERIAL), Column("spot", SPOT)], 1,
@@ -208,19 +209,19 @@ TABLES = [
           "a step of a ceremony under both numbers", "PutStep", "same_step",
           readings=[of_ceremony("steps", "is_step_of")], is_read="HasOnlyTheseSeats", is_stored="HasSeatsText", stored_fact="seats"),
     Table("seatings", "seating", "SeatingRow", "kcr_history", "rows.", [Column("ceremony", NUMBER), Column("step", NUMBER), Column("seat", NUMBER), Column("who", INITIALS)], 3,
-          "who filled a seat of a step, under the ceremony, the step and the seat", "PutSeating", "same_seating",
+          "who filled a seat of a step, under the ceremony, the step and the seat", "PutSeating", "same_seating", always_new=True,
           readings=[of_ceremony("seatings")]),
     Table("sheet", "sheet", "SheetRow", "kcr_room", "", [Column("who", INITIALS), Column("at", MOMENT), Column("ceremony", NUMBER), Column("way", WAY)], 2,
-          "a row of a ceremony's entry and exit sheet, under the person and the moment", "PutSheet", "same_sheet_row",
+          "a row of a ceremony's entry and exit sheet, under the person and the moment", "PutSheet", "same_sheet_row", always_new=True,
           readings=[of_ceremony("sheet")]),
     Table("exceptions", "exception", "ExceptionRow", "kcr_history", "rows.", [Column("ceremony", NUMBER), Column("exception", NUMBER), Column("text", LINE), Column("at", MOMENT), Column("passed", NUMBER_OR_NULL)], 2,
-          "a script exception of a ceremony under both numbers", "PutException", "same_exception",
+          "a script exception of a ceremony under both numbers", "PutException", "same_exception", always_new=True,
           readings=[of_ceremony("exceptions", "is_exception_of")]),
     Table("versions", "version", "Version", "kcr_rows", "rows.", [Column("number", NUMBER)], 1,
           "one row with the number of the schema"),
     Table("keys", "key", "KeyRow", "kcr_history", "rows.", [Column("key", KEY), Column("accepted", NUMBER), Column("command", TEXT), Column("reply", TEXT)], 1,
           "a row for each accepted command, under its key; its number is the row id, and that of no other row",
-          "PutKey", "same_key_row", alias="accepted",
+          "PutKey", "same_key_row", alias="accepted", always_new=True,
           readings=[Reading("key_row_of", "The row of this key, alone, or none", '"key"', "key", "&Key", KEY, "same_text {x}.key {v}", ask="is_of_key {v}"),
                     Reading("last_key_row", "The row with the greatest number, alone, or none where there is no row", None, greatest="accepted")]),
     Table("stays", "stay", "Stay", "kcr_room", "", [Column("who", INITIALS), Column("since", MOMENT), Column("ceremony", NUMBER), Column("until", MOMENT_OR_NULL)], 2,

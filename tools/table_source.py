@@ -27,8 +27,7 @@ def put_source(t):
         if c.kind.prelude:
             out += "        " + c.kind.prelude.format(f=c.field, x=f"self.{c.field}") + "\n"
     cells = ", ".join(c.kind.write.format(f=c.field, x=f"self.{c.field}") for c in t.columns)
-    call = "write(tx, " if t.alias else "put_cells(tx, self, "
-    return out + f"        {call}{rust_text(t.put_text())}, &[{cells}])\n    }}\n"
+    return out + f"        put_cells(tx, self, {rust_text(t.put_text())}, &[{cells}])\n    }}\n"
 
 
 def source(t):
@@ -39,20 +38,17 @@ def source(t):
         p = r.prefix
         body = member("finding", f"laws.{p}") + text_method("find_text", t.text_of(r)) + member("finding_laws", f"laws.{p}_laws")
         out += f"/// {r.doc}.\n" + impl(f"Finds<{KEY_TYPES[r.ty]}>", t, body)
-    lemmas = "" if t.alias else f"    #[tactic(auto, using(crate::specs::{t.laws}::puts))]\n"
-    if t.alias:
-        out += "/// A row whose key or number is taken is not put: that is the error `Disk`.\n"
+    lemmas = f"    #[tactic(auto, using(crate::specs::{t.laws}::puts))]\n"
     out += impl("PutWords" if t.needs_alloc else "Put", t, lemmas + put_source(t))
     keys = {KEY_TYPES[r.ty] for r in found}
     base = sorted(keys & {"Initials", "Serial", "ItemCode", "Key"} | {"Refusal"})
     cells = {c.kind.cell() for c in t.columns} | {c.kind.prelude.split("= ")[1].split("(")[0] for c in t.columns if "(alloc" in (c.kind.prelude or "")}
-    table = ["Listed", "PutWords" if t.needs_alloc else "Put"] + ["Finds"] * bool(found) + ["put_cells"] * (not t.alias)
+    table = ["Listed", "PutWords" if t.needs_alloc else "Put"] + ["Finds"] * bool(found) + ["put_cells"]
     imports = [
         f"use crate::table::{{{', '.join(sorted(table, key=lambda n: (n[0].islower(), n)))}}};",
         f"use kcr_base::{{{', '.join(base)}}};",
         f"use {t.crate}::{t.type};",
         f"use kcr_rows::cells::{{{', '.join(sorted(cells))}}};",
-        "use kcr_rows::statements::write;" if t.alias else "",
         "use sqlite::{Alter, Transaction};",
         "use std::alloc::Global;" if t.needs_alloc else "",
     ]

@@ -1,5 +1,5 @@
 -- What one statement on a table with a key does to what the trees keep.
-use Rattle.std.proofs.Common.{◌≡◌, ◌≢◌, inl, inr, ◌==◌, not, ℕ, ℤ, zero, suc, ◌/◌, ◌^◌, nat_le, ◌&&◌, Bool, true, false, List, [], ◌∷◌, ◌++◌, map, filter}
+use Rattle.std.proofs.Common.{◌≡◌, ◌≢◌, inl, inr, ◌==◌, not, ℕ, zero, suc, ◌/◌, ◌^◌, nat_le, ◌&&◌, Bool, true, false, List, [], ◌∷◌, ◌++◌, map, filter}
 use Rattle.std.proofs.Common.{length, slice_get, Some, None, Ok, Less, Equal, Greater, IsTrue, cond, eq-eqb, refl, sym, ap, subst, ◌∙◌, true≢false}
 use Rattle.std.specs.Bool.{⊤}
 use Rattle.std.specs.List.{AllByRecursion, list_all}
@@ -27,7 +27,6 @@ use Rattle.sqlite_trees.specs.View.{is_int, IsShaped}
 use Rattle.sqlite_trees.specs.declared.store.Shape.TheVariants as shape
 use Rattle.sqlite_trees.proofs.ListLemmas.{all-permutation, all_from_map, filter_all, filter-map}
 use Rattle.sqlite_catalog.specs.Listing.{IsSound}
-use Rattle.sqlite_schema.specs.declared.schema.Column.{Column}
 use Rattle.sqlite_schema.specs.declared.schema.Index.{Index}
 use Rattle.sqlite_schema.specs.declared.schema.Keys.TheVariants.{Enforced}
 use Rattle.sqlite_schema.specs.declared.schema.Constraint.{Constraint}
@@ -39,12 +38,12 @@ use Rattle.sqlite_rules.specs.Lists.{Has}
 use Rattle.sqlite_rules.specs.Action.{works}
 use Rattle.sqlite_rules.proofs.ListLemmas.{all_has, all_from}
 use Rattle.sqlite_rules.proofs.TableLemmas.{int_is}
-use Rattle.kcr_rows.specs.Columns.{aliased}
+use Rattle.kcr_rows.specs.Columns.{simple_as}
 use Rattle.kcr_rows.specs.Keyed.{cells, by_key, is_full, Place, Keeps, put, put_in}
 use Rattle.kcr_rows.proofs.ReadLemmas.{reading, with_key, reads_rows, reads_exact}
 use Rattle.kcr_rows.proofs.PutLemmas.{keeps_put, put_row_same, has_same}
 use Rattle.kcr_rows.proofs.KeyLemmas.{places_from, full, fresh_key, not_any}
-use Rattle.kcr_rows.proofs.WriteLemmas.{IsInserted, inserts}
+use Rattle.kcr_rows.proofs.WriteLemmas.{IsInserted, entered, inserts}
 
 -- one row was put, and what lies in other trees is as it was
 pub record Changes (place : Place) (schema : Schema) (values : Row) (old new : Trees) : Type 0 where
@@ -74,46 +73,46 @@ module _ (place : Place) (db : Trees) (rows : List Row) (keeps : Keeps place db 
       (all_from_map (λ row. is_full place.keys row ≡ true) (cells place) (db place.tree)
       (all-permutation (λ row. is_full place.keys row ≡ true) _ _ keeps.same keeps.full)) h
 
--- INSERT of a row with its rowid, which is refused where a row has the key or the rowid
-module _ (place : Place) (schema : Schema) (at : ℕ) (name : List ℕ) (columns : List Column) (alias : ℕ) (others : List (List ℕ))
-    (here : slice_get schema.tables at ≡ Some (aliased name place.tree columns alias others))
+-- INSERT of a row, which is refused where a row has the key or the rowid
+module _ (place : Place) (schema : Schema) (at : ℕ) (like : Table)
+    (here : slice_get schema.tables at ≡ Some (simple_as place.tree like))
     (alone : (olds news : List Row) → works schema Enforced 0 place.tree olds news ≡ [])
     (compares : (a b : Row) → by_key place.keys (cells place a) (cells place b) ≡ key_cmp 1 (rising place.keys []) a b)
     (fulls : (a : Row) → is_full place.keys (cells place a) ≡ full 1 place.keys a)
-    (rest : List Row → Row → Bool)
     (guarded : (rows : List Row) (row : Row)
-    → list_all (λ i. not (guards i (aliased name place.tree columns alias others) && clashes i.order i.columns rows row)) schema.indexes
-    ≡ (not (clashes plain (places_from 1 place.keys) rows row) && rest rows row))
+    → list_all (λ i. not (guards i (simple_as place.tree like) && clashes i.order i.columns rows row)) schema.indexes
+    ≡ (not (clashes plain (places_from 1 place.keys) rows row) && true))
     (sql : List ℕ) (terms : List Term)
     (is : command_of (understood schema sql) ≡ Insert at (Values terms (suc (length place.at))))
     (bare : IsPlain (understood schema sql))
-    (values entry : Row) (id : ℤ)
-    (given : value_rows (values ++ []) (suc (length place.at)) (length terms / suc (length place.at)) terms ≡ entry ∷ [])
-    (casts : cast_row (aliased name place.tree columns alias others) entry ≡ entry)
-    (numbered : rowid entry ≡ Int id)
-    (shown : cells place entry ≡ values)
+    (values given : Row)
+    (gives : value_rows (values ++ []) (suc (length place.at)) (length terms / suc (length place.at)) terms ≡ given ∷ [])
+    (casts : cast_row (simple_as place.tree like) given ≡ given)
+    (numbered : (entries : List Row) → IsTrue (is_int (rowid (entered entries given))))
+    (shown : (entries : List Row) → cells place (entered entries given) ≡ values)
     (filled : is_full place.keys values ≡ true) where
   abbrev table : Table
-  table = aliased name place.tree columns alias others
+  table = simple_as place.tree like
 
   abbrev target : List ℕ
   target = places_from 1 place.keys
 
   abbrev IsIn : Trees → Trees → Type 0
-  IsIn old new = IsInserted schema place.tree old new entry
+  IsIn old new = IsInserted schema place.tree old new (entered (old place.tree) given)
 
   -- no row that was there has the key
   other_key : (old new : Trees) → IsIn old new → (rows : List Row) → Keeps place old rows → (r : Row) → Has (old place.tree) r
       → is_eq (by_key place.keys (cells place r) values) ≡ false
   other_key old new p rows keeps r h =
       let entries = old place.tree in
+      let entry = entered entries given in
       let there = λ (x : Row) (k : Has (entry ∷ entries) x).
       subst (λ l. Has l x) (sym p.is) (has_same (entry ∷ entries) (put_row entry entries) x (put_row_same entry entries p.free) k) in
       let passed =
       all_has (λ row. passes Unique schema new table row ≡ true) (new place.tree) entry
       (rule_of Unique schema new at table here (p.fits.rules Unique (λ e. cc))) (there entry (inl refl)) in
       let clash : clashes plain target (new place.tree) entry ≡ false = not-true _ (and_parts _ _ (sym (guarded (new place.tree) entry) ∙ passed)).0 in
-      fresh_key place entries entry id values compares fulls numbered shown p.free r h
+      fresh_key place entries entry (id_in (rowid entry)) values compares fulls (int_is (rowid entry) (numbered entries)) (shown entries) p.free r h
       (own_id place old rows keeps r h) (whole place old rows keeps r h) filled
       (not_any (λ other. agree plain target other target entry && differ (rowid other) (rowid entry)) (new place.tree) r clash (there r (inr h)))
 
@@ -122,7 +121,7 @@ module _ (place : Place) (schema : Schema) (at : ℕ) (name : List ℕ) (columns
       let entries = old place.tree in
       let none = all_from _ entries (λ r h. ap not (other_key old new p rows keeps r h)) in
       let left = sym (filter_all (λ r. not (is_eq (by_key place.keys (cells place r) values))) entries none) in
-      keeps_put place old entry values entries keeps.shaped left rows keeps new filled shown (subst (λ v. IsTrue (is_int v)) (sym numbered) refl) p.free p.is
+      keeps_put place old (entered entries given) values entries keeps.shaped left rows keeps new filled (shown entries) (numbered entries) p.free p.is
 
   abbrev Inserts : Command
   Inserts = Insert at (Values terms (suc (length place.at)))
@@ -134,7 +133,7 @@ module _ (place : Place) (schema : Schema) (at : ℕ) (name : List ℕ) (columns
       let w = runs_as sql values old new schema has Inserts is bare count h in
       let text = statement_of sql (understood schema sql) in
       let p =
-      inserts schema at name place.tree columns alias others terms (suc (length place.at)) values entry id here alone given casts numbered
+      inserts schema at place.tree like terms (suc (length place.at)) values given here alone gives casts
       old.step_limit old.now.trees text w.tally new.now
       (subst (λ s. Does old.step_limit (mode_of old) values (record old.now { schema = s }) text None Inserts (Ok (w.tally, new.now))) has w.changed) in
       (p.0, record { sound = subst (λ s. IsSound s new.now.trees) p.0 w.sound; rows = insert_keeps old.now.trees new.now.trees p.1; others = p.1.others })

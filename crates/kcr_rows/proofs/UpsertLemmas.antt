@@ -25,7 +25,6 @@ use Rattle.sqlite.specs.Edit.{Edit, id_in, edit_of, left_by, edited, with_rowid,
 use Rattle.sqlite.specs.Rowids.TheVariants.{Chosen, Given}
 use Rattle.sqlite_trees.proofs.ListLemmas.{filter-map, filter_all, filter_none, filter_same, IsPermutation-filter}
 use Rattle.sqlite_schema.specs.Rules.{equal, agree}
-use Rattle.sqlite_schema.specs.declared.schema.Column.{Column}
 use Rattle.sqlite_schema.specs.declared.schema.Keys.TheVariants.{Enforced}
 use Rattle.sqlite_schema.specs.declared.command.Conflict.TheVariants.{Abort}
 use Rattle.sqlite_schema.specs.declared.command.Upsert.{Upsert}
@@ -48,7 +47,7 @@ use Rattle.sqlite.specs.Command.{Command}
 use Rattle.sqlite.specs.State.{State, mode_of, Executes}
 use Rattle.sqlite.proofs.Callers.{IsPlain, command_of, statement_of, runs_as, one_step, one_permutation}
 use Rattle.sqlite_catalog.specs.Listing.{IsSound}
-use Rattle.kcr_rows.specs.Columns.{keyed}
+use Rattle.kcr_rows.specs.Columns.{simple_as}
 use Rattle.kcr_rows.specs.Keyed.{cells, by_key, is_full, Place, Keeps, put}
 use Rattle.kcr_rows.proofs.ReadLemmas.{reading, kept_from}
 use Rattle.kcr_rows.proofs.PutLemmas.{keeps_put}
@@ -83,15 +82,14 @@ pub record IsUpserted (schema : Schema) (table : Table) (tree : ℕ) (target : L
   pub goes : Goes table tree test sets old new values found
   pub others : (t : ℕ) → t ≢ tree → IsNoIndex schema t → new t ≡ old t
 
-module _ (schema : Schema) (at : ℕ) (name : List ℕ) (tree : ℕ) (columns : List Column) (places : List ℕ) (others : List (List ℕ)) (terms : List Term)
-    (width : ℕ) (values : Row)
-    (here : slice_get schema.tables at ≡ Some (keyed name tree columns places others))
+module _ (schema : Schema) (at : ℕ) (tree : ℕ) (like : Table) (places : List ℕ) (terms : List Term) (width : ℕ) (values : Row)
+    (here : slice_get schema.tables at ≡ Some (simple_as tree like))
     (alone : (olds news : List Row) → works schema Enforced 0 tree olds news ≡ [])
     (given : value_rows (values ++ []) (suc width) (length terms / suc width) terms ≡ (Null ∷ values) ∷ [])
-    (casts : cast_all columns values ≡ values)
+    (casts : cast_all like.columns values ≡ values)
     (test sets : List Term) where
   abbrev table : Table
-  table = keyed name tree columns places others
+  table = simple_as tree like
 
   abbrev task : Option ℕ → Task
   task limit = record { limit = limit; keys = Enforced; schema = schema; table = table; params = values }
@@ -231,8 +229,8 @@ module _ (place : Place) (db : Trees) (rows : List Row) (keeps : Keeps place db 
       let low : length (filter has entries) ≤ 1 = rw long (few place.keys values rows keeps.rising) in
       at_most (filter has entries) x y low (has_kept has entries x h p) (has_kept has entries y k q)
 
-module _ (place : Place) (schema : Schema) (at : ℕ) (name : List ℕ) (columns : List Column) (others : List (List ℕ))
-    (here : slice_get schema.tables at ≡ Some (keyed name place.tree columns (places_from 1 place.keys) others))
+module _ (place : Place) (schema : Schema) (at : ℕ) (like : Table)
+    (here : slice_get schema.tables at ≡ Some (simple_as place.tree like))
     (alone : (olds news : List Row) → works schema Enforced 0 place.tree olds news ≡ [])
     (compares : (a b : Row) → by_key place.keys (cells place a) (cells place b) ≡ key_cmp 1 (rising place.keys []) a b)
     (fulls : (a : Row) → is_full place.keys (cells place a) ≡ full 1 place.keys a)
@@ -240,24 +238,24 @@ module _ (place : Place) (schema : Schema) (at : ℕ) (name : List ℕ) (columns
     (bare : IsPlain (understood schema sql))
     (values : Row)
     (given : value_rows (values ++ []) (suc (length place.at)) (length terms / suc (length place.at)) terms ≡ (Null ∷ values) ∷ [])
-    (casts : cast_all columns values ≡ values)
+    (casts : cast_all like.columns values ≡ values)
     (shown_as : (id : ℤ) → cells place (Int id ∷ values) ≡ values)
     (filled : is_full place.keys values ≡ true)
     (test sets : List Term)
     (tests : (entries : List Row) (there r : Row)
-    → list_all (holds (seen (keyed name place.tree columns (places_from 1 place.keys) others) entries values there ∷ r ∷ [])) test ≡
+    → list_all (holds (seen (simple_as place.tree like) entries values there ∷ r ∷ [])) test ≡
     (equal Binary (rowid r) (rowid there) && true))
     (gives : (entries : List Row) (there r : Row)
-    → eval_all sets (seen (keyed name place.tree columns (places_from 1 place.keys) others) entries values there ∷ r ∷ []) ≡ rowid r ∷ rowid r ∷ values)
+    → eval_all sets (seen (simple_as place.tree like) entries values there ∷ r ∷ []) ≡ rowid r ∷ rowid r ∷ values)
     (low : nat_le (2 ^ 31) place.tree ≡ false)
     (shared : (a b : Row)
-    → list_any (shares (Some (places_from 1 place.keys)) (keyed name place.tree columns (places_from 1 place.keys) others) a b) schema.indexes
+    → list_any (shares (Some (places_from 1 place.keys)) (simple_as place.tree like) a b) schema.indexes
     ≡ (agree plain (places_from 1 place.keys) b (places_from 1 place.keys) a || false))
     (is : command_of (understood schema sql)
     ≡ InsertOr at Abort (Values terms (suc (length place.at)))
     (record { target = Some (places_from 1 place.keys); update = Some (record { lets = []; body = finding place.tree test sets }) } ∷ [])) where
   abbrev that : Table
-  that = keyed name place.tree columns (places_from 1 place.keys) others
+  that = simple_as place.tree like
 
   and_yes : (b : Bool) → (b && true) ≡ b
   and_yes b = grind arith
@@ -347,7 +345,7 @@ module _ (place : Place) (schema : Schema) (at : ℕ) (name : List ℕ) (columns
   executes_upsert old new count has h =
       let w = runs_as sql values old new schema has Upserts_it is bare count h in
       let text = statement_of sql (understood schema sql) in
-      let p = upserts schema at name place.tree columns (places_from 1 place.keys) others terms
+      let p = upserts schema at place.tree like (places_from 1 place.keys) terms
       (length place.at) values here alone given casts test sets old.step_limit old.now.trees text w.tally new.now
       (subst (λ s. Does old.step_limit (mode_of old) values (record old.now { schema = s }) text None Upserts_it (Ok (w.tally, new.now))) has w.changed) in (
         p.0,

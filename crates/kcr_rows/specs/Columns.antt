@@ -48,6 +48,10 @@ simple name tree columns alias primary uniques = record {
   is_counted = false;
 }
 
+-- one in this tree that has the columns and the keys of a table, and nothing else
+abbrev pub simple_as : ℕ → Table → Table
+simple_as tree like = simple like.name tree like.columns like.key like.primary like.uniques
+
 -- a table whose key is these places; no two rows agree on the places of one of the others
 abbrev pub keyed : List ℕ → ℕ → List Column → List ℕ → List (List ℕ) → Table
 keyed name tree columns places others = simple name tree columns None places (places ∷ others)

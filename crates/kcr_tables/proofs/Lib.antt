@@ -5,7 +5,6 @@ pub mod FrameLemmas
 pub mod HasLemmas
 pub mod HoldLemmas
 pub mod JointLemmas
-pub mod KeysLemmas
 pub mod LastLemmas
 pub mod MakeLemmas
 pub mod NamedLemmas

@@ -1,16 +1,16 @@
 -- What the statements of a table do, from what it proves of their texts.
-use Rattle.std.proofs.Common.{◌≡◌, ℕ, Bool, List, map, filter, Ok, sym, subst, ◌∙◌, IsPermutation}
+use Rattle.std.proofs.Common.{◌≡◌, inl, inr, ℕ, Bool, List, map, filter, Ok, sym, subst, ◌∙◌, IsPermutation}
 use Rattle.std.specs.List.{AllByRecursion}
 use Rattle.sqlite.specs.Order.{Row}
 use Rattle.sqlite.specs.State.{State, Shown, Executes}
 use Rattle.kcr_rows.specs.Keyed.{Place, Keeps, cells, put_in}
-use Rattle.kcr_rows.proofs.TableLemmas.{Changes, put_in_rows, shown_checked, shown_exact}
+use Rattle.kcr_rows.proofs.TableLemmas.{Changes, executes_insert, put_in_rows, shown_checked, shown_exact}
 use Rattle.sqlite.specs.Tree.{Trees}
 use Rattle.kcr_rows.proofs.OrderLemmas.{put_in_all}
 use Rattle.kcr_rows.proofs.FilterLemmas.{filter_as}
 use Rattle.kcr_rows.proofs.UpsertLemmas.{executes_upsert}
 use Rattle.kcr_tables.specs.Schema.{register_schema}
-use Rattle.kcr_tables.specs.Statements.{ShowsRows, PutsRow}
+use Rattle.kcr_tables.specs.Statements.{ShowsRows, UpsertsRow, InsertsRow, PutsRow}
 
 module _ {X : Type 0} (sql : List ℕ) (place : Place) (params : Row) (passes : Row → Bool) (s : ShowsRows sql place params passes) (row_of : X → Row) where
   pub rows_shown : (IsRead IsStored : X → Type 0) → ((x y : X) → IsRead x → IsStored y → row_of x ≡ row_of y → x ≡ y) → (test : X → Bool)
@@ -30,15 +30,30 @@ module _ {X : Type 0} (sql : List ℕ) (place : Place) (params : Row) (passes : 
       shown_exact place register_schema sql params s.test s.project s.order s.names passes (λ i. (s.is i).command, λ i. (s.is i).reads_catalog) s.bare
       (λ r i. (s.is i).shows r) (λ r i. (s.is i).passes r) (λ a b i. (s.is i).compares a b) (λ i. (s.is i).is_far) row_of old new xs has h
 
-pub row_put : {X : Type 0} (sql : List ℕ) (place : Place) (row_of : X → Row) → PutsRow sql place row_of → (x : X) (old new : State) (count : ℕ)
-    → old.now.schema ≡ register_schema → Executes sql (row_of x) old new (Ok count)
-    → (new.now.schema ≡ register_schema) × Changes place register_schema (row_of x) old.now.trees new.now.trees
-row_put sql place row_of p x old new count has h =
-    executes_upsert place register_schema p.at p.name p.columns p.others (λ i. (p.is i).here) (λ olds news i. (p.is i).alone olds news)
-    (λ a b i. (p.is i).compares a b) (λ a i. (p.is i).fulls a) sql p.terms p.bare (row_of x) (λ i. (p.is i).given x) (p.casts x)
-    (λ id i. (p.is i).shown x id) (λ i. (p.is i).filled x) p.test p.sets (λ entries there r i. (p.is i).tests x entries there r)
-    (λ entries there r i. (p.is i).gives x entries there r) (λ i. (p.is i).is_far) (λ a b i. (p.is i).shared a b) (λ i. (p.is i).command)
-    old new count has h
+-- one row is put
+module _ {X : Type 0} (sql : List ℕ) (place : Place) (row_of : X → Row) (x : X) (old new : State) (count : ℕ)
+    (has : old.now.schema ≡ register_schema) (h : Executes sql (row_of x) old new (Ok count)) where
+  abbrev Put : Type 0
+  Put = (new.now.schema ≡ register_schema) × Changes place register_schema (row_of x) old.now.trees new.now.trees
+
+  upserted : UpsertsRow sql place row_of → Put
+  upserted p =
+      executes_upsert place register_schema p.at p.table (λ i. (p.is i).giving.here) (λ olds news i. (p.is i).giving.alone olds news)
+      (λ a b i. (p.is i).giving.compares a b) (λ a i. (p.is i).giving.fulls a) sql p.terms p.bare (row_of x) (λ i. (p.is i).giving.given x) (p.casts x)
+      (λ id i. (p.is i).shown x id) (λ i. (p.is i).giving.filled x) p.test p.sets (λ entries there r i. (p.is i).tests x entries there r)
+      (λ entries there r i. (p.is i).gives x entries there r) (λ i. (p.is i).is_far) (λ a b i. (p.is i).shared a b) (λ i. (p.is i).giving.command)
+      old new count has h
+
+  inserted : InsertsRow sql place row_of → Put
+  inserted p =
+      executes_insert place register_schema p.at p.table (λ i. (p.is i).giving.here) (λ olds news i. (p.is i).giving.alone olds news)
+      (λ a b i. (p.is i).giving.compares a b) (λ a i. (p.is i).giving.fulls a) (λ rows row i. (p.is i).guarded rows row) sql p.terms
+      (λ i. (p.is i).giving.command) p.bare (row_of x) (p.given x) (λ i. (p.is i).giving.given x) (p.casts x)
+      (λ entries i. (p.is i).numbered x entries) (λ entries i. (p.is i).shown x entries) (λ i. (p.is i).giving.filled x) old new count has h
+
+  pub row_put : PutsRow sql place row_of → Put
+  row_put (inl p) = upserted p
+  row_put (inr p) = inserted p
 
 -- the rows that the tree has then
 pub rows_put : {X : Type 0} (place : Place) (row_of : X → Row) (IsStored : X → Type 0) (x : X) → IsStored x → (old new : Trees)

@@ -1,5 +1,5 @@
 -- What the table appointments proves of its texts, and of its place among the others.
-use Rattle.std.proofs.Common.{◌≡◌, ◌≢◌, ℕ, pos, List, [], ◌∷◌, map, codes, true, refl, ap}
+use Rattle.std.proofs.Common.{◌≡◌, ◌≢◌, inl, ℕ, pos, List, [], ◌∷◌, map, codes, true, refl, ap}
 use Rattle.std.specs.Bool.{⊤}
 use Rattle.std.specs.List.{AllByRecursion}
 use Rattle.sqlite.specs.declared.types.Value.TheVariants.{Text}
@@ -12,7 +12,6 @@ use Rattle.sqlite_catalog.specs.Listing.{IsSound}
 use Rattle.sqlite_value.specs.declared.keys.Key.{Key}
 use Rattle.sqlite_tied.specs.Compute.{everything}
 use Rattle.kcr_base.specs.Place.{place_text}
-use Rattle.kcr_rows.specs.Columns.{words, number, number_or_null}
 use Rattle.kcr_rows.specs.Keyed.{Keeps}
 use Rattle.kcr_rows.proofs.WriteLemmas.{cast_int}
 use Rattle.kcr_rows.proofs.TableLemmas.{keeps_still, each_is}
@@ -20,7 +19,7 @@ use Rattle.kcr_rows.proofs.SameLemmas.{one_number, one_place}
 use Rattle.kcr_rows.proofs.StateLemmas.{cast_or_null}
 use Rattle.kcr_rows.specs.Rows.{appointment_row}
 use Rattle.kcr_people.specs.declared.Appointment.{Appointment}
-use Rattle.kcr_tables.specs.Schema.{register_schema}
+use Rattle.kcr_tables.specs.Schema.{register_schema, appointments}
 use Rattle.kcr_tables.specs.Held.{Tables, Kept, people_place, trainings_place, appointments_place, boxes_place}
 use Rattle.kcr_tables.specs.Held.{safes_place, bags_place, items_place, ceremonies_place, marks_place, steps_place}
 use Rattle.kcr_tables.specs.Held.{seatings_place, sheet_place, exceptions_place, versions_place, keys_place}
@@ -69,18 +68,16 @@ put_sql = codes "INSERT INTO appointments (place, since, who, until) VALUES (?1,
 
 pub puts : PutsRow put_sql appointments_place appointment_row
 unfolding understood everything
-puts = record {
+puts = inl (record {
   at = 2;
-  name = codes "appointments";
-  columns = words (codes "place") ∷ number (codes "since") ∷ words (codes "who") ∷ number_or_null (codes "until") ∷ [];
-  others = (3 ∷ 2 ∷ 1 ∷ []) ∷ [];
+  table = appointments;
   terms = new_terms 4;
   test = update_test 4;
   sets = update_terms 4;
   casts = λ x i. Text (place_text x.place) ∷ cast_int (pos x.since) i ∷ Text x.who ∷ cast_or_null x.until i ∷ [];
   bare = (refl, refl);
   is = refl;
-}
+})
 
 -- the other tables stay where the rows of this one are changed
 pub still : (old new : Trees) (rows : List Appointment) (t : Tables) → IsSound register_schema new

@@ -1,5 +1,5 @@
 -- What the table bags proves of its texts, and of its place among the others.
-use Rattle.std.proofs.Common.{◌≡◌, ◌≢◌, ℕ, List, [], ◌∷◌, map, codes, true, refl, sym, ap, ◌∙◌}
+use Rattle.std.proofs.Common.{◌≡◌, ◌≢◌, inl, ℕ, List, [], ◌∷◌, map, codes, true, refl, sym, ap, ◌∙◌}
 use Rattle.std.specs.List.{AllByRecursion}
 use Rattle.sqlite.specs.declared.types.Value.TheVariants.{Text}
 use Rattle.sqlite.specs.Term.{Term}
@@ -10,7 +10,6 @@ use Rattle.sqlite_catalog.specs.Listing.{IsSound}
 use Rattle.sqlite_value.specs.declared.keys.Key.{Key}
 use Rattle.sqlite_tied.specs.Compute.{everything}
 use Rattle.kcr_history.specs.Views.{is_of_serial}
-use Rattle.kcr_rows.specs.Columns.{words}
 use Rattle.kcr_rows.specs.Keyed.{Keeps}
 use Rattle.kcr_rows.proofs.FilterLemmas.{has_value, value_is}
 use Rattle.kcr_rows.proofs.TableLemmas.{keeps_still}
@@ -20,7 +19,7 @@ use Rattle.kcr_custody.specs.Spots.{spot_text}
 use Rattle.kcr_rows.specs.Rows.{bag_row}
 use Rattle.kcr_custody.specs.declared.Bag.{Bag}
 use Rattle.kcr_rows.specs.States.{HasBoxNumber}
-use Rattle.kcr_tables.specs.Schema.{register_schema}
+use Rattle.kcr_tables.specs.Schema.{register_schema, bags}
 use Rattle.kcr_tables.specs.Held.{Tables, Kept, people_place, trainings_place, appointments_place, boxes_place}
 use Rattle.kcr_tables.specs.Held.{safes_place, bags_place, items_place, ceremonies_place, marks_place, steps_place}
 use Rattle.kcr_tables.specs.Held.{seatings_place, sheet_place, exceptions_place, versions_place, keys_place}
@@ -83,18 +82,16 @@ put_sql = codes "INSERT INTO bags (serial, spot) VALUES (?1, ?2) ON CONFLICT (se
 
 pub puts : PutsRow put_sql bags_place bag_row
 unfolding understood everything
-puts = record {
+puts = inl (record {
   at = 5;
-  name = codes "bags";
-  columns = words (codes "serial") ∷ words (codes "spot") ∷ [];
-  others = [];
+  table = bags;
   terms = new_terms 2;
   test = update_test 2;
   sets = update_terms 2;
   casts = λ x i. Text x.serial ∷ Text (spot_text x.spot) ∷ [];
   bare = (refl, refl);
   is = refl;
-}
+})
 
 -- the other tables stay where the rows of this one are changed
 pub still : (old new : Trees) (rows : List Bag) (t : Tables) → IsSound register_schema new

@@ -1,8 +1,8 @@
 -- What the table boxes proves of its texts, and of its place among the others.
-use Rattle.std.proofs.Common.{◌≡◌, ◌≢◌, ℕ, pos, List, [], ◌∷◌, map, codes, true, refl, ap}
+use Rattle.std.proofs.Common.{◌≡◌, ◌≢◌, inr, ℕ, pos, List, [], ◌∷◌, map, codes, true, refl, ap}
 use Rattle.std.specs.Bool.{⊤}
 use Rattle.std.specs.List.{AllByRecursion}
-use Rattle.sqlite.specs.declared.types.Value.TheVariants.{Text}
+use Rattle.sqlite.specs.declared.types.Value.TheVariants.{Null, Text}
 use Rattle.sqlite.specs.Term.{Term}
 use Rattle.sqlite.specs.Tree.{Trees}
 use Rattle.sqlite.specs.Edit.{IsNoIndex}
@@ -11,22 +11,20 @@ use Rattle.sqlite_catalog.specs.Listing.{IsSound}
 use Rattle.sqlite_value.specs.declared.keys.Key.{Key}
 use Rattle.sqlite_tied.specs.Compute.{everything}
 use Rattle.kcr_base.specs.Place.{place_text}
-use Rattle.kcr_rows.specs.Columns.{words, number}
 use Rattle.kcr_rows.specs.Keyed.{Keeps}
-use Rattle.kcr_rows.proofs.WriteLemmas.{cast_int}
+use Rattle.kcr_rows.proofs.WriteLemmas.{cast_null, cast_int}
 use Rattle.kcr_rows.proofs.TableLemmas.{keeps_still, each_is}
 use Rattle.kcr_rows.proofs.SameLemmas.{one_facility, one_place}
 use Rattle.kcr_base.specs.Facility.{facility_text}
 use Rattle.kcr_rows.specs.Rows.{box_row}
 use Rattle.kcr_custody.specs.declared.BoxRow.{BoxRow}
-use Rattle.kcr_tables.specs.Schema.{register_schema}
+use Rattle.kcr_tables.specs.Schema.{register_schema, boxes}
 use Rattle.kcr_tables.specs.Held.{Tables, Kept, people_place, trainings_place, appointments_place, boxes_place}
 use Rattle.kcr_tables.specs.Held.{safes_place, bags_place, items_place, ceremonies_place, marks_place, steps_place}
 use Rattle.kcr_tables.specs.Held.{seatings_place, sheet_place, exceptions_place, versions_place, keys_place}
 use Rattle.kcr_tables.specs.Held.{stays_place, withdrawals_place}
 use Rattle.kcr_tables.specs.Parts.{text_in, number_in}
-use Rattle.kcr_tables.specs.Statements.{shown_columns, key_order, ShowsRows, new_terms, update_test, update_terms}
-use Rattle.kcr_tables.specs.Statements.{PutsRow}
+use Rattle.kcr_tables.specs.Statements.{shown_columns, key_order, ShowsRows, new_terms, PutsRow}
 use Rattle.kcr_tables.specs.Table.{Table, IsTable}
 
 abbrev pub project : List Term
@@ -63,22 +61,20 @@ lists = record { test = []; project = project; order = order; names = names; bar
 -- ---- a row put under its key
 
 abbrev put_sql : List ℕ
-put_sql = codes "INSERT INTO boxes (facility, box, place) VALUES (?1, ?2, ?3) ON CONFLICT (facility, box) DO UPDATE SET facility = ?1, box = ?2, place = ?3"
+put_sql = codes "INSERT INTO boxes (facility, box, place) VALUES (?1, ?2, ?3)"
 
 pub puts : PutsRow put_sql boxes_place box_row
 unfolding understood everything
-puts = record {
+puts = inr (record {
   at = 3;
-  name = codes "boxes";
-  columns = words (codes "facility") ∷ number (codes "box") ∷ words (codes "place") ∷ [];
-  others = [];
+  table = boxes;
   terms = new_terms 3;
-  test = update_test 3;
-  sets = update_terms 3;
-  casts = λ x i. Text (facility_text x.facility) ∷ cast_int (pos x.number) i ∷ Text (place_text x.place) ∷ [];
+  given = λ x. Null ∷ box_row x;
+  casts = λ x i. cast_null i ∷ Text (facility_text x.facility) ∷ cast_int (pos x.number) i ∷ Text (place_text x.place)
+      ∷ [];
   bare = (refl, refl);
   is = refl;
-}
+})
 
 -- the other tables stay where the rows of this one are changed
 pub still : (old new : Trees) (rows : List BoxRow) (t : Tables) → IsSound register_schema new

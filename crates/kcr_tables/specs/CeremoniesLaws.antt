@@ -1,5 +1,5 @@
 -- What the table ceremonies proves of its texts, and of its place among the others.
-use Rattle.std.proofs.Common.{◌≡◌, ◌≢◌, ℕ, pos, List, [], ◌∷◌, map, codes, true, refl, sym, ap, ◌∙◌}
+use Rattle.std.proofs.Common.{◌≡◌, ◌≢◌, inl, ℕ, pos, List, [], ◌∷◌, map, codes, true, refl, sym, ap, ◌∙◌}
 use Rattle.std.specs.Bool.{⊤}
 use Rattle.std.specs.List.{AllByRecursion}
 use Rattle.sqlite.specs.declared.types.Value.TheVariants.{Int, Text}
@@ -12,7 +12,6 @@ use Rattle.sqlite_catalog.specs.Listing.{IsSound}
 use Rattle.sqlite_value.specs.declared.keys.Key.{Key}
 use Rattle.sqlite_tied.specs.Compute.{everything}
 use Rattle.kcr_history.specs.Views.{is_of_number}
-use Rattle.kcr_rows.specs.Columns.{words, number, number_or_null}
 use Rattle.kcr_rows.specs.Keyed.{Keeps}
 use Rattle.kcr_rows.proofs.FilterLemmas.{has_value, value_is}
 use Rattle.kcr_rows.proofs.WriteLemmas.{cast_int}
@@ -23,7 +22,7 @@ use Rattle.kcr_base.specs.Facility.{facility_text}
 use Rattle.kcr_rows.specs.States.{ceremony_number}
 use Rattle.kcr_rows.specs.Rows.{ceremony_row}
 use Rattle.kcr_history.specs.declared.rows.CeremonyRow.{CeremonyRow}
-use Rattle.kcr_tables.specs.Schema.{register_schema}
+use Rattle.kcr_tables.specs.Schema.{register_schema, ceremonies}
 use Rattle.kcr_tables.specs.Held.{Tables, Kept, people_place, trainings_place, appointments_place, boxes_place}
 use Rattle.kcr_tables.specs.Held.{safes_place, bags_place, items_place, ceremonies_place, marks_place, steps_place}
 use Rattle.kcr_tables.specs.Held.{seatings_place, sheet_place, exceptions_place, versions_place, keys_place}
@@ -93,12 +92,9 @@ put_sql = codes "INSERT INTO ceremonies (number, facility, day, state, opened, c
 
 pub puts : PutsRow put_sql ceremonies_place ceremony_row
 unfolding understood everything
-puts = record {
+puts = inl (record {
   at = 7;
-  name = codes "ceremonies";
-  columns = number (codes "number") ∷ words (codes "facility") ∷ number (codes "day") ∷ number (codes "state")
-      ∷ number_or_null (codes "opened") ∷ number_or_null (codes "closed") ∷ [];
-  others = [];
+  table = ceremonies;
   terms = new_terms 6;
   test = update_test 6;
   sets = update_terms 6;
@@ -106,7 +102,7 @@ puts = record {
       ∷ cast_int (pos (ceremony_number x.state)) i ∷ cast_or_null x.opened i ∷ cast_or_null x.closed i ∷ [];
   bare = (refl, refl);
   is = refl;
-}
+})
 
 -- the other tables stay where the rows of this one are changed
 pub still : (old new : Trees) (rows : List CeremonyRow) (t : Tables) → IsSound register_schema new

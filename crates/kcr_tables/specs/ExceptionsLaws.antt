@@ -1,8 +1,8 @@
 -- What the table exceptions proves of its texts, and of its place among the others.
-use Rattle.std.proofs.Common.{◌≡◌, ◌≢◌, ℕ, pos, List, [], ◌∷◌, map, codes, true, refl, sym, ap, ◌∙◌}
+use Rattle.std.proofs.Common.{◌≡◌, ◌≢◌, inr, ℕ, pos, List, [], ◌∷◌, map, codes, true, refl, sym, ap, ◌∙◌}
 use Rattle.std.specs.Bool.{⊤}
 use Rattle.std.specs.List.{AllByRecursion}
-use Rattle.sqlite.specs.declared.types.Value.TheVariants.{Int, Text}
+use Rattle.sqlite.specs.declared.types.Value.TheVariants.{Null, Int, Text}
 use Rattle.sqlite.specs.Order.{Row, column}
 use Rattle.sqlite.specs.Term.{Term}
 use Rattle.sqlite.specs.Tree.{Trees}
@@ -12,23 +12,21 @@ use Rattle.sqlite_catalog.specs.Listing.{IsSound}
 use Rattle.sqlite_value.specs.declared.keys.Key.{Key}
 use Rattle.sqlite_tied.specs.Compute.{everything}
 use Rattle.kcr_history.specs.Views.{is_exception_of}
-use Rattle.kcr_rows.specs.Columns.{words, number, number_or_null}
 use Rattle.kcr_rows.specs.Keyed.{Keeps}
 use Rattle.kcr_rows.proofs.FilterLemmas.{has_value, value_is}
-use Rattle.kcr_rows.proofs.WriteLemmas.{cast_int}
+use Rattle.kcr_rows.proofs.WriteLemmas.{cast_null, cast_int}
 use Rattle.kcr_rows.proofs.TableLemmas.{keeps_still, each_is}
 use Rattle.kcr_rows.proofs.SameLemmas.{one_number, number_ties}
 use Rattle.kcr_rows.proofs.StateLemmas.{cast_or_null}
 use Rattle.kcr_rows.specs.Rows.{exception_row}
 use Rattle.kcr_history.specs.declared.rows.ExceptionRow.{ExceptionRow}
-use Rattle.kcr_tables.specs.Schema.{register_schema}
+use Rattle.kcr_tables.specs.Schema.{register_schema, exceptions}
 use Rattle.kcr_tables.specs.Held.{Tables, Kept, people_place, trainings_place, appointments_place, boxes_place}
 use Rattle.kcr_tables.specs.Held.{safes_place, bags_place, items_place, ceremonies_place, marks_place, steps_place}
 use Rattle.kcr_tables.specs.Held.{seatings_place, sheet_place, exceptions_place, versions_place, keys_place}
 use Rattle.kcr_tables.specs.Held.{stays_place, withdrawals_place}
 use Rattle.kcr_tables.specs.Parts.{text_in, number_in}
-use Rattle.kcr_tables.specs.Statements.{shown_columns, key_order, is_given, ShowsRows, new_terms, update_test}
-use Rattle.kcr_tables.specs.Statements.{update_terms, PutsRow}
+use Rattle.kcr_tables.specs.Statements.{shown_columns, key_order, is_given, ShowsRows, new_terms, PutsRow}
 use Rattle.kcr_tables.specs.Table.{Table, IsTable, Finding, IsFinding}
 
 abbrev pub project : List Term
@@ -86,24 +84,20 @@ exceptions_of_laws = record { finds = shows_exceptions_of; under = under_excepti
 -- ---- a row put under its key
 
 abbrev put_sql : List ℕ
-put_sql = codes "INSERT INTO exceptions (ceremony, exception, text, at, passed) VALUES (?1, ?2, ?3, ?4, ?5) ON CONFLICT (ceremony, exception) DO UPDATE SET ceremony = ?1, exception = ?2, text = ?3, at = ?4, passed = ?5"
+put_sql = codes "INSERT INTO exceptions (ceremony, exception, text, at, passed) VALUES (?1, ?2, ?3, ?4, ?5)"
 
 pub puts : PutsRow put_sql exceptions_place exception_row
 unfolding understood everything
-puts = record {
+puts = inr (record {
   at = 12;
-  name = codes "exceptions";
-  columns = number (codes "ceremony") ∷ number (codes "exception") ∷ words (codes "text") ∷ number (codes "at")
-      ∷ number_or_null (codes "passed") ∷ [];
-  others = [];
+  table = exceptions;
   terms = new_terms 5;
-  test = update_test 5;
-  sets = update_terms 5;
-  casts = λ x i. cast_int (pos x.ceremony) i ∷ cast_int (pos x.exception) i ∷ Text x.text ∷ cast_int (pos x.at) i
-      ∷ cast_or_null x.passed i ∷ [];
+  given = λ x. Null ∷ exception_row x;
+  casts = λ x i. cast_null i ∷ cast_int (pos x.ceremony) i ∷ cast_int (pos x.exception) i ∷ Text x.text
+      ∷ cast_int (pos x.at) i ∷ cast_or_null x.passed i ∷ [];
   bare = (refl, refl);
   is = refl;
-}
+})
 
 -- the other tables stay where the rows of this one are changed
 pub still : (old new : Trees) (rows : List ExceptionRow) (t : Tables) → IsSound register_schema new

@@ -1,5 +1,5 @@
 -- What the table items proves of its texts, and of its place among the others.
-use Rattle.std.proofs.Common.{◌≡◌, ◌≢◌, ℕ, List, [], ◌∷◌, map, codes, true, refl, sym, ap, ◌∙◌}
+use Rattle.std.proofs.Common.{◌≡◌, ◌≢◌, inl, ℕ, List, [], ◌∷◌, map, codes, true, refl, sym, ap, ◌∙◌}
 use Rattle.std.specs.Bool.{⊤}
 use Rattle.std.specs.List.{AllByRecursion}
 use Rattle.sqlite.specs.declared.types.Value.TheVariants.{Text}
@@ -14,7 +14,6 @@ use Rattle.sqlite_tied.specs.Compute.{everything}
 use Rattle.kcr_base.specs.Same.{same_text}
 use Rattle.kcr_history.specs.Views.{is_item_of}
 use Rattle.kcr_history.specs.declared.views.ItemsOf.TheVariants as Wanted
-use Rattle.kcr_rows.specs.Columns.{words, words_or_null}
 use Rattle.kcr_rows.specs.Keyed.{Keeps}
 use Rattle.kcr_rows.proofs.FilterLemmas.{has_value, value_is}
 use Rattle.kcr_rows.proofs.TableLemmas.{keeps_still, each_is}
@@ -22,7 +21,7 @@ use Rattle.kcr_rows.proofs.SameLemmas.{text_ties}
 use Rattle.kcr_rows.proofs.StateLemmas.{cast_loose, cast_within, one_rest, within_is}
 use Rattle.kcr_rows.specs.Rows.{item_row}
 use Rattle.kcr_custody.specs.declared.Item.{Item}
-use Rattle.kcr_tables.specs.Schema.{register_schema}
+use Rattle.kcr_tables.specs.Schema.{register_schema, items}
 use Rattle.kcr_tables.specs.Held.{Tables, Kept, people_place, trainings_place, appointments_place, boxes_place}
 use Rattle.kcr_tables.specs.Held.{safes_place, bags_place, items_place, ceremonies_place, marks_place, steps_place}
 use Rattle.kcr_tables.specs.Held.{seatings_place, sheet_place, exceptions_place, versions_place, keys_place}
@@ -103,18 +102,16 @@ put_sql = codes "INSERT INTO items (code, facility, serial) VALUES (?1, ?2, ?3) 
 
 pub puts : PutsRow put_sql items_place item_row
 unfolding understood everything
-puts = record {
+puts = inl (record {
   at = 6;
-  name = codes "items";
-  columns = words (codes "code") ∷ words_or_null (codes "facility") ∷ words_or_null (codes "serial") ∷ [];
-  others = (3 ∷ 1 ∷ []) ∷ [];
+  table = items;
   terms = new_terms 3;
   test = update_test 3;
   sets = update_terms 3;
   casts = λ x i. Text x.code ∷ cast_loose x.rest i ∷ cast_within x.rest i ∷ [];
   bare = (refl, refl);
   is = refl;
-}
+})
 
 -- the other tables stay where the rows of this one are changed
 pub still : (old new : Trees) (rows : List Item) (t : Tables) → IsSound register_schema new

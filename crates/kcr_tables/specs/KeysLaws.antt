@@ -1,9 +1,9 @@
 -- What the table keys proves of its texts, and of its place among the others.
-use Rattle.std.proofs.Common.{◌≡◌, ◌≢◌, ℕ, List, [], ◌∷◌, map, codes, true, refl, sym, ◌∙◌}
+use Rattle.std.proofs.Common.{◌≡◌, ◌≢◌, inr, ℕ, pos, List, [], ◌∷◌, map, codes, true, refl, sym, ◌∙◌}
 use Rattle.std.specs.Bool.{⊤}
 use Rattle.std.specs.List.{AllByRecursion}
-use Rattle.sqlite.specs.declared.types.Value.TheVariants.{Text}
-use Rattle.sqlite.specs.Term.{Term}
+use Rattle.sqlite.specs.declared.types.Value.TheVariants.{Null, Int, Text}
+use Rattle.sqlite.specs.Term.{Term, lit, col}
 use Rattle.sqlite.specs.Tree.{Trees}
 use Rattle.sqlite.specs.Edit.{IsNoIndex}
 use Rattle.sqlite.specs.Listing.{understood}
@@ -13,17 +13,18 @@ use Rattle.sqlite_tied.specs.Compute.{everything}
 use Rattle.kcr_history.specs.Views.{is_of_key}
 use Rattle.kcr_rows.specs.Keyed.{Keeps}
 use Rattle.kcr_rows.proofs.FilterLemmas.{has_value, value_is}
+use Rattle.kcr_rows.proofs.WriteLemmas.{cast_null, cast_int}
 use Rattle.kcr_rows.proofs.TableLemmas.{keeps_still, each_is}
 use Rattle.kcr_rows.proofs.SameLemmas.{text_ties}
 use Rattle.kcr_rows.specs.Rows.{key_row}
 use Rattle.kcr_history.specs.declared.rows.KeyRow.{KeyRow}
-use Rattle.kcr_tables.specs.Schema.{register_schema}
+use Rattle.kcr_tables.specs.Schema.{register_schema, keys}
 use Rattle.kcr_tables.specs.Held.{Tables, Kept, people_place, trainings_place, appointments_place, boxes_place}
 use Rattle.kcr_tables.specs.Held.{safes_place, bags_place, items_place, ceremonies_place, marks_place, steps_place}
 use Rattle.kcr_tables.specs.Held.{seatings_place, sheet_place, exceptions_place, versions_place, keys_place}
 use Rattle.kcr_tables.specs.Held.{stays_place, withdrawals_place}
 use Rattle.kcr_tables.specs.Parts.{text_in, number_in}
-use Rattle.kcr_tables.specs.Statements.{shown_columns, key_order, is_given, ShowsRows}
+use Rattle.kcr_tables.specs.Statements.{shown_columns, key_order, is_given, ShowsRows, PutsRow}
 use Rattle.kcr_tables.specs.Table.{Table, IsTable, Finding, IsFinding}
 
 abbrev pub project : List Term
@@ -73,6 +74,23 @@ under_key_row_of key x = value_is (Text x.key) (Text key) refl refl ∙ sym (tex
 
 pub key_row_of_laws : IsFinding key_row_of keys_place Text key_row
 key_row_of_laws = record { finds = shows_key_row_of; under = under_key_row_of }
+
+-- ---- a row put under its key
+
+abbrev put_sql : List ℕ
+put_sql = codes "INSERT INTO keys (\"key\", accepted, command, reply) VALUES (?1, ?2, ?3, ?4)"
+
+pub puts : PutsRow put_sql keys_place key_row
+unfolding understood everything
+puts = inr (record {
+  at = 14;
+  table = keys;
+  terms = col 0 1 ∷ col 0 0 ∷ lit Null ∷ col 0 2 ∷ col 0 3 ∷ [];
+  given = λ x. Int (pos x.accepted) ∷ Text x.key ∷ Null ∷ Text x.command ∷ Text x.reply ∷ [];
+  casts = λ x i. cast_int (pos x.accepted) i ∷ Text x.key ∷ cast_null i ∷ Text x.command ∷ Text x.reply ∷ [];
+  bare = (refl, refl);
+  is = refl;
+})
 
 -- the other tables stay where the rows of this one are changed
 pub still : (old new : Trees) (rows : List KeyRow) (t : Tables) → IsSound register_schema new

@@ -1,5 +1,5 @@
 -- What the table marks proves of its texts, and of its place among the others.
-use Rattle.std.proofs.Common.{◌≡◌, ◌≢◌, ℕ, pos, List, [], ◌∷◌, map, codes, true, refl, sym, ◌∙◌}
+use Rattle.std.proofs.Common.{◌≡◌, ◌≢◌, inl, ℕ, pos, List, [], ◌∷◌, map, codes, true, refl, sym, ◌∙◌}
 use Rattle.std.specs.Bool.{⊤}
 use Rattle.std.specs.List.{AllByRecursion}
 use Rattle.sqlite.specs.declared.types.Value.TheVariants.{Int}
@@ -11,7 +11,6 @@ use Rattle.sqlite_catalog.specs.Listing.{IsSound}
 use Rattle.sqlite_value.specs.declared.keys.Key.{Key}
 use Rattle.sqlite_tied.specs.Compute.{everything}
 use Rattle.kcr_history.specs.Views.{is_mark_of}
-use Rattle.kcr_rows.specs.Columns.{number}
 use Rattle.kcr_rows.specs.Keyed.{Keeps}
 use Rattle.kcr_rows.proofs.FilterLemmas.{has_value, value_is}
 use Rattle.kcr_rows.proofs.WriteLemmas.{cast_int}
@@ -19,7 +18,7 @@ use Rattle.kcr_rows.proofs.TableLemmas.{keeps_still, each_is}
 use Rattle.kcr_rows.proofs.SameLemmas.{number_ties}
 use Rattle.kcr_rows.specs.Rows.{mark_row}
 use Rattle.kcr_history.specs.declared.rows.MarkRow.{MarkRow}
-use Rattle.kcr_tables.specs.Schema.{register_schema}
+use Rattle.kcr_tables.specs.Schema.{register_schema, marks}
 use Rattle.kcr_tables.specs.Held.{Tables, Kept, people_place, trainings_place, appointments_place, boxes_place}
 use Rattle.kcr_tables.specs.Held.{safes_place, bags_place, items_place, ceremonies_place, marks_place, steps_place}
 use Rattle.kcr_tables.specs.Held.{seatings_place, sheet_place, exceptions_place, versions_place, keys_place}
@@ -81,18 +80,16 @@ put_sql = codes "INSERT INTO marks (ceremony, at) VALUES (?1, ?2) ON CONFLICT (c
 
 pub puts : PutsRow put_sql marks_place mark_row
 unfolding understood everything
-puts = record {
+puts = inl (record {
   at = 8;
-  name = codes "marks";
-  columns = number (codes "ceremony") ∷ number (codes "at") ∷ [];
-  others = [];
+  table = marks;
   terms = new_terms 2;
   test = update_test 2;
   sets = update_terms 2;
   casts = λ x i. cast_int (pos x.ceremony) i ∷ cast_int (pos x.at) i ∷ [];
   bare = (refl, refl);
   is = refl;
-}
+})
 
 -- the other tables stay where the rows of this one are changed
 pub still : (old new : Trees) (rows : List MarkRow) (t : Tables) → IsSound register_schema new

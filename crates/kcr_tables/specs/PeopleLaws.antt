@@ -1,8 +1,8 @@
 -- What the table people proves of its texts, and of its place among the others.
-use Rattle.std.proofs.Common.{◌≡◌, ◌≢◌, ℕ, List, [], ◌∷◌, map, codes, true, refl, sym, ◌∙◌}
+use Rattle.std.proofs.Common.{◌≡◌, ◌≢◌, inr, ℕ, List, [], ◌∷◌, map, codes, true, refl, sym, ◌∙◌}
 use Rattle.std.specs.Bool.{⊤}
 use Rattle.std.specs.List.{AllByRecursion}
-use Rattle.sqlite.specs.declared.types.Value.TheVariants.{Text}
+use Rattle.sqlite.specs.declared.types.Value.TheVariants.{Null, Text}
 use Rattle.sqlite.specs.Term.{Term}
 use Rattle.sqlite.specs.Tree.{Trees}
 use Rattle.sqlite.specs.Edit.{IsNoIndex}
@@ -11,21 +11,20 @@ use Rattle.sqlite_catalog.specs.Listing.{IsSound}
 use Rattle.sqlite_value.specs.declared.keys.Key.{Key}
 use Rattle.sqlite_tied.specs.Compute.{everything}
 use Rattle.kcr_base.specs.Same.{same_text}
-use Rattle.kcr_rows.specs.Columns.{words}
 use Rattle.kcr_rows.specs.Keyed.{Keeps}
 use Rattle.kcr_rows.proofs.FilterLemmas.{has_value, value_is}
+use Rattle.kcr_rows.proofs.WriteLemmas.{cast_null}
 use Rattle.kcr_rows.proofs.TableLemmas.{keeps_still, each_is}
 use Rattle.kcr_rows.proofs.SameLemmas.{text_ties}
 use Rattle.kcr_rows.specs.Rows.{person_row}
 use Rattle.kcr_people.specs.declared.Person.{Person}
-use Rattle.kcr_tables.specs.Schema.{register_schema}
+use Rattle.kcr_tables.specs.Schema.{register_schema, people}
 use Rattle.kcr_tables.specs.Held.{Tables, Kept, people_place, trainings_place, appointments_place, boxes_place}
 use Rattle.kcr_tables.specs.Held.{safes_place, bags_place, items_place, ceremonies_place, marks_place, steps_place}
 use Rattle.kcr_tables.specs.Held.{seatings_place, sheet_place, exceptions_place, versions_place, keys_place}
 use Rattle.kcr_tables.specs.Held.{stays_place, withdrawals_place}
 use Rattle.kcr_tables.specs.Parts.{text_in}
-use Rattle.kcr_tables.specs.Statements.{shown_columns, key_order, is_given, ShowsRows, new_terms, update_test}
-use Rattle.kcr_tables.specs.Statements.{update_terms, PutsRow}
+use Rattle.kcr_tables.specs.Statements.{shown_columns, key_order, is_given, ShowsRows, new_terms, PutsRow}
 use Rattle.kcr_tables.specs.Table.{Table, IsTable, Finding, IsFinding}
 
 abbrev pub project : List Term
@@ -74,22 +73,19 @@ person_of_laws = record { finds = shows_person_of; under = under_person_of }
 -- ---- a row put under its key
 
 abbrev put_sql : List ℕ
-put_sql = codes "INSERT INTO people (who, name) VALUES (?1, ?2) ON CONFLICT (who) DO UPDATE SET who = ?1, name = ?2"
+put_sql = codes "INSERT INTO people (who, name) VALUES (?1, ?2)"
 
 pub puts : PutsRow put_sql people_place person_row
 unfolding understood everything
-puts = record {
+puts = inr (record {
   at = 0;
-  name = codes "people";
-  columns = words (codes "who") ∷ words (codes "name") ∷ [];
-  others = [];
+  table = people;
   terms = new_terms 2;
-  test = update_test 2;
-  sets = update_terms 2;
-  casts = λ x i. Text x.who ∷ Text x.name ∷ [];
+  given = λ x. Null ∷ person_row x;
+  casts = λ x i. cast_null i ∷ Text x.who ∷ Text x.name ∷ [];
   bare = (refl, refl);
   is = refl;
-}
+})
 
 -- the other tables stay where the rows of this one are changed
 pub still : (old new : Trees) (rows : List Person) (t : Tables) → IsSound register_schema new

@@ -1,5 +1,5 @@
 -- What the table safes proves of its texts, and of its place among the others.
-use Rattle.std.proofs.Common.{◌≡◌, ◌≢◌, ℕ, pos, List, [], ◌∷◌, map, codes, true, refl, ap}
+use Rattle.std.proofs.Common.{◌≡◌, ◌≢◌, inl, ℕ, pos, List, [], ◌∷◌, map, codes, true, refl, ap}
 use Rattle.std.specs.Bool.{⊤}
 use Rattle.std.specs.List.{AllByRecursion}
 use Rattle.sqlite.specs.declared.types.Value.TheVariants.{Text}
@@ -10,7 +10,6 @@ use Rattle.sqlite.specs.Listing.{understood}
 use Rattle.sqlite_catalog.specs.Listing.{IsSound}
 use Rattle.sqlite_value.specs.declared.keys.Key.{Key}
 use Rattle.sqlite_tied.specs.Compute.{everything}
-use Rattle.kcr_rows.specs.Columns.{words, number}
 use Rattle.kcr_rows.specs.Keyed.{Keeps}
 use Rattle.kcr_rows.proofs.WriteLemmas.{cast_int}
 use Rattle.kcr_rows.proofs.TableLemmas.{keeps_still, each_is}
@@ -21,7 +20,7 @@ use Rattle.kcr_rows.specs.States.{safe_digit}
 use Rattle.kcr_rows.specs.Values.{truth_number}
 use Rattle.kcr_rows.specs.Rows.{safe_row}
 use Rattle.kcr_custody.specs.declared.SafeRow.{SafeRow}
-use Rattle.kcr_tables.specs.Schema.{register_schema}
+use Rattle.kcr_tables.specs.Schema.{register_schema, safes}
 use Rattle.kcr_tables.specs.Held.{Tables, Kept, people_place, trainings_place, appointments_place, boxes_place}
 use Rattle.kcr_tables.specs.Held.{safes_place, bags_place, items_place, ceremonies_place, marks_place, steps_place}
 use Rattle.kcr_tables.specs.Held.{seatings_place, sheet_place, exceptions_place, versions_place, keys_place}
@@ -69,11 +68,9 @@ put_sql = codes "INSERT INTO safes (facility, safe, state) VALUES (?1, ?2, ?3) O
 
 pub puts : PutsRow put_sql safes_place safe_row
 unfolding understood everything
-puts = record {
+puts = inl (record {
   at = 4;
-  name = codes "safes";
-  columns = words (codes "facility") ∷ number (codes "safe") ∷ number (codes "state") ∷ [];
-  others = [];
+  table = safes;
   terms = new_terms 3;
   test = update_test 3;
   sets = update_terms 3;
@@ -81,7 +78,7 @@ puts = record {
       ∷ cast_int (pos (truth_number x.is_open)) i ∷ [];
   bare = (refl, refl);
   is = refl;
-}
+})
 
 -- the other tables stay where the rows of this one are changed
 pub still : (old new : Trees) (rows : List SafeRow) (t : Tables) → IsSound register_schema new

@@ -1,8 +1,8 @@
 -- What the table seatings proves of its texts, and of its place among the others.
-use Rattle.std.proofs.Common.{◌≡◌, ◌≢◌, ℕ, pos, List, [], ◌∷◌, map, codes, true, refl, sym, ◌∙◌, ◌==◌}
+use Rattle.std.proofs.Common.{◌≡◌, ◌≢◌, inr, ℕ, pos, List, [], ◌∷◌, map, codes, true, refl, sym, ◌∙◌, ◌==◌}
 use Rattle.std.specs.Bool.{⊤}
 use Rattle.std.specs.List.{AllByRecursion}
-use Rattle.sqlite.specs.declared.types.Value.TheVariants.{Int, Text}
+use Rattle.sqlite.specs.declared.types.Value.TheVariants.{Null, Int, Text}
 use Rattle.sqlite.specs.Term.{Term}
 use Rattle.sqlite.specs.Tree.{Trees}
 use Rattle.sqlite.specs.Edit.{IsNoIndex}
@@ -10,22 +10,20 @@ use Rattle.sqlite.specs.Listing.{understood}
 use Rattle.sqlite_catalog.specs.Listing.{IsSound}
 use Rattle.sqlite_value.specs.declared.keys.Key.{Key}
 use Rattle.sqlite_tied.specs.Compute.{everything}
-use Rattle.kcr_rows.specs.Columns.{words, number}
 use Rattle.kcr_rows.specs.Keyed.{Keeps}
 use Rattle.kcr_rows.proofs.FilterLemmas.{has_value, value_is}
-use Rattle.kcr_rows.proofs.WriteLemmas.{cast_int}
+use Rattle.kcr_rows.proofs.WriteLemmas.{cast_null, cast_int}
 use Rattle.kcr_rows.proofs.TableLemmas.{keeps_still, each_is}
 use Rattle.kcr_rows.proofs.SameLemmas.{number_ties}
 use Rattle.kcr_rows.specs.Rows.{seating_row}
 use Rattle.kcr_history.specs.declared.rows.SeatingRow.{SeatingRow}
-use Rattle.kcr_tables.specs.Schema.{register_schema}
+use Rattle.kcr_tables.specs.Schema.{register_schema, seatings}
 use Rattle.kcr_tables.specs.Held.{Tables, Kept, people_place, trainings_place, appointments_place, boxes_place}
 use Rattle.kcr_tables.specs.Held.{safes_place, bags_place, items_place, ceremonies_place, marks_place, steps_place}
 use Rattle.kcr_tables.specs.Held.{seatings_place, sheet_place, exceptions_place, versions_place, keys_place}
 use Rattle.kcr_tables.specs.Held.{stays_place, withdrawals_place}
 use Rattle.kcr_tables.specs.Parts.{text_in, number_in}
-use Rattle.kcr_tables.specs.Statements.{shown_columns, key_order, is_given, ShowsRows, new_terms, update_test}
-use Rattle.kcr_tables.specs.Statements.{update_terms, PutsRow}
+use Rattle.kcr_tables.specs.Statements.{shown_columns, key_order, is_given, ShowsRows, new_terms, PutsRow}
 use Rattle.kcr_tables.specs.Table.{Table, IsTable, Finding, IsFinding}
 
 abbrev pub project : List Term
@@ -82,22 +80,20 @@ seatings_of_laws = record { finds = shows_seatings_of; under = under_seatings_of
 -- ---- a row put under its key
 
 abbrev put_sql : List ℕ
-put_sql = codes "INSERT INTO seatings (ceremony, step, seat, who) VALUES (?1, ?2, ?3, ?4) ON CONFLICT (ceremony, step, seat) DO UPDATE SET ceremony = ?1, step = ?2, seat = ?3, who = ?4"
+put_sql = codes "INSERT INTO seatings (ceremony, step, seat, who) VALUES (?1, ?2, ?3, ?4)"
 
 pub puts : PutsRow put_sql seatings_place seating_row
 unfolding understood everything
-puts = record {
+puts = inr (record {
   at = 10;
-  name = codes "seatings";
-  columns = number (codes "ceremony") ∷ number (codes "step") ∷ number (codes "seat") ∷ words (codes "who") ∷ [];
-  others = [];
+  table = seatings;
   terms = new_terms 4;
-  test = update_test 4;
-  sets = update_terms 4;
-  casts = λ x i. cast_int (pos x.ceremony) i ∷ cast_int (pos x.step) i ∷ cast_int (pos x.seat) i ∷ Text x.who ∷ [];
+  given = λ x. Null ∷ seating_row x;
+  casts = λ x i. cast_null i ∷ cast_int (pos x.ceremony) i ∷ cast_int (pos x.step) i ∷ cast_int (pos x.seat) i
+      ∷ Text x.who ∷ [];
   bare = (refl, refl);
   is = refl;
-}
+})
 
 -- the other tables stay where the rows of this one are changed
 pub still : (old new : Trees) (rows : List SeatingRow) (t : Tables) → IsSound register_schema new

@@ -1,8 +1,8 @@
 -- What the table sheet proves of its texts, and of its place among the others.
-use Rattle.std.proofs.Common.{◌≡◌, ◌≢◌, ℕ, pos, List, [], ◌∷◌, map, codes, true, refl, sym, ap, ◌∙◌, ◌==◌}
+use Rattle.std.proofs.Common.{◌≡◌, ◌≢◌, inr, ℕ, pos, List, [], ◌∷◌, map, codes, true, refl, sym, ap, ◌∙◌, ◌==◌}
 use Rattle.std.specs.Bool.{⊤}
 use Rattle.std.specs.List.{AllByRecursion}
-use Rattle.sqlite.specs.declared.types.Value.TheVariants.{Int, Text}
+use Rattle.sqlite.specs.declared.types.Value.TheVariants.{Null, Int, Text}
 use Rattle.sqlite.specs.Term.{Term}
 use Rattle.sqlite.specs.Tree.{Trees}
 use Rattle.sqlite.specs.Edit.{IsNoIndex}
@@ -10,24 +10,22 @@ use Rattle.sqlite.specs.Listing.{understood}
 use Rattle.sqlite_catalog.specs.Listing.{IsSound}
 use Rattle.sqlite_value.specs.declared.keys.Key.{Key}
 use Rattle.sqlite_tied.specs.Compute.{everything}
-use Rattle.kcr_rows.specs.Columns.{words, number}
 use Rattle.kcr_rows.specs.Keyed.{Keeps}
 use Rattle.kcr_rows.proofs.FilterLemmas.{has_value, value_is}
-use Rattle.kcr_rows.proofs.WriteLemmas.{cast_int}
+use Rattle.kcr_rows.proofs.WriteLemmas.{cast_null, cast_int}
 use Rattle.kcr_rows.proofs.TableLemmas.{keeps_still, each_is}
 use Rattle.kcr_rows.proofs.SameLemmas.{number_ties}
 use Rattle.kcr_rows.proofs.StateLemmas.{one_way}
 use Rattle.kcr_rows.specs.States.{way_number}
 use Rattle.kcr_rows.specs.Rows.{sheet_row}
 use Rattle.kcr_room.specs.declared.SheetRow.{SheetRow}
-use Rattle.kcr_tables.specs.Schema.{register_schema}
+use Rattle.kcr_tables.specs.Schema.{register_schema, sheet}
 use Rattle.kcr_tables.specs.Held.{Tables, Kept, people_place, trainings_place, appointments_place, boxes_place}
 use Rattle.kcr_tables.specs.Held.{safes_place, bags_place, items_place, ceremonies_place, marks_place, steps_place}
 use Rattle.kcr_tables.specs.Held.{seatings_place, sheet_place, exceptions_place, versions_place, keys_place}
 use Rattle.kcr_tables.specs.Held.{stays_place, withdrawals_place}
 use Rattle.kcr_tables.specs.Parts.{text_in, number_in}
-use Rattle.kcr_tables.specs.Statements.{shown_columns, key_order, is_given, ShowsRows, new_terms, update_test}
-use Rattle.kcr_tables.specs.Statements.{update_terms, PutsRow}
+use Rattle.kcr_tables.specs.Statements.{shown_columns, key_order, is_given, ShowsRows, new_terms, PutsRow}
 use Rattle.kcr_tables.specs.Table.{Table, IsTable, Finding, IsFinding}
 
 abbrev pub project : List Term
@@ -83,23 +81,20 @@ sheet_of_laws = record { finds = shows_sheet_of; under = under_sheet_of }
 -- ---- a row put under its key
 
 abbrev put_sql : List ℕ
-put_sql = codes "INSERT INTO sheet (who, at, ceremony, way) VALUES (?1, ?2, ?3, ?4) ON CONFLICT (who, at) DO UPDATE SET who = ?1, at = ?2, ceremony = ?3, way = ?4"
+put_sql = codes "INSERT INTO sheet (who, at, ceremony, way) VALUES (?1, ?2, ?3, ?4)"
 
 pub puts : PutsRow put_sql sheet_place sheet_row
 unfolding understood everything
-puts = record {
+puts = inr (record {
   at = 11;
-  name = codes "sheet";
-  columns = words (codes "who") ∷ number (codes "at") ∷ number (codes "ceremony") ∷ number (codes "way") ∷ [];
-  others = [];
+  table = sheet;
   terms = new_terms 4;
-  test = update_test 4;
-  sets = update_terms 4;
-  casts = λ x i. Text x.who ∷ cast_int (pos x.at) i ∷ cast_int (pos x.ceremony) i ∷ cast_int (pos (way_number x.way)) i
-      ∷ [];
+  given = λ x. Null ∷ sheet_row x;
+  casts = λ x i. cast_null i ∷ Text x.who ∷ cast_int (pos x.at) i ∷ cast_int (pos x.ceremony) i
+      ∷ cast_int (pos (way_number x.way)) i ∷ [];
   bare = (refl, refl);
   is = refl;
-}
+})
 
 -- the other tables stay where the rows of this one are changed
 pub still : (old new : Trees) (rows : List SheetRow) (t : Tables) → IsSound register_schema new

@@ -1,5 +1,5 @@
 -- What a table proves of its SQL texts, on which the general calls stand.
-use Rattle.std.specs.Prelude.{◌≡◌, ◌||◌, ◌&&◌, ℕ, ℤ, negsuc, suc, ◌/◌, ◌^◌, nat_le, Bool, true, false}
+use Rattle.std.specs.Prelude.{◌≡◌, ◌⊎◌, ◌||◌, ◌&&◌, not, ℕ, ℤ, negsuc, suc, ◌/◌, ◌^◌, nat_le, Bool, true, false}
 use Rattle.std.specs.Prelude.{List, [], ◌∷◌, ◌++◌, map, take, length, slice_get, Option, Some}
 use Rattle.std.specs.List.{list_all, list_any, range_with_len}
 use Rattle.std.specs.declared.cmp.Ordering.{Ordering}
@@ -8,16 +8,16 @@ use Rattle.sqlite.specs.Order.{Row}
 use Rattle.sqlite.specs.Term.{Term, lit, col, op2, holds, eval_all}
 use Rattle.sqlite.specs.Query.{Query, Output, key_cmp, output, output_cmp}
 use Rattle.sqlite.specs.Collation.TheVariants.{Binary}
-use Rattle.sqlite.specs.Cast.{cast_all}
+use Rattle.sqlite.specs.Cast.{cast_all, cast_row}
 use Rattle.sqlite.specs.Tree.{rowid}
+use Rattle.sqlite.specs.Source.{Source}
 use Rattle.sqlite.specs.Source.TheVariants.{Values}
 use Rattle.sqlite.specs.Command.{Command}
-use Rattle.sqlite.specs.Command.TheVariants.{InsertOr, Select}
+use Rattle.sqlite.specs.Command.TheVariants.{Insert, InsertOr, Select}
 use Rattle.sqlite.specs.Effect.{value_rows}
 use Rattle.sqlite.specs.Listing.{understood, reads_listing}
 use Rattle.sqlite.proofs.Callers.{IsPlain, command_of}
-use Rattle.sqlite_schema.specs.Rules.{agree, equal}
-use Rattle.sqlite_schema.specs.declared.schema.Column.{Column}
+use Rattle.sqlite_schema.specs.Rules.{agree, equal, guards, clashes}
 use Rattle.sqlite_schema.specs.declared.schema.Keys.TheVariants.{Enforced}
 use Rattle.sqlite_schema.specs.declared.schema.Table.{Table}
 use Rattle.sqlite_schema.specs.declared.command.Conflict.TheVariants.{Abort}
@@ -25,12 +25,14 @@ use Rattle.sqlite_sql.specs.declared.ops.BinaryOp.TheVariants.{Compare}
 use Rattle.sqlite_sql.specs.declared.ops.CompareOp.TheVariants.{Eq}
 use Rattle.sqlite_value.specs.declared.keys.Key.{Key}
 use Rattle.sqlite_value.specs.Keys.{plain, rising, ascending}
+use Rattle.sqlite_trees.specs.View.{is_int}
 use Rattle.sqlite_rules.specs.Action.{Work, works}
 use Rattle.sqlite_rules.specs.Keys.{shares}
-use Rattle.kcr_rows.specs.Columns.{keyed}
+use Rattle.kcr_rows.specs.Columns.{simple_as}
 use Rattle.kcr_rows.specs.Keyed.{Place, cells, by_key, is_full}
 use Rattle.kcr_rows.proofs.ReadLemmas.{asking}
 use Rattle.kcr_rows.proofs.KeyLemmas.{places_from, full}
+use Rattle.kcr_rows.proofs.WriteLemmas.{entered}
 use Rattle.kcr_rows.proofs.UpsertLemmas.{finding, seen}
 use Rattle.kcr_tables.specs.Schema.{register_schema}
 
@@ -113,79 +115,135 @@ update_test count = op2 (Compare Eq Binary) (col 1 0) (col 0 count) ∷ []
 abbrev pub update_terms : ℕ → List Term
 update_terms count = col 1 0 ∷ col 1 0 ∷ map (col 0) (range_with_len 0 count)
 
--- what is computed of a table and a text
-pub record Putting (X : Type 0) : Type 0 where
+-- what is computed of a table and of a text that gives it a row
+pub record Giving (X : Type 0) : Type 0 where
   -- the table, what is asked of others where its rows change, and which rows have one key
   pub here : Option Table
   pub alone : List Row → List Row → List Work
   pub compares : Row → Row → Ordering
   pub fulls : Row → Bool
-  pub shared : Row → Row → Bool
-  pub is_far : Bool
-  -- the row of a value
-  pub shown : X → ℤ → Row
+  -- whether the row of a value has a whole key
   pub filled : X → Bool
-  -- the text, the rows that it gives, and which row it changes to what where there is one
+  -- the text, and the rows that it gives
   pub command : Command
   pub given : X → List Row
-  pub tests : X → List Row → Row → Row → Bool
-  pub gives : X → List Row → Row → Row → Row
 
 -- of these
-abbrev pub putting : {X : Type 0} → List ℕ → Place → (X → Row) → ℕ → Table
-    → List Term → List Term → List Term → Putting X
-putting sql place row_of at table terms test sets =
+abbrev pub giving : {X : Type 0} → List ℕ → Place → (X → Row) → ℕ → List Term → Giving X
+giving sql place row_of at terms =
     let width = suc (length place.at) in record {
       here = slice_get register_schema.tables at;
       alone = works register_schema Enforced 0 place.tree;
       compares = λ a b. by_key place.keys (cells place a) (cells place b);
       fulls = λ a. is_full place.keys (cells place a);
-      shared = λ a b. list_any (shares (Some (places_from 1 place.keys)) table a b) register_schema.indexes;
-      is_far = nat_le (2 ^ 31) place.tree;
-      shown = λ x id. cells place (Int id ∷ row_of x);
       filled = λ x. is_full place.keys (row_of x);
       command = command_of (understood register_schema sql);
       given = λ x. value_rows (row_of x ++ []) width (length terms / width) terms;
-      tests = λ x entries there r. list_all (holds (seen table entries (row_of x) there ∷ r ∷ [])) test;
-      gives = λ x entries there r. eval_all sets (seen table entries (row_of x) there ∷ r ∷ []);
     }
 
--- of one that puts the row in the place of the one that has its key
-abbrev pub putting_by_key : {X : Type 0} → Place → (X → Row) → ℕ → Table
-    → List Term → List Term → List Term → Putting X
-putting_by_key place row_of at table terms test sets =
+-- of a command that gives one row, which is made of the terms
+abbrev pub giving_one : {X : Type 0} → Place → Table → List Term → (Source → Command) → (X → Row) → Giving X
+giving_one place table terms command given = record {
+  here = Some table;
+  alone = λ olds news. [];
+  compares = key_cmp 1 (rising place.keys []);
+  fulls = full 1 place.keys;
+  filled = λ x. true;
+  command = command (Values terms (suc (length place.at)));
+  given = λ x. given x ∷ [];
+}
+
+-- what is computed of one that puts the row in the place of the one that has its key
+pub record Upserting (X : Type 0) : Type 0 where
+  pub giving : Giving X
+  -- the row of a value under a row id
+  pub shown : X → ℤ → Row
+  -- which row meets the new one, and which row it changes to what where there is one
+  pub shared : Row → Row → Bool
+  pub is_far : Bool
+  pub tests : X → List Row → Row → Row → Bool
+  pub gives : X → List Row → Row → Row → Row
+
+-- of these
+abbrev pub upserting : {X : Type 0} → List ℕ → Place → (X → Row) → ℕ → Table
+    → List Term → List Term → List Term → Upserting X
+upserting sql place row_of at table terms test sets = record {
+  giving = giving sql place row_of at terms;
+  shown = λ x id. cells place (Int id ∷ row_of x);
+  shared = λ a b. list_any (shares (Some (places_from 1 place.keys)) table a b) register_schema.indexes;
+  is_far = nat_le (2 ^ 31) place.tree;
+  tests = λ x entries there r. list_all (holds (seen table entries (row_of x) there ∷ r ∷ [])) test;
+  gives = λ x entries there r. eval_all sets (seen table entries (row_of x) there ∷ r ∷ []);
+}
+
+-- of one that does so
+abbrev pub upserting_by_key : {X : Type 0} → Place → (X → Row) → ℕ → Table
+    → List Term → List Term → List Term → Upserting X
+upserting_by_key place row_of at table terms test sets =
     let keys = places_from 1 place.keys in record {
-      here = Some table;
-      alone = λ olds news. [];
-      compares = key_cmp 1 (rising place.keys []);
-      fulls = full 1 place.keys;
-      shared = λ a b. agree plain keys b keys a || false;
-      is_far = false;
-      shown = λ x id. row_of x;
-      filled = λ x. true;
-      command = InsertOr at Abort (Values terms (suc (length place.at))) (record {
+      giving = giving_one place table terms (λ from. InsertOr at Abort from (record {
         target = Some keys;
         update = Some (record { lets = []; body = finding place.tree test sets });
-      } ∷ []);
-      given = λ x. (Null ∷ row_of x) ∷ [];
+      } ∷ [])) (λ x. Null ∷ row_of x);
+      shown = λ x id. row_of x;
+      shared = λ a b. agree plain keys b keys a || false;
+      is_far = false;
       tests = λ x entries there r. equal Binary (rowid r) (rowid there) && true;
       gives = λ x entries there r. rowid r ∷ rowid r ∷ row_of x;
     }
 
--- a table of this name, with these columns, whose rows agree in none of the others
-abbrev pub table_at : Place → List ℕ → List Column → List (List ℕ) → Table
-table_at place name columns others = keyed name place.tree columns (places_from 1 place.keys) others
-
 -- The text puts the row of a value into a table, in the place of the one that has its key.
-pub record PutsRow {X : Type 0} (sql : List ℕ) (place : Place) (row_of : X → Row) : Type 0 where
+pub record UpsertsRow {X : Type 0} (sql : List ℕ) (place : Place) (row_of : X → Row) : Type 0 where
   pub at : ℕ
-  pub name : List ℕ
-  pub columns : List Column
-  pub others : List (List ℕ)
+  pub table : Table
   pub terms : List Term
   pub test : List Term
   pub sets : List Term
-  pub casts : (x : X) → cast_all columns (row_of x) ≡ row_of x
+  pub casts : (x : X) → cast_all table.columns (row_of x) ≡ row_of x
   pub bare : IsPlain (understood register_schema sql)
-  pub is : putting sql place row_of at (table_at place name columns others) terms test sets
-      ≡ putting_by_key place row_of at (table_at place name columns others) terms test sets
+  pub is : upserting sql place row_of at (simple_as place.tree table) terms test sets
+      ≡ upserting_by_key place row_of at (simple_as place.tree table) terms test sets
+
+-- what is computed of a text that adds the row to those that are there
+pub record Inserting (X : Type 0) : Type 0 where
+  pub giving : Giving X
+  -- the row of a value as it is stored beside some entries: whether it has a number for its row id, and what it shows
+  pub numbered : X → List Row → Bool
+  pub shown : X → List Row → Row
+  -- whether a row agrees with no other one where no two rows may agree
+  pub guarded : List Row → Row → Bool
+
+-- of these
+abbrev pub inserting : {X : Type 0} → List ℕ → Place → (X → Row) → ℕ → Table → List Term → (X → Row) → Inserting X
+inserting sql place row_of at table terms given = record {
+  giving = giving sql place row_of at terms;
+  numbered = λ x entries. is_int (rowid (entered entries (given x)));
+  shown = λ x entries. cells place (entered entries (given x));
+  guarded = λ rows row.
+      list_all (λ i. not (guards i table && clashes i.order i.columns rows row)) register_schema.indexes;
+}
+
+-- of one whose key no row has before
+abbrev pub inserting_new : {X : Type 0} → Place → (X → Row) → ℕ → Table → List Term → (X → Row) → Inserting X
+inserting_new place row_of at table terms given = record {
+  giving = giving_one place table terms (Insert at) given;
+  numbered = λ x entries. true;
+  shown = λ x entries. row_of x;
+  guarded = λ rows row. not (clashes plain (places_from 1 place.keys) rows row) && true;
+}
+
+-- The text adds the row of a value to a table, which it gives with its row id or with NULL in place of one; where a row
+-- has its key it fails.
+pub record InsertsRow {X : Type 0} (sql : List ℕ) (place : Place) (row_of : X → Row) : Type 0 where
+  pub at : ℕ
+  pub table : Table
+  pub terms : List Term
+  pub given : X → Row
+  pub casts : (x : X) → cast_row (simple_as place.tree table) (given x) ≡ given x
+  pub bare : IsPlain (understood register_schema sql)
+  pub is : inserting sql place row_of at (simple_as place.tree table) terms given
+      ≡ inserting_new place row_of at (simple_as place.tree table) terms given
+
+-- The text puts the row of a value into a table, in one of these ways.
+abbrev pub PutsRow : {X : Type 0} → List ℕ → Place → (X → Row) → Type 0
+PutsRow sql place row_of = UpsertsRow sql place row_of ⊎ InsertsRow sql place row_of

@@ -1,5 +1,5 @@
 -- What the table stays proves of its texts, and of its place among the others.
-use Rattle.std.proofs.Common.{◌≡◌, ◌≢◌, ℕ, pos, List, [], ◌∷◌, map, codes, true, refl, sym, ap, ◌∙◌}
+use Rattle.std.proofs.Common.{◌≡◌, ◌≢◌, inl, ℕ, pos, List, [], ◌∷◌, map, codes, true, refl, sym, ap, ◌∙◌}
 use Rattle.std.specs.Bool.{⊤}
 use Rattle.std.specs.List.{AllByRecursion}
 use Rattle.sqlite.specs.declared.types.Value.TheVariants.{Int, Text}
@@ -12,7 +12,6 @@ use Rattle.sqlite_catalog.specs.Listing.{IsSound}
 use Rattle.sqlite_value.specs.declared.keys.Key.{Key}
 use Rattle.sqlite_tied.specs.Compute.{everything}
 use Rattle.kcr_history.specs.Views.{is_stay_of}
-use Rattle.kcr_rows.specs.Columns.{words, number, number_or_null}
 use Rattle.kcr_rows.specs.Keyed.{Keeps}
 use Rattle.kcr_rows.proofs.FilterLemmas.{has_value, value_is}
 use Rattle.kcr_rows.proofs.WriteLemmas.{cast_int}
@@ -21,7 +20,7 @@ use Rattle.kcr_rows.proofs.SameLemmas.{one_number, number_ties}
 use Rattle.kcr_rows.proofs.StateLemmas.{cast_or_null}
 use Rattle.kcr_rows.specs.Rows.{stay_row}
 use Rattle.kcr_room.specs.declared.Stay.{Stay}
-use Rattle.kcr_tables.specs.Schema.{register_schema}
+use Rattle.kcr_tables.specs.Schema.{register_schema, stays}
 use Rattle.kcr_tables.specs.Held.{Tables, Kept, people_place, trainings_place, appointments_place, boxes_place}
 use Rattle.kcr_tables.specs.Held.{safes_place, bags_place, items_place, ceremonies_place, marks_place, steps_place}
 use Rattle.kcr_tables.specs.Held.{seatings_place, sheet_place, exceptions_place, versions_place, keys_place}
@@ -88,19 +87,16 @@ put_sql = codes "INSERT INTO stays (who, since, ceremony, until) VALUES (?1, ?2,
 
 pub puts : PutsRow put_sql stays_place stay_row
 unfolding understood everything
-puts = record {
+puts = inl (record {
   at = 15;
-  name = codes "stays";
-  columns = words (codes "who") ∷ number (codes "since") ∷ number (codes "ceremony") ∷ number_or_null (codes "until")
-      ∷ [];
-  others = (3 ∷ 2 ∷ 1 ∷ []) ∷ [];
+  table = stays;
   terms = new_terms 4;
   test = update_test 4;
   sets = update_terms 4;
   casts = λ x i. Text x.who ∷ cast_int (pos x.since) i ∷ cast_int (pos x.ceremony) i ∷ cast_or_null x.until i ∷ [];
   bare = (refl, refl);
   is = refl;
-}
+})
 
 -- the other tables stay where the rows of this one are changed
 pub still : (old new : Trees) (rows : List Stay) (t : Tables) → IsSound register_schema new

@@ -1,5 +1,5 @@
 -- What the table steps proves of its texts, and of its place among the others.
-use Rattle.std.proofs.Common.{◌≡◌, ◌≢◌, ℕ, pos, List, [], ◌∷◌, map, codes, true, refl, sym, ap, ◌∙◌}
+use Rattle.std.proofs.Common.{◌≡◌, ◌≢◌, inl, ℕ, pos, List, [], ◌∷◌, map, codes, true, refl, sym, ap, ◌∙◌}
 use Rattle.std.specs.List.{AllByRecursion}
 use Rattle.sqlite.specs.declared.types.Value.TheVariants.{Int, Text}
 use Rattle.sqlite.specs.Order.{Row, column}
@@ -11,7 +11,6 @@ use Rattle.sqlite_catalog.specs.Listing.{IsSound}
 use Rattle.sqlite_value.specs.declared.keys.Key.{Key}
 use Rattle.sqlite_tied.specs.Compute.{everything}
 use Rattle.kcr_history.specs.Views.{is_step_of}
-use Rattle.kcr_rows.specs.Columns.{words, number, number_or_null}
 use Rattle.kcr_rows.specs.Keyed.{Keeps}
 use Rattle.kcr_rows.proofs.FilterLemmas.{has_value, value_is}
 use Rattle.kcr_rows.proofs.WriteLemmas.{cast_int}
@@ -23,7 +22,7 @@ use Rattle.kcr_rows.specs.States.{step_number}
 use Rattle.kcr_rows.specs.Rows.{step_row}
 use Rattle.kcr_history.specs.declared.rows.StepRow.{StepRow}
 use Rattle.kcr_rows.specs.States.{HasOnlyTheseSeats, HasSeatsText}
-use Rattle.kcr_tables.specs.Schema.{register_schema}
+use Rattle.kcr_tables.specs.Schema.{register_schema, steps}
 use Rattle.kcr_tables.specs.Held.{Tables, Kept, people_place, trainings_place, appointments_place, boxes_place}
 use Rattle.kcr_tables.specs.Held.{safes_place, bags_place, items_place, ceremonies_place, marks_place, steps_place}
 use Rattle.kcr_tables.specs.Held.{seatings_place, sheet_place, exceptions_place, versions_place, keys_place}
@@ -92,12 +91,9 @@ put_sql = codes "INSERT INTO steps (ceremony, step, activity, seats, state, at) 
 
 pub puts : PutsRow put_sql steps_place step_row
 unfolding understood everything
-puts = record {
+puts = inl (record {
   at = 9;
-  name = codes "steps";
-  columns = number (codes "ceremony") ∷ number (codes "step") ∷ words (codes "activity") ∷ words (codes "seats")
-      ∷ number (codes "state") ∷ number_or_null (codes "at") ∷ [];
-  others = [];
+  table = steps;
   terms = new_terms 6;
   test = update_test 6;
   sets = update_terms 6;
@@ -105,7 +101,7 @@ puts = record {
       ∷ cast_int (pos (step_number x.state)) i ∷ cast_or_null x.at i ∷ [];
   bare = (refl, refl);
   is = refl;
-}
+})
 
 -- the other tables stay where the rows of this one are changed
 pub still : (old new : Trees) (rows : List StepRow) (t : Tables) → IsSound register_schema new

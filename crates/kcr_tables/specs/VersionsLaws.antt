@@ -1,5 +1,5 @@
 -- What the table versions proves of its texts, and of its place among the others.
-use Rattle.std.proofs.Common.{◌≡◌, ◌≢◌, IsPermutation, ℕ, pos, List, [], ◌∷◌, map, codes, true, refl, sym, subst}
+use Rattle.std.proofs.Common.{◌≡◌, ◌≢◌, inl, IsPermutation, ℕ, pos, List, [], ◌∷◌, map, codes, true, refl, sym, subst}
 use Rattle.std.specs.Bool.{⊤}
 use Rattle.std.specs.List.{AllByRecursion}
 use Rattle.std.proofs.lemmas.List.Sorted.{IsPermutation-refl}
@@ -10,13 +10,12 @@ use Rattle.sqlite.specs.Listing.{understood}
 use Rattle.sqlite_catalog.specs.Listing.{IsSound}
 use Rattle.sqlite_value.specs.declared.keys.Key.{Key}
 use Rattle.sqlite_tied.specs.Compute.{everything}
-use Rattle.kcr_rows.specs.Columns.{number}
 use Rattle.kcr_rows.specs.Keyed.{Keeps}
 use Rattle.kcr_rows.proofs.WriteLemmas.{cast_int}
 use Rattle.kcr_rows.proofs.TableLemmas.{keeps_still, each_is}
 use Rattle.kcr_rows.specs.Rows.{version_row}
 use Rattle.kcr_rows.specs.declared.rows.Version.{Version}
-use Rattle.kcr_tables.specs.Schema.{register_schema}
+use Rattle.kcr_tables.specs.Schema.{register_schema, versions}
 use Rattle.kcr_tables.specs.Held.{Tables, Kept, people_place, trainings_place, appointments_place, boxes_place}
 use Rattle.kcr_tables.specs.Held.{safes_place, bags_place, items_place, ceremonies_place, marks_place, steps_place}
 use Rattle.kcr_tables.specs.Held.{seatings_place, sheet_place, exceptions_place, versions_place, keys_place}
@@ -61,18 +60,16 @@ put_sql = codes "INSERT INTO versions (number) VALUES (?1) ON CONFLICT (number) 
 
 pub puts : PutsRow put_sql versions_place version_row
 unfolding understood everything
-puts = record {
+puts = inl (record {
   at = 13;
-  name = codes "versions";
-  columns = number (codes "number") ∷ [];
-  others = [];
+  table = versions;
   terms = new_terms 1;
   test = update_test 1;
   sets = update_terms 1;
   casts = λ x i. cast_int (pos x.number) i ∷ [];
   bare = (refl, refl);
   is = refl;
-}
+})
 
 -- the other tables stay where the rows of this one are changed
 pub still : (old new : Trees) (rows : List Version) (t : Tables) → IsSound register_schema new

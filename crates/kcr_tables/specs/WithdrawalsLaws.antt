@@ -1,5 +1,5 @@
 -- What the table withdrawals proves of its texts, and of its place among the others.
-use Rattle.std.proofs.Common.{◌≡◌, ◌≢◌, ℕ, pos, List, [], ◌∷◌, map, codes, true, refl, sym, ap, ◌∙◌}
+use Rattle.std.proofs.Common.{◌≡◌, ◌≢◌, inl, ℕ, pos, List, [], ◌∷◌, map, codes, true, refl, sym, ap, ◌∙◌}
 use Rattle.std.specs.Bool.{⊤}
 use Rattle.std.specs.List.{AllByRecursion}
 use Rattle.sqlite.specs.declared.types.Value.TheVariants.{Text}
@@ -11,7 +11,6 @@ use Rattle.sqlite_catalog.specs.Listing.{IsSound}
 use Rattle.sqlite_value.specs.declared.keys.Key.{Key}
 use Rattle.sqlite_tied.specs.Compute.{everything}
 use Rattle.kcr_history.specs.Views.{is_withdrawal_of}
-use Rattle.kcr_rows.specs.Columns.{words, number}
 use Rattle.kcr_rows.specs.Keyed.{Keeps}
 use Rattle.kcr_rows.proofs.FilterLemmas.{has_value, value_is}
 use Rattle.kcr_rows.proofs.WriteLemmas.{cast_int}
@@ -20,7 +19,7 @@ use Rattle.kcr_rows.proofs.SameLemmas.{one_role, text_ties}
 use Rattle.kcr_base.specs.Role.{role_text}
 use Rattle.kcr_rows.specs.Rows.{withdrawal_row}
 use Rattle.kcr_people.specs.declared.Withdrawal.{Withdrawal}
-use Rattle.kcr_tables.specs.Schema.{register_schema}
+use Rattle.kcr_tables.specs.Schema.{register_schema, withdrawals}
 use Rattle.kcr_tables.specs.Held.{Tables, Kept, people_place, trainings_place, appointments_place, boxes_place}
 use Rattle.kcr_tables.specs.Held.{safes_place, bags_place, items_place, ceremonies_place, marks_place, steps_place}
 use Rattle.kcr_tables.specs.Held.{seatings_place, sheet_place, exceptions_place, versions_place, keys_place}
@@ -88,12 +87,9 @@ put_sql = codes "INSERT INTO withdrawals (who, role, since, until, day) VALUES (
 
 pub puts : PutsRow put_sql withdrawals_place withdrawal_row
 unfolding understood everything
-puts = record {
+puts = inl (record {
   at = 16;
-  name = codes "withdrawals";
-  columns = words (codes "who") ∷ words (codes "role") ∷ number (codes "since") ∷ number (codes "until")
-      ∷ number (codes "day") ∷ [];
-  others = [];
+  table = withdrawals;
   terms = new_terms 5;
   test = update_test 5;
   sets = update_terms 5;
@@ -101,7 +97,7 @@ puts = record {
       ∷ cast_int (pos x.day) i ∷ [];
   bare = (refl, refl);
   is = refl;
-}
+})
 
 -- the other tables stay where the rows of this one are changed
 pub still : (old new : Trees) (rows : List Withdrawal) (t : Tables) → IsSound register_schema new

@@ -25,7 +25,7 @@ impl Put for BoxRow {
         put_cells(
             tx,
             self,
-            "INSERT INTO boxes (facility, box, place) VALUES (?1, ?2, ?3) ON CONFLICT (facility, box) DO UPDATE SET facility = ?1, box = ?2, place = ?3",
+            "INSERT INTO boxes (facility, box, place) VALUES (?1, ?2, ?3)",
             &[
                 facility_cell(self.facility),
                 number_cell(self.number),

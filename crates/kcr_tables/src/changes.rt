@@ -49,7 +49,7 @@ fn make_change<S: Alter>(
 }
 
 /// Makes the changes, one after the other; every other row stays. The error is `Memory` when out of memory, and else
-/// `Disk`: the device failed, or a row of an accepted command has a key or a number that is taken. It leaves the
+/// `Disk`: the device failed, or a row that is put only once has a key or a number that is taken. It leaves the
 /// changes before it in the transaction, which the caller rolls back; what was committed before stays.
 pub fn make_changes<S: Alter>(
     alloc: Global,

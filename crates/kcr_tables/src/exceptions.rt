@@ -35,7 +35,7 @@ impl Put for ExceptionRow {
         put_cells(
             tx,
             self,
-            "INSERT INTO exceptions (ceremony, exception, text, at, passed) VALUES (?1, ?2, ?3, ?4, ?5) ON CONFLICT (ceremony, exception) DO UPDATE SET ceremony = ?1, exception = ?2, text = ?3, at = ?4, passed = ?5",
+            "INSERT INTO exceptions (ceremony, exception, text, at, passed) VALUES (?1, ?2, ?3, ?4, ?5)",
             &[
                 number_cell(self.ceremony),
                 number_cell(self.exception),

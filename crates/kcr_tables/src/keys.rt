@@ -2,11 +2,10 @@
 
 ghost use Rattle.kcr_tables.specs.KeysLaws as laws;
 
-use crate::table::{Finds, Listed, Put};
+use crate::table::{Finds, Listed, Put, put_cells};
 use kcr_base::{Key, Refusal};
 use kcr_history::KeyRow;
 use kcr_rows::cells::{key_cell, number_cell, text_cell};
-use kcr_rows::statements::write;
 use sqlite::{Alter, Transaction};
 
 impl Listed for KeyRow {
@@ -30,11 +29,12 @@ impl Finds<Key> for KeyRow {
     ghost finding_laws = { laws.key_row_of_laws };
 }
 
-/// A row whose key or number is taken is not put: that is the error `Disk`.
 impl Put for KeyRow {
+    #[tactic(auto, using(crate::specs::KeysLaws::puts))]
     fn put<S: Alter>(&self, tx: &mut Transaction<'_, S>) -> Result<(), Refusal> {
-        write(
+        put_cells(
             tx,
+            self,
             "INSERT INTO keys (\"key\", accepted, command, reply) VALUES (?1, ?2, ?3, ?4)",
             &[
                 key_cell(&self.key),

@@ -35,7 +35,7 @@ impl Put for Person {
         put_cells(
             tx,
             self,
-            "INSERT INTO people (who, name) VALUES (?1, ?2) ON CONFLICT (who) DO UPDATE SET who = ?1, name = ?2",
+            "INSERT INTO people (who, name) VALUES (?1, ?2)",
             &[initials_cell(&self.who), line_cell(&self.name)],
         )
     }

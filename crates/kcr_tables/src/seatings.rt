@@ -35,7 +35,7 @@ impl Put for SeatingRow {
         put_cells(
             tx,
             self,
-            "INSERT INTO seatings (ceremony, step, seat, who) VALUES (?1, ?2, ?3, ?4) ON CONFLICT (ceremony, step, seat) DO UPDATE SET ceremony = ?1, step = ?2, seat = ?3, who = ?4",
+            "INSERT INTO seatings (ceremony, step, seat, who) VALUES (?1, ?2, ?3, ?4)",
             &[
                 number_cell(self.ceremony),
                 number_cell(self.step),

@@ -35,7 +35,7 @@ impl Put for SheetRow {
         put_cells(
             tx,
             self,
-            "INSERT INTO sheet (who, at, ceremony, way) VALUES (?1, ?2, ?3, ?4) ON CONFLICT (who, at) DO UPDATE SET who = ?1, at = ?2, ceremony = ?3, way = ?4",
+            "INSERT INTO sheet (who, at, ceremony, way) VALUES (?1, ?2, ?3, ?4)",
             &[
                 initials_cell(&self.who),
                 moment_cell(self.at),

@@ -35,7 +35,7 @@ impl Put for Training {
         put_cells(
             tx,
             self,
-            "INSERT INTO trainings (who, role, since, until) VALUES (?1, ?2, ?3, ?4) ON CONFLICT (who, role, since, until) DO UPDATE SET who = ?1, role = ?2, since = ?3, until = ?4",
+            "INSERT INTO trainings (who, role, since, until) VALUES (?1, ?2, ?3, ?4)",
             &[
                 initials_cell(&self.who),
                 role_cell(self.role),

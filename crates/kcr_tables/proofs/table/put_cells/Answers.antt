@@ -19,7 +19,7 @@ returns-clause-holds g c clean t held =
     let new = state g.S.Store c.write.new.tx.conn.now in
     let ran = subst (λ (v : Row). OnOk c.write.result ((count : ℕ) × Executes sql v old new (Ok count))) c.requires.cells (c.write.ensures.runs clean) in
     on_ok_then _ _ (λ h.
-    let it = row_put sql T.place row_of c.requires.puts x old new h.0 held.schema h.1 in
+    let it = row_put sql T.place row_of x old new h.0 held.schema h.1 c.requires.puts in
     let put = rows_put T.place row_of T.is_stored x c.requires.stored old.now.trees new.now.trees it.1 rows (laws.keeps old.now.trees t held.kept)
     (laws.stores old.now.trees t held.kept) in
     record { schema = it.0; kept = laws.still old.now.trees new.now.trees (put_in T.place.keys row_of x rows) t it.1.sound put.0 put.1 it.1.others held.kept })
