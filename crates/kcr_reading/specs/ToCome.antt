@@ -19,6 +19,8 @@ use Rattle.kcr_history.specs.declared.rows.SeatingRow.{SeatingRow}
 use Rattle.kcr_history.specs.declared.rows.StepRow.{StepRow}
 use Rattle.kcr_reading.specs.declared.bags.PackedBag.{PackedBag}
 use Rattle.kcr_reading.specs.declared.stays.NamedStay.{NamedStay}
+use Rattle.kcr_reading.specs.declared.stays.Sought.{Sought}
+use Rattle.kcr_reading.specs.declared.stays.Sought.TheVariants.{Together, Later}
 use Rattle.kcr_reading.specs.declared.steps.SeatedStep.{SeatedStep}
 
 -- the row is the next of those to come, and without one none comes
@@ -96,6 +98,11 @@ begins_with last stay = stay.since == last.since && is_behind (Some last.who) st
 -- it begins later than this one; behind none begins each
 abbrev pub begins_after : Option Stay → Stay → Bool
 begins_after last stay = is_past (since_of last) stay.since
+
+-- it is one of those among which is sought
+abbrev pub is_sought : Sought → Stay → Bool
+is_sought (Together last) = begins_with last
+is_sought (Later last) = begins_after last
 
 -- those past this one
 abbrev pub listed_past : Option Stay → ℕ → machine.Tables → List Stay

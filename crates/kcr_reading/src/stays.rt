@@ -10,8 +10,7 @@ ghost use Rattle.kcr_history.specs.Prints.{name_of};
 ghost use Rattle.kcr_history.specs.Tables as machine;
 ghost use Rattle.kcr_tables.specs.Frame.{TellsOpen, TellsMachine, Reads};
 ghost use Rattle.kcr_reading.specs.First.{bound_of};
-ghost use Rattle.kcr_reading.specs.ToCome.{Gives, begins_with, begins_after, since_of, listed_past};
-ghost use Rattle.kcr_reading.specs.ToCome.{named_stays, stays_past};
+ghost use Rattle.kcr_reading.specs.ToCome.{Gives, is_sought, since_of, listed_past, named_stays, stays_past};
 
 use crate::reading::Reading;
 use crate::seek::{first_row, past_cell};
@@ -41,50 +40,46 @@ fn past_moment(last: &Option<Stay>) -> ValueRef<'static>
     }
 }
 
-/// The next stay of the ceremony that begins with this one, by initials.
-fn stay_together<S: Alter>(
-    alloc: Global,
-    tx: &mut Transaction<'_, S>,
-    ceremony: u32,
-    last: &Stay,
-) -> Result<Option<Stay>, Refusal>
-    ensures same_reference { tx.new.conn.ghost_name ≡ tx.old.conn.ghost_name }
-    ensures first { TellsMachine (state S.Store tx.old.conn.now) (state S.Store tx.new.conn.now) result
-        (λ m found. found ≡ slice_get (filter (begins_with last.now) (attendance_in_by m.stays ceremony)) 0) }
-    ensures opened { TellsOpen (state S.Store tx.old.conn.now) (state S.Store tx.new.conn.now) result }
-    ensures frame { Reads (state S.Store tx.old.conn.now) (state S.Store tx.new.conn.now) result }
-{
-    first_row(
-        alloc,
-        tx,
-        "SELECT who, since, ceremony, until FROM stays WHERE ceremony = ?1 AND since = ?2 AND who > ?3 ORDER BY who, since LIMIT 1",
-        &[
-            number_cell(ceremony),
-            moment_cell(last.since),
-            initials_cell(&last.who),
-        ],
-    )
+/// Among which stays of a ceremony the next one is sought.
+#[derive(Clone, Copy)]
+enum Sought {
+    /// Those that begin with this one, behind it by initials.
+    Together(Stay),
+    /// Those that begin later than this one; with none, all.
+    Later(Option<Stay>),
 }
 
-/// The first stay of the ceremony that begins later than this one; with none, the first of all.
-fn stay_later<S: Alter>(
+/// The first of the stays of the ceremony among which is sought.
+fn first_sought<S: Alter>(
     alloc: Global,
     tx: &mut Transaction<'_, S>,
     ceremony: u32,
-    last: &Option<Stay>,
+    sought: Sought,
 ) -> Result<Option<Stay>, Refusal>
     ensures same_reference { tx.new.conn.ghost_name ≡ tx.old.conn.ghost_name }
     ensures first { TellsMachine (state S.Store tx.old.conn.now) (state S.Store tx.new.conn.now) result
-        (λ m found. found ≡ slice_get (filter (begins_after last.now) (attendance_in_by m.stays ceremony)) 0) }
+        (λ m found. found ≡ slice_get (filter (is_sought sought) (attendance_in_by m.stays ceremony)) 0) }
     ensures opened { TellsOpen (state S.Store tx.old.conn.now) (state S.Store tx.new.conn.now) result }
     ensures frame { Reads (state S.Store tx.old.conn.now) (state S.Store tx.new.conn.now) result }
 {
-    first_row(
-        alloc,
-        tx,
-        "SELECT who, since, ceremony, until FROM stays WHERE ceremony = ?1 AND since > ?2 ORDER BY since, who LIMIT 1",
-        &[number_cell(ceremony), past_moment(last)],
-    )
+    match sought {
+        Sought::Together(last) => first_row(
+            alloc,
+            tx,
+            "SELECT who, since, ceremony, until FROM stays WHERE ceremony = ?1 AND since = ?2 AND who > ?3 ORDER BY who, since LIMIT 1",
+            &[
+                number_cell(ceremony),
+                moment_cell(last.since),
+                initials_cell(&last.who),
+            ],
+        ),
+        Sought::Later(last) => first_row(
+            alloc,
+            tx,
+            "SELECT who, since, ceremony, until FROM stays WHERE ceremony = ?1 AND since > ?2 ORDER BY since, who LIMIT 1",
+            &[number_cell(ceremony), past_moment(&last)],
+        ),
+    }
 }
 
 /// The first stay of the ceremony behind the last one; none where no more comes.
@@ -101,11 +96,11 @@ fn stay_behind<S: Alter>(
     ensures frame { Reads (state S.Store tx.old.conn.now) (state S.Store tx.new.conn.now) result }
 {
     match last {
-        None => stay_later(alloc, tx, ceremony, last),
+        None => first_sought(alloc, tx, ceremony, Sought::Later(None)),
         Some(stay) => {
-            match stay_together(alloc, tx, ceremony, stay)? {
+            match first_sought(alloc, tx, ceremony, Sought::Together(*stay))? {
                 Some(next) => Ok(Some(next)),
-                None => stay_later(alloc, tx, ceremony, last),
+                None => first_sought(alloc, tx, ceremony, Sought::Later(*last)),
             }
         }
     }
