@@ -24,6 +24,7 @@ use Rattle.kcr_history.specs.declared.views.View.{View}
 use Rattle.kcr_history.specs.History.{greatest}
 use Rattle.kcr_history.specs.Machine.{Sitting}
 use Rattle.kcr_rules.specs.declared.acts.Acted.{Acted}
+use Rattle.kcr_rules.specs.declared.premises.Premises.{Premises}
 use Rattle.kcr_rules.specs.Scene.{ceremony_by}
 use Rattle.kcr_rules.specs.CeremonyRows.{closing_refusal, closing_changes, opening_refusal, opening_changes}
 use Rattle.kcr_rules.specs.CeremonyRows.{plan_refusal, plan_changes}
@@ -38,14 +39,14 @@ use Rattle.kcr_rules.specs.Signing.{IsSeatedBy, IsUnseatedBy, mark_change, seat_
 abbrev pub settled_by : List MarkRow → Option ℕ
 settled_by marks = option_map day_of (greatest (map (λ row. row.at) marks))
 
--- the roster has the view's people, trainings, withdrawals and appointments, its settled day, and whether it is full
-pub record IsRoster (view : View) (full : Bool) (roster : Roster) : Type 0 where
-  pub people : roster.people.now ≡ view.people.items
-  pub trainings : roster.trainings.now ≡ view.trainings.items
-  pub withdrawals : roster.withdrawals.now ≡ view.withdrawals.items
-  pub appointments : roster.appointments.now ≡ view.appointments.items
-  pub settled : roster.settled ≡ settled_by view.marks.items
-  pub is_full : roster.is_full ≡ full
+-- the roster has the rows of people, trainings, withdrawals and appointments, the settled day, and whether it is full
+pub record IsRoster (premises : Premises) (roster : Roster) : Type 0 where
+  pub people : roster.people.now ≡ premises.view.now.people.items
+  pub trainings : roster.trainings.now ≡ premises.view.now.trainings.items
+  pub withdrawals : roster.withdrawals.now ≡ premises.view.now.withdrawals.items
+  pub appointments : roster.appointments.now ≡ premises.view.now.appointments.items
+  pub settled : roster.settled ≡ settled_by premises.view.now.marks.items
+  pub is_full : roster.is_full ≡ premises.is_full
 
 -- the first refusal of an act, but for its key
 abbrev pub refusal_by : View → Bool → Act → Option Refusal
@@ -186,6 +187,13 @@ abbrev pub HasRefusal : View → Bool → Act → Refusal → Type 0
 HasRefusal view full act refusal = refusal ≢ Memory → refusal_by view full act ≡ Some refusal
 
 -- what deciding the act comes to: its changes where it has no refusal, or its refusal, or out of memory
-abbrev pub ComesTo : View → Bool → Act → Result (Vec Change Global) Refusal → Type 0
-ComesTo view full act result =
-    MatchResult result (λ changes. HasChanges view full act changes.items) (λ refusal. HasRefusal view full act refusal)
+abbrev pub ComesTo : Premises → Act → Result (Vec Change Global) Refusal → Type 0
+ComesTo premises act result =
+    MatchResult result (λ changes. HasChanges premises.view.now premises.is_full act changes.items)
+    (λ refusal. HasRefusal premises.view.now premises.is_full act refusal)
+
+-- the same of an act that may seat people or state an exception
+abbrev pub ActsBy : Premises → Act → Result Acted Refusal → Type 0
+ActsBy premises act result =
+    MatchResult result (λ acted. HasActed premises.view.now premises.is_full act acted)
+    (λ refusal. refusal ≢ Memory → IsRefused premises.view.now premises.is_full act refusal)

@@ -1,10 +1,10 @@
-//! What an act comes to: one function a kind of act over the rows of a view, and the choice among them.
+//! What an act comes to by its premises: one method a kind of act, and the choice among them.
 ghost use Rattle.std.specs.Prelude.{◌≡◌, ◌≢◌, true, false, MatchResult, OnOk};
 ghost use Rattle.kcr_base.specs.declared.refusal.Refusal.TheVariants.{Memory};
 ghost use Rattle.kcr_rules.specs.ByRows.{ComesTo, HasActed, IsRefused};
 ghost use Rattle.kcr_rules.specs.Kinds.{is_on_bag, is_in_room, is_on_ceremony, is_plain};
 
-use crate::{ceremonies, closing, custody, people, room, sheet, signing};
+use crate::premises::Premises;
 use kcr_base::Refusal;
 use kcr_history::{Act, Change, InitialsList, View};
 use kcr_room::Request;
@@ -23,123 +23,113 @@ pub struct Acted {
     pub step: Option<u32>,
 }
 
-/// The rows that an act on a bag puts, or its first refusal.
-fn bag_changes(alloc: Global, view: &View, full: bool, act: &Act) -> Result<Vec<Change>, Refusal>
-    requires kind { is_on_bag act.now ≡ true }
-    ensures { ComesTo view.now full act.now result }
-{
-    match act {
-        Act::Seal {
-            ceremony,
-            serial,
-            items,
-            at,
-        } => custody::seal(alloc, view, full, ceremony.get(), *serial, items, *at),
-        Act::Take {
-            ceremony,
-            serial,
-            at,
-        } => custody::take(alloc, view, full, ceremony.get(), *serial, *at),
-        Act::Put {
-            ceremony,
-            serial,
-            to,
-            at,
-        } => custody::put(alloc, view, full, ceremony.get(), *serial, *to, *at),
-        Act::Cut {
-            ceremony,
-            serial,
-            at,
-        } => custody::cut(alloc, view, full, ceremony.get(), *serial, *at),
-        _ => unreachable!(),
-    }
-}
-
-/// The rows that an act on the room, on safes or on items puts, or its first refusal.
-fn room_changes(alloc: Global, view: &View, full: bool, act: &Act) -> Result<Vec<Change>, Refusal>
-    requires kind { is_in_room act.now ≡ true }
-    ensures { ComesTo view.now full act.now result }
-{
-    match act {
-        Act::AddItem { ceremony, item, at } => room::add_item(
-            alloc,
-            view,
-            full,
-            ceremony.get(),
-            *item,
-            *at,
-        ),
-        Act::Sheet {
-            ceremony,
-            way,
-            who,
-            at,
-        } => {
-            let request = Request {
-                ceremony: ceremony.get(),
-                way: *way,
-                people: who.as_slice(),
-                at: *at,
-            };
-            sheet::add_rows(alloc, view, full, &request)
+impl Premises<'_> {
+    /// The rows that an act on a bag puts, or its first refusal.
+    fn bag_changes(&self, act: &Act) -> Result<Vec<Change>, Refusal>
+        requires kind { is_on_bag act.now ≡ true }
+        ensures { ComesTo self.now act.now result }
+    {
+        match act {
+            Act::Seal {
+                ceremony,
+                serial,
+                items,
+                at,
+            } => self.seal(ceremony.get(), *serial, items, *at),
+            Act::Take {
+                ceremony,
+                serial,
+                at,
+            } => self.take(ceremony.get(), *serial, *at),
+            Act::Put {
+                ceremony,
+                serial,
+                to,
+                at,
+            } => self.put(ceremony.get(), *serial, *to, *at),
+            Act::Cut {
+                ceremony,
+                serial,
+                at,
+            } => self.cut(ceremony.get(), *serial, *at),
+            _ => unreachable!(),
         }
-        Act::TurnSafe {
-            ceremony,
-            safe,
-            is_open,
-            by,
-            at,
-        } => room::turn_safe(alloc, view, full, ceremony.get(), *safe, *is_open, *by, *at),
-        _ => bag_changes(alloc, view, full, act),
     }
-}
 
-/// The rows that an act on ceremonies or boxes puts, or its first refusal.
-fn ceremony_changes(
-    alloc: Global,
-    view: &View,
-    full: bool,
-    act: &Act,
-) -> Result<Vec<Change>, Refusal>
-    requires kind { is_on_ceremony act.now ≡ true }
-    ensures { ComesTo view.now full act.now result }
-{
-    match act {
-        Act::AddBox {
-            facility,
-            number,
-            place,
-        } => ceremonies::add_box(alloc, view, full, *facility, number.get(), *place),
-        Act::Plan {
-            number,
-            facility,
-            day,
-            script,
-        } => ceremonies::plan(alloc, view, full, number.get(), *facility, *day, script),
-        Act::Open { ceremony, at } => ceremonies::open(alloc, view, full, ceremony.get(), *at),
-        Act::Close { ceremony, at } => closing::close(alloc, view, full, ceremony.get(), *at),
-        _ => room_changes(alloc, view, full, act),
+    /// The rows that an act on the room, on safes or on items puts, or its first refusal.
+    fn room_changes(&self, act: &Act) -> Result<Vec<Change>, Refusal>
+        requires kind { is_in_room act.now ≡ true }
+        ensures { ComesTo self.now act.now result }
+    {
+        match act {
+            Act::AddItem { ceremony, item, at } => self.add_item(ceremony.get(), *item, *at),
+            Act::Sheet {
+                ceremony,
+                way,
+                who,
+                at,
+            } => {
+                let request = Request {
+                    ceremony: ceremony.get(),
+                    way: *way,
+                    people: who.as_slice(),
+                    at: *at,
+                };
+                self.add_rows(&request)
+            }
+            Act::TurnSafe {
+                ceremony,
+                by,
+                safe,
+                is_open,
+                at,
+            } => self.turn_safe(ceremony.get(), *by, *safe, *is_open, *at),
+            _ => self.bag_changes(act),
+        }
     }
-}
 
-/// The rows that an act puts that needs no seats and states no exception, or its first refusal.
-fn changes_of(alloc: Global, view: &View, full: bool, act: &Act) -> Result<Vec<Change>, Refusal>
-    requires kind { is_plain act.now ≡ true }
-    ensures { ComesTo view.now full act.now result }
-{
-    match act {
-        Act::Enter { who, name } => people::enter(alloc, view, full, *who, name),
-        Act::Train {
-            who,
-            role,
-            since,
-            until,
-        } => people::train(alloc, view, full, *who, *role, *since, *until),
-        Act::Withdraw { who, role, day } => people::withdraw(alloc, view, full, *who, *role, *day),
-        Act::Appoint { place, who, day } => people::appoint(alloc, view, full, *place, *who, *day),
-        Act::Replace { place, who, day } => people::replace(alloc, view, full, *place, *who, *day),
-        Act::Release { place, day } => people::release(alloc, view, full, *place, *day),
-        _ => ceremony_changes(alloc, view, full, act),
+    /// The rows that an act on ceremonies or boxes puts, or its first refusal.
+    fn ceremony_changes(&self, act: &Act) -> Result<Vec<Change>, Refusal>
+        requires kind { is_on_ceremony act.now ≡ true }
+        ensures { ComesTo self.now act.now result }
+    {
+        match act {
+            Act::AddBox {
+                facility,
+                number,
+                place,
+            } => self.add_box(*facility, number.get(), *place),
+            Act::Plan {
+                number,
+                facility,
+                day,
+                script,
+            } => self.plan(number.get(), *facility, *day, script),
+            Act::Open { ceremony, at } => self.open(ceremony.get(), *at),
+            Act::Close { ceremony, at } => self.close(ceremony.get(), *at),
+            _ => self.room_changes(act),
+        }
+    }
+
+    /// The rows that an act puts that needs no seats and states no exception, or its first refusal.
+    fn changes_of(&self, act: &Act) -> Result<Vec<Change>, Refusal>
+        requires kind { is_plain act.now ≡ true }
+        ensures { ComesTo self.now act.now result }
+    {
+        match act {
+            Act::Enter { who, name } => self.enter(*who, name),
+            Act::Train {
+                who,
+                role,
+                since,
+                until,
+            } => self.train(*who, *role, *since, *until),
+            Act::Withdraw { who, role, day } => self.withdraw(*who, *role, *day),
+            Act::Appoint { place, who, day } => self.appoint(*place, *who, *day),
+            Act::Replace { place, who, day } => self.replace(*place, *who, *day),
+            Act::Release { place, day } => self.release(*place, *day),
+            _ => self.ceremony_changes(act),
+        }
     }
 }
 
@@ -155,18 +145,21 @@ pub fn perform(alloc: Global, view: &View, full: bool, act: &Act) -> Result<Acte
         (λ refusal. refusal ≢ Memory → IsRefused view.now full act.now refusal) }
     ensures not_full { OnOk result (full ≡ false) }
 {
+    let premises = Premises {
+        alloc,
+        view,
+        is_full: full,
+    };
     match act {
-        Act::Sign { ceremony, step, at } => {
-            signing::sign(alloc, view, full, ceremony.get(), step.get(), *at)
-        }
+        Act::Sign { ceremony, step, at } => premises.sign(ceremony.get(), step.get(), *at),
         Act::Except {
             ceremony,
             text,
             pass,
             at,
-        } => signing::except(alloc, view, full, ceremony.get(), text, *pass, *at),
+        } => premises.except(ceremony.get(), text, *pass, *at),
         _ => Ok(Acted {
-            changes: changes_of(alloc, view, full, act)?,
+            changes: premises.changes_of(act)?,
             exception: None,
             seating: None,
             step: None,

@@ -1,9 +1,8 @@
 //! Boxes added, and ceremonies planned and opened, over the rows of a view.
 ghost use Rattle.std.specs.Prelude.{◌≡◌, ◌≤◌, ◌++◌, length, map, Ok, Err, IfOk};
 ghost use Rattle.std.specs.List.{list_any};
-ghost use Rattle.kcr_base.specs.Refuse.{unless};
+ghost use Rattle.kcr_base.specs.Refuse.{Tests, unless};
 ghost use Rattle.kcr_custody.specs.Custody;
-ghost use Rattle.kcr_custody.specs.Custody.{Tests};
 ghost use Rattle.kcr_script.specs.Fault.{IfRow};
 ghost use Rattle.kcr_script.specs.Reading.{script_of};
 ghost use Rattle.kcr_history.specs.declared.commands.Act.TheVariants as Kinds;
@@ -12,33 +11,13 @@ ghost use Rattle.kcr_rules.specs.ByRows.{ComesTo};
 ghost use Rattle.kcr_rules.specs.CeremonyRows;
 
 use crate::changes::{only, with_mark};
+use crate::premises::Premises;
 use crate::scene::{ceremony_row, is_open_state, known};
 use kcr_base::{Day, Facility, Moment, Place, Refusal, Text};
 use kcr_custody::BoxRow;
-use kcr_history::{CeremonyRow, CeremonyState, Change, StepRow, StepState, View};
-use kcr_script::{Script, Step, read_script};
-use std::alloc::{AllocError, Global};
-
-/// Adds a box.
-#[tactic(auto, using(crate::proofs::Unless::refused, crate::proofs::Unless::accepted))]
-pub(crate) fn add_box(
-    alloc: Global,
-    view: &View,
-    full: bool,
-    facility: Facility,
-    number: u32,
-    place: Place,
-) -> Result<Vec<Change>, Refusal>
-    ensures { ComesTo view.now full (Kinds.AddBox facility number place) result }
-{
-    let row = BoxRow {
-        facility,
-        number,
-        place,
-    };
-    let row = kcr_custody::add_box(&view.boxes, full, row)?;
-    Ok(only(alloc, Change::PutBox(row))?)
-}
+use kcr_history::{CeremonyRow, CeremonyState, Change, StepRow, StepState};
+use kcr_script::{Step, read_script};
+use std::alloc::AllocError;
 
 /// Whether another ceremony is open in the same facility.
 fn is_open_beside(row: CeremonyRow, other: CeremonyRow) -> bool
@@ -52,50 +31,6 @@ fn is_busy(rows: &[CeremonyRow], row: CeremonyRow) -> bool
     ensures { result ≡ list_any (CeremonyRows.is_open_beside row) rows.now }
 {
     rows.iter().any(|other| is_open_beside(row, *other))
-}
-
-/// The ceremony of the row may be opened: its day is there, it was never opened, and no other is open beside it.
-fn check_opening(
-    rows: &[CeremonyRow],
-    full: bool,
-    at: Moment,
-    row: CeremonyRow,
-) -> Result<(), Refusal>
-    ensures { Tests (CeremonyRows.open_refusal rows.now full at row) result }
-{
-    if at.day() < row.day {
-        return Err(Refusal::Range);
-    }
-    if row.opened.is_some() {
-        return Err(Refusal::State);
-    }
-    if is_busy(rows, row) {
-        return Err(Refusal::Busy);
-    }
-    if full {
-        return Err(Refusal::Full);
-    }
-    Ok(())
-}
-
-/// Opens a planned ceremony.
-pub(crate) fn open(
-    alloc: Global,
-    view: &View,
-    full: bool,
-    ceremony: u32,
-    at: Moment,
-) -> Result<Vec<Change>, Refusal>
-    ensures { ComesTo view.now full (Kinds.Open ceremony at) result }
-{
-    let row = known(view, ceremony)?;
-    check_opening(&view.ceremonies, full, at, row)?;
-    let opened = CeremonyRow {
-        state: CeremonyState::Open,
-        opened: Some(at),
-        ..row
-    };
-    Ok(with_mark(alloc, Change::PutCeremony(opened), ceremony, at)?)
 }
 
 /// The row of a step that is neither signed nor passed, under its number.
@@ -130,46 +65,85 @@ fn push_steps(
     Ok(changes)
 }
 
-/// The rows of a planned ceremony and of its steps.
-fn planned(
-    alloc: Global,
-    number: u32,
-    facility: Facility,
-    day: Day,
-    script: &Script,
-) -> Result<Vec<Change>, AllocError>
-    ensures { IfOk result (λ changes. changes.items ≡ CeremonyRows.planned_changes number facility day script.now) }
-{
-    let row = CeremonyRow {
-        number,
-        facility,
-        day,
-        state: CeremonyState::Planned,
-        opened: None,
-        closed: None,
-    };
-    let changes = only(alloc, Change::PutCeremony(row))?;
-    push_steps(changes, number, script.as_slice())
-}
+impl Premises<'_> {
+    /// Adds a box.
+    #[tactic(auto, using(crate::proofs::Unless::refused, crate::proofs::Unless::accepted))]
+    pub fn add_box(
+        &self,
+        facility: Facility,
+        number: u32,
+        place: Place,
+    ) -> Result<Vec<Change>, Refusal>
+        ensures { ComesTo self.now (Kinds.AddBox facility number place) result }
+    {
+        let row = BoxRow {
+            facility,
+            number,
+            place,
+        };
+        let row = kcr_custody::add_box(&self.view.boxes, self.is_full, row)?;
+        Ok(only(self.alloc, Change::PutBox(row))?)
+    }
 
-/// Plans a ceremony with the steps of its script.
-pub(crate) fn plan(
-    alloc: Global,
-    view: &View,
-    full: bool,
-    number: u32,
-    facility: Facility,
-    day: Day,
-    script: &Text,
-) -> Result<Vec<Change>, Refusal>
-    ensures { ComesTo view.now full (Kinds.Plan number facility day script.now) result }
-{
-    if ceremony_row(view, number).is_some() {
-        return Err(Refusal::Taken);
+    /// The ceremony of the row may be opened: its day is there, it was never opened, and no other is open beside it.
+    fn check_opening(&self, at: Moment, row: CeremonyRow) -> Result<(), Refusal>
+        ensures { Tests (CeremonyRows.open_refusal self.now.view.now.ceremonies.items self.now.is_full at row) result }
+    {
+        if at.day() < row.day {
+            return Err(Refusal::Range);
+        }
+        if row.opened.is_some() {
+            return Err(Refusal::State);
+        }
+        if is_busy(&self.view.ceremonies, row) {
+            return Err(Refusal::Busy);
+        }
+        if self.is_full {
+            return Err(Refusal::Full);
+        }
+        Ok(())
     }
-    let steps = read_script(alloc, script.as_bytes())?;
-    if full {
-        return Err(Refusal::Full);
+
+    /// Opens a planned ceremony.
+    pub fn open(&self, ceremony: u32, at: Moment) -> Result<Vec<Change>, Refusal>
+        ensures { ComesTo self.now (Kinds.Open ceremony at) result }
+    {
+        let row = known(self.view, ceremony)?;
+        self.check_opening(at, row)?;
+        let opened = CeremonyRow {
+            state: CeremonyState::Open,
+            opened: Some(at),
+            ..row
+        };
+        Ok(with_mark(self.alloc, Change::PutCeremony(opened), ceremony, at)?)
     }
-    Ok(planned(alloc, number, facility, day, &steps)?)
+
+    /// Plans a ceremony with the steps of its script.
+    pub fn plan(
+        &self,
+        number: u32,
+        facility: Facility,
+        day: Day,
+        script: &Text,
+    ) -> Result<Vec<Change>, Refusal>
+        ensures { ComesTo self.now (Kinds.Plan number facility day script.now) result }
+    {
+        if ceremony_row(self.view, number).is_some() {
+            return Err(Refusal::Taken);
+        }
+        let steps = read_script(self.alloc, script.as_bytes())?;
+        if self.is_full {
+            return Err(Refusal::Full);
+        }
+        let row = CeremonyRow {
+            number,
+            facility,
+            day,
+            state: CeremonyState::Planned,
+            opened: None,
+            closed: None,
+        };
+        let changes = only(self.alloc, Change::PutCeremony(row))?;
+        Ok(push_steps(changes, number, steps.as_slice())?)
+    }
 }

@@ -2,19 +2,20 @@
 ghost use Rattle.std.specs.Prelude.{◌≡◌};
 ghost use Rattle.std.specs.List.{list_any};
 ghost use Rattle.kcr_custody.specs.Custody;
-ghost use Rattle.kcr_custody.specs.Custody.{Tests};
+ghost use Rattle.kcr_base.specs.Refuse.{Tests};
 ghost use Rattle.kcr_history.specs.declared.commands.Act.TheVariants as Kinds;
 ghost use Rattle.kcr_rules.specs.ByRows.{ComesTo};
 ghost use Rattle.kcr_rules.specs.CeremonyRows;
 ghost use Rattle.kcr_room.specs.Stays;
 
 use crate::changes::only;
+use crate::premises::Premises;
 use crate::scene::{check_running, known};
 use kcr_base::{Facility, Moment, Part, Refusal};
+use kcr_custody::rows::is_open;
 use kcr_custody::{Bag, SafeNumber, Spot};
 use kcr_history::{CeremonyRow, CeremonyState, Change, StepRow, StepState, View};
 use kcr_room::Stay;
-use std::alloc::Global;
 
 /// Whether a step was neither signed nor passed.
 fn is_undone(state: StepState) -> bool
@@ -66,13 +67,6 @@ fn is_room_used(view: &View, ceremony: u32, at: Moment) -> bool
         .any(|stay| is_unended(ceremony, at, *stay))
 }
 
-/// Whether the safe is open.
-fn is_safe_open(view: &View, facility: Facility, safe: SafeNumber) -> bool
-    ensures { result ≡ Custody.is_open_by view.now.safes.items facility safe }
-{
-    kcr_custody::rows::is_open(&view.safes, facility, safe)
-}
-
 /// Whether the bag is on the facility's table.
 fn lies_on_table(facility: Facility, bag: Bag) -> bool
     ensures { result ≡ CeremonyRows.lies_on_table facility bag }
@@ -100,8 +94,8 @@ fn check_finished(view: &View, ceremony: u32, at: Moment, row: CeremonyRow) -> R
     if is_room_used(view, ceremony, at) {
         return Err(Refusal::Unfinished { part: Part::Room });
     }
-    if is_safe_open(view, row.facility, SafeNumber::One)
-        || is_safe_open(view, row.facility, SafeNumber::Two)
+    if is_open(&view.safes, row.facility, SafeNumber::One)
+        || is_open(&view.safes, row.facility, SafeNumber::Two)
     {
         return Err(Refusal::Unfinished { part: Part::Safes });
     }
@@ -111,26 +105,22 @@ fn check_finished(view: &View, ceremony: u32, at: Moment, row: CeremonyRow) -> R
     Ok(())
 }
 
-/// Closes an open ceremony.
-pub(crate) fn close(
-    alloc: Global,
-    view: &View,
-    full: bool,
-    ceremony: u32,
-    at: Moment,
-) -> Result<Vec<Change>, Refusal>
-    ensures { ComesTo view.now full (Kinds.Close ceremony at) result }
-{
-    let row = known(view, ceremony)?;
-    check_running(view, ceremony, row.state, at)?;
-    if full {
-        return Err(Refusal::Full);
+impl Premises<'_> {
+    /// Closes an open ceremony.
+    pub fn close(&self, ceremony: u32, at: Moment) -> Result<Vec<Change>, Refusal>
+        ensures { ComesTo self.now (Kinds.Close ceremony at) result }
+    {
+        let row = known(self.view, ceremony)?;
+        check_running(self.view, ceremony, row.state, at)?;
+        if self.is_full {
+            return Err(Refusal::Full);
+        }
+        check_finished(self.view, ceremony, at, row)?;
+        let closed = CeremonyRow {
+            state: CeremonyState::Closed,
+            closed: Some(at),
+            ..row
+        };
+        Ok(only(self.alloc, Change::PutCeremony(closed))?)
     }
-    check_finished(view, ceremony, at, row)?;
-    let closed = CeremonyRow {
-        state: CeremonyState::Closed,
-        closed: Some(at),
-        ..row
-    };
-    Ok(only(alloc, Change::PutCeremony(closed))?)
 }

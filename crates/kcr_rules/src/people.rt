@@ -10,8 +10,9 @@ ghost use Rattle.kcr_rules.specs.ByRows.{ComesTo, IsRoster, settled_by};
 ghost use Rattle.kcr_history.specs.History.{greatest, with_mark};
 
 use crate::changes::{both, only};
+use crate::premises::Premises;
 use kcr_base::{Day, Initials, Moment, Name, Place, Refusal, Role};
-use kcr_history::{Change, MarkRow, View};
+use kcr_history::{Change, MarkRow};
 use kcr_people::{Person, Roster, Training, Withdrawal};
 use std::alloc::{AllocError, Global};
 
@@ -44,60 +45,6 @@ pub(crate) fn settled(marks: &[MarkRow]) -> Option<Day>
     greatest_mark(marks).map(|mark| mark.day())
 }
 
-/// What acts on people and places are decided by.
-fn roster(view: &View, full: bool) -> Roster<'_>
-    ensures { IsRoster view.now full result }
-{
-    Roster {
-        people: &view.people,
-        trainings: &view.trainings,
-        withdrawals: &view.withdrawals,
-        appointments: &view.appointments,
-        settled: settled(&view.marks),
-        is_full: full,
-    }
-}
-
-/// Enters a person: the row to put, or the first refusal.
-pub(crate) fn enter(
-    alloc: Global,
-    view: &View,
-    full: bool,
-    who: Initials,
-    name: &Name,
-) -> Result<Vec<Change>, Refusal>
-    ensures { ComesTo view.now full (Kinds.Enter who name.now) result }
-{
-    let person = Person {
-        who,
-        name: name.clone()?,
-    };
-    let person = kcr_people::enter(&view.people, full, person)?;
-    Ok(only(alloc, Change::PutPerson(person))?)
-}
-
-/// Trains a person.
-pub(crate) fn train(
-    alloc: Global,
-    view: &View,
-    full: bool,
-    who: Initials,
-    role: Role,
-    since: Day,
-    until: Day,
-) -> Result<Vec<Change>, Refusal>
-    ensures { ComesTo view.now full (Kinds.Train who role since until) result }
-{
-    let training = Training {
-        who,
-        role,
-        since,
-        until,
-    };
-    let row = kcr_people::train(&roster(view, full), training)?;
-    Ok(only(alloc, Change::PutTraining(row))?)
-}
-
 /// The rows of withdrawals as changes.
 fn withdrawal_changes(alloc: Global, rows: &[Withdrawal]) -> Result<Vec<Change>, AllocError>
     ensures { IfOk result (λ changes. changes.items ≡ map PutWithdrawal rows.now) }
@@ -109,66 +56,87 @@ fn withdrawal_changes(alloc: Global, rows: &[Withdrawal]) -> Result<Vec<Change>,
     Ok(changes)
 }
 
-/// Withdraws a person's trainings for a role.
-pub(crate) fn withdraw(
-    alloc: Global,
-    view: &View,
-    full: bool,
-    who: Initials,
-    role: Role,
-    day: Day,
-) -> Result<Vec<Change>, Refusal>
-    ensures { ComesTo view.now full (Kinds.Withdraw who role day) result }
-{
-    let rows = kcr_people::withdraw(alloc, &roster(view, full), who, role, day)?;
-    let changes = withdrawal_changes(alloc, rows.as_slice())?;
-    Ok(changes)
-}
+impl Premises<'_> {
+    /// What acts on people and places are decided by.
+    fn roster(&self) -> Roster<'_>
+        ensures { IsRoster self.now result }
+    {
+        Roster {
+            people: &self.view.people,
+            trainings: &self.view.trainings,
+            withdrawals: &self.view.withdrawals,
+            appointments: &self.view.appointments,
+            settled: settled(&self.view.marks),
+            is_full: self.is_full,
+        }
+    }
 
-/// Puts a person in a vacant place.
-pub(crate) fn appoint(
-    alloc: Global,
-    view: &View,
-    full: bool,
-    place: Place,
-    who: Initials,
-    day: Day,
-) -> Result<Vec<Change>, Refusal>
-    ensures { ComesTo view.now full (Kinds.Appoint place who day) result }
-{
-    let row = kcr_people::appoint(&roster(view, full), place, who, day)?;
-    Ok(only(alloc, Change::PutAppointment(row))?)
-}
+    /// Enters a person: the row to put, or the first refusal.
+    pub fn enter(&self, who: Initials, name: &Name) -> Result<Vec<Change>, Refusal>
+        ensures { ComesTo self.now (Kinds.Enter who name.now) result }
+    {
+        let person = Person {
+            who,
+            name: name.clone()?,
+        };
+        let person = kcr_people::enter(&self.view.people, self.is_full, person)?;
+        Ok(only(self.alloc, Change::PutPerson(person))?)
+    }
 
-/// Puts a person in the place of its holder.
-pub(crate) fn replace(
-    alloc: Global,
-    view: &View,
-    full: bool,
-    place: Place,
-    who: Initials,
-    day: Day,
-) -> Result<Vec<Change>, Refusal>
-    ensures { ComesTo view.now full (Kinds.Replace place who day) result }
-{
-    let (ended, row) = kcr_people::replace(&roster(view, full), place, who, day)?;
-    Ok(both(
-        alloc,
-        Change::PutAppointment(ended),
-        Change::PutAppointment(row),
-    )?)
-}
+    /// Trains a person.
+    pub fn train(
+        &self,
+        who: Initials,
+        role: Role,
+        since: Day,
+        until: Day,
+    ) -> Result<Vec<Change>, Refusal>
+        ensures { ComesTo self.now (Kinds.Train who role since until) result }
+    {
+        let training = Training {
+            who,
+            role,
+            since,
+            until,
+        };
+        let row = kcr_people::train(&self.roster(), training)?;
+        Ok(only(self.alloc, Change::PutTraining(row))?)
+    }
 
-/// Makes a place vacant.
-pub(crate) fn release(
-    alloc: Global,
-    view: &View,
-    full: bool,
-    place: Place,
-    day: Day,
-) -> Result<Vec<Change>, Refusal>
-    ensures { ComesTo view.now full (Kinds.Release place day) result }
-{
-    let ended = kcr_people::release(&roster(view, full), place, day)?;
-    Ok(only(alloc, Change::PutAppointment(ended))?)
+    /// Withdraws a person's trainings for a role.
+    pub fn withdraw(&self, who: Initials, role: Role, day: Day) -> Result<Vec<Change>, Refusal>
+        ensures { ComesTo self.now (Kinds.Withdraw who role day) result }
+    {
+        let rows = kcr_people::withdraw(self.alloc, &self.roster(), who, role, day)?;
+        let changes = withdrawal_changes(self.alloc, rows.as_slice())?;
+        Ok(changes)
+    }
+
+    /// Puts a person in a vacant place.
+    pub fn appoint(&self, place: Place, who: Initials, day: Day) -> Result<Vec<Change>, Refusal>
+        ensures { ComesTo self.now (Kinds.Appoint place who day) result }
+    {
+        let row = kcr_people::appoint(&self.roster(), place, who, day)?;
+        Ok(only(self.alloc, Change::PutAppointment(row))?)
+    }
+
+    /// Puts a person in the place of its holder.
+    pub fn replace(&self, place: Place, who: Initials, day: Day) -> Result<Vec<Change>, Refusal>
+        ensures { ComesTo self.now (Kinds.Replace place who day) result }
+    {
+        let (ended, row) = kcr_people::replace(&self.roster(), place, who, day)?;
+        Ok(both(
+            self.alloc,
+            Change::PutAppointment(ended),
+            Change::PutAppointment(row),
+        )?)
+    }
+
+    /// Makes a place vacant.
+    pub fn release(&self, place: Place, day: Day) -> Result<Vec<Change>, Refusal>
+        ensures { ComesTo self.now (Kinds.Release place day) result }
+    {
+        let ended = kcr_people::release(&self.roster(), place, day)?;
+        Ok(only(self.alloc, Change::PutAppointment(ended))?)
+    }
 }

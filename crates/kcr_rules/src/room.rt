@@ -10,63 +10,56 @@ ghost use Rattle.kcr_rules.specs.RoomRows;
 ghost use Rattle.kcr_rules.specs.ByRows.{ComesTo};
 
 use crate::changes::with_mark;
-use crate::scene;
+use crate::premises::Premises;
+use crate::scene::is_trained;
 use kcr_base::{Initials, ItemCode, Moment, Refusal, Role};
 use kcr_custody::{Keeper, SafeNumber};
-use kcr_history::{Change, View};
-use std::alloc::{AllocError, Global};
+use kcr_history::Change;
+use std::alloc::AllocError;
 
-/// Who opens or shuts a safe.
-fn keeper(
-    alloc: Global,
-    view: &View,
-    ceremony: u32,
-    by: Initials,
-    at: Moment,
-) -> Result<Keeper, AllocError>
-    ensures { IfOk result (λ keeper. keeper ≡ RoomRows.keeper_by view.now ceremony by at) }
-{
-    let day = at.day();
-    Ok(Keeper {
-        who: by,
-        is_known: kcr_people::rows::is_person(&view.people, by),
-        is_inside: scene::is_in(alloc, view, by, ceremony, at)?,
-        has_ssc1: scene::is_trained(view, by, Role::Ssc1, day),
-        has_ssc2: scene::is_trained(view, by, Role::Ssc2, day),
-    })
-}
+impl Premises<'_> {
+    /// Who opens or shuts a safe.
+    fn keeper(&self, ceremony: u32, by: Initials, at: Moment) -> Result<Keeper, AllocError>
+        ensures { IfOk result (λ keeper. keeper ≡ RoomRows.keeper_by self.now.view.now ceremony by at) }
+    {
+        let day = at.day();
+        Ok(Keeper {
+            who: by,
+            is_known: kcr_people::rows::is_person(&self.view.people, by),
+            is_inside: self.is_in(by, ceremony, at)?,
+            has_ssc1: is_trained(self.view, by, Role::Ssc1, day),
+            has_ssc2: is_trained(self.view, by, Role::Ssc2, day),
+        })
+    }
 
-/// Opens or shuts a safe.
-pub(crate) fn turn_safe(
-    alloc: Global,
-    view: &View,
-    full: bool,
-    ceremony: u32,
-    safe: SafeNumber,
-    is_open: bool,
-    by: Initials,
-    at: Moment,
-) -> Result<Vec<Change>, Refusal>
-    ensures { ComesTo view.now full (Kinds.TurnSafe ceremony safe is_open by at) result }
-{
-    let scene = scene::scene(view, ceremony, at, full, false);
-    let keeper = keeper(alloc, view, ceremony, by, at)?;
-    let row = kcr_custody::turn_safe(&scene, &view.safes, safe, is_open, &keeper)?;
-    Ok(with_mark(alloc, Change::PutSafe(row), ceremony, at)?)
-}
+    /// Opens or shuts a safe.
+    pub fn turn_safe(
+        &self,
+        ceremony: u32,
+        by: Initials,
+        safe: SafeNumber,
+        is_open: bool,
+        at: Moment,
+    ) -> Result<Vec<Change>, Refusal>
+        ensures { ComesTo self.now (Kinds.TurnSafe ceremony safe is_open by at) result }
+    {
+        let scene = self.scene(ceremony, at, false);
+        let keeper = self.keeper(ceremony, by, at)?;
+        let row = kcr_custody::turn_safe(&scene, &self.view.safes, safe, is_open, &keeper)?;
+        Ok(with_mark(self.alloc, Change::PutSafe(row), ceremony, at)?)
+    }
 
-/// Adds an item, loose at the ceremony's facility.
-pub(crate) fn add_item(
-    alloc: Global,
-    view: &View,
-    full: bool,
-    ceremony: u32,
-    item: ItemCode,
-    at: Moment,
-) -> Result<Vec<Change>, Refusal>
-    ensures { ComesTo view.now full (Kinds.AddItem ceremony item at) result }
-{
-    let scene = scene::attended_scene(alloc, view, full, ceremony, at)?;
-    let row = kcr_custody::add_item(&scene, &view.items, item)?;
-    Ok(with_mark(alloc, Change::PutItem(row), ceremony, at)?)
+    /// Adds an item, loose at the ceremony's facility.
+    pub fn add_item(
+        &self,
+        ceremony: u32,
+        item: ItemCode,
+        at: Moment,
+    ) -> Result<Vec<Change>, Refusal>
+        ensures { ComesTo self.now (Kinds.AddItem ceremony item at) result }
+    {
+        let scene = self.attended_scene(ceremony, at)?;
+        let row = kcr_custody::add_item(&scene, &self.view.items, item)?;
+        Ok(with_mark(self.alloc, Change::PutItem(row), ceremony, at)?)
+    }
 }

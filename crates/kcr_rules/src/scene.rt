@@ -3,16 +3,16 @@ ghost use Rattle.std.specs.Prelude.{◌≡◌, IfOk, MatchResult, Some, None};
 ghost use Rattle.std.specs.List.{list_any};
 ghost use Rattle.kcr_base.specs.declared.refusal.Refusal.TheVariants.{Unknown};
 ghost use Rattle.kcr_base.specs.declared.refusal.Thing.TheVariants as Things;
-ghost use Rattle.kcr_custody.specs.Custody.{Tests};
+ghost use Rattle.kcr_base.specs.Refuse.{Tests};
 ghost use Rattle.kcr_people.specs.People.{holder_by};
 ghost use Rattle.kcr_room.specs.Stays.{present_in_by};
 ghost use Rattle.kcr_rules.specs.Scene;
 
-use kcr_base::{Day, Facility, Initials, Moment, Place, Refusal, Role, Thing};
+use crate::premises::Premises;
+use kcr_base::{Day, Facility, Initials, Moment, Place, Refusal, Role, Thing, is_among};
 use kcr_custody::Scene as CustodyScene;
 use kcr_history::{CeremonyRow, CeremonyState, View};
-use kcr_room::is_among;
-use std::alloc::{AllocError, Global};
+use std::alloc::AllocError;
 
 /// The row of a ceremony, None where there is no such ceremony.
 pub fn ceremony_row(view: &View, ceremony: u32) -> Option<CeremonyRow>
@@ -106,89 +106,11 @@ pub fn check_running(
     Ok(())
 }
 
-/// What an act of custody takes from its ceremony.
-pub fn scene(view: &View, ceremony: u32, at: Moment, full: bool, has_ca: bool) -> CustodyScene
-    ensures { result ≡ Scene.scene_by view.now ceremony at full has_ca }
-{
-    let row = ceremony_row(view, ceremony);
-    CustodyScene {
-        ceremony,
-        is_known: row.is_some(),
-        facility: facility(&row),
-        is_open: is_open(&row),
-        mark: mark(view, ceremony),
-        at,
-        is_full: full,
-        has_ca,
-    }
-}
-
-/// Those in the room of a ceremony, in byte order.
-pub fn present(
-    alloc: Global,
-    view: &View,
-    ceremony: u32,
-    at: Moment,
-) -> Result<Vec<Initials>, AllocError>
-    ensures { IfOk result (λ people. people.items ≡ present_in_by view.now.stays.items ceremony at) }
-{
-    kcr_room::present_in(alloc, &view.stays, ceremony, at)
-}
-
-/// Whether a person is in the room of a ceremony.
-pub fn is_in(
-    alloc: Global,
-    view: &View,
-    who: Initials,
-    ceremony: u32,
-    at: Moment,
-) -> Result<bool, AllocError>
-    ensures { IfOk result (λ answer. answer ≡ Scene.is_in_by view.now.stays.items who ceremony at) }
-{
-    let people = present(alloc, view, ceremony, at)?;
-    Ok(is_among(&people, who))
-}
-
 /// Whether a person is trained for a role on a day.
 pub fn is_trained(view: &View, who: Initials, role: Role, day: Day) -> bool
     ensures { result ≡ Scene.is_trained_by view.now who role day }
 {
     kcr_people::trained(&view.trainings, &view.withdrawals, who, role, day)
-}
-
-/// Whether one of some people is trained for a role on a day.
-fn has_trained(view: &View, people: &[Initials], role: Role, day: Day) -> bool
-    ensures { result ≡ list_any (λ who. Scene.is_trained_by view.now who role day) people.now }
-{
-    people.iter().any(|who| is_trained(view, *who, role, day))
-}
-
-/// Whether somebody in the room of a ceremony is trained for a role on the day.
-pub fn is_attended(
-    alloc: Global,
-    view: &View,
-    role: Role,
-    ceremony: u32,
-    at: Moment,
-) -> Result<bool, AllocError>
-    ensures { IfOk result (λ answer. answer ≡ Scene.is_attended_by view.now role ceremony at) }
-{
-    let people = present(alloc, view, ceremony, at)?;
-    Ok(has_trained(view, &people, role, at.day()))
-}
-
-/// What an act of custody takes from its ceremony, with whether a CA is in the room.
-pub fn attended_scene(
-    alloc: Global,
-    view: &View,
-    full: bool,
-    ceremony: u32,
-    at: Moment,
-) -> Result<CustodyScene, AllocError>
-    ensures { IfOk result (λ scene. scene ≡ Scene.scene_in view.now full ceremony at) }
-{
-    let has_ca = is_attended(alloc, view, Role::Ca, ceremony, at)?;
-    Ok(scene(view, ceremony, at, full, has_ca))
 }
 
 /// Who holds a place on a day.
@@ -198,18 +120,67 @@ pub fn holder(view: &View, place: Place, day: Day) -> Option<Initials>
     kcr_people::holder(&view.appointments, place, day)
 }
 
-/// Whether a place has a holder on the day who is in the room of a ceremony.
-pub fn has_holder_in(
-    alloc: Global,
-    view: &View,
-    place: Place,
-    ceremony: u32,
-    at: Moment,
-) -> Result<bool, AllocError>
-    ensures { IfOk result (λ answer. answer ≡ Scene.has_holder_in_by view.now place ceremony at) }
-{
-    match holder(view, place, at.day()) {
-        Some(who) => is_in(alloc, view, who, ceremony, at),
-        None => Ok(false),
+impl Premises<'_> {
+    /// What an act of custody takes from its ceremony.
+    pub fn scene(&self, ceremony: u32, at: Moment, has_ca: bool) -> CustodyScene
+        ensures { result ≡ Scene.scene_by self.now.view.now ceremony at self.now.is_full has_ca }
+    {
+        let row = ceremony_row(self.view, ceremony);
+        CustodyScene {
+            ceremony,
+            is_known: row.is_some(),
+            facility: facility(&row),
+            is_open: is_open(&row),
+            mark: mark(self.view, ceremony),
+            at,
+            is_full: self.is_full,
+            has_ca,
+        }
+    }
+
+    /// Those in the room of a ceremony, in byte order.
+    pub fn present(&self, ceremony: u32, at: Moment) -> Result<Vec<Initials>, AllocError>
+        ensures { IfOk result (λ people. people.items ≡ present_in_by self.now.view.now.stays.items ceremony at) }
+    {
+        kcr_room::present_in(self.alloc, &self.view.stays, ceremony, at)
+    }
+
+    /// Whether a person is in the room of a ceremony.
+    pub fn is_in(&self, who: Initials, ceremony: u32, at: Moment) -> Result<bool, AllocError>
+        ensures { IfOk result (λ answer. answer ≡ Scene.is_in_by self.now.view.now.stays.items who ceremony at) }
+    {
+        let people = self.present(ceremony, at)?;
+        Ok(is_among(&people, who))
+    }
+
+    /// Whether somebody in the room of a ceremony is trained for a role on the day.
+    pub fn is_attended(&self, role: Role, ceremony: u32, at: Moment) -> Result<bool, AllocError>
+        ensures { IfOk result (λ answer. answer ≡ Scene.is_attended_by self.now.view.now role ceremony at) }
+    {
+        let people = self.present(ceremony, at)?;
+        let day = at.day();
+        Ok(
+            people
+                .iter()
+                .any(|who| is_trained(self.view, *who, role, day)),
+        )
+    }
+
+    /// What an act of custody takes from its ceremony, with whether a CA is in the room.
+    pub fn attended_scene(&self, ceremony: u32, at: Moment) -> Result<CustodyScene, AllocError>
+        ensures { IfOk result (λ scene. scene ≡ Scene.scene_in self.now.view.now self.now.is_full ceremony at) }
+    {
+        let has_ca = self.is_attended(Role::Ca, ceremony, at)?;
+        Ok(self.scene(ceremony, at, has_ca))
+    }
+
+    /// Whether a place has a holder on the day who is in the room of a ceremony.
+    pub fn has_holder_in(&self, place: Place, ceremony: u32, at: Moment) -> Result<bool, AllocError>
+        ensures { IfOk result (λ answer. answer ≡ Scene.has_holder_in_by self.now.view.now place ceremony at) }
+    {
+        match holder(self.view, place, at.day()) {
+            Some(who) => self.is_in(who, ceremony, at),
+            None => Ok(false),
+        }
     }
 }

@@ -5,13 +5,15 @@ ghost use Rattle.kcr_base.specs.declared.refusal.Refusal.TheVariants.{Memory};
 ghost use Rattle.kcr_seats.specs.Outcome.{IsOutcome};
 ghost use Rattle.kcr_history.specs.Fitting.{fits_by};
 ghost use Rattle.kcr_history.specs.Machine.{Sitting};
+ghost use Rattle.kcr_history.specs.declared.views.View.{View};
 ghost use Rattle.kcr_history.specs.Views.{is_training_of};
 ghost use Rattle.kcr_rules.specs.Own.{own_of};
 ghost use Rattle.kcr_rules.specs.Signing;
 
-use crate::scene;
+use crate::premises::Premises;
+use crate::scene::facility_in;
 use kcr_base::{Day, Facility, Initials, Moment, Positions, Refusal};
-use kcr_history::{InitialsList, View, fits};
+use kcr_history::{InitialsList, fits};
 use kcr_people::{Appointment, Training, Withdrawal};
 use kcr_script::Seat;
 use kcr_seats::{Fits, Outcome};
@@ -97,36 +99,6 @@ fn own_trainings(
     Ok(own)
 }
 
-/// Seats these people by their numbers, or names seats that too few of them fit.
-fn search(
-    alloc: Global,
-    view: &View,
-    facility: Facility,
-    day: Day,
-    seats: &[Seat],
-    people: &[Initials],
-) -> Result<Outcome, AllocError>
-    requires seats { length seats.now ≤ 16 }
-    requires people { length people.now ≤ 128 }
-    ensures { IfOk result (λ answer. IsOutcome
-        (Signing.fits_of (fits_by view.now.trainings.items view.now.withdrawals.items view.now.appointments.items
-        facility day) seats.now people.now)
-        (length seats.now) (length people.now) answer) }
-{
-    let own = own_trainings(alloc, &view.trainings, people)?;
-    let room = Room {
-        seats,
-        people,
-        trainings: &view.trainings,
-        own: &own,
-        withdrawals: &view.withdrawals,
-        rows: &view.appointments,
-        facility,
-        day,
-    };
-    kcr_seats::seat_uncounted(alloc, &room)
-}
-
 /// The people with these numbers.
 fn named(alloc: Global, people: &[Initials], numbers: &[usize]) -> Result<InitialsList, AllocError>
     requires { EachIndex numbers.now (λ i. slice_index numbers.now i < length people.now) }
@@ -139,29 +111,54 @@ fn named(alloc: Global, people: &[Initials], numbers: &[usize]) -> Result<Initia
     Ok(InitialsList::new(list))
 }
 
-/// Fills the seats in the room of a ceremony: the people seat by seat, or the refusal that names seats that too few
-/// people fit. A room with more people than may be in one is no register's: then the database gave wrong rows.
-pub fn seat(
-    alloc: Global,
-    view: &View,
-    ceremony: u32,
-    at: Moment,
-    seats: &[Seat],
-) -> Result<InitialsList, Refusal>
-    requires few { length seats.now ≤ 16 }
-    ensures { let s : Sitting = record { ceremony = ceremony; at = at; seats = seats.now } in MatchResult result
-        (λ people. Signing.IsSeatedBy view.now s people × (length people ≤ 16))
-        (λ refusal. refusal ≢ Memory → Signing.IsUnseatedBy view.now s refusal) }
-{
-    let facility = scene::facility_in(view, ceremony);
-    let people = scene::present(alloc, view, ceremony, at)?;
-    if people.len() > MOST_PEOPLE {
-        return Err(Refusal::Disk);
+impl Premises<'_> {
+    /// Seats these people by their numbers, or names seats that too few of them fit.
+    fn search(
+        &self,
+        facility: Facility,
+        day: Day,
+        seats: &[Seat],
+        people: &[Initials],
+    ) -> Result<Outcome, AllocError>
+        requires seats { length seats.now ≤ 16 }
+        requires people { length people.now ≤ 128 }
+        ensures { let view : View = self.now.view.now in IfOk result (λ answer. IsOutcome
+            (Signing.fits_of (fits_by view.trainings.items view.withdrawals.items view.appointments.items
+            facility day) seats.now people.now)
+            (length seats.now) (length people.now) answer) }
+    {
+        let own = own_trainings(self.alloc, &self.view.trainings, people)?;
+        let room = Room {
+            seats,
+            people,
+            trainings: &self.view.trainings,
+            own: &own,
+            withdrawals: &self.view.withdrawals,
+            rows: &self.view.appointments,
+            facility,
+            day,
+        };
+        kcr_seats::seat_uncounted(self.alloc, &room)
     }
-    match search(alloc, view, facility, at.day(), seats, &people)? {
-        Outcome::Seated(numbers) => Ok(named(alloc, &people, &numbers)?),
-        Outcome::Short(numbers) => Err(Refusal::Short {
-            seats: Positions::from_indices(&numbers),
-        }),
+
+    /// Fills the seats in the room of a ceremony: the people seat by seat, or the refusal that names seats that too few
+    /// people fit. A room with more people than may be in one is no register's: then the database gave wrong rows.
+    pub fn seat(&self, ceremony: u32, at: Moment, seats: &[Seat]) -> Result<InitialsList, Refusal>
+        requires few { length seats.now ≤ 16 }
+        ensures { let s : Sitting = record { ceremony = ceremony; at = at; seats = seats.now } in MatchResult result
+            (λ people. Signing.IsSeatedBy self.now.view.now s people × (length people ≤ 16))
+            (λ refusal. refusal ≢ Memory → Signing.IsUnseatedBy self.now.view.now s refusal) }
+    {
+        let facility = facility_in(self.view, ceremony);
+        let people = self.present(ceremony, at)?;
+        if people.len() > MOST_PEOPLE {
+            return Err(Refusal::Disk);
+        }
+        match self.search(facility, at.day(), seats, &people)? {
+            Outcome::Seated(numbers) => Ok(named(self.alloc, &people, &numbers)?),
+            Outcome::Short(numbers) => Err(Refusal::Short {
+                seats: Positions::from_indices(&numbers),
+            }),
+        }
     }
 }

@@ -1,20 +1,23 @@
 //! Requests of the sheet, over the rows of a view: people come into a room or go out of it.
-ghost use Rattle.std.specs.Prelude.{◌≡◌, ◌≢◌, ◌++◌, IfOk, MatchResult, Some, None, map};
+ghost use Rattle.std.specs.Prelude.{◌≡◌, ◌≢◌, ◌++◌, IfOk, MatchResult, Option, Some, None, map};
+ghost use Rattle.kcr_base.specs.declared.refusal.Refusal.{Refusal};
 ghost use Rattle.kcr_base.specs.declared.refusal.Refusal.TheVariants.{Memory};
-ghost use Rattle.kcr_custody.specs.Custody.{Tests};
+ghost use Rattle.kcr_base.specs.Refuse.{Tests};
 ghost use Rattle.kcr_room.specs.Adding;
 ghost use Rattle.kcr_room.specs.declared.Request.{Request};
+ghost use Rattle.kcr_history.specs.declared.views.View.{View};
 ghost use Rattle.kcr_history.specs.Views;
 ghost use Rattle.kcr_history.specs.declared.commands.Act.TheVariants as Kinds;
 ghost use Rattle.kcr_history.specs.declared.views.Change.TheVariants.{PutSheet, PutStay};
 ghost use Rattle.kcr_rules.specs.ByRows.{ComesTo};
 ghost use Rattle.kcr_rules.specs.SheetRows;
 
+use crate::premises::Premises;
 use crate::scene::{is_open_state, known, mark};
-use kcr_base::{Initials, Moment, Refusal, Thing, not_later, same_person};
+use kcr_base::{Initials, Refusal, Thing, is_among, not_later, same_person};
 use kcr_history::{Change, View};
 use kcr_people::Person;
-use kcr_room::{Request, SheetRow, Stay, is_among, stays_in};
+use kcr_room::{Request, SheetRow, Stay, stays_in};
 use std::alloc::{AllocError, Global};
 
 /// The later of a stay found so far and a further one.
@@ -108,32 +111,6 @@ fn first_twice(people: &[Initials]) -> Option<Initials>
     None
 }
 
-/// The stays that a request changes, or the first refusal by the mark and the room.
-fn changed_stays(
-    alloc: Global,
-    stays: &[Stay],
-    mark: Option<Moment>,
-    full: bool,
-    request: &Request<'_>,
-) -> Result<Vec<Stay>, Refusal>
-    ensures { let asked : Request = request.now in MatchResult result
-        (λ changed. (SheetRows.room_refusal stays.now asked.ceremony mark full asked.way asked.people.now asked.at ≡ None)
-        × (changed.items ≡ Adding.changed_stays stays.now asked.ceremony asked.way asked.people.now asked.at))
-        (λ refusal. refusal ≢ Memory
-        → SheetRows.room_refusal stays.now asked.ceremony mark full asked.way asked.people.now asked.at ≡ Some refusal) }
-{
-    let Some(mark) = mark else {
-        return Err(Refusal::State);
-    };
-    if not_later(request.at, mark) {
-        return Err(Refusal::Late { mark });
-    }
-    if let Some(who) = first_twice(request.people) {
-        return Err(Refusal::Turn { who });
-    }
-    kcr_room::add_stays(alloc, stays, mark, full, request)
-}
-
 /// The rows of the sheet that a request adds, as changes.
 fn row_changes(alloc: Global, request: &Request<'_>) -> Result<Vec<Change>, AllocError>
     ensures { let asked : Request = request.now in IfOk result (λ changes.
@@ -179,37 +156,39 @@ fn check_known(view: &View, ceremony: u32, people: &[Initials]) -> Result<(), Re
     Ok(())
 }
 
-/// The stays that a request changes, or the first refusal by the mark and the room, by the rows of the view.
-fn room_changes(
-    alloc: Global,
-    view: &View,
-    full: bool,
-    request: &Request<'_>,
-) -> Result<Vec<Stay>, Refusal>
-    ensures { let asked : Request = request.now in MatchResult result
-        (λ changed. (SheetRows.late_refusal view.now full asked.ceremony asked.way asked.people.now asked.at ≡ None)
-        × (changed.items ≡ Adding.changed_stays
-        (SheetRows.stays_of_request view.now.stays.items asked.ceremony asked.people.now)
-        asked.ceremony asked.way asked.people.now asked.at))
-        (λ refusal. refusal ≢ Memory
-        → SheetRows.late_refusal view.now full asked.ceremony asked.way asked.people.now asked.at ≡ Some refusal) }
-{
-    let some = stays_of_request(alloc, &view.stays, request)?;
-    changed_stays(alloc, &some, mark(view, request.ceremony), full, request)
-}
+impl Premises<'_> {
+    /// The stays that a request changes, or the first refusal by the mark and the room.
+    fn changed_stays(&self, request: &Request<'_>) -> Result<Vec<Stay>, Refusal>
+        ensures { let asked : Request = request.now in let view : View = self.now.view.now in
+            let first : Option Refusal = SheetRows.late_refusal
+            view self.now.is_full asked.ceremony asked.way asked.people.now asked.at in
+            MatchResult result
+            (λ changed. (first ≡ None) × (changed.items ≡ Adding.changed_stays
+            (SheetRows.stays_of_request view.stays.items asked.ceremony asked.people.now)
+            asked.ceremony asked.way asked.people.now asked.at))
+            (λ refusal. refusal ≢ Memory → first ≡ Some refusal) }
+    {
+        let Some(mark) = mark(self.view, request.ceremony) else {
+            return Err(Refusal::State);
+        };
+        if not_later(request.at, mark) {
+            return Err(Refusal::Late { mark });
+        }
+        if let Some(who) = first_twice(request.people) {
+            return Err(Refusal::Turn { who });
+        }
+        let stays = stays_of_request(self.alloc, &self.view.stays, request)?;
+        kcr_room::add_stays(self.alloc, &stays, mark, self.is_full, request)
+    }
 
-/// Lists people who come into the room of a ceremony, or go out of it: the rows to put, or the first refusal.
-pub(crate) fn add_rows(
-    alloc: Global,
-    view: &View,
-    full: bool,
-    request: &Request<'_>,
-) -> Result<Vec<Change>, Refusal>
-    ensures { let asked : Request = request.now in
-        ComesTo view.now full (Kinds.Sheet asked.ceremony asked.way asked.people.now asked.at) result }
-{
-    check_known(view, request.ceremony, request.people)?;
-    let changed = room_changes(alloc, view, full, request)?;
-    let rows = row_changes(alloc, request)?;
-    Ok(with_stays(rows, &changed)?)
+    /// Lists people who come into the room of a ceremony, or go out of it: the rows to put, or the first refusal.
+    pub fn add_rows(&self, request: &Request<'_>) -> Result<Vec<Change>, Refusal>
+        ensures { let asked : Request = request.now in
+            ComesTo self.now (Kinds.Sheet asked.ceremony asked.way asked.people.now asked.at) result }
+    {
+        check_known(self.view, request.ceremony, request.people)?;
+        let changed = self.changed_stays(request)?;
+        let rows = row_changes(self.alloc, request)?;
+        Ok(with_stays(rows, &changed)?)
+    }
 }

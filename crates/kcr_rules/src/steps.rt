@@ -6,13 +6,14 @@ ghost use Rattle.kcr_history.specs.Tables.{seat_rows};
 ghost use Rattle.kcr_history.specs.declared.views.Change.TheVariants as Changes;
 ghost use Rattle.kcr_rules.specs.Signing;
 
+use crate::premises::Premises;
 use crate::scene::{check_running, known};
 use kcr_base::{Initials, Moment, Refusal, Remark, Thing};
 use kcr_history::{
     Change, ExceptionRow, InitialsList, MarkRow, SeatingRow, StepRow, StepState, View,
 };
 use kcr_script::Seat;
-use std::alloc::{AllocError, Global};
+use std::alloc::AllocError;
 
 /// At most this many steps a script has.
 const MOST_STEPS: usize = 400;
@@ -68,67 +69,6 @@ pub fn next(view: &View, ceremony: u32) -> Result<u32, Refusal>
     Ok(done as u32 + 1)
 }
 
-/// Whether the step may be signed, but for its seats, or the first refusal: there is no such ceremony or step (12), the
-/// ceremony is not open (20), the moment is before its mark (22), another step is next (23), or the register is full
-/// (27). It is 34 where `next` is.
-pub fn may_sign(
-    view: &View,
-    full: bool,
-    ceremony: u32,
-    step: u32,
-    at: Moment,
-) -> Result<(), Refusal>
-    ensures { MatchResult result
-        (λ _. Signing.sign_refusal view.now full ceremony step at ≡ None)
-        (λ refusal. nat_lt 400 (Signing.done_by view.now.steps.items ceremony) ≡ false
-        → Signing.sign_refusal view.now full ceremony step at ≡ Some refusal) }
-{
-    let row = known(view, ceremony)?;
-    if step_row(&view.steps, ceremony, step).is_none() {
-        return Err(Refusal::Unknown {
-            thing: Thing::Step(step),
-        });
-    }
-    check_running(view, ceremony, row.state, at)?;
-    let next = next(view, ceremony)?;
-    if step != next {
-        return Err(Refusal::Order { next });
-    }
-    if full {
-        return Err(Refusal::Full);
-    }
-    Ok(())
-}
-
-/// The number of the exception, counted from 1, where it may be stated, but for the seats of one that passes a step, or
-/// the first refusal: there is no such ceremony (12), it is not open (20), the moment is before its mark (22), no step
-/// is left to pass (23), or the ceremony has 200 exceptions or the register is full (27). It is 34 where `next` is.
-pub fn may_except(
-    view: &View,
-    full: bool,
-    ceremony: u32,
-    pass: bool,
-    at: Moment,
-) -> Result<u32, Refusal>
-    ensures { MatchResult result
-        (λ number. (Signing.except_refusal view.now full ceremony pass at ≡ None)
-        × (number ≡ suc (Signing.stated_by view.now.exceptions.items ceremony)))
-        (λ refusal. nat_lt 400 (Signing.done_by view.now.steps.items ceremony) ≡ false
-        → Signing.except_refusal view.now full ceremony pass at ≡ Some refusal) }
-{
-    let row = known(view, ceremony)?;
-    check_running(view, ceremony, row.state, at)?;
-    let next = next(view, ceremony)?;
-    if pass && step_row(&view.steps, ceremony, next).is_none() {
-        return Err(Refusal::Order { next });
-    }
-    let stated = stated(&view.exceptions, ceremony);
-    if full || stated >= MOST_EXCEPTIONS {
-        return Err(Refusal::Full);
-    }
-    Ok(stated as u32 + 1)
-}
-
 /// Adds the step's row with what became of it.
 fn add_step(
     changes: &mut Vec<Change>,
@@ -174,27 +114,6 @@ fn add_seats(
     Ok(())
 }
 
-/// The changes of a step that is signed or passed: its row, those of its seats in order, and the mark.
-pub fn seat_changes(
-    alloc: Global,
-    view: &View,
-    state: StepState,
-    ceremony: u32,
-    step: u32,
-    at: Moment,
-    people: &InitialsList,
-) -> Result<Vec<Change>, AllocError>
-    requires { length people.now ≤ 16 }
-    ensures { IfOk result (λ changes. changes.items ≡ Signing.seat_changes view.now state ceremony step at people.now) }
-{
-    let mut changes = Vec::new(alloc);
-    let old = step_row(&view.steps, ceremony, step);
-    add_step(&mut changes, old, state, at)?;
-    add_seats(&mut changes, ceremony, step, people.as_slice())?;
-    changes.push(Change::PutMark(MarkRow { ceremony, at }))?;
-    Ok(changes)
-}
-
 /// The seats of the step's row, 16 at most; none where there is no row.
 pub fn seats_of(row: Option<&StepRow>) -> &[Seat]
     ensures is { result.now ≡ Signing.seats_by (option_copied row.entry) }
@@ -228,4 +147,77 @@ pub fn add_exception(
         passed,
     }))?;
     Ok(())
+}
+
+impl Premises<'_> {
+    /// Whether the step may be signed, but for its seats, or the first refusal: there is no such ceremony or step (12),
+    /// the ceremony is not open (20), the moment is before its mark (22), another step is next (23), or the register is
+    /// full (27). It is 34 where `next` is.
+    pub fn may_sign(&self, ceremony: u32, step: u32, at: Moment) -> Result<(), Refusal>
+        ensures { MatchResult result
+            (λ _. Signing.sign_refusal self.now.view.now self.now.is_full ceremony step at ≡ None)
+            (λ refusal. nat_lt 400 (Signing.done_by self.now.view.now.steps.items ceremony) ≡ false
+            → Signing.sign_refusal self.now.view.now self.now.is_full ceremony step at ≡ Some refusal) }
+    {
+        let row = known(self.view, ceremony)?;
+        if step_row(&self.view.steps, ceremony, step).is_none() {
+            return Err(Refusal::Unknown {
+                thing: Thing::Step(step),
+            });
+        }
+        check_running(self.view, ceremony, row.state, at)?;
+        let next = next(self.view, ceremony)?;
+        if step != next {
+            return Err(Refusal::Order { next });
+        }
+        if self.is_full {
+            return Err(Refusal::Full);
+        }
+        Ok(())
+    }
+
+    /// The number of the exception, counted from 1, where it may be stated, but for the seats of one that passes a
+    /// step, or the first refusal: there is no such ceremony (12), it is not open (20), the moment is before its mark
+    /// (22), no step is left to pass (23), or the ceremony has 200 exceptions or the register is full (27). It is 34
+    /// where `next` is.
+    pub fn may_except(&self, ceremony: u32, pass: bool, at: Moment) -> Result<u32, Refusal>
+        ensures { MatchResult result
+            (λ number. (Signing.except_refusal self.now.view.now self.now.is_full ceremony pass at ≡ None)
+            × (number ≡ suc (Signing.stated_by self.now.view.now.exceptions.items ceremony)))
+            (λ refusal. nat_lt 400 (Signing.done_by self.now.view.now.steps.items ceremony) ≡ false
+            → Signing.except_refusal self.now.view.now self.now.is_full ceremony pass at ≡ Some refusal) }
+    {
+        let row = known(self.view, ceremony)?;
+        check_running(self.view, ceremony, row.state, at)?;
+        let next = next(self.view, ceremony)?;
+        if pass && step_row(&self.view.steps, ceremony, next).is_none() {
+            return Err(Refusal::Order { next });
+        }
+        let stated = stated(&self.view.exceptions, ceremony);
+        if self.is_full || stated >= MOST_EXCEPTIONS {
+            return Err(Refusal::Full);
+        }
+        Ok(stated as u32 + 1)
+    }
+
+    /// The changes of a step that is signed or passed: its row, those of its seats in order, and the mark.
+    pub fn seat_changes(
+        &self,
+        state: StepState,
+        ceremony: u32,
+        step: u32,
+        at: Moment,
+        people: &InitialsList,
+    ) -> Result<Vec<Change>, AllocError>
+        requires { length people.now ≤ 16 }
+        ensures { IfOk result (λ changes. changes.items
+            ≡ Signing.seat_changes self.now.view.now state ceremony step at people.now) }
+    {
+        let mut changes = Vec::new(self.alloc);
+        let old = step_row(&self.view.steps, ceremony, step);
+        add_step(&mut changes, old, state, at)?;
+        add_seats(&mut changes, ceremony, step, people.as_slice())?;
+        changes.push(Change::PutMark(MarkRow { ceremony, at }))?;
+        Ok(changes)
+    }
 }
