@@ -32,7 +32,8 @@ module _ (A : History) (h : IsRegister A) (us : List Training) (vs : List Withdr
 module _ (A : History) (h : IsRegister A) (rows : List Appointment) (p : IsPermutation (appointments A) rows) where
   pub holder-all : (place : Place) (day : ℕ) → holder_by rows place day ≡ holder A place day
   holder-all place day =
-      ap (option_map (λ row. row.who)) (find-order (holds place day) (appointments A) rows p (λ r e. only-holder place day r (appointments A) (orderly A h).0 e))
+      ap (option_map (λ row. row.who))
+      (find-order (holds place day) (appointments A) rows p (λ r e. only-holder place day r (appointments A) (orderly A h).0 e))
       ∙ holder-appointments A h place day
 
   is_holder-all : (place : Place) (day : ℕ) (who : List ℕ) → is_holder_by rows place day who ≡ is_holder A place day who

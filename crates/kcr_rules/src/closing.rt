@@ -1,7 +1,6 @@
 //! Ceremonies closed, over the rows of a view.
 ghost use Rattle.std.specs.Prelude.{◌≡◌};
 ghost use Rattle.std.specs.List.{list_any};
-ghost use Rattle.kcr_custody.specs.Custody;
 ghost use Rattle.kcr_base.specs.Refuse.{Tests};
 ghost use Rattle.kcr_history.specs.declared.commands.Act.TheVariants as Kinds;
 ghost use Rattle.kcr_rules.specs.ByRows.{ComesTo};
@@ -17,21 +16,14 @@ use kcr_custody::{Bag, SafeNumber, Spot};
 use kcr_history::{CeremonyRow, CeremonyState, Change, StepRow, StepState, View};
 use kcr_room::Stay;
 
-/// Whether a step was neither signed nor passed.
-fn is_undone(state: StepState) -> bool
-    ensures { result ≡ CeremonyRows.is_undone state }
-{
-    match state {
-        StepState::Undone => true,
-        StepState::Signed | StepState::Passed => false,
-    }
-}
-
 /// Whether the row is a step of the ceremony that was neither signed nor passed.
 fn is_undone_of(ceremony: u32, row: &StepRow) -> bool
     ensures { result ≡ CeremonyRows.is_undone_of ceremony row.now }
 {
-    row.ceremony == ceremony && is_undone(row.state)
+    match row.state {
+        StepState::Undone => row.ceremony == ceremony,
+        StepState::Signed | StepState::Passed => false,
+    }
 }
 
 /// Whether a step of the ceremony was neither signed nor passed.

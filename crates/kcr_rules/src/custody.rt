@@ -44,8 +44,11 @@ impl Premises<'_> {
     ) -> Result<bool, AllocError>
         ensures { IfOk result (λ answer. answer ≡ CustodyRows.has_keeper_by self.now.view.now ceremony at place) }
     {
-        match place {
-            Some(place) => self.has_holder_in(place, ceremony, at),
+        let Some(place) = place else {
+            return Ok(false);
+        };
+        match kcr_people::holder(&self.view.appointments, place, at.day()) {
+            Some(who) => self.is_in(who, ceremony, at),
             None => Ok(false),
         }
     }

@@ -6,7 +6,7 @@ ghost use Rattle.kcr_history.specs.declared.commands.Act.TheVariants as Kinds;
 ghost use Rattle.kcr_history.specs.declared.views.Change.TheVariants.{PutWithdrawal};
 ghost use Rattle.kcr_base.specs.Refuse.{unless};
 ghost use Rattle.kcr_people.specs.People;
-ghost use Rattle.kcr_rules.specs.ByRows.{ComesTo, IsRoster, settled_by};
+ghost use Rattle.kcr_rules.specs.ByRows.{ComesTo, IsRoster};
 ghost use Rattle.kcr_history.specs.History.{greatest, with_mark};
 
 use crate::changes::{both, only};
@@ -38,13 +38,6 @@ fn greatest_mark(marks: &[MarkRow]) -> Option<Moment>
     found
 }
 
-/// The settled day: that of the greatest mark, or None where there is no mark.
-pub(crate) fn settled(marks: &[MarkRow]) -> Option<Day>
-    ensures { result ≡ settled_by marks.now }
-{
-    greatest_mark(marks).map(|mark| mark.day())
-}
-
 /// The rows of withdrawals as changes.
 fn withdrawal_changes(alloc: Global, rows: &[Withdrawal]) -> Result<Vec<Change>, AllocError>
     ensures { IfOk result (λ changes. changes.items ≡ map PutWithdrawal rows.now) }
@@ -66,7 +59,7 @@ impl Premises<'_> {
             trainings: &self.view.trainings,
             withdrawals: &self.view.withdrawals,
             appointments: &self.view.appointments,
-            settled: settled(&self.view.marks),
+            settled: greatest_mark(&self.view.marks).map(|mark| mark.day()),
             is_full: self.is_full,
         }
     }

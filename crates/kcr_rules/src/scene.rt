@@ -1,15 +1,13 @@
 //! What the rows of a view say of a ceremony: its state, its mark, and who is in its room.
 ghost use Rattle.std.specs.Prelude.{◌≡◌, IfOk, MatchResult, Some, None};
-ghost use Rattle.std.specs.List.{list_any};
 ghost use Rattle.kcr_base.specs.declared.refusal.Refusal.TheVariants.{Unknown};
 ghost use Rattle.kcr_base.specs.declared.refusal.Thing.TheVariants as Things;
 ghost use Rattle.kcr_base.specs.Refuse.{Tests};
-ghost use Rattle.kcr_people.specs.People.{holder_by};
 ghost use Rattle.kcr_room.specs.Stays.{present_in_by};
 ghost use Rattle.kcr_rules.specs.Scene;
 
 use crate::premises::Premises;
-use kcr_base::{Day, Facility, Initials, Moment, Place, Refusal, Role, Thing, is_among};
+use kcr_base::{Day, Facility, Initials, Moment, Refusal, Role, Thing, is_among};
 use kcr_custody::Scene as CustodyScene;
 use kcr_history::{CeremonyRow, CeremonyState, View};
 use std::alloc::AllocError;
@@ -50,20 +48,13 @@ pub fn mark(view: &View, ceremony: u32) -> Option<Moment>
 }
 
 /// The facility of a ceremony that is there; of another any.
-fn facility(row: &Option<CeremonyRow>) -> Facility
+pub fn facility(row: &Option<CeremonyRow>) -> Facility
     ensures { result ≡ Scene.facility_by row.now }
 {
     match row {
         Some(row) => row.facility,
         None => Facility::East,
     }
-}
-
-/// Where a ceremony takes place.
-pub fn facility_in(view: &View, ceremony: u32) -> Facility
-    ensures { result ≡ Scene.facility_in view.now ceremony }
-{
-    facility(&ceremony_row(view, ceremony))
 }
 
 /// Whether a ceremony in this state is open.
@@ -111,13 +102,6 @@ pub fn is_trained(view: &View, who: Initials, role: Role, day: Day) -> bool
     ensures { result ≡ Scene.is_trained_by view.now who role day }
 {
     kcr_people::trained(&view.trainings, &view.withdrawals, who, role, day)
-}
-
-/// Who holds a place on a day.
-pub fn holder(view: &View, place: Place, day: Day) -> Option<Initials>
-    ensures { result ≡ holder_by view.now.appointments.items place day }
-{
-    kcr_people::holder(&view.appointments, place, day)
 }
 
 impl Premises<'_> {
@@ -172,15 +156,5 @@ impl Premises<'_> {
     {
         let has_ca = self.is_attended(Role::Ca, ceremony, at)?;
         Ok(self.scene(ceremony, at, has_ca))
-    }
-
-    /// Whether a place has a holder on the day who is in the room of a ceremony.
-    pub fn has_holder_in(&self, place: Place, ceremony: u32, at: Moment) -> Result<bool, AllocError>
-        ensures { IfOk result (λ answer. answer ≡ Scene.has_holder_in_by self.now.view.now place ceremony at) }
-    {
-        match holder(self.view, place, at.day()) {
-            Some(who) => self.is_in(who, ceremony, at),
-            None => Ok(false),
-        }
     }
 }

@@ -11,7 +11,7 @@ ghost use Rattle.kcr_rules.specs.Own.{own_of};
 ghost use Rattle.kcr_rules.specs.Signing;
 
 use crate::premises::Premises;
-use crate::scene::facility_in;
+use crate::scene::{ceremony_row, facility};
 use kcr_base::{Day, Facility, Initials, Moment, Positions, Refusal};
 use kcr_history::{InitialsList, fits};
 use kcr_people::{Appointment, Training, Withdrawal};
@@ -149,7 +149,7 @@ impl Premises<'_> {
             (λ people. Signing.IsSeatedBy self.now.view.now s people × (length people ≤ 16))
             (λ refusal. refusal ≢ Memory → Signing.IsUnseatedBy self.now.view.now s refusal) }
     {
-        let facility = facility_in(self.view, ceremony);
+        let facility = facility(&ceremony_row(self.view, ceremony));
         let people = self.present(ceremony, at)?;
         if people.len() > MOST_PEOPLE {
             return Err(Refusal::Disk);

@@ -53,22 +53,6 @@ fn last_stay(stays: &[Stay], who: Initials) -> Option<Stay>
     found
 }
 
-/// The stay of a person that began last, where it is in another ceremony.
-fn elsewhere(stays: &[Stay], ceremony: u32, who: Initials) -> Option<Stay>
-    ensures { result ≡ SheetRows.elsewhere ceremony (Views.last_stay stays.now who) }
-{
-    match last_stay(stays, who) {
-        Some(stay) => {
-            if stay.ceremony == ceremony {
-                None
-            } else {
-                Some(stay)
-            }
-        }
-        None => None,
-    }
-}
-
 /// The stays that a request bears on: those of the ceremony, and of the people the last ones elsewhere.
 fn stays_of_request(
     alloc: Global,
@@ -80,7 +64,9 @@ fn stays_of_request(
 {
     let mut some = stays_in(alloc, stays, request.ceremony)?;
     for who in request.people {
-        if let Some(stay) = elsewhere(stays, request.ceremony, *who) {
+        if let Some(stay) = last_stay(stays, *who)
+            && stay.ceremony != request.ceremony
+        {
             some.push(stay)?;
         }
     }
