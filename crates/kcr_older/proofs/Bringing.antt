@@ -17,8 +17,12 @@ use Rattle.kcr_tables.specs.Changed.{changed_all}
 use Rattle.kcr_tables.specs.Joint.{Stands, HoldsTables}
 use Rattle.kcr_tables.proofs.HoldLemmas.{tables_of}
 use Rattle.kcr_tables.proofs.JointLemmas.{Rises, kept_rises, all_stand, same_stands}
+use Rattle.kcr_older.specs.Brought.{with_all, with_own_stays, brought}
 use Rattle.kcr_older.specs.Filled.{with_stays}
 use Rattle.kcr_older.specs.Older.{StoresAs, HoldsUpTo, numbered}
+use Rattle.kcr_older.specs.Versions.{number_of}
+use Rattle.kcr_older.specs.declared.renewal.Older.{Older}
+use Rattle.kcr_older.specs.declared.renewal.Older.TheVariants.{First, Second}
 use Rattle.kcr_older.proofs.Filling.{filled}
 
 pub old_holds : (version : ℕ) (A : History) (db : Database) (s : StoresAs version A db)
@@ -32,8 +36,13 @@ put_stays : (stays : List Stay) (t : Tables)
 put_stays [] t = refl
 put_stays (stay ∷ stays) t = put_stays stays (record t { stays = put_in 2 stay_row stay t.stays })
 
-pub same_number : (t : Tables) → (with_stays t).versions ≡ t.versions
-same_number t = ap (λ (u : Tables). u.versions) (put_stays (stays_by t.sheet) t)
+pub all_number : (from : Older) (t : Tables) → (with_all from t).versions ≡ t.versions
+all_number First t = refl
+all_number Second t = refl
+
+pub same_number : (from : Older) (t : Tables) → (with_own_stays from (with_all from t)).versions ≡ t.versions
+same_number First t = ap (λ (u : Tables). u.versions) (put_stays (stays_by t.sheet) (with_all First t))
+same_number Second t = refl
 
 other_number : (t : Tables) (versions : List Version) → record (with_stays t) { versions = versions } ≡ with_stays (record t { versions = versions })
 other_number t versions =
@@ -48,7 +57,7 @@ stands_older A t own rows s none same =
     let without : IsPermutation (machine.withdrawals A) [] = rw none (IsPermutation-refl []) in
     search (rules, without, same)
 
-pub brought_1 : (A : History) (old new : Database) (s : StoresAs 1 A old)
+brought_1 : (A : History) (old new : Database) (s : StoresAs 1 A old)
     → Holds new (record (with_stays (record s.tables.t { stays = []; withdrawals = []; versions = numbered 1 })) { versions = numbered 3 })
     → HoldsTables (tables A) new
 brought_1 A old new s after =
@@ -62,9 +71,14 @@ brought_1 A old new s after =
     tables_of (tables A) new (with_stays now) stands
     (subst (Holds new) (other_number (record t { stays = []; withdrawals = []; versions = numbered 1 }) (numbered 3)) after)
 
-pub brought_2 : (A : History) (old new : Database) (s : StoresAs 2 A old) → Holds new (record s.tables.t { withdrawals = []; versions = numbered 3 })
+brought_2 : (A : History) (old new : Database) (s : StoresAs 2 A old) → Holds new (record s.tables.t { withdrawals = []; versions = numbered 3 })
     → HoldsTables (tables A) new
 brought_2 A old new s after =
     let t : Tables = s.tables.t in
     let stands = stands_older A t (tables A).stays t.stays s.tables.stands (s.tables.unwithdrawn (omega arith)) s.tables.stands.stays in
     tables_of (tables A) new (record t { withdrawals = []; versions = numbered 3 }) stands after
+
+pub brought_from : (from : Older) (A : History) (old new : Database) (s : StoresAs (number_of from) A old)
+    → Holds new (brought from (record s.tables.t { versions = numbered (number_of from) })) → HoldsTables (tables A) new
+brought_from First A old new s after = brought_1 A old new s after
+brought_from Second A old new s after = brought_2 A old new s after

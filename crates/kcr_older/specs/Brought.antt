@@ -6,7 +6,16 @@ use Rattle.kcr_older.specs.Older.{numbered}
 use Rattle.kcr_older.specs.declared.renewal.Older.{Older}
 use Rattle.kcr_older.specs.declared.renewal.Older.TheVariants.{First, Second}
 
--- the stays that a version lacks are those of its sheet, there are no withdrawals, and the number is this version's
+-- the tables that a version lacks have no rows
+abbrev pub with_all : Older → Tables → Tables
+with_all First t = record t { stays = []; withdrawals = [] }
+with_all Second t = record t { withdrawals = [] }
+
+-- the stays that a version lacks are those of its sheet
+abbrev pub with_own_stays : Older → Tables → Tables
+with_own_stays First t = with_stays t
+with_own_stays Second t = t
+
+-- and the number is this version's
 abbrev pub brought : Older → Tables → Tables
-brought First t = record (with_stays (record t { stays = []; withdrawals = [] })) { versions = numbered 3 }
-brought Second t = record t { withdrawals = []; versions = numbered 3 }
+brought from t = record (with_own_stays from (with_all from t)) { versions = numbered 3 }

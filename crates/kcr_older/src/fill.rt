@@ -8,8 +8,10 @@ ghost use Rattle.kcr_room.specs.Stays.{stays_by};
 ghost use Rattle.kcr_rows.specs.Refusals.{IsFault};
 ghost use Rattle.kcr_rows.specs.Frame.{StaysWithin};
 ghost use Rattle.kcr_tables.specs.Held.{Tables, Holds};
+ghost use Rattle.kcr_older.specs.Brought.{with_own_stays};
 ghost use Rattle.kcr_older.specs.Filled.{with_stays};
 
+use crate::renewal::Older;
 use kcr_base::Refusal;
 use kcr_history::Change;
 use kcr_room::{SheetRow, Stay, stays_of};
@@ -37,10 +39,7 @@ fn stay_changes(alloc: Global, rows: &[SheetRow]) -> Result<Vec<Change>, AllocEr
 }
 
 /// Puts the stays of the sheet into the table of stays, each under its key. The errors are those of `bring`.
-pub(crate) fn fill_stays<S: Alter>(
-    alloc: Global,
-    tx: &mut Transaction<'_, S>,
-) -> Result<(), Refusal>
+fn fill_stays<S: Alter>(alloc: Global, tx: &mut Transaction<'_, S>) -> Result<(), Refusal>
     ensures same_reference { tx.new.conn.ghost_name ≡ tx.old.conn.ghost_name }
     ensures holds { HasCleanDisk (state S.Store tx.new.conn.now) → (t : Tables)
         → Holds (state S.Store tx.old.conn.now).now t
@@ -51,5 +50,24 @@ pub(crate) fn fill_stays<S: Alter>(
     match stay_changes(alloc, rows.as_slice()) {
         Ok(changes) => make_changes(alloc, tx, changes.as_slice()),
         Err(_) => Err(Refusal::Memory),
+    }
+}
+
+/// Fills the tables that the version lacks out of those that it has: of version 1 the stays. The errors are those of
+/// `bring`.
+pub(crate) fn fill<S: Alter>(
+    alloc: Global,
+    tx: &mut Transaction<'_, S>,
+    from: Older,
+) -> Result<(), Refusal>
+    ensures same_reference { tx.new.conn.ghost_name ≡ tx.old.conn.ghost_name }
+    ensures holds { HasCleanDisk (state S.Store tx.new.conn.now) → (t : Tables)
+        → Holds (state S.Store tx.old.conn.now).now t
+        → OnOk result (Holds (state S.Store tx.new.conn.now).now (with_own_stays from t)) }
+    ensures frame { StaysWithin IsFault (state S.Store tx.old.conn.now) (state S.Store tx.new.conn.now) result }
+{
+    match from {
+        Older::First => fill_stays(alloc, tx),
+        Older::Second => Ok(()),
     }
 }

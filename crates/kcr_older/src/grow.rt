@@ -1,6 +1,6 @@
 //! The tables that an older file lacks, made over those that it has, and the number of its version.
 
-ghost use Rattle.std.specs.Prelude.{◌≡◌, ℕ, [], OnOk};
+ghost use Rattle.std.specs.Prelude.{◌≡◌, ℕ, ◌+◌, OnOk};
 ghost use Rattle.sqlite.specs.Held.{state};
 ghost use Rattle.sqlite.specs.State.{HasCleanDisk};
 ghost use Rattle.kcr_rows.specs.Refusals.{IsFault};
@@ -8,9 +8,12 @@ ghost use Rattle.kcr_rows.specs.Frame.{StaysWithin};
 ghost use Rattle.kcr_tables.specs.Held.{Tables, Holds};
 ghost use Rattle.kcr_tables.specs.Made.{first};
 ghost use Rattle.kcr_tables.specs.Schema.{stays, withdrawals};
+ghost use Rattle.kcr_older.specs.Brought.{with_all};
 ghost use Rattle.kcr_older.specs.Growth.{Gains};
 ghost use Rattle.kcr_older.specs.Older.{HoldsUpTo, numbered};
+ghost use Rattle.kcr_older.specs.Versions.{number_of};
 
+use crate::renewal::Older;
 use kcr_base::Refusal;
 use kcr_rows::statements::write;
 use kcr_tables::create_text;
@@ -38,29 +41,21 @@ fn create_withdrawals<S: Alter>(tx: &mut Transaction<'_, S>) -> Result<(), Refus
     write(tx, text, &[])
 }
 
-/// Makes the two tables that version 1 lacks, without rows; the rows of the others stay. The errors are those of
-/// `bring`.
-pub(crate) fn grow_from_1<S: Alter>(tx: &mut Transaction<'_, S>) -> Result<(), Refusal>
+/// Makes the tables that the version lacks, without rows; the rows of the others stay. The errors are those of `bring`.
+pub(crate) fn grow<S: Alter>(tx: &mut Transaction<'_, S>, from: Older) -> Result<(), Refusal>
     ensures same_reference { tx.new.conn.ghost_name ≡ tx.old.conn.ghost_name }
     ensures holds { HasCleanDisk (state S.Store tx.new.conn.now) → (t : Tables)
-        → HoldsUpTo 15 (state S.Store tx.old.conn.now).now t
-        → OnOk result (Holds (state S.Store tx.new.conn.now).now (record t { stays = []; withdrawals = [] })) }
+        → HoldsUpTo (14 + number_of from) (state S.Store tx.old.conn.now).now t
+        → OnOk result (Holds (state S.Store tx.new.conn.now).now (with_all from t)) }
     ensures frame { StaysWithin IsFault (state S.Store tx.old.conn.now) (state S.Store tx.new.conn.now) result }
 {
-    create_stays(tx)?;
-    create_withdrawals(tx)
-}
-
-/// Makes the table that version 2 lacks, without rows; the rows of the others stay. The errors are those of
-/// `bring`.
-pub(crate) fn grow_from_2<S: Alter>(tx: &mut Transaction<'_, S>) -> Result<(), Refusal>
-    ensures same_reference { tx.new.conn.ghost_name ≡ tx.old.conn.ghost_name }
-    ensures holds { HasCleanDisk (state S.Store tx.new.conn.now) → (t : Tables)
-        → HoldsUpTo 16 (state S.Store tx.old.conn.now).now t
-        → OnOk result (Holds (state S.Store tx.new.conn.now).now (record t { withdrawals = [] })) }
-    ensures frame { StaysWithin IsFault (state S.Store tx.old.conn.now) (state S.Store tx.new.conn.now) result }
-{
-    create_withdrawals(tx)
+    match from {
+        Older::First => {
+            create_stays(tx)?;
+            create_withdrawals(tx)
+        }
+        Older::Second => create_withdrawals(tx),
+    }
 }
 
 /// Sets the number of the version, which is in one row, to that of this version. The errors are those of

@@ -14,8 +14,8 @@ ghost use Rattle.kcr_older.specs.Brought.{brought};
 ghost use Rattle.kcr_older.specs.Older.{StoresAs, HoldsUpTo, numbered};
 ghost use Rattle.kcr_older.specs.Versions.{number_of};
 
-use crate::fill::fill_stays;
-use crate::grow::{grow_from_1, grow_from_2, set_version};
+use crate::fill::fill;
+use crate::grow::{grow, set_version};
 use kcr_base::Refusal;
 use kcr_tables::{Version, all_rows};
 use sqlite::{Alter, Transaction};
@@ -60,58 +60,11 @@ fn is_number_of(versions: &[Version], from: Older) -> bool
     }
 }
 
-/// As `bring`, from version 1: it makes the stays of the sheet, a table of withdrawals without rows, and last the
-/// number of this version.
-fn bring_first<S: Alter>(alloc: Global, tx: &mut Transaction<'_, S>) -> Result<bool, Refusal>
-    ensures same_reference { tx.new.conn.ghost_name ≡ tx.old.conn.ghost_name }
-    ensures brought { HasCleanDisk (state S.Store tx.new.conn.now) → (A : History)
-        → StoresAs 1 A (state S.Store tx.old.conn.now).now
-        → IfOk result (λ is_brought. IsTrue is_brought × HoldsTables (tables A) (state S.Store tx.new.conn.now).now) }
-    ensures numbered { HasCleanDisk (state S.Store tx.new.conn.now) → (t : Tables)
-        → HoldsUpTo 15 (state S.Store tx.old.conn.now).now t
-        → IfOk result (λ is_brought. IsTrue is_brought ↔ (t.versions ≡ numbered 1)) }
-    ensures rows { HasCleanDisk (state S.Store tx.new.conn.now) → (t : Tables)
-        → HoldsUpTo 15 (state S.Store tx.old.conn.now).now t
-        → IfOk result (λ is_brought. IsTrue is_brought
-        → Holds (state S.Store tx.new.conn.now).now (brought Older.First t)) }
-    ensures frame { StaysWithin IsFault (state S.Store tx.old.conn.now) (state S.Store tx.new.conn.now) result }
-{
-    grow_from_1(tx)?;
-    if !has_number(alloc, tx, Older::First)? {
-        return Ok(false);
-    }
-    fill_stays(alloc, tx)?;
-    set_version(tx)?;
-    Ok(true)
-}
-
-/// As `bring`, from version 2: it makes a table of withdrawals without rows, and last the number of this version.
-fn bring_second<S: Alter>(alloc: Global, tx: &mut Transaction<'_, S>) -> Result<bool, Refusal>
-    ensures same_reference { tx.new.conn.ghost_name ≡ tx.old.conn.ghost_name }
-    ensures brought { HasCleanDisk (state S.Store tx.new.conn.now) → (A : History)
-        → StoresAs 2 A (state S.Store tx.old.conn.now).now
-        → IfOk result (λ is_brought. IsTrue is_brought × HoldsTables (tables A) (state S.Store tx.new.conn.now).now) }
-    ensures numbered { HasCleanDisk (state S.Store tx.new.conn.now) → (t : Tables)
-        → HoldsUpTo 16 (state S.Store tx.old.conn.now).now t
-        → IfOk result (λ is_brought. IsTrue is_brought ↔ (t.versions ≡ numbered 2)) }
-    ensures rows { HasCleanDisk (state S.Store tx.new.conn.now) → (t : Tables)
-        → HoldsUpTo 16 (state S.Store tx.old.conn.now).now t
-        → IfOk result (λ is_brought. IsTrue is_brought
-        → Holds (state S.Store tx.new.conn.now).now (brought Older.Second t)) }
-    ensures frame { StaysWithin IsFault (state S.Store tx.old.conn.now) (state S.Store tx.new.conn.now) result }
-{
-    grow_from_2(tx)?;
-    if !has_number(alloc, tx, Older::Second)? {
-        return Ok(false);
-    }
-    set_version(tx)?;
-    Ok(true)
-}
-
 /// Brings the tables of a register of an older version to this one: the same history, with the stays of its sheet and
-/// no withdrawals. All other rows stay. It is false where the number of its version is another, and then the caller has
-/// to roll back, as after an error, which is `Memory` when out of memory and else `Disk`: the device failed, or a
-/// statement was refused, as over tables that are not those of that version. What was committed before stays.
+/// no withdrawals. All other rows stay, and the number of this version is set last. It is false where the number of its
+/// version is another, and then the caller has to roll back, as after an error, which is `Memory` when out of memory
+/// and else `Disk`: the device failed, or a statement was refused, as over tables that are not those of that version.
+/// What was committed before stays.
 pub fn bring<S: Alter>(
     alloc: Global,
     tx: &mut Transaction<'_, S>,
@@ -131,8 +84,11 @@ pub fn bring<S: Alter>(
         → IfOk result (λ is_brought. IsTrue is_brought → Holds (state S.Store tx.new.conn.now).now (brought from t)) }
     ensures frame { StaysWithin IsFault (state S.Store tx.old.conn.now) (state S.Store tx.new.conn.now) result }
 {
-    match from {
-        Older::First => bring_first(alloc, tx),
-        Older::Second => bring_second(alloc, tx),
+    grow(tx, from)?;
+    if !has_number(alloc, tx, from)? {
+        return Ok(false);
     }
+    fill(alloc, tx, from)?;
+    set_version(tx)?;
+    Ok(true)
 }
