@@ -1,14 +1,14 @@
 //! All rows of a register's tables, and what an audit finds in them.
-ghost use Rattle.std.specs.Prelude.{◌≡◌, false, None, IsTrue, IfOk, OnOk};
+ghost use Rattle.std.specs.Prelude.{◌≡◌, false, None, IfOk};
 ghost use Rattle.sqlite.specs.State.{HasCleanDisk};
 ghost use Rattle.sqlite.specs.Held.{state};
 ghost use Rattle.kcr_history.specs.History.{History};
 ghost use Rattle.kcr_history.specs.Machine.{IsRegister};
 ghost use Rattle.kcr_history.specs.Tables.{Tables, tables};
-ghost use Rattle.kcr_tables.specs.Held.{Tables as Held, Holds};
+ghost use Rattle.kcr_tables.specs.Held.{Tables as Held};
 ghost use Rattle.kcr_tables.specs.Joint.{HoldsTables};
 ghost use Rattle.kcr_tables.specs.Refusals.{IsFault};
-ghost use Rattle.kcr_tables.specs.Frame.{Reads};
+ghost use Rattle.kcr_tables.specs.Frame.{TellsOpen, Tells, Reads};
 ghost use Rattle.kcr_store.specs.Frame.{OnlyReads};
 ghost use Rattle.kcr_store.specs.Register.{IsWhole};
 ghost use Rattle.kcr_store.specs.Whole.{FindsIn, IsListed, AreRows, Lists};
@@ -20,41 +20,35 @@ use kcr_tables::{Listed, all_rows};
 use sqlite::{Alter, Connection, Transaction};
 use std::alloc::Global;
 
-/// All rows of two tables.
-fn rows_of_two<S: Alter, A: Listed, B: Listed>(
-    alloc: Global,
-    tx: &mut Transaction<'_, S>,
-) -> Result<(Vec<A>, Vec<B>), Refusal>
-    ensures same_reference { tx.new.conn.ghost_name ≡ tx.old.conn.ghost_name }
-    ensures rows { HasCleanDisk (state S.Store tx.new.conn.now) → (t : Held)
-        → Holds (state S.Store tx.old.conn.now).now t
-        → IfOk result (λ rows. (rows.0.items ≡ A.table.rows_in t) × (rows.1.items ≡ B.table.rows_in t)) }
-    ensures opened { HasCleanDisk (state S.Store tx.new.conn.now)
-        → OnOk result (IsTrue (state S.Store tx.old.conn.now).is_open) }
-    ensures frame { Reads (state S.Store tx.old.conn.now) (state S.Store tx.new.conn.now) result }
-{
-    let ones = all_rows(alloc, tx)?;
-    let others = all_rows(alloc, tx)?;
-    Ok((ones, others))
+/// Rows that are read whole: those of a table, or of several.
+trait Gathers: Drop {
+    /// That they are all rows of these tables, each table's in the order of their keys.
+    ghost are_all: { Held → Self → Type 0 };
+
+    /// All rows. Nothing is changed; the errors are those of `all_rows`.
+    fn gather<S: Alter>(alloc: Global, tx: &mut Transaction<'_, S>) -> Result<Self, Refusal>
+        ensures same_reference { tx.new.conn.ghost_name ≡ tx.old.conn.ghost_name }
+        ensures rows { Tells (state S.Store tx.old.conn.now) (state S.Store tx.new.conn.now) result are_all }
+        ensures opened { TellsOpen (state S.Store tx.old.conn.now) (state S.Store tx.new.conn.now) result }
+        ensures frame { Reads (state S.Store tx.old.conn.now) (state S.Store tx.new.conn.now) result };
 }
 
-/// All rows of four tables.
-fn rows_of_four<S: Alter, A: Listed, B: Listed, C: Listed, D: Listed>(
-    alloc: Global,
-    tx: &mut Transaction<'_, S>,
-) -> Result<((Vec<A>, Vec<B>), (Vec<C>, Vec<D>)), Refusal>
-    ensures same_reference { tx.new.conn.ghost_name ≡ tx.old.conn.ghost_name }
-    ensures rows { HasCleanDisk (state S.Store tx.new.conn.now) → (t : Held)
-        → Holds (state S.Store tx.old.conn.now).now t
-        → IfOk result (λ rows. ((rows.0.0.items ≡ A.table.rows_in t) × (rows.0.1.items ≡ B.table.rows_in t))
-        × ((rows.1.0.items ≡ C.table.rows_in t) × (rows.1.1.items ≡ D.table.rows_in t))) }
-    ensures opened { HasCleanDisk (state S.Store tx.new.conn.now)
-        → OnOk result (IsTrue (state S.Store tx.old.conn.now).is_open) }
-    ensures frame { Reads (state S.Store tx.old.conn.now) (state S.Store tx.new.conn.now) result }
-{
-    let ones = rows_of_two(alloc, tx)?;
-    let others = rows_of_two(alloc, tx)?;
-    Ok((ones, others))
+impl<T: Listed> Gathers for Vec<T> {
+    ghost are_all = { λ t rows. rows.items ≡ T.table.rows_in t };
+
+    fn gather<S: Alter>(alloc: Global, tx: &mut Transaction<'_, S>) -> Result<Vec<T>, Refusal> {
+        all_rows(alloc, tx)
+    }
+}
+
+impl<A: Gathers, B: Gathers> Gathers for (A, B) {
+    ghost are_all = { λ t both. A.are_all t both.0 × B.are_all t both.1 };
+
+    fn gather<S: Alter>(alloc: Global, tx: &mut Transaction<'_, S>) -> Result<(A, B), Refusal> {
+        let ones = A::gather(alloc, tx)?;
+        let others = B::gather(alloc, tx)?;
+        Ok((ones, others))
+    }
 }
 
 /// All rows of each table.
@@ -63,17 +57,14 @@ pub(crate) fn all_of<S: Alter>(
     tx: &mut Transaction<'_, S>,
 ) -> Result<WholeView, Refusal>
     ensures same_reference { tx.new.conn.ghost_name ≡ tx.old.conn.ghost_name }
-    ensures rows { HasCleanDisk (state S.Store tx.new.conn.now) → (t : Held)
-        → Holds (state S.Store tx.old.conn.now).now t
-        → IfOk result (Lists t) }
-    ensures opened { HasCleanDisk (state S.Store tx.new.conn.now)
-        → OnOk result (IsTrue (state S.Store tx.old.conn.now).is_open) }
+    ensures rows { Tells (state S.Store tx.old.conn.now) (state S.Store tx.new.conn.now) result Lists }
+    ensures opened { TellsOpen (state S.Store tx.old.conn.now) (state S.Store tx.new.conn.now) result }
     ensures frame { Reads (state S.Store tx.old.conn.now) (state S.Store tx.new.conn.now) result }
 {
-    let ((people, trainings), (withdrawals, appointments)) = rows_of_four(alloc, tx)?;
-    let ((boxes, safes), (bags, items)) = rows_of_four(alloc, tx)?;
-    let ((ceremonies, marks), (steps, seatings)) = rows_of_four(alloc, tx)?;
-    let ((sheet, stays), (exceptions, keys)) = rows_of_four(alloc, tx)?;
+    let (
+        (((people, trainings), (withdrawals, appointments)), ((boxes, safes), (bags, items))),
+        (((ceremonies, marks), (steps, seatings)), ((sheet, stays), (exceptions, keys))),
+    ) = Gathers::gather(alloc, tx)?;
     Ok(WholeView {
         people,
         trainings,

@@ -1,6 +1,6 @@
 use Rattle.kcr_rows.proofs.InsideLemmas.{was_clean}
 use Rattle.kcr_tables.proofs.FrameLemmas.{fails_as, reads_on, reads_to}
-use Rattle.kcr_store.proofs.whole.rows_of_two.Goals as goal
+use Rattle.kcr_store.proofs.whole.Tuple2Gathers.gather.Goals as goal
 
 pub returns-clause-rows : goal.returns-clause-rows
 returns-clause-rows g c clean t held =
