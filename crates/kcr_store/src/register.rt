@@ -33,14 +33,7 @@ pub type FileRegister = Register<FileStore<FileFrom<Unknown>>>;
 
 impl<S: Alter + Drop> Drop for Register<S> {
     fn drop(self) {
-        let Register {
-            conn: _,
-            broken: _,
-            past: _,
-            count: _,
-            tried: _,
-            alloc: _,
-        } = self;
+        self.close();
     }
 }
 
