@@ -1,44 +1,22 @@
-use contract.Running.{tables, tables_of}
-use Rattle.kcr_base.proofs.Walks.{refl, [], ◌∷◌, Ura, vstruct, vnil, SProp, ent, emp, via, fst∗, Memory, Routine, Calls, Loops, WpFn, Logic, Fun}
-use Rattle.kcr_base.proofs.Walks.{WpFn-mono, ‵, raw, ◌$◌, ◌∵◌, !, qed, move, suffices, done, no_more, returns, enter, agg, alloc_all, pass_all, free_all}
-use Rattle.kcr_base.proofs.Walks.{look_at, sets, owns, pure_i, on_entry, alive, triple_of, entered, says, Stays, walk_of, Walks, ends_at, walked}
-use Rattle.kcr_base.proofs.Walks.{walk_Meets}
-use Rattle.kcr_store.specs.contracts.past.Past.of.Key.{name as key}
+-- `of` makes a value of no bytes, at the history that is named.
+use Rattle.std.proofs.raw_atomic.Walks.{proved}
+use Rattle.kcr_base.proofs.Walks.{refl, [], ◌∷◌, vstruct, vnil, emp, via, fst∗, ‵, raw, ◌$◌, ◌∵◌, !, qed, move, suffices, done, no_more}
+use Rattle.kcr_base.proofs.Walks.{returns, enter, agg, alloc_all, pass_all, free_all, look_at, sets, owns, pure_i, alive, says, walk_of, ends_at}
+use Rattle.kcr_store.specs.contracts.past.Past as past
 use Rattle.kcr_store.specs.contracts.past.Past.of as f
-use Rattle.kcr_store.proofs.past.Past.of.Statement as stated
+use Rattle.kcr_store.specs.declared.past.Past.{Past}
+use Rattle.kcr_store.proofs.past.Past.of.Statement.{statement}
 use Rattle.kcr_store.proofs.past.Past.of.Code as code
-use Rattle.kcr_store.specs.contracts.past.Past as made
 
-abbrev stayed : Stays (f.ended).signature.params (f.ended).kept
-stayed = tt
-
-module _ {M : Type 1} {𝓤 : Ura M} (𝓛 : Logic 𝓤) (mem : Memory → SProp 𝓤) (run : Routine → Fun 𝓤) (C : Calls 𝓤 𝓛.H) (Λ : Loops 𝓤 𝓛.H) where
-  open 𝓛 use {H}
-
-  abbrev bound : (f.clauses 𝓛 mem run tt tt).ghost → (walk_of 𝓛 f.ended stayed (f.clauses 𝓛 mem run)).Ghost
-  bound z = ((tt, tt, tt, tt, tt), z)
-
-  walk : (z : (f.clauses 𝓛 mem run tt tt).ghost)
-      → ent 𝓤 (on_entry 𝓛 f.signature tt tt tt tt) (WpFn 𝓤 H C Λ code.function [] ((walk_of 𝓛 f.ended stayed (f.clauses 𝓛 mem run)).post (bound z)))
-  walk z =
-      qed 𝓛 (raw (alive 𝓛 f.signature tt tt) ∷ ‵ (owns [] tt tt) ∷ []) ∵ enter ! C Λ code.function [] _ $
-      alloc_all ! (λ l. pass_all ! refl tt $ sets ! (agg ! (no_more !)) refl (tt, tt) $
-      returns ! (look_at ! 0 refl) $ free_all ! refl $
-      suffices ! _ (ends_at 𝓛 f.ended stayed (f.clauses 𝓛 mem run) (bound z) (vstruct vnil) (record { entries = z.1; is_founded = z.0 }) tt tt) $
-      says ! (refl, refl) $ pure_i ! (made.the_row.own_val (record { entries = z.1; is_founded = z.0 }) (vstruct vnil ∷ []))
-      ((λ vss. (tt, tt)), tt) ((tt, (refl, tt)), tt) $
-      move ! (1 ∷ 2 ∷ 0 ∷ []) $ done !)
-
-  walks : Walks 𝓛 f.ended stayed (WpFn 𝓤 H C Λ code.function) (f.clauses 𝓛 mem run)
-  walks =
-      walked 𝓛 f.ended stayed (f.clauses 𝓛 mem run) (WpFn 𝓤 H C Λ code.function) (λ κs. tt) (λ κs. tt)
-      (λ κs qs bounds a g are. via 𝓤 _ (fst∗ 𝓤 _ (emp 𝓤)) (walk g))
-
-pub of_spec : {M : Type 1} → stated.statement M
-unfolding tables_of
+pub of_spec : {M : Type 1} → statement M
 of_spec 𝓤 𝓛 𝓜 𝓡 wired =
-    let 𝓣 = tables_of 𝓤 𝓛.H 𝓜 (tables 𝓤 𝓛.H 𝓜 𝓡 𝓡.env) in
-    entered 𝓤 𝓛.H (triple_of 𝓛 f.signature (f.spec 𝓛 𝓜.mem 𝓡.returns))
-    (tables 𝓤 𝓛.H 𝓜 𝓡 𝓡.env).C (tables 𝓤 𝓛.H 𝓜 𝓡 𝓡.env).Λ key code.function (code.unfolded 𝓤 𝓛.H 𝓜 𝓡 wired)
-    (walk_Meets 𝓛 f.ended stayed tt (f.clauses 𝓛 𝓜.mem 𝓡.returns) (WpFn 𝓤 𝓛.H 𝓣.C 𝓣.Λ code.function)
-    (WpFn-mono 𝓤 𝓛.H 𝓛.laws 𝓣 code.function) (walks 𝓛 𝓜.mem 𝓡.returns 𝓣.C 𝓣.Λ))
+    let c = f.clauses 𝓛 𝓜.mem 𝓡.returns in
+    proved 𝓛 f.ended tt c 𝓜 𝓡 tt f.Key.name code.function (code.unfolded 𝓤 𝓛.H 𝓜 𝓡 wired) (λ κs. tt) (λ κs. tt) (λ κs qs bounds a z are.
+    let y : (walk_of 𝓛 f.ended tt c).Ghost = ((κs, qs, bounds, a, tt), z) in
+    let named : Past = record { entries = z.1; is_founded = z.0 } in
+    via 𝓤 _ (fst∗ 𝓤 _ (emp 𝓤)) (qed 𝓛 (raw (alive 𝓛 f.signature κs qs) ∷ ‵ (owns [] a tt) ∷ []) ∵
+    enter ! _ _ _ _ _ $ alloc_all ! (λ l. pass_all ! refl tt $ sets ! (agg ! (no_more !)) refl (tt, tt) $
+    returns ! (look_at ! 0 refl) $ free_all ! refl $
+    suffices ! _ (ends_at 𝓛 f.ended tt c y (vstruct vnil) named tt tt) $
+    says ! (refl, refl) $ pure_i ! (past.the_row.own_val named (vstruct vnil ∷ [])) ((λ vss. (tt, tt)), tt) ((tt, (refl, tt)), tt) $
+    move ! (1 ∷ 2 ∷ 0 ∷ []) $ done !)))

@@ -1,15 +1,15 @@
-use contract.Running.{tables, tables_of}
-use Rattle.kcr_base.proofs.Walks.{refl, [], ◌∷◌, Ura, named, Val, vptr, vstruct, vnil, SProp, ent, emp, via, fst∗, Fml, Memory, Routine, Calls, Loops}
-use Rattle.kcr_base.proofs.Walks.{WpFn, Logic, Lfts, Shares, Fun, WpFn-mono, ‵, raw, ◌$◌, ◌∵◌, !, qed, move, suffices, done, no_more, returns, enter, agg}
-use Rattle.kcr_base.proofs.Walks.{alloc_all, pass_all, free_all, look_at, sets, yes, owns, shr_vals, shr_Tells, pure_i, plain, types_at, on_entry, alive}
-use Rattle.kcr_base.proofs.Walks.{Args, triple_of, entered, says, stay_none_ref, Stays, walk_of, Walks, ends_at, walked, Goes-none_ref, walk_Meets}
-use Rattle.kcr_store.specs.contracts.past.Past.with.Key.{name as key}
-use Rattle.kcr_store.specs.contracts.past.Past.with as f
-use Rattle.kcr_store.proofs.past.Past.with.Statement as stated
-use Rattle.kcr_store.proofs.past.Past.with.Code as code
-use Rattle.kcr_store.specs.contracts.past.Past as past
+-- `with` makes a value of no bytes, at the history with one more command.
+use Rattle.std.proofs.raw_atomic.Walks.{proved}
+use Rattle.kcr_base.proofs.Walks.{refl, [], ◌∷◌, named, vstruct, vnil, emp, via, fst∗, ‵, raw, ◌$◌, ◌∵◌, !, qed, move, suffices, done, no_more}
+use Rattle.kcr_base.proofs.Walks.{returns, enter, agg, alloc_all, pass_all, free_all, look_at, sets, yes, owns, shr_vals, shr_Tells, pure_i, plain}
+use Rattle.kcr_base.proofs.Walks.{types_at, alive, says, stay_none_ref, Stays, walk_of, ends_at, Goes-none_ref}
 use Rattle.kcr_history.specs.contracts.commands.Command as command
 use Rattle.kcr_history.specs.contracts.commands.Answer as answer
+use Rattle.kcr_store.specs.contracts.past.Past as past
+use Rattle.kcr_store.specs.contracts.past.Past.with as f
+use Rattle.kcr_store.specs.declared.past.Past.{Past}
+use Rattle.kcr_store.proofs.past.Past.with.Statement.{statement}
+use Rattle.kcr_store.proofs.past.Past.with.Code as code
 
 abbrev stayed : Stays (f.ended).signature.params (f.ended).kept
 stayed = (
@@ -17,56 +17,21 @@ stayed = (
   (stay_none_ref (1 ∷ []) tt (plain (λ _. command.the_row)) yes, (stay_none_ref (2 ∷ []) tt (plain (λ _. answer.the_row)) yes, tt)),
 )
 
-module _ {M : Type 1} {𝓤 : Ura M} (𝓛 : Logic 𝓤) (mem : Memory → SProp 𝓤) (run : Routine → Fun 𝓤) (C : Calls 𝓤 𝓛.H) (Λ : Loops 𝓤 𝓛.H) where
-  open 𝓛 use {H}
-
-  module _ (κs : Lfts 3) (qs : Shares 3) (a : Args f.signature κs) where
-    abbrev before : Val
-    before = vptr a.0.ref_ptr.0 a.0.ref_ptr.1
-
-    abbrev asked : Val
-    asked = vptr a.1.0.ref_ptr.0 a.1.0.ref_ptr.1
-
-    abbrev told : Val
-    told = vptr a.1.1.0.ref_ptr.0 a.1.1.0.ref_ptr.1
-
-    abbrev bound : (walk_of 𝓛 f.ended stayed (f.clauses 𝓛 mem run)).Ghost
-    bound = ((κs, qs, tt, a, (before ∷ [], (asked ∷ [], (told ∷ [], tt)))), tt)
-
-    abbrev passed : Fml
-    passed = owns (types_at f.signature.params κs) a (before ∷ [], (asked ∷ [], (told ∷ [], tt)))
-
-    walk : ent 𝓤 (on_entry 𝓛 f.signature κs qs a (before ∷ [], (asked ∷ [], (told ∷ [], tt))))
-        (WpFn 𝓤 H C Λ code.function (before ∷ asked ∷ told ∷ []) ((walk_of 𝓛 f.ended stayed (f.clauses 𝓛 mem run)).post bound))
-    walk =
-        qed 𝓛 (raw (alive 𝓛 f.signature κs qs) ∷ ‵ passed ∷ []) ∵ enter ! C Λ code.function (before ∷ asked ∷ told ∷ []) _ $
-        alloc_all ! (λ l. pass_all ! refl ((tt, tt), ((tt, tt), ((tt, tt), tt))) $ sets ! (agg ! (no_more !)) refl (tt, tt) $
-        returns ! (look_at ! 0 refl) $ free_all ! refl $
-        suffices ! _ (ends_at 𝓛 f.ended stayed (f.clauses 𝓛 mem run) bound (vstruct vnil)
-        (record { entries = record { command = a.1.0.now; answer = a.1.1.0.now } ∷ a.0.now.entries; is_founded = a.0.now.is_founded })
-        (tt, (tt, (tt, tt))) (tt, (tt, (tt, tt)))) $
-        says ! (refl, refl) $ pure_i ! (past.the_row.own_val
-        (record { entries = record { command = a.1.0.now; answer = a.1.1.0.now } ∷ a.0.now.entries; is_founded = a.0.now.is_founded })
-        (vstruct vnil ∷ [])) ((λ vss. (tt, tt)), tt) ((tt, (refl, tt)), tt) $
-        move ! (1 ∷ 2 ∷ 0 ∷ []) $ done !)
-
-  walks : Walks 𝓛 f.ended stayed (WpFn 𝓤 H C Λ code.function) (f.clauses 𝓛 mem run)
-  walks =
-      walked 𝓛 f.ended stayed (f.clauses 𝓛 mem run) (WpFn 𝓤 H C Λ code.function) (λ κs. (shr_vals, (shr_vals, (shr_vals, tt))))
-      (λ κs. (shr_Tells (named 0) κs.0 past.the_row, (shr_Tells (named 1) κs.1.0 command.the_row, (shr_Tells (named 2) κs.1.1.0 answer.the_row, tt))))
-      (λ κs qs bounds a g are. via 𝓤 _ (fst∗ 𝓤 _ (emp 𝓤)) (walk κs qs a))
-
-pub with_spec : {M : Type 1} → stated.statement M
-unfolding tables_of
+pub with_spec : {M : Type 1} → statement M
 with_spec 𝓤 𝓛 𝓜 𝓡 wired =
-    let 𝓣 = tables_of 𝓤 𝓛.H 𝓜 (tables 𝓤 𝓛.H 𝓜 𝓡 𝓡.env) in
-    entered 𝓤 𝓛.H (triple_of 𝓛 f.signature (f.spec 𝓛 𝓜.mem 𝓡.returns))
-    (tables 𝓤 𝓛.H 𝓜 𝓡 𝓡.env).C (tables 𝓤 𝓛.H 𝓜 𝓡 𝓡.env).Λ key code.function (code.unfolded 𝓤 𝓛.H 𝓜 𝓡 wired)
-    (walk_Meets 𝓛 f.ended stayed (
+    let c = f.clauses 𝓛 𝓜.mem 𝓡.returns in
+    proved 𝓛 f.ended stayed c 𝓜 𝓡 (
       Goes-none_ref 𝓛 3 (0 ∷ []) tt (plain (λ _. past.the_row)) yes,
-      (
-        Goes-none_ref 𝓛 3 (1 ∷ []) tt (plain (λ _. command.the_row)) yes,
-        (Goes-none_ref 𝓛 3 (2 ∷ []) tt (plain (λ _. answer.the_row)) yes, tt),
-      ),
-    ) (f.clauses 𝓛 𝓜.mem 𝓡.returns) (WpFn 𝓤 𝓛.H 𝓣.C 𝓣.Λ code.function)
-    (WpFn-mono 𝓤 𝓛.H 𝓛.laws 𝓣 code.function) (walks 𝓛 𝓜.mem 𝓡.returns 𝓣.C 𝓣.Λ))
+      (Goes-none_ref 𝓛 3 (1 ∷ []) tt (plain (λ _. command.the_row)) yes, (Goes-none_ref 𝓛 3 (2 ∷ []) tt (plain (λ _. answer.the_row)) yes, tt)),
+    )
+    f.Key.name code.function (code.unfolded 𝓤 𝓛.H 𝓜 𝓡 wired) (λ κs. (shr_vals, (shr_vals, (shr_vals, tt))))
+    (λ κs. (shr_Tells (named 0) κs.0 past.the_row, (shr_Tells (named 1) κs.1.0 command.the_row, (shr_Tells (named 2) κs.1.1.0 answer.the_row, tt))))
+    (λ κs qs bounds a z are.
+    let y : (walk_of 𝓛 f.ended stayed c).Ghost = ((κs, qs, bounds, a, (shr_vals a.0, (shr_vals a.1.0, (shr_vals a.1.1.0, tt)))), z) in
+    let more : Past = record { entries = record { command = a.1.0.now; answer = a.1.1.0.now } ∷ a.0.now.entries; is_founded = a.0.now.is_founded } in
+    via 𝓤 _ (fst∗ 𝓤 _ (emp 𝓤)) (qed 𝓛 (raw (alive 𝓛 f.signature κs qs) ∷ ‵ (owns (types_at f.signature.params κs) a y.0.4) ∷ []) ∵
+    enter ! _ _ _ _ _ $ alloc_all ! (λ l. pass_all ! refl ((tt, tt), ((tt, tt), ((tt, tt), tt))) $ sets ! (agg ! (no_more !)) refl (tt, tt) $
+    returns ! (look_at ! 0 refl) $ free_all ! refl $
+    suffices ! _ (ends_at 𝓛 f.ended stayed c y (vstruct vnil) more (tt, (tt, (tt, tt))) (tt, (tt, (tt, tt)))) $
+    says ! (refl, refl) $ pure_i ! (past.the_row.own_val more (vstruct vnil ∷ [])) ((λ vss. (tt, tt)), tt) ((tt, (refl, tt)), tt) $
+    move ! (1 ∷ 2 ∷ 0 ∷ []) $ done !)))
