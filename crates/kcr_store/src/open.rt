@@ -11,12 +11,12 @@ ghost use Rattle.kcr_older.specs.Older.{StoresAs, HoldsUpTo};
 ghost use Rattle.kcr_older.specs.Standing.{StandsAs, IsStrange, no_schema};
 ghost use Rattle.kcr_older.specs.Versions.{number_of};
 ghost use Rattle.kcr_tables.specs.Refusals.{IsFault};
-ghost use Rattle.kcr_rows.specs.Frame.{StaysWithin};
-ghost use Rattle.kcr_store.specs.Frame.{StaysOutside, OnlyReads};
-ghost use Rattle.kcr_store.specs.Stored.{IsTables, OfStored};
-ghost use Rattle.kcr_store.specs.Register.{Shows, IsWhole};
+ghost use Rattle.kcr_store.specs.Frame.{StaysOutside};
+ghost use Rattle.kcr_store.specs.Stored.{IsTables};
+ghost use Rattle.kcr_store.specs.Register.{Shows};
 ghost use Rattle.kcr_store.specs.Opening.{IsFounded, IsHeldIn, IsBrought, IsMadeOf, IsNumberAnswer};
 
+use crate::perform::Asked;
 use kcr_base::Refusal;
 use kcr_older::{Older, Standing, bring, standing_of};
 use kcr_tables::{Version, all_rows, last_key_row, make};
@@ -215,32 +215,24 @@ fn renew<S: Alter>(alloc: Global, conn: &mut Connection<S>, from: Older) -> Resu
     }
 }
 
-/// The number of the last command, 0 where there is none.
-fn read_last<S: Alter>(alloc: Global, tx: &mut Transaction<'_, S>) -> Result<u32, Refusal>
-    ensures same_reference { tx.new.conn.ghost_name ≡ tx.old.conn.ghost_name }
-    ensures number { OfStored (state S.Store tx.old.conn.now) (state S.Store tx.new.conn.now)
-        (λ A. IfOk result (λ count. count ≡ length A)) }
-    ensures frame { StaysWithin IsFault (state S.Store tx.old.conn.now) (state S.Store tx.new.conn.now) result }
-{
-    let last = last_key_row(alloc, tx)?;
-    match last.first() {
-        Some(row) => Ok(row.accepted),
-        None => Ok(0),
-    }
-}
+/// Asks for the number of the last command, 0 where there is none.
+#[derive(Clone, Copy)]
+pub(crate) struct LastNumber;
 
-/// The number of the last command, 0 where there is none, read in a transaction that is rolled back.
-pub(crate) fn last_number<S: Alter>(alloc: Global, conn: &mut Connection<S>) -> Result<u32, Refusal>
-    requires autocommit { conn.old.in_transaction ≡ false }
-    ensures number { HasCleanDisk (state S.Store conn.new) → (A : History) → IsWhole A (state S.Store conn.old)
-        → IfOk result (λ count. count ≡ length A) }
-    ensures survives { Survives (state S.Store conn.old) (state S.Store conn.new) (λ _. ⊥) }
-    ensures frame { OnlyReads S.Store IsFault conn.old conn.new result }
-{
-    let mut tx = conn.transaction();
-    let number = read_last(alloc, &mut tx);
-    tx.rollback();
-    number
+impl Asked for LastNumber {
+    type Answer = u32;
+
+    ghost is_answer = { λ _ A result. IfOk result (λ count. count ≡ length A) };
+
+    ghost may_refuse = { λ _. IsFault };
+
+    fn read<S: Alter>(&self, alloc: Global, tx: &mut Transaction<'_, S>) -> Result<u32, Refusal> {
+        let last = last_key_row(alloc, tx)?;
+        match last.first() {
+            Some(row) => Ok(row.accepted),
+            None => Ok(0),
+        }
+    }
 }
 
 /// Why a database with a table `versions` of one column `number`, which looks like no register that is taken, is

@@ -1,6 +1,6 @@
 //! One command as one transaction, and one question or one row of a report as one that changes nothing.
 ghost use Rattle.std.specs.Prelude.{◌≡◌, false, length, Ok, Err, IsTrue, IfOk, OnOk, MatchResult};
-ghost use Rattle.sqlite.specs.State.{HasCleanDisk};
+ghost use Rattle.sqlite.specs.State.{HasCleanDisk, Survives};
 ghost use Rattle.sqlite.specs.Held.{state};
 ghost use Rattle.kcr_history.specs.History.{History};
 ghost use Rattle.kcr_history.specs.Machine.{IsDecision};
@@ -156,40 +156,64 @@ pub(crate) fn perform<S: Alter>(
     }
 }
 
-/// One question, in a transaction that is rolled back.
-pub(crate) fn ask<S: Alter>(
-    alloc: Global,
-    conn: &mut Connection<S>,
-    question: &Question,
-) -> Result<Shown, Refusal>
-    requires autocommit { conn.old.in_transaction ≡ false }
-    ensures shown { (A : History) → IsWhole A (state S.Store conn.old) → HasCleanDisk (state S.Store conn.new)
-        → IsAsked A question.now result }
-    ensures frame { OnlyReads S.Store (MayRefuse question.now) conn.old conn.new result }
-{
-    let mut tx = conn.transaction();
-    let shown = read(alloc, &mut tx, question);
-    tx.rollback();
-    shown
+/// What is asked of the tables, and read in one transaction.
+pub(crate) trait Asked {
+    ghost use Rattle.std.specs.Prelude.{Result};
+    ghost use Rattle.kcr_base.specs.declared.refusal.Refusal.{Refusal};
+
+    type Answer;
+
+    /// What the answer is to a history.
+    ghost is_answer: { Self → History → Result Self.Answer Refusal → Type 0 };
+
+    /// What it may be refused with, whatever the history.
+    ghost may_refuse: { Self → Refusal → Type 0 };
+
+    /// The answer. Nothing is changed.
+    fn read<S: Alter>(
+        &self,
+        alloc: Global,
+        tx: &mut Transaction<'_, S>,
+    ) -> Result<Self::Answer, Refusal>
+        ensures same_reference { tx.new.conn.ghost_name ≡ tx.old.conn.ghost_name }
+        ensures answer { OfStored (state S.Store tx.old.conn.now) (state S.Store tx.new.conn.now)
+            (λ A. is_answer self.now A result) }
+        ensures frame { StaysWithin (may_refuse self.now) (state S.Store tx.old.conn.now)
+            (state S.Store tx.new.conn.now) result };
 }
 
-/// What answers a question.
-fn read<S: Alter>(
+/// What is asked, read in a transaction that is rolled back.
+pub(crate) fn ask<S: Alter, Q: Asked>(
     alloc: Global,
-    tx: &mut Transaction<'_, S>,
-    question: &Question,
-) -> Result<Shown, Refusal>
-    ensures same_reference { tx.new.conn.ghost_name ≡ tx.old.conn.ghost_name }
-    ensures shown { OfStored (state S.Store tx.old.conn.now)
-        (state S.Store tx.new.conn.now) (λ A. IsAsked A question.now result) }
-    ensures frame { StaysWithin (MayRefuse question.now) (state S.Store tx.old.conn.now)
-        (state S.Store tx.new.conn.now) result }
+    conn: &mut Connection<S>,
+    asked: &Q,
+) -> Result<Q::Answer, Refusal>
+    requires autocommit { conn.old.in_transaction ≡ false }
+    ensures answer { (A : History) → IsWhole A (state S.Store conn.old) → HasCleanDisk (state S.Store conn.new)
+        → Q.is_answer asked.now A result }
+    ensures survives { Survives (state S.Store conn.old) (state S.Store conn.new) (λ _. ⊥) }
+    ensures frame { OnlyReads S.Store (Q.may_refuse asked.now) conn.old conn.new result }
 {
-    match question {
-        Question::People => Ok(Shown::People(read_people(alloc, tx)?)),
-        Question::Custodians(day) => Ok(Shown::Custodians(read_custodians(alloc, tx, *day)?)),
-        Question::Bag(serial) => Ok(Shown::Bag(read_bag(alloc, tx, *serial)?)),
-        Question::Room(ceremony, at) => Ok(Shown::Room(read_room(alloc, tx, *ceremony, *at)?)),
+    let mut tx = conn.transaction();
+    let answer = asked.read(alloc, &mut tx);
+    tx.rollback();
+    answer
+}
+
+impl Asked for Question {
+    type Answer = Shown;
+
+    ghost is_answer = { λ question A result. IsAsked A question result };
+
+    ghost may_refuse = { MayRefuse };
+
+    fn read<S: Alter>(&self, alloc: Global, tx: &mut Transaction<'_, S>) -> Result<Shown, Refusal> {
+        match self {
+            Question::People => Ok(Shown::People(read_people(alloc, tx)?)),
+            Question::Custodians(day) => Ok(Shown::Custodians(read_custodians(alloc, tx, *day)?)),
+            Question::Bag(serial) => Ok(Shown::Bag(read_bag(alloc, tx, *serial)?)),
+            Question::Room(ceremony, at) => Ok(Shown::Room(read_room(alloc, tx, *ceremony, *at)?)),
+        }
     }
 }
 
@@ -294,38 +318,23 @@ pub(crate) fn next_of<S: Alter, R: Reading>(
     row
 }
 
-/// The row of a ceremony, in a transaction that is rolled back.
-pub(crate) fn read_ceremony<S: Alter>(
-    alloc: Global,
-    conn: &mut Connection<S>,
-    ceremony: CeremonyNumber,
-) -> Result<CeremonyRow, Refusal>
-    requires autocommit { conn.old.in_transaction ≡ false }
-    ensures row { (A : History) → IsWhole A (state S.Store conn.old) → HasCleanDisk (state S.Store conn.new)
-        → MatchResult result (IsRowOf A ceremony) (HasNoRow A ceremony) }
-    ensures frame { OnlyReads S.Store (MayHaveNoRow ceremony) conn.old conn.new result }
-{
-    let mut tx = conn.transaction();
-    let row = planned_row(alloc, &mut tx, ceremony);
-    tx.rollback();
-    row
-}
+/// A ceremony's number asks for its row; one that was never planned is refused as unknown.
+impl Asked for CeremonyNumber {
+    type Answer = CeremonyRow;
 
-/// The row of a ceremony; one that was never planned is refused as unknown.
-fn planned_row<S: Alter>(
-    alloc: Global,
-    tx: &mut Transaction<'_, S>,
-    ceremony: CeremonyNumber,
-) -> Result<CeremonyRow, Refusal>
-    ensures same_reference { tx.new.conn.ghost_name ≡ tx.old.conn.ghost_name }
-    ensures row { OfStored (state S.Store tx.old.conn.now) (state S.Store tx.new.conn.now)
-        (λ A. MatchResult result (IsRowOf A ceremony) (HasNoRow A ceremony)) }
-    ensures frame { StaysWithin (MayHaveNoRow ceremony) (state S.Store tx.old.conn.now)
-        (state S.Store tx.new.conn.now) result }
-{
-    let number = ceremony.get();
-    let planned = rows_under::<_, u32, CeremonyRow>(alloc, tx, &number)?;
-    planned.first().copied().ok_or(Refusal::Unknown {
-        thing: Thing::Ceremony(number),
-    })
+    ghost is_answer = { λ ceremony A result. MatchResult result (IsRowOf A ceremony) (HasNoRow A ceremony) };
+
+    ghost may_refuse = { MayHaveNoRow };
+
+    fn read<S: Alter>(
+        &self,
+        alloc: Global,
+        tx: &mut Transaction<'_, S>,
+    ) -> Result<CeremonyRow, Refusal> {
+        let number = self.get();
+        let planned = rows_under::<_, u32, CeremonyRow>(alloc, tx, &number)?;
+        planned.first().copied().ok_or(Refusal::Unknown {
+            thing: Thing::Ceremony(number),
+        })
+    }
 }

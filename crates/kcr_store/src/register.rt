@@ -5,7 +5,7 @@ ghost use Rattle.sqlite.specs.State.{HasCleanDisk};
 ghost use Rattle.sqlite.specs.Held.{state};
 ghost use Rattle.kcr_store.specs.Steps.{Steps, IsNext, IsAsked, MayRefuse};
 
-use crate::open::{OpenFault, connect, fault_of, last_number, settle};
+use crate::open::{LastNumber, OpenFault, connect, fault_of, settle};
 use crate::past::Past;
 use crate::perform::{Performed, ask, number_after, perform};
 use crate::whole::{audit_of, rows_in_table};
@@ -119,7 +119,7 @@ impl<S: Alter + Drop> Register<S> {
         let past = Past::of();
         let mut conn = connection;
         match settle(alloc, &mut conn) {
-            Ok(()) => match last_number(alloc, &mut conn) {
+            Ok(()) => match ask(alloc, &mut conn, &LastNumber) {
                 Ok(count) => {
                     let tried = Past::same(&past);
                     Ok(Register {

@@ -2,7 +2,7 @@
 ghost use Rattle.std.specs.Prelude.{◌≡◌, IfOk, MatchResult};
 ghost use Rattle.kcr_tables.specs.Refusals.{IsFault};
 
-use crate::perform::{next_of, read_ceremony};
+use crate::perform::{ask, next_of};
 use crate::register::Register;
 use kcr_base::{CeremonyNumber, Refusal};
 use kcr_history::CeremonyRow;
@@ -91,6 +91,6 @@ impl<S: Alter> Register<S> {
         if self.broken {
             return Err(Refusal::Broken);
         }
-        read_ceremony(self.alloc, &mut self.conn, ceremony)
+        ask(self.alloc, &mut self.conn, &ceremony)
     }
 }

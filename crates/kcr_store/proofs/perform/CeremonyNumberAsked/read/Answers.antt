@@ -6,10 +6,10 @@ use Rattle.kcr_base.specs.declared.refusal.Thing.TheVariants as Things
 use Rattle.kcr_store.specs.Rows.{IsRowOf, HasNoRow}
 use Rattle.kcr_store.proofs.QuestionLemmas.{row_shown}
 use Rattle.kcr_store.proofs.StoreLemmas.{holds_in}
-use Rattle.kcr_store.proofs.perform.planned_row.Goals as goal
+use Rattle.kcr_store.proofs.perform.CeremonyNumberAsked.read.Goals as goal
 
-pub returns-clause-row : goal.returns-clause-row
-returns-clause-row g c clean accepted had =
+pub returns-clause-answer : goal.returns-clause-answer
+returns-clause-answer g c clean accepted had =
     let was = had (c.in_ok-planned.ensures.opened clean) in
     let kept = was.tables.kept in
     let rows = c.in_ok-planned.ensures.rows clean kept.t (holds_in accepted _ was) in
