@@ -31,6 +31,8 @@ use Rattle.kcr_wire.specs.declared.method.Method.{Method}
 use Rattle.kcr_wire.specs.declared.method.Method.TheVariants.{Get, Head, Post, Other}
 use Rattle.kcr_desk.specs.declared.reply.Kind.{Kind}
 use Rattle.kcr_desk.specs.declared.reply.Kind.TheVariants.{Json, Text, Csv}
+use Rattle.kcr_print.specs.declared.reports.CeremonyReport.{CeremonyReport}
+use Rattle.kcr_print.specs.declared.reports.CeremonyReport.TheVariants.{Script, Attendance}
 use Rattle.kcr_print.specs.declared.fault.PrintFault.{PrintFault}
 use Rattle.kcr_print.specs.declared.fault.PrintFault.TheVariants.{Refused, Write}
 use Rattle.kcr_desk.specs.Run.{Asked}
@@ -86,6 +88,11 @@ told_shown target (Err refusal) = told_refusal target refusal
 abbrev pub told_report : Kind → List ℕ → Result (List ℕ) Refusal → Told
 told_report kind target (Ok text) = told_as kind text
 told_report kind target (Err refusal) = told_refusal target refusal
+
+-- the media type of a report of a ceremony
+abbrev pub kind_of : CeremonyReport → Kind
+kind_of (Script ceremony) = Text
+kind_of (Attendance ceremony) = Csv
 
 -- a register that is not broken takes the command as the machine does. A fault of the device breaks it, and then a
 -- crash may have left the history with the command

@@ -4,23 +4,23 @@ ghost use Rattle.sqlite.specs.Held.{state};
 ghost use Rattle.sqlite.specs.State.{HasCleanDisk};
 ghost use Rattle.kcr_wire.specs.Commands.{command_of};
 ghost use Rattle.kcr_wire.specs.Inquiries.{inquiry_of};
-ghost use Rattle.kcr_history.specs.Prints as report;
 ghost use Rattle.kcr_store.specs.Steps.{IsAsked};
+ghost use Rattle.kcr_print.specs.Reports.{ceremony_of, text_of};
 ghost use Rattle.kcr_wire.specs.declared.method.Method.TheVariants.{Post};
 ghost use Rattle.kcr_history.specs.Refusals.{carries};
 ghost use Rattle.kcr_base.specs.declared.refusal.Refusal.TheVariants as Refusals;
 ghost use Rattle.kcr_desk.specs.Answers.{Answers, AnswersAs, Answered, AnswersCommand, AnswersReading, AnswersInquiry};
 ghost use Rattle.kcr_desk.specs.Answers.{IsReported, method_of, told_text, told_refusal, told_shown, told_report};
 ghost use Rattle.kcr_desk.specs.Answers.{allowed, IsRefused, TakesInquiry, RepliesInquiry, TellsOrMemory, refusal_of};
-ghost use Rattle.kcr_desk.specs.Answers.{outcome_of};
+ghost use Rattle.kcr_desk.specs.Answers.{kind_of, outcome_of};
 ghost use Rattle.kcr_desk.specs.Told.{told};
 
 use crate::reply::{Body, Heading, Kind, Response, refusal_heading};
 use crate::responder::Responder;
 use http::StatusCode;
-use kcr_base::{CeremonyNumber, Counted, Refusal, Text};
+use kcr_base::{Counted, Refusal, Text};
 use kcr_history::{Command, Question, fixed_text};
-use kcr_print::{PrintFault, annotated, attendance_csv};
+use kcr_print::{CeremonyReport, PrintFault, ceremony_report};
 use kcr_store::Register;
 use kcr_wire::{Allow, Inquiry, Method, Paths, write_refusal, write_shown};
 use sqlite::Alter;
@@ -176,36 +176,31 @@ fn report_reply(
     }
 }
 
-/// Prints the annotated script of a ceremony into memory, and tells it.
-fn take_script<S: Alter>(
-    alloc: Global,
-    register: &mut Register<S>,
-    paths: &Paths,
-    target: &[u8],
-    ceremony: CeremonyNumber,
-) -> Response
-    ensures { AnswersReading S.Store register.old target.now (told result) register.new
-        (told_report Kind.Text target.now) (IsReported report.annotated ceremony) }
+/// The media type of a report of a ceremony.
+fn kind_of(report: &CeremonyReport) -> Kind
+    ensures { result ≡ kind_of report.now }
 {
-    let mut page = Counted::new(Vec::new(alloc));
-    let outcome = annotated(alloc, register, ceremony, &mut page);
-    report_reply(alloc, paths, target, Kind::Text, page.into_inner(), outcome)
+    match report {
+        CeremonyReport::Script(_) => Kind::Text,
+        CeremonyReport::Attendance(_) => Kind::Csv,
+    }
 }
 
-/// Prints the attendance of a ceremony into memory, and tells it.
-fn take_attendance<S: Alter>(
+/// Prints a report of a ceremony into memory, and tells it.
+fn take_report<S: Alter>(
     alloc: Global,
     register: &mut Register<S>,
     paths: &Paths,
     target: &[u8],
-    ceremony: CeremonyNumber,
+    report: CeremonyReport,
 ) -> Response
     ensures { AnswersReading S.Store register.old target.now (told result) register.new
-        (told_report Kind.Csv target.now) (IsReported report.attendance ceremony) }
+        (told_report (kind_of report) target.now) (IsReported (text_of report) (ceremony_of report)) }
 {
+    let kind = kind_of(&report);
     let mut page = Counted::new(Vec::new(alloc));
-    let outcome = attendance_csv(alloc, register, ceremony, &mut page);
-    report_reply(alloc, paths, target, Kind::Csv, page.into_inner(), outcome)
+    let outcome = ceremony_report(alloc, register, report, &mut page);
+    report_reply(alloc, paths, target, kind, page.into_inner(), outcome)
 }
 
 /// Asks the register for what a GET or HEAD asks for, and tells it.
@@ -220,8 +215,14 @@ fn take_inquiry<S: Alter>(
 {
     match inquiry {
         Inquiry::Question(question) => take_question(alloc, register, paths, target, &question),
-        Inquiry::Script(ceremony) => take_script(alloc, register, paths, target, ceremony),
-        Inquiry::Attendance(ceremony) => take_attendance(alloc, register, paths, target, ceremony),
+        Inquiry::Script(ceremony) => {
+            let report = CeremonyReport::Script(ceremony);
+            take_report(alloc, register, paths, target, report)
+        }
+        Inquiry::Attendance(ceremony) => {
+            let report = CeremonyReport::Attendance(ceremony);
+            take_report(alloc, register, paths, target, report)
+        }
     }
 }
 

@@ -16,5 +16,5 @@ mod things;
 mod writing;
 
 pub use fault::{PrintFault, Unwritten};
-pub use reports::{annotated, attendance_csv, custody};
+pub use reports::{CeremonyReport, ceremony_report, custody};
 pub use writing::put;

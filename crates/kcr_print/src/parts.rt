@@ -2,17 +2,18 @@
 
 ghost use Rattle.std.specs.Prelude.{◌≡◌, None};
 ghost use Rattle.std.specs.List.{flat_map};
-ghost use Rattle.kcr_history.specs.Prints as report;
+ghost use Rattle.kcr_history.specs.Prints as prints;
 ghost use Rattle.kcr_history.specs.Tables.{tables};
 ghost use Rattle.kcr_store.specs.Register.{IsKept};
-ghost use Rattle.kcr_print.specs.Reports.{Puts, PutsPlanned};
+ghost use Rattle.kcr_print.specs.Reports.{Puts, PutsPlanned, ceremony_of, text_of};
 
 use crate::fault::PrintFault;
 use crate::printed::Printed;
+use crate::reports::CeremonyReport;
 use crate::rows::{put_row, put_rows};
 use crate::script::{Foot, Head};
 use crate::stays::Header;
-use kcr_base::{CeremonyNumber, Counted};
+use kcr_base::Counted;
 use kcr_reading::{
     BagReading, ExceptionReading, LooseReading, Reading, SafeReading, StayReading, StepReading,
 };
@@ -37,41 +38,33 @@ fn put_all<S: Alter, P: Printed, R: Reading<Row = P>, W: Write>(
     put_rows(alloc, &mut rows, writer)
 }
 
-/// Writes the annotated script of a ceremony.
-pub(crate) fn put_script<S: Alter, W: Write>(
+/// Writes a report of a ceremony.
+pub(crate) fn put_planned<S: Alter, W: Write>(
     alloc: Global,
     register: &mut Register<S>,
-    ceremony: CeremonyNumber,
+    report: CeremonyReport,
     writer: &mut Counted<W>,
 ) -> Result<(), PrintFault>
     requires kept { IsKept S.Store register.old }
     requires whole { register.old.torn ≡ None }
-    ensures { PutsPlanned report.annotated ceremony S.Store W.contents register.old register.new writer.old writer.new
-        result }
+    ensures { PutsPlanned (text_of report) (ceremony_of report) S.Store W.contents register.old register.new writer.old
+        writer.new result }
 {
+    let ceremony = report.ceremony();
     let number = ceremony.get();
     let row = register.ceremony_row(ceremony)?;
-    put_row(alloc, &Head { row: &row }, writer)?;
-    put_all(alloc, register, StepReading::start(number), writer)?;
-    put_all(alloc, register, ExceptionReading::start(number), writer)?;
-    put_row(alloc, &Foot { row: &row }, writer)
-}
-
-/// Writes the attendance of a ceremony.
-pub(crate) fn put_attendance<S: Alter, W: Write>(
-    alloc: Global,
-    register: &mut Register<S>,
-    ceremony: CeremonyNumber,
-    writer: &mut Counted<W>,
-) -> Result<(), PrintFault>
-    requires kept { IsKept S.Store register.old }
-    requires whole { register.old.torn ≡ None }
-    ensures { PutsPlanned report.attendance ceremony S.Store W.contents register.old register.new writer.old writer.new
-        result }
-{
-    let _planned = register.ceremony_row(ceremony)?;
-    put_row(alloc, &Header, writer)?;
-    put_all(alloc, register, StayReading::start(ceremony.get()), writer)
+    match report {
+        CeremonyReport::Script(_) => {
+            put_row(alloc, &Head { row: &row }, writer)?;
+            put_all(alloc, register, StepReading::start(number), writer)?;
+            put_all(alloc, register, ExceptionReading::start(number), writer)?;
+            put_row(alloc, &Foot { row: &row }, writer)
+        }
+        CeremonyReport::Attendance(_) => {
+            put_row(alloc, &Header, writer)?;
+            put_all(alloc, register, StayReading::start(number), writer)
+        }
+    }
 }
 
 /// Writes custody.
@@ -83,7 +76,7 @@ pub(crate) fn put_custody<S: Alter, W: Write>(
     requires kept { IsKept S.Store register.old }
     requires whole { register.old.torn ≡ None }
     ensures { Puts S.Store W.contents register.old register.new writer.old writer.new result
-        (λ _ _. ⊥) (λ _. ⊥) (λ A. report.custody A) }
+        (λ _ _. ⊥) (λ _. ⊥) (λ A. prints.custody A) }
 {
     put_all(alloc, register, SafeReading::start(), writer)?;
     put_all(alloc, register, BagReading::start(), writer)?;

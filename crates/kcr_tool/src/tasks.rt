@@ -8,7 +8,7 @@ ghost use Rattle.kcr_tool.specs.declared.words.Task.TheVariants as task;
 use crate::fault::Fault;
 use kcr_base::{CeremonyNumber, Counted};
 use kcr_desk::serve;
-use kcr_print::{annotated, attendance_csv, custody};
+use kcr_print::{CeremonyReport, ceremony_report, custody};
 use kcr_store::Register;
 use sqlite::Alter;
 use std::alloc::Global;
@@ -46,7 +46,8 @@ pub fn print<S: Alter, W: Write>(
 ) -> Result<(), Fault>
     ensures { Reports S.Store W.contents (task.Print ceremony) register.old output.old output.new result }
 {
-    match annotated(alloc, register, ceremony, output) {
+    let report = CeremonyReport::Script(ceremony);
+    match ceremony_report(alloc, register, report, output) {
         Ok(()) => Ok(()),
         Err(fault) => Err(Fault::from(fault)),
     }
@@ -61,7 +62,8 @@ pub fn attendance<S: Alter, W: Write>(
 ) -> Result<(), Fault>
     ensures { Reports S.Store W.contents (task.Attendance ceremony) register.old output.old output.new result }
 {
-    match attendance_csv(alloc, register, ceremony, output) {
+    let report = CeremonyReport::Attendance(ceremony);
+    match ceremony_report(alloc, register, report, output) {
         Ok(()) => Ok(()),
         Err(fault) => Err(Fault::from(fault)),
     }
