@@ -1,5 +1,5 @@
 //! What the register is asked by a message, and what the message is told.
-ghost use Rattle.std.specs.Prelude.{◌≡◌, ◌⊎◌, ℕ, List, [], IsTrue, MatchResult};
+ghost use Rattle.std.specs.Prelude.{◌≡◌, ◌⊎◌, ℕ, List, IsTrue, MatchResult};
 ghost use Rattle.sqlite.specs.Held.{state};
 ghost use Rattle.sqlite.specs.State.{HasCleanDisk};
 ghost use Rattle.kcr_wire.specs.Commands.{command_of};
@@ -16,7 +16,7 @@ ghost use Rattle.kcr_desk.specs.Answers.{kind_of, outcome_of};
 ghost use Rattle.kcr_desk.specs.Told.{told};
 
 use crate::reply::{Body, Heading, Kind, Response, refusal_heading};
-use crate::responder::Responder;
+use crate::responder::{Asked, Responder};
 use http::StatusCode;
 use kcr_base::{Counted, Refusal, Text};
 use kcr_history::{Command, Question, fixed_text};
@@ -231,13 +231,12 @@ fn answer_post<S: Alter>(
     alloc: Global,
     register: &mut Register<S>,
     paths: &Paths,
-    target: &[u8],
-    body: &[u8],
+    asked: &Asked<'_>,
 ) -> Response
-    ensures { AnswersAs Post S.Store register.old (record { method = []; target = target.now; body = body.now })
-        (told result) register.new }
+    ensures { AnswersAs Post S.Store register.old asked.now (told result) register.new }
 {
-    match paths.read_command(alloc, target, body) {
+    let target = asked.target;
+    match paths.read_command(alloc, target, asked.body) {
         Ok(command) => take_command(alloc, register, paths, target, &command),
         Err(refusal) => refused_reply(alloc, paths, target, &refusal),
     }
@@ -268,35 +267,25 @@ fn answer_by<S: Alter>(
     alloc: Global,
     register: &mut Register<S>,
     paths: &Paths,
-    method: &[u8],
-    target: &[u8],
-    body: &[u8],
+    asked: &Asked<'_>,
 ) -> Response
-    ensures { Answers S.Store register.old (record { method = method.now; target = target.now; body = body.now })
-        (told result) register.new }
+    ensures { Answers S.Store register.old asked.now (told result) register.new }
 {
-    match method_of(method) {
-        Method::Post => answer_post(alloc, register, paths, target, body),
-        other => answer_inquiry(alloc, register, paths, other, target),
+    match method_of(asked.method) {
+        Method::Post => answer_post(alloc, register, paths, asked),
+        other => answer_inquiry(alloc, register, paths, other, asked.target),
     }
 }
 
 impl<S: Alter> Responder for Register<S> {
     ghost step = { Answers S.Store };
 
-    fn respond(
-        &mut self,
-        alloc: Global,
-        paths: &mut Option<Paths>,
-        method: &[u8],
-        target: &[u8],
-        body: &[u8],
-    ) -> Response {
+    fn respond(&mut self, alloc: Global, paths: &mut Option<Paths>, asked: &Asked<'_>) -> Response {
         if paths.is_none() {
             *paths = Paths::new(alloc).ok();
         }
         match paths {
-            Some(paths) => answer_by(alloc, self, paths, method, target, body),
+            Some(paths) => answer_by(alloc, self, paths, asked),
             None => memory_reply(),
         }
     }

@@ -2,6 +2,23 @@
 use crate::reply::Response;
 use kcr_wire::Paths;
 use std::alloc::Global;
+use std::marker::Model;
+
+/// What the register is asked by a message. To clauses it is the `Asked` of `specs/Run`.
+#[derive(Drop)]
+pub(crate) struct Asked<'a> {
+    pub(crate) method: &'a [u8],
+    pub(crate) target: &'a [u8],
+    pub(crate) body: &'a [u8],
+}
+
+impl<'a> Model for Asked<'a> {
+    ghost use Rattle.kcr_desk.specs.Run.{Asked};
+
+    ghost Value = { Asked };
+
+    ghost view = { λ asked. record { method = asked.method.now; target = asked.target.now; body = asked.body.now } };
+}
 
 /// What answers messages: the register, and in tests a small one of their own.
 pub(crate) trait Responder {
@@ -14,14 +31,6 @@ pub(crate) trait Responder {
 
     /// Answers a message. `paths` is the table of routes, made at the first
     /// message that needs it and kept for the stream.
-    fn respond(
-        &mut self,
-        alloc: Global,
-        paths: &mut Option<Paths>,
-        method: &[u8],
-        target: &[u8],
-        body: &[u8],
-    ) -> Response
-        ensures { step self.old (record { method = method.now; target = target.now; body = body.now })
-            (told result) self.new };
+    fn respond(&mut self, alloc: Global, paths: &mut Option<Paths>, asked: &Asked<'_>) -> Response
+        ensures { step self.old asked.now (told result) self.new };
 }

@@ -19,7 +19,7 @@ use crate::intake::{Found, Intake};
 use crate::page::Page;
 use crate::put::send;
 use crate::reply::{put_answer, put_continue, put_refusal};
-use crate::responder::Responder;
+use crate::responder::{Asked, Responder};
 use httparse::spans::RequestSpans;
 use kcr_base::{Counted, Refusal};
 use kcr_wire::Paths;
@@ -111,10 +111,14 @@ fn answer_front<W: Write, G: Responder>(
     ensures fault { OnErr result ((result ≡ Err DeskFault.Write) × (failures_of writer.old < failures_of writer.new)) }
 {
     let buffer = intake.buffer.as_slice();
-    let method = spans.method.of(buffer);
-    let body = &buffer[spans.len..spans.len + plan.length];
-    let reply = responder.respond(alloc, paths, method, spans.path.of(buffer), body);
-    put_answer(writer, waiting, &reply, is_head_method(method), plan.closes)
+    let asked = Asked {
+        method: spans.method.of(buffer),
+        target: spans.path.of(buffer),
+        body: &buffer[spans.len..spans.len + plan.length],
+    };
+    let reply = responder.respond(alloc, paths, &asked);
+    let bare = is_head_method(asked.method);
+    put_answer(writer, waiting, &reply, bare, plan.closes)
 }
 
 /// Writes what waits at the end of a stream.

@@ -4,4 +4,4 @@ use Rattle.kcr_desk.proofs.answer.RegisterResponder.respond.Goals as goal
 
 pub returns-in-None : goal.returns-in-None
 returns-in-None g c =
-    memory_answered g.S.Store c.args.self.now c.args.target.now (told c.memory_reply.result) _ _ (c.memory_reply.ensures c.args.target.now)
+    memory_answered g.S.Store c.args.self.now c.args.asked.now.target (told c.memory_reply.result) _ _ (c.memory_reply.ensures c.args.asked.now.target)
