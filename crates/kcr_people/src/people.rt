@@ -71,7 +71,7 @@ pub fn withdraw(
         (λ refusal. result ≡ Err refusal) }
 {
     check_person(roster, who)?;
-    if !rows::trained_from(roster.trainings, roster.withdrawals, who, role, day) {
+    if !rows::trained_from(roster, who, role, day) {
         return Err(Refusal::Vacant);
     }
     check_day(roster, day)?;

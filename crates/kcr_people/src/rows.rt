@@ -3,8 +3,9 @@
 ghost use Rattle.std.specs.Prelude.{◌≡◌, ◌&&◌, nat_le, min, max, IfOk};
 ghost use Rattle.std.specs.List.{list_any};
 ghost use Rattle.kcr_people.specs.People;
+ghost use Rattle.kcr_people.specs.declared.Roster.{Roster};
 
-use crate::{Appointment, Person, Training, Withdrawal};
+use crate::{Appointment, Person, Roster, Training, Withdrawal};
 use kcr_base::{Day, Initials, Place, Role};
 use std::alloc::{AllocError, Global};
 
@@ -23,7 +24,7 @@ fn covers(row: Training, who: Initials, role: Role, day: Day) -> bool
 }
 
 /// Whether the withdrawal is of that very training.
-fn is_of(withdrawal: Withdrawal, row: Training) -> bool
+pub fn is_of(withdrawal: Withdrawal, row: Training) -> bool
     ensures { result ≡ People.is_of row withdrawal }
 {
     withdrawal.who == row.who
@@ -86,16 +87,12 @@ fn earlier(a: Day, b: Day) -> Day
 }
 
 /// Whether the person is trained for the role on the day or a later one.
-pub fn trained_from(
-    trainings: &[Training],
-    withdrawals: &[Withdrawal],
-    who: Initials,
-    role: Role,
-    day: Day,
-) -> bool
-    ensures { result ≡ People.trained_from_by trainings.now withdrawals.now who role day }
+pub(crate) fn trained_from(roster: &Roster<'_>, who: Initials, role: Role, day: Day) -> bool
+    ensures { let by : Roster = roster.now in
+        result ≡ People.trained_from_by by.trainings.now by.withdrawals.now who role day }
 {
-    trainings.iter().any(|row| trains(withdrawals, who, role, later(row.since, day), row))
+    let withdrawals = roster.withdrawals;
+    roster.trainings.iter().any(|row| trains(withdrawals, who, role, later(row.since, day), row))
 }
 
 /// Whether two trainings are the same.

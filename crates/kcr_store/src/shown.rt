@@ -2,7 +2,6 @@
 ghost use Rattle.std.specs.Prelude.{◌≡◌, IfOk, map, All};
 ghost use Rattle.kcr_base.specs.Place.{IsPlaceNumber};
 ghost use Rattle.kcr_base.specs.Same;
-ghost use Rattle.kcr_people.specs.People;
 ghost use Rattle.kcr_people.specs.People.{holder_by};
 ghost use Rattle.kcr_history.specs.Questions;
 ghost use Rattle.kcr_history.specs.Questions.{person_of};
@@ -12,18 +11,9 @@ ghost use Rattle.kcr_store.specs.Shown.{AreRolesOf};
 use kcr_base::{Day, Facility, Initials, ItemCode, Place, PlaceNumber, Role};
 use kcr_custody::Item;
 use kcr_history::{CustodiansShown, HolderShown, PersonShown, RoleShown};
+use kcr_people::rows::is_of;
 use kcr_people::{Appointment, Person, Training, Withdrawal, holder};
 use std::alloc::{AllocError, Global};
-
-/// Whether the withdrawal is of that very training.
-fn is_of(withdrawal: Withdrawal, row: Training) -> bool
-    ensures { result ≡ People.is_of row withdrawal }
-{
-    withdrawal.who == row.who
-        && withdrawal.role == row.role
-        && withdrawal.since == row.since
-        && withdrawal.until == row.until
-}
 
 /// The day from which the training is withdrawn, where it is.
 fn withdrawn_day(withdrawals: &[Withdrawal], row: Training) -> Option<Day>
