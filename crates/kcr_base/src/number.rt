@@ -122,6 +122,7 @@ impl<K: Numbered> Number<K> {
         self.number
     }
 }
+
 /// Whether the number is of 1 to `limit`.
 fn is_number(limit: u32, number: u32) -> bool
     ensures { IsTrue result ↔ IsNumber limit number }
