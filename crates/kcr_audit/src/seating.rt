@@ -9,7 +9,7 @@ ghost use Rattle.kcr_history.specs.declared.views.Finding.TheVariants as Finding
 ghost use Rattle.kcr_audit.specs.Sought.{IsSought};
 ghost use Rattle.kcr_audit.specs.Wrongs;
 
-use kcr_base::{Initials, Moment, Role, is_among, not_later, same_person};
+use kcr_base::{Initials, Moment, Role, is_among};
 use kcr_history::{CeremonyRow, Finding, SeatingRow, StepRow, StepState, WholeView, fits};
 use kcr_room::{SheetRow, Way};
 use kcr_script::Seat;
@@ -24,7 +24,7 @@ fn is_overtaken(last: &Option<SheetRow>, row: &SheetRow) -> bool
 {
     match last {
         None => true,
-        Some(other) => not_later(other.at, row.at),
+        Some(other) => other.at <= row.at,
     }
 }
 
@@ -34,7 +34,7 @@ fn last_row(rows: &[SheetRow], who: Initials, at: Moment) -> Option<SheetRow>
 {
     let mut last = None;
     for row in rows {
-        if same_person(row.who, who) && not_later(row.at, at) && is_overtaken(&last, row) {
+        if row.who == who && row.at <= at && is_overtaken(&last, row) {
             last = Some(*row);
         }
     }

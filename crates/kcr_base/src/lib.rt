@@ -32,10 +32,7 @@ pub use number::{BoxNumber, CeremonyNumber, StepNumber};
 pub use place::{Facility, Place, PlaceNumber, Role, after};
 pub use positions::Positions;
 pub use refusal::{Absentee, Member, Part, Refusal, Thing};
-pub use same::{
-    before, is_before, is_earlier, not_later, same_day, same_facility, same_moment, same_person,
-    same_place, same_role, same_text,
-};
+pub use same::{before, is_before, same_text};
 pub use serial::{ItemCode, Serial};
 pub use tally::Tally;
 pub use text::Text;

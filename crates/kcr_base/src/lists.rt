@@ -5,7 +5,7 @@ ghost use Rattle.kcr_base.specs.Lists;
 ghost use Rattle.kcr_base.specs.Lists.{IsListed, are_apart};
 
 use crate::initials::Initials;
-use crate::same::{same_person, same_text};
+use crate::same::same_text;
 use crate::serial::ItemCode;
 use std::alloc::AllocError;
 use std::marker::Model;
@@ -108,7 +108,7 @@ impl Clone for Items {
 pub fn is_among(people: &[Initials], who: Initials) -> bool
     ensures { result ≡ Lists.is_among people.now who }
 {
-    people.iter().any(|other| same_person(who, *other))
+    people.iter().any(|other| who == *other)
 }
 
 /// Whether each of these people comes once.

@@ -8,7 +8,7 @@ ghost use Rattle.kcr_people.specs.People.{lasts_beyond, holder_by};
 ghost use Rattle.kcr_history.specs.Fitting.{is_holder_by, fits_by};
 ghost use Rattle.kcr_history.specs.Seating.{one_to_seven};
 
-use kcr_base::{Day, Facility, Initials, Place, same_person};
+use kcr_base::{Day, Facility, Initials, Place};
 use kcr_people::{Appointment, Training, Withdrawal, trained};
 use kcr_script::Seat;
 
@@ -69,7 +69,7 @@ fn is_this(held: Option<Initials>, who: Initials) -> bool
     ensures { result ≡ Same.is_this who held }
 {
     match held {
-        Some(other) => same_person(other, who),
+        Some(other) => other == who,
         None => false,
     }
 }

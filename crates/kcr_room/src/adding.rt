@@ -8,7 +8,7 @@ ghost use Rattle.kcr_room.specs.declared.Way.TheVariants.{Enter, Leave};
 
 use crate::traffic::crowding_of;
 use crate::{Request, Stay, Way};
-use kcr_base::{Initials, Moment, Refusal, is_among, not_later, same_person};
+use kcr_base::{Initials, Moment, Refusal, is_among};
 use std::alloc::{AllocError, Global};
 
 fn is_open(until: Option<Moment>) -> bool
@@ -25,20 +25,20 @@ fn ends_from(at: Moment, until: Option<Moment>) -> bool
 {
     match until {
         None => false,
-        Some(until) => not_later(at, until),
+        Some(until) => at <= until,
     }
 }
 
 fn reaches(who: Initials, at: Moment, stay: &Stay) -> bool
     ensures { result ≡ Adding.reaches who at stay.now }
 {
-    same_person(stay.who, who) && (not_later(at, stay.since) || ends_from(at, stay.until))
+    stay.who == who && (at <= stay.since || ends_from(at, stay.until))
 }
 
 fn is_inside(who: Initials, stay: &Stay) -> bool
     ensures { result ≡ Adding.is_inside who stay.now }
 {
-    same_person(stay.who, who) && is_open(stay.until)
+    stay.who == who && is_open(stay.until)
 }
 
 fn is_inside_of(ceremony: u32, who: Initials, stay: &Stay) -> bool
@@ -277,7 +277,7 @@ pub fn add_stays(
         → Adding.stays_refusal stays.now asked.ceremony mark full asked.way asked.people.now asked.at
         ≡ Some refusal) }
 {
-    if not_later(request.at, mark) {
+    if request.at <= mark {
         return Err(Refusal::Late { mark });
     }
     if let Some(who) = first_out_of_turn(stays, request) {

@@ -7,7 +7,7 @@ ghost use Rattle.kcr_room.specs.Stays;
 
 use crate::traffic::crowding_of;
 use crate::{SheetRow, Stay, stays_of};
-use kcr_base::{Initials, Moment, is_before, is_earlier, not_later};
+use kcr_base::{Initials, Moment, is_before};
 use std::alloc::{AllocError, Global};
 
 pub(crate) fn lasts_at(at: Moment, until: Option<Moment>) -> bool
@@ -15,7 +15,7 @@ pub(crate) fn lasts_at(at: Moment, until: Option<Moment>) -> bool
 {
     match until {
         None => true,
-        Some(until) => is_earlier(at, until),
+        Some(until) => at < until,
     }
 }
 
@@ -23,7 +23,7 @@ pub(crate) fn lasts_at(at: Moment, until: Option<Moment>) -> bool
 pub fn holds(ceremony: u32, at: Moment, stay: Stay) -> bool
     ensures { result ≡ Stays.holds ceremony at stay }
 {
-    stay.ceremony == ceremony && not_later(stay.since, at) && lasts_at(at, stay.until)
+    stay.ceremony == ceremony && stay.since <= at && lasts_at(at, stay.until)
 }
 
 // The place of a person in a list in byte order: behind all that are before it.

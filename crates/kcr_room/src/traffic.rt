@@ -7,7 +7,7 @@ ghost use Rattle.kcr_room.specs.Stays;
 
 use crate::Stay;
 use crate::presence::lasts_at;
-use kcr_base::{Moment, is_earlier, not_later};
+use kcr_base::Moment;
 use std::alloc::{AllocError, Global};
 
 // Whether the stay is of the ceremony and holds at some moment.
@@ -53,7 +53,7 @@ fn count_until(moments: &[Moment], at: Moment) -> usize
     requires { IsNonDecreasing moments.now }
     ensures { result ≡ Moments.count_until moments.now at }
 {
-    moments.partition_point(|moment| not_later(*moment, at))
+    moments.partition_point(|moment| *moment <= at)
 }
 
 // The sooner of two moments, where they are there.
@@ -61,7 +61,7 @@ fn sooner(at: Option<Moment>, other: Option<Moment>) -> Option<Moment>
     ensures { result ≡ Moments.sooner at other }
 {
     match (at, other) {
-        (Some(at), Some(other)) => Some(if is_earlier(at, other) { at } else { other }),
+        (Some(at), Some(other)) => Some(if at < other { at } else { other }),
         (Some(at), None) => Some(at),
         (None, other) => other,
     }

@@ -14,7 +14,7 @@ ghost use Rattle.kcr_rules.specs.SheetRows;
 
 use crate::premises::Premises;
 use crate::scene::{is_open_state, known, mark};
-use kcr_base::{Initials, Refusal, Thing, is_among, not_later, same_person};
+use kcr_base::{Initials, Refusal, Thing, is_among};
 use kcr_history::{Change, View};
 use kcr_people::Person;
 use kcr_room::{Request, SheetRow, Stay, stays_in};
@@ -25,7 +25,7 @@ fn later(found: Option<Stay>, stay: Stay) -> Option<Stay>
     ensures { result ≡ SheetRows.next_last_of found stay }
 {
     match found {
-        Some(other) if not_later(stay.since, other.since) => Some(other),
+        Some(other) if stay.since <= other.since => Some(other),
         _ => Some(stay),
     }
 }
@@ -34,7 +34,7 @@ fn later(found: Option<Stay>, stay: Stay) -> Option<Stay>
 fn later_own(found: Option<Stay>, who: Initials, stay: Stay) -> Option<Stay>
     ensures { result ≡ SheetRows.next_last who found stay }
 {
-    if same_person(stay.who, who) {
+    if stay.who == who {
         later(found, stay)
     } else {
         found
@@ -157,7 +157,7 @@ impl Premises<'_> {
         let Some(mark) = mark(self.view, request.ceremony) else {
             return Err(Refusal::State);
         };
-        if not_later(request.at, mark) {
+        if request.at <= mark {
             return Err(Refusal::Late { mark });
         }
         if let Some(who) = first_twice(request.people) {
