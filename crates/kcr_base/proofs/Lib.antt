@@ -1,6 +1,7 @@
 pub mod DayLemmas
 pub mod ListLemmas
 pub mod Members
+pub mod NamedLemmas
 pub mod PositionsLemmas
 pub mod RefuseLemmas
 pub mod RowsLemmas

@@ -26,7 +26,7 @@ pub use day::Day;
 pub use initials::Initials;
 pub use key::Key;
 pub use line::{Activity, Line, Name, Remark};
-pub use lists::{Items, People, is_among, is_item_among};
+pub use lists::{Items, People, is_among};
 pub use moment::Moment;
 pub use number::{BoxNumber, CeremonyNumber, StepNumber};
 pub use place::{Facility, Place, PlaceNumber, Role, after};

@@ -1,143 +1,139 @@
 //! The people and the items that a command names: lists in the order in which they are given, of which none is named
 //! twice.
-ghost use Rattle.std.specs.Prelude.{◌≡◌, ◌↔◌, IsTrue, SomeIff};
+ghost use Rattle.std.specs.Prelude.{◌≡◌, ℕ, List, map, SomeIff};
+ghost use Rattle.std.proofs.Common.{rules, sym};
+ghost use Rattle.std.proofs.lemmas.List.{map-id};
 ghost use Rattle.kcr_base.specs.Lists;
-ghost use Rattle.kcr_base.specs.Lists.{IsListed, are_apart};
+ghost use Rattle.kcr_base.specs.Lists.{IsListed};
+ghost use Rattle.kcr_base.specs.Same.{same_text};
 
 use crate::initials::Initials;
-use crate::same::same_text;
 use crate::serial::ItemCode;
 use std::alloc::AllocError;
 use std::marker::Model;
 
 /// People in an order: 1 to 32, none of them twice.
-#[derive(Drop)]
-pub struct People {
-    list: Vec<Initials>,
-}
-
-impl Model for People {
-    ghost use Rattle.std.specs.Prelude.{List, ℕ};
-    ghost use Rattle.kcr_base.specs.Lists.{IsListed};
-
-    ghost Value = { List (List ℕ) };
-
-    ghost view = { λ s. s.list.items };
-
-    ghost invariant = { λ s. IsListed 32 s.list.items };
-}
-
-impl People {
-    /// These people in their order, or None where they are none or more than 32, or one of them comes twice.
-    pub fn new(list: Vec<Initials>) -> Option<People>
-        ensures { SomeIff result (IsListed 32 list.items) list.items }
-    {
-        if list.is_empty() || list.len() > 32 || !are_people_apart(&list) {
-            return None;
-        }
-        Some(People { list })
-    }
-
-    /// The people, in their order.
-    pub fn as_slice(&self) -> &[Initials]
-        ensures value { result.now ≡ self.now }
-        ensures form { IsListed 32 self.now }
-    {
-        self.list.as_slice()
-    }
-}
-
-impl Clone for People {
-    ghost is_clone = { λ a b. b ≡ a };
-
-    fn clone(&self) -> Result<Self, AllocError> {
-        Ok(People {
-            list: self.list.clone()?,
-        })
-    }
-}
+pub type People = Listed<Initials>;
 
 /// Items in an order: 1 to 64, none of them twice.
-#[derive(Drop)]
-pub struct Items {
-    list: Vec<ItemCode>,
+pub type Items = Listed<ItemCode>;
+
+/// What a command names in a list, by its text.
+pub trait Named: Copy + PartialEq {
+    /// The text of one.
+    ghost text: { Self → List ℕ };
+
+    /// The texts of several.
+    ghost texts: { List Self → List (List ℕ) };
+
+    /// The greatest number of them in a list.
+    ghost MOST: { ℕ };
+
+    /// The greatest number of them in a list.
+    const MOST: usize;
+
+    // Several have the text of each.
+    ghost each: { (all : List Self) → texts all ≡ map text all };
+
+    // They are equal where their texts are.
+    ghost same: { (one other : Self) → Self.PartialEq.eq one other ≡ same_text (text one) (text other) };
+
+    // A clone is what it is a clone of.
+    ghost exact: { (one other : Self) → Self.Clone.is_clone one other → other ≡ one };
 }
 
-impl Model for Items {
-    ghost use Rattle.std.specs.Prelude.{List, ℕ};
+impl Named for Initials {
+    ghost text = { λ who. who };
+
+    ghost texts = { λ people. people };
+
+    ghost MOST = { 32 };
+
+    const MOST: usize = 32;
+
+    ghost each = { λ people. sym (map-id people) };
+
+    ghost same = { Prim.search rules };
+
+    ghost exact = { Prim.search rules };
+}
+
+impl Named for ItemCode {
+    ghost text = { λ item. item };
+
+    ghost texts = { λ items. items };
+
+    ghost MOST = { 64 };
+
+    const MOST: usize = 64;
+
+    ghost each = { λ items. sym (map-id items) };
+
+    ghost same = { Prim.search rules };
+
+    ghost exact = { Prim.search rules };
+}
+
+/// What a command names, in an order: at least one, at most as many as may be in a list, none of them twice.
+#[derive(Drop)]
+pub struct Listed<T: Named> {
+    list: Vec<T>,
+}
+
+impl<T: Named> Model for Listed<T> {
+    ghost use Rattle.std.specs.Prelude.{List};
     ghost use Rattle.kcr_base.specs.Lists.{IsListed};
 
-    ghost Value = { List (List ℕ) };
+    ghost Value = { List T };
 
     ghost view = { λ s. s.list.items };
 
-    ghost invariant = { λ s. IsListed 64 s.list.items };
+    ghost invariant = { λ s. IsListed T.MOST (T.texts s.list.items) };
 }
 
-impl Items {
-    /// These items in their order, or None where they are none or more than 64, or one of them comes twice.
-    pub fn new(list: Vec<ItemCode>) -> Option<Items>
-        ensures { SomeIff result (IsListed 64 list.items) list.items }
+impl<T: Named> Listed<T> {
+    /// These in their order, or None where they are none or too many, or one of them comes twice.
+    pub fn new(list: Vec<T>) -> Option<Self>
+        ensures { SomeIff result (IsListed T.MOST (T.texts list.items)) list.items }
     {
-        if list.is_empty() || list.len() > 64 || !are_items_apart(&list) {
+        if list.is_empty() || list.len() > T::MOST || !are_apart(&list) {
             return None;
         }
-        Some(Items { list })
+        Some(Listed { list })
     }
 
-    /// The items, in their order.
-    pub fn as_slice(&self) -> &[ItemCode]
+    /// Those in the list, in their order.
+    pub fn as_slice(&self) -> &[T]
         ensures value { result.now ≡ self.now }
-        ensures form { IsListed 64 self.now }
+        ensures form { IsListed T.MOST (T.texts self.now) }
     {
         self.list.as_slice()
     }
 }
 
-impl Clone for Items {
+impl<T: Named> Clone for Listed<T> {
     ghost is_clone = { λ a b. b ≡ a };
 
     fn clone(&self) -> Result<Self, AllocError> {
-        Ok(Items {
+        Ok(Listed {
             list: self.list.clone()?,
         })
     }
 }
 
-/// Whether the person is one of these people.
-pub fn is_among(people: &[Initials], who: Initials) -> bool
-    ensures { result ≡ Lists.is_among people.now who }
+/// Whether this one is among those.
+pub fn is_among<T: Named>(those: &[T], one: T) -> bool
+    ensures { result ≡ Lists.is_among (T.texts those.now) (T.text one) }
 {
-    people.iter().any(|other| who == *other)
+    those.contains(&one)
 }
 
-/// Whether each of these people comes once.
-fn are_people_apart(people: &[Initials]) -> bool
-    ensures { result ≡ are_apart people.now }
+/// Whether each of them comes once.
+fn are_apart<T: Named>(list: &[T]) -> bool
+    ensures { result ≡ Lists.are_apart (T.texts list.now) }
 {
-    for (index, who) in people.iter().enumerate() {
-        if is_among(&people[index + 1..], *who) {
-            return false;
-        }
-    }
-    true
-}
-
-/// Whether the item is one of these items.
-pub fn is_item_among(items: &[ItemCode], item: ItemCode) -> bool
-    ensures { result ≡ Lists.is_among items.now item }
-{
-    items
-        .iter()
-        .any(|other| same_text(item.as_bytes(), other.as_bytes()))
-}
-
-/// Whether each of these items comes once.
-fn are_items_apart(items: &[ItemCode]) -> bool
-    ensures { result ≡ are_apart items.now }
-{
-    for (index, item) in items.iter().enumerate() {
-        if is_item_among(&items[index + 1..], *item) {
+    for (index, one) in list.iter().enumerate() {
+        if is_among(&list[index + 1..], *one) {
             return false;
         }
     }

@@ -14,7 +14,7 @@ ghost use Rattle.kcr_tables.specs.Held.{people_place, items_place};
 ghost use Rattle.kcr_tables.specs.Frame.{Tells, TellsExactly, Reads};
 
 use crate::table::{AsCell, Finds, all_rows, rows_under};
-use kcr_base::{Initials, ItemCode, Refusal, is_among, is_item_among};
+use kcr_base::{Initials, ItemCode, Refusal, is_among};
 use kcr_custody::Item;
 use kcr_history::{InitialsList, ItemsOf, Selection};
 use kcr_people::Person;
@@ -54,7 +54,7 @@ impl FindsNamed<ItemCode> for Item {
     ghost same = { same_text };
 
     fn is_named(key: &ItemCode, among: &[ItemCode]) -> bool {
-        is_item_among(among, *key)
+        is_among(among, *key)
     }
 
     ghost one = { λ key other h. (bytes_eq-Decides key other).0 h };

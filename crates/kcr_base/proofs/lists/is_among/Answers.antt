@@ -1,0 +1,9 @@
+use Rattle.std.proofs.Common.{ap, sym, ◌∙◌}
+use Rattle.kcr_base.specs.Lists
+use Rattle.kcr_base.proofs.NamedLemmas.{among-texts}
+use Rattle.kcr_base.proofs.lists.is_among.Goals as goal
+
+pub returns : goal.returns
+returns g c =
+    c.contains.ensures.value ∙ among-texts g.T.PartialEq.eq g.T.Named.text g.met.T.Named.same c.args.one c.args.those.now
+    ∙ ap (λ all. Lists.is_among all (g.T.Named.text c.args.one)) (sym (g.T.Named.each c.args.those.now))
