@@ -142,7 +142,7 @@ abbrev pub greatest_number : List KeyRow → ℕ
 greatest_number [] = 0
 greatest_number (row ∷ rows) = max row.accepted (greatest_number rows)
 
--- the view holds the rows asked for, and the greatest number of an accepted command
+-- the view holds the rows asked for
 pub record IsViewOf (asks : Asks) (t : Tables) (view : View) : Type 0 where
   pub people : Shows is_of_people asks.people t.people view.people.items
   pub trainings : Shows is_training_of asks.trainings t.trainings view.trainings.items
@@ -157,4 +157,3 @@ pub record IsViewOf (asks : Asks) (t : Tables) (view : View) : Type 0 where
   pub steps : Shows is_step_of asks.steps t.steps view.steps.items
   pub exceptions : Shows is_exception_of asks.exceptions t.exceptions view.exceptions.items
   pub stays : ShowsStays asks.stays t.stays view.stays.items
-  pub accepted : view.accepted ≡ greatest_number t.keys

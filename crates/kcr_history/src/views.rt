@@ -7,8 +7,7 @@ use kcr_custody::{Bag, BoxRow, Item, SafeRow};
 use kcr_people::{Appointment, Person, Training, Withdrawal};
 use kcr_room::{SheetRow, Stay};
 
-/// Rows that a decision reads, one list for each table, each in any order; and how many commands were accepted, as the
-/// number of the last one, 0 where there is none.
+/// Rows that a decision reads, one list for each table, each in any order.
 #[derive(Drop)]
 pub struct View {
     pub people: Vec<Person>,
@@ -24,7 +23,6 @@ pub struct View {
     pub steps: Vec<StepRow>,
     pub stays: Vec<Stay>,
     pub exceptions: Vec<ExceptionRow>,
-    pub accepted: u32,
 }
 
 /// All rows of the register's tables, one list for each table, each in any order.

@@ -17,7 +17,7 @@ use Rattle.kcr_history.specs.Texts.{command_text}
 use Rattle.kcr_history.specs.Seating.{IsFirst, IsLeast}
 use Rattle.kcr_history.specs.Tables.{keys, key_row, tables, SameTables, people}
 use Rattle.kcr_history.specs.declared.rows.KeyRow.{KeyRow}
-use Rattle.kcr_history.specs.Views.{row_of_key, IsViewOf}
+use Rattle.kcr_history.specs.Views.{row_of_key, greatest_number, IsViewOf}
 use Rattle.kcr_history.specs.Asked.{asks_by, asks_of}
 use Rattle.kcr_history.specs.Conditions.{fault, is_full, conditions}
 use Rattle.kcr_history.specs.Machine.{Accepts, Refuses, Sitting, sitting, answer_to, with_command, accepts, seats, acts, IsRegister, IsAcceptance}
@@ -64,9 +64,9 @@ fault-shown A h (TurnSafe c safe state by at) view v = turn-fault A h c safe sta
 fault-shown A h (Sign ceremony step at) view v = sign-fault A h ceremony step at view v
 fault-shown A h (Except ceremony text pass at) view v = except-fault A h ceremony text pass at view v
 
-full-shown : (A : History) (x : Command) (view : View) → IsRegister A → IsViewOf (asks_of x) (tables A) view
-    → refusal_by view (is_full_by view) x.act ≡ refusal_by view (is_full A) x.act
-full-shown A x view h v = ap (λ n. refusal_by view (nat_le 4000000000 n) x.act) (v.accepted ∙ greatest-keys A h)
+full-shown : (A : History) (x : Command) (view : View) (last : ℕ) → last ≡ length A
+    → refusal_by view (is_full_by last) x.act ≡ refusal_by view (is_full A) x.act
+full-shown A x view last e = ap (λ n. refusal_by view (nat_le 4000000000 n) x.act) e
 
 -- SEATS
 
@@ -97,24 +97,14 @@ not_overdone-shown A h act view v = refl
 
 -- ANSWERS
 
-number-shown : (A : History) (act : Act) (view : View) → IsRegister A → IsViewOf (asks_by act) (tables A) view
-    → view.accepted ≡ length A
-number-shown A act view h v = v.accepted ∙ greatest-keys A h
-
 -- the answer by the rows is the one by the history
-answer-shown : (A : History) → IsRegister A → (act : Act) (view : View) → IsViewOf (asks_by act) (tables A) view
-    → (people : Option (List (List ℕ))) → IsSeatedFor view (sitting_by view act) people → answer_by view act people ≡ answer_to A act people
-answer-shown A h (Sign c k at) view v people g = rw (number-shown A (Sign c k at) view h v) refl
-answer-shown A h (Except c text true at) view v people g =
-    rw (
-      number-shown A (Except c text true at) view h v,
-      stated-shown A h c view.exceptions.items v.exceptions,
-      done-shown A h c view.steps.items v.steps,
-    )
-    refl
-answer-shown A h (Except c text false at) view v people g =
-    rw (number-shown A (Except c text false at) view h v, stated-shown A h c view.exceptions.items v.exceptions, g) refl
-answer-shown A h act view v people g = rw (number-shown A act view h v, g) refl
+answer-shown : (A : History) → IsRegister A → (act : Act) (view : View) → IsViewOf (asks_by act) (tables A) view → (last : ℕ) → last ≡ length A
+    → (people : Option (List (List ℕ))) → IsSeatedFor view (sitting_by view act) people → answer_by view last act people ≡ answer_to A act people
+answer-shown A h (Sign c k at) view v last e people g = rw e refl
+answer-shown A h (Except c text true at) view v last e people g =
+    rw (e, stated-shown A h c view.exceptions.items v.exceptions, done-shown A h c view.steps.items v.steps) refl
+answer-shown A h (Except c text false at) view v last e people g = rw (e, stated-shown A h c view.exceptions.items v.exceptions, g) refl
+answer-shown A h act view v last e people g = rw (e, g) refl
 
 -- CHANGES
 
@@ -169,12 +159,13 @@ module _ (A : History) (x : Command) (view : View) (answer : Answer) where
   by_sitting None g first e = let n = e ∙ ap (answer_to A x.act) g in (ap Accepts n, ap (with_command A x) n)
   by_sitting (Some s) g first e = by_people s answer.seating g (λ ps q. first s ps refl q) e
 
-accepted : (A : History) (x : Command) (view : View) (verdict : Verdict) (answer : Answer) → IsRegister A → IsViewOf (asks_of x) (tables A) view
-    → entry_of A x.key ≡ None → AcceptsNew view x verdict answer → IsAcceptance A x verdict answer
-accepted A x view verdict answer h v k g =
-    let none : refusal_by view (is_full A) x.act ≡ None = sym (full-shown A x view h v) ∙ g.fine in
+accepted : (A : History) (x : Command) (view : View) (last : ℕ) (verdict : Verdict) (answer : Answer) → IsRegister A
+    → IsViewOf (asks_of x) (tables A) view → last ≡ length A
+    → entry_of A x.key ≡ None → AcceptsNew view last x verdict answer → IsAcceptance A x verdict answer
+accepted A x view last verdict answer h v e k g =
+    let none : refusal_by view (is_full A) x.act ≡ None = sym (full-shown A x view last e) ∙ g.fine in
     let fine : fault A x.act ≡ None = sym (fault-shown A h x.act view v) ∙ none in
-    let next : answer ≡ answer_to A x.act answer.seating = g.next ∙ answer-shown A h x.act view v answer.seating g.seated in
+    let next : answer ≡ answer_to A x.act answer.seating = g.next ∙ answer-shown A h x.act view v last e answer.seating g.seated in
     let seated : IsSeatedFor view (sitting A x.act) answer.seating = subst (λ o. IsSeatedFor view o answer.seating)
     (sitting-shown A h x.act view v none) g.seated in
     let step = by_sitting A x view answer (sitting A x.act) seated (λ s ps e. seated-first A h view s (sitting-is A h x.act view v s e) ps) next in
@@ -245,16 +236,18 @@ repetition A x row (Err refusal) there g = λ ne.
 
 -- A NEW KEY
 
--- a decision by the rows of a view is a step of the machine
-pub decision : (A : History) (x : Command) (view : View) (result : Result Verdict Refusal) → IsRegister A → row_of_key x.key (keys A) ≡ None
-    → IsViewOf (asks_of x) (tables A) view → IsRowDecision view x result → IsDecision A x result
-decision A x view (Ok verdict) h new v g = by_answer verdict.answer g
+-- a decision by the rows of a view and the number of the last command is a step of the machine
+pub decision : (A : History) (x : Command) (view : View) (last : ℕ) (result : Result Verdict Refusal) → IsRegister A
+    → row_of_key x.key (keys A) ≡ None → IsViewOf (asks_of x) (tables A) view → last ≡ greatest_number (keys A)
+    → IsRowDecision view last x result → IsDecision A x result
+decision A x view last (Ok verdict) h new v e g = by_answer verdict.answer g
   where
-    by_answer : (o : Option Answer) → MatchOption o ⊥ (AcceptsNew view x verdict)
+    by_answer : (o : Option Answer) → MatchOption o ⊥ (AcceptsNew view last x verdict)
         → MatchOption o ((kept : Entry) × IsRepeat A x verdict kept) (IsAcceptance A x verdict)
     by_answer None none = absurd none
-    by_answer (Some answer) a = accepted A x view verdict answer h v (no_entry A x.key new) a
-decision A x view (Err refusal) h new v g = λ ne.
+    by_answer (Some answer) a = accepted A x view last verdict answer h v (e ∙ greatest-keys A h) (no_entry A x.key new) a
+decision A x view last (Err refusal) h new v e g = λ ne.
     let shown = (g ne).first (not_overdone-shown A h x.act view v) in
     rw (no_entry A x.key new)
-    (refused_new A h x view refusal ne v (fault-shown A h x.act view v) (refusal_by view (is_full A) x.act) refl (rw (full-shown A x view h v) at shown))
+    (refused_new A h x view refusal ne v (fault-shown A h x.act view v) (refusal_by view (is_full A) x.act) refl
+    (rw (full-shown A x view last (e ∙ greatest-keys A h)) at shown))

@@ -3,7 +3,7 @@ ghost use Rattle.std.specs.Prelude.{◌≡◌, Some, None};
 ghost use Rattle.kcr_history.specs.History.{History};
 ghost use Rattle.kcr_history.specs.Asked.{asks_of};
 ghost use Rattle.kcr_history.specs.Tables.{tables};
-ghost use Rattle.kcr_history.specs.Views.{IsViewOf, row_of_key};
+ghost use Rattle.kcr_history.specs.Views.{IsViewOf, greatest_number, row_of_key};
 ghost use Rattle.kcr_history.specs.Machine.{IsRegister, IsDecision};
 ghost use Rattle.kcr_machine.specs.RowDecision.{IsRowDecision, IsRowRepeat};
 
@@ -46,11 +46,16 @@ pub fn repeat(alloc: Global, row: &KeyRow, command: &Command) -> Result<Verdict,
     repeat_by_row(alloc, row, command)
 }
 
-/// The decision of a command whose key is new, by the rows.
-fn decide_by_rows(alloc: Global, view: &View, command: &Command) -> Result<Verdict, Refusal>
-    ensures { IsRowDecision view.now command.now result }
+/// The decision of a command whose key is new, by the rows and the number of the last command.
+fn decide_by_rows(
+    alloc: Global,
+    view: &View,
+    accepted: u32,
+    command: &Command,
+) -> Result<Verdict, Refusal>
+    ensures { IsRowDecision view.now accepted command.now result }
 {
-    let full = MOST_COMMANDS <= view.accepted;
+    let full = MOST_COMMANDS <= accepted;
     let acted = perform(alloc, view, full, &command.act)?;
     let Acted {
         mut changes,
@@ -60,7 +65,7 @@ fn decide_by_rows(alloc: Global, view: &View, command: &Command) -> Result<Verdi
     } = acted;
     let answer = Answer {
         // A full register accepts no act, so there is a next number.
-        accepted: view.accepted + 1,
+        accepted: accepted + 1,
         exception,
         seating,
         step,
@@ -79,18 +84,24 @@ fn decide_by_rows(alloc: Global, view: &View, command: &Command) -> Result<Verdi
     })
 }
 
-/// Decides a command whose key is new over the rows that it asks for.
+/// Decides a command whose key is new over the rows that it asks for and `accepted`, the number of the last command.
 ///
 /// For every history A that the machine leads to, and in whose tables the key has no row: where the view holds the rows
-/// of the tables of A that the command asks for, in any order, and the number of its last command, the result is the
-/// machine's step from A, and the changes lead from the tables of A to those after it, up to the order of rows. The
-/// act's own refusals come in the order of their numbers, and 27 where 4,000,000,000 commands have been accepted. Out
-/// of memory (33) may be answered in place of all of these; it changes nothing. Over any other view there is some
-/// answer. A signature and an exception that passes a step record the first seating of the people in the room, or else
-/// are refused (32) with a least shortage.
-pub fn decide(alloc: Global, view: &View, command: &Command) -> Result<Verdict, Refusal>
+/// of the tables of A that the command asks for, in any order, and `accepted` is the number of the last command of A, 0
+/// where there is none, the result is the machine's step from A, and the changes lead from the tables of A to those
+/// after it, up to the order of rows. The act's own refusals come in the order of their numbers, and 27 where
+/// 4,000,000,000 commands have been accepted. Out of memory (33) may be answered in place of all of these; it changes
+/// nothing. Over any other view and number there is some answer. A signature and an exception that passes a step record
+/// the first seating of the people in the room, or else are refused (32) with a least shortage.
+pub fn decide(
+    alloc: Global,
+    view: &View,
+    accepted: u32,
+    command: &Command,
+) -> Result<Verdict, Refusal>
     ensures { (A : History) → IsRegister A → row_of_key command.now.key (tables A).keys ≡ None
-        → IsViewOf (asks_of command.now) (tables A) view.now → IsDecision A command.now result }
+        → IsViewOf (asks_of command.now) (tables A) view.now → accepted ≡ greatest_number (tables A).keys
+        → IsDecision A command.now result }
 {
-    decide_by_rows(alloc, view, command)
+    decide_by_rows(alloc, view, accepted, command)
 }

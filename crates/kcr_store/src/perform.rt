@@ -60,8 +60,8 @@ fn decision_of<S: Alter>(
         Some(row) => repeat(alloc, row, command),
         None => {
             let asked = asks(alloc, command)?;
-            let view = view_of(alloc, tx, &asked, count)?;
-            decide(alloc, &view, command)
+            let view = view_of(alloc, tx, &asked)?;
+            decide(alloc, &view, count, command)
         }
     }
 }

@@ -5,7 +5,7 @@ ghost use Rattle.sqlite.specs.Held.{state};
 ghost use Rattle.sqlite.specs.State.{HasCleanDisk};
 ghost use Rattle.kcr_history.specs.Views.{IsViewOf, Shows, ShowsStays, is_of_people, is_training_of, is_withdrawal_of};
 ghost use Rattle.kcr_history.specs.Views.{ShowsAppointments, is_of_serial, is_item_of, is_of_number, is_mark_of};
-ghost use Rattle.kcr_history.specs.Views.{is_step_of, is_exception_of, greatest_number};
+ghost use Rattle.kcr_history.specs.Views.{is_step_of, is_exception_of};
 ghost use Rattle.kcr_history.specs.Tables as machine;
 ghost use Rattle.kcr_tables.specs.Asked.{asked_of, asked_all};
 ghost use Rattle.kcr_tables.specs.Exact.{StaffIsShown, CustodyIsShown, CeremoniesAreShown, NoneIsStrange};
@@ -151,19 +151,17 @@ fn ceremony_rows<S: Alter>(
     })
 }
 
-/// The rows asked for, of each table, and beside them the number of the last accepted command, which the caller gives.
-/// Of a table that is not asked for nothing is read. Nothing is changed. The error is `Memory` when out of memory, and
-/// else `Disk`: the device failed, or a row asked for is one that no register stores.
+/// The rows asked for, of each table. Of a table that is not asked for nothing is read. Nothing is changed. The error
+/// is `Memory` when out of memory, and else `Disk`: the device failed, or a row asked for is one that no register
+/// stores.
 pub fn view_of<S: Alter>(
     alloc: Global,
     tx: &mut Transaction<'_, S>,
     asks: &Asks,
-    accepted: u32,
 ) -> Result<View, Refusal>
     ensures same_reference { tx.new.conn.ghost_name ≡ tx.old.conn.ghost_name }
     ensures view { HasCleanDisk (state S.Store tx.new.conn.now) → (m : machine.Tables)
-        → HoldsTables m (state S.Store tx.old.conn.now).now → accepted ≡ greatest_number m.keys
-        → IfOk result (IsViewOf asks.now m) }
+        → HoldsTables m (state S.Store tx.old.conn.now).now → IfOk result (IsViewOf asks.now m) }
     ensures exact { TellsExactly (state S.Store tx.old.conn.now) (state S.Store tx.new.conn.now) result
         (λ db view. NoneIsStrange asks.now view db) }
     ensures frame { Reads (state S.Store tx.old.conn.now) (state S.Store tx.new.conn.now) result }
@@ -185,6 +183,5 @@ pub fn view_of<S: Alter>(
         steps: ceremony.steps,
         stays: ceremony.stays,
         exceptions: ceremony.exceptions,
-        accepted,
     })
 }

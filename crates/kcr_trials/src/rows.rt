@@ -77,7 +77,7 @@ fn is_refused<T>(read: &Result<T, Refusal>) -> bool {
 fn has_fault<S: Alter>(alloc: Global, tx: &mut Transaction<'_, S>, asks: &Asks) -> bool
     ensures same_reference { tx.new.conn.ghost_name ≡ tx.old.conn.ghost_name }
 {
-    is_refused(&view_of(alloc, tx, asks, 0))
+    is_refused(&view_of(alloc, tx, asks))
         | is_refused(&all_rows::<_, SeatingRow>(alloc, tx))
         | is_refused(&all_rows::<_, SheetRow>(alloc, tx))
         | is_refused(&all_rows::<_, KeyRow>(alloc, tx))

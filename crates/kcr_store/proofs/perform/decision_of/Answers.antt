@@ -64,8 +64,9 @@ returns g c =
     let none = sym (row_under (tables A) _ held c.args.command.now.key c.in_ok-kept.kept.items rows)
     ∙ ap (λ (l : List KeyRow). slice_get l 0) (sym c.deref.ensures.value) ∙ sym c.in-None.ensures.value in
     let held1 = kept.frame.tables before (tables A) held in
-    let view = seen.view clean (tables A) held1 (number ∙ sym (greatest-keys A was.tables.register)) in
-    (c.decide.ensures A was.tables.register none (rw c.in_ok-asked-in-None.ensures at view), seen.frame.tables clean (tables A) held1) in
+    let view = seen.view clean (tables A) held1 in
+    let last = number ∙ sym (greatest-keys A was.tables.register) in
+    (c.decide.ensures A was.tables.register none (rw c.in_ok-asked-in-None.ensures at view) last, seen.frame.tables clean (tables A) held1) in
     record {
       same_reference = search rules;
       decided = decided old new c.args.count c.args.command.now c.decide.result decision;

@@ -34,7 +34,7 @@ returns g c =
     let clean2 : HasCleanDisk s3 → HasCleanDisk s2 = λ clean. was_clean s2 s3 _ c.in_ok-ceremony.ensures.frame.within.survives clean in
     let clean1 : HasCleanDisk s3 → HasCleanDisk s1 = λ clean. was_clean s1 s2 _ c.in_ok-custody.ensures.frame.within.survives (clean2 clean) in record {
       same_reference = search rules;
-      view = λ clean m h number.
+      view = λ clean m h.
           let t = h.tables.t in
           let asks = c.args.asks.now in
           let s = h.tables.stands in
@@ -57,7 +57,6 @@ returns g c =
             steps = asked_shows is_step_of asks.steps m.steps t.steps _ s.steps (ceremony.steps clean t held3);
             exceptions = asked_shows is_exception_of asks.exceptions m.exceptions t.exceptions _ s.exceptions (ceremony.exceptions clean t held3);
             stays = stays_shown asks.stays m.stays t.stays _ (apart_of t.stays h.tables.kept.stays.rising) s.stays (ceremony.stays clean t held3);
-            accepted = number;
           };
       exact = λ clean has.
           let asks = c.args.asks.now in record {
