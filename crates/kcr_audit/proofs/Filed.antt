@@ -235,4 +235,4 @@ module _ (A : History) (h : IsRegister A) (view : WholeView) (same : SameTables 
   -- no step of a register is ill seated
   pub no-seating : (c s : ℕ) → IsTrueOf view (Findings.Seating c s) → ⊥
   no-seating c s t = true≢false
-      (sym t ∙ sym (list_any-IsPermutation (is_ill_seated view c s) (steps A) view.steps.items same.steps) ∙ none-of-steps c s (step_keys A))
+      (sym t ∙ sym (list_any-IsPermutation (is_ill_seated view c s) (steps A) view.asked.steps.items same.steps) ∙ none-of-steps c s (step_keys A))

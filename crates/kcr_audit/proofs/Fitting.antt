@@ -39,27 +39,27 @@ use Rattle.kcr_audit.proofs.Alike.{shown-in}
 use Rattle.kcr_laws.proofs.Staffed.{fits-all}
 
 -- the row of a planned ceremony
-pub ceremony-found : (A : History) (view : WholeView) → IsPermutation (ceremonies A) view.ceremonies.items → (c : ℕ) → is_ceremony A c ≡ true
+pub ceremony-found : (A : History) (view : WholeView) → IsPermutation (ceremonies A) view.asked.ceremonies.items → (c : ℕ) → is_ceremony A c ≡ true
     → ceremony_in view c ≡ Some (ceremony_row A c)
 ceremony-found A view p c k =
     let numbers = all_said planned_number A in
     let own = all-keys (λ row. row.number == c) (ceremony_row A) (ceremony_row A c) (λ n e. ap (ceremony_row A) (eqb-true n c e)) numbers in
-    find-only (λ row. row.number == c) (ceremony_row A c) view.ceremonies.items
-    (only-order (λ row. row.number == c) (ceremony_row A c) (ceremonies A) view.ceremonies.items p own)
-    (sym (list_any-IsPermutation (λ row. row.number == c) (ceremonies A) view.ceremonies.items p) ∙ any-map (λ row. row.number == c) (ceremony_row A) numbers
-    ∙ planned-number A c ∙ k)
+    find-only (λ row. row.number == c) (ceremony_row A c) view.asked.ceremonies.items
+    (only-order (λ row. row.number == c) (ceremony_row A c) (ceremonies A) view.asked.ceremonies.items p own)
+    (sym (list_any-IsPermutation (λ row. row.number == c) (ceremonies A) view.asked.ceremonies.items p)
+    ∙ any-map (λ row. row.number == c) (ceremony_row A) numbers ∙ planned-number A c ∙ k)
 
 -- SEATS
 
 module _ (A : History) (h : IsRegister A) (view : WholeView) (same : SameTables (tables A) (tables_of view)) where
   fits-same : (facility : Facility) (day : ℕ) (seat : Seat) (who : List ℕ)
-      → fits_by view.trainings.items view.withdrawals.items view.appointments.items facility day seat who ≡ fits A facility day seat who
+      → fits_by view.asked.trainings.items view.asked.withdrawals.items view.asked.appointments.items facility day seat who ≡ fits A facility day seat who
   fits-same =
-      fits-all A h view.trainings.items view.withdrawals.items view.appointments.items same.trainings same.withdrawals same.appointments
+      fits-all A h view.asked.trainings.items view.asked.withdrawals.items view.asked.appointments.items same.trainings same.withdrawals same.appointments
 
   eligible-same : (c t : ℕ) (seat : Seat) (who : List ℕ) → eligible_by view (ceremony_row A c) t seat who ≡ eligible A c t seat who
   eligible-same c t seat who =
-      ap (λ b. b && fits_by view.trainings.items view.withdrawals.items view.appointments.items (facility_of A c) (day_of t) seat who)
+      ap (λ b. b && fits_by view.asked.trainings.items view.asked.withdrawals.items view.asked.appointments.items (facility_of A c) (day_of t) seat who)
       (sym (shown-in A h view.sheet.items same.sheet who c t))
       ∙ ap (λ b. is_in A who c t && b) (fits-same (facility_of A c) (day_of t) seat who)
 

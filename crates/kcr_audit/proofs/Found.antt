@@ -80,14 +80,14 @@ step-is_ill : (view : WholeView) (row : StepRow) → is_step_wrong view row ≡ 
 step-is_ill view row h = rw (eq-eqb row.ceremony row.ceremony refl, eq-eqb row.step row.step refl) h
 
 pub steps : (view : WholeView) (found : Option Finding)
-    → found ≡ option_map (λ row. Findings.Seating row.ceremony row.step) (find (is_step_wrong view) view.steps.items) → IsSought view 0 found
+    → found ≡ option_map (λ row. Findings.Seating row.ceremony row.step) (find (is_step_wrong view) view.asked.steps.items) → IsSought view 0 found
 steps view found e =
-    sought view 0 (is_step_wrong view) (λ row. Findings.Seating row.ceremony row.step) view.steps.items found (λ row. refl)
+    sought view 0 (is_step_wrong view) (λ row. Findings.Seating row.ceremony row.step) view.asked.steps.items found (λ row. refl)
     (λ row f. f.any (is_ill_seated view row.ceremony row.step) (step-is_ill view row f.passes)) by_kind e
   where
-    by_kind : (finding : Finding) → rank finding ≡ 0 → IsTrueOf view finding → list_any (is_step_wrong view) view.steps.items ≡ true
+    by_kind : (finding : Finding) → rank finding ≡ 0 → IsTrueOf view finding → list_any (is_step_wrong view) view.asked.steps.items ≡ true
     by_kind (Findings.Seating c s) r t =
-        any-more (is_ill_seated view c s) (is_step_wrong view) view.steps.items
+        any-more (is_ill_seated view c s) (is_step_wrong view) view.asked.steps.items
         (λ row h. (let p = and_parts (row.ceremony == c && row.step == s && is_done row.state)
         (not (is_well_seated view row (ceremony_in view row.ceremony) row.at)) h in
         and_from (is_done row.state) (not (is_well_seated view row (ceremony_in view row.ceremony) row.at))
@@ -95,19 +95,20 @@ steps view found e =
     by_kind other r t = absurd (omega (arith, r))
 
 pub items : (view : WholeView) (found : Option Finding)
-    → found ≡ option_map (λ row. Findings.Custody row.code) (find (λ row. is_item_wrong view row.code) view.items.items) → IsSought view 1 found
+    → found ≡ option_map (λ row. Findings.Custody row.code) (find (λ row. is_item_wrong view row.code) view.asked.items.items) → IsSought view 1 found
 items view found e =
-    sought view 1 (λ row. is_item_wrong view row.code) (λ row. Findings.Custody row.code) view.items.items found (λ row. refl) (λ row f. f.passes) by_kind e
+    sought view 1 (λ row. is_item_wrong view row.code) (λ row. Findings.Custody row.code) view.asked.items.items found (λ row. refl) (λ row f. f.passes)
+    by_kind e
   where
-    by_kind : (finding : Finding) → rank finding ≡ 1 → IsTrueOf view finding → list_any (λ row. is_item_wrong view row.code) view.items.items ≡ true
-    by_kind (Findings.Custody item) r t = text-any (λ row. row.code) (λ row. is_lost view row.rest) (is_item_wrong view) item view.items.items t t
+    by_kind : (finding : Finding) → rank finding ≡ 1 → IsTrueOf view finding → list_any (λ row. is_item_wrong view row.code) view.asked.items.items ≡ true
+    by_kind (Findings.Custody item) r t = text-any (λ row. row.code) (λ row. is_lost view row.rest) (is_item_wrong view) item view.asked.items.items t t
     by_kind other r t = absurd (omega (arith, r))
 
 pub bags : (view : WholeView) (found : Option Finding)
-    → found ≡ option_map (λ row. Findings.Bag row.serial) (find (λ row. is_bag_wrong view row.serial) view.bags.items) → IsSought view 2 found
+    → found ≡ option_map (λ row. Findings.Bag row.serial) (find (λ row. is_bag_wrong view row.serial) view.asked.bags.items) → IsSought view 2 found
 bags view found e =
-    sought view 2 (λ row. is_bag_wrong view row.serial) (λ row. Findings.Bag row.serial) view.bags.items found (λ row. refl) (λ row f. f.passes) by_kind e
+    sought view 2 (λ row. is_bag_wrong view row.serial) (λ row. Findings.Bag row.serial) view.asked.bags.items found (λ row. refl) (λ row f. f.passes) by_kind e
   where
-    by_kind : (finding : Finding) → rank finding ≡ 2 → IsTrueOf view finding → list_any (λ row. is_bag_wrong view row.serial) view.bags.items ≡ true
-    by_kind (Findings.Bag serial) r t = text-any (λ row. row.serial) (λ row. is_unboxed view row.spot) (is_bag_wrong view) serial view.bags.items t t
+    by_kind : (finding : Finding) → rank finding ≡ 2 → IsTrueOf view finding → list_any (λ row. is_bag_wrong view row.serial) view.asked.bags.items ≡ true
+    by_kind (Findings.Bag serial) r t = text-any (λ row. row.serial) (λ row. is_unboxed view row.spot) (is_bag_wrong view) serial view.asked.bags.items t t
     by_kind other r t = absurd (omega (arith, r))

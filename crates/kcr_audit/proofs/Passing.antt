@@ -111,7 +111,7 @@ holding (Some s) h = (refl, h)
 module _ (A : History) (h : IsRegister A) (view : WholeView) (same : SameTables (tables A) (tables_of view)) where
   -- a bag of the register is in a box that is there
   boxed-bag : (o : Option Spot) → has_its_box A o ≡ true → is_unboxed view (unwrap_or o Spent) ≡ false
-  boxed-bag (Some (InBox f n)) e = ap not (sym (list_any-IsPermutation (is_box f n) (boxes A) view.boxes.items same.boxes) ∙ box-there A f n ∙ e)
+  boxed-bag (Some (InBox f n)) e = ap not (sym (list_any-IsPermutation (is_box f n) (boxes A) view.asked.boxes.items same.boxes) ∙ box-there A f n ∙ e)
   boxed-bag other e = refl
 
   -- a bag of the register that is not spent is there
@@ -119,7 +119,7 @@ module _ (A : History) (h : IsRegister A) (view : WholeView) (same : SameTables 
   bag-there serial e =
       let held = holding (spot A serial) e in
       let there = and_from (same_text serial serial) (holds_items (Some (unwrap_or (spot A serial) Spent))) (same-itself serial) held.1 in
-      sym (list_any-IsPermutation is_there (bags A) view.bags.items same.bags)
+      sym (list_any-IsPermutation is_there (bags A) view.asked.bags.items same.bags)
       ∙ one-made is_there (bag_row A) serial (all_said sealed_serial A) (sealed_somewhere A h serial ∙ held.0) there
     where
       is_there : Bag → Bool
@@ -132,10 +132,10 @@ module _ (A : History) (h : IsRegister A) (view : WholeView) (same : SameTables 
   pub passing : (finding : Finding) → IsTrueOf view finding → ⊥
   passing (Findings.Seating c s) t = no-seating A h view same c s t
   passing (Findings.Custody item) t =
-      none-wrong (λ row. row.code) (item_row A) (λ row. is_lost view row.rest) (all_said added_item A) view.items.items (λ i. refl)
+      none-wrong (λ row. row.code) (item_row A) (λ row. is_lost view row.rest) (all_said added_item A) view.asked.items.items (λ i. refl)
       (balanced A h).added_once same.items (λ i m. kept-item (rest A i) (((balanced A h).added_kept i).0 m)) item t
   passing (Findings.Bag serial) t =
-      none-wrong (λ row. row.serial) (bag_row A) (λ row. is_unboxed view row.spot) (all_said sealed_serial A) view.bags.items (λ s. refl)
+      none-wrong (λ row. row.serial) (bag_row A) (λ row. is_unboxed view row.spot) (all_said sealed_serial A) view.asked.bags.items (λ s. refl)
       (balanced A h).sealed_once same.bags (λ s m. boxed-bag (spot A s) ((balanced A h).boxed s)) serial t
   passing (Findings.Key key) t =
       not-doubled (λ row. row.key) key (keys A) view.keys.items (ap all_differ (map-map (λ (row : KeyRow). row.key) key_row A) ∙ once A h) same.keys t

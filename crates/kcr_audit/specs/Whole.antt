@@ -6,20 +6,20 @@ use Rattle.kcr_history.specs.Tables.{Tables}
 abbrev pub tables_of : WholeView → Tables
 tables_of view =
     record {
-      people = view.people.items;
-      trainings = view.trainings.items;
-      withdrawals = view.withdrawals.items;
-      appointments = view.appointments.items;
-      boxes = view.boxes.items;
-      safes = view.safes.items;
-      bags = view.bags.items;
-      items = view.items.items;
-      ceremonies = view.ceremonies.items;
-      marks = view.marks.items;
-      steps = view.steps.items;
+      people = view.asked.people.items;
+      trainings = view.asked.trainings.items;
+      withdrawals = view.asked.withdrawals.items;
+      appointments = view.asked.appointments.items;
+      boxes = view.asked.boxes.items;
+      safes = view.asked.safes.items;
+      bags = view.asked.bags.items;
+      items = view.asked.items.items;
+      ceremonies = view.asked.ceremonies.items;
+      marks = view.asked.marks.items;
+      steps = view.asked.steps.items;
       seatings = view.seatings.items;
       sheet = view.sheet.items;
-      stays = view.stays.items;
-      exceptions = view.exceptions.items;
+      stays = view.asked.stays.items;
+      exceptions = view.asked.exceptions.items;
       keys = view.keys.items;
     }

@@ -40,16 +40,17 @@ IsRepeated rows (Some key) = is_key_doubled rows key ≡ true
 
 -- the item is lost by one of its rows
 abbrev pub is_item_lost : WholeView → List ℕ → Bool
-is_item_lost view item = list_any (λ row. same_text row.code item && is_lost view row.rest) view.items.items
+is_item_lost view item = list_any (λ row. same_text row.code item && is_lost view row.rest) view.asked.items.items
 
 -- the item stands in more than one row, or is lost by one
 abbrev pub is_item_wrong : WholeView → List ℕ → Bool
-is_item_wrong view item = is_item_doubled view.items.items item || is_item_lost view item
+is_item_wrong view item = is_item_doubled view.asked.items.items item || is_item_lost view item
 
 -- by one of its rows the bag is in a box that is not there
 abbrev pub is_bag_boxless : WholeView → List ℕ → Bool
-is_bag_boxless view serial = list_any (λ row. same_text row.serial serial && is_unboxed view row.spot) view.bags.items
+is_bag_boxless view serial =
+    list_any (λ row. same_text row.serial serial && is_unboxed view row.spot) view.asked.bags.items
 
 -- the serial stands in more than one row, or by one is in a box that is not there
 abbrev pub is_bag_wrong : WholeView → List ℕ → Bool
-is_bag_wrong view serial = is_bag_doubled view.bags.items serial || is_bag_boxless view serial
+is_bag_wrong view serial = is_bag_doubled view.asked.bags.items serial || is_bag_boxless view serial

@@ -26,7 +26,8 @@ fn holds_items(spot: Spot) -> bool
 fn is_bag_there(view: &WholeView, serial: Serial) -> bool
     ensures { result ≡ Audit.is_bag_there view.now serial }
 {
-    view.bags
+    view.asked
+        .bags
         .iter()
         .any(|bag| bag.serial == serial && holds_items(bag.spot))
 }
@@ -52,7 +53,8 @@ fn is_item_doubled(rows: &[Item], code: ItemCode) -> bool
 fn is_item_lost(view: &WholeView, code: ItemCode) -> bool
     ensures { result ≡ Wrongs.is_item_lost view.now code }
 {
-    view.items
+    view.asked
+        .items
         .iter()
         .any(|row| row.code == code && is_lost(view, row.rest))
 }
@@ -61,15 +63,16 @@ fn is_item_lost(view: &WholeView, code: ItemCode) -> bool
 fn is_item_wrong(view: &WholeView, code: ItemCode) -> bool
     ensures { result ≡ Wrongs.is_item_wrong view.now code }
 {
-    is_item_doubled(&view.items, code) || is_item_lost(view, code)
+    is_item_doubled(&view.asked.items, code) || is_item_lost(view, code)
 }
 
 /// The first row whose item stands in another one too, or is lost.
 fn first_lost(view: &WholeView) -> Option<Finding>
     ensures { result ≡ option_map (λ row. Findings.Custody row.code)
-        (find (λ row. Wrongs.is_item_wrong view.now row.code) view.now.items.items) }
+        (find (λ row. Wrongs.is_item_wrong view.now row.code) view.now.asked.items.items) }
 {
-    view.items
+    view.asked
+        .items
         .iter()
         .find(|row| is_item_wrong(view, row.code))
         .map(|row| Finding::Custody(row.code))
@@ -102,7 +105,7 @@ fn is_unboxed(view: &WholeView, spot: Spot) -> bool
     ensures { result ≡ Audit.is_unboxed view.now spot }
 {
     match spot {
-        Spot::InBox(facility, number) => !has_box(&view.boxes, facility, number),
+        Spot::InBox(facility, number) => !has_box(&view.asked.boxes, facility, number),
         Spot::Table(_) | Spot::Equipment(_) | Spot::Spent => false,
     }
 }
@@ -118,7 +121,8 @@ fn is_bag_doubled(rows: &[Bag], serial: Serial) -> bool
 fn is_bag_boxless(view: &WholeView, serial: Serial) -> bool
     ensures { result ≡ Wrongs.is_bag_boxless view.now serial }
 {
-    view.bags
+    view.asked
+        .bags
         .iter()
         .any(|row| row.serial == serial && is_unboxed(view, row.spot))
 }
@@ -127,15 +131,16 @@ fn is_bag_boxless(view: &WholeView, serial: Serial) -> bool
 fn is_bag_wrong(view: &WholeView, serial: Serial) -> bool
     ensures { result ≡ Wrongs.is_bag_wrong view.now serial }
 {
-    is_bag_doubled(&view.bags, serial) || is_bag_boxless(view, serial)
+    is_bag_doubled(&view.asked.bags, serial) || is_bag_boxless(view, serial)
 }
 
 /// The first row whose serial stands in another one too, or whose box is not there.
 fn first_boxless(view: &WholeView) -> Option<Finding>
     ensures { result ≡ option_map (λ row. Findings.Bag row.serial)
-        (find (λ row. Wrongs.is_bag_wrong view.now row.serial) view.now.bags.items) }
+        (find (λ row. Wrongs.is_bag_wrong view.now row.serial) view.now.asked.bags.items) }
 {
-    view.bags
+    view.asked
+        .bags
         .iter()
         .find(|row| is_bag_wrong(view, row.serial))
         .map(|row| Finding::Bag(row.serial))

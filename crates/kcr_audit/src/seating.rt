@@ -73,9 +73,9 @@ fn is_eligible(
 {
     is_in(&view.sheet, who, ceremony.number, at)
         && fits(
-            &view.trainings,
-            &view.withdrawals,
-            &view.appointments,
+            &view.asked.trainings,
+            &view.asked.withdrawals,
+            &view.asked.appointments,
             ceremony.facility,
             at.day(),
             seat,
@@ -204,7 +204,8 @@ fn is_done(state: StepState) -> bool
 fn ceremony_in(view: &WholeView, number: u32) -> Option<CeremonyRow>
     ensures { result ≡ Audit.ceremony_in view.now number }
 {
-    view.ceremonies
+    view.asked
+        .ceremonies
         .iter()
         .copied()
         .find(|row| row.number == number)
@@ -240,9 +241,9 @@ fn is_ill_seated(alloc: Global, view: &WholeView, row: &StepRow) -> Result<bool,
 /// The first step that was signed or passed and whose recorded people are no seating.
 fn first_ill_seated(alloc: Global, view: &WholeView) -> Result<Option<Finding>, AllocError>
     ensures { IfOk result (λ found. found ≡ option_map (λ row. Findings.Seating row.ceremony row.step)
-        (find (Wrongs.is_step_wrong view.now) view.now.steps.items)) }
+        (find (Wrongs.is_step_wrong view.now) view.now.asked.steps.items)) }
 {
-    for row in &view.steps {
+    for row in &view.asked.steps {
         if is_ill_seated(alloc, view, row)? {
             return Ok(Some(Finding::Seating(row.ceremony, row.step)));
         }

@@ -30,7 +30,8 @@ use Rattle.kcr_history.specs.Fitting.{fits_by}
 abbrev pub eligible_by : WholeView → CeremonyRow → ℕ → Seat → List ℕ → Bool
 eligible_by view ceremony t seat who =
     in_by view.sheet.items who ceremony.number t
-    && fits_by view.trainings.items view.withdrawals.items view.appointments.items ceremony.facility (day_of t) seat who
+    && fits_by view.asked.trainings.items view.asked.withdrawals.items view.asked.appointments.items ceremony.facility
+    (day_of t) seat who
 
 -- the people, all distinct, are each eligible for the seat in their position
 abbrev pub is_seating_by : WholeView → CeremonyRow → ℕ → List Seat → List (List ℕ) → Bool
@@ -60,7 +61,7 @@ is_well_seated view row ceremony at = false
 
 -- the row of the ceremony
 abbrev pub ceremony_in : WholeView → ℕ → Option CeremonyRow
-ceremony_in view number = find (λ row. row.number == number) view.ceremonies.items
+ceremony_in view number = find (λ row. row.number == number) view.asked.ceremonies.items
 
 -- the row is of this step, which was signed or passed, and its recorded people are no seating
 abbrev pub is_ill_seated : WholeView → ℕ → ℕ → StepRow → Bool
@@ -72,7 +73,8 @@ is_ill_seated view ceremony step row =
 
 -- there is a row of the bag that says it is not spent
 abbrev pub is_bag_there : WholeView → List ℕ → Bool
-is_bag_there view serial = list_any (λ bag. same_text bag.serial serial && holds_items (Some bag.spot)) view.bags.items
+is_bag_there view serial =
+    list_any (λ bag. same_text bag.serial serial && holds_items (Some bag.spot)) view.asked.bags.items
 
 -- the item is within a bag that is spent or not there
 abbrev pub is_lost : WholeView → Rest → Bool
@@ -81,7 +83,7 @@ is_lost view (Within serial) = not (is_bag_there view serial)
 
 -- the bag is in a box that is not there
 abbrev pub is_unboxed : WholeView → Spot → Bool
-is_unboxed view (InBox facility number) = not (list_any (is_box facility number) view.boxes.items)
+is_unboxed view (InBox facility number) = not (list_any (is_box facility number) view.asked.boxes.items)
 is_unboxed view spot = false
 
 -- more than one row passes the test
@@ -92,13 +94,14 @@ is_doubled test rows = nat_lt 1 (count_by test rows)
 
 -- the finding is true of the rows
 abbrev pub IsTrueOf : WholeView → Finding → Type 0
-IsTrueOf view (Findings.Seating ceremony step) = IsTrue (list_any (is_ill_seated view ceremony step) view.steps.items)
+IsTrueOf view (Findings.Seating ceremony step) =
+    IsTrue (list_any (is_ill_seated view ceremony step) view.asked.steps.items)
 IsTrueOf view (Findings.Custody item) =
-    IsTrue (is_doubled (λ row. same_text row.code item) view.items.items
-    || list_any (λ row. same_text row.code item && is_lost view row.rest) view.items.items)
+    IsTrue (is_doubled (λ row. same_text row.code item) view.asked.items.items
+    || list_any (λ row. same_text row.code item && is_lost view row.rest) view.asked.items.items)
 IsTrueOf view (Findings.Bag serial) =
-    IsTrue (is_doubled (λ row. same_text row.serial serial) view.bags.items
-    || list_any (λ row. same_text row.serial serial && is_unboxed view row.spot) view.bags.items)
+    IsTrue (is_doubled (λ row. same_text row.serial serial) view.asked.bags.items
+    || list_any (λ row. same_text row.serial serial && is_unboxed view row.spot) view.asked.bags.items)
 IsTrueOf view (Findings.Key key) = IsTrue (is_doubled (λ row. same_text row.key key) view.keys.items)
 IsTrueOf view (Findings.Lone ceremony moment) = crowd_by view.sheet.items ceremony moment ≡ 1
 IsTrueOf view (Findings.Crowd ceremony moment) = 128 < crowd_by view.sheet.items ceremony moment

@@ -7,7 +7,7 @@ use kcr_custody::{Bag, BoxRow, Item, SafeRow};
 use kcr_people::{Appointment, Person, Training, Withdrawal};
 use kcr_room::{SheetRow, Stay};
 
-/// Rows that a decision reads, one list for each table, each in any order.
+/// Rows of the tables that decisions read, one list for each table, each in any order.
 #[derive(Drop)]
 pub struct View {
     pub people: Vec<Person>,
@@ -28,21 +28,10 @@ pub struct View {
 /// All rows of the register's tables, one list for each table, each in any order.
 #[derive(Drop)]
 pub struct WholeView {
-    pub people: Vec<Person>,
-    pub trainings: Vec<Training>,
-    pub withdrawals: Vec<Withdrawal>,
-    pub appointments: Vec<Appointment>,
-    pub boxes: Vec<BoxRow>,
-    pub safes: Vec<SafeRow>,
-    pub bags: Vec<Bag>,
-    pub items: Vec<Item>,
-    pub ceremonies: Vec<CeremonyRow>,
-    pub marks: Vec<MarkRow>,
-    pub steps: Vec<StepRow>,
+    /// Those of the tables that a decision may ask for.
+    pub asked: View,
     pub seatings: Vec<SeatingRow>,
     pub sheet: Vec<SheetRow>,
-    pub stays: Vec<Stay>,
-    pub exceptions: Vec<ExceptionRow>,
     pub keys: Vec<KeyRow>,
 }
 

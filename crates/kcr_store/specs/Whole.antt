@@ -11,21 +11,21 @@ use Rattle.kcr_tables.specs.Table.{Table}
 
 -- the view has the rows of each table, in the order of their keys
 pub record Lists (t : held.Tables) (view : WholeView) : Type 0 where
-  pub people : view.people.items ≡ t.people
-  pub trainings : view.trainings.items ≡ t.trainings
-  pub withdrawals : view.withdrawals.items ≡ t.withdrawals
-  pub appointments : view.appointments.items ≡ t.appointments
-  pub boxes : view.boxes.items ≡ t.boxes
-  pub safes : view.safes.items ≡ t.safes
-  pub bags : view.bags.items ≡ t.bags
-  pub items : view.items.items ≡ t.items
-  pub ceremonies : view.ceremonies.items ≡ t.ceremonies
-  pub marks : view.marks.items ≡ t.marks
-  pub steps : view.steps.items ≡ t.steps
+  pub people : view.asked.people.items ≡ t.people
+  pub trainings : view.asked.trainings.items ≡ t.trainings
+  pub withdrawals : view.asked.withdrawals.items ≡ t.withdrawals
+  pub appointments : view.asked.appointments.items ≡ t.appointments
+  pub boxes : view.asked.boxes.items ≡ t.boxes
+  pub safes : view.asked.safes.items ≡ t.safes
+  pub bags : view.asked.bags.items ≡ t.bags
+  pub items : view.asked.items.items ≡ t.items
+  pub ceremonies : view.asked.ceremonies.items ≡ t.ceremonies
+  pub marks : view.asked.marks.items ≡ t.marks
+  pub steps : view.asked.steps.items ≡ t.steps
   pub seatings : view.seatings.items ≡ t.seatings
   pub sheet : view.sheet.items ≡ t.sheet
-  pub stays : view.stays.items ≡ t.stays
-  pub exceptions : view.exceptions.items ≡ t.exceptions
+  pub stays : view.asked.stays.items ≡ t.stays
+  pub exceptions : view.asked.exceptions.items ≡ t.exceptions
   pub keys : view.keys.items ≡ t.keys
 
 -- the view has the machine's rows, each table's in the order of their keys

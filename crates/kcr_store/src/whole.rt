@@ -15,7 +15,7 @@ ghost use Rattle.kcr_store.specs.Whole.{FindsIn, IsListed, AreRows, Lists};
 
 use kcr_audit::{audit, registers_pass};
 use kcr_base::Refusal;
-use kcr_history::{Finding, WholeView};
+use kcr_history::{Finding, View, WholeView};
 use kcr_tables::{Listed, all_rows};
 use sqlite::{Alter, Connection, Transaction};
 use std::alloc::Global;
@@ -65,7 +65,7 @@ pub(crate) fn all_of<S: Alter>(
         (((people, trainings), (withdrawals, appointments)), ((boxes, safes), (bags, items))),
         (((ceremonies, marks), (steps, seatings)), ((sheet, stays), (exceptions, keys))),
     ) = Gathers::gather(alloc, tx)?;
-    Ok(WholeView {
+    let asked = View {
         people,
         trainings,
         withdrawals,
@@ -77,10 +77,13 @@ pub(crate) fn all_of<S: Alter>(
         ceremonies,
         marks,
         steps,
-        seatings,
-        sheet,
         stays,
         exceptions,
+    };
+    Ok(WholeView {
+        asked,
+        seatings,
+        sheet,
         keys,
     })
 }

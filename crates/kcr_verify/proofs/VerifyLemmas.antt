@@ -44,21 +44,21 @@ pub record IsInOrder (view rows : WholeView) : Type 0 where
 rows_same : (m a : Tables) (view rows : WholeView) → IsPermutation view.keys.items rows.keys.items → SameTables m (tables_of view)
     → ((table : Table) → HasRows table a (record view { keys = rows.keys })) → SameTables m a
 rows_same m a view rows order same has = record {
-  people = through m.people a.people view.people.items same.people (has People).same;
-  trainings = through m.trainings a.trainings view.trainings.items same.trainings (has Trainings).same;
-  withdrawals = through m.withdrawals a.withdrawals view.withdrawals.items same.withdrawals (has Withdrawals).same;
-  appointments = through m.appointments a.appointments view.appointments.items same.appointments (has Appointments).same;
-  boxes = through m.boxes a.boxes view.boxes.items same.boxes (has Boxes).same;
-  safes = through m.safes a.safes view.safes.items same.safes (has Safes).same;
-  bags = through m.bags a.bags view.bags.items same.bags (has Bags).same;
-  items = through m.items a.items view.items.items same.items (has Items).same;
-  ceremonies = through m.ceremonies a.ceremonies view.ceremonies.items same.ceremonies (has Ceremonies).same;
-  marks = through m.marks a.marks view.marks.items same.marks (has Marks).same;
-  steps = through m.steps a.steps view.steps.items same.steps (has Steps).same;
+  people = through m.people a.people view.asked.people.items same.people (has People).same;
+  trainings = through m.trainings a.trainings view.asked.trainings.items same.trainings (has Trainings).same;
+  withdrawals = through m.withdrawals a.withdrawals view.asked.withdrawals.items same.withdrawals (has Withdrawals).same;
+  appointments = through m.appointments a.appointments view.asked.appointments.items same.appointments (has Appointments).same;
+  boxes = through m.boxes a.boxes view.asked.boxes.items same.boxes (has Boxes).same;
+  safes = through m.safes a.safes view.asked.safes.items same.safes (has Safes).same;
+  bags = through m.bags a.bags view.asked.bags.items same.bags (has Bags).same;
+  items = through m.items a.items view.asked.items.items same.items (has Items).same;
+  ceremonies = through m.ceremonies a.ceremonies view.asked.ceremonies.items same.ceremonies (has Ceremonies).same;
+  marks = through m.marks a.marks view.asked.marks.items same.marks (has Marks).same;
+  steps = through m.steps a.steps view.asked.steps.items same.steps (has Steps).same;
   seatings = through m.seatings a.seatings view.seatings.items same.seatings (has Seatings).same;
   sheet = through m.sheet a.sheet view.sheet.items same.sheet (has Sheet).same;
-  stays = through m.stays a.stays view.stays.items same.stays (has Stays).same;
-  exceptions = through m.exceptions a.exceptions view.exceptions.items same.exceptions (has Exceptions).same;
+  stays = through m.stays a.stays view.asked.stays.items same.stays (has Stays).same;
+  exceptions = through m.exceptions a.exceptions view.asked.exceptions.items same.exceptions (has Exceptions).same;
   keys = through m.keys a.keys rows.keys.items (IsPermutation-trans m.keys view.keys.items rows.keys.items same.keys order) (has Keys);
 }
 
@@ -77,21 +77,22 @@ in_view table m view v rows same is = record { same = same; db = v.db; t = v.t; 
 
 listed_table : (A : History) (view : WholeView) → IsListed (tables A) view → (rows : WholeView) → IsPermutation view.keys.items rows.keys.items
     → (table : Table) → HasRows table (tables A) (record view { keys = rows.keys })
-listed_table A view v keys order People = in_view people.table (tables A) view v view.people.items v.same.people v.lists.people
-listed_table A view v keys order Trainings = in_view trainings.table (tables A) view v view.trainings.items v.same.trainings v.lists.trainings
-listed_table A view v keys order Withdrawals = in_view withdrawals.table (tables A) view v view.withdrawals.items v.same.withdrawals v.lists.withdrawals
-listed_table A view v keys order Appointments = in_view appointments.table (tables A) view v view.appointments.items v.same.appointments v.lists.appointments
-listed_table A view v keys order Boxes = in_view boxes.table (tables A) view v view.boxes.items v.same.boxes v.lists.boxes
-listed_table A view v keys order Safes = in_view safes.table (tables A) view v view.safes.items v.same.safes v.lists.safes
-listed_table A view v keys order Bags = in_view bags.table (tables A) view v view.bags.items v.same.bags v.lists.bags
-listed_table A view v keys order Items = in_view items.table (tables A) view v view.items.items v.same.items v.lists.items
-listed_table A view v keys order Ceremonies = in_view ceremonies.table (tables A) view v view.ceremonies.items v.same.ceremonies v.lists.ceremonies
-listed_table A view v keys order Marks = in_view marks.table (tables A) view v view.marks.items v.same.marks v.lists.marks
-listed_table A view v keys order Steps = in_view steps.table (tables A) view v view.steps.items v.same.steps v.lists.steps
+listed_table A view v keys order People = in_view people.table (tables A) view v view.asked.people.items v.same.people v.lists.people
+listed_table A view v keys order Trainings = in_view trainings.table (tables A) view v view.asked.trainings.items v.same.trainings v.lists.trainings
+listed_table A view v keys order Withdrawals = in_view withdrawals.table (tables A) view v view.asked.withdrawals.items v.same.withdrawals v.lists.withdrawals
+listed_table A view v keys order Appointments =
+    in_view appointments.table (tables A) view v view.asked.appointments.items v.same.appointments v.lists.appointments
+listed_table A view v keys order Boxes = in_view boxes.table (tables A) view v view.asked.boxes.items v.same.boxes v.lists.boxes
+listed_table A view v keys order Safes = in_view safes.table (tables A) view v view.asked.safes.items v.same.safes v.lists.safes
+listed_table A view v keys order Bags = in_view bags.table (tables A) view v view.asked.bags.items v.same.bags v.lists.bags
+listed_table A view v keys order Items = in_view items.table (tables A) view v view.asked.items.items v.same.items v.lists.items
+listed_table A view v keys order Ceremonies = in_view ceremonies.table (tables A) view v view.asked.ceremonies.items v.same.ceremonies v.lists.ceremonies
+listed_table A view v keys order Marks = in_view marks.table (tables A) view v view.asked.marks.items v.same.marks v.lists.marks
+listed_table A view v keys order Steps = in_view steps.table (tables A) view v view.asked.steps.items v.same.steps v.lists.steps
 listed_table A view v keys order Seatings = in_view seatings.table (tables A) view v view.seatings.items v.same.seatings v.lists.seatings
 listed_table A view v keys order Sheet = in_view sheet.table (tables A) view v view.sheet.items v.same.sheet v.lists.sheet
-listed_table A view v keys order Stays = in_view stays.table (tables A) view v view.stays.items v.same.stays v.lists.stays
-listed_table A view v keys order Exceptions = in_view exceptions.table (tables A) view v view.exceptions.items v.same.exceptions v.lists.exceptions
+listed_table A view v keys order Stays = in_view stays.table (tables A) view v view.asked.stays.items v.same.stays v.lists.stays
+listed_table A view v keys order Exceptions = in_view exceptions.table (tables A) view v view.asked.exceptions.items v.same.exceptions v.lists.exceptions
 listed_table A view v keys order Keys = IsPermutation-trans (map key_row A) view.keys.items keys.keys.items v.same.keys order
 
 no_difference : (P : Table → Type 0) → ((table : Table) → P table) → (found : Option Table) → IfSome found (λ table. ¬ P table) → found ≡ None

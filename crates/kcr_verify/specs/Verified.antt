@@ -60,21 +60,21 @@ name_of Keys = codes "keys"
 -- the view has the machine's rows of this table, in the order in which a database keeps them; the accepted commands in
 -- any order
 abbrev pub HasRows : Table → Tables → WholeView → Type 0
-HasRows People m view = AreRows people.table m view.people.items
-HasRows Trainings m view = AreRows trainings.table m view.trainings.items
-HasRows Withdrawals m view = AreRows withdrawals.table m view.withdrawals.items
-HasRows Appointments m view = AreRows appointments.table m view.appointments.items
-HasRows Boxes m view = AreRows boxes.table m view.boxes.items
-HasRows Safes m view = AreRows safes.table m view.safes.items
-HasRows Bags m view = AreRows bags.table m view.bags.items
-HasRows Items m view = AreRows items.table m view.items.items
-HasRows Ceremonies m view = AreRows ceremonies.table m view.ceremonies.items
-HasRows Marks m view = AreRows marks.table m view.marks.items
-HasRows Steps m view = AreRows steps.table m view.steps.items
+HasRows People m view = AreRows people.table m view.asked.people.items
+HasRows Trainings m view = AreRows trainings.table m view.asked.trainings.items
+HasRows Withdrawals m view = AreRows withdrawals.table m view.asked.withdrawals.items
+HasRows Appointments m view = AreRows appointments.table m view.asked.appointments.items
+HasRows Boxes m view = AreRows boxes.table m view.asked.boxes.items
+HasRows Safes m view = AreRows safes.table m view.asked.safes.items
+HasRows Bags m view = AreRows bags.table m view.asked.bags.items
+HasRows Items m view = AreRows items.table m view.asked.items.items
+HasRows Ceremonies m view = AreRows ceremonies.table m view.asked.ceremonies.items
+HasRows Marks m view = AreRows marks.table m view.asked.marks.items
+HasRows Steps m view = AreRows steps.table m view.asked.steps.items
 HasRows Seatings m view = AreRows seatings.table m view.seatings.items
 HasRows Sheet m view = AreRows sheet.table m view.sheet.items
-HasRows Stays m view = AreRows stays.table m view.stays.items
-HasRows Exceptions m view = AreRows exceptions.table m view.exceptions.items
+HasRows Stays m view = AreRows stays.table m view.asked.stays.items
+HasRows Exceptions m view = AreRows exceptions.table m view.asked.exceptions.items
 HasRows Keys m view = IsPermutation m.keys view.keys.items
 
 -- a register whose history is known, and that no fault has broken
