@@ -113,7 +113,7 @@ def key_test(t):
 def lemmas_joint():
     puts = [t for t in TABLES if t.change]
     out = "-- How the rows in the order of their keys meet the machine's rows, which stand in any order.\n"
-    out += """use Rattle.std.proofs.Common.{◌≡◌, ◌&&◌, ℕ, List, [], ◌∷◌, map, drop, pos, refl, ◌∙◌, IsPermutation, Less}
+    out += """use Rattle.std.proofs.Common.{rules, ◌≡◌, ◌&&◌, ℕ, List, [], ◌∷◌, map, drop, pos, refl, ◌∙◌, IsPermutation, Less}
 use Rattle.std.specs.Ordering.{is_eq}
 use Rattle.std.proofs.lemmas.List.Sorted.{IsPermutation-refl, IsPermutation-sym, IsPermutation-trans}
 use Rattle.sqlite.specs.declared.types.Value.TheVariants.{Int, Text}
@@ -139,7 +139,7 @@ use Rattle.kcr_history.specs.declared.views.Change.{Change}
     out += "".join(f"use {t.declared}\n" for t in puts)
     out += """use Rattle.kcr_tables.specs.Held.{Tables, Kept, Holds}
 use Rattle.kcr_tables.specs.First.{first_tables}
-use Rattle.kcr_tables.specs.Changed.{changed, changed_all}
+use Rattle.kcr_tables.specs.Changed.{rows_after, changed, changed_all}
 use Rattle.kcr_tables.specs.Joint.{Stands, KeepsTables, HoldsTables}
 use Rattle.kcr_tables.proofs.HoldLemmas.{held_of, tables_of}
 
@@ -147,25 +147,26 @@ use Rattle.kcr_tables.proofs.HoldLemmas.{held_of, tables_of}
 """
     for t in puts:
         out += f"\npub key_of_{t.name} : (new old : {t.type}) → {t.same} new old ≡ is_eq (by_key {t.keys} ({t.row_of} old) ({t.row_of} new))\nkey_of_{t.name} new old = {key_test(t)}\n"
-    out += "\n-- ---- changes\n\n-- the rows of values rise by so many keys\nabbrev pub Rise : {X : Type 0} → ℕ → (X → Row) → List X → Type 0\nRise keys row_of xs = IsAscending (λ a b. by_key keys a b ≡ Less) (map row_of xs)\n\n-- those of each table do\npub record Rises (t : Tables) : Type 0 where\n"
+    out += "\n-- ---- changes\n\n-- the rows of values rise by so many keys\nabbrev pub Rise : {X : Type 0} → ℕ → (X → Row) → List X → Type 0\nRise keys row_of xs = IsAscending (λ a b. by_key keys a b ≡ Less) (map row_of xs)\n\n-- those of each table do\npub record Rises (t : machine.Tables) : Type 0 where\n"
     for t in puts:
         out += f"  pub {t.name} : Rise {t.keys} {t.row_of} t.{t.name}\n"
-    out += "\npub kept_rises : (db : Trees) (t : Tables) → Kept db t → Rises t\nkept_rises db t k = record {\n"
+    out += "\npub kept_rises : (db : Trees) (t : Tables) → Kept db t → Rises t.rows\nkept_rises db t k = record {\n"
     for t in puts:
         out += f"  {t.name} = k.{t.name}.rising;\n"
-    out += "}\n\npub changed_rises : (c : Change) (t : Tables) → Rises t → Rises (changed c t)\nchanged_rises c t r = record {\n"
+    out += "}\n\nafter_rises : (c : Change) (t : machine.Tables) → Rises t → Rises (rows_after c t)\nafter_rises c t r = record {\n"
     for t in puts:
-        out += f"  {t.name} = elim c as (λ c. Rise {t.keys} {t.row_of} (changed c t).{t.name})\n      [ {t.change} row ↦ put_in_rising {t.keys} {t.row_of} row t.{t.name} r.{t.name} | _ ↦ r.{t.name} ];\n"
-    out += "}\n\n-- one change: its table's rows are those of the machine, in another order\npub changed_stands : (c : Change) (m : machine.Tables) (t : Tables) → Rises t → Stands m t → Stands (changes.changed c m) (changed c t)\nchanged_stands c m t r s = record {\n"
+        out += f"  {t.name} = elim c as (λ c. Rise {t.keys} {t.row_of} (rows_after c t).{t.name})\n      [ {t.change} row ↦ put_in_rising {t.keys} {t.row_of} row t.{t.name} r.{t.name} | _ ↦ r.{t.name} ];\n"
+    out += "}\n\n-- one change: its table's rows are those of the machine, in another order\nafter_same : (c : Change) (m t : machine.Tables) → Rises t → machine.SameTables m t → machine.SameTables (changes.changed c m) (rows_after c t)\nafter_same c m t r s = record {\n"
     for t in puts:
         put = f"put-stands {t.keys} {t.row_of} {t.same} key_of_{t.name} row _ _ r.{t.name} s.{t.name}"
-        out += f"  {t.name} = elim c as (λ c. IsPermutation (changes.changed c m).{t.name} (changed c t).{t.name})\n      [ {t.change} row ↦ {put} | _ ↦ s.{t.name} ];\n"
-    out += f"  versions = elim c as (λ c. (changed c t).versions ≡ first_tables.versions) [ {puts[0].change} row ↦ s.versions | _ ↦ s.versions ];\n}}\n"
-    out += """
+        out += f"  {t.name} = elim c as (λ c. IsPermutation (changes.changed c m).{t.name} (rows_after c t).{t.name})\n      [ {t.change} row ↦ {put} | _ ↦ s.{t.name} ];\n"
+    out += """}
+
 -- the changes one after the other
-pub all_stand : (list : List Change) (m : machine.Tables) (t : Tables) → Rises t → Stands m t → Stands (changes.changed_by list m) (changed_all list t)
+pub all_stand : (list : List Change) (m : machine.Tables) (t : Tables) → Rises t.rows → Stands m t → Stands (changes.changed_by list m) (changed_all list t)
 all_stand [] m t r s = s
-all_stand (c ∷ more) m t r s = all_stand more (changes.changed c m) (changed c t) (changed_rises c t r) (changed_stands c m t r s)
+all_stand (c ∷ more) m t r s =
+    all_stand more (changes.changed c m) (changed c t) (after_rises c t.rows r) (record { rows = after_same c m t.rows r s.rows; versions = s.versions })
 
 -- ---- what the store holds
 
@@ -173,24 +174,25 @@ pub changes_hold : (list : List Change) (m : machine.Tables) (old new : Database
 changes_hold list m old new h held =
     tables_of (changes.changed_by list m) new (changed_all list h.tables.t) (all_stand list m h.tables.t (kept_rises old.trees h.tables.t h.tables.kept) h.tables.stands) held
 
-"""
-    out += "first_stands : Stands (machine.tables []) first_tables\nfirst_stands = record {\n"
-    for name in MACHINE:
-        rows = "first_tables.safes" if name == "safes" else "[]"
-        out += f"  {name} = IsPermutation-refl {rows};\n"
-    out += "  versions = refl;\n}\n"
-    out += """
+same_itself : (t : machine.Tables) → machine.SameTables t t
+same_itself t = search (rules, IsPermutation-refl)
+
 pub first_holds : (db : Database) → Holds db first_tables → HoldsTables (machine.tables []) db
-first_holds db held = tables_of (machine.tables []) db first_tables first_stands held
+first_holds db held = tables_of (machine.tables []) db first_tables (record { rows = same_itself (machine.tables []); versions = refl }) held
 
 -- ---- the same rows in another order
 
+of_both : {X : Type 0} {xs ys zs : List X} → IsPermutation xs ys → IsPermutation xs zs → IsPermutation ys zs
+of_both p q = IsPermutation-trans _ _ _ (IsPermutation-sym _ _ p) q
+
 pub same_stands : (m n : machine.Tables) (t : Tables) → machine.SameTables m n → Stands m t → Stands n t
 same_stands m n t same s = record {
+  rows = record {
 """
     for name in MACHINE:
-        out += f"  {name} = IsPermutation-trans _ _ _ (IsPermutation-sym _ _ same.{name}) s.{name};\n"
-    out += """  versions = s.versions;
+        out += f"    {name} = of_both same.{name} s.rows.{name};\n"
+    out += """  };
+  versions = s.versions;
 }
 
 pub same_keeps : (m n : machine.Tables) (db : Trees) → machine.SameTables m n → KeepsTables m db → KeepsTables n db

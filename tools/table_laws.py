@@ -53,7 +53,7 @@ def still(t):
     return f"""
 -- the other tables stay where the rows of this one are changed
 pub still : (old new : Trees) (rows : List {t.type}) (t : Tables) → IsSound register_schema new → Keeps {t.place} new (map {t.row_of} rows) → AllByRecursion {stored} rows
-    → ((tree : ℕ) → tree ≢ {t.tree} → IsNoIndex register_schema tree → new tree ≡ old tree) → Kept old t → Kept new (record t {{ {t.name} = rows }})
+    → ((tree : ℕ) → tree ≢ {t.tree} → IsNoIndex register_schema tree → new tree ≡ old tree) → Kept old t → Kept new ({t.with_rows('t', 'rows')})
 still old new rows t sound keeps stored others k = {lines(fields)}"""
 
 
@@ -149,11 +149,10 @@ def is_under_of(t, r):
 def table(t):
     """The table itself, as a value."""
     fields = {
-        "rows_in": f"λ t. t.{t.name}",
-        "machine_rows": "λ _. first_tables.versions" if t.name == "versions" else f"λ m. m.{t.name}",
+        "rows_in": f"λ t. {t.rows_of('t')}",
         "place": t.place,
         "is_stored": t.is_stored or "λ _. ⊤",
-        "with_rows": f"λ rows t. record t {{ {t.name} = rows }}",
+        "with_rows": f"λ rows t. {t.with_rows('t', 'rows')}",
         "all_sql": codes(t.all_text()),
     }
     return f"""
@@ -168,9 +167,9 @@ def table_laws(t):
         "lists": "lists",
         "one": "one",
         "keeps": f"λ db t k. k.{t.name}",
-        "stores": f"λ db t k. k.{t.stored_fact}" if t.is_stored else f"λ db t k. each_is t.{t.name}",
+        "stores": f"λ db t k. k.{t.stored_fact}" if t.is_stored else f"λ db t k. each_is {t.rows_of('t')}",
         "still": "still",
-        "stands": f"λ m t s. {same if t.name == 'versions' else f's.{t.name}'}",
+        "stands": f"λ m t s. {same if t.name == 'versions' else f's.rows.{t.name}'}",
     }
     return f"""
 pub table_laws : IsTable table {t.row_of} {f'{t.is_read}' if t.is_read else '(λ _. ⊤)'}

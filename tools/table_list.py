@@ -154,6 +154,15 @@ class Table:
         """The columns as the schema has them: it takes an alias for one that may be NULL, as it is in the entries."""
         return [f"{'number_or_null' if c.name == self.alias else c.kind.column} ({codes(c.name)})" for c in self.columns]
 
+    def rows_of(self, t):
+        """Its rows among those of all tables, `t`."""
+        return f"{t}.rows.{self.name}" if self.name in MACHINE else f"{t}.{self.name}"
+
+    def with_rows(self, t, rows):
+        """The tables `t` with these rows in the place of its own."""
+        own = f"{self.name} = {rows}"
+        return f"record {t} {{ rows = record {t}.rows {{ {own} }} }}" if self.name in MACHINE else f"record {t} {{ {own} }}"
+
     def tree_count(self):
         return 2 + len(self.others)
 

@@ -1,5 +1,5 @@
 -- What an older file holds, before and after it is brought to this version.
-use Rattle.std.proofs.Common.{rules, ◌≡◌, ℕ, ◌+◌, List, [], ◌∷◌, map, fold, refl, sym, ap, subst, ◌∙◌, arith}
+use Rattle.std.proofs.Common.{rules, ◌≡◌, ℕ, ◌+◌, List, [], map, refl, arith}
 use Rattle.std.specs.List.Sorted.{IsPermutation}
 use Rattle.std.proofs.lemmas.List.Sorted.{IsPermutation-refl}
 use Rattle.sqlite.specs.Effect.{Database}
@@ -9,11 +9,7 @@ use Rattle.kcr_history.specs.declared.views.Change.TheVariants.{PutStay}
 use Rattle.kcr_history.specs.History.{History}
 use Rattle.kcr_history.specs.Tables.{tables}
 use Rattle.kcr_history.specs.Tables as machine
-use Rattle.kcr_rows.specs.Keyed.{put_in}
-use Rattle.kcr_rows.specs.Rows.{stay_row}
-use Rattle.kcr_rows.specs.declared.rows.Version.{Version}
 use Rattle.kcr_tables.specs.Held.{Tables, Holds}
-use Rattle.kcr_tables.specs.Changed.{changed_all}
 use Rattle.kcr_tables.specs.Joint.{Stands, HoldsTables}
 use Rattle.kcr_tables.proofs.HoldLemmas.{tables_of}
 use Rattle.kcr_tables.proofs.JointLemmas.{Rises, kept_rises, all_stand, same_stands}
@@ -29,54 +25,45 @@ pub old_holds : (version : ℕ) (A : History) (db : Database) (s : StoresAs vers
     → HoldsUpTo (14 + version) db (record s.tables.t { versions = numbered version })
 old_holds version A db s = record { schema = s.schema; kept = s.tables.kept }
 
--- ---- the stays and the number of the version do not meet
-
-put_stays : (stays : List Stay) (t : Tables)
-    → changed_all (map PutStay stays) t ≡ record t { stays = fold (λ rows stay. put_in 2 stay_row stay rows) t.stays stays }
-put_stays [] t = refl
-put_stays (stay ∷ stays) t = put_stays stays (record t { stays = put_in 2 stay_row stay t.stays })
+-- ---- what is put leaves the number of the version
 
 pub all_number : (from : Older) (t : Tables) → (with_all from t).versions ≡ t.versions
 all_number First t = refl
 all_number Second t = refl
 
 pub same_number : (from : Older) (t : Tables) → (with_own_stays from (with_all from t)).versions ≡ t.versions
-same_number First t = ap (λ (u : Tables). u.versions) (put_stays (stays_by t.sheet) (with_all First t))
+same_number First t = refl
 same_number Second t = refl
-
-other_number : (t : Tables) (versions : List Version) → record (with_stays t) { versions = versions } ≡ with_stays (record t { versions = versions })
-other_number t versions =
-    ap (λ (u : Tables). record u { versions = versions }) (put_stays (stays_by t.sheet) t)
-    ∙ sym (put_stays (stays_by t.sheet) (record t { versions = versions }))
 
 -- ---- an older file has the rows of its history, but for withdrawals, which it has none of, and for its stays
 
 stands_older : (A : History) (t : Tables) (own rows : List Stay) → Stands (tables A) t → machine.withdrawals A ≡ [] → IsPermutation own rows
-    → Stands (record (tables A) { stays = own }) (record t { stays = rows; withdrawals = []; versions = numbered 3 })
+    → Stands (record (tables A) { stays = own }) (record { rows = record t.rows { stays = rows; withdrawals = [] }; versions = numbered 3 })
 stands_older A t own rows s none same =
     let without : IsPermutation (machine.withdrawals A) [] = rw none (IsPermutation-refl []) in
-    search (rules, without, same)
+    let others = s.rows in
+    record { rows = search (rules, others, without, same); versions = refl }
 
 brought_1 : (A : History) (old new : Database) (s : StoresAs 1 A old)
-    → Holds new (record (with_stays (record s.tables.t { stays = []; withdrawals = []; versions = numbered 1 })) { versions = numbered 3 })
+    → Holds new
+    (record (with_stays (record { rows = record s.tables.t.rows { stays = []; withdrawals = [] }; versions = numbered 1 })) { versions = numbered 3 })
     → HoldsTables (tables A) new
 brought_1 A old new s after =
     let t : Tables = s.tables.t in
-    let now : Tables = record t { stays = []; withdrawals = []; versions = numbered 3 } in
+    let now : Tables = record { rows = record t.rows { stays = []; withdrawals = [] }; versions = numbered 3 } in
     let stood = stands_older A t [] [] s.tables.stands (s.tables.unwithdrawn (omega arith)) (IsPermutation-refl []) in
     let rose = kept_rises s.tables.kept.whole (record t { versions = numbered 1 }) s.tables.kept.kept in
-    let rises : Rises now = search (rules, rose) in
-    let put = all_stand (map PutStay (stays_by t.sheet)) (record (tables A) { stays = [] }) now rises stood in
-    let stands = same_stands _ (tables A) (with_stays now) (filled A s.tables.register t.sheet s.tables.stands.sheet) put in
-    tables_of (tables A) new (with_stays now) stands
-    (subst (Holds new) (other_number (record t { stays = []; withdrawals = []; versions = numbered 1 }) (numbered 3)) after)
+    let rises : Rises now.rows = search (rules, rose) in
+    let put = all_stand (map PutStay (stays_by t.rows.sheet)) (record (tables A) { stays = [] }) now rises stood in
+    let stands = same_stands _ (tables A) (with_stays now) (filled A s.tables.register t.rows.sheet s.tables.stands.rows.sheet) put in
+    tables_of (tables A) new (with_stays now) stands after
 
-brought_2 : (A : History) (old new : Database) (s : StoresAs 2 A old) → Holds new (record s.tables.t { withdrawals = []; versions = numbered 3 })
-    → HoldsTables (tables A) new
+brought_2 : (A : History) (old new : Database) (s : StoresAs 2 A old)
+    → Holds new (record { rows = record s.tables.t.rows { withdrawals = [] }; versions = numbered 3 }) → HoldsTables (tables A) new
 brought_2 A old new s after =
     let t : Tables = s.tables.t in
-    let stands = stands_older A t (tables A).stays t.stays s.tables.stands (s.tables.unwithdrawn (omega arith)) s.tables.stands.stays in
-    tables_of (tables A) new (record t { withdrawals = []; versions = numbered 3 }) stands after
+    let stands = stands_older A t (tables A).stays t.rows.stays s.tables.stands (s.tables.unwithdrawn (omega arith)) s.tables.stands.rows.stays in
+    tables_of (tables A) new (record { rows = record t.rows { withdrawals = [] }; versions = numbered 3 }) stands after
 
 pub brought_from : (from : Older) (A : History) (old new : Database) (s : StoresAs (number_of from) A old)
     → Holds new (brought from (record s.tables.t { versions = numbered (number_of from) })) → HoldsTables (tables A) new

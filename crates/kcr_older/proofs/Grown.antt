@@ -79,8 +79,8 @@ behind (suc count) (t ∷ tables) a b k = behind count tables a b k.1
 
 -- trees that share the first 15 tables with those of a register keep its rows in them, beside stays and withdrawals of their own
 shares_kept : (whole db : Trees) (t u : Tables) → Kept whole t → KeepsRows (take 15 all_tables) whole db → IsSound register_schema db
-    → Keeps stays_place db (map stay_row u.stays) → Keeps withdrawals_place db (map withdrawal_row u.withdrawals)
-    → Kept db (record t { stays = u.stays; withdrawals = u.withdrawals })
+    → Keeps stays_place db (map stay_row u.rows.stays) → Keeps withdrawals_place db (map withdrawal_row u.rows.withdrawals)
+    → Kept db (record t { rows = record t.rows { stays = u.rows.stays; withdrawals = u.rows.withdrawals } })
 shares_kept whole db t u k s sound own_stays own_withdrawals =
     let still : (place : Place) (rows : List Row) → db place.tree ≡ whole place.tree → Keeps place whole rows → Keeps place db rows
     = λ place rows. keeps_on place whole db rows in
@@ -89,7 +89,7 @@ shares_kept whole db t u k s sound own_stays own_withdrawals =
     search (rules, still, own_stays, own_withdrawals)
 
 pub grown_from_1 : (old mid new : Database) (t : Tables) → HoldsUpTo 15 old t → Gains 15 stays old mid → Gains 16 withdrawals mid new
-    → Holds new (record t { stays = []; withdrawals = [] })
+    → Holds new (record t { rows = record t.rows { stays = []; withdrawals = [] } })
 grown_from_1 old mid new t held one two =
     let k = held.kept in
     let still = front_of 15 (take 16 all_tables) mid.trees new.trees two.shared in
@@ -100,19 +100,20 @@ grown_from_1 old mid new t held one two =
     record {
       schema = two.schema;
       kept =
-          shares_kept k.whole new.trees t (record t { stays = []; withdrawals = [] }) k.kept shared two.sound
+          shares_kept k.whole new.trees t (record t { rows = record t.rows { stays = []; withdrawals = [] } }) k.kept shared two.sound
           (bare stays_place new.trees none) (bare withdrawals_place new.trees two.empty);
     }
 
-pub grown_from_2 : (old new : Database) (t : Tables) → HoldsUpTo 16 old t → Gains 16 withdrawals old new → Holds new (record t { withdrawals = [] })
+pub grown_from_2 : (old new : Database) (t : Tables) → HoldsUpTo 16 old t → Gains 16 withdrawals old new
+    → Holds new (record t { rows = record t.rows { withdrawals = [] } })
 grown_from_2 old new t held two =
     let k = held.kept in
     let shared = shares_on (take 16 all_tables) k.whole old.trees new.trees k.shared two.shared in
     let there : new.trees stays_place.tree ≡ k.whole stays_place.tree = assumption shared in
-    let own_stays = keeps_on stays_place k.whole new.trees (map stay_row t.stays) there k.kept.stays in
+    let own_stays = keeps_on stays_place k.whole new.trees (map stay_row t.rows.stays) there k.kept.stays in
     record {
       schema = two.schema;
       kept =
-          shares_kept k.whole new.trees t (record t { withdrawals = [] }) k.kept
+          shares_kept k.whole new.trees t (record t { rows = record t.rows { withdrawals = [] } }) k.kept
           (front_of 15 (take 16 all_tables) k.whole new.trees shared) two.sound own_stays (bare withdrawals_place new.trees two.empty);
     }

@@ -8,8 +8,8 @@ use Rattle.kcr_older.specs.declared.renewal.Older.TheVariants.{First, Second}
 
 -- the tables that a version lacks have no rows
 abbrev pub with_all : Older → Tables → Tables
-with_all First t = record t { stays = []; withdrawals = [] }
-with_all Second t = record t { withdrawals = [] }
+with_all First t = record t { rows = record t.rows { stays = []; withdrawals = [] } }
+with_all Second t = record t { rows = record t.rows { withdrawals = [] } }
 
 -- the stays that a version lacks are those of its sheet
 abbrev pub with_own_stays : Older → Tables → Tables

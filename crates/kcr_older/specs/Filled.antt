@@ -7,4 +7,4 @@ use Rattle.kcr_tables.specs.Held.{Tables}
 
 -- each stay of the sheet is put into its table, under its key
 abbrev pub with_stays : Tables → Tables
-with_stays t = changed_all (map PutStay (stays_by t.sheet)) t
+with_stays t = changed_all (map PutStay (stays_by t.rows.sheet)) t

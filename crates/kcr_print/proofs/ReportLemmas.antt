@@ -76,8 +76,8 @@ loose_text A = flat_map-filter loose_line is_loose bagged (items_in_order A)
 attendance_text : (A : History) (db : Trees) → KeepsTables (tables A) db → (ceremony : ℕ)
     → flat_map named_line (named_stays ceremony (tables A)) ≡ flat_map (stay_line (people A)) (attendance_in_by (stays_by (sheet A)) ceremony)
 attendance_text A db k ceremony =
-    let sheets = IsPermutation-trans _ _ _ (IsPermutation-reverse (stays_by (sheet A))) k.stands.stays in
-    stays_text A ceremony ∙ ap (flat_map (stay_line (people A))) (one_attendance ceremony sheets k.stands.stays k.kept.stays.rising)
+    let sheets = IsPermutation-trans _ _ _ (IsPermutation-reverse (stays_by (sheet A))) k.stands.rows.stays in
+    stays_text A ceremony ∙ ap (flat_map (stay_line (people A))) (one_attendance ceremony sheets k.stands.rows.stays k.kept.stays.rising)
 
 -- so it is with every register: its file holds the tables, whatever a crash may leave
 pub register_attendance : {S : Type 0} (g : Ghosts S) (r : Seen S) → IsKept g r

@@ -96,10 +96,10 @@ exceptions_shown ceremony last =
     record { test = number_test; project = exceptions.project; order = key_order exceptions_place; names = exceptions.names; bare = (refl, refl); is = refl }
 
 pub next_exception : (ceremony : ℕ) (last : Option ℕ) (m : machine.Tables) {db : Trees} (k : KeepsTables m db) (found : Option ExceptionRow)
-    → IsFirst exception_row (numbered ceremony last) k.t.exceptions found
+    → IsFirst exception_row (numbered ceremony last) k.t.rows.exceptions found
     → Gives (exceptions_past last ceremony m) found (exceptions_past (moved nat_cmp nat_cmp_total (λ (x : ExceptionRow). x.exception) last found) ceremony m)
 next_exception ceremony last m k =
-    next exception_row (λ x. x.ceremony) (λ x. x.exception) (λ x. refl) ceremony last k.stands.exceptions k.kept.exceptions.rising
+    next exception_row (λ x. x.ceremony) (λ x. x.exception) (λ x. refl) ceremony last k.stands.rows.exceptions k.kept.exceptions.rising
 
 -- ---- steps
 
@@ -112,9 +112,9 @@ steps_shown ceremony last =
     record { test = number_test; project = steps.project; order = key_order steps_place; names = steps.names; bare = (refl, refl); is = refl }
 
 pub next_step : (ceremony : ℕ) (last : Option ℕ) (m : machine.Tables) {db : Trees} (k : KeepsTables m db) (found : Option StepRow)
-    → IsFirst step_row (numbered ceremony last) k.t.steps found
+    → IsFirst step_row (numbered ceremony last) k.t.rows.steps found
     → Gives (rows_past last ceremony m) found (rows_past (moved nat_cmp nat_cmp_total (λ (x : StepRow). x.step) last found) ceremony m)
-next_step ceremony last m k = next step_row (λ x. x.ceremony) (λ x. x.step) (λ x. refl) ceremony last k.stands.steps k.kept.steps.rising
+next_step ceremony last m k = next step_row (λ x. x.ceremony) (λ x. x.step) (λ x. refl) ceremony last k.stands.rows.steps k.kept.steps.rising
 
 -- ---- the people of a step
 
@@ -146,12 +146,12 @@ pub seated : (ceremony step : ℕ) (old new : State) (rows : List SeatingRow) (m
     → Shown seating_text (seating_params ceremony step) old new (map seating_row rows) → map (λ row. row.who) rows ≡ seated_at m.seatings ceremony step
 seated ceremony step old new rows m t held stands h =
     let at = is_at ceremony step in
-    let there : rows ≡ filter at t.seatings =
+    let there : rows ≡ filter at t.rows.seatings =
     rows_shown seating_text seatings_place _ (passes ceremony step) (seating_shows ceremony step) seating_row (λ _. Unit {0}) (λ _. Unit {0}) seatings.one at
     (passes_at ceremony step)
-    old new rows held.schema h (each_is rows) t.seatings (each_is t.seatings) held.kept.seatings in
+    old new rows held.schema h (each_is rows) t.rows.seatings (each_is t.rows.seatings) held.kept.seatings in
     let rising = rise seating_row nat_cmp nat_cmp_total (λ x. x.seat) (λ l x. is_past l x.seat) (number_later (λ x. x.seat)) 3 at
-    (λ a b. same_step ceremony step a.ceremony a.step b.ceremony b.step a.seat b.seat [] []) t.seatings held.kept.seatings.rising in
-    let order : seatings_at m.seatings ceremony step ≡ filter at t.seatings = numbers_ordered (λ (x : SeatingRow). x.seat) _ _
-    (IsPermutation-filter at _ _ stands.seatings) rising in
+    (λ a b. same_step ceremony step a.ceremony a.step b.ceremony b.step a.seat b.seat [] []) t.rows.seatings held.kept.seatings.rising in
+    let order : seatings_at m.seatings ceremony step ≡ filter at t.rows.seatings = numbers_ordered (λ (x : SeatingRow). x.seat) _ _
+    (IsPermutation-filter at _ _ stands.rows.seatings) rising in
     ap (map (λ (row : SeatingRow). row.who)) (there ∙ sym order)

@@ -109,20 +109,20 @@ bags_shown (Some last) =
     record { test = behind_test (Some last); project = bags.project; order = key_order bags_place; names = bags.names; bare = (refl, refl); is = refl }
 
 pub first_bag : (last : Option (List ℕ)) (m : machine.Tables) {db : Trees} (k : KeepsTables m db) (found : Option Bag)
-    → IsFirst bag_row (bags_choice last) k.t.bags found → found ≡ slice_get (serials_past last m) 0
+    → IsFirst bag_row (bags_choice last) k.t.rows.bags found → found ≡ slice_get (serials_past last m) 0
 first_bag last m k =
-    first_behind bag_row (λ x. x.serial) (λ x. refl) k.stands.bags k.kept.bags.rising (λ _. true) last
+    first_behind bag_row (λ x. x.serial) (λ x. refl) k.stands.rows.bags k.kept.bags.rising (λ _. true) last
     (behind_test last) (behind_params last) (λ x. is_tested last x.serial _)
 
 pub next_bag : (last : Option (List ℕ)) (m : machine.Tables) {db : Trees} (k : KeepsTables m db) (found : Option Bag)
     → found ≡ slice_get (serials_past last m) 0
     → Gives (serials_past last m) found (serials_past (moved (slice_cmp nat_cmp) nat_list_cmp_total (λ (x : Bag). x.serial) last found) m)
-next_bag last m k = next_behind bag_row (λ x. x.serial) (λ x. refl) k.stands.bags k.kept.bags.rising (λ _. true) last
+next_bag last m k = next_behind bag_row (λ x. x.serial) (λ x. refl) k.stands.rows.bags k.kept.bags.rising (λ _. true) last
 
 -- the items that lie in a bag, by code
 pub within : (serial : List ℕ) (m : machine.Tables) {db : Trees} (k : KeepsTables m db)
-    → filter (lies_in serial) k.t.items ≡ filter (lies_in serial) (items_by_code m)
-within serial m k = ap (filter (lies_in serial)) (sym (are item_row (λ (x : Item). x.code) (λ x. refl) k.stands.items k.kept.items.rising))
+    → filter (lies_in serial) k.t.rows.items ≡ filter (lies_in serial) (items_by_code m)
+within serial m k = ap (filter (lies_in serial)) (sym (are item_row (λ (x : Item). x.code) (λ x. refl) k.stands.rows.items k.kept.items.rising))
 
 -- ---- loose items
 
@@ -155,14 +155,15 @@ is_chosen last x = by_rest x.rest
     by_rest (Within serial) = refl
 
 pub first_loose : (last : Option (List ℕ)) (m : machine.Tables) {db : Trees} (k : KeepsTables m db) (found : Option Item)
-    → IsFirst item_row (loose_choice last) k.t.items found → found ≡ slice_get (loose_past last m) 0
+    → IsFirst item_row (loose_choice last) k.t.rows.items found → found ≡ slice_get (loose_past last m) 0
 first_loose last m k =
-    first_behind item_row (λ x. x.code) (λ x. refl) k.stands.items k.kept.items.rising is_loose last (loose_test last) (behind_params last) (is_chosen last)
+    first_behind item_row (λ x. x.code) (λ x. refl) k.stands.rows.items k.kept.items.rising is_loose last (loose_test last)
+    (behind_params last) (is_chosen last)
 
 pub next_loose : (last : Option (List ℕ)) (m : machine.Tables) {db : Trees} (k : KeepsTables m db) (found : Option Item)
     → found ≡ slice_get (loose_past last m) 0
     → Gives (loose_past last m) found (loose_past (moved (slice_cmp nat_cmp) nat_list_cmp_total (λ (x : Item). x.code) last found) m)
-next_loose last m k = next_behind item_row (λ x. x.code) (λ x. refl) k.stands.items k.kept.items.rising is_loose last
+next_loose last m k = next_behind item_row (λ x. x.code) (λ x. refl) k.stands.rows.items k.kept.items.rising is_loose last
 
 -- ---- safes
 
@@ -178,17 +179,17 @@ places_rise f g s r = rw (value_cmp-Text (facility_text f) (facility_text g), nu
         ≡ nat_cmp (facility_number f * 2 + safe_digit s) (facility_number g * 2 + safe_digit r)
     by_cases f g s r = grind arith
 
-rise : {m : machine.Tables} {db : Trees} (k : KeepsTables m db) → IsAscending (λ a b. nat_cmp (safe_place a) (safe_place b) ≡ Less) k.t.safes
+rise : {m : machine.Tables} {db : Trees} (k : KeepsTables m db) → IsAscending (λ a b. nat_cmp (safe_place a) (safe_place b) ≡ Less) k.t.rows.safes
 rise k =
     ascending_weaker (λ (a b : SafeRow). by_key 2 (safe_row a) (safe_row b) ≡ Less) _
-    (λ a b h. sym (places_rise a.facility b.facility a.safe b.safe) ∙ h) k.t.safes
-    (ascending_from_map (λ a b. by_key 2 a b ≡ Less) safe_row k.t.safes k.kept.safes.rising)
+    (λ a b h. sym (places_rise a.facility b.facility a.safe b.safe) ∙ h) k.t.rows.safes
+    (ascending_from_map (λ a b. by_key 2 a b ≡ Less) safe_row k.t.rows.safes k.kept.safes.rising)
 
 -- the first of the table's rows past the last is the next, and the others come behind it
 pub next_safe : (last : Option ℕ) (m : machine.Tables) {db : Trees} (k : KeepsTables m db) (found : Option SafeRow)
-    → found ≡ slice_get (filter (λ row. is_past last (safe_place row)) k.t.safes) 0
+    → found ≡ slice_get (filter (λ row. is_past last (safe_place row)) k.t.rows.safes) 0
     → Gives (safes_past last m) found (safes_past (moved nat_cmp nat_cmp_total safe_place last found) m)
 next_safe last m k found first =
-    let mine : safes_in_order m ≡ k.t.safes = numbers_ordered safe_place m.safes k.t.safes k.stands.safes (rise k) in
+    let mine : safes_in_order m ≡ k.t.rows.safes = numbers_ordered safe_place m.safes k.t.rows.safes k.stands.rows.safes (rise k) in
     gives_first nat_cmp nat_cmp_total safe_place (λ l x. is_past l (safe_place x)) (number_later safe_place) last (safes_in_order m)
     (subst (IsAscending _) (sym mine) (rise k)) found (first ∙ ap (λ l. slice_get (filter (λ row. is_past last (safe_place row)) l) 0) (sym mine))

@@ -128,14 +128,15 @@ one_attendance ceremony {xs} {ys} p q rising =
 
 module _ (ceremony : ℕ) (m : machine.Tables) {db : Trees} (k : KeepsTables m db) where
   rise_here : IsAscending Rises (those ceremony m)
-  rise_here = rise ceremony k.stands.stays k.kept.stays.rising
+  rise_here = rise ceremony k.stands.rows.stays k.kept.stays.rising
 
   -- what passes in the table are those that pass in the list
   passed : (passes : Row → Bool) (test : Stay → Bool) → ((x : Stay) → passes (stay_row x) ≡ (is_of ceremony x && test x))
-      → IsPermutation (filter (λ x. passes (stay_row x)) k.t.stays) (filter test (those ceremony m))
+      → IsPermutation (filter (λ x. passes (stay_row x)) k.t.rows.stays) (filter test (those ceremony m))
   passed passes test chosen =
-      subst (λ l. IsPermutation l (filter test (those ceremony m))) (filter-and (is_of ceremony) test k.t.stays ∙ sym (filter_as _ _ chosen k.t.stays))
-      (IsPermutation-filter test _ _ (same_stays ceremony k.stands.stays))
+      subst (λ l. IsPermutation l (filter test (those ceremony m)))
+      (filter-and (is_of ceremony) test k.t.rows.stays ∙ sym (filter_as _ _ chosen k.t.rows.stays))
+      (IsPermutation-filter test _ _ (same_stays ceremony k.stands.rows.stays))
 
 -- ---- the next that begins with the last
 
@@ -162,7 +163,7 @@ passes_together ceremony last x =
     with_tests _ _ _ _ (equal_number x.ceremony ceremony) (with_tests _ _ _ _ (equal_number x.since last.since) (one_test _ ∙ behind_text last.who x.who))
 
 pub first_together : (ceremony : ℕ) (last : Stay) (m : machine.Tables) {db : Trees} (k : KeepsTables m db) (found : Option Stay)
-    → IsFirst stay_row (together ceremony last) k.t.stays found → found ≡ slice_get (filter (begins_with last) (those ceremony m)) 0
+    → IsFirst stay_row (together ceremony last) k.t.rows.stays found → found ≡ slice_get (filter (begins_with last) (those ceremony m)) 0
 first_together ceremony last m k found first =
     first (filter (begins_with last) (those ceremony m))
     (passed ceremony m k (together ceremony last).passes (begins_with last) (passes_together ceremony last))
@@ -215,7 +216,7 @@ by_since : (ceremony : ℕ) (last : Option Stay) (a b : Stay) → (begins_later 
 by_since ceremony last a b = ap₂ (λ o p. ordering_then o p) (number_cmp a.since b.since) (then-Equal _ ∙ value_cmp-Text a.who b.who)
 
 pub first_later : (ceremony : ℕ) (last : Option Stay) (m : machine.Tables) {db : Trees} (k : KeepsTables m db) (found : Option Stay)
-    → IsFirst stay_row (begins_later ceremony last) k.t.stays found → found ≡ slice_get (filter (begins_after last) (those ceremony m)) 0
+    → IsFirst stay_row (begins_later ceremony last) k.t.rows.stays found → found ≡ slice_get (filter (begins_after last) (those ceremony m)) 0
 first_later ceremony last m k found first =
     first (filter (begins_after last) (those ceremony m))
     (passed ceremony m k (begins_later ceremony last).passes (begins_after last) (passes_later ceremony last))
@@ -286,31 +287,32 @@ next_listed ceremony last m k found first =
 -- ---- the name of the one person with these initials
 
 named : (who : List ℕ) (m : machine.Tables) {db : Trees} (k : KeepsTables m db) (rows rest : List Person) (person : Person)
-    → rows ≡ filter (λ row. same_text row.who who) k.t.people → rows ≡ rest ++ (person ∷ []) → person.name ≡ name_of m.people who
+    → rows ≡ filter (λ row. same_text row.who who) k.t.rows.people → rows ≡ rest ++ (person ∷ []) → person.name ≡ name_of m.people who
 named who m k rows rest person are ends =
     let mine : Person → Bool = λ row. same_text row.who who in
-    let among : Has (filter mine k.t.people) person = subst (λ (l : List Person). Has l person) (sym ends ∙ are)
+    let among : Has (filter mine k.t.rows.people) person = subst (λ (l : List Person). Has l person) (sym ends ∙ are)
     (has_right rest (person ∷ []) person (inl refl)) in
-    let here : Has k.t.people person = filter_from mine k.t.people person among in
-    let is : person.who ≡ who = (bytes_eq-Decides person.who who).0 (filter_is mine k.t.people person among) in
-    let here_too : Has m.people person = has_same k.t.people m.people person (IsPermutation-sym _ _ k.stands.people) here in
-    let there : Has (filter mine m.people) person = filter_to mine m.people person here_too (filter_is mine k.t.people person among) in
+    let here : Has k.t.rows.people person = filter_from mine k.t.rows.people person among in
+    let is : person.who ≡ who = (bytes_eq-Decides person.who who).0 (filter_is mine k.t.rows.people person among) in
+    let here_too : Has m.people person = has_same k.t.rows.people m.people person (IsPermutation-sym _ _ k.stands.rows.people) here in
+    let there : Has (filter mine m.people) person = filter_to mine m.people person here_too (filter_is mine k.t.rows.people person among) in
     let found : slice_get (filter mine m.people) 0 ≡ Some person = first (filter mine m.people) refl there here is in
     ap (λ (o : Option Person). unwrap_or (option_map (λ row. row.name) o) []) (sym found ∙ slice_get-filter mine m.people)
   where
-    first : (l : List Person) → filter (λ row. same_text row.who who) m.people ≡ l → Has l person → Has k.t.people person → person.who ≡ who
+    first : (l : List Person) → filter (λ row. same_text row.who who) m.people ≡ l → Has l person → Has k.t.rows.people person → person.who ≡ who
         → slice_get l 0 ≡ Some person
     first [] e has here is = absurd has
     first (x ∷ more) e has here is =
         let in_all : Has (filter (λ row. same_text row.who who) m.people) x = subst (λ (l : List Person). Has l x) (sym e) (inl refl) in
-        let in_table : Has k.t.people x = has_same m.people k.t.people x k.stands.people (filter_from (λ row. same_text row.who who) m.people x in_all) in
+        let in_table : Has k.t.rows.people x = has_same m.people k.t.rows.people x k.stands.rows.people
+        (filter_from (λ row. same_text row.who who) m.people x in_all) in
         let same : x.who ≡ person.who = (bytes_eq-Decides x.who who).0 (filter_is (λ row. same_text row.who who) m.people x in_all) ∙ sym is in
         let tie : is_eq (by_key 1 (person_row x) (person_row person)) ≡ true =
         ap is_eq (text_key x.who person.who [] [] ∙ ap (λ w. slice_cmp nat_cmp w person.who) same ∙ tied_itself nat_list_cmp_total person.who) in
-        ap Some (one_key_of 1 person_row k.t.people k.kept.people.rising x person in_table here tie)
+        ap Some (one_key_of 1 person_row k.t.rows.people k.kept.people.rising x person in_table here tie)
 
 pub named_last : (who : List ℕ) (m : machine.Tables) {db : Trees} (k : KeepsTables m db) (rows rest : List Person) (found : Option Person) (name : List ℕ)
-    → rows ≡ filter (λ row. same_text row.who who) k.t.people → rows ≡ rest ++ option_to_list found → option_map (λ row. row.name) found ≡ Some name
+    → rows ≡ filter (λ row. same_text row.who who) k.t.rows.people → rows ≡ rest ++ option_to_list found → option_map (λ row. row.name) found ≡ Some name
     → name ≡ name_of m.people who
 named_last who m k rows rest None name are ends is = absurd (cc)
 named_last who m k rows rest (Some person) name are ends is =

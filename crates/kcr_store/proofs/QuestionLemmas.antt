@@ -25,14 +25,12 @@ use Rattle.kcr_history.specs.Ceremonies.{is_ceremony}
 use Rattle.kcr_history.specs.Custody.{spot}
 use Rattle.kcr_history.specs.Machine.{IsRegister}
 use Rattle.kcr_history.specs.Room.{sheet, present}
-use Rattle.kcr_history.specs.Tables.{tables, items, bags, ceremonies, ceremony_row, planned_number}
+use Rattle.kcr_history.specs.Tables.{Tables, SameTables, tables, items, bags, ceremonies, ceremony_row, planned_number}
 use Rattle.kcr_history.specs.Views.{is_of_serial, is_of_number, is_stay_of}
 use Rattle.kcr_machine.proofs.BagsWords.{spot-shown}
 use Rattle.kcr_laws.proofs.Staffed.{holder-all}
 use Rattle.kcr_machine.proofs.InRoom.{present-shown}
 use Rattle.kcr_machine.proofs.Scenes.{ceremony-shown}
-use Rattle.kcr_tables.specs.Held.{Tables}
-use Rattle.kcr_tables.specs.Joint.{Stands}
 use Rattle.kcr_tables.proofs.JointLemmas.{Rises}
 use Rattle.kcr_tables.proofs.ViewLemmas.{asked_shows}
 use Rattle.kcr_history.specs.declared.questions.BagShown.{BagShown}
@@ -53,14 +51,14 @@ some_kept test (x ∷ xs) = by_test (test x) (some_kept test xs)
 
 -- ---- what the rows of a register's tables show
 
-module _ (A : History) (register : IsRegister A) (t : Tables) (stands : Stands (tables A) t) where
+module _ (A : History) (register : IsRegister A) (t : Tables) (same : SameTables (tables A) t) where
   -- who holds which place on a day
   pub holders_shown : (day : ℕ) → holders_by (λ place. holder_by t.appointments place day) ≡ holders_on A day
-  holders_shown day = λ i. holders_by (λ place. holder-all A register t.appointments stands.appointments place day i)
+  holders_shown day = λ i. holders_by (λ place. holder-all A register t.appointments same.appointments place day i)
 
   -- where the bag lies
   pub spot_shown : (serial : List ℕ) (rows : List Bag) → rows ≡ filter (is_of_serial serial) t.bags → spot_by rows serial ≡ spot A serial
-  spot_shown serial rows is = spot-shown A register serial rows (asked_shows is_of_serial (Under serial) (bags A) t.bags rows stands.bags is)
+  spot_shown serial rows is = spot-shown A register serial rows (asked_shows is_of_serial (Under serial) (bags A) t.bags rows same.bags is)
 
   -- the bag with its items
   pub bag_shown : (rises : Rises t) (serial : List ℕ) (bag : BagShown) → bag.serial ≡ serial → spot A serial ≡ Some bag.spot
@@ -70,7 +68,7 @@ module _ (A : History) (register : IsRegister A) (t : Tables) (stands : Stands (
     spot = lies;
     items = subst (IsPermutation (map (λ item. item.code) (filter (lies_in serial) (items A)))) (sym codes)
         (IsPermutation-map (λ item. item.code) (filter (lies_in serial) (items A)) (filter (lies_in serial) t.items)
-        (filter-order (lies_in serial) (items A) t.items stands.items));
+        (filter-order (lies_in serial) (items A) t.items same.items));
     order = subst (AllPairs (λ a b. IsTrue (is_before a b))) (sym codes)
         (all_pairs _ _ (ascending-map _ (λ item. item.code) (filter (lies_in serial) t.items)
         (ascending-filter _ (lies_in serial) t.items (by_code t.items rises.items))));
@@ -82,7 +80,7 @@ module _ (A : History) (register : IsRegister A) (t : Tables) (stands : Stands (
   planned_shown ceremony rows is =
       sym (planned-number A ceremony)
       ∙ sym (any-map (is_of_number ceremony) (ceremony_row A) (all_said planned_number A))
-      ∙ list_any-IsPermutation (is_of_number ceremony) (ceremonies A) t.ceremonies stands.ceremonies
+      ∙ list_any-IsPermutation (is_of_number ceremony) (ceremonies A) t.ceremonies same.ceremonies
       ∙ some_kept (is_of_number ceremony) t.ceremonies
       ∙ ap (λ l. not (length l == 0)) (sym is)
 
@@ -98,7 +96,7 @@ module _ (A : History) (register : IsRegister A) (t : Tables) (stands : Stands (
       first = ap (λ l. slice_get l 0) is ∙ slice_get-filter (is_of_number ceremony) t.ceremonies
 
       ordered : IsPermutation (filter (is_of_number ceremony) (ceremonies A)) (filter (is_of_number ceremony) t.ceremonies)
-      ordered = filter-order (is_of_number ceremony) (ceremonies A) t.ceremonies stands.ceremonies
+      ordered = filter-order (is_of_number ceremony) (ceremonies A) t.ceremonies same.ceremonies
 
       says : (b : Bool) → is_ceremony A ceremony ≡ b → Says (slice_get rows 0)
       says true e = subst Says (sym (first ∙ rw e at (ceremony-shown A ceremony t.ceremonies ordered))) (record { planned = e; row_is = refl })
@@ -108,4 +106,4 @@ module _ (A : History) (register : IsRegister A) (t : Tables) (stands : Stands (
   pub present_shown : (ceremony at : ℕ) (rows : List Stay) → rows ≡ filter (is_stay_of ceremony) t.stays
       → present_in_by rows ceremony at ≡ present A ceremony at
   present_shown ceremony at rows is =
-      present-shown A ceremony rows (asked_shows is_stay_of (Under ceremony) (reverse (stays_by (sheet A))) t.stays rows stands.stays is) at
+      present-shown A ceremony rows (asked_shows is_stay_of (Under ceremony) (reverse (stays_by (sheet A))) t.stays rows same.stays is) at

@@ -26,12 +26,10 @@ use Rattle.kcr_people.specs.Laws.{AtMostOne, same_withdrawn}
 use Rattle.kcr_people.proofs.Orders.{find-one}
 use Rattle.kcr_people.proofs.Withdrawn.{is_of-true}
 use Rattle.kcr_history.specs.History.{History}
-use Rattle.kcr_history.specs.Tables.{people, trainings, withdrawals, tables}
+use Rattle.kcr_history.specs.Tables.{Tables, SameTables, people, trainings, withdrawals, tables}
 use Rattle.kcr_history.specs.Views.{is_training_of}
 use Rattle.kcr_rows.specs.Rows.{training_row, withdrawal_row}
 use Rattle.kcr_rows.specs.Keyed.{by_key}
-use Rattle.kcr_tables.specs.Held.{Tables}
-use Rattle.kcr_tables.specs.Joint.{Stands}
 use Rattle.kcr_tables.proofs.JointLemmas.{Rises, key_of_trainings, key_of_withdrawals}
 use Rattle.kcr_history.specs.declared.questions.PersonShown.{PersonShown}
 use Rattle.kcr_history.specs.declared.questions.RoleShown.{RoleShown}
@@ -161,13 +159,13 @@ same_shown table rows p up row =
 
 -- ---- what a register shows
 
-module _ (A : History) (t : Tables) (stands : Stands (tables A) t) (rises : Rises t) where
+module _ (A : History) (t : Tables) (same : SameTables (tables A) t) (rises : Rises t) where
   roles_shown : (who : List ℕ) → IsPermutation (roles_of (trainings A) (withdrawals A) who) (roles_of t.trainings t.withdrawals who)
   roles_shown who =
-      rw (map_same (role_shown (withdrawals A)) (role_shown t.withdrawals) (same_shown (withdrawals A) t.withdrawals stands.withdrawals rises.withdrawals)
+      rw (map_same (role_shown (withdrawals A)) (role_shown t.withdrawals) (same_shown (withdrawals A) t.withdrawals same.withdrawals rises.withdrawals)
       (filter (is_training_of who) (trainings A)))
       (IsPermutation-map (role_shown t.withdrawals) (filter (is_training_of who) (trainings A)) (filter (is_training_of who) t.trainings)
-      (filter-order (is_training_of who) (trainings A) t.trainings stands.trainings))
+      (filter-order (is_training_of who) (trainings A) t.trainings same.trainings))
 
   person_shown : (shown : PersonShown) → AreRolesOf t.trainings t.withdrawals shown.who shown.roles.items → IsPersonShown A shown
   person_shown shown are = record {
@@ -183,7 +181,7 @@ module _ (A : History) (t : Tables) (stands : Stands (tables A) t) (rises : Rise
   pub people_shown : (rows : List PersonShown) → map person_of rows ≡ t.people
       → All (λ shown. AreRolesOf t.trainings t.withdrawals shown.who shown.roles.items) rows → ArePeopleShown A rows
   people_shown rows is each = record {
-    people = subst (IsPermutation (people A)) (sym is) stands.people;
+    people = subst (IsPermutation (people A)) (sym is) same.people;
     order = subst IsByInitials (sym is) (by_initials t.people rises.people);
     each = λ k d below. person_shown (get_or rows k d) (each k d below);
   }

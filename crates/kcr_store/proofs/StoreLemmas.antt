@@ -1,5 +1,5 @@
 -- What a decision makes of the tables, and what a reading of them shows.
-use Rattle.std.proofs.Common.{rules, ◌≡◌, inl, inr, ℕ, List, [], ◌∷◌, map, Option, Some, None, Ok, Err, Less, IsTrue, refl, sym, ap, subst, ◌∙◌}
+use Rattle.std.proofs.Common.{◌≡◌, inl, inr, ℕ, List, [], ◌∷◌, map, Option, Some, None, Ok, Err, Less, IsTrue, refl, sym, ap, subst, ◌∙◌}
 use Rattle.std.specs.Prelude.{MatchOption, AllPairs, IsPermutation, Result, IfOk, IfErr, length}
 use Rattle.std.specs.Ordering.{is_lt}
 use Rattle.sqlite.specs.declared.types.Value.TheVariants.{Text}
@@ -22,7 +22,7 @@ use Rattle.kcr_history.specs.declared.views.Verdict.{Verdict}
 use Rattle.kcr_history.specs.declared.views.WholeView.{WholeView}
 use Rattle.kcr_history.specs.Audit.{IsAudit}
 use Rattle.kcr_history.specs.History.{History}
-use Rattle.kcr_history.specs.Tables.{Tables, tables}
+use Rattle.kcr_history.specs.Tables.{Tables, SameTables, tables}
 use Rattle.kcr_history.specs.Changes.{changed_by}
 use Rattle.kcr_history.specs.Machine.{IsRegister, IsAcceptance, IsRepeat, IsDecision}
 use Rattle.kcr_history.proofs.Steps.{numbers}
@@ -32,7 +32,7 @@ use Rattle.kcr_rows.specs.States.{loose_value, within_value}
 use Rattle.kcr_tables.specs.Held as held
 use Rattle.kcr_tables.specs.Held.{Holds}
 use Rattle.kcr_tables.specs.Joint.{HoldsTables, Stands}
-use Rattle.kcr_tables.specs.Table.{Table}
+use Rattle.kcr_tables.specs.Table.{Table, machine_rows}
 use Rattle.kcr_tables.proofs.JointLemmas.{same_holds}
 use Rattle.kcr_tables.specs.Refusals.{IsFault}
 use Rattle.kcr_history.specs.Questions.{IsByInitials}
@@ -116,16 +116,12 @@ none_found view (Some finding) clean found = absurd (clean finding found.0)
 
 -- rows of one table as a database has them are the machine's, in the order of their keys
 pub in_table : {X : Type 0} (table : Table X) {m : Tables} {db : Trees} {t : held.Tables} {rows : List X} → held.Kept db t → rows ≡ table.rows_in t
-    → IsPermutation (table.machine_rows m) rows → AreRows table m rows
+    → IsPermutation (machine_rows table m) rows → AreRows table m rows
 in_table table kept is same = record { same = same; db = _; t = _; kept = kept; lists = is }
-
--- the machine's rows are also those that are listed
-same_rows : {X : Type 0} {all there listed : List X} → IsPermutation all there → listed ≡ there → IsPermutation all listed
-same_rows p is = rw is p
 
 -- rows as a database has them are the machine's, in the order of their keys
 pub listed : {m : Tables} {db : Trees} {t : held.Tables} {view : WholeView} → held.Kept db t → Stands m t → Lists t view → IsListed m view
-listed kept s l = record { same = search (rules, same_rows); db = _; t = _; kept = kept; lists = l }
+listed kept s l = record { same = subst (SameTables _) (sym l) s.rows; db = _; t = _; kept = kept; lists = l }
 
 -- ---- rows in the order of their keys
 

@@ -7,26 +7,11 @@ use Rattle.kcr_history.specs.Tables.{Tables, SameTables}
 use Rattle.kcr_history.specs.declared.views.Finding.{Finding}
 use Rattle.kcr_history.specs.declared.views.WholeView.{WholeView}
 use Rattle.kcr_tables.specs.Held as held
-use Rattle.kcr_tables.specs.Table.{Table}
+use Rattle.kcr_tables.specs.Table.{Table, machine_rows}
 
 -- the view has the rows of each table, in the order of their keys
-pub record Lists (t : held.Tables) (view : WholeView) : Type 0 where
-  pub people : view.asked.people.items ≡ t.people
-  pub trainings : view.asked.trainings.items ≡ t.trainings
-  pub withdrawals : view.asked.withdrawals.items ≡ t.withdrawals
-  pub appointments : view.asked.appointments.items ≡ t.appointments
-  pub boxes : view.asked.boxes.items ≡ t.boxes
-  pub safes : view.asked.safes.items ≡ t.safes
-  pub bags : view.asked.bags.items ≡ t.bags
-  pub items : view.asked.items.items ≡ t.items
-  pub ceremonies : view.asked.ceremonies.items ≡ t.ceremonies
-  pub marks : view.asked.marks.items ≡ t.marks
-  pub steps : view.asked.steps.items ≡ t.steps
-  pub seatings : view.seatings.items ≡ t.seatings
-  pub sheet : view.sheet.items ≡ t.sheet
-  pub stays : view.asked.stays.items ≡ t.stays
-  pub exceptions : view.asked.exceptions.items ≡ t.exceptions
-  pub keys : view.keys.items ≡ t.keys
+abbrev pub Lists : held.Tables → WholeView → Type 0
+Lists t view = tables_of view ≡ t.rows
 
 -- the view has the machine's rows, each table's in the order of their keys
 pub record IsListed (m : Tables) (view : WholeView) : Type 0 where
@@ -38,7 +23,7 @@ pub record IsListed (m : Tables) (view : WholeView) : Type 0 where
 
 -- these are the machine's rows of one table, in the order in which a database keeps them
 pub record AreRows {X : Type 0} (table : Table X) (m : Tables) (rows : List X) : Type 0 where
-  pub same : IsPermutation (table.machine_rows m) rows
+  pub same : IsPermutation (machine_rows table m) rows
   pub db : Trees
   pub t : held.Tables
   pub kept : held.Kept db t

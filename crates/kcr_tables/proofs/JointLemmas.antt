@@ -1,5 +1,5 @@
 -- How the rows in the order of their keys meet the machine's rows, which stand in any order.
-use Rattle.std.proofs.Common.{◌≡◌, ◌&&◌, ℕ, List, [], ◌∷◌, map, drop, pos, refl, ◌∙◌, IsPermutation, Less}
+use Rattle.std.proofs.Common.{rules, ◌≡◌, ◌&&◌, ℕ, List, [], ◌∷◌, map, drop, pos, refl, ◌∙◌, IsPermutation, Less}
 use Rattle.std.specs.Ordering.{is_eq}
 use Rattle.std.proofs.lemmas.List.Sorted.{IsPermutation-refl, IsPermutation-sym, IsPermutation-trans}
 use Rattle.sqlite.specs.declared.types.Value.TheVariants.{Int, Text}
@@ -45,7 +45,7 @@ use Rattle.kcr_room.specs.declared.Stay.{Stay}
 use Rattle.kcr_people.specs.declared.Withdrawal.{Withdrawal}
 use Rattle.kcr_tables.specs.Held.{Tables, Kept, Holds}
 use Rattle.kcr_tables.specs.First.{first_tables}
-use Rattle.kcr_tables.specs.Changed.{changed, changed_all}
+use Rattle.kcr_tables.specs.Changed.{rows_after, changed, changed_all}
 use Rattle.kcr_tables.specs.Joint.{Stands, KeepsTables, HoldsTables}
 use Rattle.kcr_tables.proofs.HoldLemmas.{tables_of}
 
@@ -127,7 +127,7 @@ abbrev pub Rise : {X : Type 0} → ℕ → (X → Row) → List X → Type 0
 Rise keys row_of xs = IsAscending (λ a b. by_key keys a b ≡ Less) (map row_of xs)
 
 -- those of each table do
-pub record Rises (t : Tables) : Type 0 where
+pub record Rises (t : machine.Tables) : Type 0 where
   pub people : Rise 1 person_row t.people
   pub trainings : Rise 4 training_row t.trainings
   pub appointments : Rise 2 appointment_row t.appointments
@@ -145,7 +145,7 @@ pub record Rises (t : Tables) : Type 0 where
   pub stays : Rise 2 stay_row t.stays
   pub withdrawals : Rise 4 withdrawal_row t.withdrawals
 
-pub kept_rises : (db : Trees) (t : Tables) → Kept db t → Rises t
+pub kept_rises : (db : Trees) (t : Tables) → Kept db t → Rises t.rows
 kept_rises db t k = record {
   people = k.people.rising;
   trainings = k.trainings.rising;
@@ -165,84 +165,84 @@ kept_rises db t k = record {
   withdrawals = k.withdrawals.rising;
 }
 
-pub changed_rises : (c : Change) (t : Tables) → Rises t → Rises (changed c t)
-changed_rises c t r = record {
-  people = elim c as (λ c. Rise 1 person_row (changed c t).people)
+after_rises : (c : Change) (t : machine.Tables) → Rises t → Rises (rows_after c t)
+after_rises c t r = record {
+  people = elim c as (λ c. Rise 1 person_row (rows_after c t).people)
       [ PutPerson row ↦ put_in_rising 1 person_row row t.people r.people | _ ↦ r.people ];
-  trainings = elim c as (λ c. Rise 4 training_row (changed c t).trainings)
+  trainings = elim c as (λ c. Rise 4 training_row (rows_after c t).trainings)
       [ PutTraining row ↦ put_in_rising 4 training_row row t.trainings r.trainings | _ ↦ r.trainings ];
-  appointments = elim c as (λ c. Rise 2 appointment_row (changed c t).appointments)
+  appointments = elim c as (λ c. Rise 2 appointment_row (rows_after c t).appointments)
       [ PutAppointment row ↦ put_in_rising 2 appointment_row row t.appointments r.appointments | _ ↦ r.appointments ];
-  boxes = elim c as (λ c. Rise 2 box_row (changed c t).boxes)
+  boxes = elim c as (λ c. Rise 2 box_row (rows_after c t).boxes)
       [ PutBox row ↦ put_in_rising 2 box_row row t.boxes r.boxes | _ ↦ r.boxes ];
-  safes = elim c as (λ c. Rise 2 safe_row (changed c t).safes)
+  safes = elim c as (λ c. Rise 2 safe_row (rows_after c t).safes)
       [ PutSafe row ↦ put_in_rising 2 safe_row row t.safes r.safes | _ ↦ r.safes ];
-  bags = elim c as (λ c. Rise 1 bag_row (changed c t).bags)
+  bags = elim c as (λ c. Rise 1 bag_row (rows_after c t).bags)
       [ PutBag row ↦ put_in_rising 1 bag_row row t.bags r.bags | _ ↦ r.bags ];
-  items = elim c as (λ c. Rise 1 item_row (changed c t).items)
+  items = elim c as (λ c. Rise 1 item_row (rows_after c t).items)
       [ PutItem row ↦ put_in_rising 1 item_row row t.items r.items | _ ↦ r.items ];
-  ceremonies = elim c as (λ c. Rise 1 ceremony_row (changed c t).ceremonies)
+  ceremonies = elim c as (λ c. Rise 1 ceremony_row (rows_after c t).ceremonies)
       [ PutCeremony row ↦ put_in_rising 1 ceremony_row row t.ceremonies r.ceremonies | _ ↦ r.ceremonies ];
-  marks = elim c as (λ c. Rise 1 mark_row (changed c t).marks)
+  marks = elim c as (λ c. Rise 1 mark_row (rows_after c t).marks)
       [ PutMark row ↦ put_in_rising 1 mark_row row t.marks r.marks | _ ↦ r.marks ];
-  steps = elim c as (λ c. Rise 2 step_row (changed c t).steps)
+  steps = elim c as (λ c. Rise 2 step_row (rows_after c t).steps)
       [ PutStep row ↦ put_in_rising 2 step_row row t.steps r.steps | _ ↦ r.steps ];
-  seatings = elim c as (λ c. Rise 3 seating_row (changed c t).seatings)
+  seatings = elim c as (λ c. Rise 3 seating_row (rows_after c t).seatings)
       [ PutSeating row ↦ put_in_rising 3 seating_row row t.seatings r.seatings | _ ↦ r.seatings ];
-  sheet = elim c as (λ c. Rise 2 sheet_row (changed c t).sheet)
+  sheet = elim c as (λ c. Rise 2 sheet_row (rows_after c t).sheet)
       [ PutSheet row ↦ put_in_rising 2 sheet_row row t.sheet r.sheet | _ ↦ r.sheet ];
-  exceptions = elim c as (λ c. Rise 2 exception_row (changed c t).exceptions)
+  exceptions = elim c as (λ c. Rise 2 exception_row (rows_after c t).exceptions)
       [ PutException row ↦ put_in_rising 2 exception_row row t.exceptions r.exceptions | _ ↦ r.exceptions ];
-  keys = elim c as (λ c. Rise 1 key_row (changed c t).keys)
+  keys = elim c as (λ c. Rise 1 key_row (rows_after c t).keys)
       [ PutKey row ↦ put_in_rising 1 key_row row t.keys r.keys | _ ↦ r.keys ];
-  stays = elim c as (λ c. Rise 2 stay_row (changed c t).stays)
+  stays = elim c as (λ c. Rise 2 stay_row (rows_after c t).stays)
       [ PutStay row ↦ put_in_rising 2 stay_row row t.stays r.stays | _ ↦ r.stays ];
-  withdrawals = elim c as (λ c. Rise 4 withdrawal_row (changed c t).withdrawals)
+  withdrawals = elim c as (λ c. Rise 4 withdrawal_row (rows_after c t).withdrawals)
       [ PutWithdrawal row ↦ put_in_rising 4 withdrawal_row row t.withdrawals r.withdrawals | _ ↦ r.withdrawals ];
 }
 
 -- one change: its table's rows are those of the machine, in another order
-pub changed_stands : (c : Change) (m : machine.Tables) (t : Tables) → Rises t → Stands m t → Stands (changes.changed c m) (changed c t)
-changed_stands c m t r s = record {
-  people = elim c as (λ c. IsPermutation (changes.changed c m).people (changed c t).people)
+after_same : (c : Change) (m t : machine.Tables) → Rises t → machine.SameTables m t → machine.SameTables (changes.changed c m) (rows_after c t)
+after_same c m t r s = record {
+  people = elim c as (λ c. IsPermutation (changes.changed c m).people (rows_after c t).people)
       [ PutPerson row ↦ put-stands 1 person_row same_person key_of_people row _ _ r.people s.people | _ ↦ s.people ];
-  trainings = elim c as (λ c. IsPermutation (changes.changed c m).trainings (changed c t).trainings)
+  trainings = elim c as (λ c. IsPermutation (changes.changed c m).trainings (rows_after c t).trainings)
       [ PutTraining row ↦ put-stands 4 training_row same_training key_of_trainings row _ _ r.trainings s.trainings | _ ↦ s.trainings ];
-  appointments = elim c as (λ c. IsPermutation (changes.changed c m).appointments (changed c t).appointments)
+  appointments = elim c as (λ c. IsPermutation (changes.changed c m).appointments (rows_after c t).appointments)
       [ PutAppointment row ↦ put-stands 2 appointment_row same_appointment key_of_appointments row _ _ r.appointments s.appointments | _ ↦ s.appointments ];
-  boxes = elim c as (λ c. IsPermutation (changes.changed c m).boxes (changed c t).boxes)
+  boxes = elim c as (λ c. IsPermutation (changes.changed c m).boxes (rows_after c t).boxes)
       [ PutBox row ↦ put-stands 2 box_row same_box key_of_boxes row _ _ r.boxes s.boxes | _ ↦ s.boxes ];
-  safes = elim c as (λ c. IsPermutation (changes.changed c m).safes (changed c t).safes)
+  safes = elim c as (λ c. IsPermutation (changes.changed c m).safes (rows_after c t).safes)
       [ PutSafe row ↦ put-stands 2 safe_row same_safe_row key_of_safes row _ _ r.safes s.safes | _ ↦ s.safes ];
-  bags = elim c as (λ c. IsPermutation (changes.changed c m).bags (changed c t).bags)
+  bags = elim c as (λ c. IsPermutation (changes.changed c m).bags (rows_after c t).bags)
       [ PutBag row ↦ put-stands 1 bag_row same_bag key_of_bags row _ _ r.bags s.bags | _ ↦ s.bags ];
-  items = elim c as (λ c. IsPermutation (changes.changed c m).items (changed c t).items)
+  items = elim c as (λ c. IsPermutation (changes.changed c m).items (rows_after c t).items)
       [ PutItem row ↦ put-stands 1 item_row same_item key_of_items row _ _ r.items s.items | _ ↦ s.items ];
-  ceremonies = elim c as (λ c. IsPermutation (changes.changed c m).ceremonies (changed c t).ceremonies)
+  ceremonies = elim c as (λ c. IsPermutation (changes.changed c m).ceremonies (rows_after c t).ceremonies)
       [ PutCeremony row ↦ put-stands 1 ceremony_row same_ceremony key_of_ceremonies row _ _ r.ceremonies s.ceremonies | _ ↦ s.ceremonies ];
-  marks = elim c as (λ c. IsPermutation (changes.changed c m).marks (changed c t).marks)
+  marks = elim c as (λ c. IsPermutation (changes.changed c m).marks (rows_after c t).marks)
       [ PutMark row ↦ put-stands 1 mark_row same_mark key_of_marks row _ _ r.marks s.marks | _ ↦ s.marks ];
-  steps = elim c as (λ c. IsPermutation (changes.changed c m).steps (changed c t).steps)
+  steps = elim c as (λ c. IsPermutation (changes.changed c m).steps (rows_after c t).steps)
       [ PutStep row ↦ put-stands 2 step_row same_step key_of_steps row _ _ r.steps s.steps | _ ↦ s.steps ];
-  seatings = elim c as (λ c. IsPermutation (changes.changed c m).seatings (changed c t).seatings)
+  seatings = elim c as (λ c. IsPermutation (changes.changed c m).seatings (rows_after c t).seatings)
       [ PutSeating row ↦ put-stands 3 seating_row same_seating key_of_seatings row _ _ r.seatings s.seatings | _ ↦ s.seatings ];
-  sheet = elim c as (λ c. IsPermutation (changes.changed c m).sheet (changed c t).sheet)
+  sheet = elim c as (λ c. IsPermutation (changes.changed c m).sheet (rows_after c t).sheet)
       [ PutSheet row ↦ put-stands 2 sheet_row same_sheet_row key_of_sheet row _ _ r.sheet s.sheet | _ ↦ s.sheet ];
-  exceptions = elim c as (λ c. IsPermutation (changes.changed c m).exceptions (changed c t).exceptions)
+  exceptions = elim c as (λ c. IsPermutation (changes.changed c m).exceptions (rows_after c t).exceptions)
       [ PutException row ↦ put-stands 2 exception_row same_exception key_of_exceptions row _ _ r.exceptions s.exceptions | _ ↦ s.exceptions ];
-  keys = elim c as (λ c. IsPermutation (changes.changed c m).keys (changed c t).keys)
+  keys = elim c as (λ c. IsPermutation (changes.changed c m).keys (rows_after c t).keys)
       [ PutKey row ↦ put-stands 1 key_row same_key_row key_of_keys row _ _ r.keys s.keys | _ ↦ s.keys ];
-  stays = elim c as (λ c. IsPermutation (changes.changed c m).stays (changed c t).stays)
+  stays = elim c as (λ c. IsPermutation (changes.changed c m).stays (rows_after c t).stays)
       [ PutStay row ↦ put-stands 2 stay_row same_stay key_of_stays row _ _ r.stays s.stays | _ ↦ s.stays ];
-  withdrawals = elim c as (λ c. IsPermutation (changes.changed c m).withdrawals (changed c t).withdrawals)
+  withdrawals = elim c as (λ c. IsPermutation (changes.changed c m).withdrawals (rows_after c t).withdrawals)
       [ PutWithdrawal row ↦ put-stands 4 withdrawal_row same_withdrawn key_of_withdrawals row _ _ r.withdrawals s.withdrawals | _ ↦ s.withdrawals ];
-  versions = elim c as (λ c. (changed c t).versions ≡ first_tables.versions) [ PutPerson row ↦ s.versions | _ ↦ s.versions ];
 }
 
 -- the changes one after the other
-pub all_stand : (list : List Change) (m : machine.Tables) (t : Tables) → Rises t → Stands m t → Stands (changes.changed_by list m) (changed_all list t)
+pub all_stand : (list : List Change) (m : machine.Tables) (t : Tables) → Rises t.rows → Stands m t → Stands (changes.changed_by list m) (changed_all list t)
 all_stand [] m t r s = s
-all_stand (c ∷ more) m t r s = all_stand more (changes.changed c m) (changed c t) (changed_rises c t r) (changed_stands c m t r s)
+all_stand (c ∷ more) m t r s =
+    all_stand more (changes.changed c m) (changed c t) (after_rises c t.rows r) (record { rows = after_same c m t.rows r s.rows; versions = s.versions })
 
 -- ---- what the store holds
 
@@ -252,50 +252,37 @@ changes_hold list m old new h held =
     tables_of (changes.changed_by list m) new (changed_all list h.tables.t)
     (all_stand list m h.tables.t (kept_rises old.trees h.tables.t h.tables.kept) h.tables.stands) held
 
-first_stands : Stands (machine.tables []) first_tables
-first_stands = record {
-  people = IsPermutation-refl [];
-  trainings = IsPermutation-refl [];
-  withdrawals = IsPermutation-refl [];
-  appointments = IsPermutation-refl [];
-  boxes = IsPermutation-refl [];
-  safes = IsPermutation-refl first_tables.safes;
-  bags = IsPermutation-refl [];
-  items = IsPermutation-refl [];
-  ceremonies = IsPermutation-refl [];
-  marks = IsPermutation-refl [];
-  steps = IsPermutation-refl [];
-  seatings = IsPermutation-refl [];
-  sheet = IsPermutation-refl [];
-  stays = IsPermutation-refl [];
-  exceptions = IsPermutation-refl [];
-  keys = IsPermutation-refl [];
-  versions = refl;
-}
+same_itself : (t : machine.Tables) → machine.SameTables t t
+same_itself t = search (rules, IsPermutation-refl)
 
 pub first_holds : (db : Database) → Holds db first_tables → HoldsTables (machine.tables []) db
-first_holds db held = tables_of (machine.tables []) db first_tables first_stands held
+first_holds db held = tables_of (machine.tables []) db first_tables (record { rows = same_itself (machine.tables []); versions = refl }) held
 
 -- ---- the same rows in another order
 
+of_both : {X : Type 0} {xs ys zs : List X} → IsPermutation xs ys → IsPermutation xs zs → IsPermutation ys zs
+of_both p q = IsPermutation-trans _ _ _ (IsPermutation-sym _ _ p) q
+
 pub same_stands : (m n : machine.Tables) (t : Tables) → machine.SameTables m n → Stands m t → Stands n t
 same_stands m n t same s = record {
-  people = IsPermutation-trans _ _ _ (IsPermutation-sym _ _ same.people) s.people;
-  trainings = IsPermutation-trans _ _ _ (IsPermutation-sym _ _ same.trainings) s.trainings;
-  withdrawals = IsPermutation-trans _ _ _ (IsPermutation-sym _ _ same.withdrawals) s.withdrawals;
-  appointments = IsPermutation-trans _ _ _ (IsPermutation-sym _ _ same.appointments) s.appointments;
-  boxes = IsPermutation-trans _ _ _ (IsPermutation-sym _ _ same.boxes) s.boxes;
-  safes = IsPermutation-trans _ _ _ (IsPermutation-sym _ _ same.safes) s.safes;
-  bags = IsPermutation-trans _ _ _ (IsPermutation-sym _ _ same.bags) s.bags;
-  items = IsPermutation-trans _ _ _ (IsPermutation-sym _ _ same.items) s.items;
-  ceremonies = IsPermutation-trans _ _ _ (IsPermutation-sym _ _ same.ceremonies) s.ceremonies;
-  marks = IsPermutation-trans _ _ _ (IsPermutation-sym _ _ same.marks) s.marks;
-  steps = IsPermutation-trans _ _ _ (IsPermutation-sym _ _ same.steps) s.steps;
-  seatings = IsPermutation-trans _ _ _ (IsPermutation-sym _ _ same.seatings) s.seatings;
-  sheet = IsPermutation-trans _ _ _ (IsPermutation-sym _ _ same.sheet) s.sheet;
-  stays = IsPermutation-trans _ _ _ (IsPermutation-sym _ _ same.stays) s.stays;
-  exceptions = IsPermutation-trans _ _ _ (IsPermutation-sym _ _ same.exceptions) s.exceptions;
-  keys = IsPermutation-trans _ _ _ (IsPermutation-sym _ _ same.keys) s.keys;
+  rows = record {
+    people = of_both same.people s.rows.people;
+    trainings = of_both same.trainings s.rows.trainings;
+    withdrawals = of_both same.withdrawals s.rows.withdrawals;
+    appointments = of_both same.appointments s.rows.appointments;
+    boxes = of_both same.boxes s.rows.boxes;
+    safes = of_both same.safes s.rows.safes;
+    bags = of_both same.bags s.rows.bags;
+    items = of_both same.items s.rows.items;
+    ceremonies = of_both same.ceremonies s.rows.ceremonies;
+    marks = of_both same.marks s.rows.marks;
+    steps = of_both same.steps s.rows.steps;
+    seatings = of_both same.seatings s.rows.seatings;
+    sheet = of_both same.sheet s.rows.sheet;
+    stays = of_both same.stays s.rows.stays;
+    exceptions = of_both same.exceptions s.rows.exceptions;
+    keys = of_both same.keys s.rows.keys;
+  };
   versions = s.versions;
 }
 

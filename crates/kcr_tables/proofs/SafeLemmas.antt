@@ -11,12 +11,14 @@ use Rattle.kcr_tables.specs.First.{empty_tables, first_tables, shut}
 
 -- in the order of their keys
 safes_are : put_in 2 safe_row (shut West Two)
-    (put_in 2 safe_row (shut West One) (put_in 2 safe_row (shut East Two) (put_in 2 safe_row (shut East One) []))) ≡ first_tables.safes
+    (put_in 2 safe_row (shut West One) (put_in 2 safe_row (shut East Two) (put_in 2 safe_row (shut East One) []))) ≡ first_tables.rows.safes
 unfolding value_cmp everything lib.Ieee.is_nan lib.Ieee.lt
 safes_are = refl
 
-pub first_is : record empty_tables {
-  safes = put_in 2 safe_row (shut West Two) (put_in 2 safe_row (shut West One) (put_in 2 safe_row (shut East Two) (put_in 2 safe_row (shut East One) [])));
+pub first_is : record {
+  rows = record empty_tables.rows {
+    safes = put_in 2 safe_row (shut West Two) (put_in 2 safe_row (shut West One) (put_in 2 safe_row (shut East Two) (put_in 2 safe_row (shut East One) [])));
+  };
   versions = put_in 1 version_row (record { number = 3 }) [];
 } ≡ first_tables
-first_is = ap (λ (l : List SafeRow). record first_tables { safes = l }) safes_are
+first_is = ap (λ (l : List SafeRow). record first_tables { rows = record first_tables.rows { safes = l } }) safes_are

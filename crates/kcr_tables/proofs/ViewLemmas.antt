@@ -17,7 +17,6 @@ use Rattle.kcr_rows.specs.Greatest.{IsGreatest}
 use Rattle.kcr_rows.proofs.PutLemmas.{has_same}
 use Rattle.kcr_history.specs.Tables as machine
 use Rattle.kcr_rows.specs.Rows.{key_row}
-use Rattle.kcr_tables.specs.Held.{Tables}
 use Rattle.kcr_tables.specs.Asked.{asked_of, asked_all}
 use Rattle.kcr_tables.specs.Joint.{HoldsTables}
 use Rattle.kcr_tables.proofs.JointLemmas.{kept_rises, key_of_keys}
@@ -83,19 +82,19 @@ told None = 0
 told (Some row) = row.accepted
 
 module _ (m : machine.Tables) (db : Database) (h : HoldsTables m db) where
-  abbrev t : Tables
-  t = h.tables.t
+  abbrev t : machine.Tables
+  t = h.tables.t.rows
 
   mine : (x : KeyRow) → Has t.keys x → Has m.keys x
-  mine x there = has_same t.keys m.keys x (IsPermutation-sym _ _ h.tables.stands.keys) there
+  mine x there = has_same t.keys m.keys x (IsPermutation-sym _ _ h.tables.stands.rows.keys) there
 
   theirs : (x : KeyRow) → Has m.keys x → Has t.keys x
-  theirs x there = has_same m.keys t.keys x h.tables.stands.keys there
+  theirs x there = has_same m.keys t.keys x h.tables.stands.rows.keys there
 
   -- two rows under the key are one
   one_row : (key : List ℕ) (x y : KeyRow) → Has t.keys x → Has t.keys y → is_of_key key x ≡ true → is_of_key key y ≡ true → x ≡ y
   one_row key x y a b p q =
-      one_key_of 1 key_row t.keys (kept_rises db.trees t h.tables.kept).keys x y a b (sym (key_of_keys y x) ∙ same_texts key x.key y.key p q)
+      one_key_of 1 key_row t.keys (kept_rises db.trees h.tables.t h.tables.kept).keys x y a b (sym (key_of_keys y x) ∙ same_texts key x.key y.key p q)
 
   -- of the rows under a key the first is the key's
   pub row_under : (key : List ℕ) (rows : List KeyRow) → rows ≡ filter (is_of_key key) t.keys → slice_get rows 0 ≡ row_of_key key m.keys

@@ -40,11 +40,10 @@ names = codes "place" ∷ codes "since" ∷ codes "who" ∷ codes "until" ∷ []
 
 abbrev pub table : Table Appointment
 table = record {
-  rows_in = λ t. t.appointments;
-  machine_rows = λ m. m.appointments;
+  rows_in = λ t. t.rows.appointments;
   place = appointments_place;
   is_stored = λ _. ⊤;
-  with_rows = λ rows t. record t { appointments = rows };
+  with_rows = λ rows t. record t { rows = record t.rows { appointments = rows } };
   all_sql = codes "SELECT place, since, who, until FROM appointments ORDER BY place, since";
 }
 
@@ -83,7 +82,7 @@ puts = inl (record {
 pub still : (old new : Trees) (rows : List Appointment) (t : Tables) → IsSound register_schema new
     → Keeps appointments_place new (map appointment_row rows) → AllByRecursion (λ _. ⊤) rows
     → ((tree : ℕ) → tree ≢ 4 → IsNoIndex register_schema tree → new tree ≡ old tree) → Kept old t
-    → Kept new (record t { appointments = rows })
+    → Kept new (record t { rows = record t.rows { appointments = rows } })
 still old new rows t sound keeps stored others k = record {
   sound = sound;
   people = keeps_still register_schema 4 people_place old new _ others refl refl k.people;
@@ -112,7 +111,7 @@ table_laws = record {
   lists = lists;
   one = one;
   keeps = λ db t k. k.appointments;
-  stores = λ db t k. each_is t.appointments;
+  stores = λ db t k. each_is t.rows.appointments;
   still = still;
-  stands = λ m t s. s.appointments;
+  stands = λ m t s. s.rows.appointments;
 }

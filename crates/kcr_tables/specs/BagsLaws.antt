@@ -40,11 +40,10 @@ names = codes "serial" ∷ codes "spot" ∷ []
 
 abbrev pub table : Table Bag
 table = record {
-  rows_in = λ t. t.bags;
-  machine_rows = λ m. m.bags;
+  rows_in = λ t. t.rows.bags;
   place = bags_place;
   is_stored = HasBoxNumber;
-  with_rows = λ rows t. record t { bags = rows };
+  with_rows = λ rows t. record t { rows = record t.rows { bags = rows } };
   all_sql = codes "SELECT serial, spot FROM bags ORDER BY serial";
 }
 
@@ -97,7 +96,7 @@ puts = inl (record {
 pub still : (old new : Trees) (rows : List Bag) (t : Tables) → IsSound register_schema new
     → Keeps bags_place new (map bag_row rows) → AllByRecursion HasBoxNumber rows
     → ((tree : ℕ) → tree ≢ 11 → IsNoIndex register_schema tree → new tree ≡ old tree) → Kept old t
-    → Kept new (record t { bags = rows })
+    → Kept new (record t { rows = record t.rows { bags = rows } })
 still old new rows t sound keeps stored others k = record {
   sound = sound;
   people = keeps_still register_schema 11 people_place old new _ others refl refl k.people;
@@ -128,5 +127,5 @@ table_laws = record {
   keeps = λ db t k. k.bags;
   stores = λ db t k. k.spot;
   still = still;
-  stands = λ m t s. s.bags;
+  stands = λ m t s. s.rows.bags;
 }

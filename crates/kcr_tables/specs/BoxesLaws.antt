@@ -38,11 +38,10 @@ names = codes "facility" ∷ codes "box" ∷ codes "place" ∷ []
 
 abbrev pub table : Table BoxRow
 table = record {
-  rows_in = λ t. t.boxes;
-  machine_rows = λ m. m.boxes;
+  rows_in = λ t. t.rows.boxes;
   place = boxes_place;
   is_stored = λ _. ⊤;
-  with_rows = λ rows t. record t { boxes = rows };
+  with_rows = λ rows t. record t { rows = record t.rows { boxes = rows } };
   all_sql = codes "SELECT facility, box, place FROM boxes ORDER BY facility, box";
 }
 
@@ -80,7 +79,7 @@ puts = inr (record {
 pub still : (old new : Trees) (rows : List BoxRow) (t : Tables) → IsSound register_schema new
     → Keeps boxes_place new (map box_row rows) → AllByRecursion (λ _. ⊤) rows
     → ((tree : ℕ) → tree ≢ 7 → IsNoIndex register_schema tree → new tree ≡ old tree) → Kept old t
-    → Kept new (record t { boxes = rows })
+    → Kept new (record t { rows = record t.rows { boxes = rows } })
 still old new rows t sound keeps stored others k = record {
   sound = sound;
   people = keeps_still register_schema 7 people_place old new _ others refl refl k.people;
@@ -109,7 +108,7 @@ table_laws = record {
   lists = lists;
   one = one;
   keeps = λ db t k. k.boxes;
-  stores = λ db t k. each_is t.boxes;
+  stores = λ db t k. each_is t.rows.boxes;
   still = still;
-  stands = λ m t s. s.boxes;
+  stands = λ m t s. s.rows.boxes;
 }

@@ -43,11 +43,10 @@ names = codes "number" ∷ codes "facility" ∷ codes "day" ∷ codes "state" �
 
 abbrev pub table : Table CeremonyRow
 table = record {
-  rows_in = λ t. t.ceremonies;
-  machine_rows = λ m. m.ceremonies;
+  rows_in = λ t. t.rows.ceremonies;
   place = ceremonies_place;
   is_stored = λ _. ⊤;
-  with_rows = λ rows t. record t { ceremonies = rows };
+  with_rows = λ rows t. record t { rows = record t.rows { ceremonies = rows } };
   all_sql = codes "SELECT number, facility, day, state, opened, closed FROM ceremonies ORDER BY number";
 }
 
@@ -108,7 +107,7 @@ puts = inl (record {
 pub still : (old new : Trees) (rows : List CeremonyRow) (t : Tables) → IsSound register_schema new
     → Keeps ceremonies_place new (map ceremony_row rows) → AllByRecursion (λ _. ⊤) rows
     → ((tree : ℕ) → tree ≢ 16 → IsNoIndex register_schema tree → new tree ≡ old tree) → Kept old t
-    → Kept new (record t { ceremonies = rows })
+    → Kept new (record t { rows = record t.rows { ceremonies = rows } })
 still old new rows t sound keeps stored others k = record {
   sound = sound;
   people = keeps_still register_schema 16 people_place old new _ others refl refl k.people;
@@ -137,7 +136,7 @@ table_laws = record {
   lists = lists;
   one = one;
   keeps = λ db t k. k.ceremonies;
-  stores = λ db t k. each_is t.ceremonies;
+  stores = λ db t k. each_is t.rows.ceremonies;
   still = still;
-  stands = λ m t s. s.ceremonies;
+  stands = λ m t s. s.rows.ceremonies;
 }

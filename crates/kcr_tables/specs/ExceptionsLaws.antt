@@ -40,11 +40,10 @@ names = codes "ceremony" ∷ codes "exception" ∷ codes "text" ∷ codes "at" �
 
 abbrev pub table : Table ExceptionRow
 table = record {
-  rows_in = λ t. t.exceptions;
-  machine_rows = λ m. m.exceptions;
+  rows_in = λ t. t.rows.exceptions;
   place = exceptions_place;
   is_stored = λ _. ⊤;
-  with_rows = λ rows t. record t { exceptions = rows };
+  with_rows = λ rows t. record t { rows = record t.rows { exceptions = rows } };
   all_sql = codes "SELECT ceremony, exception, text, at, passed FROM exceptions ORDER BY ceremony, exception";
 }
 
@@ -103,7 +102,7 @@ puts = inr (record {
 pub still : (old new : Trees) (rows : List ExceptionRow) (t : Tables) → IsSound register_schema new
     → Keeps exceptions_place new (map exception_row rows) → AllByRecursion (λ _. ⊤) rows
     → ((tree : ℕ) → tree ≢ 26 → IsNoIndex register_schema tree → new tree ≡ old tree) → Kept old t
-    → Kept new (record t { exceptions = rows })
+    → Kept new (record t { rows = record t.rows { exceptions = rows } })
 still old new rows t sound keeps stored others k = record {
   sound = sound;
   people = keeps_still register_schema 26 people_place old new _ others refl refl k.people;
@@ -132,7 +131,7 @@ table_laws = record {
   lists = lists;
   one = one;
   keeps = λ db t k. k.exceptions;
-  stores = λ db t k. each_is t.exceptions;
+  stores = λ db t k. each_is t.rows.exceptions;
   still = still;
-  stands = λ m t s. s.exceptions;
+  stands = λ m t s. s.rows.exceptions;
 }

@@ -1,39 +1,22 @@
 -- The tables of a new register.
 use Rattle.std.specs.Prelude.{[], ◌∷◌, false}
 use Rattle.kcr_base.specs.declared.place.Facility.{Facility}
-use Rattle.kcr_base.specs.declared.place.Facility.TheVariants.{East, West}
 use Rattle.kcr_custody.specs.declared.SafeNumber.{SafeNumber}
-use Rattle.kcr_custody.specs.declared.SafeNumber.TheVariants.{One, Two}
 use Rattle.kcr_custody.specs.declared.SafeRow.{SafeRow}
+use Rattle.kcr_history.specs.Tables as machine
 use Rattle.kcr_tables.specs.Held.{Tables}
 
+-- the tables of this version with these rows
+abbrev pub as_held : machine.Tables → Tables
+as_held m = record { rows = m; versions = record { number = 3 } ∷ [] }
+
+-- those of a new register: the rows of the machine before any command, which are the four safes, shut
+abbrev pub first_tables : Tables
+first_tables = as_held (machine.tables [])
+
+-- no row in any table
 abbrev pub empty_tables : Tables
-empty_tables = record {
-  people = [];
-  trainings = [];
-  appointments = [];
-  boxes = [];
-  safes = [];
-  bags = [];
-  items = [];
-  ceremonies = [];
-  marks = [];
-  steps = [];
-  seatings = [];
-  sheet = [];
-  exceptions = [];
-  versions = [];
-  keys = [];
-  stays = [];
-  withdrawals = [];
-}
+empty_tables = record { rows = record first_tables.rows { safes = [] }; versions = [] }
 
 abbrev pub shut : Facility → SafeNumber → SafeRow
 shut facility safe = record { facility = facility; safe = safe; is_open = false }
-
--- no rows but that of the version and the four safes, which are shut
-abbrev pub first_tables : Tables
-first_tables = record empty_tables {
-  safes = shut East One ∷ shut East Two ∷ shut West One ∷ shut West Two ∷ [];
-  versions = record { number = 3 } ∷ [];
-}

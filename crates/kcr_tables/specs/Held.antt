@@ -4,29 +4,14 @@ use Rattle.std.specs.List.{AllByRecursion}
 use Rattle.sqlite.specs.Effect.{Database}
 use Rattle.sqlite_catalog.specs.Listing.{IsSound}
 use Rattle.sqlite.specs.Tree.{Trees}
+use Rattle.kcr_history.specs.Tables as machine
 use Rattle.kcr_tables.specs.Schema.{register_schema}
 use Rattle.kcr_rows.specs.Keyed.{Place, Keeps}
 use Rattle.kcr_rows.specs.Rows.{person_row, training_row, appointment_row, box_row, safe_row, bag_row, item_row}
 use Rattle.kcr_rows.specs.Rows.{ceremony_row, mark_row, step_row, seating_row, sheet_row, exception_row, version_row}
 use Rattle.kcr_rows.specs.Rows.{key_row, stay_row, withdrawal_row}
 use Rattle.kcr_rows.specs.States.{HasBoxNumber, HasSeatsText}
-use Rattle.kcr_people.specs.declared.Person.{Person}
-use Rattle.kcr_people.specs.declared.Training.{Training}
-use Rattle.kcr_people.specs.declared.Appointment.{Appointment}
-use Rattle.kcr_custody.specs.declared.BoxRow.{BoxRow}
-use Rattle.kcr_custody.specs.declared.SafeRow.{SafeRow}
-use Rattle.kcr_custody.specs.declared.Bag.{Bag}
-use Rattle.kcr_custody.specs.declared.Item.{Item}
-use Rattle.kcr_history.specs.declared.rows.CeremonyRow.{CeremonyRow}
-use Rattle.kcr_history.specs.declared.rows.MarkRow.{MarkRow}
-use Rattle.kcr_history.specs.declared.rows.StepRow.{StepRow}
-use Rattle.kcr_history.specs.declared.rows.SeatingRow.{SeatingRow}
-use Rattle.kcr_room.specs.declared.SheetRow.{SheetRow}
-use Rattle.kcr_history.specs.declared.rows.ExceptionRow.{ExceptionRow}
 use Rattle.kcr_rows.specs.declared.rows.Version.{Version}
-use Rattle.kcr_history.specs.declared.rows.KeyRow.{KeyRow}
-use Rattle.kcr_room.specs.declared.Stay.{Stay}
-use Rattle.kcr_people.specs.declared.Withdrawal.{Withdrawal}
 
 -- where each table lies
 
@@ -81,50 +66,35 @@ stays_place = record { tree = 32; at = 1 ∷ 2 ∷ 3 ∷ 4 ∷ []; keys = 2 }
 abbrev pub withdrawals_place : Place
 withdrawals_place = record { tree = 35; at = 1 ∷ 2 ∷ 3 ∷ 4 ∷ 5 ∷ []; keys = 4 }
 
--- the rows of each table, in the order of their keys
+-- the rows of each table, in the order of their keys: those of the machine's tables, and what is beside them
 pub record Tables : Type 0 where
-  pub people : List Person
-  pub trainings : List Training
-  pub appointments : List Appointment
-  pub boxes : List BoxRow
-  pub safes : List SafeRow
-  pub bags : List Bag
-  pub items : List Item
-  pub ceremonies : List CeremonyRow
-  pub marks : List MarkRow
-  pub steps : List StepRow
-  pub seatings : List SeatingRow
-  pub sheet : List SheetRow
-  pub exceptions : List ExceptionRow
+  pub rows : machine.Tables
   pub versions : List Version
-  pub keys : List KeyRow
-  pub stays : List Stay
-  pub withdrawals : List Withdrawal
 
 -- what the trees of a file hold
 pub record Kept (db : Trees) (t : Tables) : Type 0 where
   -- the catalog lists this schema, by which the file is read again
   pub sound : IsSound register_schema db
-  pub people : Keeps people_place db (map person_row t.people)
-  pub trainings : Keeps trainings_place db (map training_row t.trainings)
-  pub appointments : Keeps appointments_place db (map appointment_row t.appointments)
-  pub boxes : Keeps boxes_place db (map box_row t.boxes)
-  pub safes : Keeps safes_place db (map safe_row t.safes)
-  pub bags : Keeps bags_place db (map bag_row t.bags)
-  pub items : Keeps items_place db (map item_row t.items)
-  pub ceremonies : Keeps ceremonies_place db (map ceremony_row t.ceremonies)
-  pub marks : Keeps marks_place db (map mark_row t.marks)
-  pub steps : Keeps steps_place db (map step_row t.steps)
-  pub seatings : Keeps seatings_place db (map seating_row t.seatings)
-  pub sheet : Keeps sheet_place db (map sheet_row t.sheet)
-  pub exceptions : Keeps exceptions_place db (map exception_row t.exceptions)
+  pub people : Keeps people_place db (map person_row t.rows.people)
+  pub trainings : Keeps trainings_place db (map training_row t.rows.trainings)
+  pub appointments : Keeps appointments_place db (map appointment_row t.rows.appointments)
+  pub boxes : Keeps boxes_place db (map box_row t.rows.boxes)
+  pub safes : Keeps safes_place db (map safe_row t.rows.safes)
+  pub bags : Keeps bags_place db (map bag_row t.rows.bags)
+  pub items : Keeps items_place db (map item_row t.rows.items)
+  pub ceremonies : Keeps ceremonies_place db (map ceremony_row t.rows.ceremonies)
+  pub marks : Keeps marks_place db (map mark_row t.rows.marks)
+  pub steps : Keeps steps_place db (map step_row t.rows.steps)
+  pub seatings : Keeps seatings_place db (map seating_row t.rows.seatings)
+  pub sheet : Keeps sheet_place db (map sheet_row t.rows.sheet)
+  pub exceptions : Keeps exceptions_place db (map exception_row t.rows.exceptions)
   pub versions : Keeps versions_place db (map version_row t.versions)
-  pub keys : Keeps keys_place db (map key_row t.keys)
-  pub stays : Keeps stays_place db (map stay_row t.stays)
-  pub withdrawals : Keeps withdrawals_place db (map withdrawal_row t.withdrawals)
+  pub keys : Keeps keys_place db (map key_row t.rows.keys)
+  pub stays : Keeps stays_place db (map stay_row t.rows.stays)
+  pub withdrawals : Keeps withdrawals_place db (map withdrawal_row t.rows.withdrawals)
   -- what is known of the values that were put, beside their rows
-  pub spot : AllByRecursion HasBoxNumber t.bags
-  pub seats : AllByRecursion HasSeatsText t.steps
+  pub spot : AllByRecursion HasBoxNumber t.rows.bags
+  pub seats : AllByRecursion HasSeatsText t.rows.steps
 
 -- the database has the register's schema and these rows, and no others
 pub record Holds (db : Database) (t : Tables) : Type 0 where

@@ -42,11 +42,10 @@ names = codes "code" ∷ codes "facility" ∷ codes "serial" ∷ []
 
 abbrev pub table : Table Item
 table = record {
-  rows_in = λ t. t.items;
-  machine_rows = λ m. m.items;
+  rows_in = λ t. t.rows.items;
   place = items_place;
   is_stored = λ _. ⊤;
-  with_rows = λ rows t. record t { items = rows };
+  with_rows = λ rows t. record t { rows = record t.rows { items = rows } };
   all_sql = codes "SELECT code, facility, serial FROM items ORDER BY code";
 }
 
@@ -117,7 +116,7 @@ puts = inl (record {
 pub still : (old new : Trees) (rows : List Item) (t : Tables) → IsSound register_schema new
     → Keeps items_place new (map item_row rows) → AllByRecursion (λ _. ⊤) rows
     → ((tree : ℕ) → tree ≢ 13 → IsNoIndex register_schema tree → new tree ≡ old tree) → Kept old t
-    → Kept new (record t { items = rows })
+    → Kept new (record t { rows = record t.rows { items = rows } })
 still old new rows t sound keeps stored others k = record {
   sound = sound;
   people = keeps_still register_schema 13 people_place old new _ others refl refl k.people;
@@ -146,7 +145,7 @@ table_laws = record {
   lists = lists;
   one = one;
   keeps = λ db t k. k.items;
-  stores = λ db t k. each_is t.items;
+  stores = λ db t k. each_is t.rows.items;
   still = still;
-  stands = λ m t s. s.items;
+  stands = λ m t s. s.rows.items;
 }

@@ -1,6 +1,6 @@
 -- The database holds the tables of the machine. The machine has the rows of a table in any order, the database in the
 -- order of their keys.
-use Rattle.std.specs.Prelude.{◌≡◌, IsPermutation}
+use Rattle.std.specs.Prelude.{◌≡◌}
 use Rattle.sqlite.specs.Tree.{Trees}
 use Rattle.sqlite.specs.Effect.{Database}
 use Rattle.kcr_history.specs.Tables as machine
@@ -10,22 +10,7 @@ use Rattle.kcr_tables.specs.First.{first_tables}
 
 -- the same rows, in any order; the version is that of a new register
 pub record Stands (m : machine.Tables) (t : Tables) : Type 0 where
-  pub people : IsPermutation m.people t.people
-  pub trainings : IsPermutation m.trainings t.trainings
-  pub withdrawals : IsPermutation m.withdrawals t.withdrawals
-  pub appointments : IsPermutation m.appointments t.appointments
-  pub boxes : IsPermutation m.boxes t.boxes
-  pub safes : IsPermutation m.safes t.safes
-  pub bags : IsPermutation m.bags t.bags
-  pub items : IsPermutation m.items t.items
-  pub ceremonies : IsPermutation m.ceremonies t.ceremonies
-  pub marks : IsPermutation m.marks t.marks
-  pub steps : IsPermutation m.steps t.steps
-  pub seatings : IsPermutation m.seatings t.seatings
-  pub sheet : IsPermutation m.sheet t.sheet
-  pub stays : IsPermutation m.stays t.stays
-  pub exceptions : IsPermutation m.exceptions t.exceptions
-  pub keys : IsPermutation m.keys t.keys
+  pub rows : machine.SameTables m t.rows
   pub versions : t.versions ≡ first_tables.versions
 
 -- the trees of a file hold these tables

@@ -38,11 +38,10 @@ names = codes "key" ∷ codes "accepted" ∷ codes "command" ∷ codes "reply" �
 
 abbrev pub table : Table KeyRow
 table = record {
-  rows_in = λ t. t.keys;
-  machine_rows = λ m. m.keys;
+  rows_in = λ t. t.rows.keys;
   place = keys_place;
   is_stored = λ _. ⊤;
-  with_rows = λ rows t. record t { keys = rows };
+  with_rows = λ rows t. record t { rows = record t.rows { keys = rows } };
   all_sql = codes "SELECT \"key\", accepted, command, reply FROM keys ORDER BY \"key\"";
 }
 
@@ -96,7 +95,7 @@ puts = inr (record {
 pub still : (old new : Trees) (rows : List KeyRow) (t : Tables) → IsSound register_schema new
     → Keeps keys_place new (map key_row rows) → AllByRecursion (λ _. ⊤) rows
     → ((tree : ℕ) → tree ≢ 30 → IsNoIndex register_schema tree → new tree ≡ old tree) → Kept old t
-    → Kept new (record t { keys = rows })
+    → Kept new (record t { rows = record t.rows { keys = rows } })
 still old new rows t sound keeps stored others k = record {
   sound = sound;
   people = keeps_still register_schema 30 people_place old new _ others refl refl k.people;
@@ -125,7 +124,7 @@ table_laws = record {
   lists = lists;
   one = one;
   keeps = λ db t k. k.keys;
-  stores = λ db t k. each_is t.keys;
+  stores = λ db t k. each_is t.rows.keys;
   still = still;
-  stands = λ m t s. s.keys;
+  stands = λ m t s. s.rows.keys;
 }

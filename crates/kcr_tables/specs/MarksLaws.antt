@@ -39,11 +39,10 @@ names = codes "ceremony" ∷ codes "at" ∷ []
 
 abbrev pub table : Table MarkRow
 table = record {
-  rows_in = λ t. t.marks;
-  machine_rows = λ m. m.marks;
+  rows_in = λ t. t.rows.marks;
   place = marks_place;
   is_stored = λ _. ⊤;
-  with_rows = λ rows t. record t { marks = rows };
+  with_rows = λ rows t. record t { rows = record t.rows { marks = rows } };
   all_sql = codes "SELECT ceremony, at FROM marks ORDER BY ceremony";
 }
 
@@ -95,7 +94,7 @@ puts = inl (record {
 pub still : (old new : Trees) (rows : List MarkRow) (t : Tables) → IsSound register_schema new
     → Keeps marks_place new (map mark_row rows) → AllByRecursion (λ _. ⊤) rows
     → ((tree : ℕ) → tree ≢ 18 → IsNoIndex register_schema tree → new tree ≡ old tree) → Kept old t
-    → Kept new (record t { marks = rows })
+    → Kept new (record t { rows = record t.rows { marks = rows } })
 still old new rows t sound keeps stored others k = record {
   sound = sound;
   people = keeps_still register_schema 18 people_place old new _ others refl refl k.people;
@@ -124,7 +123,7 @@ table_laws = record {
   lists = lists;
   one = one;
   keeps = λ db t k. k.marks;
-  stores = λ db t k. each_is t.marks;
+  stores = λ db t k. each_is t.rows.marks;
   still = still;
-  stands = λ m t s. s.marks;
+  stands = λ m t s. s.rows.marks;
 }

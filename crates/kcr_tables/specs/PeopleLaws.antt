@@ -38,11 +38,10 @@ names = codes "who" ∷ codes "name" ∷ []
 
 abbrev pub table : Table Person
 table = record {
-  rows_in = λ t. t.people;
-  machine_rows = λ m. m.people;
+  rows_in = λ t. t.rows.people;
   place = people_place;
   is_stored = λ _. ⊤;
-  with_rows = λ rows t. record t { people = rows };
+  with_rows = λ rows t. record t { rows = record t.rows { people = rows } };
   all_sql = codes "SELECT who, name FROM people ORDER BY who";
 }
 
@@ -91,7 +90,7 @@ puts = inr (record {
 pub still : (old new : Trees) (rows : List Person) (t : Tables) → IsSound register_schema new
     → Keeps people_place new (map person_row rows) → AllByRecursion (λ _. ⊤) rows
     → ((tree : ℕ) → tree ≢ 0 → IsNoIndex register_schema tree → new tree ≡ old tree) → Kept old t
-    → Kept new (record t { people = rows })
+    → Kept new (record t { rows = record t.rows { people = rows } })
 still old new rows t sound keeps stored others k = record {
   sound = sound;
   people = keeps;
@@ -120,7 +119,7 @@ table_laws = record {
   lists = lists;
   one = one;
   keeps = λ db t k. k.people;
-  stores = λ db t k. each_is t.people;
+  stores = λ db t k. each_is t.rows.people;
   still = still;
-  stands = λ m t s. s.people;
+  stands = λ m t s. s.rows.people;
 }

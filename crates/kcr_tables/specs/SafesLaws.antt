@@ -41,11 +41,10 @@ names = codes "facility" ∷ codes "safe" ∷ codes "state" ∷ []
 
 abbrev pub table : Table SafeRow
 table = record {
-  rows_in = λ t. t.safes;
-  machine_rows = λ m. m.safes;
+  rows_in = λ t. t.rows.safes;
   place = safes_place;
   is_stored = λ _. ⊤;
-  with_rows = λ rows t. record t { safes = rows };
+  with_rows = λ rows t. record t { rows = record t.rows { safes = rows } };
   all_sql = codes "SELECT facility, safe, state FROM safes ORDER BY facility, safe";
 }
 
@@ -84,7 +83,7 @@ puts = inl (record {
 pub still : (old new : Trees) (rows : List SafeRow) (t : Tables) → IsSound register_schema new
     → Keeps safes_place new (map safe_row rows) → AllByRecursion (λ _. ⊤) rows
     → ((tree : ℕ) → tree ≢ 9 → IsNoIndex register_schema tree → new tree ≡ old tree) → Kept old t
-    → Kept new (record t { safes = rows })
+    → Kept new (record t { rows = record t.rows { safes = rows } })
 still old new rows t sound keeps stored others k = record {
   sound = sound;
   people = keeps_still register_schema 9 people_place old new _ others refl refl k.people;
@@ -113,7 +112,7 @@ table_laws = record {
   lists = lists;
   one = one;
   keeps = λ db t k. k.safes;
-  stores = λ db t k. each_is t.safes;
+  stores = λ db t k. each_is t.rows.safes;
   still = still;
-  stands = λ m t s. s.safes;
+  stands = λ m t s. s.rows.safes;
 }

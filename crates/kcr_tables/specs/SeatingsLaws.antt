@@ -37,11 +37,10 @@ names = codes "ceremony" ∷ codes "step" ∷ codes "seat" ∷ codes "who" ∷ [
 
 abbrev pub table : Table SeatingRow
 table = record {
-  rows_in = λ t. t.seatings;
-  machine_rows = λ m. m.seatings;
+  rows_in = λ t. t.rows.seatings;
   place = seatings_place;
   is_stored = λ _. ⊤;
-  with_rows = λ rows t. record t { seatings = rows };
+  with_rows = λ rows t. record t { rows = record t.rows { seatings = rows } };
   all_sql = codes "SELECT ceremony, step, seat, who FROM seatings ORDER BY ceremony, step, seat";
 }
 
@@ -99,7 +98,7 @@ puts = inr (record {
 pub still : (old new : Trees) (rows : List SeatingRow) (t : Tables) → IsSound register_schema new
     → Keeps seatings_place new (map seating_row rows) → AllByRecursion (λ _. ⊤) rows
     → ((tree : ℕ) → tree ≢ 22 → IsNoIndex register_schema tree → new tree ≡ old tree) → Kept old t
-    → Kept new (record t { seatings = rows })
+    → Kept new (record t { rows = record t.rows { seatings = rows } })
 still old new rows t sound keeps stored others k = record {
   sound = sound;
   people = keeps_still register_schema 22 people_place old new _ others refl refl k.people;
@@ -128,7 +127,7 @@ table_laws = record {
   lists = lists;
   one = one;
   keeps = λ db t k. k.seatings;
-  stores = λ db t k. each_is t.seatings;
+  stores = λ db t k. each_is t.rows.seatings;
   still = still;
-  stands = λ m t s. s.seatings;
+  stands = λ m t s. s.rows.seatings;
 }

@@ -39,11 +39,10 @@ names = codes "who" ∷ codes "at" ∷ codes "ceremony" ∷ codes "way" ∷ []
 
 abbrev pub table : Table SheetRow
 table = record {
-  rows_in = λ t. t.sheet;
-  machine_rows = λ m. m.sheet;
+  rows_in = λ t. t.rows.sheet;
   place = sheet_place;
   is_stored = λ _. ⊤;
-  with_rows = λ rows t. record t { sheet = rows };
+  with_rows = λ rows t. record t { rows = record t.rows { sheet = rows } };
   all_sql = codes "SELECT who, at, ceremony, way FROM sheet ORDER BY who, at";
 }
 
@@ -100,7 +99,7 @@ puts = inr (record {
 pub still : (old new : Trees) (rows : List SheetRow) (t : Tables) → IsSound register_schema new
     → Keeps sheet_place new (map sheet_row rows) → AllByRecursion (λ _. ⊤) rows
     → ((tree : ℕ) → tree ≢ 24 → IsNoIndex register_schema tree → new tree ≡ old tree) → Kept old t
-    → Kept new (record t { sheet = rows })
+    → Kept new (record t { rows = record t.rows { sheet = rows } })
 still old new rows t sound keeps stored others k = record {
   sound = sound;
   people = keeps_still register_schema 24 people_place old new _ others refl refl k.people;
@@ -129,7 +128,7 @@ table_laws = record {
   lists = lists;
   one = one;
   keeps = λ db t k. k.sheet;
-  stores = λ db t k. each_is t.sheet;
+  stores = λ db t k. each_is t.rows.sheet;
   still = still;
-  stands = λ m t s. s.sheet;
+  stands = λ m t s. s.rows.sheet;
 }

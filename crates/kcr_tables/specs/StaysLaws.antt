@@ -41,11 +41,10 @@ names = codes "who" ∷ codes "since" ∷ codes "ceremony" ∷ codes "until" ∷
 
 abbrev pub table : Table Stay
 table = record {
-  rows_in = λ t. t.stays;
-  machine_rows = λ m. m.stays;
+  rows_in = λ t. t.rows.stays;
   place = stays_place;
   is_stored = λ _. ⊤;
-  with_rows = λ rows t. record t { stays = rows };
+  with_rows = λ rows t. record t { rows = record t.rows { stays = rows } };
   all_sql = codes "SELECT who, since, ceremony, until FROM stays ORDER BY who, since";
 }
 
@@ -102,7 +101,7 @@ puts = inl (record {
 pub still : (old new : Trees) (rows : List Stay) (t : Tables) → IsSound register_schema new
     → Keeps stays_place new (map stay_row rows) → AllByRecursion (λ _. ⊤) rows
     → ((tree : ℕ) → tree ≢ 32 → IsNoIndex register_schema tree → new tree ≡ old tree) → Kept old t
-    → Kept new (record t { stays = rows })
+    → Kept new (record t { rows = record t.rows { stays = rows } })
 still old new rows t sound keeps stored others k = record {
   sound = sound;
   people = keeps_still register_schema 32 people_place old new _ others refl refl k.people;
@@ -131,7 +130,7 @@ table_laws = record {
   lists = lists;
   one = one;
   keeps = λ db t k. k.stays;
-  stores = λ db t k. each_is t.stays;
+  stores = λ db t k. each_is t.rows.stays;
   still = still;
-  stands = λ m t s. s.stays;
+  stands = λ m t s. s.rows.stays;
 }

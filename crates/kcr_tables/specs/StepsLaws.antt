@@ -43,11 +43,10 @@ names = codes "ceremony" ∷ codes "step" ∷ codes "activity" ∷ codes "seats"
 
 abbrev pub table : Table StepRow
 table = record {
-  rows_in = λ t. t.steps;
-  machine_rows = λ m. m.steps;
+  rows_in = λ t. t.rows.steps;
   place = steps_place;
   is_stored = HasSeatsText;
-  with_rows = λ rows t. record t { steps = rows };
+  with_rows = λ rows t. record t { rows = record t.rows { steps = rows } };
   all_sql = codes "SELECT ceremony, step, activity, seats, state, at FROM steps ORDER BY ceremony, step";
 }
 
@@ -107,7 +106,7 @@ puts = inl (record {
 pub still : (old new : Trees) (rows : List StepRow) (t : Tables) → IsSound register_schema new
     → Keeps steps_place new (map step_row rows) → AllByRecursion HasSeatsText rows
     → ((tree : ℕ) → tree ≢ 20 → IsNoIndex register_schema tree → new tree ≡ old tree) → Kept old t
-    → Kept new (record t { steps = rows })
+    → Kept new (record t { rows = record t.rows { steps = rows } })
 still old new rows t sound keeps stored others k = record {
   sound = sound;
   people = keeps_still register_schema 20 people_place old new _ others refl refl k.people;
@@ -138,5 +137,5 @@ table_laws = record {
   keeps = λ db t k. k.steps;
   stores = λ db t k. k.seats;
   still = still;
-  stands = λ m t s. s.steps;
+  stands = λ m t s. s.rows.steps;
 }

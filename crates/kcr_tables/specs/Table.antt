@@ -9,6 +9,7 @@ use Rattle.sqlite_catalog.specs.Listing.{IsSound}
 use Rattle.kcr_history.specs.Tables as machine
 use Rattle.kcr_rows.specs.Keyed.{Place, Keeps, put_in}
 use Rattle.kcr_rows.proofs.FilterLemmas.{has_value}
+use Rattle.kcr_tables.specs.First.{as_held}
 use Rattle.kcr_tables.specs.Held.{Tables, Kept}
 use Rattle.kcr_tables.specs.Joint.{Stands}
 use Rattle.kcr_tables.specs.Schema.{register_schema}
@@ -18,8 +19,6 @@ use Rattle.kcr_tables.specs.Statements.{ShowsRows}
 pub record Table (X : Type 0) : Type 1 where
   -- its rows among those of all tables
   pub rows_in : Tables → List X
-  -- its rows among those of the machine
-  pub machine_rows : machine.Tables → List X
   -- where it lies
   pub place : Place
   -- what is known of a value that was put, beside its row
@@ -28,6 +27,10 @@ pub record Table (X : Type 0) : Type 1 where
   pub with_rows : List X → Tables → Tables
   -- the text that shows all rows, in the order of their keys
   pub all_sql : List ℕ
+
+-- its rows among those of the machine
+abbrev pub machine_rows : {X : Type 0} → Table X → machine.Tables → List X
+machine_rows table m = table.rows_in (as_held m)
 
 -- the tables after the row of a value was put under its key
 abbrev pub with_put : {X : Type 0} → Table X → (X → Row) → X → Tables → Tables
@@ -49,7 +52,7 @@ pub record IsTable {X : Type 0} (table : Table X) (row_of : X → Row) (is_read 
       → ((tree : ℕ) → tree ≢ table.place.tree → IsNoIndex register_schema tree → new tree ≡ old tree)
       → Kept old t → Kept new (table.with_rows rows t)
   -- the rows are the machine's, in another order
-  pub stands : (m : machine.Tables) (t : Tables) → Stands m t → IsPermutation (table.machine_rows m) (table.rows_in t)
+  pub stands : (m : machine.Tables) (t : Tables) → Stands m t → IsPermutation (machine_rows table m) (table.rows_in t)
 
 -- how the rows of a table with a value in a column are found
 pub record Finding (K X : Type 0) : Type 0 where

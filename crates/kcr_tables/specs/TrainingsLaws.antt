@@ -39,11 +39,10 @@ names = codes "who" ∷ codes "role" ∷ codes "since" ∷ codes "until" ∷ []
 
 abbrev pub table : Table Training
 table = record {
-  rows_in = λ t. t.trainings;
-  machine_rows = λ m. m.trainings;
+  rows_in = λ t. t.rows.trainings;
   place = trainings_place;
   is_stored = λ _. ⊤;
-  with_rows = λ rows t. record t { trainings = rows };
+  with_rows = λ rows t. record t { rows = record t.rows { trainings = rows } };
   all_sql = codes "SELECT who, role, since, until FROM trainings ORDER BY who, role, since, until";
 }
 
@@ -99,7 +98,7 @@ puts = inr (record {
 pub still : (old new : Trees) (rows : List Training) (t : Tables) → IsSound register_schema new
     → Keeps trainings_place new (map training_row rows) → AllByRecursion (λ _. ⊤) rows
     → ((tree : ℕ) → tree ≢ 2 → IsNoIndex register_schema tree → new tree ≡ old tree) → Kept old t
-    → Kept new (record t { trainings = rows })
+    → Kept new (record t { rows = record t.rows { trainings = rows } })
 still old new rows t sound keeps stored others k = record {
   sound = sound;
   people = keeps_still register_schema 2 people_place old new _ others refl refl k.people;
@@ -128,7 +127,7 @@ table_laws = record {
   lists = lists;
   one = one;
   keeps = λ db t k. k.trainings;
-  stores = λ db t k. each_is t.trainings;
+  stores = λ db t k. each_is t.rows.trainings;
   still = still;
-  stands = λ m t s. s.trainings;
+  stands = λ m t s. s.rows.trainings;
 }

@@ -38,7 +38,6 @@ names = codes "number" ∷ []
 abbrev pub table : Table Version
 table = record {
   rows_in = λ t. t.versions;
-  machine_rows = λ _. first_tables.versions;
   place = versions_place;
   is_stored = λ _. ⊤;
   with_rows = λ rows t. record t { versions = rows };

@@ -40,11 +40,10 @@ names = codes "who" ∷ codes "role" ∷ codes "since" ∷ codes "until" ∷ cod
 
 abbrev pub table : Table Withdrawal
 table = record {
-  rows_in = λ t. t.withdrawals;
-  machine_rows = λ m. m.withdrawals;
+  rows_in = λ t. t.rows.withdrawals;
   place = withdrawals_place;
   is_stored = λ _. ⊤;
-  with_rows = λ rows t. record t { withdrawals = rows };
+  with_rows = λ rows t. record t { rows = record t.rows { withdrawals = rows } };
   all_sql = codes "SELECT who, role, since, until, day FROM withdrawals ORDER BY who, role, since, until";
 }
 
@@ -103,7 +102,7 @@ puts = inl (record {
 pub still : (old new : Trees) (rows : List Withdrawal) (t : Tables) → IsSound register_schema new
     → Keeps withdrawals_place new (map withdrawal_row rows) → AllByRecursion (λ _. ⊤) rows
     → ((tree : ℕ) → tree ≢ 35 → IsNoIndex register_schema tree → new tree ≡ old tree) → Kept old t
-    → Kept new (record t { withdrawals = rows })
+    → Kept new (record t { rows = record t.rows { withdrawals = rows } })
 still old new rows t sound keeps stored others k = record {
   sound = sound;
   people = keeps_still register_schema 35 people_place old new _ others refl refl k.people;
@@ -132,7 +131,7 @@ table_laws = record {
   lists = lists;
   one = one;
   keeps = λ db t k. k.withdrawals;
-  stores = λ db t k. each_is t.withdrawals;
+  stores = λ db t k. each_is t.rows.withdrawals;
   still = still;
-  stands = λ m t s. s.withdrawals;
+  stands = λ m t s. s.rows.withdrawals;
 }

@@ -69,7 +69,9 @@ fn put_pair<S: Alter>(tx: &mut Transaction<'_, S>, facility: Facility) -> Result
     ensures same_reference { tx.new.conn.ghost_name ≡ tx.old.conn.ghost_name }
     ensures holds { Leaves (state S.Store tx.old.conn.now) (state S.Store tx.new.conn.now) result
         (λ t. record t {
-          safes = put_in 2 safe_row (shut facility Two) (put_in 2 safe_row (shut facility One) t.safes);
+          rows = record t.rows {
+            safes = put_in 2 safe_row (shut facility Two) (put_in 2 safe_row (shut facility One) t.rows.safes);
+          };
         }) }
     ensures frame { StaysWithin IsFault (state S.Store tx.old.conn.now) (state S.Store tx.new.conn.now) result }
 {

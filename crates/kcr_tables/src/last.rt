@@ -28,7 +28,7 @@ pub fn last_key_row<S: Alter>(
 ) -> Result<Vec<KeyRow>, Refusal>
     ensures same_reference { tx.new.conn.ghost_name ≡ tx.old.conn.ghost_name }
     ensures rows { Tells (state S.Store tx.old.conn.now) (state S.Store tx.new.conn.now) result
-        (λ t all. IsGreatest (λ x. x.accepted) t.keys all.items) }
+        (λ t all. IsGreatest (λ x. x.accepted) t.rows.keys all.items) }
     ensures exact { TellsExactly (state S.Store tx.old.conn.now) (state S.Store tx.new.conn.now) result
         (λ db all. IsOneOf (rows_at keys_place db) (map key_row all.items)) }
     ensures opened { TellsOpen (state S.Store tx.old.conn.now) (state S.Store tx.new.conn.now) result }
@@ -50,7 +50,7 @@ pub fn last_stay_of<S: Alter>(
 ) -> Result<Vec<Stay>, Refusal>
     ensures same_reference { tx.new.conn.ghost_name ≡ tx.old.conn.ghost_name }
     ensures rows { Tells (state S.Store tx.old.conn.now) (state S.Store tx.new.conn.now) result
-        (λ t all. IsGreatest (λ x. x.since) (filter (λ x. same_text x.who who.now) t.stays) all.items) }
+        (λ t all. IsGreatest (λ x. x.since) (filter (λ x. same_text x.who who.now) t.rows.stays) all.items) }
     ensures exact { TellsExactly (state S.Store tx.old.conn.now) (state S.Store tx.new.conn.now) result
         (λ db all. IsOneOf (filter (has_text 0 who.now) (rows_at stays_place db)) (map stay_row all.items)) }
     ensures frame { Reads (state S.Store tx.old.conn.now) (state S.Store tx.new.conn.now) result }
@@ -72,7 +72,7 @@ pub fn last_appointment_to<S: Alter>(
 ) -> Result<Vec<Appointment>, Refusal>
     ensures same_reference { tx.new.conn.ghost_name ≡ tx.old.conn.ghost_name }
     ensures rows { Tells (state S.Store tx.old.conn.now) (state S.Store tx.new.conn.now) result
-        (λ t all. IsGreatest (λ x. x.since) (filter (is_appointment_to place) t.appointments) all.items) }
+        (λ t all. IsGreatest (λ x. x.since) (filter (is_appointment_to place) t.rows.appointments) all.items) }
     ensures exact { TellsExactly (state S.Store tx.old.conn.now) (state S.Store tx.new.conn.now) result
         (λ db all. IsOneOf (rows_to place db) (map appointment_row all.items)) }
     ensures frame { Reads (state S.Store tx.old.conn.now) (state S.Store tx.new.conn.now) result }
@@ -95,7 +95,7 @@ pub fn last_appointment_of<S: Alter>(
 ) -> Result<Vec<Appointment>, Refusal>
     ensures same_reference { tx.new.conn.ghost_name ≡ tx.old.conn.ghost_name }
     ensures rows { Tells (state S.Store tx.old.conn.now) (state S.Store tx.new.conn.now) result
-        (λ t all. IsGreatest (λ x. x.since) (filter (is_appointment_of who.now) t.appointments) all.items) }
+        (λ t all. IsGreatest (λ x. x.since) (filter (is_appointment_of who.now) t.rows.appointments) all.items) }
     ensures exact { TellsExactly (state S.Store tx.old.conn.now) (state S.Store tx.new.conn.now) result
         (λ db all. IsOneOf (rows_of_person who.now db) (map appointment_row all.items)) }
     ensures frame { Reads (state S.Store tx.old.conn.now) (state S.Store tx.new.conn.now) result }

@@ -25,7 +25,7 @@ fn last_of_both<S: Alter>(
 ) -> Result<Vec<Appointment>, Refusal>
     ensures same_reference { tx.new.conn.ghost_name ≡ tx.old.conn.ghost_name }
     ensures rows { Tells (state S.Store tx.old.conn.now) (state S.Store tx.new.conn.now) result
-        (λ t all. ShowsAppointments (Selections.Under (Wanted.Both place who.now)) t.appointments all.items) }
+        (λ t all. ShowsAppointments (Selections.Under (Wanted.Both place who.now)) t.rows.appointments all.items) }
     ensures exact { TellsExactly (state S.Store tx.old.conn.now) (state S.Store tx.new.conn.now) result
         (λ db all. AppointmentsAreShown (Selections.Under (Wanted.Both place who.now)) all.items db) }
     ensures frame { Reads (state S.Store tx.old.conn.now) (state S.Store tx.new.conn.now) result }
@@ -44,7 +44,7 @@ pub fn asked_appointments<S: Alter>(
 ) -> Result<Vec<Appointment>, Refusal>
     ensures same_reference { tx.new.conn.ghost_name ≡ tx.old.conn.ghost_name }
     ensures rows { Tells (state S.Store tx.old.conn.now) (state S.Store tx.new.conn.now) result
-        (λ t all. ShowsAppointments asked.now t.appointments all.items) }
+        (λ t all. ShowsAppointments asked.now t.rows.appointments all.items) }
     ensures exact { TellsExactly (state S.Store tx.old.conn.now) (state S.Store tx.new.conn.now) result
         (λ db all. AppointmentsAreShown asked.now all.items db) }
     ensures frame { Reads (state S.Store tx.old.conn.now) (state S.Store tx.new.conn.now) result }

@@ -28,7 +28,8 @@ fn last_elsewhere<S: Alter>(
 ) -> Result<Vec<Stay>, Refusal>
     ensures same_reference { tx.new.conn.ghost_name ≡ tx.old.conn.ghost_name }
     ensures rows { Tells (state S.Store tx.old.conn.now) (state S.Store tx.new.conn.now) result
-        (λ t all. (last : List AnyStay) × IsGreatest (λ x. x.since) (filter (λ x. same_text x.who who.now) t.stays) last
+        (λ t all. (last : List AnyStay)
+        × IsGreatest (λ x. x.since) (filter (λ x. same_text x.who who.now) t.rows.stays) last
         × (all.items ≡ filter (λ x. not (x.ceremony == ceremony)) last)) }
     ensures frame { Reads (state S.Store tx.old.conn.now) (state S.Store tx.new.conn.now) result }
 {
@@ -45,7 +46,7 @@ fn stays_and_last<S: Alter>(
 ) -> Result<Vec<Stay>, Refusal>
     ensures same_reference { tx.new.conn.ghost_name ≡ tx.old.conn.ghost_name }
     ensures rows { Tells (state S.Store tx.old.conn.now) (state S.Store tx.new.conn.now) result
-        (λ t all. ShowsStaysOf asked.now t.stays all.items) }
+        (λ t all. ShowsStaysOf asked.now t.rows.stays all.items) }
     ensures exact { TellsExactly (state S.Store tx.old.conn.now) (state S.Store tx.new.conn.now) result
         (λ db all. AreShown stay_row all.items (filter (is_stay_row asked.now) (rows_at stays_place db))) }
     ensures frame { Reads (state S.Store tx.old.conn.now) (state S.Store tx.new.conn.now) result }
@@ -67,7 +68,7 @@ pub fn asked_stays<S: Alter>(
 ) -> Result<Vec<Stay>, Refusal>
     ensures same_reference { tx.new.conn.ghost_name ≡ tx.old.conn.ghost_name }
     ensures rows { Tells (state S.Store tx.old.conn.now) (state S.Store tx.new.conn.now) result
-        (λ t all. ShowsStays asked.now t.stays all.items) }
+        (λ t all. ShowsStays asked.now t.rows.stays all.items) }
     ensures exact { TellsExactly (state S.Store tx.old.conn.now) (state S.Store tx.new.conn.now) result
         (λ db all. AskedAreShown stay_row stays_place is_stay_row asked.now all.items db) }
     ensures frame { Reads (state S.Store tx.old.conn.now) (state S.Store tx.new.conn.now) result }

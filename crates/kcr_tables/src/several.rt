@@ -114,7 +114,7 @@ pub fn asked_people<S: Alter>(
 ) -> Result<Vec<Person>, Refusal>
     ensures same_reference { tx.new.conn.ghost_name ≡ tx.old.conn.ghost_name }
     ensures rows { Tells (state S.Store tx.old.conn.now) (state S.Store tx.new.conn.now) result
-        (λ t all. Shows is_of_people asked.now t.people all.items) }
+        (λ t all. Shows is_of_people asked.now t.rows.people all.items) }
     ensures exact { TellsExactly (state S.Store tx.old.conn.now) (state S.Store tx.new.conn.now) result
         (λ db all. AskedAreShown person_row people_place (has_any 0) asked.now all.items db) }
     ensures frame { Reads (state S.Store tx.old.conn.now) (state S.Store tx.new.conn.now) result }
@@ -134,7 +134,7 @@ pub fn asked_items<S: Alter>(
 ) -> Result<Vec<Item>, Refusal>
     ensures same_reference { tx.new.conn.ghost_name ≡ tx.old.conn.ghost_name }
     ensures rows { Tells (state S.Store tx.old.conn.now) (state S.Store tx.new.conn.now) result
-        (λ t all. Shows is_item_of asked.now t.items all.items) }
+        (λ t all. Shows is_item_of asked.now t.rows.items all.items) }
     ensures exact { TellsExactly (state S.Store tx.old.conn.now) (state S.Store tx.new.conn.now) result
         (λ db all. AskedAreShown item_row items_place is_item_row asked.now all.items db) }
     ensures frame { Reads (state S.Store tx.old.conn.now) (state S.Store tx.new.conn.now) result }

@@ -14,7 +14,7 @@ ghost use Rattle.kcr_tables.specs.Frame.{TellsOpen, Tells, TellsMachine, TellsEx
 ghost use Rattle.kcr_tables.specs.Asked.{asked_of, asked_all};
 ghost use Rattle.kcr_tables.specs.Exact.{rows_at, AskedAreShown, WholeIsShown};
 ghost use Rattle.kcr_tables.specs.Statements.{PutsRow};
-ghost use Rattle.kcr_tables.specs.Table.{Table, IsTable, Finding, IsFinding, with_put};
+ghost use Rattle.kcr_tables.specs.Table.{Table, IsTable, Finding, IsFinding, with_put, machine_rows};
 
 use kcr_base::code::Code;
 use kcr_base::{Initials, ItemCode, Key, Refusal, Serial};
@@ -143,7 +143,7 @@ pub fn all_rows<S: Alter, T: Listed>(
     ensures rows { Tells (state S.Store tx.old.conn.now) (state S.Store tx.new.conn.now) result
         (λ t all. all.items ≡ T.table.rows_in t) }
     ensures machine { TellsMachine (state S.Store tx.old.conn.now) (state S.Store tx.new.conn.now) result
-        (λ m all. IsPermutation (T.table.machine_rows m) all.items) }
+        (λ m all. IsPermutation (machine_rows T.table m) all.items) }
     ensures exact { TellsExactly (state S.Store tx.old.conn.now) (state S.Store tx.new.conn.now) result
         (λ db all. IsPermutation (rows_at T.table.place db) (map T.row_of all.items)) }
     ensures opened { TellsOpen (state S.Store tx.old.conn.now) (state S.Store tx.new.conn.now) result }

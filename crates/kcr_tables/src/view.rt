@@ -60,13 +60,13 @@ fn staff_rows<S: Alter>(
 ) -> Result<StaffRows, Refusal>
     ensures same_reference { tx.new.conn.ghost_name ≡ tx.old.conn.ghost_name }
     ensures people { Tells (state S.Store tx.old.conn.now) (state S.Store tx.new.conn.now) result
-        (λ t rows. Shows is_of_people asks.now.people t.people rows.people.items) }
+        (λ t rows. Shows is_of_people asks.now.people t.rows.people rows.people.items) }
     ensures trainings { Tells (state S.Store tx.old.conn.now) (state S.Store tx.new.conn.now) result
-        (λ t rows. rows.trainings.items ≡ asked_of is_training_of asks.now.trainings t.trainings) }
+        (λ t rows. rows.trainings.items ≡ asked_of is_training_of asks.now.trainings t.rows.trainings) }
     ensures withdrawals { Tells (state S.Store tx.old.conn.now) (state S.Store tx.new.conn.now) result
-        (λ t rows. rows.withdrawals.items ≡ asked_of is_withdrawal_of asks.now.withdrawals t.withdrawals) }
+        (λ t rows. rows.withdrawals.items ≡ asked_of is_withdrawal_of asks.now.withdrawals t.rows.withdrawals) }
     ensures appointments { Tells (state S.Store tx.old.conn.now) (state S.Store tx.new.conn.now) result
-        (λ t rows. ShowsAppointments asks.now.appointments t.appointments rows.appointments.items) }
+        (λ t rows. ShowsAppointments asks.now.appointments t.rows.appointments rows.appointments.items) }
     ensures exact { TellsExactly (state S.Store tx.old.conn.now) (state S.Store tx.new.conn.now) result
         (λ db rows. StaffIsShown asks.now rows.people.items rows.trainings.items rows.withdrawals.items
         rows.appointments.items db) }
@@ -92,13 +92,13 @@ fn custody_rows<S: Alter>(
 ) -> Result<CustodyRows, Refusal>
     ensures same_reference { tx.new.conn.ghost_name ≡ tx.old.conn.ghost_name }
     ensures boxes { Tells (state S.Store tx.old.conn.now) (state S.Store tx.new.conn.now) result
-        (λ t rows. rows.boxes.items ≡ asked_all asks.now.boxes t.boxes) }
+        (λ t rows. rows.boxes.items ≡ asked_all asks.now.boxes t.rows.boxes) }
     ensures safes { Tells (state S.Store tx.old.conn.now) (state S.Store tx.new.conn.now) result
-        (λ t rows. rows.safes.items ≡ asked_all asks.now.safes t.safes) }
+        (λ t rows. rows.safes.items ≡ asked_all asks.now.safes t.rows.safes) }
     ensures bags { Tells (state S.Store tx.old.conn.now) (state S.Store tx.new.conn.now) result
-        (λ t rows. rows.bags.items ≡ asked_of is_of_serial asks.now.bags t.bags) }
+        (λ t rows. rows.bags.items ≡ asked_of is_of_serial asks.now.bags t.rows.bags) }
     ensures items { Tells (state S.Store tx.old.conn.now) (state S.Store tx.new.conn.now) result
-        (λ t rows. Shows is_item_of asks.now.items t.items rows.items.items) }
+        (λ t rows. Shows is_item_of asks.now.items t.rows.items rows.items.items) }
     ensures exact { TellsExactly (state S.Store tx.old.conn.now) (state S.Store tx.new.conn.now) result
         (λ db rows. CustodyIsShown asks.now rows.boxes.items rows.safes.items rows.bags.items rows.items.items db) }
     ensures frame { Reads (state S.Store tx.old.conn.now) (state S.Store tx.new.conn.now) result }
@@ -123,15 +123,15 @@ fn ceremony_rows<S: Alter>(
 ) -> Result<CeremonyRows, Refusal>
     ensures same_reference { tx.new.conn.ghost_name ≡ tx.old.conn.ghost_name }
     ensures ceremonies { Tells (state S.Store tx.old.conn.now) (state S.Store tx.new.conn.now) result
-        (λ t rows. rows.ceremonies.items ≡ asked_of is_of_number asks.now.ceremonies t.ceremonies) }
+        (λ t rows. rows.ceremonies.items ≡ asked_of is_of_number asks.now.ceremonies t.rows.ceremonies) }
     ensures marks { Tells (state S.Store tx.old.conn.now) (state S.Store tx.new.conn.now) result
-        (λ t rows. rows.marks.items ≡ asked_of is_mark_of asks.now.marks t.marks) }
+        (λ t rows. rows.marks.items ≡ asked_of is_mark_of asks.now.marks t.rows.marks) }
     ensures steps { Tells (state S.Store tx.old.conn.now) (state S.Store tx.new.conn.now) result
-        (λ t rows. rows.steps.items ≡ asked_of is_step_of asks.now.steps t.steps) }
+        (λ t rows. rows.steps.items ≡ asked_of is_step_of asks.now.steps t.rows.steps) }
     ensures exceptions { Tells (state S.Store tx.old.conn.now) (state S.Store tx.new.conn.now) result
-        (λ t rows. rows.exceptions.items ≡ asked_of is_exception_of asks.now.exceptions t.exceptions) }
+        (λ t rows. rows.exceptions.items ≡ asked_of is_exception_of asks.now.exceptions t.rows.exceptions) }
     ensures stays { Tells (state S.Store tx.old.conn.now) (state S.Store tx.new.conn.now) result
-        (λ t rows. ShowsStays asks.now.stays t.stays rows.stays.items) }
+        (λ t rows. ShowsStays asks.now.stays t.rows.stays rows.stays.items) }
     ensures exact { TellsExactly (state S.Store tx.old.conn.now) (state S.Store tx.new.conn.now) result
         (λ db rows. CeremoniesAreShown asks.now rows.ceremonies.items rows.marks.items rows.steps.items
         rows.exceptions.items rows.stays.items db) }

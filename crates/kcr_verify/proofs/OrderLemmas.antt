@@ -12,7 +12,7 @@ use Rattle.kcr_rows.specs.Keyed.{by_key}
 use Rattle.kcr_rows.proofs.OrderLemmas.{from_map}
 use Rattle.kcr_rows.proofs.SameLemmas.{key_total}
 use Rattle.kcr_store.specs.Whole.{AreRows}
-use Rattle.kcr_tables.specs.Table.{Table, IsTable}
+use Rattle.kcr_tables.specs.Table.{Table, IsTable, machine_rows}
 
 module _ {X : Type 0} (keys : ℕ) (row_of : X → Row) where
   abbrev cmp : X → X → Ordering
@@ -40,7 +40,7 @@ module _ {X : Type 0} (keys : ℕ) (row_of : X → Row) where
 pub one_table : {X : Type 0} (table : Table X) (row_of : X → Row) (is_read : X → Type 0) → IsTable table row_of is_read
     → (m : Tables) (xs ys : List X) → AreRows table m xs → AreRows table m ys → ys ≡ xs
 one_table {X} table row_of is_read laws m xs ys a b =
-    one_order table.place.keys row_of (table.machine_rows m) xs ys
+    one_order table.place.keys row_of (machine_rows table m) xs ys
     (subst (λ (l : List X). IsAscending (λ x y. by_key table.place.keys x y ≡ Less) (map row_of l)) (sym a.lists) (laws.keeps a.db a.t a.kept).rising)
     (subst (λ (l : List X). IsAscending (λ x y. by_key table.place.keys x y ≡ Less) (map row_of l)) (sym b.lists) (laws.keeps b.db b.t b.kept).rising) a.same
     b.same

@@ -72,27 +72,30 @@ own_of A h m view rows o same has = record {
 }
 
 in_view : {X : Type 0} (table : held.Table X) (m : Tables) (view : WholeView) (v : IsListed m view) (rows : List X)
-    → IsPermutation (table.machine_rows m) rows → rows ≡ table.rows_in v.t → AreRows table m rows
+    → IsPermutation (held.machine_rows table m) rows → rows ≡ table.rows_in v.t → AreRows table m rows
 in_view table m view v rows same is = record { same = same; db = v.db; t = v.t; kept = v.kept; lists = is }
 
 listed_table : (A : History) (view : WholeView) → IsListed (tables A) view → (rows : WholeView) → IsPermutation view.keys.items rows.keys.items
     → (table : Table) → HasRows table (tables A) (record view { keys = rows.keys })
-listed_table A view v keys order People = in_view people.table (tables A) view v view.asked.people.items v.same.people v.lists.people
-listed_table A view v keys order Trainings = in_view trainings.table (tables A) view v view.asked.trainings.items v.same.trainings v.lists.trainings
-listed_table A view v keys order Withdrawals = in_view withdrawals.table (tables A) view v view.asked.withdrawals.items v.same.withdrawals v.lists.withdrawals
+listed_table A view v keys order People = in_view people.table (tables A) view v view.asked.people.items v.same.people (λ i. (v.lists i).people)
+listed_table A view v keys order Trainings = in_view trainings.table (tables A) view v view.asked.trainings.items v.same.trainings (λ i. (v.lists i).trainings)
+listed_table A view v keys order Withdrawals =
+    in_view withdrawals.table (tables A) view v view.asked.withdrawals.items v.same.withdrawals (λ i. (v.lists i).withdrawals)
 listed_table A view v keys order Appointments =
-    in_view appointments.table (tables A) view v view.asked.appointments.items v.same.appointments v.lists.appointments
-listed_table A view v keys order Boxes = in_view boxes.table (tables A) view v view.asked.boxes.items v.same.boxes v.lists.boxes
-listed_table A view v keys order Safes = in_view safes.table (tables A) view v view.asked.safes.items v.same.safes v.lists.safes
-listed_table A view v keys order Bags = in_view bags.table (tables A) view v view.asked.bags.items v.same.bags v.lists.bags
-listed_table A view v keys order Items = in_view items.table (tables A) view v view.asked.items.items v.same.items v.lists.items
-listed_table A view v keys order Ceremonies = in_view ceremonies.table (tables A) view v view.asked.ceremonies.items v.same.ceremonies v.lists.ceremonies
-listed_table A view v keys order Marks = in_view marks.table (tables A) view v view.asked.marks.items v.same.marks v.lists.marks
-listed_table A view v keys order Steps = in_view steps.table (tables A) view v view.asked.steps.items v.same.steps v.lists.steps
-listed_table A view v keys order Seatings = in_view seatings.table (tables A) view v view.seatings.items v.same.seatings v.lists.seatings
-listed_table A view v keys order Sheet = in_view sheet.table (tables A) view v view.sheet.items v.same.sheet v.lists.sheet
-listed_table A view v keys order Stays = in_view stays.table (tables A) view v view.asked.stays.items v.same.stays v.lists.stays
-listed_table A view v keys order Exceptions = in_view exceptions.table (tables A) view v view.asked.exceptions.items v.same.exceptions v.lists.exceptions
+    in_view appointments.table (tables A) view v view.asked.appointments.items v.same.appointments (λ i. (v.lists i).appointments)
+listed_table A view v keys order Boxes = in_view boxes.table (tables A) view v view.asked.boxes.items v.same.boxes (λ i. (v.lists i).boxes)
+listed_table A view v keys order Safes = in_view safes.table (tables A) view v view.asked.safes.items v.same.safes (λ i. (v.lists i).safes)
+listed_table A view v keys order Bags = in_view bags.table (tables A) view v view.asked.bags.items v.same.bags (λ i. (v.lists i).bags)
+listed_table A view v keys order Items = in_view items.table (tables A) view v view.asked.items.items v.same.items (λ i. (v.lists i).items)
+listed_table A view v keys order Ceremonies =
+    in_view ceremonies.table (tables A) view v view.asked.ceremonies.items v.same.ceremonies (λ i. (v.lists i).ceremonies)
+listed_table A view v keys order Marks = in_view marks.table (tables A) view v view.asked.marks.items v.same.marks (λ i. (v.lists i).marks)
+listed_table A view v keys order Steps = in_view steps.table (tables A) view v view.asked.steps.items v.same.steps (λ i. (v.lists i).steps)
+listed_table A view v keys order Seatings = in_view seatings.table (tables A) view v view.seatings.items v.same.seatings (λ i. (v.lists i).seatings)
+listed_table A view v keys order Sheet = in_view sheet.table (tables A) view v view.sheet.items v.same.sheet (λ i. (v.lists i).sheet)
+listed_table A view v keys order Stays = in_view stays.table (tables A) view v view.asked.stays.items v.same.stays (λ i. (v.lists i).stays)
+listed_table A view v keys order Exceptions =
+    in_view exceptions.table (tables A) view v view.asked.exceptions.items v.same.exceptions (λ i. (v.lists i).exceptions)
 listed_table A view v keys order Keys = IsPermutation-trans (map key_row A) view.keys.items keys.keys.items v.same.keys order
 
 no_difference : (P : Table → Type 0) → ((table : Table) → P table) → (found : Option Table) → IfSome found (λ table. ¬ P table) → found ≡ None

@@ -11,7 +11,7 @@ returns-in_default-clause-shown g c clean accepted had =
     let was = had (c.in_ok-bags.ensures.opened clean) in
     let kept = was.tables.kept in
     let rows = c.in_ok-bags.ensures.rows clean kept.t (holds_in accepted _ was) in
-    let lies = spot_shown accepted was.tables.register kept.t kept.stands c.args.serial c.in_ok-bags.bags.items rows in
+    let lies = spot_shown accepted was.tables.register kept.t.rows kept.stands.rows c.args.serial c.in_ok-bags.bags.items rows in
     inr (sym lies ∙ ap (λ rows. spot_by rows c.args.serial) (sym c.deref.ensures.value) ∙ sym c.in_default.ensures, refl)
 
 pub returns-clause-shown : goal.returns-clause-shown
@@ -22,7 +22,7 @@ returns-clause-shown g c clean accepted had =
     let held = holds_in accepted _ was in
     let bags = c.in_ok-bags.ensures.rows clean1 kept.t held in
     let items = c.in_ok-items.ensures.rows clean kept.t (c.in_ok-bags.ensures.frame.holds clean1 kept.t held) in
-    let lies = spot_shown accepted was.tables.register kept.t kept.stands c.args.serial c.in_ok-bags.bags.items bags in
-    bag_shown accepted was.tables.register kept.t kept.stands (kept_rises _ kept.t kept.kept) c.args.serial _ refl
+    let lies = spot_shown accepted was.tables.register kept.t.rows kept.stands.rows c.args.serial c.in_ok-bags.bags.items bags in
+    bag_shown accepted was.tables.register kept.t.rows kept.stands.rows (kept_rises _ kept.t kept.kept) c.args.serial _ refl
     (sym lies ∙ ap (λ rows. spot_by rows c.args.serial) (sym c.deref.ensures.value) ∙ sym c.in-Some.ensures)
     (c.in_ok-codes_of.ensures ∙ ap (map (λ item. item.code)) (c.deref-2.ensures.value ∙ items))

@@ -15,5 +15,5 @@ returns-clause-shown g c clean accepted had =
       holders =
           c.in_ok-custodians_shown.ensures.holders
           ∙ ap (λ rows. holders_by (λ place. holder_by rows place c.args.day)) (c.deref.ensures.value ∙ rows)
-          ∙ holders_shown accepted was.tables.register kept.t kept.stands c.args.day;
+          ∙ holders_shown accepted was.tables.register kept.t.rows kept.stands.rows c.args.day;
     }

@@ -24,5 +24,6 @@ returns-clause-shown g c clean accepted had =
     let rows : List PersonShown = c.in_ok-people_shown.field-0.items in
     let HaveRoles : List Training → List Withdrawal → Type 0 =
     λ taught withdrawn. All (λ (shown : PersonShown). AreRolesOf taught withdrawn shown.who shown.roles.items) rows in
-    people_shown accepted kept.t kept.stands (kept_rises _ _ kept.kept) rows (c.in_ok-people_shown.ensures.people ∙ c.in_ok-people.ensures.rows clean1 _ held)
+    people_shown accepted kept.t.rows kept.stands.rows (kept_rises _ _ kept.kept) rows
+    (c.in_ok-people_shown.ensures.people ∙ c.in_ok-people.ensures.rows clean1 _ held)
     (subst₂ HaveRoles (c.deref.ensures.value ∙ trainings) (c.deref-2.ensures.value ∙ withdrawals) c.in_ok-people_shown.ensures.roles)

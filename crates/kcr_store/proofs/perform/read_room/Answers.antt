@@ -14,7 +14,7 @@ returns-then-is_empty-clause-shown g c clean accepted had =
     let was = had (c.in_ok-planned.ensures.opened clean) in
     let kept = was.tables.kept in
     let rows = c.in_ok-planned.ensures.rows clean kept.t (holds_in accepted _ was) in
-    let planned = planned_shown accepted was.tables.register kept.t kept.stands c.get-number.result c.in_ok-planned.planned.items rows in
+    let planned = planned_shown accepted was.tables.register kept.t.rows kept.stands.rows c.get-number.result c.in_ok-planned.planned.items rows in
     let number : c.get-number.result ≡ c.args.ceremony = c.get-number.ensures.value in
     let empty = ap (λ n. n == 0) (sym c.in_ok-planned.planned.ok.0) ∙ sym c.is_empty.ensures ∙ c.if-is_empty.true in
     inr (ap (is_ceremony accepted) (sym number) ∙ planned ∙ ap not empty, ap (λ n. Unknown (Things.Ceremony n)) number)
@@ -27,8 +27,8 @@ returns-clause-shown g c clean accepted had =
     let held = holds_in accepted _ was in
     let ceremonies = c.in_ok-planned.ensures.rows clean1 kept.t held in
     let stays = c.in_ok-stays.ensures.rows clean kept.t (c.in_ok-planned.ensures.frame.holds clean1 kept.t held) in
-    let planned = planned_shown accepted was.tables.register kept.t kept.stands c.get-number.result c.in_ok-planned.planned.items ceremonies in
-    let there = present_shown accepted was.tables.register kept.t kept.stands c.get-number.result c.args.at c.in_ok-stays.stays.items stays in
+    let planned = planned_shown accepted was.tables.register kept.t.rows kept.stands.rows c.get-number.result c.in_ok-planned.planned.items ceremonies in
+    let there = present_shown accepted was.tables.register kept.t.rows kept.stands.rows c.get-number.result c.args.at c.in_ok-stays.stays.items stays in
     let number : c.get-number.result ≡ c.args.ceremony = c.get-number.ensures.value in
     let filled = ap (λ n. n == 0) (sym c.in_ok-planned.planned.ok.0) ∙ sym c.is_empty.ensures ∙ c.if-is_empty.false in
     record {

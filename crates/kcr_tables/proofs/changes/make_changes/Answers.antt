@@ -3,8 +3,9 @@ use Rattle.std.proofs.lemmas.List.{take_all}
 use Rattle.std.proofs.lemmas.List.Sums.{fold_more}
 use Rattle.sqlite.specs.Held.{state}
 use Rattle.kcr_history.specs.declared.views.Change.{Change}
-use Rattle.kcr_tables.specs.Held.{Tables, Holds}
-use Rattle.kcr_tables.specs.Changed.{changed, changed_all}
+use Rattle.kcr_history.specs.Tables as machine
+use Rattle.kcr_tables.specs.Held.{Holds}
+use Rattle.kcr_tables.specs.Changed.{rows_after, changed_all}
 use Rattle.kcr_rows.proofs.InsideLemmas.{was_clean}
 use Rattle.kcr_rows.proofs.FrameLemmas.{within_then}
 use Rattle.kcr_tables.proofs.HoldLemmas.{held_of}
@@ -27,9 +28,9 @@ loop-change-preserved g c =
           let was = had.built (was_clean mid new _ step.frame.survives clean) t held in
           let low : i < length changes = search rules in
           let at : get_or changes i item ≡ item = search rules in
-          let more = fold_more (λ (held : Tables) (x : Change). changed x held) t changes i item low
-          ∙ ap (λ (x : Change). changed x (changed_all (Rattle.std.proofs.Common.take i changes) t)) at in
-          subst (Holds new.now) (sym more) (step.holds clean _ was);
+          let more = fold_more (λ (rows : machine.Tables) (x : Change). rows_after x rows) t.rows changes i item low
+          ∙ ap (λ (x : Change). rows_after x (changed_all (Rattle.std.proofs.Common.take i changes) t).rows) at in
+          subst (λ (rows : machine.Tables). Holds new.now (record t { rows = rows })) (sym more) (step.holds clean _ was);
     }
 
 pub returns-clause-holds : goal.returns-clause-holds

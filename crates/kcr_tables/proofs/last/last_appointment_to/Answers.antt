@@ -16,8 +16,8 @@ returns g c =
       same_reference = search rules;
       rows = tells_last text old new c.rows_of.result appointment_row (λ v. v.items) (λ i. (c.code_cell-c0.ensures ∙ ap Text c.text-words.ensures) i ∷ [])
           c.rows_of.ensures.shown
-          (λ x y. laws.one x y tt tt) (λ x. x.since) (λ x. refl) (λ t. t.appointments)
-          (λ t. filter (is_appointment_to c.args.place) t.appointments) (λ t k. k.appointments) (λ t. appointments_to c.args.place t.appointments);
+          (λ x y. laws.one x y tt tt) (λ x. x.since) (λ x. refl) (λ t. t.rows.appointments)
+          (λ t. filter (is_appointment_to c.args.place) t.rows.appointments) (λ t k. k.appointments) (λ t. appointments_to c.args.place t.rows.appointments);
       exact = tells_one text old new c.rows_of.result appointment_row (λ v. v.items) (λ i. (c.code_cell-c0.ensures ∙ ap Text c.text-words.ensures) i ∷ [])
           c.rows_of.ensures.shown;
       frame = reads_by to_place_sql old new c.rows_of.result text.bare c.rows_of.ensures.same c.rows_of.ensures.frame;

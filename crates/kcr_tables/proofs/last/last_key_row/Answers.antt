@@ -16,7 +16,7 @@ returns g c =
     let new = state g.S.Store c.rows_of.new.tx.conn.now in record {
       same_reference = search rules;
       rows = tells_last last_key old new c.rows_of.result key_row (λ v. v.items) refl c.rows_of.ensures.shown
-          (λ x y. laws.one x y tt tt) (λ x. x.accepted) (λ x. refl) (λ t. t.keys) (λ t. t.keys) (λ t k. k.keys) (λ t. filter_every t.keys);
+          (λ x y. laws.one x y tt tt) (λ x. x.accepted) (λ x. refl) (λ t. t.rows.keys) (λ t. t.rows.keys) (λ t k. k.keys) (λ t. filter_every t.rows.keys);
       exact = λ clean has. if_ok _ _ (λ v. subst (λ l. IsOneOf l (map key_row v.items)) (filter_every (rows_at keys_place old.now.trees))) c.rows_of.result
           (tells_one last_key old new c.rows_of.result key_row (λ v. v.items) refl c.rows_of.ensures.shown clean has);
       opened = c.rows_of.ensures.opened;

@@ -14,8 +14,8 @@ returns g c =
     let text = last_stay c.args.who.now in record {
       same_reference = search rules;
       rows = tells_last text old new c.rows_of.result stay_row (λ v. v.items) (λ i. c.initials_cell-c0.ensures i ∷ []) c.rows_of.ensures.shown
-          (λ x y. laws.one x y tt tt) (λ x. x.since) (λ x. refl) (λ t. t.stays)
-          (λ t. filter (λ x. same_text x.who c.args.who.now) t.stays) (λ t k. k.stays) (λ t. stays_of c.args.who.now t.stays);
+          (λ x y. laws.one x y tt tt) (λ x. x.since) (λ x. refl) (λ t. t.rows.stays)
+          (λ t. filter (λ x. same_text x.who c.args.who.now) t.rows.stays) (λ t k. k.stays) (λ t. stays_of c.args.who.now t.rows.stays);
       exact = tells_one text old new c.rows_of.result stay_row (λ v. v.items) (λ i. c.initials_cell-c0.ensures i ∷ []) c.rows_of.ensures.shown;
       frame = reads_by stay_sql old new c.rows_of.result text.bare c.rows_of.ensures.same c.rows_of.ensures.frame;
     }

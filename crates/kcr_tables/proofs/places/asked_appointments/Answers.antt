@@ -15,17 +15,17 @@ use Rattle.kcr_tables.proofs.places.asked_appointments.Goals as goal
 pub returns-in-Under-Place-clause-rows : goal.returns-in-Under-Place-clause-rows
 returns-in-Under-Place-clause-rows g c clean t held =
     let inner : c.in-Under-Place.field-0 ≡ Wanted.Place c.in-Under-Place.place = search rules in
-    subst (λ (q : Selection AppointmentsOf). IfOk c.last_appointment_to.result (λ all. ShowsAppointments q t.appointments all.items))
+    subst (λ (q : Selection AppointmentsOf). IfOk c.last_appointment_to.result (λ all. ShowsAppointments q t.rows.appointments all.items))
     (ap Under (sym inner) ∙ sym c.in-Under-Place.is)
-    (if_ok _ _ (λ all last. to_shown c.in-Under-Place.place t.appointments all.items last) c.last_appointment_to.result
+    (if_ok _ _ (λ all last. to_shown c.in-Under-Place.place t.rows.appointments all.items last) c.last_appointment_to.result
     (c.last_appointment_to.ensures.rows clean t held))
 
 pub returns-in-Under-Person-clause-rows : goal.returns-in-Under-Person-clause-rows
 returns-in-Under-Person-clause-rows g c clean t held =
     let inner : c.in-Under-Person.field-0 ≡ Wanted.Person c.in-Under-Person.who = search rules in
-    subst (λ (q : Selection AppointmentsOf). IfOk c.last_appointment_of.result (λ all. ShowsAppointments q t.appointments all.items))
+    subst (λ (q : Selection AppointmentsOf). IfOk c.last_appointment_of.result (λ all. ShowsAppointments q t.rows.appointments all.items))
     (ap Under (sym inner) ∙ sym c.in-Under-Person.is)
-    (if_ok _ _ (λ all last. of_shown c.in-Under-Person.who t.appointments all.items last) c.last_appointment_of.result
+    (if_ok _ _ (λ all last. of_shown c.in-Under-Person.who t.rows.appointments all.items last) c.last_appointment_of.result
     (c.last_appointment_of.ensures.rows clean t held))
 
 pub returns-in-All-clause-exact : goal.returns-in-All-clause-exact

@@ -17,8 +17,9 @@ returns-clause-rows g c clean t held =
     let to = c.in_ok-rows.ensures in
     let before = was_clean (state g.S.Store c.last_appointment_to.new.tx.conn.now) (state g.S.Store c.last_appointment_of.new.tx.conn.now) _
     c.in_ok-behind.ensures.frame.within.survives clean in
-    subst (λ (l : List Appointment). ShowsAppointments (Under (Wanted.Both c.args.place c.args.who.now)) t.appointments l) (sym c.in_ok-append.ensures.items)
-    (both_shown c.args.place c.args.who.now t.appointments c.in_ok-rows.rows.items c.in_ok-behind.behind.items (to.rows before t held)
+    subst (λ (l : List Appointment). ShowsAppointments (Under (Wanted.Both c.args.place c.args.who.now)) t.rows.appointments l)
+    (sym c.in_ok-append.ensures.items)
+    (both_shown c.args.place c.args.who.now t.rows.appointments c.in_ok-rows.rows.items c.in_ok-behind.behind.items (to.rows before t held)
     (c.in_ok-behind.ensures.rows clean t (to.frame.holds before t held)))
 
 pub returns-clause-exact : goal.returns-clause-exact

@@ -38,8 +38,8 @@ loop-who-preserved g c =
           let at : get_or people i who ≡ who = search rules in
           let last = step.rows clean t (had.frame.holds before t held) in
           let more : take (i + 1) people ≡ take i people ++ who ∷ [] = take_more people i who low ∙ ap (λ k. take i people ++ k ∷ []) at in
-          subst₂ (λ (ks : List (List ℕ)) (l : List Stay). Gathered c.args.asked.now.ceremony ks t.stays l) (sym more) (sym c.in_ok-append.ensures.items)
-          (more_gathered c.args.asked.now.ceremony (take i people) t.stays c.loop-who.rows.items last.0 c.in_ok-last.last.items who
+          subst₂ (λ (ks : List (List ℕ)) (l : List Stay). Gathered c.args.asked.now.ceremony ks t.rows.stays l) (sym more) (sym c.in_ok-append.ensures.items)
+          (more_gathered c.args.asked.now.ceremony (take i people) t.rows.stays c.loop-who.rows.items last.0 c.in_ok-last.last.items who
           (had.rows before t held) last.1 last.2);
       exact = λ clean has.
           let was = had.exact (was_clean mid new _ step.frame.within.survives clean) has in
@@ -50,8 +50,8 @@ loop-who-preserved g c =
 pub returns-clause-rows : goal.returns-clause-rows
 returns-clause-rows g c clean t held =
     let people = c.as_slice-people.result.now in
-    gathered_shows c.args.asked.now t.stays c.loop-who.rows.items (apart_of t.stays held.kept.stays.rising)
-    (subst (λ (ks : List (List ℕ)). Gathered c.args.asked.now.ceremony ks t.stays c.loop-who.rows.items)
+    gathered_shows c.args.asked.now t.rows.stays c.loop-who.rows.items (apart_of t.rows.stays held.kept.stays.rising)
+    (subst (λ (ks : List (List ℕ)). Gathered c.args.asked.now.ceremony ks t.rows.stays c.loop-who.rows.items)
     (take_all c.loop-who.who-index people (omega arith) ∙ c.as_slice-people.ensures) (c.loop-who.invariant.rows clean t held))
 
 pub returns-in_err-last-clause-frame : goal.returns-in_err-last-clause-frame

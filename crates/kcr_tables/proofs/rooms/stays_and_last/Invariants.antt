@@ -15,7 +15,7 @@ invariant-loop-who g l =
     let now = state g.S.Store l.tx.conn.now in record {
       same_reference : l.tx.conn.ghost_name ≡ l.fn.tx.conn.ghost_name;
       frame : Reads {A = Unit {0}} old now (Ok tt);
-      rows : HasCleanDisk now → (t : Tables) → Holds old.now t → Gathered l.asked.ceremony (take l.who-index l.people) t.stays l.rows.items;
+      rows : HasCleanDisk now → (t : Tables) → Holds old.now t → Gathered l.asked.ceremony (take l.who-index l.people) t.rows.stays l.rows.items;
       exact : HasCleanDisk now → old.now.schema ≡ register_schema
           → AreShown stay_row l.rows.items (filter (is_stay_row l.asked) (rows_at stays_place old.now.trees));
     }

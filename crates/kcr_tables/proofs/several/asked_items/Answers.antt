@@ -18,18 +18,20 @@ use Rattle.kcr_tables.proofs.several.asked_items.Goals as goal
 pub returns-in-Under-Codes-clause-rows : goal.returns-in-Under-Codes-clause-rows
 returns-in-Under-Codes-clause-rows g c clean t held =
     let inner : c.in-Under-Codes.field-0 ≡ Codes c.in-Under-Codes.codes = search rules in
-    subst (λ (q : Selection (ItemsOf)). IfOk c.rows_named.result (λ all. Shows is_item_of q t.items all.items)) (ap Under (sym inner) ∙ sym c.in-Under-Codes.is)
-    (if_ok _ _ (λ all so. passing (is_item_of (Codes (c.in-Under-Codes.codes))) t.items all.items so) c.rows_named.result
-    (subst (λ (ks : List (List ℕ)). IfOk c.rows_named.result (λ all. IsPermutation (filter (is_item_of (Codes ks)) t.items) all.items)) c.as_slice.ensures
+    subst (λ (q : Selection (ItemsOf)). IfOk c.rows_named.result (λ all. Shows is_item_of q t.rows.items all.items))
+    (ap Under (sym inner) ∙ sym c.in-Under-Codes.is)
+    (if_ok _ _ (λ all so. passing (is_item_of (Codes (c.in-Under-Codes.codes))) t.rows.items all.items so) c.rows_named.result
+    (subst (λ (ks : List (List ℕ)). IfOk c.rows_named.result (λ all. IsPermutation (filter (is_item_of (Codes ks)) t.rows.items) all.items)) c.as_slice.ensures
     (c.rows_named.ensures.rows clean t held)))
 
 pub returns-in-Under-Bag-clause-rows : goal.returns-in-Under-Bag-clause-rows
 returns-in-Under-Bag-clause-rows g c clean t held =
     let wanted = is_item_of (Bag c.in-Under-Bag.serial) in
     let inner : c.in-Under-Bag.field-0 ≡ Bag c.in-Under-Bag.serial = search rules in
-    subst (λ (q : Selection ItemsOf). IfOk c.rows_under.result (λ all. Shows is_item_of q t.items all.items)) (ap Under (sym inner) ∙ sym c.in-Under-Bag.is)
-    (if_ok _ _ (λ all is. passing wanted t.items all.items
-    (subst (λ (l : List Item). IsPermutation (filter wanted t.items) l) (sym is) (IsPermutation-refl (filter wanted t.items)))) c.rows_under.result
+    subst (λ (q : Selection ItemsOf). IfOk c.rows_under.result (λ all. Shows is_item_of q t.rows.items all.items))
+    (ap Under (sym inner) ∙ sym c.in-Under-Bag.is)
+    (if_ok _ _ (λ all is. passing wanted t.rows.items all.items
+    (subst (λ (l : List Item). IsPermutation (filter wanted t.rows.items) l) (sym is) (IsPermutation-refl (filter wanted t.rows.items)))) c.rows_under.result
     (c.rows_under.ensures.rows clean t held))
 
 pub returns-in-Under-Codes-clause-exact : goal.returns-in-Under-Codes-clause-exact

@@ -12,9 +12,9 @@ use Rattle.kcr_tables.proofs.several.asked_people.Goals as goal
 
 pub returns-in-Under-clause-rows : goal.returns-in-Under-clause-rows
 returns-in-Under-clause-rows g c clean t held =
-    subst (λ (q : Selection (List (List ℕ))). IfOk c.rows_named.result (λ all. Shows is_of_people q t.people all.items)) (sym c.in-Under.is)
-    (if_ok _ _ (λ all so. passing (is_of_people c.in-Under.people) t.people all.items so) c.rows_named.result
-    (subst (λ (ks : List (List ℕ)). IfOk c.rows_named.result (λ all. IsPermutation (filter (is_of_people ks) t.people) all.items)) c.as_slice.ensures
+    subst (λ (q : Selection (List (List ℕ))). IfOk c.rows_named.result (λ all. Shows is_of_people q t.rows.people all.items)) (sym c.in-Under.is)
+    (if_ok _ _ (λ all so. passing (is_of_people c.in-Under.people) t.rows.people all.items so) c.rows_named.result
+    (subst (λ (ks : List (List ℕ)). IfOk c.rows_named.result (λ all. IsPermutation (filter (is_of_people ks) t.rows.people) all.items)) c.as_slice.ensures
     (c.rows_named.ensures.rows clean t held)))
 
 pub returns-in-Under-clause-exact : goal.returns-in-Under-clause-exact

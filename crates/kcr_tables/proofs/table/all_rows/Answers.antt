@@ -6,6 +6,7 @@ use Rattle.sqlite.specs.Listing.{understood}
 use Rattle.kcr_rows.proofs.FailLemmas.{if_both, if_ok}
 use Rattle.kcr_rows.proofs.TableLemmas.{filter_every}
 use Rattle.kcr_tables.specs.Exact.{rows_at}
+use Rattle.kcr_tables.specs.Table.{machine_rows}
 use Rattle.kcr_tables.proofs.FrameLemmas.{reads_by}
 use Rattle.kcr_tables.proofs.HoldLemmas.{held_of}
 use Rattle.kcr_tables.proofs.StatementLemmas.{rows_shown, every_row}
@@ -38,7 +39,7 @@ returns-clause-exact g c clean has =
 
 pub returns-clause-machine : goal.returns-clause-machine
 returns-clause-machine g c clean m h =
-    if_ok _ _ (λ all is. subst (IsPermutation (g.T.Listed.table.machine_rows m)) (sym is) (g.met.T.Listed.table_laws.stands m h.tables.t h.tables.stands))
+    if_ok _ _ (λ all is. subst (IsPermutation (machine_rows g.T.Listed.table m)) (sym is) (g.met.T.Listed.table_laws.stands m h.tables.t h.tables.stands))
     c.rows_of.result
     (returns-clause-rows g c clean h.tables.t (held_of m (state g.S.Store c.args.tx.now.conn.now).now h))
 

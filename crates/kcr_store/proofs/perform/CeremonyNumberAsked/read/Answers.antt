@@ -18,4 +18,4 @@ returns-clause-answer g c clean accepted had =
     let found = sym (c.ok_or.ensures.value ∙ ap (λ row. ok_or row (Unknown (Things.Ceremony number))) first) in
     subst (λ n. MatchResult c.ok_or.result (IsRowOf accepted n) (HasNoRow accepted n)) c.get-number.ensures.value
     (subst (λ r. MatchResult r (IsRowOf accepted number) (HasNoRow accepted number)) found
-    (row_shown accepted was.tables.register kept.t kept.stands number c.in_ok-planned.planned.items rows))
+    (row_shown accepted was.tables.register kept.t.rows kept.stands.rows number c.in_ok-planned.planned.items rows))
