@@ -192,8 +192,7 @@ ComesTo premises act result =
     MatchResult result (λ changes. HasChanges premises.view.now premises.is_full act changes.items)
     (λ refusal. HasRefusal premises.view.now premises.is_full act refusal)
 
--- the same of an act that may seat people or state an exception
-abbrev pub ActsBy : Premises → Act → Result Acted Refusal → Type 0
-ActsBy premises act result =
-    MatchResult result (λ acted. HasActed premises.view.now premises.is_full act acted)
-    (λ refusal. refusal ≢ Memory → IsRefused premises.view.now premises.is_full act refusal)
+-- the same of any act, which may seat people or state an exception
+abbrev pub ActsBy : View → Bool → Act → Result Acted Refusal → Type 0
+ActsBy view full act result =
+    MatchResult result (HasActed view full act) (λ refusal. refusal ≢ Memory → IsRefused view full act refusal)

@@ -1,7 +1,6 @@
 //! What an act comes to by its premises: one method a kind of act, and the choice among them.
-ghost use Rattle.std.specs.Prelude.{◌≡◌, ◌≢◌, true, false, MatchResult, OnOk};
-ghost use Rattle.kcr_base.specs.declared.refusal.Refusal.TheVariants.{Memory};
-ghost use Rattle.kcr_rules.specs.ByRows.{ComesTo, HasActed, IsRefused};
+ghost use Rattle.std.specs.Prelude.{◌≡◌, true, false, OnOk};
+ghost use Rattle.kcr_rules.specs.ByRows.{ComesTo, ActsBy};
 ghost use Rattle.kcr_rules.specs.Kinds.{is_on_bag, is_in_room, is_on_ceremony, is_plain};
 
 use crate::premises::Premises;
@@ -140,9 +139,7 @@ impl Premises<'_> {
 /// people in the room, or are refused (32) with a least shortage. Out of memory (33) may be answered in place of all
 /// of these.
 pub fn perform(alloc: Global, view: &View, full: bool, act: &Act) -> Result<Acted, Refusal>
-    ensures by_rows { MatchResult result
-        (λ acted. HasActed view.now full act.now acted)
-        (λ refusal. refusal ≢ Memory → IsRefused view.now full act.now refusal) }
+    ensures by_rows { ActsBy view.now full act.now result }
     ensures not_full { OnOk result (full ≡ false) }
 {
     let premises = Premises {

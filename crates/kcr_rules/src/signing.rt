@@ -16,7 +16,7 @@ const STAFF: [Seat; 2] = [Seat::Staff(Role::Ca), Seat::Staff(Role::Iw)];
 impl Premises<'_> {
     /// Signs a step.
     pub fn sign(&self, ceremony: u32, step: u32, at: Moment) -> Result<Acted, Refusal>
-        ensures { ActsBy self.now (Kinds.Sign ceremony step at) result }
+        ensures { ActsBy self.now.view.now self.now.is_full (Kinds.Sign ceremony step at) result }
     {
         self.may_sign(ceremony, step, at)?;
         let seats = seats_of(step_row(&self.view.steps, ceremony, step));
@@ -38,7 +38,7 @@ impl Premises<'_> {
         pass: bool,
         at: Moment,
     ) -> Result<Acted, Refusal>
-        ensures { ActsBy self.now (Kinds.Except ceremony text.now pass at) result }
+        ensures { ActsBy self.now.view.now self.now.is_full (Kinds.Except ceremony text.now pass at) result }
     {
         let exception = self.may_except(ceremony, pass, at)?;
         if !pass {

@@ -3,24 +3,26 @@ use Rattle.kcr_store.proofs.whole.all_of.Goals as goal
 
 pub returns-clause-rows : goal.returns-clause-rows
 returns-clause-rows g c clean t held =
-    let all = c.in_ok-people.ensures.rows clean t held in
-    λ i. record {
-      people = all.0.0.0.0 i;
-      trainings = all.0.0.0.1 i;
-      withdrawals = all.0.0.1.0 i;
-      appointments = all.0.0.1.1 i;
-      boxes = all.0.1.0.0 i;
-      safes = all.0.1.0.1 i;
-      bags = all.0.1.1.0 i;
-      items = all.0.1.1.1 i;
-      ceremonies = all.1.0.0.0 i;
-      marks = all.1.0.0.1 i;
-      steps = all.1.0.1.0 i;
-      seatings = all.1.0.1.1 i;
-      sheet = all.1.1.0.0 i;
-      stays = all.1.1.0.1 i;
-      exceptions = all.1.1.1.0 i;
-      keys = all.1.1.1.1 i;
+    let
+      ((((people, trainings), (withdrawals, appointments)), ((boxes, safes), (bags, items))),
+        (((ceremonies, marks), (steps, seatings)), ((sheet, stays), (exceptions, keys)))) = c.in_ok-people.ensures.rows clean t held
+    in λ i. record {
+      people = people i;
+      trainings = trainings i;
+      withdrawals = withdrawals i;
+      appointments = appointments i;
+      boxes = boxes i;
+      safes = safes i;
+      bags = bags i;
+      items = items i;
+      ceremonies = ceremonies i;
+      marks = marks i;
+      steps = steps i;
+      seatings = seatings i;
+      sheet = sheet i;
+      stays = stays i;
+      exceptions = exceptions i;
+      keys = keys i;
     }
 
 pub returns-in_err-people-clause-frame : goal.returns-in_err-people-clause-frame
