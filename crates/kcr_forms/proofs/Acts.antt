@@ -59,8 +59,9 @@ pub new_item : Tells (λ (p : ℕ × (List ℕ × ℕ)). IsNumber 9999 p.0 × (I
     (of_three AddItem ceremony_of item_of moment_of)
 new_item = three ceremonies items moments AddItem (codes "/items") (λ a b c. refl)
 
-pub plan : Tells (λ (p : ℕ × (Facility × (ℕ × List ℕ))). IsNumber 9999 p.0 × (⊤ × (IsDay p.1.1.0 × IsUtf8 p.1.1.1))) (λ p. Plan p.0 p.1.0 p.1.1.0 p.1.1.1)
-    (codes "/ceremonies") (of_four Plan ceremony_of facility_of day_of script_of)
+pub plan : Tells (λ (p : ℕ × (Facility × (ℕ × List ℕ))). let (number, (_, (day, script))) = p in IsNumber 9999 number × (⊤ × (IsDay day × IsUtf8 script)))
+    (λ p. let (number, (facility, (day, script))) = p in Plan number facility day script) (codes "/ceremonies")
+    (of_four Plan ceremony_of facility_of day_of script_of)
 plan = four ceremonies facilities days scripts Plan (codes "/ceremonies") (λ a b c d. refl)
 
 module _ (ceremony : ℕ) where

@@ -140,7 +140,7 @@ module _ {A B C D : Type 0} {IsA : A → Type 0} {IsB : B → Type 0} {IsC : C �
   pub four : Value IsA text_a read_a → Value IsB text_b read_b → Value IsC text_c read_c → Reads IsD text_d read_d
       → (make : A → B → C → D → Act) (path : List ℕ)
       → ((x : A) (y : B) (z : C) (w : D) → command_text (make x y z w) ≡ path ++ 10 ∷ text_a x ++ 10 ∷ text_b y ++ 10 ∷ text_c z ++ 10 ∷ text_d w)
-      → Tells (λ (p : A × (B × (C × D))). IsA p.0 × (IsB p.1.0 × (IsC p.1.1.0 × IsD p.1.1.1))) (λ p. make p.0 p.1.0 p.1.1.0 p.1.1.1) path
-      (of_four make read_a read_b read_c read_d)
+      → Tells (λ (p : A × (B × (C × D))). let (x, (y, (z, w))) = p in IsA x × (IsB y × (IsC z × IsD w)))
+      (λ p. let (x, (y, (z, w))) = p in make x y z w) path (of_four make read_a read_b read_c read_d)
   four a b c d make path told = subst (Tells _ _ path) (λ i text. four-read read_a read_b read_c read_d make text i)
       (line a (λ (x : A) (p : B × (C × D)). make x p.0 p.1.0 p.1.1) path (λ x. three b c d (make x) (path ++ 10 ∷ text_a x) (told x)))

@@ -50,7 +50,8 @@ seen_code {S} store =
     code_by (Held S × (Bool × (History × Option History)))
     (coded× (held_code store) (coded× coded_bool (coded× history_code (coded_option history_code))))
     (λ s. (s.conn, (s.is_founded, (s.accepted, s.torn))))
-    (λ p. record { conn = p.0; is_founded = p.1.0; accepted = p.1.1.0; torn = p.1.1.1 })
+    (λ p. let (conn, (is_founded, (accepted, torn))) = p in
+    record { conn = conn; is_founded = is_founded; accepted = accepted; torn = torn })
     (λ _. refl)
 
 -- a fact of every register
