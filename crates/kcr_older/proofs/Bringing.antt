@@ -13,7 +13,7 @@ use Rattle.kcr_tables.specs.Held.{Tables, Holds}
 use Rattle.kcr_tables.specs.Joint.{Stands, HoldsTables}
 use Rattle.kcr_tables.proofs.HoldLemmas.{tables_of}
 use Rattle.kcr_tables.proofs.JointLemmas.{Rises, kept_rises, all_stand, same_stands}
-use Rattle.kcr_older.specs.Brought.{with_all, with_own_stays, brought}
+use Rattle.kcr_older.specs.Brought.{with_bare_tables, with_own_stays, brought}
 use Rattle.kcr_older.specs.Filled.{with_stays}
 use Rattle.kcr_older.specs.Older.{StoresAs, HoldsUpTo, numbered}
 use Rattle.kcr_older.specs.Versions.{number_of}
@@ -27,11 +27,11 @@ old_holds version A db s = record { schema = s.schema; kept = s.tables.kept }
 
 -- ---- what is put leaves the number of the version
 
-pub all_number : (from : Older) (t : Tables) → (with_all from t).versions ≡ t.versions
+pub all_number : (from : Older) (t : Tables) → (with_bare_tables from t).versions ≡ t.versions
 all_number First t = refl
 all_number Second t = refl
 
-pub same_number : (from : Older) (t : Tables) → (with_own_stays from (with_all from t)).versions ≡ t.versions
+pub same_number : (from : Older) (t : Tables) → (with_own_stays from (with_bare_tables from t)).versions ≡ t.versions
 same_number First t = refl
 same_number Second t = refl
 

@@ -8,7 +8,7 @@ ghost use Rattle.kcr_rows.specs.Frame.{StaysWithin};
 ghost use Rattle.kcr_tables.specs.Held.{Tables, Holds};
 ghost use Rattle.kcr_tables.specs.Made.{first};
 ghost use Rattle.kcr_tables.specs.Schema.{stays, withdrawals};
-ghost use Rattle.kcr_older.specs.Brought.{with_all};
+ghost use Rattle.kcr_older.specs.Brought.{with_bare_tables};
 ghost use Rattle.kcr_older.specs.Growth.{Gains};
 ghost use Rattle.kcr_older.specs.Older.{HoldsUpTo, numbered};
 ghost use Rattle.kcr_older.specs.Versions.{number_of};
@@ -46,7 +46,7 @@ pub(crate) fn grow<S: Alter>(tx: &mut Transaction<'_, S>, from: Older) -> Result
     ensures same_reference { tx.new.conn.ghost_name ≡ tx.old.conn.ghost_name }
     ensures holds { HasCleanDisk (state S.Store tx.new.conn.now) → (t : Tables)
         → HoldsUpTo (14 + number_of from) (state S.Store tx.old.conn.now).now t
-        → OnOk result (Holds (state S.Store tx.new.conn.now).now (with_all from t)) }
+        → OnOk result (Holds (state S.Store tx.new.conn.now).now (with_bare_tables from t)) }
     ensures frame { StaysWithin IsFault (state S.Store tx.old.conn.now) (state S.Store tx.new.conn.now) result }
 {
     match from {

@@ -1,6 +1,6 @@
 use Rattle.std.proofs.Common.{◌≡◌, true, false, refl, ◌∙◌, rules}
 use Rattle.kcr_rows.proofs.InsideLemmas.{was_clean}
-use Rattle.kcr_older.specs.Brought.{with_all, with_own_stays}
+use Rattle.kcr_older.specs.Brought.{with_bare_tables, with_own_stays}
 use Rattle.kcr_older.specs.Versions.{number_of}
 use Rattle.kcr_older.proofs.Bringing.{old_holds, all_number, same_number, brought_from}
 use Rattle.kcr_older.proofs.renewal.bring.Goals as goal
@@ -31,8 +31,8 @@ returns-clause-rows g c clean t held is_so =
     let clean2 = was_clean _ _ _ c.fill.ensures.frame.survives clean3 in
     let grown = c.in_ok-grow.ensures.holds (was_clean _ _ _ c.has_number.ensures.frame.within.survives clean2) t held in
     let from = c.args.from in
-    let filled = c.in_ok-fill.ensures.holds clean3 (with_all from t) (c.in_ok-has_number.ensures.frame.holds clean2 _ grown) in
-    c.in_ok-set_version.ensures.holds clean (number_of from) (with_own_stays from (with_all from t)) (same_number from t ∙ number) filled
+    let filled = c.in_ok-fill.ensures.holds clean3 (with_bare_tables from t) (c.in_ok-has_number.ensures.frame.holds clean2 _ grown) in
+    c.in_ok-set_version.ensures.holds clean (number_of from) (with_own_stays from (with_bare_tables from t)) (same_number from t ∙ number) filled
 
 pub returns-clause-brought : goal.returns-clause-brought
 returns-clause-brought g c clean A s =
