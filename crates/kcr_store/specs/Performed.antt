@@ -1,10 +1,14 @@
 -- What the end of a command says.
-use Rattle.std.specs.Prelude.{ℕ, Bool, true, false, Result, Ok, Err}
+use Rattle.std.specs.Prelude.{◌≡◌, ℕ, Bool, true, false, length, Result, Ok, Err}
+use Rattle.sqlite.specs.State.{State}
 use Rattle.kcr_base.specs.declared.refusal.Refusal.{Refusal}
 use Rattle.kcr_base.specs.declared.refusal.Refusal.TheVariants.{Disk}
+use Rattle.kcr_history.specs.declared.commands.Command.{Command}
 use Rattle.kcr_history.specs.declared.commands.Reply.{Reply}
 use Rattle.kcr_history.specs.History.{History}
-use Rattle.kcr_store.specs.Steps.{number_after}
+use Rattle.kcr_rows.specs.Frame.{StaysWithin}
+use Rattle.kcr_store.specs.Steps.{Steps, number_after}
+use Rattle.kcr_store.specs.Stored.{OfStored}
 use Rattle.kcr_store.specs.declared.perform.Performed.{Performed}
 use Rattle.kcr_store.specs.declared.perform.Performed.TheVariants.{Accepted, Refused, Torn}
 
@@ -43,3 +47,9 @@ abbrev pub is_founded_after : Bool → Performed → Bool
 is_founded_after old (Accepted v p) = p.is_founded
 is_founded_after old (Refused e) = old
 is_founded_after old (Torn p) = p.is_founded
+
+-- a call within the transaction of a command, before which there were so many: over the tables of a history its refusal
+-- is the machine's
+abbrev pub RefusesAsMachine : {T : Type 0} → ℕ → Command → State → State → Result T Refusal → Type 0
+RefusesAsMachine count command old new result =
+    StaysWithin (λ refusal. OfStored old new (λ A. count ≡ length A → Steps A command (Err refusal) A)) old new result

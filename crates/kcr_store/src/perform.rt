@@ -1,5 +1,5 @@
 //! One command as one transaction, and one question or one row of a report as one that changes nothing.
-ghost use Rattle.std.specs.Prelude.{◌≡◌, false, length, Ok, Err, IsTrue, IfOk, OnOk, MatchResult};
+ghost use Rattle.std.specs.Prelude.{◌≡◌, false, length, Ok, IsTrue, IfOk, OnOk, MatchResult};
 ghost use Rattle.sqlite.specs.State.{HasCleanDisk, Survives};
 ghost use Rattle.sqlite.specs.Held.{state};
 ghost use Rattle.kcr_history.specs.History.{History};
@@ -16,7 +16,7 @@ ghost use Rattle.kcr_store.specs.Steps.{Steps, with_answer, IsNext, IsAsked, IsR
 ghost use Rattle.kcr_store.specs.Register.{IsWhole, IsCounted, LeavesEither};
 ghost use Rattle.kcr_store.specs.Rows.{GivesNext, IsRowOf, HasNoRow, MayHaveNoRow};
 ghost use Rattle.kcr_store.specs.Performed.{history_after, tried_after, count_after, answer_of, is_torn};
-ghost use Rattle.kcr_store.specs.Performed.{is_founded_after};
+ghost use Rattle.kcr_store.specs.Performed.{is_founded_after, RefusesAsMachine};
 
 use crate::past::Past;
 use crate::shown::{codes_of, custodians_shown, people_shown};
@@ -35,26 +35,33 @@ use kcr_tables::{all_rows, make_changes, rows_under, view_of};
 use sqlite::{Alter, Connection, Error, ErrorCode, Transaction};
 use std::alloc::Global;
 
+/// A command whose turn it is.
+#[derive(Clone, Copy)]
+struct Turn<'a> {
+    command: &'a Command,
+    /// The number of the last one before it.
+    count: u32,
+}
+
 /// What becomes of the command: a repeat is decided by the row of its key alone, and a command whose key is new over
-/// the rows that it asks for and the number of the last one, `count`. Nothing is written.
+/// the rows that it asks for and the number of the last one. Nothing is written.
 fn decision_of<S: Alter>(
     alloc: Global,
     tx: &mut Transaction<'_, S>,
-    count: u32,
-    command: &Command,
+    turn: &Turn<'_>,
 ) -> Result<Verdict, Refusal>
     ensures same_reference { tx.new.conn.ghost_name ≡ tx.old.conn.ghost_name }
 
     // Over the tables of a history it is the machine's, and the tables stay.
     ensures decided { OfStored (state S.Store tx.old.conn.now) (state S.Store tx.new.conn.now)
-        (λ A. count ≡ length A → IfOk result (λ verdict. IsDecision A command.now (Ok verdict)
+        (λ A. turn.now.count ≡ length A → IfOk result (λ verdict. IsDecision A turn.now.command.now (Ok verdict)
         × HoldsTables (tables A) (state S.Store tx.new.conn.now).now)) }
     ensures opened { HasCleanDisk (state S.Store tx.new.conn.now)
         → OnOk result (IsTrue (state S.Store tx.old.conn.now).is_open) }
-    ensures frame { StaysWithin (λ refusal. OfStored (state S.Store tx.old.conn.now) (state S.Store tx.new.conn.now)
-        (λ A. count ≡ length A → Steps A command.now (Err refusal) A))
+    ensures frame { RefusesAsMachine turn.now.count turn.now.command.now
         (state S.Store tx.old.conn.now) (state S.Store tx.new.conn.now) result }
 {
+    let Turn { command, count } = *turn;
     let kept = rows_under::<_, Key, KeyRow>(alloc, tx, &command.key)?;
     match kept.first() {
         Some(row) => repeat(alloc, row, command),
@@ -66,28 +73,27 @@ fn decision_of<S: Alter>(
     }
 }
 
-/// Decides the command and puts the rows that the decision gives; `count` is the number of the last command. Nothing is
-/// committed, and of a repeat nothing is written.
-pub(crate) fn prepare<S: Alter>(
+/// Decides the command and puts the rows that the decision gives. Nothing is committed, and of a repeat nothing is
+/// written.
+fn prepare<S: Alter>(
     alloc: Global,
     tx: &mut Transaction<'_, S>,
-    count: u32,
-    command: &Command,
+    turn: &Turn<'_>,
 ) -> Result<Verdict, Refusal>
     ensures same_reference { tx.new.conn.ghost_name ≡ tx.old.conn.ghost_name }
 
     // Over the tables of a history, an answer is the machine's, and the transaction then holds the tables after it.
     ensures done { HasCleanDisk (state S.Store tx.new.conn.now) → IsTrue (state S.Store tx.old.conn.now).in_transaction
-        → (A : History) → count ≡ length A
+        → (A : History) → turn.now.count ≡ length A
         → (IsTrue (state S.Store tx.old.conn.now).is_open → Stores A (state S.Store tx.old.conn.now).now)
-        → IfOk result (λ verdict. Steps A command.now (Ok verdict.reply) (with_answer A command.now verdict.answer)
-        × Stores (with_answer A command.now verdict.answer) (state S.Store tx.new.conn.now).now
+        → IfOk result (λ verdict.
+        Steps A turn.now.command.now (Ok verdict.reply) (with_answer A turn.now.command.now verdict.answer)
+        × Stores (with_answer A turn.now.command.now verdict.answer) (state S.Store tx.new.conn.now).now
         × IsTrue (state S.Store tx.new.conn.now).in_transaction) }
-    ensures frame { StaysWithin (λ refusal. OfStored (state S.Store tx.old.conn.now) (state S.Store tx.new.conn.now)
-        (λ A. count ≡ length A → Steps A command.now (Err refusal) A))
+    ensures frame { RefusesAsMachine turn.now.count turn.now.command.now
         (state S.Store tx.old.conn.now) (state S.Store tx.new.conn.now) result }
 {
-    let verdict = decision_of(alloc, tx, count, command)?;
+    let verdict = decision_of(alloc, tx, turn)?;
     make_changes(alloc, tx, verdict.changes.as_slice())?;
     Ok(verdict)
 }
@@ -138,7 +144,8 @@ pub(crate) fn perform<S: Alter>(
         → LeavesEither past.now.entries (tried_after past.now.entries result) (state S.Store conn.new) }
 {
     let mut tx = conn.transaction();
-    let verdict = match prepare(alloc, &mut tx, count, command) {
+    let turn = Turn { command, count };
+    let verdict = match prepare(alloc, &mut tx, &turn) {
         Ok(verdict) => verdict,
         Err(refusal) => return Performed::Refused(refusal),
     };

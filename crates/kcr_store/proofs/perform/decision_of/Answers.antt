@@ -13,7 +13,7 @@ use Rattle.kcr_store.proofs.perform.decision_of.Goals as goal
 
 pub returns-in_err-kept-clause-frame : goal.returns-in_err-kept-clause-frame
 returns-in_err-kept-clause-frame g c =
-    within_fails _ c.from_residual.ensures.1 (λ fault clean A had number. fault_steps A c.args.command.now _ fault) c.in_err-kept.ensures.frame.within
+    within_fails _ c.from_residual.ensures.1 (λ fault clean A had number. fault_steps A c.args.turn.now.command.now _ fault) c.in_err-kept.ensures.frame.within
 
 -- ---- the key has a row
 
@@ -22,32 +22,33 @@ returns-in-Some g c =
     let old = state g.S.Store c.args.tx.now.conn.now in
     let new = state g.S.Store c.rows_under.new.tx.conn.now in
     let kept = c.in_ok-kept.ensures in
-    let decision : IsDecided old new c.args.count c.args.command.now c.repeat.result =
+    let decision : IsDecided old new c.args.turn.now.count c.args.turn.now.command.now c.repeat.result =
     λ clean A had number.
     let held = held_in _ _ (had (kept.opened clean)) in
     let rows = kept.rows clean held.tables.t (held_of (tables A) _ held) in
-    let row = sym (row_under (tables A) _ held c.args.command.now.key c.in_ok-kept.kept.items rows)
+    let row = sym (row_under (tables A) _ held c.args.turn.now.command.now.key c.in_ok-kept.kept.items rows)
     ∙ ap (λ (l : List KeyRow). slice_get l 0) (sym c.deref.ensures.value) ∙ sym c.in-Some.ensures.value in
     (c.repeat.ensures A row, kept.frame.tables clean (tables A) held) in
     record {
       same_reference = search rules;
-      decided = decided old new c.args.count c.args.command.now c.repeat.result decision;
+      decided = decided old new c.args.turn.now.count c.args.turn.now.command.now c.repeat.result decision;
       opened = λ clean. on_ok _ c.repeat.result (kept.opened clean);
-      frame = within_to c.repeat.result (refused old new c.args.count c.args.command.now c.repeat.result decision) kept.frame.within;
+      frame = within_to c.repeat.result (refused old new c.args.turn.now.count c.args.turn.now.command.now c.repeat.result decision) kept.frame.within;
     }
 
 -- ---- the key is new
 
 pub returns-in_err-asked-in-None-clause-frame : goal.returns-in_err-asked-in-None-clause-frame
 returns-in_err-asked-in-None-clause-frame g c = within_to _
-    (faults (state g.S.Store c.args.tx.now.conn.now) (state g.S.Store c.rows_under.new.tx.conn.now) c.args.command.now c.args.count _ (search rules))
+    (faults (state g.S.Store c.args.tx.now.conn.now) (state g.S.Store c.rows_under.new.tx.conn.now) c.args.turn.now.command.now
+    c.args.turn.now.count _ (search rules))
     c.in_ok-kept.ensures.frame.within
 
 pub returns-in_err-view-in-None-clause-frame : goal.returns-in_err-view-in-None-clause-frame
 returns-in_err-view-in-None-clause-frame g c =
     within_then c.in_ok-kept.ensures.frame.within
     (within_fails _ c.from_residual-in_err-view-in-None.ensures.1
-    (λ fault clean A had number. fault_steps A c.args.command.now _ fault) c.in_err-view-in-None.ensures.frame.within)
+    (λ fault clean A had number. fault_steps A c.args.turn.now.command.now _ fault) c.in_err-view-in-None.ensures.frame.within)
 
 pub returns : goal.returns
 returns g c =
@@ -55,13 +56,13 @@ returns g c =
     let new = state g.S.Store c.view_of.new.tx.conn.now in
     let kept = c.in_ok-kept.ensures in
     let seen = c.in_ok-view-in-None.ensures in
-    let decision : IsDecided old new c.args.count c.args.command.now c.decide.result =
+    let decision : IsDecided old new c.args.turn.now.count c.args.turn.now.command.now c.decide.result =
     λ clean A had number.
     let before = was_clean _ _ _ seen.frame.within.survives clean in
     let was = had (kept.opened before) in
     let held = held_in _ _ was in
     let rows = kept.rows before held.tables.t (held_of (tables A) _ held) in
-    let none = sym (row_under (tables A) _ held c.args.command.now.key c.in_ok-kept.kept.items rows)
+    let none = sym (row_under (tables A) _ held c.args.turn.now.command.now.key c.in_ok-kept.kept.items rows)
     ∙ ap (λ (l : List KeyRow). slice_get l 0) (sym c.deref.ensures.value) ∙ sym c.in-None.ensures.value in
     let held1 = kept.frame.tables before (tables A) held in
     let view = seen.view clean (tables A) held1 in
@@ -69,8 +70,8 @@ returns g c =
     (c.decide.ensures A was.tables.register none (rw c.in_ok-asked-in-None.ensures at view) last, seen.frame.tables clean (tables A) held1) in
     record {
       same_reference = search rules;
-      decided = decided old new c.args.count c.args.command.now c.decide.result decision;
+      decided = decided old new c.args.turn.now.count c.args.turn.now.command.now c.decide.result decision;
       opened = λ clean. on_ok _ c.decide.result (kept.opened (was_clean _ _ _ seen.frame.within.survives clean));
-      frame = within_to c.decide.result (refused old new c.args.count c.args.command.now c.decide.result decision)
+      frame = within_to c.decide.result (refused old new c.args.turn.now.count c.args.turn.now.command.now c.decide.result decision)
           (within_then kept.frame.within seen.frame.within);
     }

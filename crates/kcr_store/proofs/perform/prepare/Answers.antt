@@ -10,7 +10,7 @@ returns-in_err-verdict-clause-frame g c = within_fails _ c.from_residual.ensures
 pub returns-in_err-make_changes-clause-frame : goal.returns-in_err-make_changes-clause-frame
 returns-in_err-make_changes-clause-frame g c =
     within_then c.in_ok-verdict.ensures.frame
-    (within_fails _ c.from_residual-in_err-make_changes.ensures.1 (λ fault clean accepted had number. fault_steps accepted c.args.command.now _ fault)
+    (within_fails _ c.from_residual-in_err-make_changes.ensures.1 (λ fault clean accepted had number. fault_steps accepted c.args.turn.now.command.now _ fault)
     c.in_err-make_changes.ensures.frame)
 
 pub returns-clause-frame : goal.returns-clause-frame
@@ -24,7 +24,7 @@ returns-clause-done g c clean inside accepted number had =
     let held = c.in_ok-make_changes.ensures.tables clean (tables accepted) decided.1 in
     let verdict = c.in_ok-verdict.verdict in
     let inside1 = c.in_ok-verdict.ensures.frame.inside clean1 inside in (
-      steps accepted c.args.command.now verdict verdict.answer decided.0,
-      next_stores accepted c.args.command.now verdict verdict.answer _ _ was decided.0 (rw c.as_slice.ensures.value at held),
+      steps accepted c.args.turn.now.command.now verdict verdict.answer decided.0,
+      next_stores accepted c.args.turn.now.command.now verdict verdict.answer _ _ was decided.0 (rw c.as_slice.ensures.value at held),
       c.in_ok-make_changes.ensures.frame.inside clean inside1,
     )

@@ -3,9 +3,10 @@ use Rattle.kcr_store.proofs.whole.all_of.Goals as goal
 
 pub returns-clause-rows : goal.returns-clause-rows
 returns-clause-rows g c clean t held =
-    let
-      ((((people, trainings), (withdrawals, appointments)), ((boxes, safes), (bags, items))),
-        (((ceremonies, marks), (steps, seatings)), ((sheet, stays), (exceptions, keys)))) = c.in_ok-people.ensures.rows clean t held
+    let (
+      (((people, trainings), (withdrawals, appointments)), ((boxes, safes), (bags, items))),
+      (((ceremonies, marks), (steps, seatings)), ((sheet, stays), (exceptions, keys))),
+    ) = c.in_ok-people.ensures.rows clean t held
     in λ i. record {
       people = people i;
       trainings = trainings i;
