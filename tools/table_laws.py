@@ -73,33 +73,39 @@ def given(t):
     return listed(front + ["Null" if c.name == t.alias else c.value("x") for c in t.columns])
 
 
-def casts(t):
+def casts(t, is_new):
     """The same as it is stored, along the line `i`."""
     stored = [c.kind.cast.format(x=f"x.{c.field}") for c in t.columns]
-    if not t.always_new:
+    if not is_new:
         return listed(stored)
     front = [cast for c, cast in zip(t.columns, stored) if c.name == t.alias] or ["cast_null i"]
     return listed(front + ["cast_null i" if c.name == t.alias else cast for c, cast in zip(t.columns, stored)])
 
 
-def puts(t):
+def put_by(t, is_new, names):
     fields = {"at": t.at, "table": t.name, "terms": terms(t)}
-    if t.always_new:
+    if is_new:
         fields["given"] = f"λ x. {given(t)}"
     else:
         fields["test"] = f"update_test {len(t.columns)}"
         fields["sets"] = f"update_terms {len(t.columns)}"
-    fields |= {"casts": f"λ x i. {casts(t)}", "bare": "(refl, refl)", "is": "refl"}
+    fields |= {"casts": f"λ x i. {casts(t, is_new)}", "bare": "(refl, refl)", "is": "refl"}
+    text, law = names
     return f"""
--- ---- a row put under its key
+abbrev {text} : List ℕ
+{text} = {codes(t.put_text(is_new))}
 
-abbrev put_sql : List ℕ
-put_sql = {codes(t.put_text())}
-
-pub puts : PutsRow put_sql {t.place} {t.row_of}
+pub {law} : PutsRow {text} {t.place} {t.row_of}
 unfolding understood everything
-puts = {'inr' if t.always_new else 'inl'} ({lines(fields).rstrip()})
+{law} = {'inr' if is_new else 'inl'} ({lines(fields).rstrip()})
 """
+
+
+def puts(t):
+    out = "\n-- ---- a row put under its key\n"
+    if t.new_where:
+        out += "\n-- a new one" + put_by(t, True, ("new_sql", "puts_new")) + "\n-- another"
+    return out + put_by(t, t.always_new, ("put_sql", "puts"))
 
 
 def finds(t, r):

@@ -98,7 +98,7 @@ class Reading:
 
 
 class Table:
-    def __init__(self, name, row, type_, crate, module, columns, keys, doc, change=None, same=None, turned=False, others=(), readings=(), alias=None, always_new=False,
+    def __init__(self, name, row, type_, crate, module, columns, keys, doc, change=None, same=None, turned=False, others=(), readings=(), alias=None, always_new=False, new_where=None,
                  is_read=None, is_stored=None, stored_fact=None):
         self.name, self.row, self.type = name, row, type_
         self.crate = crate
@@ -108,6 +108,7 @@ class Table:
         self.others, self.readings = others, readings
         self.alias = alias  # the column that is the row id: such a table has a key of one column
         self.always_new = always_new  # a row that is put has a key that no row had: it is entered, and never changed
+        self.new_where = new_where  # else, of which rows that is so; another is put in the place of the row there
         self.is_read, self.is_stored, self.stored_fact = is_read, is_stored, stored_fact
         self.row_of = f"{row}_row"
         self.place = f"{name}_place"
@@ -129,10 +130,10 @@ class Table:
         order = f"{reading.greatest} DESC LIMIT 1" if reading.greatest else self.order()
         return f"SELECT {self.names()} FROM {self.name}{where} ORDER BY {order}"
 
-    def put_text(self):
+    def put_text(self, is_new):
         marks = ", ".join(f"?{i + 1}" for i in range(len(self.columns)))
         sets = ", ".join(f"{c.sql} = ?{i + 1}" for i, c in enumerate(self.columns))
-        over = "" if self.always_new else f" ON CONFLICT ({self.order()}) DO UPDATE SET {sets}"
+        over = "" if is_new else f" ON CONFLICT ({self.order()}) DO UPDATE SET {sets}"
         return f"INSERT INTO {self.name} ({self.names()}) VALUES ({marks}){over}"
 
     def create_text(self):
@@ -179,9 +180,8 @@ def of_person(table, word):
     return Reading(f"{table}_of", "The rows of one person", "who", "who", "&Initials", INITIALS, "same_text {x}.who {v}", ask=f"{word} {{v}}")
 
 
-def of_ceremony(table, word=None, column="ceremony"):
-    ask = f"{word} {{v}}" if word else None
-    return Reading(f"{table}_of", "The rows of one ceremony", column, "ceremony", "u32", NUMBER, f"{{x}}.{column} == {{v}}", ask=ask)
+def of_ceremony(table, word):
+    return Reading(f"{table}_of", "The rows of one ceremony", "ceremony", "ceremony", "u32", NUMBER, "{x}.ceremony == {v}", ask=f"{word} {{v}}")
 
 
 TABLES = [
@@ -215,14 +215,13 @@ TABLES = [
           "the mark of a ceremony that was opened, under its number", "PutMark", "same_mark",
           readings=[Reading("mark_of", "The row of the ceremony, alone, or none", "ceremony", "ceremony", "u32", NUMBER, "{x}.ceremony == {v}", ask="is_mark_of {v}")]),
     Table("steps", "step", "StepRow", "kcr_history", "rows.", [Column("ceremony", NUMBER), Column("step", NUMBER), Column("activity", LINE), Column("seats", SEATS), Column("state", STEP_STATE), Column("at", MOMENT_OR_NULL)], 2,
-          "a step of a ceremony under both numbers", "PutStep", "same_step",
-          readings=[of_ceremony("steps", "is_step_of")], is_read="HasOnlyTheseSeats", is_stored="HasSeatsText", stored_fact="seats"),
+          "a step of a ceremony under both numbers", "PutStep", "same_step", new_where="self.state == StepState::Undone",
+          is_read="HasOnlyTheseSeats", is_stored="HasSeatsText", stored_fact="seats"),
     Table("seatings", "seating", "SeatingRow", "kcr_history", "rows.", [Column("ceremony", NUMBER), Column("step", NUMBER), Column("seat", NUMBER), Column("who", INITIALS)], 3,
           "who filled a seat of a step, under the ceremony, the step and the seat", "PutSeating", "same_seating", always_new=True,
-          readings=[of_ceremony("seatings")]),
+          readings=[Reading("last_seating_of", "One row of the ceremony's last step that has a seating, alone, or none", "ceremony", "ceremony", "u32", NUMBER, "{x}.ceremony == {v}", ask="is_seating_of {v}", greatest="step")]),
     Table("sheet", "sheet", "SheetRow", "kcr_room", "", [Column("who", INITIALS), Column("at", MOMENT), Column("ceremony", NUMBER), Column("way", WAY)], 2,
-          "a row of a ceremony's entry and exit sheet, under the person and the moment", "PutSheet", "same_sheet_row", always_new=True,
-          readings=[of_ceremony("sheet")]),
+          "a row of a ceremony's entry and exit sheet, under the person and the moment", "PutSheet", "same_sheet_row", always_new=True),
     Table("exceptions", "exception", "ExceptionRow", "kcr_history", "rows.", [Column("ceremony", NUMBER), Column("exception", NUMBER), Column("text", LINE), Column("at", MOMENT), Column("passed", NUMBER_OR_NULL)], 2,
           "a script exception of a ceremony under both numbers", "PutException", "same_exception", always_new=True,
           readings=[of_ceremony("exceptions", "is_exception_of")]),

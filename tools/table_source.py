@@ -1,4 +1,6 @@
 """Writes the module of a table."""
+import re
+
 from table_list import TABLES
 from table_writer import ROWS_CRATE, write, rust_text
 
@@ -27,7 +29,11 @@ def put_source(t):
         if c.kind.prelude:
             out += "        " + c.kind.prelude.format(f=c.field, x=f"self.{c.field}") + "\n"
     cells = ", ".join(c.kind.write.format(f=c.field, x=f"self.{c.field}") for c in t.columns)
-    return out + f"        put_cells(tx, self, {rust_text(t.put_text())}, &[{cells}])\n    }}\n"
+    if not t.new_where:
+        return out + f"        put_cells(tx, self, {rust_text(t.put_text(t.always_new))}, &[{cells}])\n    }}\n"
+    out += f"        let cells = [{cells}];\n        if {t.new_where} {{\n"
+    out += f"            put_cells(tx, self, {rust_text(t.put_text(True))}, &cells)\n        }} else {{\n"
+    return out + f"            put_cells(tx, self, {rust_text(t.put_text(False))}, &cells)\n        }}\n    }}\n"
 
 
 def source(t):
@@ -38,16 +44,18 @@ def source(t):
         p = r.prefix
         body = member("finding", f"laws.{p}") + text_method("find_text", t.text_of(r)) + member("finding_laws", f"laws.{p}_laws")
         out += f"/// {r.doc}.\n" + impl(f"Finds<{KEY_TYPES[r.ty]}>", t, body)
-    lemmas = f"    #[tactic(auto, using(crate::specs::{t.laws}::puts))]\n"
+    names = ["puts_new"] * bool(t.new_where) + ["puts"]
+    lemmas = f"    #[tactic(auto, using({', '.join(f'crate::specs::{t.laws}::{name}' for name in names)}))]\n"
     out += impl("PutWords" if t.needs_alloc else "Put", t, lemmas + put_source(t))
     keys = {KEY_TYPES[r.ty] for r in found}
     base = sorted(keys & {"Initials", "Serial", "ItemCode", "Key"} | {"Refusal"})
     cells = {c.kind.cell() for c in t.columns} | {c.kind.prelude.split("= ")[1].split("(")[0] for c in t.columns if "(alloc" in (c.kind.prelude or "")}
+    named = re.findall(r"\b(\w+)::", t.new_where or "")
     table = ["Listed", "PutWords" if t.needs_alloc else "Put"] + ["Finds"] * bool(found) + ["put_cells"]
     imports = [
         f"use crate::table::{{{', '.join(sorted(table, key=lambda n: (n[0].islower(), n)))}}};",
         f"use kcr_base::{{{', '.join(base)}}};",
-        f"use {t.crate}::{t.type};",
+        f"use {t.crate}::{{{', '.join([t.type, *named])}}};" if named else f"use {t.crate}::{t.type};",
         f"use kcr_rows::cells::{{{', '.join(sorted(cells))}}};",
         "use sqlite::{Alter, Transaction};",
         "use std::alloc::Global;" if t.needs_alloc else "",

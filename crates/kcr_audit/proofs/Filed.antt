@@ -206,13 +206,13 @@ module _ (A : History) (h : IsRegister A) (view : WholeView) (same : SameTables 
       → is_well_seated view (row_with A key (Some (state, at))) (ceremony_in view key.0) (Some at) ≡ true
   well key state at e s =
       let as_filed = filed A A h (seated A h) key.0 key.1 (state, at) e in
-      let rows = rows-placed (seatings A) view.seatings.items same.seatings key.0 key.1 as_filed.people as_filed.filed in
+      let rows = rows-placed (seatings A) view.asked.seatings.items same.seatings key.0 key.1 as_filed.people as_filed.filed in
       let row = row_with A key (Some (state, at)) in
       ap (λ o. is_well_seated view row o (Some at)) (ceremony-found A view same.ceremonies key.0 as_filed.planned)
-      ∙ ap (λ b. b && is_seating_by view (ceremony_row A key.0) at (seats_filled row) (seated_at view.seatings.items key.0 key.1))
+      ∙ ap (λ b. b && is_seating_by view (ceremony_row A key.0) at (seats_filled row) (seated_at view.asked.seatings.items key.0 key.1))
       (ap (are_numbered 1) rows ∙ seats-numbered key.0 key.1 0 as_filed.people)
-      ∙ seating-same A h view same key.0 at (seats_filled row) (seated_at view.seatings.items key.0 key.1)
-      ∙ ap (λ seats. is_seating A key.0 at seats (seated_at view.seatings.items key.0 key.1)) s
+      ∙ seating-same A h view same key.0 at (seats_filled row) (seated_at view.asked.seatings.items key.0 key.1)
+      ∙ ap (λ seats. is_seating A key.0 at seats (seated_at view.asked.seatings.items key.0 key.1)) s
       ∙ ap (is_seating A key.0 at (seats_for state (seats_at (steps_of A key.0) key.1)))
       (ap (map (λ row. row.who)) rows ∙ people-of-seats key.0 key.1 0 as_filed.people)
       ∙ as_filed.seated

@@ -219,7 +219,7 @@ fn is_well_seated(alloc: Global, view: &WholeView, row: &StepRow) -> Result<bool
 {
     match (ceremony_in(view, row.ceremony), row.at) {
         (Some(ceremony), Some(at)) => {
-            let rows = seatings_at(alloc, &view.seatings, row.ceremony, row.step)?;
+            let rows = seatings_at(alloc, &view.asked.seatings, row.ceremony, row.step)?;
             let people = people_of(alloc, &rows)?;
             Ok(are_numbered(&rows) && is_seating(view, &ceremony, at, seats_filled(row), &people))
         }

@@ -1,5 +1,5 @@
 -- Which rows each kind of command asks for.
-use Rattle.std.specs.Prelude.{ℕ, Bool, true, false, List, [], ◌∷◌}
+use Rattle.std.specs.Prelude.{ℕ, Bool, true, false, List, [], ◌∷◌, Some, None}
 use Rattle.kcr_base.specs.declared.place.Place.{Place}
 use Rattle.kcr_history.specs.declared.commands.Act.{Act}
 use Rattle.kcr_history.specs.declared.commands.Act.TheVariants.{Enter, Train, Withdraw, Appoint, Replace, Release}
@@ -27,7 +27,7 @@ asks_nothing =
       items = Nothing;
       ceremonies = Nothing;
       marks = Nothing;
-      steps = Nothing;
+      steps = None;
       exceptions = Nothing;
       stays = Nothing;
     }
@@ -73,9 +73,14 @@ asks_to_appoint place who =
 abbrev pub asks_to_release : Place → Asks
 asks_to_release place = record asks_nothing { appointments = Under (Appointments.Place place); marks = All }
 
--- to close a ceremony: its room, its steps, the safes and the bags
+-- to close a ceremony: its room, its next step, the safes and the bags
 abbrev pub asks_to_close : ℕ → Asks
-asks_to_close ceremony = record (asks_room ceremony []) { steps = Under ceremony; safes = true; bags = All }
+asks_to_close ceremony =
+    record (asks_room ceremony []) {
+      steps = Some (record { ceremony = ceremony; step = None });
+      safes = true;
+      bags = All;
+    }
 
 -- who opens or shuts a safe, with their trainings
 abbrev pub asks_to_turn : ℕ → List ℕ → Asks
@@ -103,13 +108,21 @@ asks_to_add ceremony item = record (asks_trained ceremony) { items = Under (Item
 abbrev pub asks_sheet : ℕ → List (List ℕ) → Asks
 asks_sheet ceremony people = record (asks_room ceremony people) { people = Under people }
 
--- the steps of the ceremony, and the holders of places
-abbrev pub asks_to_sign : ℕ → Asks
-asks_to_sign ceremony = record (asks_trained ceremony) { steps = Under ceremony; appointments = All }
+-- the step, and the holders of places
+abbrev pub asks_to_sign : ℕ → ℕ → Asks
+asks_to_sign ceremony step =
+    record (asks_trained ceremony) {
+      steps = Some (record { ceremony = ceremony; step = Some step });
+      appointments = All;
+    }
 
--- the steps and the exceptions of the ceremony
+-- the next step and the exceptions of the ceremony
 abbrev pub asks_to_except : ℕ → Asks
-asks_to_except ceremony = record (asks_trained ceremony) { steps = Under ceremony; exceptions = Under ceremony }
+asks_to_except ceremony =
+    record (asks_trained ceremony) {
+      steps = Some (record { ceremony = ceremony; step = None });
+      exceptions = Under ceremony;
+    }
 
 -- the bag and items
 abbrev pub asks_items : ℕ → List ℕ → ItemsOf → Asks
@@ -133,7 +146,7 @@ asks_by (Plan number facility day script) = asks_ceremonies (Under number)
 asks_by (Open ceremony at) = asks_ceremonies All
 asks_by (Close ceremony at) = asks_to_close ceremony
 asks_by (Sheet ceremony way people at) = asks_sheet ceremony people
-asks_by (Sign ceremony step at) = asks_to_sign ceremony
+asks_by (Sign ceremony step at) = asks_to_sign ceremony step
 asks_by (Except ceremony text pass at) = asks_to_except ceremony
 asks_by (TurnSafe ceremony safe state by at) = asks_to_turn ceremony by
 asks_by (Seal ceremony serial items at) = asks_sealed ceremony serial items

@@ -55,8 +55,8 @@ are_numbered seat (row ∷ rows) = row.seat == seat && are_numbered (suc seat) r
 -- moment
 abbrev pub is_well_seated : WholeView → StepRow → Option CeremonyRow → Option ℕ → Bool
 is_well_seated view row (Some ceremony) (Some t) =
-    are_numbered 1 (seatings_at view.seatings.items row.ceremony row.step)
-    && is_seating_by view ceremony t (seats_filled row) (seated_at view.seatings.items row.ceremony row.step)
+    are_numbered 1 (seatings_at view.asked.seatings.items row.ceremony row.step)
+    && is_seating_by view ceremony t (seats_filled row) (seated_at view.asked.seatings.items row.ceremony row.step)
 is_well_seated view row ceremony at = false
 
 -- the row of the ceremony

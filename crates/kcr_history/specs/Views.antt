@@ -1,6 +1,6 @@
 -- Which rows a command asks for, and when a view holds them.
-use Rattle.std.specs.Prelude.{◌≡◌, ℕ, ◌==◌, ◌&&◌, Bool, true, false, nat_le, List, [], ◌∷◌, filter, find, Option, Some}
-use Rattle.std.specs.Prelude.{None, max, if◌then◌else◌, All as EachOf}
+use Rattle.std.specs.Prelude.{◌≡◌, ℕ, suc, ◌==◌, ◌&&◌, Bool, true, false, nat_le, List, [], ◌∷◌, map, filter}
+use Rattle.std.specs.Prelude.{find, fold, Option, Some, None, max, unwrap_or, if◌then◌else◌, All as EachOf}
 use Rattle.std.specs.List.{list_any}
 use Rattle.std.specs.List.Sorted.{IsPermutation}
 use Rattle.kcr_base.specs.Same.{same_text, same_place}
@@ -17,6 +17,7 @@ use Rattle.kcr_room.specs.declared.Stay.{Stay}
 use Rattle.kcr_history.specs.declared.rows.CeremonyRow.{CeremonyRow}
 use Rattle.kcr_history.specs.declared.rows.MarkRow.{MarkRow}
 use Rattle.kcr_history.specs.declared.rows.StepRow.{StepRow}
+use Rattle.kcr_history.specs.declared.rows.SeatingRow.{SeatingRow}
 use Rattle.kcr_history.specs.declared.rows.ExceptionRow.{ExceptionRow}
 use Rattle.kcr_history.specs.declared.rows.KeyRow.{KeyRow}
 use Rattle.kcr_history.specs.declared.views.AppointmentsOf.{AppointmentsOf}
@@ -27,6 +28,7 @@ use Rattle.kcr_history.specs.declared.views.ItemsOf.TheVariants as Items
 use Rattle.kcr_history.specs.declared.views.Selection.{Selection}
 use Rattle.kcr_history.specs.declared.views.Selection.TheVariants.{Nothing, Under, All}
 use Rattle.kcr_history.specs.declared.views.StaysOf.{StaysOf}
+use Rattle.kcr_history.specs.declared.views.StepOf.{StepOf}
 use Rattle.kcr_history.specs.declared.views.View.{View}
 use Rattle.kcr_history.specs.Tables.{Tables}
 
@@ -60,8 +62,11 @@ is_of_number ceremony row = row.number == ceremony
 abbrev pub is_mark_of : ℕ → MarkRow → Bool
 is_mark_of ceremony row = row.ceremony == ceremony
 
-abbrev pub is_step_of : ℕ → StepRow → Bool
-is_step_of ceremony row = row.ceremony == ceremony
+abbrev pub is_step_at : ℕ → ℕ → StepRow → Bool
+is_step_at ceremony step row = row.ceremony == ceremony && row.step == step
+
+abbrev pub is_seating_of : ℕ → SeatingRow → Bool
+is_seating_of ceremony row = row.ceremony == ceremony
 
 abbrev pub is_exception_of : ℕ → ExceptionRow → Bool
 is_exception_of ceremony row = row.ceremony == ceremony
@@ -84,6 +89,24 @@ Shows is_under All table rows = IsPermutation table rows
 abbrev pub ShowsAll : {X : Type 0} → Bool → List X → List X → Type 0
 ShowsAll true table rows = IsPermutation table rows
 ShowsAll false table rows = Unit {0}
+
+-- the number of the last step of the ceremony that has a seating, 0 where none has
+abbrev pub last_seated : List SeatingRow → ℕ → ℕ
+last_seated rows ceremony = fold max 0 (map (λ row. row.step) (filter (is_seating_of ceremony) rows))
+
+-- the number of the step that is asked for, where these are seatings of its ceremony
+abbrev pub step_asked : StepOf → List SeatingRow → ℕ
+step_asked asked rows = unwrap_or asked.step (suc (last_seated rows asked.ceremony))
+
+-- the view tells the last step of the ceremony that has a seating, and has the row of the step that is asked for
+pub record ShowsStepOf (asked : StepOf) (all seatings : List SeatingRow) (table rows : List StepRow) : Type 0 where
+  pub last : last_seated seatings asked.ceremony ≡ last_seated all asked.ceremony
+  pub step : IsPermutation (filter (is_step_at asked.ceremony (step_asked asked seatings)) table)
+      (filter (is_step_at asked.ceremony (step_asked asked seatings)) rows)
+
+abbrev pub ShowsSteps : Option StepOf → List SeatingRow → List SeatingRow → List StepRow → List StepRow → Type 0
+ShowsSteps None all seatings table rows = Unit {0}
+ShowsSteps (Some asked) all seatings table rows = ShowsStepOf asked all seatings table rows
 
 -- the later of two stays, by their beginnings
 abbrev pub later_stay : Stay → Option Stay → Option Stay
@@ -154,6 +177,6 @@ pub record IsViewOf (asks : Asks) (t : Tables) (view : View) : Type 0 where
   pub items : Shows is_item_of asks.items t.items view.items.items
   pub ceremonies : Shows is_of_number asks.ceremonies t.ceremonies view.ceremonies.items
   pub marks : Shows is_mark_of asks.marks t.marks view.marks.items
-  pub steps : Shows is_step_of asks.steps t.steps view.steps.items
+  pub steps : ShowsSteps asks.steps t.seatings view.seatings.items t.steps view.steps.items
   pub exceptions : Shows is_exception_of asks.exceptions t.exceptions view.exceptions.items
   pub stays : ShowsStays asks.stays t.stays view.stays.items

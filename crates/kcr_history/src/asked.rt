@@ -4,8 +4,8 @@ ghost use Rattle.kcr_history.specs.Asked;
 
 use crate::commands::{Act, Command};
 use crate::lists::{InitialsList, ItemList};
-use crate::views::{AppointmentsOf, Asks, ItemsOf, Selection, StaysOf};
-use kcr_base::{CeremonyNumber, Initials, ItemCode, Items, People, Place, Serial};
+use crate::views::{AppointmentsOf, Asks, ItemsOf, Selection, StaysOf, StepOf};
+use kcr_base::{CeremonyNumber, Initials, ItemCode, Items, People, Place, Serial, StepNumber};
 use std::alloc::{AllocError, Global};
 
 /// No rows.
@@ -23,7 +23,7 @@ fn asks_nothing() -> Asks
         items: Selection::Nothing,
         ceremonies: Selection::Nothing,
         marks: Selection::Nothing,
-        steps: Selection::Nothing,
+        steps: None,
         exceptions: Selection::Nothing,
         stays: Selection::Nothing,
     }
@@ -161,12 +161,15 @@ fn asks_ceremonies(ceremonies: Selection<u32>) -> Asks
     asks
 }
 
-/// The room, the steps, the safes and the bags.
+/// The room, the next step, the safes and the bags.
 fn asks_to_close(alloc: Global, ceremony: CeremonyNumber) -> Asks
     ensures { result ≡ Asked.asks_to_close ceremony }
 {
     let mut asks = asks_room(ceremony, InitialsList::new(Vec::new(alloc)));
-    asks.steps = Selection::Under(ceremony.get());
+    asks.steps = Some(StepOf {
+        ceremony: ceremony.get(),
+        step: None,
+    });
     asks.safes = true;
     asks.bags = Selection::All;
     asks
@@ -182,22 +185,28 @@ fn asks_sheet(alloc: Global, ceremony: CeremonyNumber, people: &People) -> Resul
     Ok(asks)
 }
 
-/// The steps and the appointments, beside who in the room is trained.
-fn asks_to_sign(alloc: Global, ceremony: CeremonyNumber) -> Asks
-    ensures { result ≡ Asked.asks_to_sign ceremony }
+/// The step and the appointments, beside who in the room is trained.
+fn asks_to_sign(alloc: Global, ceremony: CeremonyNumber, step: StepNumber) -> Asks
+    ensures { result ≡ Asked.asks_to_sign ceremony step }
 {
     let mut asks = asks_trained(alloc, ceremony);
-    asks.steps = Selection::Under(ceremony.get());
+    asks.steps = Some(StepOf {
+        ceremony: ceremony.get(),
+        step: Some(step.get()),
+    });
     asks.appointments = Selection::All;
     asks
 }
 
-/// The steps and the exceptions, beside who in the room is trained.
+/// The next step and the exceptions, beside who in the room is trained.
 fn asks_to_except(alloc: Global, ceremony: CeremonyNumber) -> Asks
     ensures { result ≡ Asked.asks_to_except ceremony }
 {
     let mut asks = asks_trained(alloc, ceremony);
-    asks.steps = Selection::Under(ceremony.get());
+    asks.steps = Some(StepOf {
+        ceremony: ceremony.get(),
+        step: None,
+    });
     asks.exceptions = Selection::Under(ceremony.get());
     asks
 }
@@ -254,7 +263,7 @@ fn asks_by(alloc: Global, act: &Act) -> Result<Asks, AllocError>
         Act::Open { .. } => Ok(asks_ceremonies(Selection::All)),
         Act::Close { ceremony, .. } => Ok(asks_to_close(alloc, *ceremony)),
         Act::Sheet { ceremony, who, .. } => asks_sheet(alloc, *ceremony, who),
-        Act::Sign { ceremony, .. } => Ok(asks_to_sign(alloc, *ceremony)),
+        Act::Sign { ceremony, step, .. } => Ok(asks_to_sign(alloc, *ceremony, *step)),
         Act::Except { ceremony, .. } => Ok(asks_to_except(alloc, *ceremony)),
         Act::TurnSafe { ceremony, by, .. } => asks_to_turn(alloc, *ceremony, *by),
         Act::Seal {
@@ -282,10 +291,10 @@ fn asks_by(alloc: Global, act: &Act) -> Result<Asks, AllocError>
 }
 
 /// The rows that the decision of this command reads: those under the keys, of the people, of the place or of the
-/// ceremony that it names; of a place's and a person's appointments the last one alone. All rows are asked for only of
-/// tables that do not grow with each command: trainings, withdrawals and appointments where anybody in a room may be
-/// the one who is needed, marks, boxes and safes; of the ceremonies to open one, and of the bags to close one. The
-/// error is out of memory.
+/// ceremony that it names; of a place's and a person's appointments the last one alone, of a ceremony's steps one. All
+/// rows are asked for only of tables that do not grow with each command: trainings, withdrawals and appointments where
+/// anybody in a room may be the one who is needed, marks, boxes and safes; of the ceremonies to open one, and of the
+/// bags to close one. The error is out of memory.
 pub fn asks(alloc: Global, command: &Command) -> Result<Asks, AllocError>
     ensures { IfOk result (λ asks. asks ≡ Asked.asks_of command.now) }
 {

@@ -18,6 +18,7 @@ mod refusals;
 mod replies;
 mod row_laws;
 mod rows;
+mod seated;
 mod texts;
 mod views;
 
@@ -37,7 +38,9 @@ pub use row_laws::{
 pub use rows::{
     CeremonyRow, CeremonyState, ExceptionRow, KeyRow, MarkRow, SeatingRow, StepRow, StepState,
 };
+pub use seated::last_seated;
 pub use texts::command_text;
 pub use views::{
-    AppointmentsOf, Asks, Change, Finding, ItemsOf, Selection, StaysOf, Verdict, View, WholeView,
+    AppointmentsOf, Asks, Change, Finding, ItemsOf, Selection, StaysOf, StepOf, Verdict, View,
+    WholeView,
 };

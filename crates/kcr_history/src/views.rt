@@ -21,6 +21,7 @@ pub struct View {
     pub ceremonies: Vec<CeremonyRow>,
     pub marks: Vec<MarkRow>,
     pub steps: Vec<StepRow>,
+    pub seatings: Vec<SeatingRow>,
     pub stays: Vec<Stay>,
     pub exceptions: Vec<ExceptionRow>,
 }
@@ -30,7 +31,6 @@ pub struct View {
 pub struct WholeView {
     /// Those of the tables that a decision may ask for.
     pub asked: View,
-    pub seatings: Vec<SeatingRow>,
     pub sheet: Vec<SheetRow>,
     pub keys: Vec<KeyRow>,
 }
@@ -64,6 +64,15 @@ pub enum ItemsOf {
     Bag(Serial),
 }
 
+/// Which step of a ceremony is asked for, with one row of the ceremony's last seating, which tells how many steps are
+/// done.
+#[derive(Clone, Copy, PartialEq, Eq)]
+pub struct StepOf {
+    pub ceremony: u32,
+    /// The step's number, or none for the step after the last one that has a seating.
+    pub step: Option<u32>,
+}
+
 /// Which stays are asked for: those of the ceremony, and of each of the people the one that began last, in whatever
 /// ceremony.
 #[derive(Drop)]
@@ -93,8 +102,8 @@ pub struct Asks {
     pub ceremonies: Selection<u32>,
     /// The mark of a ceremony.
     pub marks: Selection<u32>,
-    /// The steps of a ceremony.
-    pub steps: Selection<u32>,
+    /// A step of a ceremony, and how many are done.
+    pub steps: Option<StepOf>,
     /// The exceptions of a ceremony.
     pub exceptions: Selection<u32>,
     pub stays: Selection<StaysOf>,

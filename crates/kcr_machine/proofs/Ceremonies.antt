@@ -1,11 +1,11 @@
 -- Planning, opening and closing: whether the rows let a ceremony be planned, opened or closed, and the rows of one that is.
-use Rattle.std.proofs.Common.{◌≡◌, ℕ, Bool, true, false, not, ◌&&◌, eqb, nat_lt, List, [], ◌∷◌, ◌++◌, map, Option, Some, None, refl, sym, ap, ◌∙◌, subst, suc}
-use Rattle.std.proofs.Common.{◌+◌, filter, length, arith, ◌≤◌, add-one}
+use Rattle.std.proofs.Common.{◌≡◌, ℕ, Bool, true, false, not, ◌&&◌, eqb, List, [], ◌∷◌, ◌++◌, map, Option, Some, None, refl, sym, ap, ◌∙◌, subst, suc}
+use Rattle.std.proofs.Common.{◌+◌, arith, ◌≤◌, add-one}
 use Rattle.std.specs.Prelude.{is_some, unwrap_or, slice_get}
 use Rattle.std.specs.List.{list_any}
 use Rattle.std.specs.List.Sorted.{IsPermutation}
-use Rattle.std.proofs.lemmas.Bool.{true≢false, false≢true, eqb-true, eq-eqb, and_parts, lt-ltb, ne_eqb, and_right, false_from_ne_true, and_left, ltb-true}
-use Rattle.std.proofs.lemmas.List.Sorted.{list_any-IsPermutation, length_permutation}
+use Rattle.std.proofs.lemmas.Bool.{true≢false, false≢true, eqb-true, eq-eqb, and_parts, ne_eqb, and_right, false_from_ne_true, and_left}
+use Rattle.std.proofs.lemmas.List.Sorted.{list_any-IsPermutation}
 use Rattle.kcr_base.specs.Rows.{put}
 use Rattle.kcr_base.specs.Same.{same_facility}
 use Rattle.kcr_base.specs.declared.refusal.Refusal.TheVariants as Refusals
@@ -23,19 +23,19 @@ use Rattle.kcr_history.specs.declared.rows.MarkRow.{MarkRow}
 use Rattle.kcr_history.specs.declared.views.Change.TheVariants.{PutKey, PutStep}
 use Rattle.kcr_history.specs.declared.views.View.{View}
 use Rattle.kcr_history.specs.History.{History, all_said, entry_of, stacked_on}
-use Rattle.kcr_history.specs.Ceremonies.{is_ceremony, facility_of, opening, opened, closing, closed, is_open, mark, opened_number, steps_of, steps_done}
+use Rattle.kcr_history.specs.Ceremonies.{is_ceremony, facility_of, opening, opened, closing, closed, is_open, mark, opened_number, steps_of}
 use Rattle.kcr_history.specs.Ceremonies.{planned_as, plan_of}
 use Rattle.kcr_history.specs.Tables.{planned_number, ceremony_row, ceremonies, mark_row, marks, tables, sealed_serial, bag_row, bags, numbered, step_keys}
 use Rattle.kcr_history.specs.Tables.{step_row, steps, fate_of, Tables, step_done}
 use Rattle.kcr_history.specs.Changes.{same_ceremony, same_mark, changed_by, same_step}
-use Rattle.kcr_history.specs.Views.{is_of_number, is_step_of}
+use Rattle.kcr_history.specs.Views.{is_of_number}
 use Rattle.kcr_history.specs.Conditions.{conditions, fault, no_ceremony}
 use Rattle.kcr_history.specs.Machine.{IsRegister, with_command}
 use Rattle.kcr_history.proofs.Steps.{took}
 use Rattle.kcr_history.proofs.Piled.{map-stacked}
 use Rattle.kcr_history.proofs.Words.{planned-number}
 use Rattle.kcr_rules.specs.Scene.{ceremony_by}
-use Rattle.kcr_rules.specs.CeremonyRows.{is_open_beside, is_undone, is_undone_of, lies_on_table, planned_row, undone_row, undone_rows}
+use Rattle.kcr_rules.specs.CeremonyRows.{is_open_beside, lies_on_table, planned_row, undone_row, undone_rows}
 use Rattle.kcr_machine.specs.RowDecision.{new_key_row}
 use Rattle.kcr_base.specs.declared.place.Facility.{Facility}
 use Rattle.kcr_custody.specs.declared.Bag.{Bag}
@@ -45,23 +45,20 @@ use Rattle.kcr_custody.specs.declared.Spot.TheVariants.{Spent}
 use Rattle.kcr_custody.specs.Custody.{is_on_table}
 use Rattle.kcr_script.specs.declared.script.Step.{Step}
 use Rattle.kcr_history.specs.declared.rows.StepRow.{StepRow}
-use Rattle.kcr_history.specs.declared.rows.StepState.{StepState}
 use Rattle.kcr_history.specs.declared.rows.StepState.TheVariants.{Signed, Passed}
 use Rattle.kcr_history.specs.Custody.{spot}
-use Rattle.kcr_rules.specs.Signing.{is_done}
 use Rattle.std.specs.Result.{result_unwrap_or}
 use Rattle.kcr_script.specs.Reading.{script_of}
 use Rattle.kcr_history.specs.declared.views.Change.{Change}
-use Rattle.std.proofs.lemmas.List.Filters.{length-filter_both}
 use Rattle.kcr_room.proofs.Lists as RoomLists
-use Rattle.kcr_room.proofs.Lists.{filter-and}
 use Rattle.kcr_machine.proofs.BagsWords.{open-shown}
 use Rattle.kcr_machine.proofs.Keyed.{Shown, put-at, put-first, put-new}
 use Rattle.kcr_machine.proofs.Leads.{FaultShown, Leads, command_of, entry_as, new_key}
-use Rattle.kcr_base.proofs.Members.{IsIn, map-same-in, none-in, none-passes, same-answers}
+use Rattle.kcr_base.proofs.Members.{IsIn, map-same-in, none-in, none-passes}
 use Rattle.kcr_machine.proofs.Scenes.{ceremony-shown, known-shown, mark-after, mark-shown, marked-opened, open-opened, open-state, opened-number}
 use Rattle.kcr_machine.proofs.Scenes.{opened-planned, said-then, some-where, turned}
-use Rattle.kcr_machine.proofs.StepRows.{done-shown, keys-planned, steps-count}
+use Rattle.kcr_machine.proofs.LastSeated.{left-shown}
+use Rattle.kcr_machine.proofs.StepRows.{keys-planned}
 use Rattle.kcr_machine.proofs.UsedRooms.{used-shown}
 
 -- OPENING
@@ -147,38 +144,6 @@ module _ (A : History) (h : IsRegister A) (key : List ℕ) (answer : Answer) (c 
 
 -- CLOSING
 
--- STEPS THAT ARE NEITHER SIGNED NOR PASSED
-
-undone-state : (state : StepState) → is_undone state ≡ not (is_done state)
-undone-state state = grind arith
-
-any-counted : {X : Type 0} (p : X → Bool) (xs : List X) → list_any p xs ≡ nat_lt 0 (length (filter p xs))
-any-counted p [] = refl
-any-counted p (x ∷ xs) = grind (arith, any-counted p xs)
-
--- a step is left where not all were done: those that are shown are as many as the script has, done or not
-steps-shown : (A : History) → IsRegister A → (c : ℕ) (rows : List StepRow) → Shown (is_step_of c) (steps A) rows
-    → list_any (is_undone_of c) rows ≡ nat_lt (steps_done A c) (length (steps_of A c))
-steps-shown A h c rows p =
-    sym (RoomLists.any-filter (is_step_of c) (λ row. is_undone row.state) rows)
-    ∙ any-counted (λ row. is_undone row.state) own
-    ∙ same-answers (nat_lt 0 undone) (nat_lt (steps_done A c) (length (steps_of A c)))
-    (λ e. lt-ltb (steps_done A c) (length (steps_of A c)) (omega (arith, ltb-true 0 undone e, parts)))
-    (λ e. lt-ltb 0 undone (omega (arith, ltb-true (steps_done A c) (length (steps_of A c)) e, parts)))
-  where
-    own : List StepRow
-    own = filter (is_step_of c) rows
-
-    undone : ℕ
-    undone = length (filter (λ row. is_undone row.state) own)
-
-    parts : steps_done A c + undone ≡ length (steps_of A c)
-    parts =
-        ap (λ n. n + undone) (sym (done-shown A h c rows p) ∙ ap length (sym (filter-and (is_step_of c) (λ row. is_done row.state) rows)))
-        ∙ length-filter_both (λ row. is_done row.state) (λ row. is_undone row.state) (λ row. undone-state row.state) own
-        ∙ length_permutation (filter (is_step_of c) (steps A)) own p
-        ∙ steps-count A h c
-
 -- BAGS ON THE TABLE
 
 spent : (facility : Facility) (o : Option Spot) → is_on_table facility (Some (unwrap_or o Spent)) ≡ is_on_table facility o
@@ -201,7 +166,7 @@ close-fault A h c at view v =
       arith,
       open-state A c,
       mark-shown A h c view.marks.items v.marks,
-      steps-shown A h c view.steps.items v.steps,
+      left-shown A h c view v.steps,
       used-shown A h c at view.stays.items v.stays.room,
       open-shown A view.safes.items v.safes (facility_of A c) One,
       open-shown A view.safes.items v.safes (facility_of A c) Two,

@@ -37,8 +37,10 @@ use Rattle.kcr_machine.proofs.People.{appoint-fault, appoint-leads, enter-fault,
 use Rattle.kcr_machine.proofs.People.{train-fault, train-leads, withdraw-fault, withdraw-leads}
 use Rattle.kcr_machine.proofs.SheetFaults.{named_once, sheet-fault, sheet-made}
 use Rattle.kcr_machine.proofs.SheetLeads.{sheet-leads}
-use Rattle.kcr_machine.proofs.Signed.{except-fault, pass-leads, seated-first, seats-shown, sign-fault, sign-leads, sitting-is, state-leads, unseated-least}
-use Rattle.kcr_machine.proofs.StepRows.{done-shown, not_overdone, sign-there, stated-shown}
+use Rattle.kcr_machine.proofs.Signed.{except-fault, pass-leads, seated-first, seats-shown, sign-fault, sign-leads, sitting-is, state-leads, the_next}
+use Rattle.kcr_machine.proofs.Signed.{unseated-least}
+use Rattle.kcr_machine.proofs.LastSeated.{done-shown, not_overdone}
+use Rattle.kcr_machine.proofs.StepRows.{sign-there, stated-shown}
 
 -- the first refusal by the rows is the fault
 fault-shown : (A : History) → IsRegister A → (act : Act) (view : View) → IsViewOf (asks_by act) (tables A) view
@@ -79,7 +81,7 @@ sitting-shown : (A : History) → IsRegister A → (act : Act) (view : View) →
     → refusal_by view (is_full A) act ≡ None → sitting_by view act ≡ sitting A act
 sitting-shown A h (Sign c k at) view v none =
     ap (λ seats. Some (record { ceremony = c; at = at; seats = seats }))
-    (seats-shown A h c view v.steps k (sign-there A c k at (sign-fine A h c k at view v none)))
+    (seats-shown A h c k view v.steps.step (sign-there A c k at (sign-fine A h c k at view v none)))
 sitting-shown A h (Except c text true at) view v none = refl
 sitting-shown A h (Except c text false at) view v none = refl
 sitting-shown A h act view v none = refl
@@ -91,8 +93,8 @@ Lacks A s refusal = (positions : List ℕ) × IsLeast A s.ceremony s.at s.seats 
 -- the rows tell of no more steps done than a script has
 not_overdone-shown : (A : History) → IsRegister A → (act : Act) (view : View) → IsViewOf (asks_by act) (tables A) view
     → is_overdone view act ≡ false
-not_overdone-shown A h (Sign c k at) view v = not_overdone A h c view.steps.items v.steps
-not_overdone-shown A h (Except c text pass at) view v = not_overdone A h c view.steps.items v.steps
+not_overdone-shown A h (Sign c k at) view v = not_overdone A h _ view v.steps
+not_overdone-shown A h (Except c text pass at) view v = not_overdone A h _ view v.steps
 not_overdone-shown A h act view v = refl
 
 -- ANSWERS
@@ -102,7 +104,7 @@ answer-shown : (A : History) → IsRegister A → (act : Act) (view : View) → 
     → (people : Option (List (List ℕ))) → IsSeatedFor view (sitting_by view act) people → answer_by view last act people ≡ answer_to A act people
 answer-shown A h (Sign c k at) view v last e people g = rw e refl
 answer-shown A h (Except c text true at) view v last e people g =
-    rw (e, stated-shown A h c view.exceptions.items v.exceptions, done-shown A h c view.steps.items v.steps) refl
+    rw (e, stated-shown A h c view.exceptions.items v.exceptions, done-shown A h (the_next c) view v.steps) refl
 answer-shown A h (Except c text false at) view v last e people g = rw (e, stated-shown A h c view.exceptions.items v.exceptions, g) refl
 answer-shown A h act view v last e people g = rw (e, g) refl
 

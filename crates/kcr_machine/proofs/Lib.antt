@@ -5,6 +5,7 @@ pub mod LastAppointments
 pub mod People
 pub mod InRoom
 pub mod StepRows
+pub mod LastSeated
 pub mod Seatings
 pub mod Signed
 pub mod UsedRooms

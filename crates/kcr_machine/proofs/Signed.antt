@@ -7,16 +7,12 @@ use Rattle.std.specs.List.Sorted.{IsPermutation}
 use Rattle.std.proofs.lemmas.Bool.{ltb-true}
 use Rattle.kcr_base.specs.Days.{day_of}
 use Rattle.kcr_base.specs.Rows.{put}
-use Rattle.kcr_base.specs.Same.{is_this}
 use Rattle.kcr_base.specs.declared.place.Facility.{Facility}
-use Rattle.kcr_base.specs.declared.place.Place.{Place}
 use Rattle.kcr_base.specs.declared.place.Place.TheVariants as Places
 use Rattle.kcr_base.specs.declared.place.Role.TheVariants.{Ca, Iw}
 use Rattle.kcr_base.specs.declared.refusal.Refusal.{Refusal}
 use Rattle.kcr_base.specs.declared.refusal.Refusal.TheVariants.{Short}
-use Rattle.kcr_base.proofs.ListLemmas.{any-same}
 use Rattle.kcr_script.specs.declared.seat.Seat.{Seat}
-use Rattle.kcr_script.specs.declared.seat.Seat.TheVariants.{Staff, AnyCo, AnyRksh, Co, Rksh}
 use Rattle.kcr_seats.specs.Seating as Search
 use Rattle.kcr_history.specs.declared.commands.Act.{Act}
 use Rattle.kcr_history.specs.declared.commands.Act.TheVariants.{Sign, Except}
@@ -25,16 +21,16 @@ use Rattle.kcr_history.specs.declared.rows.StepState.{StepState}
 use Rattle.kcr_history.specs.declared.rows.StepState.TheVariants.{Signed, Passed}
 use Rattle.kcr_history.specs.declared.views.Change.{Change}
 use Rattle.kcr_history.specs.declared.views.Change.TheVariants.{PutSeating, PutKey}
+use Rattle.kcr_history.specs.declared.views.StepOf.{StepOf}
 use Rattle.kcr_history.specs.declared.views.View.{View}
 use Rattle.kcr_history.specs.History.{History, stacked_on}
-use Rattle.kcr_history.specs.Training.{is_holder}
 use Rattle.kcr_history.specs.Ceremonies.{facility_of, steps_of, step_at, steps_done, next_step, exceptions_of}
 use Rattle.kcr_history.specs.Room.{present}
-use Rattle.kcr_history.specs.Fitting.{is_holder_by, fits_by}
-use Rattle.kcr_history.specs.Seating.{fits, one_to_seven, IsFirst, IsLeast}
+use Rattle.kcr_history.specs.Fitting.{fits_by}
+use Rattle.kcr_history.specs.Seating.{fits, IsFirst, IsLeast}
 use Rattle.kcr_history.specs.Tables.{Tables, tables, marks, steps, step_row, seatings, seat_rows, seats_at, exceptions, trainings, withdrawals, appointments}
 use Rattle.kcr_history.specs.Changes.{changed_by, same_step, same_mark, same_exception, changed}
-use Rattle.kcr_history.specs.Views.{IsViewOf, is_step_of}
+use Rattle.kcr_history.specs.Views.{IsViewOf, is_step_at}
 use Rattle.kcr_history.specs.Asked.{asks_by}
 use Rattle.kcr_history.specs.Machine.{Sitting, answer_to, IsRegister, sitting}
 use Rattle.kcr_rules.specs.Scene.{ceremony_by, facility_by}
@@ -50,43 +46,51 @@ use Rattle.kcr_machine.proofs.Keyed.{Shown, put-new}
 use Rattle.kcr_machine.proofs.Leads.{FaultShown, SeatsLeadOn, changed-append, command_of, entry_as, new_key}
 use Rattle.kcr_machine.proofs.Scenes.{facility-shown, is_open-shown, known-shown, mark-shown, marks-put}
 use Rattle.kcr_machine.proofs.Seatings.{first-of, least-of}
-use Rattle.kcr_machine.proofs.StepRows.{done-shown, fresh-exception, fresh-seats, pass-there, put-seats, put-step, sign-there, stated-shown, step-shown}
+use Rattle.kcr_machine.proofs.LastSeated.{done-shown}
+use Rattle.kcr_machine.proofs.StepRows.{fresh-exception, fresh-seats, pass-there, put-seats, put-step, sign-there, stated-shown, step-shown}
 
 -- THE FIRST REFUSAL
 
 -- whether the script has the step
-no_step-shown : (A : History) → IsRegister A → (c : ℕ) (view : View) → Shown (is_step_of c) (steps A) view.steps.items → (k : ℕ)
+no_step-shown : (A : History) → IsRegister A → (c k : ℕ) (view : View) → Shown (is_step_at c k) (steps A) view.steps.items
     → is_none (step_by view.steps.items c k) ≡ is_none (step_at (steps_of A c) k)
-no_step-shown A h c view p k = grind (arith, step-shown A h c view.steps.items p k)
+no_step-shown A h c k view p = grind (arith, step-shown A h c k view.steps.items p)
+
+-- the step and the next one are asked for
+abbrev named : ℕ → ℕ → StepOf
+named c k = record { ceremony = c; step = Some k }
+
+abbrev pub the_next : ℕ → StepOf
+the_next c = record { ceremony = c; step = None }
 
 pub sign-fault : (A : History) → IsRegister A → (c k at : ℕ) → FaultShown A (Sign c k at)
 sign-fault A h c k at view v =
     rw (
       known-shown A c view.ceremonies.items v.ceremonies,
-      no_step-shown A h c view v.steps k,
+      no_step-shown A h c k view v.steps.step,
       is_open-shown A c view.ceremonies.items v.ceremonies h,
       mark-shown A h c view.marks.items v.marks,
-      done-shown A h c view.steps.items v.steps,
+      done-shown A h (named c k) view v.steps,
     )
 
 pub except-fault : (A : History) → IsRegister A → (c : ℕ) (text : List ℕ) (pass : Bool) (at : ℕ) → FaultShown A (Except c text pass at)
 except-fault A h c text pass at view v =
     rw (
       known-shown A c view.ceremonies.items v.ceremonies,
-      no_step-shown A h c view v.steps (next_by view.steps.items c),
+      no_step-shown A h c (next_by view.seatings.items c) view v.steps.step,
       is_open-shown A c view.ceremonies.items v.ceremonies h,
       mark-shown A h c view.marks.items v.marks,
-      done-shown A h c view.steps.items v.steps,
+      done-shown A h (the_next c) view v.steps,
       stated-shown A h c view.exceptions.items v.exceptions,
     )
 
 -- SEATS
 
 -- the seats of the step's row are those of the script
-pub seats-shown : (A : History) → IsRegister A → (c : ℕ) (view : View) → Shown (is_step_of c) (steps A) view.steps.items → (k : ℕ)
+pub seats-shown : (A : History) → IsRegister A → (c k : ℕ) (view : View) → Shown (is_step_at c k) (steps A) view.steps.items
     → is_some (step_at (steps_of A c) k) ≡ true
     → seats_by (step_by view.steps.items c k) ≡ seats_at (steps_of A c) k
-seats-shown A h c view p k e = rw (step-shown A h c view.steps.items p k, e) refl
+seats-shown A h c k view p e = rw (step-shown A h c k view.steps.items p, e) refl
 
 -- who fits a seat, by all trainings, withdrawals and appointments
 abbrev by_view : History → View → Sitting → Seat → List ℕ → Bool
@@ -182,11 +186,11 @@ with_seats A c k at state people =
 
 -- by the rows of the view the step's row is that one
 seats-changed : (A : History) → IsRegister A → (view : View) → (c k at : ℕ) (state : StepState) (people : List (List ℕ))
-    → Shown (is_step_of c) (steps A) view.steps.items → is_some (step_at (steps_of A c) k) ≡ true → steps_done A c < k
+    → Shown (is_step_at c k) (steps A) view.steps.items → is_some (step_at (steps_of A c) k) ≡ true → steps_done A c < k
     → (rest : List Change) → changed_by (seat_changes view state c k at people ++ rest) (tables A) ≡ changed_by rest (with_seats A c k at state people)
 seats-changed A h view c k at state people p inside l rest =
     let t : Tables = record (tables A) { steps = put same_step (done_row A c k at state) (steps A) } in
-    rw (step-shown A h c view.steps.items p k, inside)
+    rw (step-shown A h c k view.steps.items p, inside)
     (changed-append (map PutSeating (seat_rows c k 0 people) ++ mark_change c at ∷ []) rest t
     ∙ ap (changed_by rest) (changed-append (map PutSeating (seat_rows c k 0 people)) (mark_change c at ∷ []) t)
     ∙ ap (λ t. changed_by rest (changed (mark_change c at) t)) (put-seats c k 0 people t (λ j m. fresh-seats A h c k j l)))
@@ -197,7 +201,7 @@ sign-leads A h c k at people key view answer v absent f e =
     let x : Command = command_of key (Sign c k at) in
     let inside = sign-there A c k at f in
     let s = put-step A h (entry_as key x.act answer) c k at Signed (λ d j. refl) (λ d. refl) refl inside in
-    seats-changed A h view c k at Signed people v.steps inside (omega (arith, next_signed A c k at f)) (PutKey (new_key_row x answer) ∷ [])
+    seats-changed A h view c k at Signed people v.steps.step inside (omega (arith, next_signed A c k at f)) (PutKey (new_key_row x answer) ∷ [])
     ∙ rw (new_key A x answer absent, s, marks-put A (entry_as key x.act answer) c at f refl refl, e) refl
 
 -- the row of an exception is put in front
@@ -215,9 +219,10 @@ pass-leads A h c text at people key view answer v absent f e =
     let k = next_step A c in
     let inside = pass-there A c text at f in
     let tell = PutKey (new_key_row x answer) ∷ [] in
+    let shown = subst (λ n. Shown (is_step_at c (suc n)) (steps A) view.steps.items) (done-shown A h (the_next c) view v.steps) v.steps.step in
     let s = put-step A h (entry_as key x.act (answer_to A x.act (Some people))) c k at Passed (λ d j. refl) (λ d. refl) refl inside in
-    rw (done-shown A h c view.steps.items v.steps, append_assoc (seat_changes view Passed c k at people) (exception_change view c text at (Some k) ∷ []) tell)
-    (seats-changed A h view c k at Passed people v.steps inside (omega arith) (exception_change view c text at (Some k) ∷ tell)
+    rw (done-shown A h (the_next c) view v.steps, append_assoc (seat_changes view Passed c k at people) (exception_change view c text at (Some k) ∷ []) tell)
+    (seats-changed A h view c k at Passed people shown inside (omega arith) (exception_change view c text at (Some k) ∷ tell)
     ∙ rw (
       stated-shown A h c view.exceptions.items v.exceptions,
       put-exception A h c text at (Some k),

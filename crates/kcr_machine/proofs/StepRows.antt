@@ -1,11 +1,11 @@
 -- Steps and exceptions: how many there are by the rows as by the history, each step once and in order, and the rows of one that is done.
-use Rattle.std.proofs.Common.{◌≡◌, ℕ, zero, suc, ◌+◌, ◌-◌, ◌≤◌, Bool, true, false, cond, ◌&&◌, nat_le, List, [], ◌∷◌, map, filter, length, Option, Some}
-use Rattle.std.proofs.Common.{None, is_none, Result, Ok, Err, nat_lt, refl, sym, ap, ◌∙◌, arith, subst, ◌<◌, ◌==◌}
+use Rattle.std.proofs.Common.{◌≡◌, ℕ, zero, suc, ◌+◌, ◌-◌, ◌≤◌, Bool, true, false, cond, ◌&&◌, List, [], ◌∷◌, map, filter, length, Option, Some}
+use Rattle.std.proofs.Common.{None, is_none, Result, Ok, Err, refl, sym, ap, ◌∙◌, arith, subst, ◌<◌, ◌==◌}
 use Rattle.std.specs.Prelude.{is_some, slice_get, unwrap_or, option_map}
 use Rattle.std.specs.List.{list_any}
 use Rattle.std.specs.List.Sorted.{IsPermutation}
 use Rattle.std.specs.Result.{result_unwrap_or}
-use Rattle.std.proofs.lemmas.Bool.{false≢true, le-ltb, eqb-true, eq-eqb, ne_eqb, and_parts, and_right, or_from}
+use Rattle.std.proofs.lemmas.Bool.{false≢true, eqb-true, eq-eqb, ne_eqb, and_parts, and_right, or_from}
 use Rattle.std.proofs.lemmas.List.Sorted.{length_permutation, list_any-IsPermutation, IsPermutation-sym}
 use Rattle.std.proofs.lemmas.Option.{slice_get_past}
 use Rattle.kcr_base.specs.Rows.{or_else, put}
@@ -21,30 +21,26 @@ use Rattle.kcr_history.specs.declared.commands.Answer.{Answer}
 use Rattle.kcr_history.specs.declared.rows.ExceptionRow.{ExceptionRow}
 use Rattle.kcr_history.specs.declared.rows.StepRow.{StepRow}
 use Rattle.kcr_history.specs.declared.rows.StepState.{StepState}
-use Rattle.kcr_history.specs.declared.rows.StepState.TheVariants.{Undone, Signed, Passed}
 use Rattle.kcr_history.specs.History.{History, stacked_on}
 use Rattle.kcr_history.specs.Ceremonies.{Planned, planned_as, plan_of, is_ceremony, steps_of, step_at, does_step, steps_done, next_step, is_exception}
 use Rattle.kcr_history.specs.Ceremonies.{exceptions_of}
 use Rattle.kcr_history.specs.Conditions.{conditions, fault}
 use Rattle.kcr_history.specs.Machine.{answer_to, IsRegister}
-use Rattle.kcr_history.specs.Tables.{numbered, step_keys, step_keys_after, step_done, fate_of, step_row, steps, exceptions, Tables, seatings, seat_rows}
+use Rattle.kcr_history.specs.Tables.{numbered, step_keys, step_keys_after, fate_of, step_row, steps, exceptions, Tables, seatings, seat_rows}
 use Rattle.kcr_history.specs.Tables.{seating_rows, ceremony_of_step}
-use Rattle.kcr_history.specs.Views.{is_step_of, is_exception_of}
+use Rattle.kcr_history.specs.Views.{is_step_at, is_exception_of}
 use Rattle.kcr_history.proofs.Steps.{took}
 use Rattle.kcr_history.proofs.Piled.{any-stacked, filter-stacked, stacked-alone}
-use Rattle.kcr_rules.specs.Signing.{is_done, done_by, stated_by, step_by}
-use Rattle.kcr_laws.proofs.Done.{one_more, count-cons, next_signed, done-after, fate-done}
+use Rattle.kcr_rules.specs.Signing.{stated_by, step_by}
+use Rattle.kcr_laws.proofs.Done.{one_more, count-cons, next_signed, done-after}
 use Rattle.kcr_history.specs.declared.commands.Entry.{Entry}
 use Rattle.kcr_history.specs.declared.rows.SeatingRow.{SeatingRow}
 use Rattle.kcr_history.specs.declared.views.Change.TheVariants.{PutSeating}
 use Rattle.kcr_history.specs.Changes.{same_step, same_seating, changed_by}
-use Rattle.std.proofs.lemmas.List.Elements.{filter_agree}
-use Rattle.kcr_base.proofs.RowsLemmas.{filter-order}
-use Rattle.kcr_base.proofs.ListLemmas.{any-same, some_if, there}
+use Rattle.kcr_base.proofs.ListLemmas.{any-same, any-map, some_if, there}
 use Rattle.kcr_base.specs.declared.place.Facility.{Facility}
 use Rattle.kcr_room.proofs.Lists as RoomLists
-use Rattle.kcr_room.proofs.Lists.{filter-and}
-use Rattle.kcr_machine.proofs.Keyed.{Shown, filter-shown, find-view, put-at, put-new}
+use Rattle.kcr_machine.proofs.Keyed.{Shown, any-shown, filter-shown, find-view, put-at, put-new}
 use Rattle.kcr_base.proofs.Members.{Implies, same-answers}
 
 -- COUNTING
@@ -52,17 +48,6 @@ use Rattle.kcr_base.proofs.Members.{Implies, same-answers}
 -- how many of a list pass the test
 abbrev tally : {X : Type 0} → (X → Bool) → List X → ℕ
 tally test xs = length (filter test xs)
-
--- what became of a step, as its row says it
-abbrev state_by : Option (StepState × ℕ) → StepState
-state_by fate = unwrap_or (option_map (λ said. said.0) fate) Undone
-
-count-ext : {X : Type 0} (p q : X → Bool) → ((x : X) → p x ≡ q x) → (xs : List X) → tally p xs ≡ tally q xs
-count-ext p q f xs = ap length (filter_agree p q f xs)
-
-count-map : {X Y : Type 0} (p : Y → Bool) (f : X → Y) (xs : List X) → tally p (map f xs) ≡ tally (λ x. p (f x)) xs
-count-map p f [] = refl
-count-map p f (x ∷ xs) = count-cons p (f x) (map f xs) ∙ ap (one_more (p (f x))) (count-map p f xs) ∙ sym (count-cons (λ x. p (f x)) x xs)
 
 count-view : {X : Type 0} (test of : X → Bool) → Implies test of → (table rows : List X) → Shown of table rows → tally test rows ≡ tally test table
 count-view test of inside table rows p = length_permutation (filter test table) (filter test rows) (filter-shown test of inside table rows p)
@@ -114,7 +99,7 @@ below_after A (Plan number facility day script) answer key c f ih = grind (arith
 below_after A act answer key c f ih = one_below (does_step c act) (steps_done A c) (steps_of A c) (next-there A act c f) ih
 
 -- no more steps are done than the script has
-done-below : (A : History) → IsRegister A → (c : ℕ) → steps_done A c ≤ length (steps_of A c)
+pub done-below : (A : History) → IsRegister A → (c : ℕ) → steps_done A c ≤ length (steps_of A c)
 done-below [] h c = omega arith
 done-below (entry ∷ A) h c =
     let t = took A entry h.0 in
@@ -133,7 +118,7 @@ few_after : (act : Act) (c : ℕ) (plan : Option Planned) → length (unwrap_or 
 few_after (Plan number facility day script) c plan ih = grind (arith, few_script script)
 few_after act c plan ih = ih
 
-few-steps : (A : History) (c : ℕ) → length (steps_of A c) ≤ 400
+pub few-steps : (A : History) (c : ℕ) → length (steps_of A c) ≤ 400
 few-steps [] c = omega arith
 few-steps (entry ∷ A) c = few_after entry.command.act c (plan_of A c) (few-steps A c)
 
@@ -173,24 +158,6 @@ keys-any A h c g =
     sym (RoomLists.any-filter (λ key. key.0 == c) (λ key. g key.1) (step_keys A))
     ∙ list_any-IsPermutation (λ key. g key.1) (filter (λ key. key.0 == c) (step_keys A)) (numbered c 0 (steps_of A c)) (keys-order A h c)
 
-keys-count : (A : History) → IsRegister A → (c : ℕ) (g : ℕ → Bool)
-    → tally (λ key. key.0 == c && g key.1) (step_keys A) ≡ tally (λ key. g key.1) (numbered c 0 (steps_of A c))
-keys-count A h c g =
-    let own = filter (λ (key : ℕ × ℕ). key.0 == c) (step_keys A) in
-    let all = numbered c 0 (steps_of A c) in
-    ap length (sym (filter-and (λ key. key.0 == c) (λ key. g key.1) (step_keys A)))
-    ∙ sym (length_permutation (filter (λ key. g key.1) own) (filter (λ key. g key.1) all) (filter-order (λ key. g key.1) own all (keys-order A h c)))
-
--- as many rows of steps as the script has steps
-pub steps-count : (A : History) → IsRegister A → (c : ℕ) → length (filter (is_step_of c) (steps A)) ≡ length (steps_of A c)
-steps-count A h c =
-    count-map (is_step_of c) (step_row A) (step_keys A)
-    ∙ sym (length_permutation (filter (λ key. key.0 == c) (step_keys A)) (numbered c 0 (steps_of A c)) (keys-order A h c)) ∙ by_number 0 (steps_of A c)
-  where
-    by_number : (i : ℕ) (ss : List Step) → length (numbered c i ss) ≡ length ss
-    by_number i [] = refl
-    by_number i (s ∷ ss) = ap suc (by_number (suc i) ss)
-
 -- no step of a ceremony that was not planned has a key
 pub keys-planned : (A : History) → IsRegister A → (c : ℕ) → is_ceremony A c ≡ false → list_any (λ key. key.0 == c) (step_keys A) ≡ false
 keys-planned A h c e =
@@ -214,42 +181,6 @@ has-step A h c k = keys-any A h c (λ j. j == k) ∙ by_number k
     by_number zero = none_zero c 0 (steps_of A c)
     by_number (suc j) = numbered-from c 0 j (suc j) (steps_of A c) (omega arith)
 
--- THE NUMBER OF DONE STEPS
-
-count-numbered : (n c i : ℕ) (ss : List Step) → n ≤ i + length ss → tally (λ key. nat_le 1 key.1 && nat_le key.1 n) (numbered c i ss) ≡ n - i
-count-numbered n c i [] l = omega (arith, l)
-count-numbered n c i (s ∷ ss) l = grind (arith, count-numbered n c (suc i) ss)
-
--- what became of a step is that it was signed or passed
-done_one : (b : Bool) (state : StepState) (at : ℕ) (fate : Option (StepState × ℕ)) → is_done state ≡ true → is_done (state_by fate) ≡ is_some fate
-    → is_done (state_by (or_else (cond b (Some (state, at)) None) fate)) ≡ is_some (or_else (cond b (Some (state, at)) None) fate)
-done_one b state at fate e ih = grind arith
-
-done_after : (c k : ℕ) (act : Act) (said : Option ℕ) (fate : Option (StepState × ℕ)) → is_done (state_by fate) ≡ is_some fate
-    → is_done (state_by (or_else (step_done c k act said) fate)) ≡ is_some (or_else (step_done c k act said) fate)
-done_after c k (Sign d step at) said fate ih = done_one (d == c && step == k) Signed at fate refl ih
-done_after c k (Except d text pass at) (Some step) fate ih = done_one (d == c && step == k) Passed at fate refl ih
-done_after c k (Except d text pass at) None fate ih = ih
-done_after c k act said fate ih = ih
-
-done-fate : (A : History) (c k : ℕ) → is_done (state_by (fate_of A c k)) ≡ is_some (fate_of A c k)
-done-fate [] c k = refl
-done-fate (entry ∷ A) c k = done_after c k entry.command.act entry.answer.step (fate_of A c k) (done-fate A c k)
-
--- the number of signed and passed steps by the rows of a register's table is the number by its history
-done-steps : (A : History) → IsRegister A → (c : ℕ) → done_by (steps A) c ≡ steps_done A c
-done-steps A h c =
-    count-map (λ row. is_step_of c row && is_done row.state) (step_row A) (step_keys A)
-    ∙ count-ext (λ key. key.0 == c && is_done (state_by (fate_of A key.0 key.1))) (λ key. key.0 == c && is_some (fate_of A c key.1)) here (step_keys A)
-    ∙ keys-count A h c (λ k. is_some (fate_of A c k))
-    ∙ count-ext (λ key. is_some (fate_of A c key.1)) (λ key. nat_le 1 key.1 && nat_le key.1 (steps_done A c)) (λ key. fate-done A h c key.1)
-    (numbered c 0 (steps_of A c))
-    ∙ count-numbered (steps_done A c) c 0 (steps_of A c) (omega (arith, done-below A h c))
-    ∙ omega arith
-  where
-    here : (key : ℕ × ℕ) → (key.0 == c && is_done (state_by (fate_of A key.0 key.1))) ≡ (key.0 == c && is_some (fate_of A c key.1))
-    here key = grind (arith, done-fate A key.0 key.1)
-
 -- EXCEPTIONS
 
 stated-exceptions : (A : History) → IsRegister A → (c : ℕ) → stated_by (exceptions A) c ≡ exceptions_of A c
@@ -268,26 +199,21 @@ stated-exceptions (entry ∷ A) h c =
 
 -- THE ROWS THAT A VIEW SHOWS
 
--- the row of a step of the script
-pub step-shown : (A : History) → IsRegister A → (c : ℕ) (rows : List StepRow) → Shown (is_step_of c) (steps A) rows → (k : ℕ)
+-- the row of a step, where it is one of the script
+pub step-shown : (A : History) → IsRegister A → (c k : ℕ) (rows : List StepRow) → Shown (is_step_at c k) (steps A) rows
     → step_by rows c k ≡ some_if (is_some (step_at (steps_of A c) k)) (step_row A (c, k))
-step-shown A h c rows p k =
-    find-view (λ row. is_step_of c row && row.step == k) (is_step_of c) (step_row A) (step_row A (c, k))
-    (λ x e. grind arith)
+step-shown A h c k rows p =
+    find-view (is_step_at c k) (is_step_at c k) (step_row A) (step_row A (c, k)) (λ x e. e)
     (λ key e. let q = and_parts (key.0 == c) (key.1 == k) e in ap (λ a. step_row A (a, key.1)) (eqb-true key.0 c q.0)
     ∙ ap (λ b. step_row A (c, b)) (eqb-true key.1 k q.1))
     (step_keys A) rows p
     ∙ ap (λ b. some_if b (step_row A (c, k))) (has-step A h c k)
 
--- how many steps are signed or passed
-pub done-shown : (A : History) → IsRegister A → (c : ℕ) (rows : List StepRow) → Shown (is_step_of c) (steps A) rows → done_by rows c ≡ steps_done A c
-done-shown A h c rows p =
-    count-view (λ row. is_step_of c row && is_done row.state) (is_step_of c) (λ x e. grind arith) (steps A) rows p
-    ∙ done-steps A h c
-
--- never more than a script has
-pub not_overdone : (A : History) → IsRegister A → (c : ℕ) (rows : List StepRow) → Shown (is_step_of c) (steps A) rows → nat_lt 400 (done_by rows c) ≡ false
-not_overdone A h c rows p = le-ltb 400 (done_by rows c) (omega (arith, done-shown A h c rows p, done-below A h c, few-steps A c))
+-- it is there exactly where it is one
+pub any_step-shown : (A : History) → IsRegister A → (c k : ℕ) (rows : List StepRow) → Shown (is_step_at c k) (steps A) rows
+    → list_any (is_step_at c k) rows ≡ is_some (step_at (steps_of A c) k)
+any_step-shown A h c k rows p =
+    any-shown (is_step_at c k) (is_step_at c k) (λ x e. e) (steps A) rows p ∙ any-map (is_step_at c k) (step_row A) (step_keys A) ∙ has-step A h c k
 
 -- how many exceptions are stated
 pub stated-shown : (A : History) → IsRegister A → (c : ℕ) (rows : List ExceptionRow) → Shown (is_exception_of c) (exceptions A) rows

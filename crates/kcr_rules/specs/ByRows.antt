@@ -23,6 +23,7 @@ use Rattle.kcr_history.specs.declared.views.Change.TheVariants.{PutBox}
 use Rattle.kcr_history.specs.declared.views.View.{View}
 use Rattle.kcr_history.specs.History.{greatest}
 use Rattle.kcr_history.specs.Machine.{Sitting}
+use Rattle.kcr_history.specs.Views.{last_seated}
 use Rattle.kcr_rules.specs.declared.acts.Acted.{Acted}
 use Rattle.kcr_rules.specs.declared.premises.Premises.{Premises}
 use Rattle.kcr_rules.specs.Scene.{ceremony_by}
@@ -32,7 +33,7 @@ use Rattle.kcr_rules.specs.CustodyRows.{seal_refusal_in, take_refusal_in, put_re
 use Rattle.kcr_rules.specs.CustodyRows.{seal_changes_in, take_changes_in, put_changes_in, cut_changes_in}
 use Rattle.kcr_rules.specs.RoomRows.{turn_refusal_by, turn_changes_by, add_item_refusal_by, add_item_changes_by}
 use Rattle.kcr_rules.specs.SheetRows.{sheet_refusal_by, sheet_changes_by}
-use Rattle.kcr_rules.specs.Signing.{sign_refusal, except_refusal, done_by, next_by, step_by, seats_by, stated_by, staff}
+use Rattle.kcr_rules.specs.Signing.{sign_refusal, except_refusal, next_by, step_by, seats_by, stated_by, staff}
 use Rattle.kcr_rules.specs.Signing.{IsSeatedBy, IsUnseatedBy, mark_change, seat_changes, exception_change}
 
 -- the settled day: the day of the greatest mark
@@ -141,8 +142,8 @@ IsUnseatedFor view (Some s) refusal = IsUnseatedBy view s refusal
 abbrev pub all_changes_by : View → Act → Option (List (List ℕ)) → List Change
 all_changes_by view (Sign ceremony step at) (Some people) = seat_changes view Signed ceremony step at people
 all_changes_by view (Except ceremony text true at) (Some people) =
-    seat_changes view Passed ceremony (next_by view.steps.items ceremony) at people
-    ++ exception_change view ceremony text at (Some (next_by view.steps.items ceremony)) ∷ []
+    seat_changes view Passed ceremony (next_by view.seatings.items ceremony) at people
+    ++ exception_change view ceremony text at (Some (next_by view.seatings.items ceremony)) ∷ []
 all_changes_by view act people = changes_by view act
 
 -- the number of the exception that an act states
@@ -153,7 +154,7 @@ exception_by view act = None
 -- the step that an act signs or passes
 abbrev pub told_step_by : View → Act → Option ℕ
 told_step_by view (Sign ceremony step at) = Some step
-told_step_by view (Except ceremony text true at) = Some (next_by view.steps.items ceremony)
+told_step_by view (Except ceremony text true at) = Some (next_by view.seatings.items ceremony)
 told_step_by view act = None
 
 -- WHAT AN ACT COMES TO
@@ -168,8 +169,8 @@ pub record HasActed (view : View) (full : Bool) (act : Act) (acted : Acted) : Ty
 
 -- the rows tell of more steps done than a script has, which no register's rows do
 abbrev pub is_overdone : View → Act → Bool
-is_overdone view (Sign ceremony step at) = nat_lt 400 (done_by view.steps.items ceremony)
-is_overdone view (Except ceremony text pass at) = nat_lt 400 (done_by view.steps.items ceremony)
+is_overdone view (Sign ceremony step at) = nat_lt 400 (last_seated view.seatings.items ceremony)
+is_overdone view (Except ceremony text pass at) = nat_lt 400 (last_seated view.seatings.items ceremony)
 is_overdone view act = false
 
 -- the act's first refusal; or it has none, and its seats are not filled

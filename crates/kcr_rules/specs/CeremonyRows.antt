@@ -1,5 +1,5 @@
 -- What the acts on whole ceremonies say, by the rows of a view: planning, opening and closing.
-use Rattle.std.specs.Prelude.{ℕ, ◌+◌, ◌==◌, Bool, true, false, not, ◌&&◌, ◌||◌, nat_lt, List, [], ◌∷◌, map, Option}
+use Rattle.std.specs.Prelude.{ℕ, ◌+◌, ◌==◌, Bool, not, ◌&&◌, ◌||◌, nat_lt, List, [], ◌∷◌, map, Option}
 use Rattle.std.specs.Prelude.{Some, None, is_some}
 use Rattle.std.specs.List.{list_any}
 use Rattle.std.specs.Result.{result_unwrap_or}
@@ -22,13 +22,14 @@ use Rattle.kcr_script.specs.Reading.{script_of}
 use Rattle.kcr_history.specs.declared.rows.CeremonyRow.{CeremonyRow}
 use Rattle.kcr_history.specs.declared.rows.CeremonyState.TheVariants as States
 use Rattle.kcr_history.specs.declared.rows.StepRow.{StepRow}
-use Rattle.kcr_history.specs.declared.rows.StepState.{StepState}
 use Rattle.kcr_history.specs.declared.rows.StepState.TheVariants.{Undone}
 use Rattle.kcr_history.specs.declared.views.Change.{Change}
 use Rattle.kcr_history.specs.declared.views.Change.TheVariants.{PutCeremony, PutMark, PutStep}
 use Rattle.kcr_history.specs.declared.views.View.{View}
 use Rattle.kcr_history.specs.Conditions.{no_script}
+use Rattle.kcr_history.specs.Views.{is_step_at}
 use Rattle.kcr_rules.specs.Scene.{ceremony_by, is_open_state, mark_by}
+use Rattle.kcr_rules.specs.Signing.{next_by}
 
 -- OPENING
 
@@ -61,14 +62,6 @@ opening_changes ceremony at (Some row) =
 
 -- CLOSING
 
-abbrev pub is_undone : StepState → Bool
-is_undone Undone = true
-is_undone state = false
-
--- a step of the ceremony that is neither signed nor passed
-abbrev pub is_undone_of : ℕ → StepRow → Bool
-is_undone_of ceremony row = row.ceremony == ceremony && is_undone row.state
-
 -- a stay in the ceremony's room that begins or ends later than the moment, or has no end
 abbrev pub is_unended : ℕ → ℕ → Stay → Bool
 is_unended ceremony at stay = stay.ceremony == ceremony && (nat_lt at stay.since || lasts_at at stay.until)
@@ -77,11 +70,12 @@ is_unended ceremony at stay = stay.ceremony == ceremony && (nat_lt at stay.since
 abbrev pub lies_on_table : Facility → Bag → Bool
 lies_on_table facility bag = is_on_table facility (Some bag.spot)
 
--- what keeps the ceremony of the row from closing
+-- what keeps the ceremony of the row from closing: its next step, where there is one, its room, the safes or the table
 abbrev pub unfinished_by : View → ℕ → ℕ → CeremonyRow → Option Refusal
 unfinished_by view ceremony at row =
     first_of
-    (when (list_any (is_undone_of ceremony) view.steps.items) (Unfinished Parts.Steps)
+    (when (list_any (is_step_at ceremony (next_by view.seatings.items ceremony)) view.steps.items)
+    (Unfinished Parts.Steps)
     ∷ when (list_any (is_unended ceremony at) view.stays.items) (Unfinished Parts.Room)
     ∷ when (is_open_by view.safes.items row.facility One || is_open_by view.safes.items row.facility Two)
     (Unfinished Parts.Safes)

@@ -14,7 +14,7 @@ use Rattle.kcr_script.specs.declared.seat.Seat.TheVariants.{Staff}
 use Rattle.kcr_seats.specs.Seating.{IsFirst, IsLeast}
 use Rattle.kcr_history.specs.declared.rows.StepRow.{StepRow}
 use Rattle.kcr_history.specs.declared.rows.StepState.{StepState}
-use Rattle.kcr_history.specs.declared.rows.StepState.TheVariants.{Undone, Signed, Passed}
+use Rattle.kcr_history.specs.declared.rows.SeatingRow.{SeatingRow}
 use Rattle.kcr_history.specs.declared.rows.ExceptionRow.{ExceptionRow}
 use Rattle.kcr_history.specs.declared.views.Change.{Change}
 use Rattle.kcr_history.specs.declared.views.Change.TheVariants.{PutMark, PutStep, PutSeating, PutException}
@@ -22,32 +22,23 @@ use Rattle.kcr_history.specs.declared.views.View.{View}
 use Rattle.kcr_history.specs.Fitting.{fits_by}
 use Rattle.kcr_history.specs.Machine.{Sitting}
 use Rattle.kcr_history.specs.Tables.{seat_rows}
-use Rattle.kcr_history.specs.Views.{is_step_of, is_exception_of}
+use Rattle.kcr_history.specs.Views.{is_step_at, is_exception_of, last_seated}
 use Rattle.kcr_rules.specs.Scene.{ceremony_by, facility_by, is_open_row, mark_by}
 
 -- THE STEPS AND EXCEPTIONS OF A CEREMONY
 
 -- the row of a step
 abbrev pub step_by : List StepRow → ℕ → ℕ → Option StepRow
-step_by rows ceremony step = find (λ row. is_step_of ceremony row && row.step == step) rows
+step_by rows ceremony step = find (is_step_at ceremony step) rows
 
 -- the seats of the step's row
 abbrev pub seats_by : Option StepRow → List Seat
 seats_by None = []
 seats_by (Some row) = row.seats
 
-abbrev pub is_done : StepState → Bool
-is_done Undone = false
-is_done Signed = true
-is_done Passed = true
-
--- how many steps of the ceremony are signed or passed
-abbrev pub done_by : List StepRow → ℕ → ℕ
-done_by rows ceremony = length (filter (λ row. is_step_of ceremony row && is_done row.state) rows)
-
--- the step that is next: one more than those
-abbrev pub next_by : List StepRow → ℕ → ℕ
-next_by rows ceremony = suc (done_by rows ceremony)
+-- the step that is next: the one after the last that has a seating, since steps are signed and passed in order
+abbrev pub next_by : List SeatingRow → ℕ → ℕ
+next_by rows ceremony = suc (last_seated rows ceremony)
 
 -- how many exceptions the ceremony has
 abbrev pub stated_by : List ExceptionRow → ℕ → ℕ
@@ -62,7 +53,7 @@ sign_refusal view full ceremony step at =
     ∷ when (is_none (step_by view.steps.items ceremony step)) (Unknown (Things.Step step))
     ∷ when (not (is_open_row (ceremony_by view.ceremonies.items ceremony))) Refusals.State
     ∷ is_late at (mark_by view.marks.items ceremony)
-    ∷ when (not (step == next_by view.steps.items ceremony)) (Order (next_by view.steps.items ceremony))
+    ∷ when (not (step == next_by view.seatings.items ceremony)) (Order (next_by view.seatings.items ceremony))
     ∷ when full Full
     ∷ [])
 
@@ -72,8 +63,8 @@ except_refusal view full ceremony pass at =
     (no_ceremony (is_some (ceremony_by view.ceremonies.items ceremony)) ceremony
     ∷ when (not (is_open_row (ceremony_by view.ceremonies.items ceremony))) Refusals.State
     ∷ is_late at (mark_by view.marks.items ceremony)
-    ∷ when (pass && is_none (step_by view.steps.items ceremony (next_by view.steps.items ceremony)))
-    (Order (next_by view.steps.items ceremony))
+    ∷ when (pass && is_none (step_by view.steps.items ceremony (next_by view.seatings.items ceremony)))
+    (Order (next_by view.seatings.items ceremony))
     ∷ when (nat_le 200 (stated_by view.exceptions.items ceremony)) Full
     ∷ when full Full
     ∷ [])

@@ -1,10 +1,12 @@
 //! Ceremonies closed, over the rows of a view.
-ghost use Rattle.std.specs.Prelude.{◌≡◌};
+ghost use Rattle.std.specs.Prelude.{◌≡◌, suc};
 ghost use Rattle.std.specs.List.{list_any};
 ghost use Rattle.kcr_base.specs.Refuse.{Tests};
 ghost use Rattle.kcr_history.specs.declared.commands.Act.TheVariants as Kinds;
 ghost use Rattle.kcr_rules.specs.ByRows.{ComesTo};
+ghost use Rattle.kcr_history.specs.Views.{is_step_at};
 ghost use Rattle.kcr_rules.specs.CeremonyRows;
+ghost use Rattle.kcr_rules.specs.Signing.{next_by};
 ghost use Rattle.kcr_room.specs.Stays;
 
 use crate::changes::only;
@@ -13,24 +15,24 @@ use crate::scene::{check_running, known};
 use kcr_base::{Facility, Moment, Part, Refusal};
 use kcr_custody::rows::is_open;
 use kcr_custody::{Bag, SafeNumber, Spot};
-use kcr_history::{CeremonyRow, CeremonyState, Change, StepRow, StepState, View};
+use kcr_history::{CeremonyRow, CeremonyState, Change, StepRow, View, last_seated};
 use kcr_room::Stay;
 
-/// Whether the row is a step of the ceremony that was neither signed nor passed.
-fn is_undone_of(ceremony: u32, row: &StepRow) -> bool
-    ensures { result ≡ CeremonyRows.is_undone_of ceremony row.now }
+/// Whether the row is the ceremony's step after this one.
+fn is_step_after(ceremony: u32, last: u32, row: &StepRow) -> bool
+    ensures { result ≡ is_step_at ceremony (suc last) row.now }
 {
-    match row.state {
-        StepState::Undone => row.ceremony == ceremony,
-        StepState::Signed | StepState::Passed => false,
-    }
+    row.ceremony == ceremony && u64::from(row.step) == u64::from(last) + 1
 }
 
-/// Whether a step of the ceremony was neither signed nor passed.
-fn has_undone(view: &View, ceremony: u32) -> bool
-    ensures { result ≡ list_any (CeremonyRows.is_undone_of ceremony) view.now.steps.items }
+/// Whether the ceremony has a next step, neither signed nor passed.
+fn has_next_step(view: &View, ceremony: u32) -> bool
+    ensures { result ≡ list_any (is_step_at ceremony (next_by view.now.seatings.items ceremony)) view.now.steps.items }
 {
-    view.steps.iter().any(|row| is_undone_of(ceremony, row))
+    let last = last_seated(&view.seatings, ceremony);
+    view.steps
+        .iter()
+        .any(|row| is_step_after(ceremony, last, row))
 }
 
 /// Whether an end is none, or later than the moment.
@@ -80,7 +82,7 @@ fn has_bag_on_table(view: &View, facility: Facility) -> bool
 fn check_finished(view: &View, ceremony: u32, at: Moment, row: CeremonyRow) -> Result<(), Refusal>
     ensures { Tests (CeremonyRows.unfinished_by view.now ceremony at row) result }
 {
-    if has_undone(view, ceremony) {
+    if has_next_step(view, ceremony) {
         return Err(Refusal::Unfinished { part: Part::Steps });
     }
     if is_room_used(view, ceremony, at) {

@@ -3,6 +3,7 @@
 ghost use Rattle.std.specs.Prelude.{◌≡◌, ◌≤◌, ◌++◌, ◌∷◌, [], None, Some, suc, length, map, option_copied, true, false};
 ghost use Rattle.std.specs.Prelude.{nat_lt, MatchResult, IfOk, OnOk};
 ghost use Rattle.kcr_history.specs.Tables.{seat_rows};
+ghost use Rattle.kcr_history.specs.Views;
 ghost use Rattle.kcr_history.specs.declared.views.Change.TheVariants as Changes;
 ghost use Rattle.kcr_rules.specs.Signing;
 
@@ -10,35 +11,16 @@ use crate::premises::Premises;
 use crate::scene::{check_running, known};
 use kcr_base::{Initials, Moment, Refusal, Remark, Thing};
 use kcr_history::{
-    Change, ExceptionRow, InitialsList, MarkRow, SeatingRow, StepRow, StepState, View,
+    Change, ExceptionRow, InitialsList, MarkRow, SeatingRow, StepRow, StepState, View, last_seated,
 };
 use kcr_script::Seat;
 use std::alloc::AllocError;
 
 /// At most this many steps a script has.
-const MOST_STEPS: usize = 400;
+const MOST_STEPS: u32 = 400;
 
 /// At most this many exceptions are stated in a ceremony.
 const MOST_EXCEPTIONS: usize = 200;
-
-/// Whether a step is signed or passed.
-fn is_done(state: StepState) -> bool
-    ensures { result ≡ Signing.is_done state }
-{
-    match state {
-        StepState::Undone => false,
-        StepState::Signed | StepState::Passed => true,
-    }
-}
-
-/// How many steps of the ceremony are signed or passed.
-fn done(rows: &[StepRow], ceremony: u32) -> usize
-    ensures { result ≡ Signing.done_by rows.now ceremony }
-{
-    rows.iter()
-        .filter(|row| row.ceremony == ceremony && is_done(row.state))
-        .count()
-}
 
 /// How many exceptions the ceremony has.
 fn stated(rows: &[ExceptionRow], ceremony: u32) -> usize
@@ -55,18 +37,18 @@ pub fn step_row(rows: &[StepRow], ceremony: u32, step: u32) -> Option<&StepRow>
         .find(|row| row.ceremony == ceremony && row.step == step)
 }
 
-/// The number, counted from 1, of the step that is next: one more than are signed or passed. The refusal is 34, where
-/// more steps are done than a script has: no register has such rows.
+/// The number, counted from 1, of the step that is next: the one after the last that has a seating. The refusal is 34,
+/// where that one is past what a script has: no register has such rows.
 pub fn next(view: &View, ceremony: u32) -> Result<u32, Refusal>
     ensures { MatchResult result
-        (λ step. step ≡ Signing.next_by view.now.steps.items ceremony)
-        (λ _. nat_lt 400 (Signing.done_by view.now.steps.items ceremony) ≡ true) }
+        (λ step. step ≡ Signing.next_by view.now.seatings.items ceremony)
+        (λ _. nat_lt 400 (Views.last_seated view.now.seatings.items ceremony) ≡ true) }
 {
-    let done = done(&view.steps, ceremony);
-    if done > MOST_STEPS {
+    let last = last_seated(&view.seatings, ceremony);
+    if last > MOST_STEPS {
         return Err(Refusal::Disk);
     }
-    Ok(done as u32 + 1)
+    Ok(last + 1)
 }
 
 /// Adds the step's row with what became of it.
@@ -156,7 +138,7 @@ impl Premises<'_> {
     pub fn may_sign(&self, ceremony: u32, step: u32, at: Moment) -> Result<(), Refusal>
         ensures { MatchResult result
             (λ _. Signing.sign_refusal self.now.view.now self.now.is_full ceremony step at ≡ None)
-            (λ refusal. nat_lt 400 (Signing.done_by self.now.view.now.steps.items ceremony) ≡ false
+            (λ refusal. nat_lt 400 (Views.last_seated self.now.view.now.seatings.items ceremony) ≡ false
             → Signing.sign_refusal self.now.view.now self.now.is_full ceremony step at ≡ Some refusal) }
     {
         let row = known(self.view, ceremony)?;
@@ -184,7 +166,7 @@ impl Premises<'_> {
         ensures { MatchResult result
             (λ number. (Signing.except_refusal self.now.view.now self.now.is_full ceremony pass at ≡ None)
             × (number ≡ suc (Signing.stated_by self.now.view.now.exceptions.items ceremony)))
-            (λ refusal. nat_lt 400 (Signing.done_by self.now.view.now.steps.items ceremony) ≡ false
+            (λ refusal. nat_lt 400 (Views.last_seated self.now.view.now.seatings.items ceremony) ≡ false
             → Signing.except_refusal self.now.view.now self.now.is_full ceremony pass at ≡ Some refusal) }
     {
         let row = known(self.view, ceremony)?;

@@ -77,15 +77,11 @@ pub(crate) fn all_of<S: Alter>(
         ceremonies,
         marks,
         steps,
+        seatings,
         stays,
         exceptions,
     };
-    Ok(WholeView {
-        asked,
-        seatings,
-        sheet,
-        keys,
-    })
+    Ok(WholeView { asked, sheet, keys })
 }
 
 /// All rows of each table, read in a transaction that is rolled back.

@@ -19,23 +19,25 @@ use Rattle.kcr_base.specs.Place.{place_text}
 use Rattle.kcr_base.specs.declared.place.Place.{Place as Custodian}
 use Rattle.kcr_base.specs.declared.refusal.Refusal.{Refusal}
 use Rattle.kcr_people.specs.declared.Appointment.{Appointment}
-use Rattle.kcr_history.specs.Views.{is_appointment_to, is_appointment_of}
+use Rattle.kcr_history.specs.declared.rows.SeatingRow.{SeatingRow}
+use Rattle.kcr_history.specs.Views.{is_appointment_to, is_appointment_of, is_seating_of}
 use Rattle.kcr_rows.specs.Greatest.{IsGreatest}
 use Rattle.kcr_rows.proofs.FailLemmas.{if_ok}
 use Rattle.kcr_rows.proofs.FilterLemmas.{value_is, filter_as}
 use Rattle.kcr_rows.proofs.GreatestLemmas.{greatest, with_number, shown_greatest}
 use Rattle.kcr_rows.proofs.ReadLemmas.{kept_cells}
 use Rattle.kcr_rows.specs.Keyed.{Place, Keeps}
-use Rattle.kcr_rows.proofs.SameLemmas.{text_ties, place_ties}
-use Rattle.kcr_rows.specs.Rows.{stay_row, appointment_row}
+use Rattle.kcr_rows.proofs.SameLemmas.{text_ties, place_ties, number_ties}
+use Rattle.kcr_rows.specs.Rows.{stay_row, appointment_row, seating_row}
 use Rattle.kcr_room.specs.declared.Stay.{Stay}
 use Rattle.kcr_tables.specs.Schema.{register_schema}
-use Rattle.kcr_tables.specs.Exact.{rows_at, has_text, IsOneOf}
+use Rattle.kcr_tables.specs.Exact.{rows_at, has_number, has_text, IsOneOf}
 use Rattle.kcr_tables.specs.Frame.{Tells, TellsExactly}
 use Rattle.kcr_tables.specs.Statements.{is_given, Choice, showing, showing_by}
-use Rattle.kcr_tables.specs.Held.{Tables, Kept, keys_place, stays_place, appointments_place}
+use Rattle.kcr_tables.specs.Held.{Tables, Kept, keys_place, stays_place, appointments_place, seatings_place}
 use Rattle.kcr_tables.specs.AppointmentsLaws as appointments
 use Rattle.kcr_tables.specs.KeysLaws as keys
+use Rattle.kcr_tables.specs.SeatingsLaws as seatings
 use Rattle.kcr_tables.specs.StaysLaws as stays
 use Rattle.kcr_tables.proofs.ExactLemmas.{one_of}
 
@@ -138,3 +140,18 @@ last_of_person who = record { test = is_given 3; bare = (refl, refl); is = refl 
 
 pub appointments_of : (who : List ℕ) (all : List Appointment) → filter (λ x. has_text 2 who (appointment_row x)) all ≡ filter (is_appointment_of who) all
 appointments_of who = filter_as _ _ (λ x. value_is (Text x.who) (Text who) refl refl ∙ sym (text_ties x.who who))
+
+-- ---- the last step of a ceremony that has a seating
+
+abbrev pub seating_sql : List ℕ
+seating_sql = codes "SELECT ceremony, step, seat, who FROM seatings WHERE ceremony = ?1 ORDER BY step DESC LIMIT 1"
+
+pub last_seating : (ceremony : ℕ)
+    → ShowsLast seatings_place seatings.project seatings.names seating_sql (Int (pos ceremony) ∷ []) (has_number 0 ceremony) 1
+unfolding understood everything
+last_seating ceremony = record { test = is_given 1; bare = (refl, refl); is = refl }
+
+pub seatings_of : (ceremony : ℕ) (all : List SeatingRow)
+    → filter (λ x. has_number 0 ceremony (seating_row x)) all ≡ filter (is_seating_of ceremony) all
+seatings_of ceremony =
+    filter_as _ _ (λ x. value_is (Int (pos x.ceremony)) (Int (pos ceremony)) refl refl ∙ sym (number_ties x.ceremony ceremony))

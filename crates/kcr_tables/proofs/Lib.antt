@@ -9,7 +9,9 @@ pub mod LastLemmas
 pub mod MakeLemmas
 pub mod NamedLemmas
 pub mod OpenLemmas
+pub mod RoomLemmas
 pub mod SafeLemmas
+pub mod ScriptLemmas
 pub mod StatementLemmas
 pub mod StayLemmas
 pub mod ViewLemmas

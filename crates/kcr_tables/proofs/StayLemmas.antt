@@ -5,7 +5,7 @@ use Rattle.std.specs.List.{AllByRecursion}
 use Rattle.std.proofs.lemmas.Bool.{eq-eqb}
 use Rattle.std.proofs.lemmas.Bool.Decides.{nat_tests}
 use Rattle.std.proofs.lemmas.Slice.Eq.{bytes_eq-Decides}
-use Rattle.std.proofs.lemmas.List.Sorted.{IsPermutation-refl, IsPermutation-sym, IsPermutation-trans}
+use Rattle.std.proofs.lemmas.List.Sorted.{IsPermutation-sym, IsPermutation-trans, IsPermutation-append_left}
 use Rattle.sqlite.specs.Tree.{IsAscending}
 use Rattle.sqlite_rules.specs.Lists.{Has}
 use Rattle.sqlite_rules.proofs.ListLemmas.{all_has}
@@ -144,10 +144,20 @@ module _ (table rows : List Stay) (apart : Apart table) (within : (x : Stay) →
 
 pub record Gathered (ceremony : ℕ) (people : List (List ℕ)) (table rows : List Stay) : Type 0 where
   pub more : List Stay
-  pub are : rows ≡ filter (is_stay_of ceremony) table ++ more
+  pub are : IsPermutation (filter (is_stay_of ceremony) table ++ more) rows
   pub elsewhere : filter (is_stay_of ceremony) more ≡ []
   pub there : (x : Stay) → Has more x → Has table x
   pub last : AllByRecursion (HasLast table rows) people
+
+-- at first those of the ceremony
+pub room_gathered : (ceremony : ℕ) (table rows : List Stay) → IsPermutation (filter (is_stay_of ceremony) table) rows → Gathered ceremony [] table rows
+room_gathered ceremony table rows are = record {
+  more = [];
+  are = subst (λ l. IsPermutation l rows) (sym (append-nil _)) are;
+  elsewhere = refl;
+  there = λ x h. absurd h;
+  last = tt;
+}
 
 filter_more : {X : Type 0} (p : X → Bool) (xs ys : List X) → filter p (xs ++ ys) ≡ filter p xs ++ filter p ys
 filter_more p [] ys = refl
@@ -188,14 +198,15 @@ module _ (ceremony : ℕ) (people : List (List ℕ)) (table rows last found : Li
     where
       by_test : (b : Bool) → is_stay_of ceremony x ≡ b → Has (rows ++ found) x
       by_test true e = has_left rows found x
-          (subst (λ l. Has l x) (sym had.are)
+          (has_same _ rows x had.are
           (has_left (filter (is_stay_of ceremony) table) had.more x (filter_to (is_stay_of ceremony) table x (in_table x h) e)))
       by_test false e = has_right rows found x (subst (λ l. Has l x) (sym found_is) (filter_to (λ y. not (is_stay_of ceremony y)) last x h (ap not e)))
 
   pub more_gathered : Gathered ceremony (people ++ who ∷ []) table (rows ++ found)
   more_gathered = record {
     more = had.more ++ found;
-    are = ap (λ l. l ++ found) had.are ∙ append_assoc (filter (is_stay_of ceremony) table) had.more found;
+    are = subst (λ l. IsPermutation l (rows ++ found)) (append_assoc (filter (is_stay_of ceremony) table) had.more found)
+        (IsPermutation-append_left found _ rows had.are);
     elsewhere = filter_more (is_stay_of ceremony) had.more found ∙ ap (λ l. l ++ filter (is_stay_of ceremony) found) had.elsewhere
         ∙ ap (filter (is_stay_of ceremony)) found_is ∙ none_both (is_stay_of ceremony) last;
     there = λ x h. elim
@@ -215,14 +226,15 @@ all_last table rows apart within (who ∷ people) all = (same_last table rows ap
 pub gathered_shows : (asked : StaysOf) (table rows : List Stay) → Apart table → Gathered asked.ceremony asked.people table rows → ShowsStaysOf asked table rows
 gathered_shows asked table rows apart had =
     let mine = is_stay_of asked.ceremony in
-    let within : (x : Stay) → Has rows x
-    → Has table x = λ x h. elim
-    (has_append (filter mine table) had.more x
-    (subst (λ l. Has l x) had.are h)) [ inl room ↦ filter_from mine table x room | inr more ↦ had.there x more ] in
-    let room : filter mine rows ≡ filter mine table = ap (filter mine) had.are ∙ filter_more mine (filter mine table) had.more
+    let within : (x : Stay) → Has rows x → Has table x = λ x h. elim
+    (has_append (filter mine table) had.more x (has_same rows _ x (IsPermutation-sym _ rows had.are) h)) [
+      | inl room ↦ filter_from mine table x room
+      | inr more ↦ had.there x more
+    ] in
+    let room : filter mine (filter mine table ++ had.more) ≡ filter mine table = filter_more mine (filter mine table) had.more
     ∙ ap (λ l. filter mine (filter mine table) ++ l) had.elsewhere ∙ append-nil _ ∙ twice mine table in
     record {
-      room = subst (IsPermutation (filter mine table)) (sym room) (IsPermutation-refl (filter mine table));
+      room = subst (λ l. IsPermutation l (filter mine rows)) room (IsPermutation-filter mine _ rows had.are);
       last = all_last table rows apart within asked.people had.last;
     }
 

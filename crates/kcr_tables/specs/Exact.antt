@@ -1,6 +1,6 @@
 -- Of the rows that a decision asks for none is strange: each is the row of a value that is shown, whatever else the
 -- tables have.
-use Rattle.std.specs.Prelude.{◌≡◌, ◌⊎◌, ℕ, pos, Bool, List, [], ◌∷◌, ◌++◌, map, filter}
+use Rattle.std.specs.Prelude.{◌≡◌, ◌⊎◌, ◌&&◌, ℕ, pos, Bool, List, [], ◌∷◌, ◌++◌, map, filter, Option, Some, None}
 use Rattle.std.specs.List.{AllByRecursion, list_any}
 use Rattle.sqlite.specs.Order.{Row}
 use Rattle.sqlite.specs.Tree.{Trees}
@@ -21,6 +21,7 @@ use Rattle.kcr_room.specs.declared.Stay.{Stay}
 use Rattle.kcr_history.specs.declared.rows.CeremonyRow.{CeremonyRow}
 use Rattle.kcr_history.specs.declared.rows.MarkRow.{MarkRow}
 use Rattle.kcr_history.specs.declared.rows.StepRow.{StepRow}
+use Rattle.kcr_history.specs.declared.rows.SeatingRow.{SeatingRow}
 use Rattle.kcr_history.specs.declared.rows.ExceptionRow.{ExceptionRow}
 use Rattle.kcr_history.specs.declared.views.AppointmentsOf.{AppointmentsOf}
 use Rattle.kcr_history.specs.declared.views.AppointmentsOf.TheVariants as Appointments
@@ -30,15 +31,17 @@ use Rattle.kcr_history.specs.declared.views.ItemsOf.TheVariants as Items
 use Rattle.kcr_history.specs.declared.views.Selection.{Selection}
 use Rattle.kcr_history.specs.declared.views.Selection.TheVariants.{Nothing, Under, All}
 use Rattle.kcr_history.specs.declared.views.StaysOf.{StaysOf}
+use Rattle.kcr_history.specs.declared.views.StepOf.{StepOf}
 use Rattle.kcr_history.specs.declared.views.View.{View}
+use Rattle.kcr_history.specs.Views.{step_asked}
 use Rattle.kcr_rows.specs.Keyed.{Place, cells}
 use Rattle.kcr_rows.proofs.FilterLemmas.{has_value}
 use Rattle.kcr_rows.specs.Rows.{person_row, training_row, appointment_row, box_row, safe_row, bag_row, item_row}
-use Rattle.kcr_rows.specs.Rows.{ceremony_row, mark_row, step_row, exception_row, stay_row, withdrawal_row}
+use Rattle.kcr_rows.specs.Rows.{ceremony_row, mark_row, step_row, seating_row, exception_row, stay_row, withdrawal_row}
 use Rattle.kcr_tables.specs.Asked.{asked_of, asked_all}
 use Rattle.kcr_tables.specs.Held.{people_place, trainings_place, appointments_place, boxes_place, safes_place}
 use Rattle.kcr_tables.specs.Held.{bags_place, items_place, ceremonies_place, marks_place, steps_place, exceptions_place}
-use Rattle.kcr_tables.specs.Held.{stays_place, withdrawals_place}
+use Rattle.kcr_tables.specs.Held.{seatings_place, stays_place, withdrawals_place}
 
 -- the rows of a table, whatever they are
 abbrev pub rows_at : Place → Trees → List Row
@@ -70,6 +73,10 @@ has_any at texts row = list_any (λ text. has_text at text row) texts
 abbrev pub is_item_row : ItemsOf → Row → Bool
 is_item_row (Items.Codes codes) row = has_any 0 codes row
 is_item_row (Items.Bag serial) row = has_text 2 serial row
+
+-- that of a step, by its ceremony and its number
+abbrev pub is_row_of_step : ℕ → ℕ → Row → Bool
+is_row_of_step ceremony step row = has_number 0 ceremony row && has_number 1 step row
 
 abbrev pub is_stay_row : StaysOf → Row → Bool
 is_stay_row asked row = has_number 2 asked.ceremony row
@@ -107,6 +114,23 @@ AppointmentsAreShown (Under (Appointments.Both place who)) shown db =
     AreOneOfEach (rows_to place db) (rows_of_person who db) (map appointment_row shown)
 AppointmentsAreShown All shown db = AreShown appointment_row shown (rows_at appointments_place db)
 
+-- of the seatings of the ceremony one, or none where there are none
+abbrev pub OneSeatingIsShown : ℕ → List SeatingRow → Trees → Type 0
+OneSeatingIsShown ceremony seatings db =
+    IsOneOf (filter (has_number 0 ceremony) (rows_at seatings_place db)) (map seating_row seatings)
+
+-- of the steps the one whose number is asked for, where these are the seatings that are shown
+abbrev pub StepIsShown : StepOf → List SeatingRow → List StepRow → Trees → Type 0
+StepIsShown asked seatings steps db =
+    let is_asked = is_row_of_step asked.ceremony (step_asked asked seatings) in
+    AreShown step_row steps (filter is_asked (rows_at steps_place db))
+
+-- of a step that is asked for its row, and one seating of its ceremony
+abbrev pub StepsAreShown : Option StepOf → List SeatingRow → List StepRow → Trees → Type 0
+StepsAreShown None seatings steps db = Unit {0}
+StepsAreShown (Some asked) seatings steps db =
+    OneSeatingIsShown asked.ceremony seatings db × StepIsShown asked seatings steps db
+
 -- of people and their offices
 pub record StaffIsShown (asks : Asks) (people : List Person) (trainings : List Training)
     (withdrawals : List Withdrawal) (appointments : List Appointment) (db : Trees) : Type 0 where
@@ -125,10 +149,11 @@ pub record CustodyIsShown (asks : Asks) (boxes : List BoxRow) (safes : List Safe
 
 -- of ceremonies; of the stays those of the ceremony
 pub record CeremoniesAreShown (asks : Asks) (ceremonies : List CeremonyRow) (marks : List MarkRow)
-    (steps : List StepRow) (exceptions : List ExceptionRow) (stays : List Stay) (db : Trees) : Type 0 where
+    (steps : List StepRow) (seatings : List SeatingRow) (exceptions : List ExceptionRow) (stays : List Stay)
+    (db : Trees) : Type 0 where
   pub ceremonies_are : AskedAreShown ceremony_row ceremonies_place (has_number 0) asks.ceremonies ceremonies db
   pub marks_are : AskedAreShown mark_row marks_place (has_number 0) asks.marks marks db
-  pub steps_are : AskedAreShown step_row steps_place (has_number 0) asks.steps steps db
+  pub steps_are : StepsAreShown asks.steps seatings steps db
   pub exceptions_are : AskedAreShown exception_row exceptions_place (has_number 0) asks.exceptions exceptions db
   pub stays_are : AskedAreShown stay_row stays_place is_stay_row asks.stays stays db
 
@@ -137,4 +162,4 @@ pub record NoneIsStrange (asks : Asks) (view : View) (db : Trees) : Type 0 where
   pub staff : StaffIsShown asks view.people.items view.trainings.items view.withdrawals.items view.appointments.items db
   pub custody : CustodyIsShown asks view.boxes.items view.safes.items view.bags.items view.items.items db
   pub ceremonies : CeremoniesAreShown asks view.ceremonies.items view.marks.items view.steps.items
-      view.exceptions.items view.stays.items db
+      view.seatings.items view.exceptions.items view.stays.items db

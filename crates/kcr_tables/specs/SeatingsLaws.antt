@@ -1,8 +1,8 @@
 -- What the table seatings proves of its texts, and of its place among the others.
-use Rattle.std.proofs.Common.{◌≡◌, ◌≢◌, inr, ℕ, pos, List, [], ◌∷◌, map, codes, true, refl, sym, ◌∙◌, ◌==◌}
+use Rattle.std.proofs.Common.{◌≡◌, ◌≢◌, inr, ℕ, pos, List, [], ◌∷◌, map, codes, true, refl}
 use Rattle.std.specs.Bool.{⊤}
 use Rattle.std.specs.List.{AllByRecursion}
-use Rattle.sqlite.specs.declared.types.Value.TheVariants.{Null, Int, Text}
+use Rattle.sqlite.specs.declared.types.Value.TheVariants.{Null, Text}
 use Rattle.sqlite.specs.Term.{Term}
 use Rattle.sqlite.specs.Tree.{Trees}
 use Rattle.sqlite.specs.Edit.{IsNoIndex}
@@ -11,10 +11,8 @@ use Rattle.sqlite_catalog.specs.Listing.{IsSound}
 use Rattle.sqlite_value.specs.declared.keys.Key.{Key}
 use Rattle.sqlite_tied.specs.Compute.{everything}
 use Rattle.kcr_rows.specs.Keyed.{Keeps}
-use Rattle.kcr_rows.proofs.FilterLemmas.{has_value, value_is}
 use Rattle.kcr_rows.proofs.WriteLemmas.{cast_null, cast_int}
 use Rattle.kcr_rows.proofs.TableLemmas.{keeps_still, each_is}
-use Rattle.kcr_rows.proofs.SameLemmas.{number_ties}
 use Rattle.kcr_rows.specs.Rows.{seating_row}
 use Rattle.kcr_history.specs.declared.rows.SeatingRow.{SeatingRow}
 use Rattle.kcr_tables.specs.Schema.{register_schema, seatings}
@@ -23,8 +21,8 @@ use Rattle.kcr_tables.specs.Held.{safes_place, bags_place, items_place, ceremoni
 use Rattle.kcr_tables.specs.Held.{seatings_place, sheet_place, exceptions_place, versions_place, keys_place}
 use Rattle.kcr_tables.specs.Held.{stays_place, withdrawals_place}
 use Rattle.kcr_tables.specs.Parts.{text_in, number_in}
-use Rattle.kcr_tables.specs.Statements.{shown_columns, key_order, is_given, ShowsRows, new_terms, PutsRow}
-use Rattle.kcr_tables.specs.Table.{Table, IsTable, Finding, IsFinding}
+use Rattle.kcr_tables.specs.Statements.{shown_columns, key_order, ShowsRows, new_terms, PutsRow}
+use Rattle.kcr_tables.specs.Table.{Table, IsTable}
 
 abbrev pub project : List Term
 project = shown_columns seatings_place
@@ -56,25 +54,6 @@ one x y read held h = λ i. record {
 lists : ShowsRows table.all_sql seatings_place [] (λ _. true)
 unfolding understood everything
 lists = record { test = []; project = project; order = order; names = names; bare = (refl, refl); is = refl }
-
--- ---- the rows of one ceremony
-
-abbrev pub seatings_of : Finding (ℕ) SeatingRow
-seatings_of = record { is_under = λ ceremony x. x.ceremony == ceremony; column = 0; find_sql = codes "SELECT ceremony, step, seat, who FROM seatings WHERE ceremony = ?1 ORDER BY ceremony, step, seat" }
-
-shows_seatings_of : (ceremony : ℕ)
-    → ShowsRows seatings_of.find_sql seatings_place (Int (pos ceremony) ∷ []) (has_value 0 (Int (pos ceremony)))
-unfolding understood everything
-shows_seatings_of ceremony =
-    record { test = is_given 1; project = project; order = order; names = names; bare = (refl, refl); is = refl }
-
-under_seatings_of : (ceremony : ℕ) (x : SeatingRow)
-    → has_value 0 (Int (pos ceremony)) (seating_row x) ≡ x.ceremony == ceremony
-under_seatings_of ceremony x = value_is (Int (pos x.ceremony)) (Int (pos ceremony)) refl refl
-    ∙ sym (number_ties x.ceremony ceremony)
-
-pub seatings_of_laws : IsFinding seatings_of seatings_place (λ n. Int (pos n)) seating_row
-seatings_of_laws = record { finds = shows_seatings_of; under = under_seatings_of }
 
 -- ---- a row put under its key
 

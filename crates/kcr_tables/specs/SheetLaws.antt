@@ -1,8 +1,8 @@
 -- What the table sheet proves of its texts, and of its place among the others.
-use Rattle.std.proofs.Common.{◌≡◌, ◌≢◌, inr, ℕ, pos, List, [], ◌∷◌, map, codes, true, refl, sym, ap, ◌∙◌, ◌==◌}
+use Rattle.std.proofs.Common.{◌≡◌, ◌≢◌, inr, ℕ, pos, List, [], ◌∷◌, map, codes, true, refl, ap}
 use Rattle.std.specs.Bool.{⊤}
 use Rattle.std.specs.List.{AllByRecursion}
-use Rattle.sqlite.specs.declared.types.Value.TheVariants.{Null, Int, Text}
+use Rattle.sqlite.specs.declared.types.Value.TheVariants.{Null, Text}
 use Rattle.sqlite.specs.Term.{Term}
 use Rattle.sqlite.specs.Tree.{Trees}
 use Rattle.sqlite.specs.Edit.{IsNoIndex}
@@ -11,10 +11,8 @@ use Rattle.sqlite_catalog.specs.Listing.{IsSound}
 use Rattle.sqlite_value.specs.declared.keys.Key.{Key}
 use Rattle.sqlite_tied.specs.Compute.{everything}
 use Rattle.kcr_rows.specs.Keyed.{Keeps}
-use Rattle.kcr_rows.proofs.FilterLemmas.{has_value, value_is}
 use Rattle.kcr_rows.proofs.WriteLemmas.{cast_null, cast_int}
 use Rattle.kcr_rows.proofs.TableLemmas.{keeps_still, each_is}
-use Rattle.kcr_rows.proofs.SameLemmas.{number_ties}
 use Rattle.kcr_rows.proofs.StateLemmas.{one_way}
 use Rattle.kcr_rows.specs.States.{way_number}
 use Rattle.kcr_rows.specs.Rows.{sheet_row}
@@ -25,8 +23,8 @@ use Rattle.kcr_tables.specs.Held.{safes_place, bags_place, items_place, ceremoni
 use Rattle.kcr_tables.specs.Held.{seatings_place, sheet_place, exceptions_place, versions_place, keys_place}
 use Rattle.kcr_tables.specs.Held.{stays_place, withdrawals_place}
 use Rattle.kcr_tables.specs.Parts.{text_in, number_in}
-use Rattle.kcr_tables.specs.Statements.{shown_columns, key_order, is_given, ShowsRows, new_terms, PutsRow}
-use Rattle.kcr_tables.specs.Table.{Table, IsTable, Finding, IsFinding}
+use Rattle.kcr_tables.specs.Statements.{shown_columns, key_order, ShowsRows, new_terms, PutsRow}
+use Rattle.kcr_tables.specs.Table.{Table, IsTable}
 
 abbrev pub project : List Term
 project = shown_columns sheet_place
@@ -58,24 +56,6 @@ one x y read held h = λ i. record {
 lists : ShowsRows table.all_sql sheet_place [] (λ _. true)
 unfolding understood everything
 lists = record { test = []; project = project; order = order; names = names; bare = (refl, refl); is = refl }
-
--- ---- the rows of one ceremony
-
-abbrev pub sheet_of : Finding (ℕ) SheetRow
-sheet_of = record { is_under = λ ceremony x. x.ceremony == ceremony; column = 2; find_sql = codes "SELECT who, at, ceremony, way FROM sheet WHERE ceremony = ?1 ORDER BY who, at" }
-
-shows_sheet_of : (ceremony : ℕ)
-    → ShowsRows sheet_of.find_sql sheet_place (Int (pos ceremony) ∷ []) (has_value 2 (Int (pos ceremony)))
-unfolding understood everything
-shows_sheet_of ceremony =
-    record { test = is_given 3; project = project; order = order; names = names; bare = (refl, refl); is = refl }
-
-under_sheet_of : (ceremony : ℕ) (x : SheetRow) → has_value 2 (Int (pos ceremony)) (sheet_row x) ≡ x.ceremony == ceremony
-under_sheet_of ceremony x = value_is (Int (pos x.ceremony)) (Int (pos ceremony)) refl refl
-    ∙ sym (number_ties x.ceremony ceremony)
-
-pub sheet_of_laws : IsFinding sheet_of sheet_place (λ n. Int (pos n)) sheet_row
-sheet_of_laws = record { finds = shows_sheet_of; under = under_sheet_of }
 
 -- ---- a row put under its key
 

@@ -1,7 +1,7 @@
 -- What the table steps proves of its texts, and of its place among the others.
-use Rattle.std.proofs.Common.{◌≡◌, ◌≢◌, inl, ℕ, pos, List, [], ◌∷◌, map, codes, true, refl, sym, ap, ◌∙◌}
+use Rattle.std.proofs.Common.{◌≡◌, ◌≢◌, inl, inr, ℕ, pos, List, [], ◌∷◌, map, codes, true, refl, ap}
 use Rattle.std.specs.List.{AllByRecursion}
-use Rattle.sqlite.specs.declared.types.Value.TheVariants.{Int, Text}
+use Rattle.sqlite.specs.declared.types.Value.TheVariants.{Null, Text}
 use Rattle.sqlite.specs.Order.{Row, column}
 use Rattle.sqlite.specs.Term.{Term}
 use Rattle.sqlite.specs.Tree.{Trees}
@@ -10,12 +10,10 @@ use Rattle.sqlite.specs.Listing.{understood}
 use Rattle.sqlite_catalog.specs.Listing.{IsSound}
 use Rattle.sqlite_value.specs.declared.keys.Key.{Key}
 use Rattle.sqlite_tied.specs.Compute.{everything}
-use Rattle.kcr_history.specs.Views.{is_step_of}
 use Rattle.kcr_rows.specs.Keyed.{Keeps}
-use Rattle.kcr_rows.proofs.FilterLemmas.{has_value, value_is}
-use Rattle.kcr_rows.proofs.WriteLemmas.{cast_int}
+use Rattle.kcr_rows.proofs.WriteLemmas.{cast_null, cast_int}
 use Rattle.kcr_rows.proofs.TableLemmas.{keeps_still}
-use Rattle.kcr_rows.proofs.SameLemmas.{one_number, number_ties}
+use Rattle.kcr_rows.proofs.SameLemmas.{one_number}
 use Rattle.kcr_rows.proofs.StateLemmas.{cast_or_null, one_seats, one_step_state}
 use Rattle.kcr_script.specs.Seats.{written}
 use Rattle.kcr_rows.specs.States.{step_number}
@@ -28,9 +26,9 @@ use Rattle.kcr_tables.specs.Held.{safes_place, bags_place, items_place, ceremoni
 use Rattle.kcr_tables.specs.Held.{seatings_place, sheet_place, exceptions_place, versions_place, keys_place}
 use Rattle.kcr_tables.specs.Held.{stays_place, withdrawals_place}
 use Rattle.kcr_tables.specs.Parts.{text_in, number_in}
-use Rattle.kcr_tables.specs.Statements.{shown_columns, key_order, is_given, ShowsRows, new_terms, update_test}
-use Rattle.kcr_tables.specs.Statements.{update_terms, PutsRow}
-use Rattle.kcr_tables.specs.Table.{Table, IsTable, Finding, IsFinding}
+use Rattle.kcr_tables.specs.Statements.{shown_columns, key_order, ShowsRows, new_terms, update_test, update_terms}
+use Rattle.kcr_tables.specs.Statements.{PutsRow}
+use Rattle.kcr_tables.specs.Table.{Table, IsTable}
 
 abbrev pub project : List Term
 project = shown_columns steps_place
@@ -65,26 +63,26 @@ lists : ShowsRows table.all_sql steps_place [] (λ _. true)
 unfolding understood everything
 lists = record { test = []; project = project; order = order; names = names; bare = (refl, refl); is = refl }
 
--- ---- the rows of one ceremony
-
-abbrev pub steps_of : Finding (ℕ) StepRow
-steps_of = record { is_under = λ ceremony x. is_step_of ceremony x; column = 0; find_sql = codes "SELECT ceremony, step, activity, seats, state, at FROM steps WHERE ceremony = ?1 ORDER BY ceremony, step" }
-
-shows_steps_of : (ceremony : ℕ)
-    → ShowsRows steps_of.find_sql steps_place (Int (pos ceremony) ∷ []) (has_value 0 (Int (pos ceremony)))
-unfolding understood everything
-shows_steps_of ceremony =
-    record { test = is_given 1; project = project; order = order; names = names; bare = (refl, refl); is = refl }
-
-under_steps_of : (ceremony : ℕ) (x : StepRow) → has_value 0 (Int (pos ceremony)) (step_row x) ≡ is_step_of ceremony x
-under_steps_of ceremony x = value_is (Int (pos x.ceremony)) (Int (pos ceremony)) refl refl
-    ∙ sym (number_ties x.ceremony ceremony)
-
-pub steps_of_laws : IsFinding steps_of steps_place (λ n. Int (pos n)) step_row
-steps_of_laws = record { finds = shows_steps_of; under = under_steps_of }
-
 -- ---- a row put under its key
 
+-- a new one
+abbrev new_sql : List ℕ
+new_sql = codes "INSERT INTO steps (ceremony, step, activity, seats, state, at) VALUES (?1, ?2, ?3, ?4, ?5, ?6)"
+
+pub puts_new : PutsRow new_sql steps_place step_row
+unfolding understood everything
+puts_new = inr (record {
+  at = 9;
+  table = steps;
+  terms = new_terms 6;
+  given = λ x. Null ∷ step_row x;
+  casts = λ x i. cast_null i ∷ cast_int (pos x.ceremony) i ∷ cast_int (pos x.step) i ∷ Text x.activity
+      ∷ Text (written x.seats) ∷ cast_int (pos (step_number x.state)) i ∷ cast_or_null x.at i ∷ [];
+  bare = (refl, refl);
+  is = refl;
+})
+
+-- another
 abbrev put_sql : List ℕ
 put_sql = codes "INSERT INTO steps (ceremony, step, activity, seats, state, at) VALUES (?1, ?2, ?3, ?4, ?5, ?6) ON CONFLICT (ceremony, step) DO UPDATE SET ceremony = ?1, step = ?2, activity = ?3, seats = ?4, state = ?5, at = ?6"
 

@@ -3,18 +3,18 @@
 ghost use Rattle.std.specs.Prelude.{◌≡◌, map, filter};
 ghost use Rattle.sqlite.specs.Held.{state};
 ghost use Rattle.kcr_base.specs.Same.{same_text};
-ghost use Rattle.kcr_history.specs.Views.{is_appointment_to, is_appointment_of};
+ghost use Rattle.kcr_history.specs.Views.{is_appointment_to, is_appointment_of, is_seating_of};
 ghost use Rattle.kcr_rows.specs.Greatest.{IsGreatest};
-ghost use Rattle.kcr_rows.specs.Rows.{key_row, stay_row, appointment_row};
-ghost use Rattle.kcr_tables.specs.Exact.{rows_at, rows_to, rows_of_person, has_text, IsOneOf};
-ghost use Rattle.kcr_tables.specs.Held.{keys_place, stays_place};
+ghost use Rattle.kcr_rows.specs.Rows.{key_row, stay_row, appointment_row, seating_row};
+ghost use Rattle.kcr_tables.specs.Exact.{rows_at, rows_to, rows_of_person, has_number, has_text, IsOneOf};
+ghost use Rattle.kcr_tables.specs.Held.{keys_place, stays_place, seatings_place};
 ghost use Rattle.kcr_tables.specs.Frame.{TellsOpen, Tells, TellsExactly, Reads};
 
 use kcr_base::{Initials, Place, Refusal};
-use kcr_history::KeyRow;
+use kcr_history::{KeyRow, SeatingRow};
 use kcr_people::Appointment;
 use kcr_room::Stay;
-use kcr_rows::cells::{code_cell, initials_cell};
+use kcr_rows::cells::{code_cell, initials_cell, number_cell};
 use kcr_rows::statements::rows_of;
 use sqlite::{Alter, Transaction};
 use std::alloc::Global;
@@ -105,6 +105,28 @@ pub fn last_appointment_of<S: Alter>(
         alloc,
         tx,
         "SELECT place, since, who, until FROM appointments WHERE who = ?1 ORDER BY since DESC LIMIT 1",
+        &[c0],
+    )
+}
+
+/// One row of the ceremony's last step that has a seating, alone, or none. The errors are those of `last_key_row`.
+pub fn last_seating_of<S: Alter>(
+    alloc: Global,
+    tx: &mut Transaction<'_, S>,
+    ceremony: u32,
+) -> Result<Vec<SeatingRow>, Refusal>
+    ensures same_reference { tx.new.conn.ghost_name ≡ tx.old.conn.ghost_name }
+    ensures rows { Tells (state S.Store tx.old.conn.now) (state S.Store tx.new.conn.now) result
+        (λ t all. IsGreatest (λ x. x.step) (filter (is_seating_of ceremony) t.rows.seatings) all.items) }
+    ensures exact { TellsExactly (state S.Store tx.old.conn.now) (state S.Store tx.new.conn.now) result
+        (λ db all. IsOneOf (filter (has_number 0 ceremony) (rows_at seatings_place db)) (map seating_row all.items)) }
+    ensures frame { Reads (state S.Store tx.old.conn.now) (state S.Store tx.new.conn.now) result }
+{
+    let c0 = number_cell(ceremony);
+    rows_of(
+        alloc,
+        tx,
+        "SELECT ceremony, step, seat, who FROM seatings WHERE ceremony = ?1 ORDER BY step DESC LIMIT 1",
         &[c0],
     )
 }

@@ -21,6 +21,7 @@ mod people;
 mod places;
 mod rooms;
 mod safes;
+mod script;
 mod seatings;
 mod several;
 mod sheet;

@@ -2,7 +2,7 @@
 
 ghost use Rattle.kcr_tables.specs.SeatingsLaws as laws;
 
-use crate::table::{Finds, Listed, Put, put_cells};
+use crate::table::{Listed, Put, put_cells};
 use kcr_base::Refusal;
 use kcr_history::SeatingRow;
 use kcr_rows::cells::{initials_cell, number_cell};
@@ -16,17 +16,6 @@ impl Listed for SeatingRow {
     }
 
     ghost table_laws = { laws.table_laws };
-}
-
-/// The rows of one ceremony.
-impl Finds<u32> for SeatingRow {
-    ghost finding = { laws.seatings_of };
-
-    fn find_text() -> &'static str {
-        "SELECT ceremony, step, seat, who FROM seatings WHERE ceremony = ?1 ORDER BY ceremony, step, seat"
-    }
-
-    ghost finding_laws = { laws.seatings_of_laws };
 }
 
 impl Put for SeatingRow {

@@ -2,7 +2,7 @@
 
 ghost use Rattle.kcr_tables.specs.SheetLaws as laws;
 
-use crate::table::{Finds, Listed, Put, put_cells};
+use crate::table::{Listed, Put, put_cells};
 use kcr_base::Refusal;
 use kcr_room::SheetRow;
 use kcr_rows::cells::{initials_cell, moment_cell, number_cell, way_cell};
@@ -16,17 +16,6 @@ impl Listed for SheetRow {
     }
 
     ghost table_laws = { laws.table_laws };
-}
-
-/// The rows of one ceremony.
-impl Finds<u32> for SheetRow {
-    ghost finding = { laws.sheet_of };
-
-    fn find_text() -> &'static str {
-        "SELECT who, at, ceremony, way FROM sheet WHERE ceremony = ?1 ORDER BY who, at"
-    }
-
-    ghost finding_laws = { laws.sheet_of_laws };
 }
 
 impl Put for SheetRow {

@@ -2,9 +2,9 @@
 
 ghost use Rattle.kcr_tables.specs.StepsLaws as laws;
 
-use crate::table::{Finds, Listed, PutWords, put_cells};
+use crate::table::{Listed, PutWords, put_cells};
 use kcr_base::Refusal;
-use kcr_history::StepRow;
+use kcr_history::{StepRow, StepState};
 use kcr_rows::cells::{
     line_cell, moment_or_null_cell, number_cell, seats_words, step_state_cell, text_cell,
 };
@@ -21,37 +21,36 @@ impl Listed for StepRow {
     ghost table_laws = { laws.table_laws };
 }
 
-/// The rows of one ceremony.
-impl Finds<u32> for StepRow {
-    ghost finding = { laws.steps_of };
-
-    fn find_text() -> &'static str {
-        "SELECT ceremony, step, activity, seats, state, at FROM steps WHERE ceremony = ?1 ORDER BY ceremony, step"
-    }
-
-    ghost finding_laws = { laws.steps_of_laws };
-}
-
 impl PutWords for StepRow {
-    #[tactic(auto, using(crate::specs::StepsLaws::puts))]
+    #[tactic(auto, using(crate::specs::StepsLaws::puts_new, crate::specs::StepsLaws::puts))]
     fn put_words<S: Alter>(
         &self,
         alloc: Global,
         tx: &mut Transaction<'_, S>,
     ) -> Result<(), Refusal> {
         let seats = seats_words(alloc, &self.seats)?;
-        put_cells(
-            tx,
-            self,
-            "INSERT INTO steps (ceremony, step, activity, seats, state, at) VALUES (?1, ?2, ?3, ?4, ?5, ?6) ON CONFLICT (ceremony, step) DO UPDATE SET ceremony = ?1, step = ?2, activity = ?3, seats = ?4, state = ?5, at = ?6",
-            &[
-                number_cell(self.ceremony),
-                number_cell(self.step),
-                line_cell(&self.activity),
-                text_cell(&seats),
-                step_state_cell(self.state),
-                moment_or_null_cell(self.at),
-            ],
-        )
+        let cells = [
+            number_cell(self.ceremony),
+            number_cell(self.step),
+            line_cell(&self.activity),
+            text_cell(&seats),
+            step_state_cell(self.state),
+            moment_or_null_cell(self.at),
+        ];
+        if self.state == StepState::Undone {
+            put_cells(
+                tx,
+                self,
+                "INSERT INTO steps (ceremony, step, activity, seats, state, at) VALUES (?1, ?2, ?3, ?4, ?5, ?6)",
+                &cells,
+            )
+        } else {
+            put_cells(
+                tx,
+                self,
+                "INSERT INTO steps (ceremony, step, activity, seats, state, at) VALUES (?1, ?2, ?3, ?4, ?5, ?6) ON CONFLICT (ceremony, step) DO UPDATE SET ceremony = ?1, step = ?2, activity = ?3, seats = ?4, state = ?5, at = ?6",
+                &cells,
+            )
+        }
     }
 }

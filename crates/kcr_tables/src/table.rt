@@ -113,9 +113,9 @@ pub trait Finds<K: AsCell>: Listed {
 /// A table in which the row of a value is put under its key.
 pub trait Put: Listed {
     /// Puts the row under its key, new or in the place of the row there; every other row stays. A person, a training, a
-    /// box, a seating, a row of the sheet, an exception and an accepted command are put only once. The error is
-    /// `Memory`, or else `Disk`, as where the key of one of these or the number of a command is taken. What was
-    /// committed before stays.
+    /// box, a seating, a row of the sheet, an exception and an accepted command are put only once, and a step that is
+    /// neither signed nor passed. The error is `Memory`, or else `Disk`, as where the key of one of these or the number
+    /// of a command is taken. What was committed before stays.
     fn put<S: Alter>(&self, tx: &mut Transaction<'_, S>) -> Result<(), Refusal>
         ensures same_reference { tx.new.conn.ghost_name ≡ tx.old.conn.ghost_name }
         ensures holds { Leaves (state S.Store tx.old.conn.now) (state S.Store tx.new.conn.now) result

@@ -5,7 +5,7 @@ ghost use Rattle.sqlite.specs.Held.{state};
 ghost use Rattle.sqlite.specs.State.{HasCleanDisk};
 ghost use Rattle.kcr_history.specs.Views.{IsViewOf, Shows, ShowsStays, is_of_people, is_training_of, is_withdrawal_of};
 ghost use Rattle.kcr_history.specs.Views.{ShowsAppointments, is_of_serial, is_item_of, is_of_number, is_mark_of};
-ghost use Rattle.kcr_history.specs.Views.{is_step_of, is_exception_of};
+ghost use Rattle.kcr_history.specs.Views.{ShowsSteps, is_exception_of};
 ghost use Rattle.kcr_history.specs.Tables as machine;
 ghost use Rattle.kcr_tables.specs.Asked.{asked_of, asked_all};
 ghost use Rattle.kcr_tables.specs.Exact.{StaffIsShown, CustodyIsShown, CeremoniesAreShown, NoneIsStrange};
@@ -14,11 +14,12 @@ ghost use Rattle.kcr_tables.specs.Joint.{HoldsTables};
 
 use crate::places::asked_appointments;
 use crate::rooms::asked_stays;
+use crate::script::asked_steps;
 use crate::several::{asked_items, asked_people};
 use crate::table::{asked_rows, asked_whole};
 use kcr_base::Refusal;
 use kcr_custody::{Bag, BoxRow, Item, SafeRow};
-use kcr_history::{Asks, CeremonyRow, ExceptionRow, MarkRow, StepRow, View};
+use kcr_history::{Asks, CeremonyRow, ExceptionRow, MarkRow, SeatingRow, StepRow, View};
 use kcr_people::{Appointment, Person, Training, Withdrawal};
 use kcr_room::Stay;
 use sqlite::{Alter, Transaction};
@@ -48,6 +49,7 @@ struct CeremonyRows {
     ceremonies: Vec<CeremonyRow>,
     marks: Vec<MarkRow>,
     steps: Vec<StepRow>,
+    seatings: Vec<SeatingRow>,
     exceptions: Vec<ExceptionRow>,
     stays: Vec<Stay>,
 }
@@ -127,25 +129,26 @@ fn ceremony_rows<S: Alter>(
     ensures marks { Tells (state S.Store tx.old.conn.now) (state S.Store tx.new.conn.now) result
         (λ t rows. rows.marks.items ≡ asked_of is_mark_of asks.now.marks t.rows.marks) }
     ensures steps { Tells (state S.Store tx.old.conn.now) (state S.Store tx.new.conn.now) result
-        (λ t rows. rows.steps.items ≡ asked_of is_step_of asks.now.steps t.rows.steps) }
+        (λ t rows. ShowsSteps asks.now.steps t.rows.seatings rows.seatings.items t.rows.steps rows.steps.items) }
     ensures exceptions { Tells (state S.Store tx.old.conn.now) (state S.Store tx.new.conn.now) result
         (λ t rows. rows.exceptions.items ≡ asked_of is_exception_of asks.now.exceptions t.rows.exceptions) }
     ensures stays { Tells (state S.Store tx.old.conn.now) (state S.Store tx.new.conn.now) result
         (λ t rows. ShowsStays asks.now.stays t.rows.stays rows.stays.items) }
     ensures exact { TellsExactly (state S.Store tx.old.conn.now) (state S.Store tx.new.conn.now) result
         (λ db rows. CeremoniesAreShown asks.now rows.ceremonies.items rows.marks.items rows.steps.items
-        rows.exceptions.items rows.stays.items db) }
+        rows.seatings.items rows.exceptions.items rows.stays.items db) }
     ensures frame { Reads (state S.Store tx.old.conn.now) (state S.Store tx.new.conn.now) result }
 {
     let ceremonies = asked_rows(alloc, tx, &asks.ceremonies)?;
     let marks = asked_rows(alloc, tx, &asks.marks)?;
-    let steps = asked_rows(alloc, tx, &asks.steps)?;
+    let script = asked_steps(alloc, tx, &asks.steps)?;
     let exceptions = asked_rows(alloc, tx, &asks.exceptions)?;
     let stays = asked_stays(alloc, tx, &asks.stays)?;
     Ok(CeremonyRows {
         ceremonies,
         marks,
-        steps,
+        steps: script.steps,
+        seatings: script.seatings,
         exceptions,
         stays,
     })
@@ -181,6 +184,7 @@ pub fn view_of<S: Alter>(
         ceremonies: ceremony.ceremonies,
         marks: ceremony.marks,
         steps: ceremony.steps,
+        seatings: ceremony.seatings,
         stays: ceremony.stays,
         exceptions: ceremony.exceptions,
     })

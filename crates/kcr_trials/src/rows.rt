@@ -3,7 +3,7 @@ ghost use Rattle.std.specs.Prelude.{◌≡◌};
 
 use crate::asserts::holds;
 use kcr_base::Refusal;
-use kcr_history::{Asks, KeyRow, SeatingRow, Selection};
+use kcr_history::{Asks, KeyRow, SeatingRow, Selection, StepOf};
 use kcr_room::SheetRow;
 use kcr_tables::{Version, all_rows, make, view_of};
 use sqlite::{Alter, Connection, MemStore, Transaction};
@@ -49,7 +49,7 @@ const NOT_STORED: [&str; 34] = [
     "INSERT INTO versions VALUES (-1)",
 ];
 
-/// All rows of the tables of which a command may ask for all.
+/// All rows of the tables of which a command may ask for all, and the step that the statements spoil.
 fn every_row() -> Asks {
     Asks {
         people: Selection::All,
@@ -62,7 +62,10 @@ fn every_row() -> Asks {
         items: Selection::All,
         ceremonies: Selection::All,
         marks: Selection::All,
-        steps: Selection::All,
+        steps: Some(StepOf {
+            ceremony: 1,
+            step: Some(1),
+        }),
         exceptions: Selection::All,
         stays: Selection::All,
     }

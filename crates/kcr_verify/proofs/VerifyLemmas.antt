@@ -55,7 +55,7 @@ rows_same m a view rows order same has = record {
   ceremonies = through m.ceremonies a.ceremonies view.asked.ceremonies.items same.ceremonies (has Ceremonies).same;
   marks = through m.marks a.marks view.asked.marks.items same.marks (has Marks).same;
   steps = through m.steps a.steps view.asked.steps.items same.steps (has Steps).same;
-  seatings = through m.seatings a.seatings view.seatings.items same.seatings (has Seatings).same;
+  seatings = through m.seatings a.seatings view.asked.seatings.items same.seatings (has Seatings).same;
   sheet = through m.sheet a.sheet view.sheet.items same.sheet (has Sheet).same;
   stays = through m.stays a.stays view.asked.stays.items same.stays (has Stays).same;
   exceptions = through m.exceptions a.exceptions view.asked.exceptions.items same.exceptions (has Exceptions).same;
@@ -91,7 +91,7 @@ listed_table A view v keys order Ceremonies =
     in_view ceremonies.table (tables A) view v view.asked.ceremonies.items v.same.ceremonies (λ i. (v.lists i).ceremonies)
 listed_table A view v keys order Marks = in_view marks.table (tables A) view v view.asked.marks.items v.same.marks (λ i. (v.lists i).marks)
 listed_table A view v keys order Steps = in_view steps.table (tables A) view v view.asked.steps.items v.same.steps (λ i. (v.lists i).steps)
-listed_table A view v keys order Seatings = in_view seatings.table (tables A) view v view.seatings.items v.same.seatings (λ i. (v.lists i).seatings)
+listed_table A view v keys order Seatings = in_view seatings.table (tables A) view v view.asked.seatings.items v.same.seatings (λ i. (v.lists i).seatings)
 listed_table A view v keys order Sheet = in_view sheet.table (tables A) view v view.sheet.items v.same.sheet (λ i. (v.lists i).sheet)
 listed_table A view v keys order Stays = in_view stays.table (tables A) view v view.asked.stays.items v.same.stays (λ i. (v.lists i).stays)
 listed_table A view v keys order Exceptions =

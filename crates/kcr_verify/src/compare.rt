@@ -286,7 +286,7 @@ fn has_table<S: Alter>(
         Table::Ceremonies => has_rows(register, &rows.asked.ceremonies),
         Table::Marks => has_rows(register, &rows.asked.marks),
         Table::Steps => has_rows(register, &rows.asked.steps),
-        Table::Seatings => has_rows(register, &rows.seatings),
+        Table::Seatings => has_rows(register, &rows.asked.seatings),
         Table::Sheet => has_rows(register, &rows.sheet),
         Table::Stays => has_rows(register, &rows.asked.stays),
         Table::Exceptions => has_rows(register, &rows.asked.exceptions),

@@ -8,7 +8,7 @@ use Rattle.kcr_tables.specs.Exact.{rows_at, is_stay_row, AreShown}
 use Rattle.kcr_tables.specs.Held.{stays_place}
 use Rattle.kcr_tables.proofs.ExactLemmas.{are_shown, shown_left}
 use Rattle.kcr_tables.proofs.FrameLemmas.{reads_then, reads_to, reads_fails}
-use Rattle.kcr_tables.proofs.StayLemmas.{Gathered, more_gathered, gathered_shows, apart_of}
+use Rattle.kcr_tables.proofs.StayLemmas.{Gathered, room_gathered, more_gathered, gathered_shows, apart_of}
 use Rattle.kcr_tables.proofs.rooms.stays_and_last.Goals as goal
 
 pub loop-who-init : goal.loop-who-init
@@ -16,7 +16,7 @@ loop-who-init g c =
     let e = c.in_ok-rows.ensures in record {
       same_reference = e.same_reference;
       frame = reads_to _ _ _ _ tt e.frame;
-      rows = search rules;
+      rows = λ clean t held. room_gathered c.args.asked.now.ceremony t.rows.stays c.in_ok-rows.rows.items (e.rows clean t held);
       exact = λ clean has. are_shown stay_row _ c.in_ok-rows.rows.items (e.exact clean has);
     }
 

@@ -2,9 +2,9 @@ use Rattle.std.proofs.Common.{rules}
 use Rattle.sqlite.specs.Held.{state}
 use Rattle.sqlite.specs.State.{HasCleanDisk}
 use Rattle.kcr_rows.proofs.InsideLemmas.{was_clean}
-use Rattle.kcr_rows.specs.Rows.{mark_row, step_row, exception_row, stay_row}
-use Rattle.kcr_tables.specs.Exact.{has_number, is_stay_row, AskedAreShown}
-use Rattle.kcr_tables.specs.Held.{marks_place, steps_place, exceptions_place, stays_place}
+use Rattle.kcr_rows.specs.Rows.{mark_row, exception_row, stay_row}
+use Rattle.kcr_tables.specs.Exact.{has_number, is_stay_row, AskedAreShown, StepsAreShown}
+use Rattle.kcr_tables.specs.Held.{marks_place, exceptions_place, stays_place}
 use Rattle.kcr_tables.proofs.FrameLemmas.{reads_on, fails_as, reads_then, reads_to, read_later}
 use Rattle.kcr_tables.proofs.view.ceremony_rows.Goals as goal
 
@@ -14,18 +14,18 @@ returns-in_err-ceremonies-clause-frame g c = fails_as c.from_residual.ensures.1 
 pub returns-in_err-marks-clause-frame : goal.returns-in_err-marks-clause-frame
 returns-in_err-marks-clause-frame g c = reads_on c.in_ok-ceremonies.ensures.frame (fails_as c.from_residual-in_err-marks.ensures.1 c.in_err-marks.ensures.frame)
 
-pub returns-in_err-steps-clause-frame : goal.returns-in_err-steps-clause-frame
-returns-in_err-steps-clause-frame g c = reads_on (reads_on c.in_ok-ceremonies.ensures.frame c.in_ok-marks.ensures.frame)
-    (fails_as c.from_residual-in_err-steps.ensures.1 c.in_err-steps.ensures.frame)
+pub returns-in_err-script-clause-frame : goal.returns-in_err-script-clause-frame
+returns-in_err-script-clause-frame g c = reads_on (reads_on c.in_ok-ceremonies.ensures.frame c.in_ok-marks.ensures.frame)
+    (fails_as c.from_residual-in_err-script.ensures.1 c.in_err-script.ensures.frame)
 
 pub returns-in_err-exceptions-clause-frame : goal.returns-in_err-exceptions-clause-frame
 returns-in_err-exceptions-clause-frame g c = reads_on
-    (reads_on (reads_on c.in_ok-ceremonies.ensures.frame c.in_ok-marks.ensures.frame) c.in_ok-steps.ensures.frame)
+    (reads_on (reads_on c.in_ok-ceremonies.ensures.frame c.in_ok-marks.ensures.frame) c.in_ok-script.ensures.frame)
     (fails_as c.from_residual-in_err-exceptions.ensures.1 c.in_err-exceptions.ensures.frame)
 
 pub returns-in_err-stays-clause-frame : goal.returns-in_err-stays-clause-frame
 returns-in_err-stays-clause-frame g c = reads_on
-    (reads_on (reads_on (reads_on c.in_ok-ceremonies.ensures.frame c.in_ok-marks.ensures.frame) c.in_ok-steps.ensures.frame) c.in_ok-exceptions.ensures.frame)
+    (reads_on (reads_on (reads_on c.in_ok-ceremonies.ensures.frame c.in_ok-marks.ensures.frame) c.in_ok-script.ensures.frame) c.in_ok-exceptions.ensures.frame)
     (fails_as c.from_residual-in_err-stays.ensures.1 c.in_err-stays.ensures.frame)
 
 pub returns : goal.returns
@@ -33,21 +33,21 @@ returns g c =
     let old = state g.S.Store c.args.tx.now.conn.now in
     let s0 = state g.S.Store c.asked_rows.new.tx.conn.now in
     let s1 = state g.S.Store c.asked_rows-2.new.tx.conn.now in
-    let s2 = state g.S.Store c.asked_rows-3.new.tx.conn.now in
-    let s3 = state g.S.Store c.asked_rows-4.new.tx.conn.now in
+    let s2 = state g.S.Store c.asked_steps.new.tx.conn.now in
+    let s3 = state g.S.Store c.asked_rows-3.new.tx.conn.now in
     let s4 = state g.S.Store c.asked_stays.new.tx.conn.now in
     let to0 = c.in_ok-ceremonies.ensures.frame in
     let to1 = reads_then old s0 s1 _ _ to0 c.in_ok-marks.ensures.frame in
-    let to2 = reads_then old s1 s2 _ _ to1 c.in_ok-steps.ensures.frame in
+    let to2 = reads_then old s1 s2 _ _ to1 c.in_ok-script.ensures.frame in
     let to3 = reads_then old s2 s3 _ _ to2 c.in_ok-exceptions.ensures.frame in
     let clean3 : HasCleanDisk s4 → HasCleanDisk s3 = λ clean. was_clean s3 s4 _ c.in_ok-stays.ensures.frame.within.survives clean in
     let clean2 : HasCleanDisk s4 → HasCleanDisk s2 = λ clean. was_clean s2 s3 _ c.in_ok-exceptions.ensures.frame.within.survives (clean3 clean) in
-    let clean1 : HasCleanDisk s4 → HasCleanDisk s1 = λ clean. was_clean s1 s2 _ c.in_ok-steps.ensures.frame.within.survives (clean2 clean) in
+    let clean1 : HasCleanDisk s4 → HasCleanDisk s1 = λ clean. was_clean s1 s2 _ c.in_ok-script.ensures.frame.within.survives (clean2 clean) in
     let clean0 : HasCleanDisk s4 → HasCleanDisk s0 = λ clean. was_clean s0 s1 _ c.in_ok-marks.ensures.frame.within.survives (clean1 clean) in record {
       same_reference = search rules;
       ceremonies = λ clean t held. c.in_ok-ceremonies.ensures.rows (clean0 clean) t held;
       marks = λ clean t held. c.in_ok-marks.ensures.rows (clean1 clean) t (to0.holds (clean0 clean) t held);
-      steps = λ clean t held. c.in_ok-steps.ensures.rows (clean2 clean) t (to1.holds (clean1 clean) t held);
+      steps = λ clean t held. c.in_ok-script.ensures.rows (clean2 clean) t (to1.holds (clean1 clean) t held);
       exceptions = λ clean t held. c.in_ok-exceptions.ensures.rows (clean3 clean) t (to2.holds (clean2 clean) t held);
       stays = λ clean t held. c.in_ok-stays.ensures.rows clean t (to3.holds (clean3 clean) t held);
       exact = λ clean has.
@@ -55,8 +55,8 @@ returns g c =
             ceremonies_are = c.in_ok-ceremonies.ensures.exact (clean0 clean) has;
             marks_are = read_later (AskedAreShown mark_row marks_place (has_number 0) asks.marks c.in_ok-marks.marks.items) old s0 _ to0 (clean0 clean) has
                 (c.in_ok-marks.ensures.exact (clean1 clean));
-            steps_are = read_later (AskedAreShown step_row steps_place (has_number 0) asks.steps c.in_ok-steps.steps.items) old s1 _ to1 (clean1 clean) has
-                (c.in_ok-steps.ensures.exact (clean2 clean));
+            steps_are = read_later (StepsAreShown asks.steps c.in_ok-script.script.seatings.items c.in_ok-script.script.steps.items) old s1 _ to1
+                (clean1 clean) has (c.in_ok-script.ensures.exact (clean2 clean));
             exceptions_are = read_later
                 (AskedAreShown exception_row exceptions_place (has_number 0) asks.exceptions c.in_ok-exceptions.exceptions.items) old s2 _ to2
                 (clean2 clean) has (c.in_ok-exceptions.ensures.exact (clean3 clean));

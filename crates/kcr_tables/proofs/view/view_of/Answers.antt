@@ -2,12 +2,13 @@ use Rattle.std.proofs.Common.{rules}
 use Rattle.sqlite.specs.Held.{state}
 use Rattle.sqlite.specs.State.{HasCleanDisk}
 use Rattle.kcr_history.specs.Views.{is_of_people, is_training_of, is_withdrawal_of, is_of_serial, is_item_of, is_of_number, is_mark_of}
-use Rattle.kcr_history.specs.Views.{is_step_of, is_exception_of}
+use Rattle.kcr_history.specs.Views.{is_exception_of}
 use Rattle.kcr_rows.proofs.InsideLemmas.{was_clean}
 use Rattle.kcr_tables.specs.Exact.{CustodyIsShown, CeremoniesAreShown}
 use Rattle.kcr_tables.proofs.AppointmentLemmas.{appointments_shown}
 use Rattle.kcr_tables.proofs.FrameLemmas.{reads_on, fails_as, reads_then, reads_to, read_later}
 use Rattle.kcr_tables.proofs.HoldLemmas.{held_of}
+use Rattle.kcr_tables.proofs.ScriptLemmas.{steps_on}
 use Rattle.kcr_tables.proofs.StayLemmas.{stays_shown, apart_of}
 use Rattle.kcr_tables.proofs.ViewLemmas.{shows_on, asked_shows, all_shows}
 use Rattle.kcr_tables.proofs.view.view_of.Goals as goal
@@ -55,7 +56,7 @@ returns g c =
             items = shows_on is_item_of asks.items m.items t.rows.items _ s.items (custody.items (clean2 clean) t held2);
             ceremonies = asked_shows is_of_number asks.ceremonies m.ceremonies t.rows.ceremonies _ s.ceremonies (ceremony.ceremonies clean t held3);
             marks = asked_shows is_mark_of asks.marks m.marks t.rows.marks _ s.marks (ceremony.marks clean t held3);
-            steps = asked_shows is_step_of asks.steps m.steps t.rows.steps _ s.steps (ceremony.steps clean t held3);
+            steps = steps_on asks.steps m.seatings t.rows.seatings _ m.steps t.rows.steps _ s.seatings s.steps (ceremony.steps clean t held3);
             exceptions = asked_shows is_exception_of asks.exceptions m.exceptions t.rows.exceptions _ s.exceptions (ceremony.exceptions clean t held3);
             stays = stays_shown asks.stays m.stays t.rows.stays _ (apart_of t.rows.stays h.tables.kept.stays.rising) s.stays (ceremony.stays clean t held3);
           };
@@ -67,7 +68,8 @@ returns g c =
                 c.in_ok-custody.custody.items.items) old s1 _ to1 (clean1 clean) has (c.in_ok-custody.ensures.exact (clean2 clean));
             ceremonies = read_later
                 (CeremoniesAreShown asks c.in_ok-ceremony.ceremony.ceremonies.items c.in_ok-ceremony.ceremony.marks.items c.in_ok-ceremony.ceremony.steps.items
-                c.in_ok-ceremony.ceremony.exceptions.items c.in_ok-ceremony.ceremony.stays.items) old s2 _ to2 (clean2 clean) has
+                c.in_ok-ceremony.ceremony.seatings.items c.in_ok-ceremony.ceremony.exceptions.items c.in_ok-ceremony.ceremony.stays.items) old s2 _ to2
+                (clean2 clean) has
                 (c.in_ok-ceremony.ensures.exact clean);
           };
       frame = reads_to old s3 _ _ tt (reads_then old s2 s3 _ _ to2 c.in_ok-ceremony.ensures.frame);
