@@ -5,7 +5,7 @@ use Rattle.std.specs.Prelude.{AllPairs, IsTrue, slice_get, MatchResult}
 use Rattle.std.specs.Option.{ok_or}
 use Rattle.std.specs.List.{list_any, find}
 use Rattle.std.specs.List.Sorted.{IsPermutation}
-use Rattle.std.proofs.lemmas.List.Sorted.{IsPermutation-map, list_any-IsPermutation}
+use Rattle.std.proofs.lemmas.List.Sorted.{IsPermutation-map, IsPermutation-trans, list_any-IsPermutation}
 use Rattle.sqlite_trees.proofs.ListLemmas.{ascending-filter, ascending-map}
 use Rattle.sqlite_keyed.proofs.ListLemmas.{slice_get-filter}
 use Rattle.kcr_base.specs.Same.{is_before}
@@ -32,6 +32,7 @@ use Rattle.kcr_laws.proofs.Staffed.{holder-all}
 use Rattle.kcr_machine.proofs.InRoom.{present-shown}
 use Rattle.kcr_machine.proofs.Scenes.{ceremony-shown}
 use Rattle.kcr_tables.proofs.JointLemmas.{Rises}
+use Rattle.kcr_tables.proofs.NamedLemmas.{twice}
 use Rattle.kcr_tables.proofs.ViewLemmas.{asked_shows}
 use Rattle.kcr_history.specs.declared.questions.BagShown.{BagShown}
 use Rattle.kcr_history.specs.Questions.{holders_by, holders_on, IsBagShown}
@@ -103,7 +104,11 @@ module _ (A : History) (register : IsRegister A) (t : Tables) (same : SameTables
       says false e = subst Says (sym (first ∙ rw e at (ceremony-shown A ceremony t.ceremonies ordered))) (inr (e, refl))
 
   -- who is in the room
-  pub present_shown : (ceremony at : ℕ) (rows : List Stay) → rows ≡ filter (is_stay_of ceremony) t.stays
+  pub present_shown : (ceremony at : ℕ) (rows : List Stay) → IsPermutation (filter (is_stay_of ceremony) t.stays) rows
       → present_in_by rows ceremony at ≡ present A ceremony at
-  present_shown ceremony at rows is =
-      present-shown A ceremony rows (asked_shows is_stay_of (Under ceremony) (reverse (stays_by (sheet A))) t.stays rows same.stays is) at
+  present_shown ceremony at rows are =
+      let of_it = is_stay_of ceremony in
+      let stored = filter-order of_it (reverse (stays_by (sheet A))) t.stays same.stays in
+      let kept : IsPermutation (filter of_it t.stays) (filter of_it rows) =
+      subst (λ l. IsPermutation l (filter of_it rows)) (twice of_it t.stays) (filter-order of_it (filter of_it t.stays) rows are) in
+      present-shown A ceremony rows (IsPermutation-trans _ _ _ stored kept) at

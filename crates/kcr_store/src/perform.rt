@@ -30,8 +30,8 @@ use kcr_history::{
 use kcr_machine::{decide, repeat};
 use kcr_people::{Appointment, Person, Training, Withdrawal};
 use kcr_reading::Reading;
-use kcr_room::{Stay, present_in};
-use kcr_tables::{all_rows, make_changes, rows_under, view_of};
+use kcr_room::present_in;
+use kcr_tables::{all_rows, make_changes, rows_under, stays_of, view_of};
 use sqlite::{Alter, Connection, Error, ErrorCode, Transaction};
 use std::alloc::Global;
 
@@ -303,7 +303,7 @@ fn read_room<S: Alter>(
             thing: Thing::Ceremony(number),
         });
     }
-    let stays = rows_under::<_, u32, Stay>(alloc, tx, &number)?;
+    let stays = stays_of(alloc, tx, number)?;
     let people = present_in(alloc, &stays, number, at)?;
     Ok(RoomShown { at, people })
 }

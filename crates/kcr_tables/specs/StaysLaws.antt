@@ -1,8 +1,8 @@
 -- What the table stays proves of its texts, and of its place among the others.
-use Rattle.std.proofs.Common.{◌≡◌, ◌≢◌, inl, ℕ, pos, List, [], ◌∷◌, map, codes, true, refl, sym, ap, ◌∙◌}
+use Rattle.std.proofs.Common.{◌≡◌, ◌≢◌, inl, ℕ, pos, List, [], ◌∷◌, map, codes, true, refl, ap}
 use Rattle.std.specs.Bool.{⊤}
 use Rattle.std.specs.List.{AllByRecursion}
-use Rattle.sqlite.specs.declared.types.Value.TheVariants.{Int, Text}
+use Rattle.sqlite.specs.declared.types.Value.TheVariants.{Text}
 use Rattle.sqlite.specs.Order.{Row, column}
 use Rattle.sqlite.specs.Term.{Term}
 use Rattle.sqlite.specs.Tree.{Trees}
@@ -11,12 +11,10 @@ use Rattle.sqlite.specs.Listing.{understood}
 use Rattle.sqlite_catalog.specs.Listing.{IsSound}
 use Rattle.sqlite_value.specs.declared.keys.Key.{Key}
 use Rattle.sqlite_tied.specs.Compute.{everything}
-use Rattle.kcr_history.specs.Views.{is_stay_of}
 use Rattle.kcr_rows.specs.Keyed.{Keeps}
-use Rattle.kcr_rows.proofs.FilterLemmas.{has_value, value_is}
 use Rattle.kcr_rows.proofs.WriteLemmas.{cast_int}
 use Rattle.kcr_rows.proofs.TableLemmas.{keeps_still, each_is}
-use Rattle.kcr_rows.proofs.SameLemmas.{one_number, number_ties}
+use Rattle.kcr_rows.proofs.SameLemmas.{one_number}
 use Rattle.kcr_rows.proofs.StateLemmas.{cast_or_null}
 use Rattle.kcr_rows.specs.Rows.{stay_row}
 use Rattle.kcr_room.specs.declared.Stay.{Stay}
@@ -26,9 +24,9 @@ use Rattle.kcr_tables.specs.Held.{safes_place, bags_place, items_place, ceremoni
 use Rattle.kcr_tables.specs.Held.{seatings_place, sheet_place, exceptions_place, versions_place, keys_place}
 use Rattle.kcr_tables.specs.Held.{stays_place, withdrawals_place}
 use Rattle.kcr_tables.specs.Parts.{text_in, number_in}
-use Rattle.kcr_tables.specs.Statements.{shown_columns, key_order, is_given, ShowsRows, new_terms, update_test}
-use Rattle.kcr_tables.specs.Statements.{update_terms, PutsRow}
-use Rattle.kcr_tables.specs.Table.{Table, IsTable, Finding, IsFinding}
+use Rattle.kcr_tables.specs.Statements.{shown_columns, key_order, ShowsRows, new_terms, update_test, update_terms}
+use Rattle.kcr_tables.specs.Statements.{PutsRow}
+use Rattle.kcr_tables.specs.Table.{Table, IsTable}
 
 abbrev pub project : List Term
 project = shown_columns stays_place
@@ -60,24 +58,6 @@ one x y read held h = λ i. record {
 lists : ShowsRows table.all_sql stays_place [] (λ _. true)
 unfolding understood everything
 lists = record { test = []; project = project; order = order; names = names; bare = (refl, refl); is = refl }
-
--- ---- the rows of one ceremony
-
-abbrev pub stays_of : Finding (ℕ) Stay
-stays_of = record { is_under = λ ceremony x. is_stay_of ceremony x; column = 2; find_sql = codes "SELECT who, since, ceremony, until FROM stays WHERE ceremony = ?1 ORDER BY who, since" }
-
-shows_stays_of : (ceremony : ℕ)
-    → ShowsRows stays_of.find_sql stays_place (Int (pos ceremony) ∷ []) (has_value 2 (Int (pos ceremony)))
-unfolding understood everything
-shows_stays_of ceremony =
-    record { test = is_given 3; project = project; order = order; names = names; bare = (refl, refl); is = refl }
-
-under_stays_of : (ceremony : ℕ) (x : Stay) → has_value 2 (Int (pos ceremony)) (stay_row x) ≡ is_stay_of ceremony x
-under_stays_of ceremony x = value_is (Int (pos x.ceremony)) (Int (pos ceremony)) refl refl
-    ∙ sym (number_ties x.ceremony ceremony)
-
-pub stays_of_laws : IsFinding stays_of stays_place (λ n. Int (pos n)) stay_row
-stays_of_laws = record { finds = shows_stays_of; under = under_stays_of }
 
 -- ---- a row put under its key
 

@@ -24,7 +24,7 @@ use std::alloc::Global;
 /// The stays of the ceremony, in the order in which they began, which is that of an index. Nothing is changed. The
 /// error is `Memory` when out of memory, and else `Disk`: the device failed, or a row of the ceremony is one that no
 /// register stores.
-fn stays_of<S: Alter>(
+pub fn stays_of<S: Alter>(
     alloc: Global,
     tx: &mut Transaction<'_, S>,
     ceremony: u32,

@@ -2,7 +2,7 @@
 
 ghost use Rattle.kcr_tables.specs.StaysLaws as laws;
 
-use crate::table::{Finds, Listed, Put, put_cells};
+use crate::table::{Listed, Put, put_cells};
 use kcr_base::Refusal;
 use kcr_room::Stay;
 use kcr_rows::cells::{initials_cell, moment_cell, moment_or_null_cell, number_cell};
@@ -16,17 +16,6 @@ impl Listed for Stay {
     }
 
     ghost table_laws = { laws.table_laws };
-}
-
-/// The rows of one ceremony.
-impl Finds<u32> for Stay {
-    ghost finding = { laws.stays_of };
-
-    fn find_text() -> &'static str {
-        "SELECT who, since, ceremony, until FROM stays WHERE ceremony = ?1 ORDER BY who, since"
-    }
-
-    ghost finding_laws = { laws.stays_of_laws };
 }
 
 impl Put for Stay {
