@@ -547,7 +547,7 @@ def texts_fit(_):
     all rows are read whole by an opening, an audit or a verification alone."""
     whole = re.compile(rf"SELECT [^?]* FROM ({'|'.join(NEVER_WHOLE)}) ORDER BY [^?]*(?<!LIMIT 1)$|INSERT INTO versions")
     texts = {text for crate in ("kcr_tables", "kcr_reading") for file in (ROOT / "crates" / crate / "src").glob("*.rt")
-             for text in re.findall(r'"((?:SELECT|INSERT) (?:\\"|[^"])*)"', file.read_text(encoding="utf-8"))
+             for text in re.findall(r'"((?:SELECT|INSERT|UPDATE) (?:\\"|[^"])*)"', file.read_text(encoding="utf-8"))
              if not whole.match(text)}
     told = re.search(r"(\d+) SQL texts", text_of("docs/COST.md"))
     expect("the number of texts", int(told[1]), len(texts))

@@ -98,8 +98,8 @@ class Reading:
 
 
 class Table:
-    def __init__(self, name, row, type_, crate, module, columns, keys, doc, change=None, same=None, turned=False, others=(), readings=(), alias=None, always_new=False, new_where=None,
-                 is_read=None, is_stored=None, stored_fact=None):
+    def __init__(self, name, row, type_, crate, module, columns, keys, doc, change=None, same=None, turned=False, others=(), readings=(), alias=None, always_new=False,
+                 mostly_there=False, new_where=None, is_read=None, is_stored=None, stored_fact=None):
         self.name, self.row, self.type = name, row, type_
         self.crate = crate
         self.declared = f"Rattle.{crate}.specs.declared.{module}{type_}.{{{type_}}}"
@@ -108,7 +108,9 @@ class Table:
         self.others, self.readings = others, readings
         self.alias = alias  # the column that is the row id: such a table has a key of one column
         self.always_new = always_new  # a row that is put has a key that no row had: it is entered, and never changed
-        self.new_where = new_where  # else, of which rows that is so; another is put in the place of the row there
+        self.mostly_there = mostly_there  # mostly a row has the key already: an UPDATE changes it, and an INSERT enters the new one where there was none
+        self.new_where = new_where  # of such a table, which rows have a key that no row had: an INSERT alone enters these
+        self.is_entered = always_new or mostly_there  # the INSERT that puts a row is a plain one; else it is an upsert
         self.is_read, self.is_stored, self.stored_fact = is_read, is_stored, stored_fact
         self.row_of = f"{row}_row"
         self.place = f"{name}_place"
@@ -130,11 +132,17 @@ class Table:
         order = f"{reading.greatest} DESC LIMIT 1" if reading.greatest else self.order()
         return f"SELECT {self.names()} FROM {self.name}{where} ORDER BY {order}"
 
-    def put_text(self, is_new):
+    def put_text(self):
         marks = ", ".join(f"?{i + 1}" for i in range(len(self.columns)))
-        sets = ", ".join(f"{c.sql} = ?{i + 1}" for i, c in enumerate(self.columns))
-        over = "" if is_new else f" ON CONFLICT ({self.order()}) DO UPDATE SET {sets}"
+        over = "" if self.is_entered else f" ON CONFLICT ({self.order()}) DO UPDATE SET {self.sets(self.columns, ', ')}"
         return f"INSERT INTO {self.name} ({self.names()}) VALUES ({marks}){over}"
+
+    def update_text(self):
+        return f"UPDATE {self.name} SET {self.sets(self.columns, ', ')} WHERE {self.sets(self.columns[: self.keys], ' AND ')}"
+
+    def sets(self, columns, between):
+        """These columns, the first of the table, with the parameters that they get or are asked for."""
+        return between.join(f"{c.sql} = ?{i + 1}" for i, c in enumerate(columns))
 
     def create_text(self):
         if self.alias:
@@ -212,10 +220,10 @@ TABLES = [
           "a ceremony under its number", "PutCeremony", "same_ceremony",
           readings=[Reading("ceremony_of", "The row of the ceremony with this number, alone, or none", "number", "number", "u32", NUMBER, "{x}.number == {v}", ask="is_of_number {v}")]),
     Table("marks", "mark", "MarkRow", "kcr_history", "rows.", [Column("ceremony", NUMBER), Column("at", MOMENT)], 1,
-          "the mark of a ceremony that was opened, under its number", "PutMark", "same_mark",
+          "the mark of a ceremony that was opened, under its number", "PutMark", "same_mark", mostly_there=True,
           readings=[Reading("mark_of", "The row of the ceremony, alone, or none", "ceremony", "ceremony", "u32", NUMBER, "{x}.ceremony == {v}", ask="is_mark_of {v}")]),
     Table("steps", "step", "StepRow", "kcr_history", "rows.", [Column("ceremony", NUMBER), Column("step", NUMBER), Column("activity", LINE), Column("seats", SEATS), Column("state", STEP_STATE), Column("at", MOMENT_OR_NULL)], 2,
-          "a step of a ceremony under both numbers", "PutStep", "same_step", new_where="self.state == StepState::Undone",
+          "a step of a ceremony under both numbers", "PutStep", "same_step", mostly_there=True, new_where="self.state == StepState::Undone",
           is_read="HasOnlyTheseSeats", is_stored="HasSeatsText", stored_fact="seats"),
     Table("seatings", "seating", "SeatingRow", "kcr_history", "rows.", [Column("ceremony", NUMBER), Column("step", NUMBER), Column("seat", NUMBER), Column("who", INITIALS)], 3,
           "who filled a seat of a step, under the ceremony, the step and the seat", "PutSeating", "same_seating", always_new=True,

@@ -65,6 +65,27 @@ not_any p (y ∷ xs) x none (inr more) = not_any p xs x (or_parts _ _ none).1 mo
 alone : (a b : Bool) → (a && b) ≡ false → b ≡ true → a ≡ false
 alone a b none h = grind arith
 
+-- an entry agrees with one of these values on the columns of the key where it has their key
+module _ (place : Place) (entry values : Row)
+    (compares : (a b : Row) → by_key place.keys (cells place a) (cells place b) ≡ key_cmp 1 (rising place.keys []) a b)
+    (fulls : (a : Row) → is_full place.keys (cells place a) ≡ full 1 place.keys a)
+    (shown : cells place entry ≡ values) where
+  pub agrees : (r : Row) → is_full place.keys (cells place r) ≡ true → is_full place.keys values ≡ true
+      → agree plain (places_from 1 place.keys) r (places_from 1 place.keys) entry ≡ is_eq (by_key place.keys (cells place r) values)
+  agrees r whole filled =
+      let new_full : full 1 place.keys entry ≡ true = sym (fulls entry) ∙ ap (is_full place.keys) shown ∙ filled in
+      agree_is place.keys 1 r entry (sym (fulls r) ∙ whole) new_full
+      ∙ ap is_eq (sym (compares r entry)) ∙ ap (λ v. is_eq (by_key place.keys (cells place r) v)) shown
+
+-- the row has, from this column on, the same values in so many columns
+abbrev pub same_from : ℕ → ℕ → Row → Row → Bool
+same_from at zero row values = true
+same_from at (suc count) row values = equal Binary (column row at) (column values at) && same_from (suc at) count row values
+
+pub same_is : (count at : ℕ) (a b : Row) → same_from at count a b ≡ agree plain (places_from at count) a (places_from at count) b
+same_is zero at a b = refl
+same_is (suc count) at a b = rw first_key-plain (ap (λ more. equal Binary (column a at) (column b at) && more) (same_is count (suc at) a b))
+
 -- a row that does not clash with the new one has another key
 module _ (place : Place) (entries : List Row) (entry : Row) (id : ℤ) (values : Row)
     (compares : (a b : Row) → by_key place.keys (cells place a) (cells place b) ≡ key_cmp 1 (rising place.keys []) a b)
@@ -82,19 +103,12 @@ module _ (place : Place) (entries : List Row) (entry : Row) (id : ℤ) (values :
   apart : (r : Row) → Has entries r → is_eq (value_cmp (rowid r) (rowid entry)) ≡ false
   apart r h = not_any (λ x. is_eq (value_cmp (rowid x) (rowid entry))) entries r free h
 
-  -- an entry agrees with it on the columns of the key where it has the key
-  agrees : (r : Row) → is_full place.keys (cells place r) ≡ true → is_full place.keys values ≡ true
-      → agree plain target r target entry ≡ is_eq (by_key place.keys (cells place r) values)
-  agrees r whole filled =
-      let new_full : full 1 place.keys entry ≡ true = sym (fulls entry) ∙ ap (is_full place.keys) shown ∙ filled in
-      agree_is place.keys 1 r entry (sym (fulls r) ∙ whole) new_full
-      ∙ ap is_eq (sym (compares r entry)) ∙ ap (λ v. is_eq (by_key place.keys (cells place r) v)) shown
-
   pub fresh_key : (r : Row) → Has entries r → rowid r ≡ Int (id_in (rowid r)) → is_full place.keys (cells place r) ≡ true → is_full place.keys values ≡ true
       → (agree plain target r target entry && differ (rowid r) (rowid entry)) ≡ false
       → is_eq (by_key place.keys (cells place r) values) ≡ false
   fresh_key r h own whole filled none =
-      sym (agrees r whole filled) ∙ alone _ _ none (differ_is (rowid r) (rowid entry) (ap is_null own) there_is ∙ ap not (apart r h))
+      sym (agrees place entry values compares fulls shown r whole filled)
+      ∙ alone _ _ none (differ_is (rowid r) (rowid entry) (ap is_null own) there_is ∙ ap not (apart r h))
 
   -- a row conflicts with it at the key where it has the key
   pub meets_key : (indexes : List Index) (table : Table)
@@ -104,7 +118,7 @@ module _ (place : Place) (entries : List Row) (entry : Row) (id : ℤ) (values :
   meets_key indexes table shared r h own whole filled =
       let rowids : agree plain (0 ∷ []) r (0 ∷ []) entry ≡ false =
       rw (first_key-plain, equal_is (rowid r) (rowid entry) (ap is_null own) there_is, apart r h) in
-      ap₂ ◌||◌ (and_right (aims (Some target) (0 ∷ [])) _ rowids) (shared entry r ∙ or_false _ ∙ agrees r whole filled)
+      ap₂ ◌||◌ (and_right (aims (Some target) (0 ∷ [])) _ rowids) (shared entry r ∙ or_false _ ∙ agrees place entry values compares fulls shown r whole filled)
     where
       or_false : (b : Bool) → (b || false) ≡ b
       or_false b = grind arith

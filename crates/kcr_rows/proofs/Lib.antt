@@ -13,3 +13,5 @@ pub mod CreateLemmas
 pub mod UpsertLemmas
 pub mod StateLemmas
 pub mod FrameLemmas
+pub mod OverLemmas
+pub mod UpdateLemmas

@@ -1,29 +1,25 @@
 -- What INSERT .. ON CONFLICT (key) DO UPDATE, which sets each column, does to a table with a key.
-use Rattle.std.proofs.Common.{◌≡◌, ◌≢◌, inl, inr, ℕ, ℤ, negsuc, suc, ◌/◌, ◌≤◌, ◌^◌, nat_le, ◌&&◌, ◌||◌, not, Bool, true, false, cond, List, [], ◌∷◌, ◌++◌, map}
-use Rattle.std.proofs.Common.{filter, length, slice_get, Option, Some, None, Ok, Ordering, Less, Equal, refl, sym, ap, subst, ◌∙◌, arith}
+use Rattle.std.proofs.Common.{◌≡◌, ◌≢◌, inl, inr, ℕ, ℤ, suc, ◌/◌, ◌^◌, nat_le, ◌&&◌, ◌||◌, not, Bool, true, false, List, [], ◌∷◌, ◌++◌}
+use Rattle.std.proofs.Common.{length, slice_get, Option, Some, None, Ok, refl, sym, ap, subst, ◌∙◌, arith}
 use Rattle.std.specs.List.{list_any, list_all}
-use Rattle.std.specs.Ordering.{is_eq, ordering_reverse}
-use Rattle.std.specs.Cmp.{both_ways}
+use Rattle.std.specs.Ordering.{is_eq}
 use Rattle.std.proofs.lemmas.Bool.{and_parts, not-true, false_from_ne_true}
-use Rattle.std.specs.List.Sorted.{IsPermutation}
-use Rattle.std.proofs.lemmas.List.Sorted.{length_permutation}
-use Rattle.std.proofs.lemmas.List.{length-map}
 use Rattle.std.proofs.lemmas.Cmp.{tied_itself}
 use Rattle.sqlite.specs.declared.types.Value.TheVariants.{Null, Int}
-use Rattle.sqlite.specs.Order.{Row, value_cmp}
+use Rattle.sqlite.specs.Order.{Row}
 use Rattle.sqlite.specs.Ops.{is_null}
 use Rattle.sqlite.specs.Term.{Term, eval_all, holds}
-use Rattle.sqlite.specs.Query.{Query, Output, output, IsAnswer, key_cmp}
+use Rattle.sqlite.specs.Query.{IsAnswer, key_cmp}
 use Rattle.sqlite.specs.Program.{overlay}
 use Rattle.sqlite.specs.Cast.{cast_all, cast_row}
-use Rattle.sqlite.specs.Tree.{Trees, IsAscending, IsTable, rowid, has_rowid, put_row, without_rowid}
+use Rattle.sqlite.specs.Tree.{Trees, rowid, put_row}
 use Rattle.sqlite.specs.Table.{Table}
 use Rattle.sqlite.specs.Schema.{Schema}
 use Rattle.sqlite.specs.Source.TheVariants.{Values}
 use Rattle.sqlite.specs.Command.TheVariants.{InsertOr}
-use Rattle.sqlite.specs.Edit.{Edit, id_in, edit_of, left_by, edited, with_rowid, next_rowid, is_taken, are_fresh, IsNoIndex, taken_by}
+use Rattle.sqlite.specs.Edit.{edit_of, left_by, edited, with_rowid, next_rowid, is_taken, are_fresh, IsNoIndex, taken_by}
 use Rattle.sqlite.specs.Rowids.TheVariants.{Chosen, Given}
-use Rattle.sqlite_trees.proofs.ListLemmas.{filter-map, filter_all, filter_none, filter_same, IsPermutation-filter}
+use Rattle.sqlite_trees.proofs.ListLemmas.{filter_all}
 use Rattle.sqlite_schema.specs.Rules.{equal, agree}
 use Rattle.sqlite_schema.specs.declared.schema.Keys.TheVariants.{Enforced}
 use Rattle.sqlite_schema.specs.declared.command.Conflict.TheVariants.{Abort}
@@ -34,10 +30,8 @@ use Rattle.sqlite.specs.Collation.TheVariants.{Binary}
 use Rattle.sqlite_rules.specs.declared.error.Refusal.{Refusal}
 use Rattle.sqlite_rules.specs.Lists.{Has}
 use Rattle.sqlite_rules.specs.Keys.{AreConflicts, conflicts, shares}
-use Rattle.sqlite_rules.specs.Edit.{put_all}
-use Rattle.sqlite_rules.specs.Calls.{ids_of}
 use Rattle.sqlite_rules.specs.Action.{works}
-use Rattle.sqlite_rules.proofs.ListLemmas.{all_has, all_from, has_kept}
+use Rattle.sqlite_rules.proofs.ListLemmas.{all_from}
 use Rattle.sqlite_rules.proofs.PlaceLemmas.{tied_same, next_is_free}
 use Rattle.sqlite.specs.Does.{Tally, Does}
 use Rattle.sqlite.specs.Effect.{Database, value_rows}
@@ -45,13 +39,12 @@ use Rattle.sqlite.specs.Rows.{Written, Task, nothing, count_of, mended, shown, P
 use Rattle.sqlite.specs.Listing.{understood}
 use Rattle.sqlite.specs.Command.{Command}
 use Rattle.sqlite.specs.State.{State, mode_of, Executes}
-use Rattle.sqlite.proofs.Callers.{IsPlain, command_of, statement_of, runs_as, one_step, one_permutation}
+use Rattle.sqlite.proofs.Callers.{IsPlain, command_of, statement_of, runs_as, one_step}
 use Rattle.sqlite_catalog.specs.Listing.{IsSound}
 use Rattle.kcr_rows.specs.Columns.{simple_as}
 use Rattle.kcr_rows.specs.Keyed.{cells, by_key, is_full, Place, Keeps, put}
-use Rattle.kcr_rows.proofs.ReadLemmas.{reading, kept_from}
 use Rattle.kcr_rows.proofs.PutLemmas.{keeps_put}
-use Rattle.kcr_rows.proofs.SameLemmas.{key_total}
+use Rattle.kcr_rows.proofs.OverLemmas.{finding, rewriting, tie_is, found_one, keeps_changed}
 use Rattle.kcr_rows.proofs.KeyLemmas.{places_from, full, equal_is, meets_key}
 use Rattle.kcr_rows.proofs.WriteLemmas.{cast_null, cast_int, went, same_value, stored}
 use Rattle.kcr_rows.proofs.TableLemmas.{Changes, own_id, whole}
@@ -59,14 +52,6 @@ use Rattle.kcr_rows.proofs.TableLemmas.{Changes, own_id, whole}
 -- what the update reads: the parameters, the rowid of the row that is there, and the row that is not put in
 abbrev pub seen : Table → List Row → Row → Row → Row
 seen table entries values there = values ++ rowid there ∷ shown table (stored entries values)
-
--- the row of the table that the update finds, with the new values
-abbrev pub finding : ℕ → List Term → List Term → Query
-finding tree test sets = reading tree test sets []
-
--- the edit of an update
-abbrev pub rewriting : Trees → Table → List Row → Edit
-rewriting db table rows = edit_of db table (ids_of rows) Given 1 rows
 
 -- Where no row has the key the new one goes in beside those that were there, and else an update is run at the first that has it.
 abbrev pub Goes : Table → ℕ → List Term → List Term → Trees → Trees → Row → List Row → Type 0
@@ -167,68 +152,6 @@ module _ (schema : Schema) (at : ℕ) (tree : ℕ) (like : Table) (places : List
       ∙ joined_is in
       (ap (λ (d : Database). d.schema) now, subst (λ t. Is trees t) (sym trees_is) made)
 
--- ---- one row of each key
-
-at_most : {X : Type 0} (xs : List X) (x y : X) → length xs ≤ 1 → Has xs x → Has xs y → x ≡ y
-at_most [] x y few h k = absurd h
-at_most (z ∷ []) x y few h k = grind arith
-at_most (z ∷ w ∷ more) x y few h k = absurd (omega (arith, few))
-
-tie_is : (o : Ordering) → is_eq o ≡ true → o ≡ Equal
-tie_is o h = grind arith
-
-module _ (keys : ℕ) (values : Row) where
-  abbrev has_key : Row → Bool
-  has_key row = is_eq (by_key keys row values)
-
-  later_apart : (row y : Row) → by_key keys row values ≡ Equal → by_key keys row y ≡ Less → has_key y ≡ false
-  later_apart row y tie up =
-      let total = key_total keys in
-      let above : by_key keys values y ≡ Less = sym (total.congr row values y tie) ∙ up in
-      ap is_eq (total.antisymm y values ∙ ap ordering_reverse above)
-
-  few : (rows : List Row) → IsAscending (λ a b. by_key keys a b ≡ Less) rows → length (filter has_key rows) ≤ 1
-  few [] up = omega arith
-  few (row ∷ rows) up = go (has_key row) refl (few rows up.1)
-    where
-      go : (b : Bool) → has_key row ≡ b → length (filter has_key rows) ≤ 1 → length (cond b (row ∷ filter has_key rows) (filter has_key rows)) ≤ 1
-      go true is more =
-          rw (filter_none has_key rows (all_from _ rows (λ y h. later_apart row y (tie_is _ is) (all_has _ rows y up.0 h)))) (omega arith)
-      go false is more = more
-
--- no row has a rowid below its own
-apart : (x y : Row) → value_cmp (rowid x) (rowid y) ≡ Less → x ≡ y → ⊥
-apart x y below same = let e = sym (tied_itself value_cmp_total (rowid y)) ∙ subst (λ z. value_cmp (rowid z) (rowid y) ≡ Less) same below in cc
-
--- the one row that passes a test, of those that rise by their rowids
-module _ (p : Row → Bool) (r : Row) where
-  only : (rows : List Row) → IsTable rows → Has rows r → p r ≡ true → ((x : Row) → Has rows x → p x ≡ true → x ≡ r) → filter p rows ≡ r ∷ []
-  only [] up h is one = absurd h
-  only (y ∷ rows) up (inl same) is one =
-      let here : p y ≡ true = ap p (sym same) ∙ is in
-      let others = all_from _ rows (λ x h. false_from_ne_true _ (λ also. apart y x (all_has _ rows x up.0 h) (sym same ∙ sym (one x (inr h) also)))) in
-      rw (here, filter_none p rows others) (ap (λ z. z ∷ []) (sym same))
-  only (y ∷ rows) up (inr later) is one =
-      let out : p y ≡ false = false_from_ne_true _ (λ also. apart y r (all_has _ rows r up.0 later) (one y (inl refl) also)) in
-      rw out (only rows up.1 later is (λ x h. one x (inr h)))
-
--- the row that has the key, among the entries that a tree keeps
-module _ (place : Place) (db : Trees) (rows : List Row) (keeps : Keeps place db rows) (values : Row) where
-  abbrev has : Row → Bool
-  has r = has_key place.keys values (cells place r)
-
-  one_row : (x y : Row) → Has (db place.tree) x → Has (db place.tree) y → has x ≡ true → has y ≡ true → x ≡ y
-  one_row x y h k p q =
-      let entries = db place.tree in
-      let shows = cells place in
-      let same : IsPermutation (filter (has_key place.keys values) rows) (map shows (filter has entries)) =
-      subst (IsPermutation (filter (has_key place.keys values) rows)) (filter-map (has_key place.keys values) shows entries)
-      (IsPermutation-filter (has_key place.keys values) _ _ keeps.same) in
-      let long : length (filter has entries) ≡ length (filter (has_key place.keys values) rows) =
-      sym (length-map (filter has entries) shows) ∙ length_permutation _ _ same in
-      let low : length (filter has entries) ≤ 1 = rw long (few place.keys values rows keeps.rising) in
-      at_most (filter has entries) x y low (has_kept has entries x h p) (has_kept has entries y k q)
-
 module _ (place : Place) (schema : Schema) (at : ℕ) (like : Table)
     (here : slice_get schema.tables at ≡ Some (simple_as place.tree like))
     (alone : (olds news : List Row) → works schema Enforced 0 place.tree olds news ≡ [])
@@ -265,19 +188,13 @@ module _ (place : Place) (schema : Schema) (at : ℕ) (like : Table)
       → IsAnswer (finding place.tree test sets) (overlay db []) (seen that (db place.tree) values there) answer → answer ≡ (rowid r ∷ rowid r ∷ values) ∷ []
   found_is db rows keeps there r h id_is answer a =
       let entries = db place.tree in
-      let q = finding place.tree test sets in
       let params = seen that entries values there in
-      let p = λ (x : Row). list_all (holds (params ∷ x ∷ [])) test in
       let thing = λ (x : Row) (k : Has entries x). ap is_null (own_id place db rows keeps x k) in
       let p_is = λ (x : Row) (k : Has entries x). tests entries there x ∙ and_yes _ ∙ ap (equal Binary (rowid x)) id_is
       ∙ equal_is (rowid x) (rowid r) (thing x k) (thing r h) in
-      let one : filter p entries ≡ r ∷ [] =
-      only p r entries keeps.shaped.0 h (p_is r h ∙ ap is_eq (tied_itself value_cmp_total (rowid r)))
-      (λ x k yes. tied_same entries x r keeps.shaped.0 k h (tie_is _ (sym (p_is x k) ∙ yes))) in
-      let kept : a.kept ≡ output q (params ∷ r ∷ []) ∷ [] =
-      kept_from place.tree test sets [] (negsuc 0) params low db answer a ∙ ap (map (λ x. output q (params ∷ x ∷ []))) one in
-      let ordered : a.ordered ≡ output q (params ∷ r ∷ []) ∷ [] = one_permutation _ a.ordered (subst (λ l. IsPermutation l a.ordered) kept a.same) in
-      a.shown ∙ ap (map (λ (o : Output). o.1)) ordered ∙ ap (λ v. v ∷ []) (gives entries there r)
+      found_one place db test sets params low rows keeps r h (p_is r h ∙ ap is_eq (tied_itself value_cmp_total (rowid r)))
+      (λ x k yes. tied_same entries x r keeps.shaped.0 k h (tie_is _ (sym (p_is x k) ∙ yes))) answer a
+      ∙ ap (λ v. v ∷ []) (gives entries there r)
 
   abbrev Goal : Trees → Trees → Type 0
   Goal old new = (rows : List Row) → Keeps place old rows → Keeps place new (put place.keys values rows)
@@ -303,31 +220,10 @@ module _ (place : Place) (schema : Schema) (at : ℕ) (like : Table)
       → AreConflicts (Some (places_from 1 place.keys)) schema.indexes that (old place.tree) (stored (old place.tree) values) (there ∷ more)
       → Goes that place.tree test sets old new values (there ∷ more) → Goal old new
   keeps_over old new there more are goes rows keeps =
-      let entries = old place.tree in
       let s = are.sound there (inl refl) in
-      let r = s.0 in
-      let id = id_in (rowid r) in
-      let id_is = own_id place old rows keeps r s.1 in
-      let has_it = sym (conflicts_is old rows keeps r s.1) ∙ s.2 in
-      let answer = found_is old rows keeps there r s.1 (ap rowid s.3) goes.0 goes.1 in
-      let edit = λ (found : List Row). rewriting old that found in
-      let cast_is : cast_row that (rowid r ∷ values) ≡ Int id ∷ values = ap (λ v. cast_row that (v ∷ values)) id_is ∙ rw (casts, cast_int id) in
-      let news_is : (edit goes.0).news ≡ (Int id ∷ values) ∷ [] = ap (λ found. (edit found).news) answer ∙ ap (λ x. x ∷ []) cast_is in
-      let left_is : left_by old (edit goes.0) ≡ without_rowid id entries = ap (λ found. left_by old (edit found)) answer in
-      let fresh : are_fresh (without_rowid id entries) ((Int id ∷ values) ∷ []) ≡ true =
-      subst (λ l. are_fresh l ((Int id ∷ values) ∷ []) ≡ true) left_is (subst (λ l. are_fresh (left_by old (edit goes.0)) l ≡ true) news_is goes.2) in
-      let free : is_taken (without_rowid id entries) (Int id ∷ values) ≡ false = not-true _ (and_parts _ _ fresh).0 in
-      let is : new place.tree ≡ put_row (Int id ∷ values) (without_rowid id entries) =
-      goes.3 ∙ ap (put_all (left_by old (edit goes.0))) news_is ∙ ap (put_row (Int id ∷ values)) left_is in
-      let at_id = λ (x : Row) (h : Has entries x).
-      both_ways (has_rowid id x) (is_eq (by_key place.keys (cells place x) values))
-      (λ yes. subst (λ y. is_eq (by_key place.keys (cells place y) values) ≡ true)
-      (sym (tied_same entries x r keeps.shaped.0 h s.1 (subst (λ v. value_cmp (rowid x) v ≡ Equal) (sym id_is) (tie_is _ yes)))) has_it)
-      (λ yes. subst (λ y. has_rowid id y ≡ true) (one_row place old rows keeps values r x s.1 h has_it yes)
-      (subst (λ v. is_eq (value_cmp (rowid r) v) ≡ true) id_is (ap is_eq (tied_itself value_cmp_total (rowid r))))) in
-      let left : without_rowid id entries ≡ filter (λ x. not (is_eq (by_key place.keys (cells place x) values))) entries =
-      filter_same _ (λ x. not (is_eq (by_key place.keys (cells place x) values))) entries (all_from _ entries (λ x h. ap not (at_id x h))) in
-      keeps_put place old (Int id ∷ values) values (without_rowid id entries) keeps.shaped left rows keeps new filled (shown_as id) refl free is
+      let has_it = sym (conflicts_is old rows keeps s.0 s.1) ∙ s.2 in
+      let answer = found_is old rows keeps there s.0 s.1 (ap rowid s.3) goes.0 goes.1 in
+      keeps_changed place like values casts shown_as filled old new rows keeps s.0 s.1 has_it goes.0 answer goes.2 goes.3
 
   keeps_either : (old new : Trees) (found : List Row)
       → AreConflicts (Some (places_from 1 place.keys)) schema.indexes that (old place.tree) (stored (old place.tree) values) found

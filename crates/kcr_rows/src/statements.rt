@@ -68,7 +68,26 @@ pub fn rows_of<S: Alter, T: Stored>(
     }
 }
 
-/// Runs a statement that writes. The error is `Disk` also where the statement is refused, as for a key that is taken.
+/// Runs a statement that writes, and answers how many rows it changed or put in. The error is `Disk` also where the
+/// statement is refused, as for a key that is taken.
+pub fn changed_rows<S: Alter>(
+    tx: &mut Transaction<'_, S>,
+    sql: &str,
+    params: &[ValueRef<'_>],
+) -> Result<usize, Refusal>
+    ensures same_reference { tx.new.conn.ghost_name ≡ tx.old.conn.ghost_name }
+    ensures runs { HasCleanDisk (state S.Store tx.new.conn.now)
+        → IfOk result (λ count. Executes sql.now (bound params.now) (state S.Store tx.old.conn.now)
+        (state S.Store tx.new.conn.now) (Ok count)) }
+    ensures frame { StaysWithin IsFault (state S.Store tx.old.conn.now) (state S.Store tx.new.conn.now) result }
+{
+    match tx.execute(sql, params) {
+        Ok(count) => Ok(count),
+        Err(error) => Err(refusal_of(error)),
+    }
+}
+
+/// Runs a statement that writes, as `changed_rows` does.
 pub fn write<S: Alter>(
     tx: &mut Transaction<'_, S>,
     sql: &str,
@@ -82,8 +101,6 @@ pub fn write<S: Alter>(
         (Ok count)) }
     ensures frame { StaysWithin IsFault (state S.Store tx.old.conn.now) (state S.Store tx.new.conn.now) result }
 {
-    match tx.execute(sql, params) {
-        Ok(_) => Ok(()),
-        Err(error) => Err(refusal_of(error)),
-    }
+    changed_rows(tx, sql, params)?;
+    Ok(())
 }

@@ -17,9 +17,12 @@ use Rattle.kcr_rows.proofs.OrderLemmas.{put_in_all}
 use Rattle.kcr_rows.proofs.FilterLemmas.{filter_as}
 use Rattle.kcr_rows.proofs.ReadLemmas.{asking, kept_cells}
 use Rattle.kcr_rows.proofs.UpsertLemmas.{executes_upsert}
+use Rattle.kcr_rows.proofs.UpdateLemmas.{Updated, executes_update}
 use Rattle.kcr_tables.specs.Schema.{register_schema}
 use Rattle.kcr_tables.specs.Exact.{rows_at}
-use Rattle.kcr_tables.specs.Statements.{Choice, Shows, ShowsRows, UpsertsRow, InsertsRow, PutsRow}
+use Rattle.kcr_tables.specs.Held.{Tables, Holds}
+use Rattle.kcr_tables.specs.Statements.{Choice, Shows, ShowsRows, UpsertsRow, InsertsRow, UpdatesRow, PutsRow}
+use Rattle.kcr_tables.specs.Table.{Table, IsTable, with_put}
 
 module _ {X : Type 0} (sql : List ℕ) (place : Place) (params : Row) (passes : Row → Bool) (s : ShowsRows sql place params passes) (row_of : X → Row) where
   pub rows_shown : (IsRead IsStored : X → Type 0) → ((x y : X) → IsRead x → IsStored y → row_of x ≡ row_of y → x ≡ y) → (test : X → Bool)
@@ -76,22 +79,32 @@ module _ {X : Type 0} (sql : List ℕ) (place : Place) (row_of : X → Row) (x :
 
   upserted : UpsertsRow sql place row_of → Put
   upserted p =
-      executes_upsert place register_schema p.at p.table (λ i. (p.is i).giving.here) (λ olds news i. (p.is i).giving.alone olds news)
-      (λ a b i. (p.is i).giving.compares a b) (λ a i. (p.is i).giving.fulls a) sql p.terms p.bare (row_of x) (λ i. (p.is i).giving.given x) (p.casts x)
-      (λ id i. (p.is i).shown x id) (λ i. (p.is i).giving.filled x) p.test p.sets (λ entries there r i. (p.is i).tests x entries there r)
-      (λ entries there r i. (p.is i).gives x entries there r) (λ i. (p.is i).is_far) (λ a b i. (p.is i).shared a b) (λ i. (p.is i).giving.command)
+      executes_upsert place register_schema p.at p.table (λ i. (p.is i).giving.writing.here) (λ olds news i. (p.is i).giving.writing.alone olds news)
+      (λ a b i. (p.is i).giving.writing.compares a b) (λ a i. (p.is i).giving.writing.fulls a) sql p.terms p.bare (row_of x)
+      (λ i. (p.is i).giving.given x) (p.casts x) (λ id i. (p.is i).shown x id) (λ i. (p.is i).giving.writing.filled x) p.test p.sets
+      (λ entries there r i. (p.is i).tests x entries there r)
+      (λ entries there r i. (p.is i).gives x entries there r) (λ i. (p.is i).is_far) (λ a b i. (p.is i).shared a b) (λ i. (p.is i).giving.writing.command)
       old new count has h
 
   inserted : InsertsRow sql place row_of → Put
   inserted p =
-      executes_insert place register_schema p.at p.table (λ i. (p.is i).giving.here) (λ olds news i. (p.is i).giving.alone olds news)
-      (λ a b i. (p.is i).giving.compares a b) (λ a i. (p.is i).giving.fulls a) (λ rows row i. (p.is i).guarded rows row) sql p.terms
-      (λ i. (p.is i).giving.command) p.bare (row_of x) (p.given x) (λ i. (p.is i).giving.given x) (p.casts x)
-      (λ entries i. (p.is i).numbered x entries) (λ entries i. (p.is i).shown x entries) (λ i. (p.is i).giving.filled x) old new count has h
+      executes_insert place register_schema p.at p.table (λ i. (p.is i).giving.writing.here) (λ olds news i. (p.is i).giving.writing.alone olds news)
+      (λ a b i. (p.is i).giving.writing.compares a b) (λ a i. (p.is i).giving.writing.fulls a) (λ rows row i. (p.is i).guarded rows row) sql p.terms
+      (λ i. (p.is i).giving.writing.command) p.bare (row_of x) (p.given x) (λ i. (p.is i).giving.given x) (p.casts x)
+      (λ entries i. (p.is i).numbered x entries) (λ entries i. (p.is i).shown x entries) (λ i. (p.is i).giving.writing.filled x) old new count has h
 
   pub row_put : PutsRow sql place row_of → Put
   row_put (inl p) = upserted p
   row_put (inr p) = inserted p
+
+  -- or is changed, where there is one that has its key
+  pub row_updated : UpdatesRow sql place row_of
+      → (new.now.schema ≡ register_schema) × Updated place register_schema (row_of x) old.now.trees new.now.trees count
+  row_updated p =
+      executes_update place register_schema p.at p.table (λ i. (p.is i).writing.here) (λ olds news i. (p.is i).writing.alone olds news)
+      (λ a b i. (p.is i).writing.compares a b) (λ a i. (p.is i).writing.fulls a) sql p.bare (row_of x) (p.casts x) (λ id i. (p.is i).shown x id)
+      (λ i. (p.is i).writing.filled x) p.test p.sets (λ r i. (p.is i).tests x r) (λ r i. (p.is i).gives x r) (λ i. (p.is i).is_far)
+      (λ i. (p.is i).writing.command) old new count has h
 
 -- the rows that the tree has then
 pub rows_put : {X : Type 0} (place : Place) (row_of : X → Row) (IsStored : X → Type 0) (x : X) → IsStored x → (old new : Trees)
@@ -99,3 +112,15 @@ pub rows_put : {X : Type 0} (place : Place) (row_of : X → Row) (IsStored : X �
     → AllByRecursion IsStored xs → Keeps place new (map row_of (put_in place.keys row_of x xs)) × AllByRecursion IsStored (put_in place.keys row_of x xs)
 rows_put place row_of IsStored x fact old new c xs keeps stored =
     (subst (Keeps place new) (sym (put_in_rows place.keys row_of x xs)) (c.rows _ keeps), put_in_all IsStored place.keys row_of x xs fact stored)
+
+-- the tables that the database holds then
+pub put_holds : {X : Type 0} (table : Table X) (row_of : X → Row) (IsRead : X → Type 0) → IsTable table row_of IsRead → (x : X) → table.is_stored x
+    → (old new : State) → (new.now.schema ≡ register_schema) × Changes table.place register_schema (row_of x) old.now.trees new.now.trees
+    → (t : Tables) → Holds old.now t → Holds new.now (with_put table row_of x t)
+put_holds table row_of IsRead laws x fact old new it t held =
+    let rows = table.rows_in t in
+    let put = rows_put table.place row_of table.is_stored x fact old.now.trees new.now.trees it.1 rows (laws.keeps old.now.trees t held.kept)
+    (laws.stores old.now.trees t held.kept) in record {
+      schema = it.0;
+      kept = laws.still old.now.trees new.now.trees (put_in table.place.keys row_of x rows) t it.1.sound put.0 put.1 it.1.others held.kept;
+    }

@@ -1,8 +1,8 @@
 -- What the table marks proves of its texts, and of its place among the others.
-use Rattle.std.proofs.Common.{◌≡◌, ◌≢◌, inl, ℕ, pos, List, [], ◌∷◌, map, codes, true, refl, sym, ◌∙◌}
+use Rattle.std.proofs.Common.{◌≡◌, ◌≢◌, inr, ℕ, pos, List, [], ◌∷◌, map, codes, true, refl, sym, ◌∙◌}
 use Rattle.std.specs.Bool.{⊤}
 use Rattle.std.specs.List.{AllByRecursion}
-use Rattle.sqlite.specs.declared.types.Value.TheVariants.{Int}
+use Rattle.sqlite.specs.declared.types.Value.TheVariants.{Null, Int}
 use Rattle.sqlite.specs.Term.{Term}
 use Rattle.sqlite.specs.Tree.{Trees}
 use Rattle.sqlite.specs.Edit.{IsNoIndex}
@@ -13,7 +13,7 @@ use Rattle.sqlite_tied.specs.Compute.{everything}
 use Rattle.kcr_history.specs.Views.{is_mark_of}
 use Rattle.kcr_rows.specs.Keyed.{Keeps}
 use Rattle.kcr_rows.proofs.FilterLemmas.{has_value, value_is}
-use Rattle.kcr_rows.proofs.WriteLemmas.{cast_int}
+use Rattle.kcr_rows.proofs.WriteLemmas.{cast_null, cast_int}
 use Rattle.kcr_rows.proofs.TableLemmas.{keeps_still, each_is}
 use Rattle.kcr_rows.proofs.SameLemmas.{number_ties}
 use Rattle.kcr_rows.specs.Rows.{mark_row}
@@ -24,8 +24,8 @@ use Rattle.kcr_tables.specs.Held.{safes_place, bags_place, items_place, ceremoni
 use Rattle.kcr_tables.specs.Held.{seatings_place, sheet_place, exceptions_place, versions_place, keys_place}
 use Rattle.kcr_tables.specs.Held.{stays_place, withdrawals_place}
 use Rattle.kcr_tables.specs.Parts.{number_in}
-use Rattle.kcr_tables.specs.Statements.{shown_columns, key_order, is_given, ShowsRows, new_terms, update_test}
-use Rattle.kcr_tables.specs.Statements.{update_terms, PutsRow}
+use Rattle.kcr_tables.specs.Statements.{shown_columns, key_order, is_given, ShowsRows, new_terms, key_test}
+use Rattle.kcr_tables.specs.Statements.{update_terms, PutsRow, UpdatesRow}
 use Rattle.kcr_tables.specs.Table.{Table, IsTable, Finding, IsFinding}
 
 abbrev pub project : List Term
@@ -75,20 +75,35 @@ mark_of_laws = record { finds = shows_mark_of; under = under_mark_of }
 -- ---- a row put under its key
 
 abbrev put_sql : List ℕ
-put_sql = codes "INSERT INTO marks (ceremony, at) VALUES (?1, ?2) ON CONFLICT (ceremony) DO UPDATE SET ceremony = ?1, at = ?2"
+put_sql = codes "INSERT INTO marks (ceremony, at) VALUES (?1, ?2)"
 
 pub puts : PutsRow put_sql marks_place mark_row
 unfolding understood everything
-puts = inl (record {
+puts = inr (record {
   at = 8;
   table = marks;
   terms = new_terms 2;
-  test = update_test 2;
+  given = λ x. Null ∷ mark_row x;
+  casts = λ x i. cast_null i ∷ cast_int (pos x.ceremony) i ∷ cast_int (pos x.at) i ∷ [];
+  bare = (refl, refl);
+  is = refl;
+})
+
+-- in the place of the one that is there
+abbrev update_sql : List ℕ
+update_sql = codes "UPDATE marks SET ceremony = ?1, at = ?2 WHERE ceremony = ?1"
+
+pub updates : UpdatesRow update_sql marks_place mark_row
+unfolding understood everything
+updates = record {
+  at = 8;
+  table = marks;
+  test = key_test 1;
   sets = update_terms 2;
   casts = λ x i. cast_int (pos x.ceremony) i ∷ cast_int (pos x.at) i ∷ [];
   bare = (refl, refl);
   is = refl;
-})
+}
 
 -- the other tables stay where the rows of this one are changed
 pub still : (old new : Trees) (rows : List MarkRow) (t : Tables) → IsSound register_schema new

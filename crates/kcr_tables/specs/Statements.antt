@@ -1,5 +1,5 @@
 -- What a table proves of its SQL texts, on which the general calls stand.
-use Rattle.std.specs.Prelude.{◌≡◌, ◌⊎◌, ◌||◌, ◌&&◌, not, ℕ, ℤ, negsuc, suc, ◌/◌, ◌^◌, nat_le, Bool, true, false}
+use Rattle.std.specs.Prelude.{◌≡◌, ◌⊎◌, ◌||◌, ◌&&◌, not, ℕ, ℤ, pos, negsuc, suc, ◌/◌, ◌^◌, nat_le, Bool, true, false}
 use Rattle.std.specs.Prelude.{List, [], ◌∷◌, ◌++◌, map, take, length, slice_get, Option, Some}
 use Rattle.std.specs.List.{list_all, list_any, range_with_len}
 use Rattle.std.specs.declared.cmp.Ordering.{Ordering}
@@ -13,7 +13,7 @@ use Rattle.sqlite.specs.Tree.{rowid}
 use Rattle.sqlite.specs.Source.{Source}
 use Rattle.sqlite.specs.Source.TheVariants.{Values}
 use Rattle.sqlite.specs.Command.{Command}
-use Rattle.sqlite.specs.Command.TheVariants.{Insert, InsertOr, Select}
+use Rattle.sqlite.specs.Command.TheVariants.{Insert, InsertOr, Select, Update}
 use Rattle.sqlite.specs.Effect.{value_rows}
 use Rattle.sqlite.specs.Listing.{understood, reads_listing}
 use Rattle.sqlite.proofs.Callers.{IsPlain, command_of}
@@ -31,9 +31,10 @@ use Rattle.sqlite_rules.specs.Keys.{shares}
 use Rattle.kcr_rows.specs.Columns.{simple_as}
 use Rattle.kcr_rows.specs.Keyed.{Place, cells, by_key, is_full}
 use Rattle.kcr_rows.proofs.ReadLemmas.{asking}
-use Rattle.kcr_rows.proofs.KeyLemmas.{places_from, full}
+use Rattle.kcr_rows.proofs.KeyLemmas.{places_from, full, same_from}
 use Rattle.kcr_rows.proofs.WriteLemmas.{entered}
-use Rattle.kcr_rows.proofs.UpsertLemmas.{finding, seen}
+use Rattle.kcr_rows.proofs.OverLemmas.{finding}
+use Rattle.kcr_rows.proofs.UpsertLemmas.{seen}
 use Rattle.kcr_tables.specs.Schema.{register_schema}
 
 -- ---- texts that show rows of a table
@@ -115,8 +116,8 @@ update_test count = op2 (Compare Eq Binary) (col 1 0) (col 0 count) ∷ []
 abbrev pub update_terms : ℕ → List Term
 update_terms count = col 1 0 ∷ col 1 0 ∷ map (col 0) (range_with_len 0 count)
 
--- what is computed of a table and of a text that gives it a row
-pub record Giving (X : Type 0) : Type 0 where
+-- what is computed of a table and of a text that changes its rows
+pub record Writing (X : Type 0) : Type 0 where
   -- the table, what is asked of others where its rows change, and which rows have one key
   pub here : Option Table
   pub alone : List Row → List Row → List Work
@@ -124,32 +125,49 @@ pub record Giving (X : Type 0) : Type 0 where
   pub fulls : Row → Bool
   -- whether the row of a value has a whole key
   pub filled : X → Bool
-  -- the text, and the rows that it gives
+  -- the text
   pub command : Command
+
+-- of these
+abbrev pub writing : {X : Type 0} → List ℕ → Place → (X → Row) → ℕ → Writing X
+writing sql place row_of at = record {
+  here = slice_get register_schema.tables at;
+  alone = works register_schema Enforced 0 place.tree;
+  compares = λ a b. by_key place.keys (cells place a) (cells place b);
+  fulls = λ a. is_full place.keys (cells place a);
+  filled = λ x. is_full place.keys (row_of x);
+  command = command_of (understood register_schema sql);
+}
+
+-- of a table that stands alone, and of this command
+abbrev pub writing_to : {X : Type 0} → Place → Table → Command → Writing X
+writing_to place table command = record {
+  here = Some table;
+  alone = λ olds news. [];
+  compares = key_cmp 1 (rising place.keys []);
+  fulls = full 1 place.keys;
+  filled = λ x. true;
+  command = command;
+}
+
+-- what is computed of one that gives it a row
+pub record Giving (X : Type 0) : Type 0 where
+  pub writing : Writing X
+  -- the rows that it gives
   pub given : X → List Row
 
 -- of these
 abbrev pub giving : {X : Type 0} → List ℕ → Place → (X → Row) → ℕ → List Term → Giving X
 giving sql place row_of at terms =
     let width = suc (length place.at) in record {
-      here = slice_get register_schema.tables at;
-      alone = works register_schema Enforced 0 place.tree;
-      compares = λ a b. by_key place.keys (cells place a) (cells place b);
-      fulls = λ a. is_full place.keys (cells place a);
-      filled = λ x. is_full place.keys (row_of x);
-      command = command_of (understood register_schema sql);
+      writing = writing sql place row_of at;
       given = λ x. value_rows (row_of x ++ []) width (length terms / width) terms;
     }
 
 -- of a command that gives one row, which is made of the terms
 abbrev pub giving_one : {X : Type 0} → Place → Table → List Term → (Source → Command) → (X → Row) → Giving X
 giving_one place table terms command given = record {
-  here = Some table;
-  alone = λ olds news. [];
-  compares = key_cmp 1 (rising place.keys []);
-  fulls = full 1 place.keys;
-  filled = λ x. true;
-  command = command (Values terms (suc (length place.at)));
+  writing = writing_to place table (command (Values terms (suc (length place.at))));
   given = λ x. given x ∷ [];
 }
 
@@ -247,3 +265,50 @@ pub record InsertsRow {X : Type 0} (sql : List ℕ) (place : Place) (row_of : X 
 -- The text puts the row of a value into a table, in one of these ways.
 abbrev pub PutsRow : {X : Type 0} → List ℕ → Place → (X → Row) → Type 0
 PutsRow sql place row_of = UpsertsRow sql place row_of ⊎ InsertsRow sql place row_of
+
+-- ---- texts that change a row that is there
+
+-- the row that has the first parameters for its key, by how many these are
+abbrev pub key_test : ℕ → List Term
+key_test keys = map (λ at. op2 (Compare Eq Binary) (col 1 (suc at)) (col 0 at)) (range_with_len 0 keys)
+
+-- what is computed of a text that changes the row that has the key of a value
+pub record Updating (X : Type 0) : Type 0 where
+  pub writing : Writing X
+  -- the row of a value under a row id
+  pub shown : X → ℤ → Row
+  -- which row is found, and what is made of it
+  pub is_far : Bool
+  pub tests : X → Row → Bool
+  pub gives : X → Row → Row
+
+-- of these
+abbrev pub updating : {X : Type 0} → List ℕ → Place → (X → Row) → ℕ → List Term → List Term → Updating X
+updating sql place row_of at test sets = record {
+  writing = writing sql place row_of at;
+  shown = λ x id. cells place (Int id ∷ row_of x);
+  is_far = nat_le (2 ^ 31) place.tree;
+  tests = λ x r. list_all (holds (row_of x ∷ r ∷ [])) test;
+  gives = λ x r. eval_all sets (row_of x ∷ r ∷ []);
+}
+
+-- of one that finds it by its key alone, and gives it the row of the value
+abbrev pub updating_by_key : {X : Type 0} → Place → (X → Row) → ℕ → Table → List Term → List Term → Updating X
+updating_by_key place row_of at table test sets = record {
+  writing = writing_to place table (Update at (record { lets = []; body = finding place.tree test sets }));
+  shown = λ x id. row_of x;
+  is_far = false;
+  tests = λ x r. same_from 1 place.keys r (Int (pos 0) ∷ row_of x);
+  gives = λ x r. rowid r ∷ rowid r ∷ row_of x;
+}
+
+-- The text puts the row of a value in the place of the one that has its key; where there is none it changes nothing.
+pub record UpdatesRow {X : Type 0} (sql : List ℕ) (place : Place) (row_of : X → Row) : Type 0 where
+  pub at : ℕ
+  pub table : Table
+  pub test : List Term
+  pub sets : List Term
+  pub casts : (x : X) → cast_all table.columns (row_of x) ≡ row_of x
+  pub bare : IsPlain (understood register_schema sql)
+  pub is : updating sql place row_of at test sets
+      ≡ updating_by_key place row_of at (simple_as place.tree table) test sets

@@ -1,5 +1,5 @@
 -- What the table steps proves of its texts, and of its place among the others.
-use Rattle.std.proofs.Common.{◌≡◌, ◌≢◌, inl, inr, ℕ, pos, List, [], ◌∷◌, map, codes, true, refl, ap}
+use Rattle.std.proofs.Common.{◌≡◌, ◌≢◌, inr, ℕ, pos, List, [], ◌∷◌, map, codes, true, refl, ap}
 use Rattle.std.specs.List.{AllByRecursion}
 use Rattle.sqlite.specs.declared.types.Value.TheVariants.{Null, Text}
 use Rattle.sqlite.specs.Order.{Row, column}
@@ -26,8 +26,8 @@ use Rattle.kcr_tables.specs.Held.{safes_place, bags_place, items_place, ceremoni
 use Rattle.kcr_tables.specs.Held.{seatings_place, sheet_place, exceptions_place, versions_place, keys_place}
 use Rattle.kcr_tables.specs.Held.{stays_place, withdrawals_place}
 use Rattle.kcr_tables.specs.Parts.{text_in, number_in}
-use Rattle.kcr_tables.specs.Statements.{shown_columns, key_order, ShowsRows, new_terms, update_test, update_terms}
-use Rattle.kcr_tables.specs.Statements.{PutsRow}
+use Rattle.kcr_tables.specs.Statements.{shown_columns, key_order, ShowsRows, new_terms, key_test, update_terms, PutsRow}
+use Rattle.kcr_tables.specs.Statements.{UpdatesRow}
 use Rattle.kcr_tables.specs.Table.{Table, IsTable}
 
 abbrev pub project : List Term
@@ -65,13 +65,12 @@ lists = record { test = []; project = project; order = order; names = names; bar
 
 -- ---- a row put under its key
 
--- a new one
-abbrev new_sql : List ℕ
-new_sql = codes "INSERT INTO steps (ceremony, step, activity, seats, state, at) VALUES (?1, ?2, ?3, ?4, ?5, ?6)"
+abbrev put_sql : List ℕ
+put_sql = codes "INSERT INTO steps (ceremony, step, activity, seats, state, at) VALUES (?1, ?2, ?3, ?4, ?5, ?6)"
 
-pub puts_new : PutsRow new_sql steps_place step_row
+pub puts : PutsRow put_sql steps_place step_row
 unfolding understood everything
-puts_new = inr (record {
+puts = inr (record {
   at = 9;
   table = steps;
   terms = new_terms 6;
@@ -82,23 +81,22 @@ puts_new = inr (record {
   is = refl;
 })
 
--- another
-abbrev put_sql : List ℕ
-put_sql = codes "INSERT INTO steps (ceremony, step, activity, seats, state, at) VALUES (?1, ?2, ?3, ?4, ?5, ?6) ON CONFLICT (ceremony, step) DO UPDATE SET ceremony = ?1, step = ?2, activity = ?3, seats = ?4, state = ?5, at = ?6"
+-- in the place of the one that is there
+abbrev update_sql : List ℕ
+update_sql = codes "UPDATE steps SET ceremony = ?1, step = ?2, activity = ?3, seats = ?4, state = ?5, at = ?6 WHERE ceremony = ?1 AND step = ?2"
 
-pub puts : PutsRow put_sql steps_place step_row
+pub updates : UpdatesRow update_sql steps_place step_row
 unfolding understood everything
-puts = inl (record {
+updates = record {
   at = 9;
   table = steps;
-  terms = new_terms 6;
-  test = update_test 6;
+  test = key_test 2;
   sets = update_terms 6;
   casts = λ x i. cast_int (pos x.ceremony) i ∷ cast_int (pos x.step) i ∷ Text x.activity ∷ Text (written x.seats)
       ∷ cast_int (pos (step_number x.state)) i ∷ cast_or_null x.at i ∷ [];
   bare = (refl, refl);
   is = refl;
-})
+}
 
 -- the other tables stay where the rows of this one are changed
 pub still : (old new : Trees) (rows : List StepRow) (t : Tables) → IsSound register_schema new

@@ -2,7 +2,7 @@
 
 ghost use Rattle.kcr_tables.specs.MarksLaws as laws;
 
-use crate::table::{Finds, Listed, Put, put_cells};
+use crate::table::{Finds, Listed, Put, put_over};
 use kcr_base::Refusal;
 use kcr_history::MarkRow;
 use kcr_rows::cells::{moment_cell, number_cell};
@@ -30,12 +30,13 @@ impl Finds<u32> for MarkRow {
 }
 
 impl Put for MarkRow {
-    #[tactic(auto, using(crate::specs::MarksLaws::puts))]
+    #[tactic(auto, using(crate::specs::MarksLaws::puts, crate::specs::MarksLaws::updates))]
     fn put<S: Alter>(&self, tx: &mut Transaction<'_, S>) -> Result<(), Refusal> {
-        put_cells(
+        put_over(
             tx,
             self,
-            "INSERT INTO marks (ceremony, at) VALUES (?1, ?2) ON CONFLICT (ceremony) DO UPDATE SET ceremony = ?1, at = ?2",
+            "UPDATE marks SET ceremony = ?1, at = ?2 WHERE ceremony = ?1",
+            "INSERT INTO marks (ceremony, at) VALUES (?1, ?2)",
             &[number_cell(self.ceremony), moment_cell(self.at)],
         )
     }

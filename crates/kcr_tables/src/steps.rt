@@ -2,7 +2,7 @@
 
 ghost use Rattle.kcr_tables.specs.StepsLaws as laws;
 
-use crate::table::{Listed, PutWords, put_cells};
+use crate::table::{Listed, PutWords, put_cells, put_over};
 use kcr_base::Refusal;
 use kcr_history::{StepRow, StepState};
 use kcr_rows::cells::{
@@ -22,13 +22,15 @@ impl Listed for StepRow {
 }
 
 impl PutWords for StepRow {
-    #[tactic(auto, using(crate::specs::StepsLaws::puts_new, crate::specs::StepsLaws::puts))]
+    #[tactic(auto, using(crate::specs::StepsLaws::puts, crate::specs::StepsLaws::updates))]
     fn put_words<S: Alter>(
         &self,
         alloc: Global,
         tx: &mut Transaction<'_, S>,
     ) -> Result<(), Refusal> {
         let seats = seats_words(alloc, &self.seats)?;
+        let insert =
+            "INSERT INTO steps (ceremony, step, activity, seats, state, at) VALUES (?1, ?2, ?3, ?4, ?5, ?6)";
         let cells = [
             number_cell(self.ceremony),
             number_cell(self.step),
@@ -38,17 +40,13 @@ impl PutWords for StepRow {
             moment_or_null_cell(self.at),
         ];
         if self.state == StepState::Undone {
-            put_cells(
-                tx,
-                self,
-                "INSERT INTO steps (ceremony, step, activity, seats, state, at) VALUES (?1, ?2, ?3, ?4, ?5, ?6)",
-                &cells,
-            )
+            put_cells(tx, self, insert, &cells)
         } else {
-            put_cells(
+            put_over(
                 tx,
                 self,
-                "INSERT INTO steps (ceremony, step, activity, seats, state, at) VALUES (?1, ?2, ?3, ?4, ?5, ?6) ON CONFLICT (ceremony, step) DO UPDATE SET ceremony = ?1, step = ?2, activity = ?3, seats = ?4, state = ?5, at = ?6",
+                "UPDATE steps SET ceremony = ?1, step = ?2, activity = ?3, seats = ?4, state = ?5, at = ?6 WHERE ceremony = ?1 AND step = ?2",
+                insert,
                 &cells,
             )
         }

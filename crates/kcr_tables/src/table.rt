@@ -13,14 +13,14 @@ ghost use Rattle.kcr_rows.specs.Frame.{StaysWithin};
 ghost use Rattle.kcr_tables.specs.Frame.{TellsOpen, Tells, TellsMachine, TellsExactly, Leaves, Reads};
 ghost use Rattle.kcr_tables.specs.Asked.{asked_of, asked_all};
 ghost use Rattle.kcr_tables.specs.Exact.{rows_at, AskedAreShown, WholeIsShown};
-ghost use Rattle.kcr_tables.specs.Statements.{PutsRow};
+ghost use Rattle.kcr_tables.specs.Statements.{PutsRow, UpdatesRow};
 ghost use Rattle.kcr_tables.specs.Table.{Table, IsTable, Finding, IsFinding, with_put, machine_rows};
 
 use kcr_base::code::Code;
 use kcr_base::{Initials, ItemCode, Key, Refusal, Serial};
 use kcr_history::Selection;
 use kcr_rows::cells::{code_cell, initials_cell, item_cell, key_cell, number_cell, serial_cell};
-use kcr_rows::statements::{rows_of, write};
+use kcr_rows::statements::{changed_rows, rows_of, write};
 use kcr_rows::stored::Stored;
 use sqlite::types::ValueRef;
 use sqlite::{Alter, Transaction};
@@ -114,8 +114,11 @@ pub trait Finds<K: AsCell>: Listed {
 pub trait Put: Listed {
     /// Puts the row under its key, new or in the place of the row there; every other row stays. A person, a training, a
     /// box, a seating, a row of the sheet, an exception and an accepted command are put only once, and a step that is
-    /// neither signed nor passed. The error is `Memory`, or else `Disk`, as where the key of one of these or the number
-    /// of a command is taken. What was committed before stays.
+    /// neither signed nor passed: by a plain `INSERT`. The error is `Memory`, or else `Disk`, as where the key of one
+    /// of these or the number of a command is taken. What was committed before stays.
+    ///
+    /// The row of a mark, and of a step that is signed or passed, is mostly there. So an `UPDATE` changes it, which
+    /// costs much less than an upsert, and an `INSERT` follows where it changed none. All else is put by an upsert.
     fn put<S: Alter>(&self, tx: &mut Transaction<'_, S>) -> Result<(), Refusal>
         ensures same_reference { tx.new.conn.ghost_name ≡ tx.old.conn.ghost_name }
         ensures holds { Leaves (state S.Store tx.old.conn.now) (state S.Store tx.new.conn.now) result
@@ -231,4 +234,31 @@ pub fn put_cells<S: Alter, T: Listed>(
 {
     let _value = row;
     write(tx, sql, cells)
+}
+
+/// Puts the row of a value under its key, where mostly a row has it already: the text `update_sql` changes that row,
+/// and where it changed none `put_sql` puts the row. The parameters of both are `cells`, those of the row; the errors
+/// are those of `Put::put`.
+pub fn put_over<S: Alter, T: Listed>(
+    tx: &mut Transaction<'_, S>,
+    row: &T,
+    update_sql: &str,
+    put_sql: &str,
+    cells: &[ValueRef<'_>],
+) -> Result<(), Refusal>
+    requires updates { UpdatesRow update_sql.now T.table.place T.row_of }
+    requires puts { PutsRow put_sql.now T.table.place T.row_of }
+    requires cells { bound cells.now ≡ T.row_of row.now }
+    requires stored { T.table.is_stored row.now }
+    ensures same_reference { tx.new.conn.ghost_name ≡ tx.old.conn.ghost_name }
+    ensures holds { Leaves (state S.Store tx.old.conn.now) (state S.Store tx.new.conn.now) result
+        (λ t. with_put T.table T.row_of row.now t) }
+    ensures frame { StaysWithin IsFault (state S.Store tx.old.conn.now) (state S.Store tx.new.conn.now) result }
+{
+    let _value = row;
+    if changed_rows(tx, update_sql, cells)? == 0 {
+        write(tx, put_sql, cells)
+    } else {
+        Ok(())
+    }
 }

@@ -2,25 +2,19 @@ use Rattle.std.proofs.Common.{ℕ, Ok, OnOk, subst}
 use Rattle.sqlite.specs.Order.{Row}
 use Rattle.sqlite.specs.Held.{state}
 use Rattle.sqlite.specs.State.{Executes}
-use Rattle.kcr_rows.specs.Keyed.{put_in}
 use Rattle.kcr_rows.proofs.FailLemmas.{on_ok_then}
-use Rattle.kcr_tables.proofs.StatementLemmas.{row_put, rows_put}
+use Rattle.kcr_tables.proofs.StatementLemmas.{row_put, put_holds}
 use Rattle.kcr_tables.proofs.table.put_cells.Goals as goal
 
 pub returns-clause-holds : goal.returns-clause-holds
 returns-clause-holds g c clean t held =
     let T = g.T.Listed.table in
-    let laws = g.met.T.Listed.table_laws in
     let row_of = g.T.Stored.row_of in
     let sql = c.args.sql.now in
     let x = c.args.row.now in
-    let rows = T.rows_in t in
     let old = state g.S.Store c.args.tx.now.conn.now in
     let new = state g.S.Store c.write.new.tx.conn.now in
     let ran = subst (λ (v : Row). OnOk c.write.result ((count : ℕ) × Executes sql v old new (Ok count))) c.requires.cells (c.write.ensures.runs clean) in
     on_ok_then _ _ (λ h.
     let it = row_put sql T.place row_of x old new h.0 held.schema h.1 c.requires.puts in
-    let put = rows_put T.place row_of T.is_stored x c.requires.stored old.now.trees new.now.trees it.1 rows (laws.keeps old.now.trees t held.kept)
-    (laws.stores old.now.trees t held.kept) in
-    record { schema = it.0; kept = laws.still old.now.trees new.now.trees (put_in T.place.keys row_of x rows) t it.1.sound put.0 put.1 it.1.others held.kept })
-    c.write.result ran
+    put_holds T row_of g.T.Stored.is_read g.met.T.Listed.table_laws x c.requires.stored old new it t held) c.write.result ran
