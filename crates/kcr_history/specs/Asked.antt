@@ -1,5 +1,6 @@
 -- Which rows each kind of command asks for.
 use Rattle.std.specs.Prelude.{ℕ, Bool, true, false, List, [], ◌∷◌, Some, None}
+use Rattle.kcr_base.specs.Days.{day_of}
 use Rattle.kcr_base.specs.declared.place.Place.{Place}
 use Rattle.kcr_history.specs.declared.commands.Act.{Act}
 use Rattle.kcr_history.specs.declared.commands.Act.TheVariants.{Enter, Train, Withdraw, Appoint, Replace, Release}
@@ -12,6 +13,7 @@ use Rattle.kcr_history.specs.declared.views.ItemsOf.TheVariants as Items
 use Rattle.kcr_history.specs.declared.views.ItemsOf.{ItemsOf}
 use Rattle.kcr_history.specs.declared.views.Selection.{Selection}
 use Rattle.kcr_history.specs.declared.views.Selection.TheVariants.{Nothing, Under, All}
+use Rattle.kcr_history.specs.declared.views.TrainingsOf.TheVariants as Trainings
 
 -- no rows
 abbrev pub asks_nothing : Asks
@@ -42,14 +44,16 @@ asks_room ceremony people =
       stays = Under (record { ceremony = ceremony; people = people });
     }
 
--- the same, and whatever tells who in the room is trained
-abbrev pub asks_trained : ℕ → Asks
-asks_trained ceremony = record (asks_room ceremony []) { trainings = All; withdrawals = All }
+-- the same, and whatever tells who in the room is trained at the moment: the trainings that last to its day, whosever
+-- they are, and all withdrawals
+abbrev pub asks_trained : ℕ → ℕ → Asks
+asks_trained ceremony at =
+    record (asks_room ceremony []) { trainings = Under (Trainings.Lasting (day_of at)); withdrawals = All }
 
 -- what a bag's way into a safe or out of it asks for: the bag, the safes, the boxes and the holders of their places
-abbrev pub asks_bag : ℕ → List ℕ → Asks
-asks_bag ceremony serial =
-    record (asks_trained ceremony) { bags = Under serial; safes = true; boxes = true; appointments = All }
+abbrev pub asks_bag : ℕ → List ℕ → ℕ → Asks
+asks_bag ceremony serial at =
+    record (asks_trained ceremony at) { bags = Under serial; safes = true; boxes = true; appointments = All }
 
 -- the person
 abbrev pub asks_person : List ℕ → Asks
@@ -58,16 +62,24 @@ asks_person who = record asks_nothing { people = Under (who ∷ []) }
 -- the person, their trainings and their last appointment
 abbrev pub asks_to_train : List ℕ → Asks
 asks_to_train who =
-    record (asks_person who) { trainings = Under who; appointments = Under (Appointments.Person who) }
+    record (asks_person who) {
+      trainings = Under (Trainings.Person who);
+      appointments = Under (Appointments.Person who);
+    }
 
 -- the person, their trainings and withdrawals, and the marks, which settle days
 abbrev pub asks_to_withdraw : List ℕ → Asks
-asks_to_withdraw who = record (asks_person who) { trainings = Under who; withdrawals = Under who; marks = All }
+asks_to_withdraw who =
+    record (asks_person who) { trainings = Under (Trainings.Person who); withdrawals = Under who; marks = All }
 
 -- the person and their trainings, the last appointment to the place and that of the person, and the marks
 abbrev pub asks_to_appoint : Place → List ℕ → Asks
 asks_to_appoint place who =
-    record (asks_person who) { trainings = Under who; appointments = Under (Appointments.Both place who); marks = All }
+    record (asks_person who) {
+      trainings = Under (Trainings.Person who);
+      appointments = Under (Appointments.Both place who);
+      marks = All;
+    }
 
 -- the last appointment to the place, and the marks
 abbrev pub asks_to_release : Place → Asks
@@ -87,7 +99,7 @@ abbrev pub asks_to_turn : ℕ → List ℕ → Asks
 asks_to_turn ceremony by =
     record (asks_room ceremony []) {
       people = Under (by ∷ []);
-      trainings = Under by;
+      trainings = Under (Trainings.Person by);
       withdrawals = Under by;
       safes = true;
     }
@@ -101,38 +113,38 @@ abbrev pub asks_ceremonies : Selection ℕ → Asks
 asks_ceremonies ceremonies = record asks_nothing { ceremonies = ceremonies }
 
 -- the item
-abbrev pub asks_to_add : ℕ → List ℕ → Asks
-asks_to_add ceremony item = record (asks_trained ceremony) { items = Under (Items.Codes (item ∷ [])) }
+abbrev pub asks_to_add : ℕ → List ℕ → ℕ → Asks
+asks_to_add ceremony item at = record (asks_trained ceremony at) { items = Under (Items.Codes (item ∷ [])) }
 
 -- the people, with the room and their last stays anywhere
 abbrev pub asks_sheet : ℕ → List (List ℕ) → Asks
 asks_sheet ceremony people = record (asks_room ceremony people) { people = Under people }
 
 -- the step, and the holders of places
-abbrev pub asks_to_sign : ℕ → ℕ → Asks
-asks_to_sign ceremony step =
-    record (asks_trained ceremony) {
+abbrev pub asks_to_sign : ℕ → ℕ → ℕ → Asks
+asks_to_sign ceremony step at =
+    record (asks_trained ceremony at) {
       steps = Some (record { ceremony = ceremony; step = Some step });
       appointments = All;
     }
 
 -- the next step and the exceptions of the ceremony
-abbrev pub asks_to_except : ℕ → Asks
-asks_to_except ceremony =
-    record (asks_trained ceremony) {
+abbrev pub asks_to_except : ℕ → ℕ → Asks
+asks_to_except ceremony at =
+    record (asks_trained ceremony at) {
       steps = Some (record { ceremony = ceremony; step = None });
       exceptions = Under ceremony;
     }
 
 -- the bag and items
-abbrev pub asks_items : ℕ → List ℕ → ItemsOf → Asks
-asks_items ceremony serial items = record (asks_trained ceremony) { bags = Under serial; items = Under items }
+abbrev pub asks_items : ℕ → List ℕ → ItemsOf → ℕ → Asks
+asks_items ceremony serial items at = record (asks_trained ceremony at) { bags = Under serial; items = Under items }
 
-abbrev pub asks_sealed : ℕ → List ℕ → List (List ℕ) → Asks
-asks_sealed ceremony serial codes = asks_items ceremony serial (Items.Codes codes)
+abbrev pub asks_sealed : ℕ → List ℕ → List (List ℕ) → ℕ → Asks
+asks_sealed ceremony serial codes at = asks_items ceremony serial (Items.Codes codes) at
 
--- of people and trainings those that the command names; presence is read from stays; a ceremony's own rows by its
--- number
+-- of people those that the command names; of trainings theirs, or in a room those that last to the day of the act;
+-- presence is read from stays; a ceremony's own rows by its number
 abbrev pub asks_by : Act → Asks
 asks_by (Enter who name) = asks_person who
 asks_by (Train who role since until) = asks_to_train who
@@ -141,18 +153,18 @@ asks_by (Appoint place who day) = asks_to_appoint place who
 asks_by (Replace place who day) = asks_to_appoint place who
 asks_by (Release place day) = asks_to_release place
 asks_by (AddBox facility number place) = asks_boxes
-asks_by (AddItem ceremony item at) = asks_to_add ceremony item
+asks_by (AddItem ceremony item at) = asks_to_add ceremony item at
 asks_by (Plan number facility day script) = asks_ceremonies (Under number)
 asks_by (Open ceremony at) = asks_ceremonies All
 asks_by (Close ceremony at) = asks_to_close ceremony
 asks_by (Sheet ceremony way people at) = asks_sheet ceremony people
-asks_by (Sign ceremony step at) = asks_to_sign ceremony step
-asks_by (Except ceremony text pass at) = asks_to_except ceremony
+asks_by (Sign ceremony step at) = asks_to_sign ceremony step at
+asks_by (Except ceremony text pass at) = asks_to_except ceremony at
 asks_by (TurnSafe ceremony safe state by at) = asks_to_turn ceremony by
-asks_by (Seal ceremony serial items at) = asks_sealed ceremony serial items
-asks_by (Take ceremony serial at) = asks_bag ceremony serial
-asks_by (Put ceremony serial to at) = asks_bag ceremony serial
-asks_by (Cut ceremony serial at) = asks_items ceremony serial (Items.Bag serial)
+asks_by (Seal ceremony serial items at) = asks_sealed ceremony serial items at
+asks_by (Take ceremony serial at) = asks_bag ceremony serial at
+asks_by (Put ceremony serial to at) = asks_bag ceremony serial at
+asks_by (Cut ceremony serial at) = asks_items ceremony serial (Items.Bag serial) at
 
 -- what the decision of a command reads
 abbrev pub asks_of : Command → Asks

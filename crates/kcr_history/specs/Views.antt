@@ -29,6 +29,8 @@ use Rattle.kcr_history.specs.declared.views.Selection.{Selection}
 use Rattle.kcr_history.specs.declared.views.Selection.TheVariants.{Nothing, Under, All}
 use Rattle.kcr_history.specs.declared.views.StaysOf.{StaysOf}
 use Rattle.kcr_history.specs.declared.views.StepOf.{StepOf}
+use Rattle.kcr_history.specs.declared.views.TrainingsOf.{TrainingsOf}
+use Rattle.kcr_history.specs.declared.views.TrainingsOf.TheVariants as Trainings
 use Rattle.kcr_history.specs.declared.views.View.{View}
 use Rattle.kcr_history.specs.Tables.{Tables}
 
@@ -39,6 +41,14 @@ is_of_people people row = list_any (same_text row.who) people
 
 abbrev pub is_training_of : List ℕ → Training → Bool
 is_training_of who row = same_text row.who who
+
+-- the training lasts to the day
+abbrev pub lasts_to : ℕ → Training → Bool
+lasts_to day row = nat_le day row.until
+
+abbrev pub is_training_asked : TrainingsOf → Training → Bool
+is_training_asked (Trainings.Person who) row = is_training_of who row
+is_training_asked (Trainings.Lasting day) row = lasts_to day row
 
 abbrev pub is_withdrawal_of : List ℕ → Withdrawal → Bool
 is_withdrawal_of who row = same_text row.who who
@@ -168,7 +178,7 @@ greatest_number (row ∷ rows) = max row.accepted (greatest_number rows)
 -- the view holds the rows asked for
 pub record IsViewOf (asks : Asks) (t : Tables) (view : View) : Type 0 where
   pub people : Shows is_of_people asks.people t.people view.people.items
-  pub trainings : Shows is_training_of asks.trainings t.trainings view.trainings.items
+  pub trainings : Shows is_training_asked asks.trainings t.trainings view.trainings.items
   pub withdrawals : Shows is_withdrawal_of asks.withdrawals t.withdrawals view.withdrawals.items
   pub appointments : ShowsAppointments asks.appointments t.appointments view.appointments.items
   pub boxes : ShowsAll asks.boxes t.boxes view.boxes.items

@@ -4,8 +4,10 @@ ghost use Rattle.kcr_history.specs.Asked;
 
 use crate::commands::{Act, Command};
 use crate::lists::{InitialsList, ItemList};
-use crate::views::{AppointmentsOf, Asks, ItemsOf, Selection, StaysOf, StepOf};
-use kcr_base::{CeremonyNumber, Initials, ItemCode, Items, People, Place, Serial, StepNumber};
+use crate::views::{AppointmentsOf, Asks, ItemsOf, Selection, StaysOf, StepOf, TrainingsOf};
+use kcr_base::{
+    CeremonyNumber, Initials, ItemCode, Items, Moment, People, Place, Serial, StepNumber,
+};
 use std::alloc::{AllocError, Global};
 
 /// No rows.
@@ -61,21 +63,22 @@ fn asks_room(ceremony: CeremonyNumber, people: InitialsList) -> Asks
     asks
 }
 
-/// The same of nobody in particular, and whatever tells who in the room is trained.
-fn asks_trained(alloc: Global, ceremony: CeremonyNumber) -> Asks
-    ensures { result ≡ Asked.asks_trained ceremony }
+/// The same of nobody in particular, and whatever tells who in the room is trained at the moment: the trainings that
+/// last to its day, and all withdrawals.
+fn asks_trained(alloc: Global, ceremony: CeremonyNumber, at: Moment) -> Asks
+    ensures { result ≡ Asked.asks_trained ceremony at }
 {
     let mut asks = asks_room(ceremony, InitialsList::new(Vec::new(alloc)));
-    asks.trainings = Selection::All;
+    asks.trainings = Selection::Under(TrainingsOf::Lasting(at.day()));
     asks.withdrawals = Selection::All;
     asks
 }
 
 /// The bag, the safes, the boxes and the holders of their places.
-fn asks_bag(alloc: Global, ceremony: CeremonyNumber, serial: Serial) -> Asks
-    ensures { result ≡ Asked.asks_bag ceremony serial }
+fn asks_bag(alloc: Global, ceremony: CeremonyNumber, serial: Serial, at: Moment) -> Asks
+    ensures { result ≡ Asked.asks_bag ceremony serial at }
 {
-    let mut asks = asks_trained(alloc, ceremony);
+    let mut asks = asks_trained(alloc, ceremony, at);
     asks.bags = Selection::Under(serial);
     asks.safes = true;
     asks.boxes = true;
@@ -97,7 +100,7 @@ fn asks_to_train(alloc: Global, who: Initials) -> Result<Asks, AllocError>
     ensures { IfOk result (λ asks. asks ≡ Asked.asks_to_train who) }
 {
     let mut asks = asks_person(alloc, who)?;
-    asks.trainings = Selection::Under(who);
+    asks.trainings = Selection::Under(TrainingsOf::Person(who));
     asks.appointments = Selection::Under(AppointmentsOf::Person(who));
     Ok(asks)
 }
@@ -107,7 +110,7 @@ fn asks_to_withdraw(alloc: Global, who: Initials) -> Result<Asks, AllocError>
     ensures { IfOk result (λ asks. asks ≡ Asked.asks_to_withdraw who) }
 {
     let mut asks = asks_person(alloc, who)?;
-    asks.trainings = Selection::Under(who);
+    asks.trainings = Selection::Under(TrainingsOf::Person(who));
     asks.withdrawals = Selection::Under(who);
     asks.marks = Selection::All;
     Ok(asks)
@@ -118,7 +121,7 @@ fn asks_to_appoint(alloc: Global, place: Place, who: Initials) -> Result<Asks, A
     ensures { IfOk result (λ asks. asks ≡ Asked.asks_to_appoint place who) }
 {
     let mut asks = asks_person(alloc, who)?;
-    asks.trainings = Selection::Under(who);
+    asks.trainings = Selection::Under(TrainingsOf::Person(who));
     asks.appointments = Selection::Under(AppointmentsOf::Both(place, who));
     asks.marks = Selection::All;
     Ok(asks)
@@ -144,10 +147,15 @@ fn asks_boxes() -> Asks
 }
 
 /// The item, beside who in the room is trained.
-fn asks_to_add(alloc: Global, ceremony: CeremonyNumber, item: ItemCode) -> Result<Asks, AllocError>
-    ensures { IfOk result (λ asks. asks ≡ Asked.asks_to_add ceremony item) }
+fn asks_to_add(
+    alloc: Global,
+    ceremony: CeremonyNumber,
+    item: ItemCode,
+    at: Moment,
+) -> Result<Asks, AllocError>
+    ensures { IfOk result (λ asks. asks ≡ Asked.asks_to_add ceremony item at) }
 {
-    let mut asks = asks_trained(alloc, ceremony);
+    let mut asks = asks_trained(alloc, ceremony, at);
     asks.items = Selection::Under(ItemsOf::Codes(only_item(alloc, item)?));
     Ok(asks)
 }
@@ -186,10 +194,10 @@ fn asks_sheet(alloc: Global, ceremony: CeremonyNumber, people: &People) -> Resul
 }
 
 /// The step and the appointments, beside who in the room is trained.
-fn asks_to_sign(alloc: Global, ceremony: CeremonyNumber, step: StepNumber) -> Asks
-    ensures { result ≡ Asked.asks_to_sign ceremony step }
+fn asks_to_sign(alloc: Global, ceremony: CeremonyNumber, step: StepNumber, at: Moment) -> Asks
+    ensures { result ≡ Asked.asks_to_sign ceremony step at }
 {
-    let mut asks = asks_trained(alloc, ceremony);
+    let mut asks = asks_trained(alloc, ceremony, at);
     asks.steps = Some(StepOf {
         ceremony: ceremony.get(),
         step: Some(step.get()),
@@ -199,10 +207,10 @@ fn asks_to_sign(alloc: Global, ceremony: CeremonyNumber, step: StepNumber) -> As
 }
 
 /// The next step and the exceptions, beside who in the room is trained.
-fn asks_to_except(alloc: Global, ceremony: CeremonyNumber) -> Asks
-    ensures { result ≡ Asked.asks_to_except ceremony }
+fn asks_to_except(alloc: Global, ceremony: CeremonyNumber, at: Moment) -> Asks
+    ensures { result ≡ Asked.asks_to_except ceremony at }
 {
-    let mut asks = asks_trained(alloc, ceremony);
+    let mut asks = asks_trained(alloc, ceremony, at);
     asks.steps = Some(StepOf {
         ceremony: ceremony.get(),
         step: None,
@@ -217,17 +225,23 @@ fn asks_to_turn(alloc: Global, ceremony: CeremonyNumber, by: Initials) -> Result
 {
     let mut asks = asks_room(ceremony, InitialsList::new(Vec::new(alloc)));
     asks.people = Selection::Under(only(alloc, by)?);
-    asks.trainings = Selection::Under(by);
+    asks.trainings = Selection::Under(TrainingsOf::Person(by));
     asks.withdrawals = Selection::Under(by);
     asks.safes = true;
     Ok(asks)
 }
 
 /// The bag and the items asked for, beside who in the room is trained.
-fn asks_items(alloc: Global, ceremony: CeremonyNumber, serial: Serial, items: ItemsOf) -> Asks
-    ensures { result ≡ Asked.asks_items ceremony serial items }
+fn asks_items(
+    alloc: Global,
+    ceremony: CeremonyNumber,
+    serial: Serial,
+    items: ItemsOf,
+    at: Moment,
+) -> Asks
+    ensures { result ≡ Asked.asks_items ceremony serial items at }
 {
-    let mut asks = asks_trained(alloc, ceremony);
+    let mut asks = asks_trained(alloc, ceremony, at);
     asks.bags = Selection::Under(serial);
     asks.items = Selection::Under(items);
     asks
@@ -239,11 +253,12 @@ fn asks_sealed(
     ceremony: CeremonyNumber,
     serial: Serial,
     items: &Items,
+    at: Moment,
 ) -> Result<Asks, AllocError>
-    ensures { IfOk result (λ asks. asks ≡ Asked.asks_sealed ceremony serial items.now) }
+    ensures { IfOk result (λ asks. asks ≡ Asked.asks_sealed ceremony serial items.now at) }
 {
     let codes = ItemsOf::Codes(ItemList::copy_of(alloc, items.as_slice())?);
-    Ok(asks_items(alloc, ceremony, serial, codes))
+    Ok(asks_items(alloc, ceremony, serial, codes, at))
 }
 
 /// What an act asks for.
@@ -258,43 +273,45 @@ fn asks_by(alloc: Global, act: &Act) -> Result<Asks, AllocError>
         Act::Replace { place, who, .. } => asks_to_appoint(alloc, *place, *who),
         Act::Release { place, .. } => Ok(asks_to_release(*place)),
         Act::AddBox { .. } => Ok(asks_boxes()),
-        Act::AddItem { ceremony, item, .. } => asks_to_add(alloc, *ceremony, *item),
+        Act::AddItem { ceremony, item, at } => asks_to_add(alloc, *ceremony, *item, *at),
         Act::Plan { number, .. } => Ok(asks_ceremonies(Selection::Under(number.get()))),
         Act::Open { .. } => Ok(asks_ceremonies(Selection::All)),
         Act::Close { ceremony, .. } => Ok(asks_to_close(alloc, *ceremony)),
         Act::Sheet { ceremony, who, .. } => asks_sheet(alloc, *ceremony, who),
-        Act::Sign { ceremony, step, .. } => Ok(asks_to_sign(alloc, *ceremony, *step)),
-        Act::Except { ceremony, .. } => Ok(asks_to_except(alloc, *ceremony)),
+        Act::Sign { ceremony, step, at } => Ok(asks_to_sign(alloc, *ceremony, *step, *at)),
+        Act::Except { ceremony, at, .. } => Ok(asks_to_except(alloc, *ceremony, *at)),
         Act::TurnSafe { ceremony, by, .. } => asks_to_turn(alloc, *ceremony, *by),
         Act::Seal {
             ceremony,
             serial,
             items,
-            ..
-        } => { asks_sealed(alloc, *ceremony, *serial, items) }
+            at,
+        } => { asks_sealed(alloc, *ceremony, *serial, items, *at) }
         Act::Take {
             ceremony,
             serial,
-            ..
-        } => Ok(asks_bag(alloc, *ceremony, *serial)),
-        Act::Put {
+            at,
+        }
+        | Act::Put {
             ceremony,
             serial,
+            at,
             ..
-        } => Ok(asks_bag(alloc, *ceremony, *serial)),
+        } => { Ok(asks_bag(alloc, *ceremony, *serial, *at)) }
         Act::Cut {
             ceremony,
             serial,
-            ..
-        } => { Ok(asks_items(alloc, *ceremony, *serial, ItemsOf::Bag(*serial))) }
+            at,
+        } => { Ok(asks_items(alloc, *ceremony, *serial, ItemsOf::Bag(*serial), *at)) }
     }
 }
 
 /// The rows that the decision of this command reads: those under the keys, of the people, of the place or of the
-/// ceremony that it names; of a place's and a person's appointments the last one alone, of a ceremony's steps one. All
-/// rows are asked for only of tables that do not grow with each command: trainings, withdrawals and appointments where
-/// anybody in a room may be the one who is needed, marks, boxes and safes; of the ceremonies to open one, and of the
-/// bags to close one. The error is out of memory.
+/// ceremony that it names; of a place's and a person's appointments the last one alone, of a ceremony's steps one.
+/// Where anybody in a room may be the one who is needed, the trainings are those that last to the day of the command.
+/// All rows are asked for only of tables that do not grow with each command: withdrawals and appointments where anybody
+/// in a room may be the one who is needed, marks, boxes and safes; of the ceremonies to open one, and of the bags to
+/// close one. The error is out of memory.
 pub fn asks(alloc: Global, command: &Command) -> Result<Asks, AllocError>
     ensures { IfOk result (λ asks. asks ≡ Asked.asks_of command.now) }
 {

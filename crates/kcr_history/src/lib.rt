@@ -41,6 +41,6 @@ pub use rows::{
 pub use seated::last_seated;
 pub use texts::command_text;
 pub use views::{
-    AppointmentsOf, Asks, Change, Finding, ItemsOf, Selection, StaysOf, StepOf, Verdict, View,
-    WholeView,
+    AppointmentsOf, Asks, Change, Finding, ItemsOf, Selection, StaysOf, StepOf, TrainingsOf,
+    Verdict, View, WholeView,
 };

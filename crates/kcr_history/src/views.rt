@@ -2,7 +2,7 @@
 use crate::commands::{Answer, Reply};
 use crate::lists::{InitialsList, ItemList};
 use crate::rows::{CeremonyRow, ExceptionRow, KeyRow, MarkRow, SeatingRow, StepRow};
-use kcr_base::{Initials, Key, Moment, Place, Serial};
+use kcr_base::{Day, Initials, Key, Moment, Place, Serial};
 use kcr_custody::{Bag, BoxRow, Item, SafeRow};
 use kcr_people::{Appointment, Person, Training, Withdrawal};
 use kcr_room::{SheetRow, Stay};
@@ -41,6 +41,16 @@ pub enum Selection<K> {
     Nothing,
     Under(K),
     All,
+}
+
+/// Which trainings are asked for. A training counts on a day only where it lasts to it, so those that ended before need
+/// not be read.
+#[derive(Clone, Copy, PartialEq, Eq)]
+pub enum TrainingsOf {
+    /// Those of the person, whenever they end.
+    Person(Initials),
+    /// Those of anybody whose last day is this day or a later one.
+    Lasting(Day),
 }
 
 /// Which appointments are asked for: the one to a place that began last, the one of a person that began last, or both.
@@ -86,8 +96,8 @@ pub struct StaysOf {
 pub struct Asks {
     /// People, under their initials.
     pub people: Selection<InitialsList>,
-    /// Trainings of a person.
-    pub trainings: Selection<Initials>,
+    /// Trainings of a person, or those of anybody that last to a day.
+    pub trainings: Selection<TrainingsOf>,
     /// Withdrawals of a person's trainings.
     pub withdrawals: Selection<Initials>,
     pub appointments: Selection<AppointmentsOf>,

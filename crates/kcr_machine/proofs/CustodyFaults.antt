@@ -1,5 +1,5 @@
 -- The first refusal of an act of custody, on a box, an item, a safe or a bag, by the rows of a view, is its fault by the history.
-use Rattle.kcr_history.specs.Views.{is_stay_of, is_of_number, is_mark_of}
+use Rattle.kcr_history.specs.Views.{is_stay_of, is_of_number, is_mark_of, lasts_to}
 use Rattle.std.proofs.Common.{◌≡◌, ℕ, Bool, false, List, [], ◌∷◌, Option, Some, None, option_map, is_none, refl, ap, ◌∙◌, ◌||◌, inl, reverse}
 use Rattle.std.specs.Prelude.{option_and_then}
 use Rattle.std.specs.List.{list_any, list_all, cons_option}
@@ -69,11 +69,11 @@ module _ (A : History) (rows : List Item) (codes : List (List ℕ)) (same : (k :
 -- by the rows of the view as by the history
 ca-scene : (A : History) → IsRegister A → (c at : ℕ) (view : View) → Shown (is_of_number c) (ceremonies A) view.ceremonies.items
     → Shown (is_mark_of c) (marks A) view.marks.items → Shown (is_stay_of c) (reverse (stays_by (sheet A))) view.stays.items
-    → IsPermutation (trainings A) view.trainings.items → IsPermutation (withdrawals A) view.withdrawals.items
+    → Shown (lasts_to (day_of at)) (trainings A) view.trainings.items → IsPermutation (withdrawals A) view.withdrawals.items
     → scene_in view (is_full A) c at ≡ scene_at A c at
 ca-scene A h c at view p q room ts ws =
     scene-shown A h c at (is_attended_by view Ca c at) view p q
-    ∙ ap (λ has_ca. record (scene_at A c at) { has_ca = has_ca }) (attended-shown A h view c room ts ws Ca at)
+    ∙ ap (λ has_ca. record (scene_at A c at) { has_ca = has_ca }) (attended-shown A h view c at room ts ws Ca)
 
 -- THE KINDS
 

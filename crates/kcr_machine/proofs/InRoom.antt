@@ -2,7 +2,7 @@
 use Rattle.std.proofs.Common.{◌≡◌, ℕ, true, List, map, filter, reverse, sym, ap, ◌∙◌, arith}
 use Rattle.std.specs.List.{list_any}
 use Rattle.std.specs.List.Sorted.{IsPermutation}
-use Rattle.std.proofs.lemmas.List.Sorted.{IsPermutation-reverse}
+use Rattle.std.proofs.lemmas.List.Sorted.{IsPermutation-refl, IsPermutation-reverse}
 use Rattle.kcr_base.specs.Days.{day_of}
 use Rattle.kcr_base.specs.Same.{same_text}
 use Rattle.kcr_base.specs.declared.place.Place.{Place}
@@ -10,7 +10,8 @@ use Rattle.kcr_base.specs.declared.place.Role.{Role}
 use Rattle.kcr_base.proofs.ListLemmas.{any-same}
 use Rattle.kcr_people.specs.declared.Training.{Training}
 use Rattle.kcr_people.specs.declared.Withdrawal.{Withdrawal}
-use Rattle.kcr_people.specs.People.{trained_by}
+use Rattle.kcr_people.specs.People.{trains, trained_by}
+use Rattle.kcr_people.proofs.Orders.{trained-order}
 use Rattle.kcr_room.specs.declared.Stay.{Stay}
 use Rattle.kcr_room.specs.Room.{ascending}
 use Rattle.kcr_room.specs.Stays as Stays
@@ -25,13 +26,13 @@ use Rattle.kcr_history.specs.Training.{trained}
 use Rattle.kcr_history.specs.Room.{sheet, is_in, present}
 use Rattle.kcr_history.specs.Room as Rooms
 use Rattle.kcr_history.specs.Tables.{trainings, withdrawals, appointments}
-use Rattle.kcr_history.specs.Views.{is_stay_of, is_training_of, is_withdrawal_of}
+use Rattle.kcr_history.specs.Views.{is_stay_of, is_training_of, is_withdrawal_of, lasts_to}
 use Rattle.kcr_history.specs.Conditions.{has_holder_in}
 use Rattle.kcr_history.specs.Machine.{IsRegister}
 use Rattle.kcr_history.proofs.Trained.{trained-rows}
 use Rattle.kcr_rules.specs.Scene.{is_in_by, is_attended_by, has_holder_in_by}
-use Rattle.kcr_laws.proofs.Staffed.{trained-all, holder-all}
-use Rattle.kcr_machine.proofs.Keyed.{Shown}
+use Rattle.kcr_laws.proofs.Staffed.{holder-all}
+use Rattle.kcr_machine.proofs.Keyed.{Shown, any-shown}
 use Rattle.kcr_machine.proofs.People.{trained-shown}
 
 -- THE ROOM
@@ -64,13 +65,26 @@ pub trained-own : (A : History) → IsRegister A → (us : List Training) (vs : 
     → (role : Role) (day : ℕ) → trained_by us vs who role day ≡ trained A who role day
 trained-own A h us vs who p q role day = trained-shown who (trainings A) us (withdrawals A) vs p q role day ∙ trained-rows A h who role day
 
--- whether somebody in the room is trained
-pub attended-shown : (A : History) → IsRegister A → (view : View) (c : ℕ) → Shown (is_stay_of c) (reverse (stays_by (sheet A))) view.stays.items
-    → IsPermutation (trainings A) view.trainings.items → IsPermutation (withdrawals A) view.withdrawals.items
-    → (role : Role) (t : ℕ) → is_attended_by view role c t ≡ Rooms.is_attended_by A role c t
-attended-shown A h view c s p q role t =
+-- a training by which somebody is trained on the day lasts to it
+trains-lasts : (vs : List Withdrawal) (who : List ℕ) (role : Role) (day : ℕ) (row : Training) → trains vs who role day row ≡ true → lasts_to day row ≡ true
+trains-lasts vs who role day row h = grind arith
+
+-- whether a person is trained on a day, by anybody's trainings that last to it and all withdrawals
+pub trained-lasting : (A : History) → IsRegister A → (us : List Training) (vs : List Withdrawal) (day : ℕ) → Shown (lasts_to day) (trainings A) us
+    → IsPermutation (withdrawals A) vs
+    → (who : List ℕ) (role : Role) → trained_by us vs who role day ≡ trained A who role day
+trained-lasting A h us vs day p q who role =
+    trained-order us us (withdrawals A) vs (IsPermutation-refl us) q who role day
+    ∙ any-shown (trains (withdrawals A) who role day) (lasts_to day) (trains-lasts (withdrawals A) who role day) (trainings A) us p
+    ∙ trained-rows A h who role day
+
+-- whether somebody in the room is trained at the moment
+pub attended-shown : (A : History) → IsRegister A → (view : View) (c t : ℕ) → Shown (is_stay_of c) (reverse (stays_by (sheet A))) view.stays.items
+    → Shown (lasts_to (day_of t)) (trainings A) view.trainings.items → IsPermutation (withdrawals A) view.withdrawals.items
+    → (role : Role) → is_attended_by view role c t ≡ Rooms.is_attended_by A role c t
+attended-shown A h view c t s p q role =
     any-same (λ who. trained_by view.trainings.items view.withdrawals.items who role (day_of t)) (λ who. trained A who role (day_of t))
-    (present_in_by view.stays.items c t) (λ who. trained-all A h view.trainings.items view.withdrawals.items p q who role (day_of t))
+    (present_in_by view.stays.items c t) (λ who. trained-lasting A h view.trainings.items view.withdrawals.items (day_of t) p q who role)
     ∙ ap (list_any (λ who. trained A who role (day_of t))) (present-shown A c view.stays.items s t)
 
 -- whether the place has a holder, who is in the room

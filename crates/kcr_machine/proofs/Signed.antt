@@ -30,7 +30,7 @@ use Rattle.kcr_history.specs.Fitting.{fits_by}
 use Rattle.kcr_history.specs.Seating.{fits, IsFirst, IsLeast}
 use Rattle.kcr_history.specs.Tables.{Tables, tables, marks, steps, step_row, seatings, seat_rows, seats_at, exceptions, trainings, withdrawals, appointments}
 use Rattle.kcr_history.specs.Changes.{changed_by, same_step, same_mark, same_exception, changed}
-use Rattle.kcr_history.specs.Views.{IsViewOf, is_step_at}
+use Rattle.kcr_history.specs.Views.{IsViewOf, is_step_at, lasts_to}
 use Rattle.kcr_history.specs.Asked.{asks_by}
 use Rattle.kcr_history.specs.Machine.{Sitting, answer_to, IsRegister, sitting}
 use Rattle.kcr_rules.specs.Scene.{ceremony_by, facility_by}
@@ -39,9 +39,9 @@ use Rattle.kcr_rules.specs.Signing.{seat_changes, exception_change}
 use Rattle.kcr_machine.specs.RowDecision.{new_key_row}
 use Rattle.kcr_laws.proofs.Alone.{rooms}
 use Rattle.kcr_laws.proofs.Done.{next_signed}
-use Rattle.kcr_laws.proofs.Staffed.{trained-all, fits-all}
+use Rattle.kcr_laws.proofs.Staffed.{fits-on}
 use Rattle.std.proofs.lemmas.Option.{same_Some, none-some}
-use Rattle.kcr_machine.proofs.InRoom.{present-shown}
+use Rattle.kcr_machine.proofs.InRoom.{present-shown, trained-lasting}
 use Rattle.kcr_machine.proofs.Keyed.{Shown, put-new}
 use Rattle.kcr_machine.proofs.Leads.{FaultShown, SeatsLeadOn, changed-append, command_of, entry_as, new_key}
 use Rattle.kcr_machine.proofs.Scenes.{facility-shown, is_open-shown, known-shown, mark-shown, marks-put}
@@ -92,27 +92,28 @@ pub seats-shown : (A : History) → IsRegister A → (c k : ℕ) (view : View) �
     → seats_by (step_by view.steps.items c k) ≡ seats_at (steps_of A c) k
 seats-shown A h c k view p e = rw (step-shown A h c k view.steps.items p, e) refl
 
--- who fits a seat, by all trainings, withdrawals and appointments
+-- who fits a seat on the day of a sitting, by the trainings that last to it, all withdrawals and all appointments
 abbrev by_view : History → View → Sitting → Seat → List ℕ → Bool
 by_view A view s = fits_by view.trainings.items view.withdrawals.items view.appointments.items (facility_of A s.ceremony) (day_of s.at)
 
-pub fits-shown : (A : History) → IsRegister A → (view : View) → IsPermutation (trainings A) view.trainings.items
+pub fits-shown : (A : History) → IsRegister A → (view : View) (day : ℕ) → Shown (lasts_to day) (trainings A) view.trainings.items
     → IsPermutation (withdrawals A) view.withdrawals.items → IsPermutation (appointments A) view.appointments.items
-    → (f : Facility) (day : ℕ) (o : Option Seat) (who : List ℕ)
+    → (f : Facility) (o : Option Seat) (who : List ℕ)
     → on_seat (fits_by view.trainings.items view.withdrawals.items view.appointments.items f day) o who ≡ on_seat (fits A f day) o who
-fits-shown A h view p q r f day None who = refl
-fits-shown A h view p q r f day (Some seat) who =
-    fits-all A h view.trainings.items view.withdrawals.items view.appointments.items p q r f day seat who
+fits-shown A h view day p q r f None who = refl
+fits-shown A h view day p q r f (Some seat) who =
+    fits-on A h view.trainings.items view.withdrawals.items view.appointments.items r day
+    (trained-lasting A h view.trainings.items view.withdrawals.items day p q) f seat who
 
 -- of the seats of a passing exception trainings and withdrawals are enough
-pub staff-shown : (A : History) → IsRegister A → (view : View) → IsPermutation (trainings A) view.trainings.items
+pub staff-shown : (A : History) → IsRegister A → (view : View) (day : ℕ) → Shown (lasts_to day) (trainings A) view.trainings.items
     → IsPermutation (withdrawals A) view.withdrawals.items
-    → (f : Facility) (day k : ℕ) (who : List ℕ)
+    → (f : Facility) (k : ℕ) (who : List ℕ)
     → on_seat (fits_by view.trainings.items view.withdrawals.items view.appointments.items f day) (slice_get staff k) who
     ≡ on_seat (fits A f day) (slice_get staff k) who
-staff-shown A h view p q f day zero who = trained-all A h view.trainings.items view.withdrawals.items p q who Ca day
-staff-shown A h view p q f day (suc zero) who = trained-all A h view.trainings.items view.withdrawals.items p q who Iw day
-staff-shown A h view p q f day (suc (suc k)) who = refl
+staff-shown A h view day p q f zero who = trained-lasting A h view.trainings.items view.withdrawals.items day p q who Ca
+staff-shown A h view day p q f (suc zero) who = trained-lasting A h view.trainings.items view.withdrawals.items day p q who Iw
+staff-shown A h view day p q f (suc (suc k)) who = refl
 
 -- what the seats of a sitting are filled by, the same by the rows of a view as by the history
 pub record IsShown (A : History) (view : View) (s : Sitting) : Type 0 where
@@ -128,7 +129,7 @@ sign-sitting A h c k at view v =
     record {
       facility = facility-shown A c view.ceremonies.items v.ceremonies;
       room = present-shown A c view.stays.items v.stays.room at;
-      fit = λ j who. fits-shown A h view v.trainings v.withdrawals v.appointments (facility_of A c) (day_of at) (slice_get (seats_at (steps_of A c) k) j) who;
+      fit = λ j who. fits-shown A h view (day_of at) v.trainings v.withdrawals v.appointments (facility_of A c) (slice_get (seats_at (steps_of A c) k) j) who;
     }
 
 pass-sitting : (A : History) → IsRegister A → (c : ℕ) (text : List ℕ) (at : ℕ) (view : View)
@@ -137,7 +138,7 @@ pass-sitting A h c text at view v =
     record {
       facility = facility-shown A c view.ceremonies.items v.ceremonies;
       room = present-shown A c view.stays.items v.stays.room at;
-      fit = staff-shown A h view v.trainings v.withdrawals (facility_of A c) (day_of at);
+      fit = staff-shown A h view (day_of at) v.trainings v.withdrawals (facility_of A c);
     }
 
 pub sitting-is : (A : History) → IsRegister A → (act : Act) (view : View) → IsViewOf (asks_by act) (tables A) view → (s : Sitting)

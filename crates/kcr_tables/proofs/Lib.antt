@@ -14,4 +14,5 @@ pub mod SafeLemmas
 pub mod ScriptLemmas
 pub mod StatementLemmas
 pub mod StayLemmas
+pub mod TrainingLemmas
 pub mod ViewLemmas

@@ -1,8 +1,10 @@
 -- Of the rows that a decision asks for none is strange: each is the row of a value that is shown, whatever else the
 -- tables have.
-use Rattle.std.specs.Prelude.{◌≡◌, ◌⊎◌, ◌&&◌, ℕ, pos, Bool, List, [], ◌∷◌, ◌++◌, map, filter, Option, Some, None}
+use Rattle.std.specs.Prelude.{◌≡◌, ◌⊎◌, ◌&&◌, not, ℕ, pos, Bool, List, [], ◌∷◌, ◌++◌, map, filter, Option, Some, None}
 use Rattle.std.specs.List.{AllByRecursion, list_any}
-use Rattle.sqlite.specs.Order.{Row}
+use Rattle.std.specs.Ordering.{is_ge}
+use Rattle.sqlite.specs.Ops.{is_null}
+use Rattle.sqlite.specs.Order.{Row, column, value_cmp}
 use Rattle.sqlite.specs.Tree.{Trees}
 use Rattle.sqlite.specs.declared.types.Value.{Value}
 use Rattle.sqlite.specs.declared.types.Value.TheVariants.{Int, Text}
@@ -32,6 +34,8 @@ use Rattle.kcr_history.specs.declared.views.Selection.{Selection}
 use Rattle.kcr_history.specs.declared.views.Selection.TheVariants.{Nothing, Under, All}
 use Rattle.kcr_history.specs.declared.views.StaysOf.{StaysOf}
 use Rattle.kcr_history.specs.declared.views.StepOf.{StepOf}
+use Rattle.kcr_history.specs.declared.views.TrainingsOf.{TrainingsOf}
+use Rattle.kcr_history.specs.declared.views.TrainingsOf.TheVariants as Trainings
 use Rattle.kcr_history.specs.declared.views.View.{View}
 use Rattle.kcr_history.specs.Views.{step_asked}
 use Rattle.kcr_rows.specs.Keyed.{Place, cells}
@@ -66,6 +70,10 @@ has_text at text row = has_value at (Text text) row
 abbrev pub has_number : ℕ → ℕ → Row → Bool
 has_number at number row = has_value at (Int (pos number)) row
 
+-- the number or a greater one, or a text or a blob, which stand behind all numbers; but not NULL
+abbrev pub has_from : ℕ → ℕ → Row → Bool
+has_from at number row = not (is_null (column row at)) && is_ge (value_cmp (column row at) (Int (pos number)))
+
 -- one of the texts
 abbrev pub has_any : ℕ → List (List ℕ) → Row → Bool
 has_any at texts row = list_any (λ text. has_text at text row) texts
@@ -73,6 +81,11 @@ has_any at texts row = list_any (λ text. has_text at text row) texts
 abbrev pub is_item_row : ItemsOf → Row → Bool
 is_item_row (Items.Codes codes) row = has_any 0 codes row
 is_item_row (Items.Bag serial) row = has_text 2 serial row
+
+-- of the person, or lasting to the day
+abbrev pub is_training_row : TrainingsOf → Row → Bool
+is_training_row (Trainings.Person who) row = has_text 0 who row
+is_training_row (Trainings.Lasting day) row = has_from 3 day row
 
 -- that of a step, by its ceremony and its number
 abbrev pub is_row_of_step : ℕ → ℕ → Row → Bool
@@ -135,7 +148,7 @@ StepsAreShown (Some asked) seatings steps db =
 pub record StaffIsShown (asks : Asks) (people : List Person) (trainings : List Training)
     (withdrawals : List Withdrawal) (appointments : List Appointment) (db : Trees) : Type 0 where
   pub people_are : AskedAreShown person_row people_place (has_any 0) asks.people people db
-  pub trainings_are : AskedAreShown training_row trainings_place (has_text 0) asks.trainings trainings db
+  pub trainings_are : AskedAreShown training_row trainings_place is_training_row asks.trainings trainings db
   pub withdrawals_are : AskedAreShown withdrawal_row withdrawals_place (has_text 0) asks.withdrawals withdrawals db
   pub appointments_are : AppointmentsAreShown asks.appointments appointments db
 

@@ -16,6 +16,7 @@ mod exceptions;
 mod items;
 mod keys;
 mod last;
+mod lasting;
 mod marks;
 mod people;
 mod places;

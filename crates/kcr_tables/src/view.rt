@@ -3,15 +3,16 @@
 ghost use Rattle.std.specs.Prelude.{◌≡◌, IfOk};
 ghost use Rattle.sqlite.specs.Held.{state};
 ghost use Rattle.sqlite.specs.State.{HasCleanDisk};
-ghost use Rattle.kcr_history.specs.Views.{IsViewOf, Shows, ShowsStays, is_of_people, is_training_of, is_withdrawal_of};
+ghost use Rattle.kcr_history.specs.Views.{IsViewOf, Shows, ShowsStays, is_of_people, is_withdrawal_of};
 ghost use Rattle.kcr_history.specs.Views.{ShowsAppointments, is_of_serial, is_item_of, is_of_number, is_mark_of};
-ghost use Rattle.kcr_history.specs.Views.{ShowsSteps, is_exception_of};
+ghost use Rattle.kcr_history.specs.Views.{ShowsSteps, is_exception_of, is_training_asked};
 ghost use Rattle.kcr_history.specs.Tables as machine;
 ghost use Rattle.kcr_tables.specs.Asked.{asked_of, asked_all};
 ghost use Rattle.kcr_tables.specs.Exact.{StaffIsShown, CustodyIsShown, CeremoniesAreShown, NoneIsStrange};
 ghost use Rattle.kcr_tables.specs.Frame.{Tells, TellsExactly, Reads};
 ghost use Rattle.kcr_tables.specs.Joint.{HoldsTables};
 
+use crate::lasting::asked_trainings;
 use crate::places::asked_appointments;
 use crate::rooms::asked_stays;
 use crate::script::asked_steps;
@@ -64,7 +65,7 @@ fn staff_rows<S: Alter>(
     ensures people { Tells (state S.Store tx.old.conn.now) (state S.Store tx.new.conn.now) result
         (λ t rows. Shows is_of_people asks.now.people t.rows.people rows.people.items) }
     ensures trainings { Tells (state S.Store tx.old.conn.now) (state S.Store tx.new.conn.now) result
-        (λ t rows. rows.trainings.items ≡ asked_of is_training_of asks.now.trainings t.rows.trainings) }
+        (λ t rows. rows.trainings.items ≡ asked_of is_training_asked asks.now.trainings t.rows.trainings) }
     ensures withdrawals { Tells (state S.Store tx.old.conn.now) (state S.Store tx.new.conn.now) result
         (λ t rows. rows.withdrawals.items ≡ asked_of is_withdrawal_of asks.now.withdrawals t.rows.withdrawals) }
     ensures appointments { Tells (state S.Store tx.old.conn.now) (state S.Store tx.new.conn.now) result
@@ -75,7 +76,7 @@ fn staff_rows<S: Alter>(
     ensures frame { Reads (state S.Store tx.old.conn.now) (state S.Store tx.new.conn.now) result }
 {
     let people = asked_people(alloc, tx, &asks.people)?;
-    let trainings = asked_rows(alloc, tx, &asks.trainings)?;
+    let trainings = asked_trainings(alloc, tx, &asks.trainings)?;
     let withdrawals = asked_rows(alloc, tx, &asks.withdrawals)?;
     let appointments = asked_appointments(alloc, tx, &asks.appointments)?;
     Ok(StaffRows {

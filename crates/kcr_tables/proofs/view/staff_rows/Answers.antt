@@ -3,7 +3,7 @@ use Rattle.sqlite.specs.Held.{state}
 use Rattle.sqlite.specs.State.{HasCleanDisk}
 use Rattle.kcr_rows.proofs.InsideLemmas.{was_clean}
 use Rattle.kcr_rows.specs.Rows.{training_row, withdrawal_row}
-use Rattle.kcr_tables.specs.Exact.{has_text, AskedAreShown, AppointmentsAreShown}
+use Rattle.kcr_tables.specs.Exact.{has_text, is_training_row, AskedAreShown, AppointmentsAreShown}
 use Rattle.kcr_tables.specs.Held.{trainings_place, withdrawals_place}
 use Rattle.kcr_tables.proofs.FrameLemmas.{reads_on, fails_as, reads_then, reads_to, read_later}
 use Rattle.kcr_tables.proofs.view.staff_rows.Goals as goal
@@ -28,8 +28,8 @@ pub returns : goal.returns
 returns g c =
     let old = state g.S.Store c.args.tx.now.conn.now in
     let s0 = state g.S.Store c.asked_people.new.tx.conn.now in
-    let s1 = state g.S.Store c.asked_rows.new.tx.conn.now in
-    let s2 = state g.S.Store c.asked_rows-2.new.tx.conn.now in
+    let s1 = state g.S.Store c.asked_trainings.new.tx.conn.now in
+    let s2 = state g.S.Store c.asked_rows.new.tx.conn.now in
     let s3 = state g.S.Store c.asked_appointments.new.tx.conn.now in
     let to0 = c.in_ok-people.ensures.frame in
     let to1 = reads_then old s0 s1 _ _ to0 c.in_ok-trainings.ensures.frame in
@@ -45,8 +45,8 @@ returns g c =
       exact = λ clean has.
           let asks = c.args.asks.now in record {
             people_are = c.in_ok-people.ensures.exact (clean0 clean) has;
-            trainings_are = read_later (AskedAreShown training_row trainings_place (has_text 0) asks.trainings c.in_ok-trainings.trainings.items) old s0 _ to0
-                (clean0 clean) has (c.in_ok-trainings.ensures.exact (clean1 clean));
+            trainings_are = read_later (AskedAreShown training_row trainings_place is_training_row asks.trainings c.in_ok-trainings.trainings.items) old s0 _
+                to0 (clean0 clean) has (c.in_ok-trainings.ensures.exact (clean1 clean));
             withdrawals_are = read_later
                 (AskedAreShown withdrawal_row withdrawals_place (has_text 0) asks.withdrawals c.in_ok-withdrawals.withdrawals.items) old s1 _ to1
                 (clean1 clean) has (c.in_ok-withdrawals.ensures.exact (clean2 clean));

@@ -1,7 +1,7 @@
 use Rattle.std.proofs.Common.{rules}
 use Rattle.sqlite.specs.Held.{state}
 use Rattle.sqlite.specs.State.{HasCleanDisk}
-use Rattle.kcr_history.specs.Views.{is_of_people, is_training_of, is_withdrawal_of, is_of_serial, is_item_of, is_of_number, is_mark_of}
+use Rattle.kcr_history.specs.Views.{is_of_people, is_training_asked, is_withdrawal_of, is_of_serial, is_item_of, is_of_number, is_mark_of}
 use Rattle.kcr_history.specs.Views.{is_exception_of}
 use Rattle.kcr_rows.proofs.InsideLemmas.{was_clean}
 use Rattle.kcr_tables.specs.Exact.{CustodyIsShown, CeremoniesAreShown}
@@ -46,7 +46,7 @@ returns g c =
           let custody = c.in_ok-custody.ensures in
           let ceremony = c.in_ok-ceremony.ensures in record {
             people = shows_on is_of_people asks.people m.people t.rows.people _ s.people (staff.people (clean1 clean) t held);
-            trainings = asked_shows is_training_of asks.trainings m.trainings t.rows.trainings _ s.trainings (staff.trainings (clean1 clean) t held);
+            trainings = asked_shows is_training_asked asks.trainings m.trainings t.rows.trainings _ s.trainings (staff.trainings (clean1 clean) t held);
             withdrawals = asked_shows is_withdrawal_of asks.withdrawals m.withdrawals t.rows.withdrawals _ s.withdrawals
                 (staff.withdrawals (clean1 clean) t held);
             appointments = appointments_shown asks.appointments m.appointments t.rows.appointments _ s.appointments (staff.appointments (clean1 clean) t held);
