@@ -1,6 +1,6 @@
 //! The reports of a register as text: the annotated script of a ceremony, its attendance, and custody.
 //!
-//! A report is written line by line while the rows are read one at a time, so that its length takes no memory. A
+//! A report is written line by line while the rows are read a few at a time, so that its length takes no memory. A
 //! refusal in the middle leaves a beginning of it written.
 #![tactic(auto)]
 

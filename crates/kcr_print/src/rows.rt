@@ -38,7 +38,7 @@ pub(crate) fn put_row<P: Printed, W: Write>(
     Ok(())
 }
 
-/// Writes the lines of all rows that are still to come, one row in memory at a time. After a fault a beginning of them
+/// Writes the lines of all rows that are still to come, one row after the other. After a fault a beginning of them
 /// was written. A fault of the device does not break the register: the caller drops the rows and marks it.
 pub(crate) fn put_rows<S: Alter, P: Printed, R: Reading<Row = P>, W: Write>(
     alloc: Global,

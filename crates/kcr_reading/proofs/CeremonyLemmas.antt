@@ -1,5 +1,8 @@
--- The steps and the exceptions of a ceremony, read one at a time by their numbers, and the people of one step.
-use Rattle.std.proofs.Common.{◌≡◌, ℕ, pos, ◌&&◌, ◌==◌, nat_lt, Bool, true, List, [], ◌∷◌, filter, map, drop, codes, Option, Less, refl, sym, ap, ◌∙◌}
+-- The steps and the exceptions of a ceremony, read by their numbers, and the people of several steps.
+use Rattle.std.proofs.Common.{◌≡◌, ℕ, ◌-◌, ◌<◌, pos, ◌&&◌, ◌==◌, not, nat_lt, Bool, true, false, List, [], ◌∷◌, filter, map, take, drop, length, slice_get}
+use Rattle.std.proofs.Common.{codes, Option, Less, refl, sym, ap, subst, ◌∙◌, arith}
+use Rattle.std.specs.List.{AllByRecursion}
+use Rattle.std.proofs.lemmas.Bool.{eqb-true}
 use Rattle.std.specs.List.Sorted.{IsPermutation}
 use Rattle.std.specs.Ordering.{nat_cmp}
 use Rattle.std.proofs.lemmas.Cmp.{nat_cmp_total}
@@ -12,12 +15,14 @@ use Rattle.sqlite.specs.State.{State, Shown}
 use Rattle.sqlite.specs.Tree.{Trees, IsAscending}
 use Rattle.sqlite.specs.Listing.{understood}
 use Rattle.sqlite_sql.specs.declared.ops.BinaryOp.TheVariants.{Compare}
-use Rattle.sqlite_sql.specs.declared.ops.CompareOp.TheVariants.{Eq, Gt}
-use Rattle.sqlite_trees.proofs.ListLemmas.{IsPermutation-filter}
+use Rattle.sqlite_sql.specs.declared.ops.CompareOp.TheVariants.{Eq, Gt, Le}
+use Rattle.sqlite_trees.proofs.ListLemmas.{IsPermutation-filter, all_weaker}
 use Rattle.sqlite_tied.specs.Compute.{everything}
 use Rattle.kcr_rows.specs.Keyed.{by_key}
+use Rattle.kcr_rows.proofs.FilterLemmas.{filter_as}
 use Rattle.kcr_rows.proofs.TableLemmas.{each_is}
 use Rattle.kcr_rows.specs.Rows.{exception_row, seating_row, step_row}
+use Rattle.kcr_room.proofs.Lists.{filter-and}
 use Rattle.kcr_history.specs.Prints.{in_order, seated_at, seatings_at}
 use Rattle.kcr_history.specs.Tables as machine
 use Rattle.kcr_history.specs.declared.rows.ExceptionRow.{ExceptionRow}
@@ -30,11 +35,13 @@ use Rattle.kcr_tables.specs.SeatingsLaws as seatings
 use Rattle.kcr_tables.specs.Statements.{key_order, Choice, ShowsRows}
 use Rattle.kcr_tables.specs.StepsLaws as steps
 use Rattle.kcr_tables.proofs.StatementLemmas.{rows_shown}
-use Rattle.kcr_reading.specs.First.{ShowsFirst, IsFirst, bound_of}
-use Rattle.kcr_reading.specs.ToCome.{Gives, is_past, exceptions_past, rows_past}
-use Rattle.kcr_reading.proofs.ChoiceLemmas.{by_test, rise, first_come, next_come}
-use Rattle.kcr_reading.proofs.NumberLemmas.{behind_number, equal_number, one_test, with_tests, same_ceremony, same_step, number_later}
-use Rattle.kcr_reading.proofs.OrderLemmas.{moved, numbers_ordered}
+use Rattle.kcr_reading.specs.First.{ShowsSome, ShowsFirst, InOrder, AreFirst, IsFirst, bound_of}
+use Rattle.kcr_reading.specs.ToCome.{Gives, GivesSeveral, IsStepWithin, is_past, is_past_until, people_at, exceptions_past, rows_past, with_people, with_seated}
+use Rattle.kcr_reading.specs.declared.steps.SeatedStep.{SeatedStep}
+use Rattle.kcr_reading.proofs.ChoiceLemmas.{by_test, rise, chosen_come, next_come, several_come, within_come}
+use Rattle.kcr_reading.proofs.FirstLemmas.{begin_take}
+use Rattle.kcr_reading.proofs.NumberLemmas.{behind_number, up_to_number, equal_number, one_test, with_tests, same_ceremony, same_step, number_later}
+use Rattle.kcr_reading.proofs.OrderLemmas.{moved, moved_on, moved_to, numbers_ordered}
 
 -- ---- rows of a ceremony, by their numbers
 
@@ -44,7 +51,7 @@ number_test = op2 (Compare Eq Binary) (col 1 1) (col 0 0) ∷ op2 (Compare Gt Bi
 abbrev number_params : ℕ → Option ℕ → Row
 number_params ceremony last = Int (pos ceremony) ∷ Int (bound_of last) ∷ []
 
--- the first of the ceremony past the last
+-- those of the ceremony past the last
 abbrev pub numbered : ℕ → Option ℕ → Choice
 numbered ceremony last = by_test 2 number_test (number_params ceremony last)
 
@@ -71,18 +78,40 @@ module _ {X : Type 0} (row_of : X → Row) (ceremony_of number_of : X → ℕ)
       ap (numbered ceremony last).passes (row_is x)
       ∙ with_tests _ _ _ _ (equal_number (ceremony_of x) ceremony) (one_test _ ∙ behind_number last (number_of x))
 
-  -- what the text chooses is the next row, and the others come behind it
-  pub next : (ceremony : ℕ) (last : Option ℕ) {ms ts : List X} → IsPermutation ms ts → IsAscending (λ a b. by_key 2 a b ≡ Less) (map row_of ts)
-      → (found : Option X) → IsFirst row_of (numbered ceremony last) ts found
-      → Gives (filter (past last) (those ceremony ms)) found (filter (past (moved nat_cmp nat_cmp_total number_of last found)) (those ceremony ms))
-  next ceremony last {ms} {ts} same up found first =
-      let rising = rise row_of nat_cmp nat_cmp_total number_of past (number_later number_of) 2 (is_of ceremony) (among ceremony) ts up in
-      let mine : those ceremony ms ≡ filter (is_of ceremony) ts = numbers_ordered number_of _ _ (IsPermutation-filter (is_of ceremony) _ _ same) rising in
-      let come = λ (l : Option ℕ). filter (past l) (those ceremony ms) in
-      let come_is = λ (l : Option ℕ). ap (filter (past l)) mine in
-      next_come row_of nat_cmp nat_cmp_total number_of past (number_later number_of) 2 (is_of ceremony) (among ceremony) ts up come come_is last found
-      (first_come row_of nat_cmp nat_cmp_total number_of past (number_later number_of) 2 (is_of ceremony) (among ceremony) ts up come come_is last
-      number_test (number_params ceremony last) (chosen ceremony last) found first)
+  module _ (ceremony : ℕ) {ms ts : List X} (same : IsPermutation ms ts) (up : IsAscending (λ a b. by_key 2 a b ≡ Less) (map row_of ts)) where
+    abbrev come : Option ℕ → List X
+    come l = filter (past l) (those ceremony ms)
+
+    come_is : (l : Option ℕ) → come l ≡ filter (past l) (filter (is_of ceremony) ts)
+    come_is l =
+        let rising = rise row_of nat_cmp nat_cmp_total number_of past (number_later number_of) 2 (is_of ceremony) (among ceremony) ts up in
+        ap (filter (past l)) (numbers_ordered number_of _ _ (IsPermutation-filter (is_of ceremony) _ _ same) rising)
+
+    -- what holds of those that the text chooses holds of those to come
+    chosen_next : (last : Option ℕ) (Holds : List X → Type 0) → InOrder row_of (numbered ceremony last) ts Holds → Holds (come last)
+    chosen_next last =
+        chosen_come row_of nat_cmp nat_cmp_total number_of past (number_later number_of) 2 (is_of ceremony) (among ceremony) ts up come come_is last
+        number_test (number_params ceremony last) (chosen ceremony last)
+
+    -- the first of them is the next row, and the others come behind it
+    pub next : (last : Option ℕ) (found : Option X) → IsFirst row_of (numbered ceremony last) ts found
+        → Gives (come last) found (come (moved nat_cmp nat_cmp_total number_of last found))
+    next last found first =
+        next_come row_of nat_cmp nat_cmp_total number_of past (number_later number_of) 2 (is_of ceremony) (among ceremony) ts up come come_is last found
+        (chosen_next last (λ l. found ≡ slice_get l 0) first)
+
+    -- several of them are the next rows, and the others come behind the last of them
+    pub several : (last : Option ℕ) (count : ℕ) → 0 < count → (rows : List X) → AreFirst count row_of (numbered ceremony last) ts rows
+        → GivesSeveral (come last) rows (come (moved_on nat_cmp nat_cmp_total number_of last rows))
+    several last count low rows first =
+        several_come row_of nat_cmp nat_cmp_total number_of past (number_later number_of) 2 (is_of ceremony) (among ceremony) ts up come come_is last rows
+        (begin_take count low (come last) rows (chosen_next last (λ l. rows ≡ take count l) first))
+
+    pub within : (last : Option ℕ) (count : ℕ) (rows : List X) → AreFirst count row_of (numbered ceremony last) ts rows
+        → AllByRecursion (λ x. (is_of ceremony x ≡ true) × ((past last x ≡ true) × (past (moved_on nat_cmp nat_cmp_total number_of last rows) x ≡ false))) rows
+    within last count rows first =
+        within_come row_of nat_cmp nat_cmp_total number_of past (number_later number_of) 2 (is_of ceremony) (among ceremony) ts up come come_is last count rows
+        (chosen_next last (λ l. rows ≡ take count l) first)
 
 -- ---- exceptions
 
@@ -99,59 +128,113 @@ pub next_exception : (ceremony : ℕ) (last : Option ℕ) (m : machine.Tables) {
     → IsFirst exception_row (numbered ceremony last) k.t.rows.exceptions found
     → Gives (exceptions_past last ceremony m) found (exceptions_past (moved nat_cmp nat_cmp_total (λ (x : ExceptionRow). x.exception) last found) ceremony m)
 next_exception ceremony last m k =
-    next exception_row (λ x. x.ceremony) (λ x. x.exception) (λ x. refl) ceremony last k.stands.rows.exceptions k.kept.exceptions.rising
+    next exception_row (λ x. x.ceremony) (λ x. x.exception) (λ x. refl) ceremony k.stands.rows.exceptions k.kept.exceptions.rising last
 
 -- ---- steps
 
 abbrev pub steps_text : List ℕ
-steps_text = codes "SELECT ceremony, step, activity, seats, state, at FROM steps WHERE ceremony = ?1 AND step > ?2 ORDER BY ceremony, step LIMIT 1"
+steps_text = codes "SELECT ceremony, step, activity, seats, state, at FROM steps WHERE ceremony = ?1 AND step > ?2 ORDER BY ceremony, step LIMIT 16"
 
-pub steps_shown : (ceremony : ℕ) (last : Option ℕ) → ShowsFirst steps_text steps_place (number_params ceremony last) (numbered ceremony last)
+pub steps_shown : (ceremony : ℕ) (last : Option ℕ) → ShowsSome 16 steps_text steps_place (number_params ceremony last) (numbered ceremony last)
 unfolding understood everything
 steps_shown ceremony last =
     record { test = number_test; project = steps.project; order = key_order steps_place; names = steps.names; bare = (refl, refl); is = refl }
 
-pub next_step : (ceremony : ℕ) (last : Option ℕ) (m : machine.Tables) {db : Trees} (k : KeepsTables m db) (found : Option StepRow)
-    → IsFirst step_row (numbered ceremony last) k.t.rows.steps found
-    → Gives (rows_past last ceremony m) found (rows_past (moved nat_cmp nat_cmp_total (λ (x : StepRow). x.step) last found) ceremony m)
-next_step ceremony last m k = next step_row (λ x. x.ceremony) (λ x. x.step) (λ x. refl) ceremony last k.stands.rows.steps k.kept.steps.rising
+module _ (ceremony : ℕ) (last : Option ℕ) (m : machine.Tables) {db : Trees} (k : KeepsTables m db) (rows : List StepRow) (found : Option StepRow)
+    (ends : found ≡ slice_get rows (length rows - 1)) (count : ℕ) (first : AreFirst count step_row (numbered ceremony last) k.t.rows.steps rows) where
+  abbrev reached : Option ℕ
+  reached = moved nat_cmp nat_cmp_total (λ (x : StepRow). x.step) last found
 
--- ---- the people of a step
+  pub next_steps : 0 < count → GivesSeveral (rows_past last ceremony m) rows (rows_past reached ceremony m)
+  next_steps low =
+      subst (λ l. GivesSeveral (rows_past last ceremony m) rows (rows_past l ceremony m))
+      (moved_to nat_cmp nat_cmp_total (λ (x : StepRow). x.step) last rows found ends)
+      (several step_row (λ x. x.ceremony) (λ x. x.step) (λ x. refl) ceremony k.stands.rows.steps k.kept.steps.rising last count low rows first)
 
-abbrev pub seating_text : List ℕ
-seating_text = codes "SELECT ceremony, step, seat, who FROM seatings WHERE ceremony = ?1 AND step = ?2 ORDER BY ceremony, step, seat"
+  pub steps_within : AllByRecursion (IsStepWithin ceremony last reached) rows
+  steps_within =
+      subst (λ l. AllByRecursion (IsStepWithin ceremony last l) rows)
+      (moved_to nat_cmp nat_cmp_total (λ (x : StepRow). x.step) last rows found ends)
+      (all_weaker _ _ (λ x h. record { of = eqb-true x.ceremony ceremony h.0; within = both _ _ h.1.0 h.1.1 }) rows
+      (within step_row (λ x. x.ceremony) (λ x. x.step) (λ x. refl) ceremony k.stands.rows.steps k.kept.steps.rising last count rows first))
+    where
+      both : (a b : Bool) → a ≡ true → b ≡ false → (a && not b) ≡ true
+      both a b p q = rw (p, q)
 
-abbrev seating_test : List Term
-seating_test = op2 (Compare Eq Binary) (col 1 1) (col 0 0) ∷ op2 (Compare Eq Binary) (col 1 2) (col 0 1) ∷ []
+-- ---- the people of steps
 
-abbrev pub seating_params : ℕ → ℕ → Row
-seating_params ceremony step = Int (pos ceremony) ∷ Int (pos step) ∷ []
+abbrev pub seatings_text : List ℕ
+seatings_text =
+    codes "SELECT ceremony, step, seat, who FROM seatings WHERE ceremony = ?1 AND step > ?2 AND step <= ?3 ORDER BY ceremony, step, seat"
 
-abbrev passes : ℕ → ℕ → Row → Bool
-passes ceremony step = (by_test 3 seating_test (seating_params ceremony step)).passes
+abbrev seatings_test : List Term
+seatings_test = op2 (Compare Eq Binary) (col 1 1) (col 0 0) ∷ op2 (Compare Gt Binary) (col 1 2) (col 0 1) ∷ op2 (Compare Le Binary) (col 1 2) (col 0 2) ∷ []
 
-pub seating_shows : (ceremony step : ℕ) → ShowsRows seating_text seatings_place (seating_params ceremony step) (passes ceremony step)
+abbrev pub seatings_params : ℕ → Option ℕ → Option ℕ → Row
+seatings_params ceremony from until = Int (pos ceremony) ∷ Int (bound_of from) ∷ Int (bound_of until) ∷ []
+
+abbrev passes : ℕ → Option ℕ → Option ℕ → Row → Bool
+passes ceremony from until = (by_test 3 seatings_test (seatings_params ceremony from until)).passes
+
+pub seatings_shown : (ceremony : ℕ) (from until : Option ℕ)
+    → ShowsRows seatings_text seatings_place (seatings_params ceremony from until) (passes ceremony from until)
 unfolding understood everything
-seating_shows ceremony step =
-    record { test = seating_test; project = seatings.project; order = key_order seatings_place; names = seatings.names; bare = (refl, refl); is = refl }
+seatings_shown ceremony from until =
+    record { test = seatings_test; project = seatings.project; order = key_order seatings_place; names = seatings.names; bare = (refl, refl); is = refl }
+
+abbrev is_within : ℕ → Option ℕ → Option ℕ → SeatingRow → Bool
+is_within ceremony from until x = x.ceremony == ceremony && is_past_until from until x.step
+
+passes_within : (ceremony : ℕ) (from until : Option ℕ) (x : SeatingRow) → passes ceremony from until (seating_row x) ≡ is_within ceremony from until x
+unfolding binary
+passes_within ceremony from until x =
+    with_tests _ _ _ _ (equal_number x.ceremony ceremony) (with_tests _ _ _ _ (behind_number from x.step) (one_test _ ∙ up_to_number until x.step))
 
 abbrev is_at : ℕ → ℕ → SeatingRow → Bool
 is_at ceremony step x = x.ceremony == ceremony && x.step == step
 
-passes_at : (ceremony step : ℕ) (x : SeatingRow) → passes ceremony step (seating_row x) ≡ is_at ceremony step x
-unfolding binary
-passes_at ceremony step x = with_tests _ _ _ _ (equal_number x.ceremony ceremony) (one_test _ ∙ equal_number x.step step)
+-- the rows of one step among those of several
+of_step : (ceremony : ℕ) (from until : Option ℕ) (step : ℕ) → is_past_until from until step ≡ true → (rows : List SeatingRow)
+    → filter (λ row. row.step == step) (filter (is_within ceremony from until) rows) ≡ filter (is_at ceremony step) rows
+of_step ceremony from until step inside rows =
+    filter-and (is_within ceremony from until) (λ row. row.step == step) rows ∙ filter_as _ _ same rows
+  where
+    settled : (b : Bool) → ((b && true) && true) ≡ (b && true)
+    settled true = refl
+    settled false = refl
 
-pub seated : (ceremony step : ℕ) (old new : State) (rows : List SeatingRow) (m : machine.Tables) (t : Tables) → Holds old.now t → Stands m t
-    → Shown seating_text (seating_params ceremony step) old new (map seating_row rows) → map (λ row. row.who) rows ≡ seated_at m.seatings ceremony step
-seated ceremony step old new rows m t held stands h =
+    same : (x : SeatingRow) → (is_within ceremony from until x && x.step == step) ≡ is_at ceremony step x
+    same x = by_step (x.step == step) refl
+      where
+        by_step : (b : Bool) → (x.step == step) ≡ b → (is_within ceremony from until x && b) ≡ (x.ceremony == ceremony && b)
+        by_step true e =
+            ap (λ b. (x.ceremony == ceremony && b) && true) (ap (is_past_until from until) (eqb-true x.step step e) ∙ inside) ∙ settled (x.ceremony == ceremony)
+        by_step false e = grind arith
+
+pub seated : (ceremony : ℕ) (from until : Option ℕ) (old new : State) (rows : List SeatingRow) (m : machine.Tables) (t : Tables) → Holds old.now t → Stands m t
+    → Shown seatings_text (seatings_params ceremony from until) old new (map seating_row rows)
+    → (step : ℕ) → is_past_until from until step ≡ true → people_at step rows ≡ seated_at m.seatings ceremony step
+seated ceremony from until old new rows m t held stands h step inside =
     let at = is_at ceremony step in
-    let there : rows ≡ filter at t.rows.seatings =
-    rows_shown seating_text seatings_place _ (passes ceremony step) (seating_shows ceremony step) seating_row (λ _. Unit {0}) (λ _. Unit {0}) seatings.one at
-    (passes_at ceremony step)
+    let there : rows ≡ filter (is_within ceremony from until) t.rows.seatings =
+    rows_shown seatings_text seatings_place _ (passes ceremony from until) (seatings_shown ceremony from until) seating_row
+    (λ _. Unit {0}) (λ _. Unit {0}) seatings.one (is_within ceremony from until) (passes_within ceremony from until)
     old new rows held.schema h (each_is rows) t.rows.seatings (each_is t.rows.seatings) held.kept.seatings in
+    let mine : filter (λ row. row.step == step) rows ≡ filter at t.rows.seatings =
+    ap (filter (λ row. row.step == step)) there ∙ of_step ceremony from until step inside t.rows.seatings in
     let rising = rise seating_row nat_cmp nat_cmp_total (λ x. x.seat) (λ l x. is_past l x.seat) (number_later (λ x. x.seat)) 3 at
     (λ a b. same_step ceremony step a.ceremony a.step b.ceremony b.step a.seat b.seat [] []) t.rows.seatings held.kept.seatings.rising in
     let order : seatings_at m.seatings ceremony step ≡ filter at t.rows.seatings = numbers_ordered (λ (x : SeatingRow). x.seat) _ _
     (IsPermutation-filter at _ _ stands.rows.seatings) rising in
-    ap (map (λ (row : SeatingRow). row.who)) (there ∙ sym order)
+    ap (map (λ (row : SeatingRow). row.who)) (mine ∙ sym order)
+
+-- steps with the people who are theirs among those of several
+pub people_are : (ceremony : ℕ) (from until : Option ℕ) (m : machine.Tables) (rows : List SeatingRow)
+    → ((step : ℕ) → is_past_until from until step ≡ true → people_at step rows ≡ seated_at m.seatings ceremony step)
+    → (steps : List StepRow) → AllByRecursion (IsStepWithin ceremony from until) steps → map (with_people rows) steps ≡ map (with_seated m.seatings) steps
+people_are ceremony from until m rows people [] all = refl
+people_are ceremony from until m rows people (x ∷ steps) all =
+    let own : people_at x.step rows ≡ seated_at m.seatings x.ceremony x.step =
+    people x.step all.0.within ∙ ap (λ c. seated_at m.seatings c x.step) (sym all.0.of) in
+    let made : List (List ℕ) → SeatedStep = λ seated. record { step = x; seated = seated } in
+    λ i. made (own i) ∷ people_are ceremony from until m rows people steps all.1 i

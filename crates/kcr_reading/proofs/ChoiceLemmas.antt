@@ -1,6 +1,8 @@
 -- Rows of a table, read one at a time: what a text chooses, and which of them comes next.
-use Rattle.std.proofs.Common.{◌≡◌, ℕ, ◌&&◌, Bool, true, List, [], ◌∷◌, map, filter, take, slice_get, Option, Some, Ordering, Less, Result}
-use Rattle.std.proofs.Common.{sym, ap, subst, ◌∙◌}
+use Rattle.std.proofs.Common.{◌≡◌, ℕ, ◌&&◌, Bool, true, List, [], ◌∷◌, ◌++◌, map, filter, take, slice_get, Option, Some, Ordering, Less, Result}
+use Rattle.std.proofs.Common.{false, refl, sym, ap, subst, ◌∙◌}
+use Rattle.std.specs.List.{AllByRecursion}
+use Rattle.std.proofs.lemmas.List.{map-append}
 use Rattle.std.specs.Prelude.{IfOk}
 use Rattle.std.specs.List.{list_all}
 use Rattle.std.specs.Cmp.{IsTotalOrder}
@@ -9,7 +11,7 @@ use Rattle.sqlite.specs.Effect.{Database}
 use Rattle.sqlite.specs.Order.{Row}
 use Rattle.sqlite.specs.Term.{Term, holds}
 use Rattle.sqlite.specs.Tree.{IsAscending}
-use Rattle.sqlite_trees.proofs.ListLemmas.{ascending_weaker, ascending_from_map, ascending-filter, IsPermutation-same}
+use Rattle.sqlite_trees.proofs.ListLemmas.{all_both, all_weaker, all-filter, ascending_weaker, ascending_from_map, ascending-filter, IsPermutation-same}
 use Rattle.kcr_base.specs.declared.refusal.Refusal.{Refusal}
 use Rattle.kcr_rows.specs.Keyed.{Place, by_key}
 use Rattle.kcr_rows.proofs.FailLemmas.{if_ok}
@@ -20,10 +22,11 @@ use Rattle.kcr_tables.specs.Held.{Tables, Holds}
 use Rattle.kcr_tables.specs.Joint.{HoldsTables, KeepsTables}
 use Rattle.kcr_tables.proofs.HoldLemmas.{held_of}
 use Rattle.kcr_tables.specs.Statements.{Choice}
-use Rattle.kcr_reading.specs.First.{ShowsFirst, IsFirst}
-use Rattle.kcr_reading.specs.ToCome.{Gives}
-use Rattle.kcr_reading.proofs.NumberLemmas.{rises_among}
-use Rattle.kcr_reading.proofs.OrderLemmas.{later, moved, gives_first}
+use Rattle.kcr_reading.specs.First.{ShowsSome, InOrder}
+use Rattle.kcr_reading.specs.ToCome.{Gives, GivesSeveral, Begin}
+use Rattle.kcr_reading.proofs.FirstLemmas.{all_take, ascending_take}
+use Rattle.kcr_reading.proofs.NumberLemmas.{passing, rises_among}
+use Rattle.kcr_reading.proofs.OrderLemmas.{later, moved, moved_on, gives_first, gives_several, none_past}
 
 -- ---- texts
 
@@ -36,9 +39,9 @@ by_test keys test params = record {
 }
 
 -- the text chooses the same by other words for its parameters
-pub shown_by : {sql : List ℕ} {place : Place} {params given : Row} {choice : Choice} → ShowsFirst sql place params choice → given ≡ params
-    → ShowsFirst sql place given choice
-shown_by {sql} {place} {choice = choice} shown is = subst (λ v. ShowsFirst sql place v choice) (sym is) shown
+pub shown_by : {count : ℕ} {sql : List ℕ} {place : Place} {params given : Row} {choice : Choice} → ShowsSome count sql place params choice → given ≡ params
+    → ShowsSome count sql place given choice
+shown_by {count} {sql} {place} {choice = choice} shown is = subst (λ v. ShowsSome count sql place v choice) (sym is) shown
 
 -- ---- calls
 
@@ -47,6 +50,18 @@ pub by_tables : {A Clean : Type 0} {db : Database} (r : Result A Refusal) (Found
     → (Clean → (t : Tables) → Holds db t → IfOk r (Found t)) → ((m : machine.Tables) (k : KeepsTables m db.trees) (a : A) → Found k.t a → Says m a)
     → Clean → (m : machine.Tables) → HoldsTables m db → IfOk r (Says m)
 by_tables {db = db} r Found Says found says clean m h = if_ok _ _ (says m h.tables) r (found clean h.tables.t (held_of m db h))
+
+-- what is made of the rows is the next of what is made of all
+pub several_made : {X Y : Type 0} (make : X → Y) (all rows rest : List X) → GivesSeveral all rows rest → (made : List Y) → made ≡ map make rows
+    → GivesSeveral (map make all) made (map make rest)
+several_made make all rows rest gives made is = record {
+  next = ap (map make) gives.next ∙ map-append make rows rest ∙ ap (λ l. l ++ map make rest) (sym is);
+  ends = λ none. ap (map make) (gives.ends (unmade make rows (sym is ∙ none)));
+}
+  where
+    unmade : {X Y : Type 0} (make : X → Y) (xs : List X) → map make xs ≡ [] → xs ≡ []
+    unmade make [] h = refl
+    unmade make (x ∷ xs) h = absurd (let none : make x ∷ map make xs ≡ [] = h in cc)
 
 -- what is made of the row that was found is the next of what is made of the rows
 pub gives_made : {X Y : Type 0} (make : X → Y) (all rest : List X) (found : Option X) (row : X) → found ≡ Some row → Gives all found rest
@@ -71,17 +86,37 @@ module _ {X K : Type 0} (row_of : X → Row) (compare : K → K → Ordering) (t
   rise = rises_among test _ ts (ascending_weaker ByKey _ (λ a b h p q. sym (among a b p q) ∙ h) ts by_keys)
 
   module _ (come : Option K → List X) (come_is : (last : Option K) → come last ≡ filter (past last) (filter test ts)) (last : Option K) where
-    -- what the text chooses is the first of those to come
-    pub first_come : (terms : List Term) (params : Row) → ((x : X) → (by_test keys terms params).passes (row_of x) ≡ (test x && past last x))
-        → (found : Option X) → IsFirst row_of (by_test keys terms params) ts found → found ≡ slice_get (come last) 0
-    first_come terms params chosen found first =
+    -- what holds of those that the text chooses, in order, holds of those to come
+    pub chosen_come : (terms : List Term) (params : Row) → ((x : X) → (by_test keys terms params).passes (row_of x) ≡ (test x && past last x))
+        → (Holds : List X → Type 0) → InOrder row_of (by_test keys terms params) ts Holds → Holds (come last)
+    chosen_come terms params chosen Holds holds =
         let chooses = filter_as _ _ chosen ts ∙ sym (filter-and test (past last) ts) in
-        first (filter (past last) (filter test ts)) (IsPermutation-same _ _ chooses)
-        (ascending-filter ByKey (past last) _ (ascending-filter ByKey test ts by_keys))
-        ∙ ap (λ l. slice_get l 0) (sym (come_is last))
+        subst Holds (sym (come_is last)) (holds (filter (past last) (filter test ts)) (IsPermutation-same _ _ chooses)
+        (ascending-filter ByKey (past last) _ (ascending-filter ByKey test ts by_keys)))
 
     -- it is the next row, and the others come behind it
     pub next_come : (found : Option X) → found ≡ slice_get (come last) 0 → Gives (come last) found (come (moved compare total key last found))
     next_come found is =
         rw (come_is last, come_is (moved compare total key last found))
         (gives_first compare total key past behind last (filter test ts) rise found (is ∙ ap (λ l. slice_get l 0) (come_is last)))
+
+    -- several of the first are the next rows, and the others come behind the last of them
+    pub several_come : (rows : List X) → Begin (come last) rows → GivesSeveral (come last) rows (come (moved_on compare total key last rows))
+    several_come rows begin =
+        rw (come_is last, come_is (moved_on compare total key last rows))
+        (gives_several compare total key past behind last (filter test ts) rise rows (subst (λ l. Begin l rows) (come_is last) begin))
+
+    -- each of them passes the test and stands behind the last, and none behind the last of them
+    pub within_come : (count : ℕ) (rows : List X) → rows ≡ take count (come last)
+        → AllByRecursion (λ x. (test x ≡ true) × ((past last x ≡ true) × (past (moved_on compare total key last rows) x ≡ false))) rows
+    within_come count rows is =
+        let those : List X = filter (past last) (filter test ts) in
+        let taken : rows ≡ take count those = is ∙ ap (take count) (come_is last) in
+        let every = λ (P : X → Type 0) (all : AllByRecursion P those). subst (AllByRecursion P) (sym taken) (all_take P count those all) in
+        let up : IsAscending (λ a b. compare (key a) (key b) ≡ Less) rows =
+        subst (IsAscending _) (sym taken) (ascending_take _ count those (ascending-filter _ (past last) (filter test ts) rise)) in
+        let tests = every (λ x. test x ≡ true) (all-filter (λ x. test x ≡ true) (past last) (filter test ts) (passing test ts)) in
+        let from = every (λ x. past last x ≡ true) (passing (past last) (filter test ts)) in
+        let until = all_weaker _ (λ x. past (moved_on compare total key last rows) x ≡ false) (λ x e. behind _ x ∙ e) rows
+        (none_past compare total key last rows up) in
+        all_both _ _ _ (λ x t b. (t, b)) rows tests (all_both _ _ _ (λ x f u. (f, u)) rows from until)

@@ -40,7 +40,7 @@ use Rattle.kcr_tables.specs.Joint.{KeepsTables}
 use Rattle.kcr_tables.specs.Statements.{key_order, Choice}
 use Rattle.kcr_reading.specs.First.{ShowsFirst, IsFirst}
 use Rattle.kcr_reading.specs.ToCome.{Gives, is_past, is_behind, is_loose, loose_past, items_by_code, serials_past, safe_place, safes_in_order, safes_past}
-use Rattle.kcr_reading.proofs.ChoiceLemmas.{by_test, first_come, next_come}
+use Rattle.kcr_reading.proofs.ChoiceLemmas.{by_test, chosen_come, next_come}
 use Rattle.kcr_reading.proofs.NumberLemmas.{behind_text, one_test, text_key, text_later, number_cmp, number_later}
 use Rattle.kcr_reading.proofs.OrderLemmas.{moved, ordered, numbers_ordered, gives_first}
 
@@ -86,7 +86,9 @@ module _ {X : Type 0} (row_of : X → Row) (key : X → List ℕ) (row_is : (x :
 
       pub first_behind : (terms : List Term) (params : Row) → ((x : X) → (by_test 1 terms params).passes (row_of x) ≡ (test x && past last x))
           → (found : Option X) → IsFirst row_of (by_test 1 terms params) ts found → found ≡ slice_get (come last) 0
-      first_behind = first_come row_of (slice_cmp nat_cmp) nat_list_cmp_total key past (text_later key) 1 test (λ a b _ _. keyed a b) ts up come come_is last
+      first_behind terms params chosen found =
+          chosen_come row_of (slice_cmp nat_cmp) nat_list_cmp_total key past (text_later key) 1 test (λ a b _ _. keyed a b) ts up come come_is last
+          terms params chosen (λ l. found ≡ slice_get l 0)
 
       pub next_behind : (found : Option X) → found ≡ slice_get (come last) 0
           → Gives (come last) found (come (moved (slice_cmp nat_cmp) nat_list_cmp_total key last found))

@@ -1,10 +1,11 @@
--- A reading of a table that gives the first row alone.
-use Rattle.std.proofs.Common.{◌≡◌, ℕ, List, [], ◌∷◌, ◌++◌, map, filter, take, length, slice_get, Option, Some, None, ◌<◌, arith, pos, refl, sym, ap, subst, ◌∙◌}
+-- A reading of a table that gives the first rows alone, and what is the last of them.
+use Rattle.std.proofs.Common.{◌≡◌, ℕ, zero, suc, List, [], ◌∷◌, ◌++◌, map, filter, take, drop, length, slice_get, Option, Some, None, ◌<◌, arith, pos}
+use Rattle.std.proofs.Common.{refl, sym, ap, subst, ◌∙◌}
 use Rattle.std.proofs.Common.{Less}
 use Rattle.std.specs.List.{AllByRecursion}
 use Rattle.std.specs.Option.{option_to_list}
 use Rattle.std.specs.List.Sorted.{IsPermutation}
-use Rattle.std.proofs.lemmas.List.{map-id, take-map}
+use Rattle.std.proofs.lemmas.List.{map-id, take-map, take-append-drop}
 use Rattle.std.proofs.lemmas.List.Sorted.{IsPermutation-map, IsPermutation-trans, IsPermutation-sym}
 use Rattle.sqlite.specs.declared.types.Value.TheVariants.{Null}
 use Rattle.sqlite.specs.Order.{Row}
@@ -21,25 +22,32 @@ use Rattle.kcr_rows.proofs.ReadLemmas.{asking, kept_cells}
 use Rattle.kcr_rows.proofs.TableLemmas.{same_values}
 use Rattle.kcr_tables.specs.Schema.{register_schema}
 use Rattle.kcr_tables.specs.Statements.{Choice}
-use Rattle.kcr_reading.specs.First.{ShowsFirst}
+use Rattle.kcr_reading.specs.First.{ShowsSome}
+use Rattle.kcr_reading.specs.ToCome.{Begin}
 
-all_take : {X : Type 0} (P : X → Type 0) (xs : List X) → AllByRecursion P xs → AllByRecursion P (take 1 xs)
-all_take P [] all = tt
-all_take P (x ∷ xs) all = (all.0, tt)
+pub all_take : {X : Type 0} (P : X → Type 0) (count : ℕ) (xs : List X) → AllByRecursion P xs → AllByRecursion P (take count xs)
+all_take P zero xs all = tt
+all_take P (suc count) [] all = tt
+all_take P (suc count) (x ∷ xs) all = (all.0, all_take P count xs all.1)
 
-module _ (sql : List ℕ) (place : Place) (params : Row) (choice : Choice) (s : ShowsFirst sql place params choice) where
+pub ascending_take : {X : Type 0} (R : X → X → Type 0) (count : ℕ) (xs : List X) → IsAscending R xs → IsAscending R (take count xs)
+ascending_take R zero xs up = tt
+ascending_take R (suc count) [] up = tt
+ascending_take R (suc count) (x ∷ xs) up = (all_take (R x) count xs up.0, ascending_take R count xs up.1)
+
+module _ (count : ℕ) (sql : List ℕ) (place : Place) (params : Row) (choice : Choice) (s : ShowsSome count sql place params choice) where
   abbrev q : Query
-  q = asking place.tree s.test s.project s.order (pos 1)
+  q = asking place.tree s.test s.project s.order (pos count)
 
   abbrev ranked : Row → Output
   ranked r = (choice.rank r, r)
 
   first_rows : (db : Trees) (rows those : List Row) → IsPermutation (filter choice.passes (map (cells place) (db place.tree))) those
       → IsAscending (λ a b. choice.compare a b ≡ Less) those
-      → IsAnswer q (overlay db []) params rows → rows ≡ take 1 those
+      → IsAnswer q (overlay db []) params rows → rows ≡ take count those
   first_rows db rows those same up a =
       let kept : a.kept ≡ map ranked (filter choice.passes (map (cells place) (db place.tree))) =
-      kept_cells place s.test s.project s.order (pos 1) params choice.passes ranked
+      kept_cells place s.test s.project s.order (pos count) params choice.passes ranked
       (λ r i. (s.is i).shows r) (λ r i. (s.is i).passes r) (λ i. (s.is i).is_far) db rows a in
       let turned = IsPermutation-map ranked _ _ (IsPermutation-sym _ _ same) in
       let strict : IsAscending (λ x y. output_cmp q x y ≡ Less) (map ranked those) =
@@ -48,7 +56,7 @@ module _ (sql : List ℕ) (place : Place) (params : Row) (choice : Choice) (s : 
       let ordered : a.ordered ≡ map ranked those =
       sorted_unique (output_cmp q) (output_cmp_total q) _ _ strict
       (IsPermutation-trans _ _ _ (subst (IsPermutation (map ranked those)) (sym kept) turned) a.same) a.sorted in
-      a.shown ∙ ap (λ l. take 1 (map (λ (o : Output). o.1) l)) ordered ∙ ap (take 1) (map-map (λ (o : Output). o.1) ranked those ∙ map-id those)
+      a.shown ∙ ap (λ l. take count (map (λ (o : Output). o.1) l)) ordered ∙ ap (take count) (map-map (λ (o : Output). o.1) ranked those ∙ map-id those)
 
   module _ {X : Type 0} (row_of : X → Row) where
     pub shown_first : (IsRead IsStored : X → Type 0) → ((x y : X) → IsRead x → IsStored y → row_of x ≡ row_of y → x ≡ y) → (old new : State) (xs : List X)
@@ -56,7 +64,7 @@ module _ (sql : List ℕ) (place : Place) (params : Row) (choice : Choice) (s : 
         → Shown sql params old new (map row_of xs) → AllByRecursion IsRead xs → (ys : List X) → AllByRecursion IsStored ys
         → Keeps place old.now.trees (map row_of ys)
         → (those : List X) → IsPermutation (filter (λ x. choice.passes (row_of x)) ys) those
-        → IsAscending (λ a b. choice.compare (row_of a) (row_of b) ≡ Less) those → xs ≡ take 1 those
+        → IsAscending (λ a b. choice.compare (row_of a) (row_of b) ≡ Less) those → xs ≡ take count those
     shown_first IsRead IsStored one old new xs has h read ys held keeps those same up =
         let it = reads_as sql params old new register_schema has _ (λ i. (s.is i).command) s.bare (λ i. (s.is i).reads_catalog) (map row_of xs) h in
         let stored : IsPermutation (filter choice.passes (map (cells place) (old.now.trees place.tree))) (map row_of those) =
@@ -65,7 +73,20 @@ module _ (sql : List ℕ) (place : Place) (params : Row) (choice : Choice) (s : 
         let rows = first_rows old.now.trees (map row_of xs) (map row_of those) stored (ascending-map (λ a b. choice.compare a b ≡ Less) row_of those up)
         (it.answer Null) in
         let known : AllByRecursion IsStored those = all-permutation IsStored _ _ same (all-filter IsStored (λ x. choice.passes (row_of x)) ys held) in
-        same_values row_of IsRead IsStored one xs (take 1 those) read (all_take IsStored those known) (rows ∙ take-map row_of 1 those)
+        same_values row_of IsRead IsStored one xs (take count those) read (all_take IsStored count those known) (rows ∙ take-map row_of count those)
+
+-- some of the first of these are a beginning of them
+pub begin_take : {X : Type 0} (count : ℕ) → 0 < count → (all rows : List X) → rows ≡ take count all → Begin all rows
+begin_take count low all rows is = record {
+  rest = drop count all;
+  first = sym (take-append-drop count all) ∙ ap (λ l. l ++ drop count all) (sym is);
+  some = λ none. empty count low all (sym is ∙ none);
+}
+  where
+    empty : {X : Type 0} (count : ℕ) → 0 < count → (xs : List X) → take count xs ≡ [] → xs ≡ []
+    empty zero low xs h = absurd (omega arith)
+    empty (suc count) low [] h = refl
+    empty (suc count) low (x ∷ xs) h = absurd (let none : x ∷ take count xs ≡ [] = h in cc)
 
 -- what the last of at most one is
 pub popped : {X : Type 0} (xs rest those : List X) (found : Option X) → xs ≡ take 1 those → xs ≡ rest ++ option_to_list found → (found ≡ None → xs ≡ [])

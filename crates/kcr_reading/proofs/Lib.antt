@@ -1,3 +1,4 @@
+mod AheadLemmas
 mod CeremonyLemmas
 mod ChoiceLemmas
 mod CustodyLemmas

@@ -1,10 +1,10 @@
 -- Numbers and texts as the database compares them.
 use Rattle.std.proofs.lemmas.Bool.{and_parts, eqb-true}
 use Rattle.std.proofs.lemmas.Bool.Decides.{nat_tests}
-use Rattle.std.proofs.Common.{◌≡◌, arith, ℕ, pos, negsuc, ◌&&◌, ◌==◌, Bool, true, false, cond, List, [], ◌∷◌, filter, Option, Some, None, Ordering, is_lt}
-use Rattle.std.proofs.Common.{refl, sym, ap, ◌∙◌}
+use Rattle.std.proofs.Common.{◌≡◌, arith, ℕ, pos, negsuc, ◌&&◌, ◌==◌, not, Bool, true, false, cond, List, [], ◌∷◌, filter, Option, Some, None, Ordering, is_lt}
+use Rattle.std.proofs.Common.{Less, Equal, Greater, refl, sym, ap, ◌∙◌}
 use Rattle.std.specs.List.{AllByRecursion}
-use Rattle.std.specs.Ordering.{is_gt, is_eq, nat_cmp, int_cmp, ordering_then}
+use Rattle.std.specs.Ordering.{is_gt, is_le, is_eq, nat_cmp, int_cmp, ordering_then}
 use Rattle.std.specs.Cmp.Lexicographic.{slice_cmp}
 use Rattle.std.proofs.lemmas.Cmp.{nat_cmp_total, nat_list_cmp_total, tied_itself}
 use Rattle.sqlite.specs.declared.types.Value.TheVariants.{Int, Text}
@@ -33,6 +33,12 @@ behind_number (Some l) n = ap is_gt (number_cmp n l) ∙ sym (lt_is l n ∙ ap i
 
 pub behind_text : (last text : List ℕ) → is_gt (value_cmp (Text text) (Text last)) ≡ is_behind (Some last) text
 behind_text last text = ap is_gt (value_cmp-Text text last) ∙ sym (ap is_lt (nat_list_cmp_total.antisymm last text) ∙ turned (slice_cmp nat_cmp text last))
+
+pub up_to_number : (last : Option ℕ) (n : ℕ) → is_le (value_cmp (Int (pos n)) (Int (bound_of last))) ≡ not (is_past last n)
+up_to_number last n = le_is (value_cmp (Int (pos n)) (Int (bound_of last))) ∙ ap not (behind_number last n)
+  where
+    le_is : (o : Ordering) → is_le o ≡ not (is_gt o)
+    le_is o = elim o as (λ o. is_le o ≡ not (is_gt o)) [ Less ↦ refl | Equal ↦ refl | Greater ↦ refl ]
 
 pub equal_number : (a b : ℕ) → is_eq (value_cmp (Int (pos a)) (Int (pos b))) ≡ (a == b)
 equal_number a b = sym (number_ties a b ∙ ties_is _ _)
@@ -72,7 +78,7 @@ same_step ceremony step c s d r a b xs ys p q =
 
 -- those that pass rise where any two that pass do
 
-passing : {X : Type 0} (p : X → Bool) (xs : List X) → AllByRecursion (λ x. p x ≡ true) (filter p xs)
+pub passing : {X : Type 0} (p : X → Bool) (xs : List X) → AllByRecursion (λ x. p x ≡ true) (filter p xs)
 passing p [] = tt
 passing p (x ∷ xs) = go (p x) refl (passing p xs)
   where

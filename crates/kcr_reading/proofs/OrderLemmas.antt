@@ -1,6 +1,6 @@
 -- Rows in an order: what stands behind the first of them, and that rows that rise are the rows in order.
-use Rattle.std.proofs.Common.{◌≡◌, ℕ, ◌+◌, Bool, true, false, cond, List, [], ◌∷◌, filter, slice_get, get_or, Option, Some, None, Ordering, Less, Equal}
-use Rattle.std.proofs.Common.{Greater}
+use Rattle.std.proofs.Common.{◌≡◌, ℕ, ◌+◌, ◌-◌, Bool, true, false, cond, List, [], ◌∷◌, ◌++◌, length, filter, slice_get, get_or, Option, Some, None}
+use Rattle.std.proofs.Common.{Ordering, Less, Equal, Greater}
 use Rattle.std.proofs.Common.{is_lt, nat_lt, IsSorted, refl, sym, ap, subst, ◌∙◌, arith}
 use Rattle.std.specs.List.{AllByRecursion}
 use Rattle.std.specs.List.Sorted.{IsPermutation}
@@ -14,7 +14,7 @@ use Rattle.sqlite_trees.proofs.ListLemmas.{all_weaker, all-filter, all-slice_get
 use Rattle.sqlite_keyed.specs.Lists.{insert_sorted, sort_by}
 use Rattle.sqlite_keyed.proofs.SortLemmas.{sorted_is-sort_by}
 use Rattle.kcr_history.specs.Prints.{put_in_order, in_order}
-use Rattle.kcr_reading.specs.ToCome.{Gives}
+use Rattle.kcr_reading.specs.ToCome.{Gives, GivesSeveral, Begin}
 
 less : (o : Ordering) → is_lt o ≡ true → o ≡ Less
 less o h = grind arith
@@ -89,6 +89,51 @@ module _ {K : Type 0} (compare : K → K → Ordering) (total : IsTotalOrder com
   gives_first past same last xs up found is =
       let there : (l : Option K) → filter (past l) xs ≡ filter (later l) xs = λ l i. filter (λ x. same l x i) xs in
       rw (there last, there (moved last found)) (gives_later last xs up found (is ∙ ap (λ l. slice_get l 0) (there last)))
+
+  -- ---- the same of several that are given
+
+  -- where the last moves to the last of these rows
+  abbrev pub moved_on : Option K → List X → Option K
+  moved_on last [] = last
+  moved_on last (x ∷ rows) = moved_on (Some (key x)) rows
+
+  pub moved_last : (last : Option K) (rows : List X) → moved last (slice_get rows (length rows - 1)) ≡ moved_on last rows
+  moved_last last [] = refl
+  moved_last last (x ∷ rows) = ap (λ k. moved last (slice_get (x ∷ rows) k)) (omega arith) ∙ on last x rows
+    where
+      on : (last : Option K) (x : X) (rows : List X) → moved last (slice_get (x ∷ rows) (length rows)) ≡ moved_on (Some (key x)) rows
+      on last x [] = refl
+      on last x (y ∷ rows) = on last y rows
+
+  pub moved_to : (last : Option K) (rows : List X) (found : Option X) → found ≡ slice_get rows (length rows - 1) → moved_on last rows ≡ moved last found
+  moved_to last rows found ends = sym (ap (moved last) ends ∙ moved_last last rows)
+
+  -- behind the first of those that stand behind the last, however many are taken, are the others of them
+  pub gives_rest : (past : Option K → X → Bool) → ((last : Option K) (x : X) → past last x ≡ later last x) → (last : Option K) (xs : List X)
+      → IsAscending Rises xs → (rows rest : List X) → filter (past last) xs ≡ rows ++ rest → rest ≡ filter (past (moved_on last rows)) xs
+  gives_rest past same last xs up [] rest is = sym is
+  gives_rest past same last xs up (x ∷ rows) rest is =
+      let next = gives_first past same last xs up (Some x) (sym (ap (λ l. slice_get l 0) is)) in
+      let more : filter (past (Some (key x))) xs ≡ rows ++ rest = cc in
+      gives_rest past same (Some (key x)) xs up rows rest more
+
+  pub gives_several : (past : Option K → X → Bool) → ((last : Option K) (x : X) → past last x ≡ later last x) → (last : Option K) (xs : List X)
+      → IsAscending Rises xs → (rows : List X) → Begin (filter (past last) xs) rows
+      → GivesSeveral (filter (past last) xs) rows (filter (past (moved_on last rows)) xs)
+  gives_several past same last xs up rows begin =
+      let next = begin.first ∙ ap (λ l. rows ++ l) (gives_rest past same last xs up rows begin.rest begin.first) in
+      record { next = next; ends = λ none. sym (next ∙ ap (λ l. l ++ filter (past (moved_on last rows)) xs) none) ∙ begin.some none }
+
+  -- and none of those that were taken stands behind the last of them
+  at_most_last : (k : K) (x : X) → is_lt (compare k (key x)) ≡ false → (rows : List X) → AllByRecursion (Rises x) rows
+      → later (moved_on (Some k) rows) x ≡ false
+  at_most_last k x h [] all = h
+  at_most_last k x h (y ∷ rows) all = at_most_last (key y) x (lt_is_gt x y ∙ ap is_gt all.0) rows all.1
+
+  pub none_past : (last : Option K) (rows : List X) → IsAscending Rises rows → AllByRecursion (λ x. later (moved_on last rows) x ≡ false) rows
+  none_past last [] up = tt
+  none_past last (x ∷ rows) up =
+      (at_most_last (key x) x (ap is_lt (tied_itself total (key x))) rows up.0, none_past (Some (key x)) rows up.1)
 
   -- ---- rows in any order, put in order, are the rows that rise
 

@@ -1,6 +1,7 @@
--- The stays of a ceremony by their beginning, then initials, read one at a time, and the name of a person.
-use Rattle.std.proofs.Common.{◌≡◌, ℕ, pos, arith, ◌&&◌, ◌||◌, ◌==◌, nat_lt, not, Bool, true, false, cond, List, [], ◌∷◌, ◌++◌, map, filter, codes, slice_get}
-use Rattle.std.proofs.Common.{option_map, unwrap_or, inl, Option, Some, None, Ordering, Less, Equal, Greater, is_lt, refl, sym, ap, ap₂, subst, ◌∙◌}
+-- The stays of a ceremony by their beginning, then initials, and the name of a person.
+use Rattle.std.proofs.Common.{◌≡◌, ℕ, pos, arith, ◌&&◌, ◌||◌, ◌==◌, nat_lt, not, Bool, true, false, cond, List, [], ◌∷◌, ◌++◌, map, filter, slice_get, length}
+use Rattle.std.proofs.Common.{◌-◌, ◌<◌, append_assoc, option_map, unwrap_or, inl, Option, Some, None, Ordering, Less, Equal, Greater, is_lt, refl, sym}
+use Rattle.std.proofs.Common.{codes, ap, ap₂, subst, ◌∙◌}
 use Rattle.std.specs.List.{AllByRecursion, list_all}
 use Rattle.std.specs.Ordering.{is_eq, nat_cmp, then_cmp, ordering_then, ordering_reverse}
 use Rattle.std.specs.Cmp.{IsTotalOrder, tied_then}
@@ -47,11 +48,12 @@ use Rattle.kcr_tables.specs.Joint.{KeepsTables}
 use Rattle.kcr_tables.specs.StaysLaws as laws
 use Rattle.kcr_tables.proofs.HasLemmas.{has_right, filter_from, filter_to, filter_is, one_key_of}
 use Rattle.kcr_tables.specs.Statements.{key_order, Choice}
-use Rattle.kcr_reading.specs.First.{ShowsFirst, IsFirst, bound_of}
-use Rattle.kcr_reading.specs.ToCome.{Gives, is_behind, since_of, begins_with, begins_after, is_stay_past, listed_past}
+use Rattle.kcr_reading.specs.First.{ShowsSome, AreFirst, bound_of}
+use Rattle.kcr_reading.specs.ToCome.{Begin, GivesSeveral, is_behind, since_of, begins_with, begins_after, is_stay_past, listed_past}
 use Rattle.kcr_reading.proofs.ChoiceLemmas.{by_test}
+use Rattle.kcr_reading.proofs.FirstLemmas.{begin_take}
 use Rattle.kcr_reading.proofs.NumberLemmas.{number_cmp, behind_number, behind_text, equal_number, one_test, with_tests, text_key, rises_among}
-use Rattle.kcr_reading.proofs.OrderLemmas.{later, moved, apart_on, sorted, gives_first}
+use Rattle.kcr_reading.proofs.OrderLemmas.{later, moved, moved_to, apart_on, sorted, gives_several}
 
 -- ---- the order
 
@@ -138,10 +140,10 @@ module _ (ceremony : ℕ) (m : machine.Tables) {db : Trees} (k : KeepsTables m d
       (filter-and (is_of ceremony) test k.t.rows.stays ∙ sym (filter_as _ _ chosen k.t.rows.stays))
       (IsPermutation-filter test _ _ (same_stays ceremony k.stands.rows.stays))
 
--- ---- the next that begins with the last
+-- ---- the next that begin with the last
 
 abbrev pub together_text : List ℕ
-together_text = codes "SELECT who, since, ceremony, until FROM stays WHERE ceremony = ?1 AND since = ?2 AND who > ?3 ORDER BY who, since LIMIT 1"
+together_text = codes "SELECT who, since, ceremony, until FROM stays WHERE ceremony = ?1 AND since = ?2 AND who > ?3 ORDER BY who, since LIMIT 16"
 
 abbrev together_test : List Term
 together_test = op2 (Compare Eq Binary) (col 1 3) (col 0 0) ∷ op2 (Compare Eq Binary) (col 1 2) (col 0 1) ∷ op2 (Compare Gt Binary) (col 1 1) (col 0 2) ∷ []
@@ -152,7 +154,7 @@ together_params ceremony last = Int (pos ceremony) ∷ Int (pos last.since) ∷ 
 abbrev pub together : ℕ → Stay → Choice
 together ceremony last = by_test 2 together_test (together_params ceremony last)
 
-pub shows_together : (ceremony : ℕ) (last : Stay) → ShowsFirst together_text stays_place (together_params ceremony last) (together ceremony last)
+pub shows_together : (ceremony : ℕ) (last : Stay) → ShowsSome 16 together_text stays_place (together_params ceremony last) (together ceremony last)
 unfolding understood everything
 shows_together ceremony last =
     record { test = together_test; project = laws.project; order = key_order stays_place; names = laws.names; bare = (refl, refl); is = refl }
@@ -162,13 +164,13 @@ unfolding binary
 passes_together ceremony last x =
     with_tests _ _ _ _ (equal_number x.ceremony ceremony) (with_tests _ _ _ _ (equal_number x.since last.since) (one_test _ ∙ behind_text last.who x.who))
 
-pub first_together : (ceremony : ℕ) (last : Stay) (m : machine.Tables) {db : Trees} (k : KeepsTables m db) (found : Option Stay)
-    → IsFirst stay_row (together ceremony last) k.t.rows.stays found → found ≡ slice_get (filter (begins_with last) (those ceremony m)) 0
-first_together ceremony last m k found first =
-    first (filter (begins_with last) (those ceremony m))
+pub first_together : (ceremony : ℕ) (last : Stay) (count : ℕ) → 0 < count → (m : machine.Tables) {db : Trees} (k : KeepsTables m db) (rows : List Stay)
+    → AreFirst count stay_row (together ceremony last) k.t.rows.stays rows → Begin (filter (begins_with last) (those ceremony m)) rows
+first_together ceremony last count low m k rows first =
+    begin_take count low _ rows (first (filter (begins_with last) (those ceremony m))
     (passed ceremony m k (together ceremony last).passes (begins_with last) (passes_together ceremony last))
     (rises_among (begins_with last) (λ (a b : Stay). by_key 2 (stay_row a) (stay_row b) ≡ Less) (those ceremony m)
-    (ascending_weaker Rises _ keyed (those ceremony m) (rise_here ceremony m k)))
+    (ascending_weaker Rises _ keyed (those ceremony m) (rise_here ceremony m k))))
   where
     keyed : (a b : Stay) → Rises a b → begins_with last a ≡ true → begins_with last b ≡ true → by_key 2 (stay_row a) (stay_row b) ≡ Less
     keyed a b h p q =
@@ -179,10 +181,10 @@ first_together ceremony last m k found first =
         let less : slice_cmp nat_cmp a.who b.who ≡ Less = ap (λ o. ordering_then o (slice_cmp nat_cmp a.who b.who)) (sym tied) ∙ h in
         by_who a b ∙ ap (λ o. ordering_then o (nat_cmp a.since b.since)) less
 
--- ---- the first that begins later
+-- ---- the first that begin later
 
 abbrev pub later_text : List ℕ
-later_text = codes "SELECT who, since, ceremony, until FROM stays WHERE ceremony = ?1 AND since > ?2 ORDER BY since, who LIMIT 1"
+later_text = codes "SELECT who, since, ceremony, until FROM stays WHERE ceremony = ?1 AND since > ?2 ORDER BY since, who LIMIT 16"
 
 abbrev later_test : List Term
 later_test = op2 (Compare Eq Binary) (col 1 3) (col 0 0) ∷ op2 (Compare Gt Binary) (col 1 2) (col 0 1) ∷ []
@@ -197,7 +199,7 @@ abbrev pub begins_later : ℕ → Option Stay → Choice
 begins_later ceremony last =
     record (by_test 2 later_test (later_params ceremony last)) { rank = rank; compare = λ a b. key_cmp 0 (rising 2 []) (rank a) (rank b) }
 
-pub shows_later : (ceremony : ℕ) (last : Option Stay) → ShowsFirst later_text stays_place (later_params ceremony last) (begins_later ceremony last)
+pub shows_later : (ceremony : ℕ) (last : Option Stay) → ShowsSome 16 later_text stays_place (later_params ceremony last) (begins_later ceremony last)
 unfolding understood everything
 shows_later ceremony last = record {
   test = later_test;
@@ -215,13 +217,13 @@ passes_later ceremony last x = with_tests _ _ _ _ (equal_number x.ceremony cerem
 by_since : (ceremony : ℕ) (last : Option Stay) (a b : Stay) → (begins_later ceremony last).compare (stay_row a) (stay_row b) ≡ listed a b
 by_since ceremony last a b = ap₂ (λ o p. ordering_then o p) (number_cmp a.since b.since) (then-Equal _ ∙ value_cmp-Text a.who b.who)
 
-pub first_later : (ceremony : ℕ) (last : Option Stay) (m : machine.Tables) {db : Trees} (k : KeepsTables m db) (found : Option Stay)
-    → IsFirst stay_row (begins_later ceremony last) k.t.rows.stays found → found ≡ slice_get (filter (begins_after last) (those ceremony m)) 0
-first_later ceremony last m k found first =
-    first (filter (begins_after last) (those ceremony m))
+pub first_later : (ceremony : ℕ) (last : Option Stay) (count : ℕ) → 0 < count → (m : machine.Tables) {db : Trees} (k : KeepsTables m db) (rows : List Stay)
+    → AreFirst count stay_row (begins_later ceremony last) k.t.rows.stays rows → Begin (filter (begins_after last) (those ceremony m)) rows
+first_later ceremony last count low m k rows first =
+    begin_take count low _ rows (first (filter (begins_after last) (those ceremony m))
     (passed ceremony m k (begins_later ceremony last).passes (begins_after last) (passes_later ceremony last))
     (ascending_weaker Rises _ (λ a b h. by_since ceremony last a b ∙ h) _
-    (ascending-filter Rises (begins_after last) (those ceremony m) (rise_here ceremony m k)))
+    (ascending-filter Rises (begins_after last) (those ceremony m) (rise_here ceremony m k))))
 
 -- ---- both
 
@@ -259,30 +261,30 @@ split last (x ∷ xs) up = go (nat_lt last.since x.since) refl (is_lt (slice_cmp
         ≡ cond b (x ∷ filter (begins_with last) xs) (filter (begins_with last) xs)
         ++ filter (begins_after (Some last)) xs) [ true ↦ ap (λ l. x ∷ l) ih | false ↦ ih ])
 
-head_of_both : {X : Type 0} (xs ys : List X) (x : X) → Some x ≡ slice_get xs 0 → Some x ≡ slice_get (xs ++ ys) 0
-head_of_both [] ys x h = absurd (cc)
-head_of_both (z ∷ xs) ys x h = h
+-- a beginning of the first kind is one of both, and where there are none of the first kind one of the second is
+pub first_with : (ceremony : ℕ) (last : Stay) (m : machine.Tables) {db : Trees} (k : KeepsTables m db) (rows : List Stay) → (rows ≡ [] → ⊥)
+    → Begin (filter (begins_with last) (those ceremony m)) rows → Begin (listed_past (Some last) ceremony m) rows
+first_with ceremony last m k rows full begin = record {
+  rest = begin.rest ++ filter (begins_after (Some last)) (those ceremony m);
+  first = split last (those ceremony m) (rise_here ceremony m k) ∙ ap (λ l. l ++ filter (begins_after (Some last)) (those ceremony m)) begin.first
+      ∙ append_assoc rows begin.rest _;
+  some = λ none. absurd (full none);
+}
 
-head_of_second : {X : Type 0} (xs ys : List X) → None ≡ slice_get xs 0 → slice_get ys 0 ≡ slice_get (xs ++ ys) 0
-head_of_second [] ys h = refl
-head_of_second (z ∷ xs) ys h = absurd (cc)
+pub first_after : (ceremony : ℕ) (last : Stay) (m : machine.Tables) {db : Trees} (k : KeepsTables m db) (none : List Stay)
+    → none ≡ [] → Begin (filter (begins_with last) (those ceremony m)) none
+    → (rows : List Stay) → Begin (filter (begins_after (Some last)) (those ceremony m)) rows → Begin (listed_past (Some last) ceremony m) rows
+first_after ceremony last m k none empty together rows begin =
+    subst (λ l. Begin l rows) (sym (split last (those ceremony m) (rise_here ceremony m k)
+    ∙ ap (λ l. l ++ filter (begins_after (Some last)) (those ceremony m)) (together.some empty))) begin
 
-pub first_with : (ceremony : ℕ) (last : Stay) (m : machine.Tables) {db : Trees} (k : KeepsTables m db) (x : Stay)
-    → Some x ≡ slice_get (filter (begins_with last) (those ceremony m)) 0 → Some x ≡ slice_get (listed_past (Some last) ceremony m) 0
-first_with ceremony last m k x h = head_of_both _ _ x h ∙ ap (λ l. slice_get l 0) (sym (split last (those ceremony m) (rise_here ceremony m k)))
-
-pub first_after : (ceremony : ℕ) (last : Stay) (m : machine.Tables) {db : Trees} (k : KeepsTables m db)
-    → None ≡ slice_get (filter (begins_with last) (those ceremony m)) 0
-    → (found : Option Stay) → found ≡ slice_get (filter (begins_after (Some last)) (those ceremony m)) 0
-    → found ≡ slice_get (listed_past (Some last) ceremony m) 0
-first_after ceremony last m k none found h =
-    h ∙ head_of_second _ _ none ∙ ap (λ l. slice_get l 0) (sym (split last (those ceremony m) (rise_here ceremony m k)))
-
-pub next_listed : (ceremony : ℕ) (last : Option Stay) (m : machine.Tables) {db : Trees} (k : KeepsTables m db) (found : Option Stay)
-    → found ≡ slice_get (listed_past last ceremony m) 0
-    → Gives (listed_past last ceremony m) found (listed_past (moved listed listed_total (λ (s : Stay). s) last found) ceremony m)
-next_listed ceremony last m k found first =
-    gives_first listed listed_total (λ (s : Stay). s) is_stay_past past_later last (those ceremony m) (rise_here ceremony m k) found first
+pub next_listed : (ceremony : ℕ) (last : Option Stay) (m : machine.Tables) {db : Trees} (k : KeepsTables m db) (rows : List Stay) (found : Option Stay)
+    → found ≡ slice_get rows (length rows - 1) → Begin (listed_past last ceremony m) rows
+    → GivesSeveral (listed_past last ceremony m) rows (listed_past (moved listed listed_total (λ (s : Stay). s) last found) ceremony m)
+next_listed ceremony last m k rows found ends begin =
+    subst (λ l. GivesSeveral (listed_past last ceremony m) rows (listed_past l ceremony m))
+    (moved_to listed listed_total (λ (s : Stay). s) last rows found ends)
+    (gives_several listed listed_total (λ (s : Stay). s) is_stay_past past_later last (those ceremony m) (rise_here ceremony m k) rows begin)
 
 -- ---- the name of the one person with these initials
 

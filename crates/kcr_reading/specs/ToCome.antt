@@ -1,6 +1,9 @@
 -- What of the rows that are read one at a time is still to come, by the tables of the machine.
-use Rattle.std.specs.Prelude.{◌≡◌, ℕ, ◌+◌, ◌*◌, ◌==◌, Bool, true, false, ◌&&◌, nat_lt, List, [], ◌∷◌, map, filter}
-use Rattle.std.specs.Prelude.{Option, Some, None}
+use Rattle.std.specs.Prelude.{◌≡◌, ℕ, ◌+◌, ◌*◌, ◌==◌, Bool, true, false, ◌&&◌, not, nat_lt, List, [], ◌∷◌, ◌++◌}
+use Rattle.std.specs.Prelude.{map, filter, Option, Some, None}
+use Rattle.std.specs.Global.{Global}
+use Rattle.std.specs.Vec.Iter.{into_iter_items}
+use Rattle.std.specs.declared.vec.IntoIter.{IntoIter}
 use Rattle.kcr_base.specs.Same.{is_before, facility_number}
 use Rattle.kcr_rows.specs.States.{safe_digit}
 use Rattle.kcr_custody.specs.Custody.{lies_in}
@@ -27,6 +30,22 @@ use Rattle.kcr_reading.specs.declared.steps.SeatedStep.{SeatedStep}
 abbrev pub Gives : {X : Type 0} → List X → Option X → List X → Type 0
 Gives all None rest = (all ≡ []) × (rest ≡ [])
 Gives all (Some row) rest = all ≡ row ∷ rest
+
+-- the rows are the next of those to come, and without one none comes
+pub record GivesSeveral {X : Type 0} (all rows rest : List X) : Type 0 where
+  pub next : all ≡ rows ++ rest
+  pub ends : rows ≡ [] → rest ≡ []
+
+-- the rows are the first of these, and there is one where these have one
+pub record Begin {X : Type 0} (all rows : List X) : Type 0 where
+  pub rest : List X
+  pub first : all ≡ rows ++ rest
+  pub some : rows ≡ [] → all ≡ []
+
+-- the rows that were read ahead; none before the first were
+abbrev pub read_ahead : {X : Type 0} → Option (IntoIter X Global) → List X
+read_ahead None = []
+read_ahead (Some rows) = into_iter_items rows
 
 -- the number stands behind this one; behind none stands each
 abbrev pub is_past : Option ℕ → ℕ → Bool
@@ -55,6 +74,23 @@ seated_steps ceremony m = map (with_seated m.seatings) (steps_of ceremony m)
 -- those past this one
 abbrev pub rows_past : Option ℕ → ℕ → machine.Tables → List StepRow
 rows_past last ceremony m = filter (λ row. is_past last row.step) (steps_of ceremony m)
+
+-- the step stands past the one and not past the other
+abbrev pub is_past_until : Option ℕ → Option ℕ → ℕ → Bool
+is_past_until from until step = is_past from step && not (is_past until step)
+
+-- it is one of the ceremony, and stands so
+pub record IsStepWithin (ceremony : ℕ) (from until : Option ℕ) (row : StepRow) : Type 0 where
+  pub of : row.ceremony ≡ ceremony
+  pub within : is_past_until from until row.step ≡ true
+
+-- the people among these rows who filled the seats of a step
+abbrev pub people_at : ℕ → List SeatingRow → List (List ℕ)
+people_at step rows = map (λ row. row.who) (filter (λ row. row.step == step) rows)
+
+-- a step with its people among these rows
+abbrev pub with_people : List SeatingRow → StepRow → SeatedStep
+with_people rows row = record { step = row; seated = people_at row.step rows }
 
 -- with their people
 abbrev pub steps_past : Option ℕ → ℕ → machine.Tables → List SeatedStep

@@ -1,13 +1,13 @@
-//! One row of a table: the first that passes a test.
+//! The first rows of a table that pass a test, or the first one.
 
-ghost use Rattle.std.specs.Prelude.{◌≡◌, Option, pos, ℤ};
+ghost use Rattle.std.specs.Prelude.{◌≡◌, ℕ, Option, pos, ℤ};
 ghost use Rattle.sqlite.specs.Held.{state};
 ghost use Rattle.sqlite.specs.Values.{bound, bound_value};
 ghost use Rattle.sqlite.specs.Value.{owned};
 ghost use Rattle.sqlite.specs.declared.types.Value.TheVariants.{Int};
 ghost use Rattle.kcr_tables.specs.Frame.{TellsOpen, Tells, Reads};
 ghost use Rattle.kcr_tables.specs.Statements.{Choice};
-ghost use Rattle.kcr_reading.specs.First.{ShowsFirst, IsFirst, bound_of};
+ghost use Rattle.kcr_reading.specs.First.{ShowsSome, AreFirst, ShowsFirst, IsFirst, bound_of};
 
 use kcr_base::Refusal;
 use kcr_rows::statements::rows_of;
@@ -26,6 +26,25 @@ pub(crate) fn past_cell(last: Option<u32>) -> ValueRef<'static>
     }
 }
 
+/// The first of the rows that the text chooses, as many as it shows. Nothing is changed. The error is `Memory` when out
+/// of memory, and else `Disk`: the device failed, or a row is one that no register stores.
+pub(crate) fn first_rows<S: Alter, T: Listed>(
+    alloc: Global,
+    tx: &mut Transaction<'_, S>,
+    sql: &str,
+    params: &[ValueRef<'_>],
+) -> Result<Vec<T>, Refusal>
+    ensures same_reference { tx.new.conn.ghost_name ≡ tx.old.conn.ghost_name }
+    ensures rows { (count : ℕ) → (choice : Choice) → ShowsSome count sql.now T.table.place (bound params.now) choice
+        → Tells (state S.Store tx.old.conn.now) (state S.Store tx.new.conn.now) result
+        (λ t found. AreFirst count T.row_of choice (T.table.rows_in t) found.items) }
+    ensures opened { TellsOpen (state S.Store tx.old.conn.now) (state S.Store tx.new.conn.now) result }
+    ensures frame { (count : ℕ) → (choice : Choice) → ShowsSome count sql.now T.table.place (bound params.now) choice
+        → Reads (state S.Store tx.old.conn.now) (state S.Store tx.new.conn.now) result }
+{
+    rows_of(alloc, tx, sql, params)
+}
+
 /// The first of the rows that the text chooses, or none; the text shows one row at most. Nothing is changed. The error
 /// is `Memory` when out of memory, and else `Disk`: the device failed, or the row is one that no register stores.
 pub(crate) fn first_row<S: Alter, T: Listed>(
@@ -42,6 +61,6 @@ pub(crate) fn first_row<S: Alter, T: Listed>(
     ensures frame { (choice : Choice) → ShowsFirst sql.now T.table.place (bound params.now) choice
         → Reads (state S.Store tx.old.conn.now) (state S.Store tx.new.conn.now) result }
 {
-    let mut rows: Vec<T> = rows_of(alloc, tx, sql, params)?;
+    let mut rows: Vec<T> = first_rows(alloc, tx, sql, params)?;
     Ok(rows.pop())
 }

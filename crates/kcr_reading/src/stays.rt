@@ -1,6 +1,6 @@
 //! The stays in the room of a ceremony, each with the name of the person.
 
-ghost use Rattle.std.specs.Prelude.{◌≡◌, None, filter, slice_get};
+ghost use Rattle.std.specs.Prelude.{◌≡◌, ◌++◌, None, map, filter};
 ghost use Rattle.sqlite.specs.Held.{state};
 ghost use Rattle.sqlite.specs.Value.{owned};
 ghost use Rattle.sqlite.specs.Values.{bound_value};
@@ -10,10 +10,11 @@ ghost use Rattle.kcr_history.specs.Prints.{name_of};
 ghost use Rattle.kcr_history.specs.Tables as machine;
 ghost use Rattle.kcr_tables.specs.Frame.{TellsOpen, TellsMachine, Reads};
 ghost use Rattle.kcr_reading.specs.First.{bound_of};
-ghost use Rattle.kcr_reading.specs.ToCome.{Gives, is_sought, since_of, listed_past, named_stays, stays_past};
+ghost use Rattle.kcr_reading.specs.ToCome.{Begin, GivesSeveral, is_sought, since_of, listed_past, named_stays};
+ghost use Rattle.kcr_reading.specs.ToCome.{with_name, read_ahead, stays_past};
 
-use crate::reading::Reading;
-use crate::seek::{first_row, past_cell};
+use crate::ahead::{Ahead, Source};
+use crate::seek::{first_rows, past_cell};
 use kcr_base::{Initials, Name, Refusal};
 use kcr_people::Person;
 use kcr_room::Stay;
@@ -40,7 +41,7 @@ fn past_moment(last: &Option<Stay>) -> ValueRef<'static>
     }
 }
 
-/// Among which stays of a ceremony the next one is sought.
+/// Among which stays of a ceremony the next ones are sought.
 #[derive(Clone, Copy)]
 enum Sought {
     /// Those that begin with this one, behind it by initials.
@@ -49,78 +50,81 @@ enum Sought {
     Later(Option<Stay>),
 }
 
-/// The first of the stays of the ceremony among which is sought.
+/// The first of the stays of the ceremony among which is sought, sixteen at most.
 fn first_sought<S: Alter>(
     alloc: Global,
     tx: &mut Transaction<'_, S>,
     ceremony: u32,
     sought: Sought,
-) -> Result<Option<Stay>, Refusal>
+) -> Result<Vec<Stay>, Refusal>
     ensures same_reference { tx.new.conn.ghost_name ≡ tx.old.conn.ghost_name }
     ensures first { TellsMachine (state S.Store tx.old.conn.now) (state S.Store tx.new.conn.now) result
-        (λ m found. found ≡ slice_get (filter (is_sought sought) (attendance_in_by m.stays ceremony)) 0) }
+        (λ m found. Begin (filter (is_sought sought) (attendance_in_by m.stays ceremony)) found.items) }
     ensures opened { TellsOpen (state S.Store tx.old.conn.now) (state S.Store tx.new.conn.now) result }
     ensures frame { Reads (state S.Store tx.old.conn.now) (state S.Store tx.new.conn.now) result }
 {
     match sought {
-        Sought::Together(last) => first_row(
+        Sought::Together(last) => first_rows(
             alloc,
             tx,
-            "SELECT who, since, ceremony, until FROM stays WHERE ceremony = ?1 AND since = ?2 AND who > ?3 ORDER BY who, since LIMIT 1",
+            "SELECT who, since, ceremony, until FROM stays WHERE ceremony = ?1 AND since = ?2 AND who > ?3 ORDER BY who, since LIMIT 16",
             &[
                 number_cell(ceremony),
                 moment_cell(last.since),
                 initials_cell(&last.who),
             ],
         ),
-        Sought::Later(last) => first_row(
+        Sought::Later(last) => first_rows(
             alloc,
             tx,
-            "SELECT who, since, ceremony, until FROM stays WHERE ceremony = ?1 AND since > ?2 ORDER BY since, who LIMIT 1",
+            "SELECT who, since, ceremony, until FROM stays WHERE ceremony = ?1 AND since > ?2 ORDER BY since, who LIMIT 16",
             &[number_cell(ceremony), past_moment(&last)],
         ),
     }
 }
 
-/// The first stay of the ceremony behind the last one; none where no more comes.
-fn stay_behind<S: Alter>(
+/// The first stays of the ceremony behind the last one; none where no more comes.
+fn stays_behind<S: Alter>(
     alloc: Global,
     tx: &mut Transaction<'_, S>,
     ceremony: u32,
     last: &Option<Stay>,
-) -> Result<Option<Stay>, Refusal>
+) -> Result<Vec<Stay>, Refusal>
     ensures same_reference { tx.new.conn.ghost_name ≡ tx.old.conn.ghost_name }
     ensures first { TellsMachine (state S.Store tx.old.conn.now) (state S.Store tx.new.conn.now) result
-        (λ m found. found ≡ slice_get (listed_past last.now ceremony m) 0) }
+        (λ m found. Begin (listed_past last.now ceremony m) found.items) }
     ensures opened { TellsOpen (state S.Store tx.old.conn.now) (state S.Store tx.new.conn.now) result }
     ensures frame { Reads (state S.Store tx.old.conn.now) (state S.Store tx.new.conn.now) result }
 {
     match last {
         None => first_sought(alloc, tx, ceremony, Sought::Later(None)),
         Some(stay) => {
-            match first_sought(alloc, tx, ceremony, Sought::Together(*stay))? {
-                Some(next) => Ok(Some(next)),
-                None => first_sought(alloc, tx, ceremony, Sought::Later(*last)),
+            let together = first_sought(alloc, tx, ceremony, Sought::Together(*stay))?;
+            if together.is_empty() {
+                first_sought(alloc, tx, ceremony, Sought::Later(*last))
+            } else {
+                Ok(together)
             }
         }
     }
 }
 
-/// The first stay of the ceremony behind the last one, which becomes the last; none where no more comes.
-fn next_stay<S: Alter>(
+/// The first stays of the ceremony behind the last one, sixteen at most; the last of them becomes the last one. None
+/// where no more comes.
+fn next_stays<S: Alter>(
     alloc: Global,
     tx: &mut Transaction<'_, S>,
     ceremony: u32,
     last: &mut Option<Stay>,
-) -> Result<Option<Stay>, Refusal>
+) -> Result<Vec<Stay>, Refusal>
     ensures same_reference { tx.new.conn.ghost_name ≡ tx.old.conn.ghost_name }
     ensures gives { TellsMachine (state S.Store tx.old.conn.now) (state S.Store tx.new.conn.now) result
-        (λ m found. Gives (listed_past last.old ceremony m) found (listed_past last.new ceremony m)) }
+        (λ m found. GivesSeveral (listed_past last.old ceremony m) found.items (listed_past last.new ceremony m)) }
     ensures opened { TellsOpen (state S.Store tx.old.conn.now) (state S.Store tx.new.conn.now) result }
     ensures frame { Reads (state S.Store tx.old.conn.now) (state S.Store tx.new.conn.now) result }
 {
-    let found = stay_behind(alloc, tx, ceremony, last)?;
-    if let Some(stay) = &found {
+    let found = stays_behind(alloc, tx, ceremony, last)?;
+    if let Some(stay) = found.last() {
         *last = Some(*stay);
     }
     Ok(found)
@@ -146,39 +150,59 @@ fn name_of<S: Alter>(
     }
 }
 
-/// Behind the stay that was read last.
+/// These stays, each with the name of the person.
+fn with_names<S: Alter>(
+    alloc: Global,
+    tx: &mut Transaction<'_, S>,
+    stays: &[Stay],
+) -> Result<Vec<NamedStay>, Refusal>
+    ensures same_reference { tx.new.conn.ghost_name ≡ tx.old.conn.ghost_name }
+    ensures names { TellsMachine (state S.Store tx.old.conn.now) (state S.Store tx.new.conn.now) result
+        (λ m all. all.items ≡ map (with_name m.people) stays.now) }
+    ensures frame { Reads (state S.Store tx.old.conn.now) (state S.Store tx.new.conn.now) result }
+{
+    let mut all = Vec::new(alloc);
+    for stay in stays {
+        let name = name_of(alloc, tx, &stay.who)?;
+        all.push(NamedStay { stay: *stay, name })?;
+    }
+    Ok(all)
+}
+
+/// The stays of a ceremony behind the one that was read last.
 #[derive(Drop)]
-pub struct StayReading {
+pub struct Stays {
     ceremony: u32,
     last: Option<Stay>,
 }
 
-impl StayReading {
-    /// Before the first stay of the ceremony.
-    pub fn start(ceremony: u32) -> StayReading
-        ensures { (m : machine.Tables) → stays_past result.last result.ceremony m ≡ named_stays ceremony m }
-    {
-        StayReading {
-            ceremony,
-            last: None,
-        }
-    }
-}
-
-impl Reading for StayReading {
+impl Source for Stays {
     type Row = NamedStay;
 
     ghost to_come = { λ p m. stays_past p.last p.ceremony m };
 
-    fn step<S: Alter>(
+    fn several<S: Alter>(
         &mut self,
         alloc: Global,
         tx: &mut Transaction<'_, S>,
-    ) -> Result<Option<NamedStay>, Refusal> {
-        let Some(stay) = next_stay(alloc, tx, self.ceremony, &mut self.last)? else {
-            return Ok(None);
-        };
-        let name = name_of(alloc, tx, &stay.who)?;
-        Ok(Some(NamedStay { stay, name }))
+    ) -> Result<Vec<NamedStay>, Refusal> {
+        let stays = next_stays(alloc, tx, self.ceremony, &mut self.last)?;
+        with_names(alloc, tx, stays.as_slice())
+    }
+}
+
+/// The stays of a ceremony, each with the person's name.
+pub type StayReading = Ahead<Stays>;
+
+impl StayReading {
+    /// Before the first stay of the ceremony.
+    pub fn start(ceremony: u32) -> StayReading
+        ensures { (m : machine.Tables) → read_ahead result.ready
+            ++ stays_past result.source.last result.source.ceremony m ≡ named_stays ceremony m }
+    {
+        Ahead::new(Stays {
+            ceremony,
+            last: None,
+        })
     }
 }

@@ -1,14 +1,16 @@
 //! The steps of a ceremony, each with the people who filled its seats.
 
-ghost use Rattle.std.specs.Prelude.{◌≡◌, None, IfOk, map};
+ghost use Rattle.std.specs.Prelude.{◌≡◌, ◌++◌, true, ℕ, None, IfOk, map};
+ghost use Rattle.std.specs.List.{AllByRecursion};
 ghost use Rattle.sqlite.specs.Held.{state};
 ghost use Rattle.kcr_history.specs.Prints.{seated_at};
 ghost use Rattle.kcr_history.specs.Tables as machine;
 ghost use Rattle.kcr_tables.specs.Frame.{TellsOpen, TellsMachine, Reads};
-ghost use Rattle.kcr_reading.specs.ToCome.{Gives, rows_past, seated_steps, steps_past};
+ghost use Rattle.kcr_reading.specs.ToCome.{GivesSeveral, IsStepWithin, is_past_until, people_at, rows_past};
+ghost use Rattle.kcr_reading.specs.ToCome.{with_people, read_ahead, seated_steps, steps_past};
 
-use crate::reading::Reading;
-use crate::seek::{first_row, past_cell};
+use crate::ahead::{Ahead, Source};
+use crate::seek::{first_rows, past_cell};
 use kcr_base::{Initials, Refusal};
 use kcr_history::{SeatingRow, StepRow};
 use kcr_rows::cells::number_cell;
@@ -47,94 +49,123 @@ pub struct SeatedStep {
     pub seated: Seated,
 }
 
-/// The first step of the ceremony past the last one, which becomes the last; none where no more comes.
-fn next_step<S: Alter>(
+/// The next steps of the ceremony past the last one, sixteen at most; the last of them becomes the last one. None where
+/// no more comes.
+fn next_steps<S: Alter>(
     alloc: Global,
     tx: &mut Transaction<'_, S>,
     ceremony: u32,
     last: &mut Option<u32>,
-) -> Result<Option<StepRow>, Refusal>
+) -> Result<Vec<StepRow>, Refusal>
     ensures same_reference { tx.new.conn.ghost_name ≡ tx.old.conn.ghost_name }
     ensures gives { TellsMachine (state S.Store tx.old.conn.now) (state S.Store tx.new.conn.now) result
-        (λ m found. Gives (rows_past last.old ceremony m) found (rows_past last.new ceremony m)) }
+        (λ m rows. GivesSeveral (rows_past last.old ceremony m) rows.items (rows_past last.new ceremony m)) }
+    ensures within { TellsMachine (state S.Store tx.old.conn.now) (state S.Store tx.new.conn.now) result
+        (λ m rows. AllByRecursion (IsStepWithin ceremony last.old last.new) rows.items) }
     ensures opened { TellsOpen (state S.Store tx.old.conn.now) (state S.Store tx.new.conn.now) result }
     ensures frame { Reads (state S.Store tx.old.conn.now) (state S.Store tx.new.conn.now) result }
 {
-    let found: Option<StepRow> = first_row(
+    let rows: Vec<StepRow> = first_rows(
         alloc,
         tx,
-        "SELECT ceremony, step, activity, seats, state, at FROM steps WHERE ceremony = ?1 AND step > ?2 ORDER BY ceremony, step LIMIT 1",
+        "SELECT ceremony, step, activity, seats, state, at FROM steps WHERE ceremony = ?1 AND step > ?2 ORDER BY ceremony, step LIMIT 16",
         &[number_cell(ceremony), past_cell(*last)],
     )?;
-    if let Some(row) = &found {
+    if let Some(row) = rows.last() {
         *last = Some(row.step);
     }
-    Ok(found)
+    Ok(rows)
 }
 
-/// The rows of the step's seating, seat by seat.
-fn seatings_at<S: Alter>(
+/// The rows of the seatings of the ceremony's steps past the one and not past the other, each step's seat by seat.
+fn seatings_within<S: Alter>(
     alloc: Global,
     tx: &mut Transaction<'_, S>,
     ceremony: u32,
-    step: u32,
+    from: Option<u32>,
+    until: Option<u32>,
 ) -> Result<Vec<SeatingRow>, Refusal>
     ensures same_reference { tx.new.conn.ghost_name ≡ tx.old.conn.ghost_name }
-    ensures rows { TellsMachine (state S.Store tx.old.conn.now) (state S.Store tx.new.conn.now) result
-        (λ m rows. map (λ row. row.who) rows.items ≡ seated_at m.seatings ceremony step) }
-    ensures opened { TellsOpen (state S.Store tx.old.conn.now) (state S.Store tx.new.conn.now) result }
+    ensures people { TellsMachine (state S.Store tx.old.conn.now) (state S.Store tx.new.conn.now) result
+        (λ m rows. (step : ℕ) → is_past_until from until step ≡ true
+        → people_at step rows.items ≡ seated_at m.seatings ceremony step) }
     ensures frame { Reads (state S.Store tx.old.conn.now) (state S.Store tx.new.conn.now) result }
 {
     rows_of(
         alloc,
         tx,
-        "SELECT ceremony, step, seat, who FROM seatings WHERE ceremony = ?1 AND step = ?2 ORDER BY ceremony, step, seat",
-        &[number_cell(ceremony), number_cell(step)],
+        "SELECT ceremony, step, seat, who FROM seatings WHERE ceremony = ?1 AND step > ?2 AND step <= ?3 ORDER BY ceremony, step, seat",
+        &[number_cell(ceremony), past_cell(from), past_cell(until)],
     )
 }
 
-/// The people of these rows, in their order.
-fn people_of(alloc: Global, rows: &[SeatingRow]) -> Result<Seated, AllocError>
-    ensures { IfOk result (λ seated. seated ≡ map (λ row. row.who) rows.now) }
+/// The people of those of these rows that are of the step, in their order.
+fn people_at(alloc: Global, rows: &[SeatingRow], step: u32) -> Result<Seated, AllocError>
+    ensures { IfOk result (λ seated. seated ≡ people_at step rows.now) }
 {
-    let list = rows.iter().map(|row| row.who).collect(alloc)?;
+    let list = rows
+        .iter()
+        .filter(|row| row.step == step)
+        .map(|row| row.who)
+        .collect(alloc)?;
     Ok(Seated { list })
 }
 
-/// Behind the step that was read last.
+/// These steps, each with its people among the rows.
+fn with_people(
+    alloc: Global,
+    steps: Vec<StepRow>,
+    rows: &[SeatingRow],
+) -> Result<Vec<SeatedStep>, AllocError>
+    ensures { IfOk result (λ all. all.items ≡ map (with_people rows.now) steps.items) }
+{
+    let mut all = Vec::new(alloc);
+    for step in steps {
+        let seated = people_at(alloc, rows, step.step)?;
+        all.push(SeatedStep { step, seated })?;
+    }
+    Ok(all)
+}
+
+/// The steps of a ceremony behind the one that was read last.
 #[derive(Drop)]
-pub struct StepReading {
+pub struct Steps {
     ceremony: u32,
     last: Option<u32>,
 }
 
-impl StepReading {
-    /// Before the first step of the ceremony.
-    pub fn start(ceremony: u32) -> StepReading
-        ensures { (m : machine.Tables) → steps_past result.last result.ceremony m ≡ seated_steps ceremony m }
-    {
-        StepReading {
-            ceremony,
-            last: None,
-        }
-    }
-}
-
-impl Reading for StepReading {
+impl Source for Steps {
     type Row = SeatedStep;
 
     ghost to_come = { λ p m. steps_past p.last p.ceremony m };
 
-    fn step<S: Alter>(
+    fn several<S: Alter>(
         &mut self,
         alloc: Global,
         tx: &mut Transaction<'_, S>,
-    ) -> Result<Option<SeatedStep>, Refusal> {
-        let Some(step) = next_step(alloc, tx, self.ceremony, &mut self.last)? else {
-            return Ok(None);
-        };
-        let rows = seatings_at(alloc, tx, step.ceremony, step.step)?;
-        let seated = people_of(alloc, rows.as_slice())?;
-        Ok(Some(SeatedStep { step, seated }))
+    ) -> Result<Vec<SeatedStep>, Refusal> {
+        let from = self.last;
+        let steps = next_steps(alloc, tx, self.ceremony, &mut self.last)?;
+        if steps.is_empty() {
+            return Ok(Vec::new(alloc));
+        }
+        let rows = seatings_within(alloc, tx, self.ceremony, from, self.last)?;
+        Ok(with_people(alloc, steps, rows.as_slice())?)
+    }
+}
+
+/// The steps of a ceremony, each with its people.
+pub type StepReading = Ahead<Steps>;
+
+impl StepReading {
+    /// Before the first step of the ceremony.
+    pub fn start(ceremony: u32) -> StepReading
+        ensures { (m : machine.Tables) → read_ahead result.ready
+            ++ steps_past result.source.last result.source.ceremony m ≡ seated_steps ceremony m }
+    {
+        Ahead::new(Steps {
+            ceremony,
+            last: None,
+        })
     }
 }

@@ -10,7 +10,8 @@ use kcr_reading::Reading;
 use sqlite::Alter;
 
 /// Rows of a register, given one at a time. The register is borrowed while they are read, so that its history stays as
-/// it is until they are dropped; they may be dropped at any row, which changes nothing. One row is held in memory.
+/// it is until they are dropped; they may be dropped at any row, which changes nothing. In memory are one row, and the
+/// few that the reading has read ahead.
 pub struct Rows<'a, S: Alter, R: Reading> {
     register: &'a mut Register<S>,
     reading: R,

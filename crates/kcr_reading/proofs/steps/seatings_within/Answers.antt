@@ -1,0 +1,24 @@
+use Rattle.std.proofs.Common.{◌∷◌, [], map, subst, IfOk}
+use Rattle.sqlite.specs.Order.{Row}
+use Rattle.sqlite.specs.Held.{state}
+use Rattle.sqlite.specs.State.{Shown}
+use Rattle.kcr_rows.proofs.FailLemmas.{if_ok}
+use Rattle.kcr_rows.specs.Rows.{seating_row}
+use Rattle.kcr_tables.proofs.HoldLemmas.{held_of}
+use Rattle.kcr_tables.proofs.FrameLemmas.{reads_by}
+use Rattle.kcr_reading.proofs.CeremonyLemmas.{seatings_text, seatings_shown, seated}
+use Rattle.kcr_reading.proofs.steps.seatings_within.Goals as goal
+
+pub returns-clause-people : goal.returns-clause-people
+returns-clause-people g c clean m h =
+    let old = state g.S.Store c.args.tx.now.conn.now in
+    let new = state g.S.Store c.rows_of.new.tx.conn.now in
+    let shown = subst (λ (v : Row). IfOk c.rows_of.result (λ rows. Shown seatings_text v old new (map seating_row rows.items)))
+    (λ i. c.number_cell.ensures i ∷ c.past_cell.ensures i ∷ c.past_cell-2.ensures i ∷ []) (c.rows_of.ensures.shown clean) in
+    if_ok _ _ (λ rows is. seated c.args.ceremony c.args.from c.args.until old new rows.items m h.tables.t (held_of m old.now h) h.tables.stands is)
+    c.rows_of.result shown
+
+pub returns-clause-frame : goal.returns-clause-frame
+returns-clause-frame g c =
+    let did = c.rows_of.ensures in
+    reads_by seatings_text _ _ c.rows_of.result (seatings_shown c.args.ceremony c.args.from c.args.until).bare did.same did.frame

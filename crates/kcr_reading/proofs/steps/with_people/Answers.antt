@@ -1,0 +1,30 @@
+use Rattle.std.proofs.Common.{◌≡◌, ℕ, List, ◌++◌, ◌∷◌, [], ◌∙◌, length, map, sym, ap, arith, append_assoc}
+use Rattle.std.proofs.lemmas.List.{map-append, append-nil, nil_from_length}
+use Rattle.std.specs.Vec.Iter.{into_iter_items}
+use Rattle.kcr_reading.specs.ToCome.{with_people}
+use Rattle.kcr_reading.specs.declared.steps.SeatedStep.{SeatedStep}
+use Rattle.kcr_reading.proofs.steps.with_people.Goals as goal
+
+pub loop-step-preserved : goal.loop-step-preserved
+loop-step-preserved c =
+    let at = c.loop-step in
+    let x = c.in-Some.step in
+    let steps : into_iter_items at.step-iterator ≡ x ∷ into_iter_items c.next.new.self = c.in-Some.ensures.steps.0 in
+    let seated : List (List ℕ) → SeatedStep = λ people. record { step = x; seated = people } in record {
+      made = c.in_ok-push.ensures.items ∙ (λ i. at.invariant.made i ++ (seated (c.in_ok-seated.ensures i) ∷ []))
+          ∙ sym (map-append (with_people c.args.rows.now) at.yielded (x ∷ []));
+      left = append_assoc at.yielded (x ∷ []) _ ∙ rw (← steps) at.invariant.left;
+      len =
+          let was = at.invariant.len in
+          let gone = c.in-Some.ensures.steps.1 in
+          let short = ap length steps in
+          omega arith;
+    }
+
+pub returns : goal.returns
+returns c =
+    let at = c.loop-step in
+    let none = c.in-None.ensures.steps in
+    let empty : into_iter_items at.step-iterator ≡ [] = nil_from_length _ (sym at.invariant.len ∙ none.0) in
+    let all = sym (append-nil at.yielded) ∙ rw empty at at.invariant.left ∙ c.into_iter-step-iterator.ensures.into_iter_gives.0 in
+    at.invariant.made ∙ ap (map (with_people c.args.rows.now)) all
