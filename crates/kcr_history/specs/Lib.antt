@@ -12,6 +12,7 @@ pub mod Tables
 pub mod Changes
 pub mod Views
 pub mod Asked
+pub mod Front
 pub mod Conditions
 pub mod Machine
 pub mod Prints

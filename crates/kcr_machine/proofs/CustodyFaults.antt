@@ -44,7 +44,7 @@ use Rattle.kcr_machine.proofs.Scenes.{facility-shown, scene-shown}
 -- WORDS
 
 -- functions that agree everywhere are one
-functions-same : {X Y : Type 0} (f g : X → Y) → ((x : X) → f x ≡ g x) → f ≡ g
+pub functions-same : {X Y : Type 0} (f g : X → Y) → ((x : X) → f x ≡ g x) → f ≡ g
 functions-same f g h = λ i x. h x i
 
 -- the holder of the box's place is missed where the place is there, and its holder not in the room
@@ -55,12 +55,12 @@ no_holder-shown A c at view inside (Some place) = rw (inside place)
 
 -- items of which each is where the history says
 module _ (A : History) (rows : List Item) (codes : List (List ℕ)) (same : (k : List ℕ) → IsIn k codes → rest_by rows k ≡ rest A k) where
-  no_item-shown : no_item (rest_by rows) codes ≡ no_item (rest A) codes
+  pub no_item-shown : no_item (rest_by rows) codes ≡ no_item (rest A) codes
   no_item-shown =
       ap (option_map (λ k. Unknown (Things.Item k)))
       (find-same-in (λ k. is_none (rest_by rows k)) (λ k. is_none (rest A k)) codes (λ k i. ap is_none (same k i)))
 
-  loose-shown : (facility : Facility) → list_all (λ k. is_loose_at facility (rest_by rows k)) codes ≡ list_all (λ k. is_loose_at facility (rest A k)) codes
+  pub loose-shown : (facility : Facility) → list_all (λ k. is_loose_at facility (rest_by rows k)) codes ≡ list_all (λ k. is_loose_at facility (rest A k)) codes
   loose-shown facility =
       all-same-in (λ k. is_loose_at facility (rest_by rows k)) (λ k. is_loose_at facility (rest A k)) codes (λ k i. ap (is_loose_at facility) (same k i))
 

@@ -1,6 +1,7 @@
 -- A decision by the rows of a view is a step of the machine.
 use Rattle.std.proofs.Common.{◌≡◌, ◌≢◌, ℕ, suc, true, false, nat_le, List, map, length, Option, Some, None, option_map, refl, sym, ap, ◌∙◌, subst}
 use Rattle.std.proofs.Common.{inl, inr, Result, Ok, Err, MatchOption}
+use Rattle.std.specs.Prelude.{IfSome}
 use Rattle.kcr_base.specs.Same.{same_text}
 use Rattle.kcr_base.specs.declared.refusal.Refusal.{Refusal}
 use Rattle.kcr_base.specs.declared.refusal.Refusal.TheVariants.{Key, Short, Memory}
@@ -19,20 +20,23 @@ use Rattle.kcr_history.specs.Tables.{keys, key_row, tables, SameTables, people}
 use Rattle.kcr_history.specs.declared.rows.KeyRow.{KeyRow}
 use Rattle.kcr_history.specs.Views.{row_of_key, greatest_number, IsViewOf}
 use Rattle.kcr_history.specs.Asked.{asks_by, asks_of}
+use Rattle.kcr_history.specs.Front.{front_asks}
 use Rattle.kcr_history.specs.Conditions.{fault, is_full, conditions}
 use Rattle.kcr_history.specs.Machine.{Accepts, Refuses, Sitting, sitting, answer_to, with_command, accepts, seats, acts, IsRegister, IsAcceptance}
 use Rattle.kcr_history.specs.Machine.{IsRepeat, IsDecision}
 use Rattle.kcr_history.proofs.Steps.{greatest-keys}
 use Rattle.kcr_history.proofs.Words.{row_of_key-keys}
 use Rattle.std.proofs.lemmas.Option.{same_Some, none-some}
+use Rattle.kcr_rules.specs.Ahead.{refusal_ahead_by, IsToldAhead}
 use Rattle.kcr_rules.specs.ByRows.{refusal_by, is_overdone, sitting_by, IsSeatedFor, IsUnseatedFor, all_changes_by}
 use Rattle.kcr_machine.specs.RowDecision.{is_full_by, answer_by, AcceptsNew, RepeatsRow, IsRowDecision, IsRowRepeat}
 use Rattle.kcr_rules.specs.Signing.{IsSeatedBy, IsUnseatedBy}
 use Rattle.kcr_base.proofs.RefuseLemmas.{none_holds}
+use Rattle.kcr_machine.proofs.Ahead.{ahead-shown}
 use Rattle.kcr_machine.proofs.Ceremonies.{close-fault, close-leads, open-fault, open-leads, plan-fault, plan-leads}
 use Rattle.kcr_machine.proofs.CustodyFaults.{add_box-fault, add_item-fault, cut-fault, put-fault, seal-fault, take-fault, turn-fault}
 use Rattle.kcr_machine.proofs.CustodyLeads.{add_box-leads, add_item-leads, cut-leads, put-leads, seal-leads, take-leads, turn-leads}
-use Rattle.kcr_machine.proofs.Leads.{changed_with, command_of, same-tables}
+use Rattle.kcr_machine.proofs.Leads.{changed_with, command_of, front-of, same-tables}
 use Rattle.kcr_machine.proofs.People.{appoint-fault, appoint-leads, enter-fault, enter-leads, release-fault, release-leads, replace-fault, replace-leads}
 use Rattle.kcr_machine.proofs.People.{train-fault, train-leads, withdraw-fault, withdraw-leads}
 use Rattle.kcr_machine.proofs.SheetFaults.{named_once, sheet-fault, sheet-made}
@@ -63,8 +67,8 @@ fault-shown A h (AddItem c item at) view v = add_item-fault A h c item at view v
 fault-shown A h (Sheet c way all at) view v =
     sheet-fault A h (sheet-made A h) c way all at view v
 fault-shown A h (TurnSafe c safe state by at) view v = turn-fault A h c safe state by at view v
-fault-shown A h (Sign ceremony step at) view v = sign-fault A h ceremony step at view v
-fault-shown A h (Except ceremony text pass at) view v = except-fault A h ceremony text pass at view v
+fault-shown A h (Sign ceremony step at) view v = sign-fault A h ceremony step at view (front-of _ _ view v)
+fault-shown A h (Except ceremony text pass at) view v = except-fault A h ceremony text pass at view (front-of _ _ view v)
 
 full-shown : (A : History) (x : Command) (view : View) (last : ℕ) → last ≡ length A
     → refusal_by view (is_full_by last) x.act ≡ refusal_by view (is_full A) x.act
@@ -74,7 +78,7 @@ full-shown A x view last e = ap (λ n. refusal_by view (nat_le 4000000000 n) x.a
 
 sign-fine : (A : History) → IsRegister A → (c k at : ℕ) (view : View) → IsViewOf (asks_by (Sign c k at)) (tables A) view
     → refusal_by view (is_full A) (Sign c k at) ≡ None → fault A (Sign c k at) ≡ None
-sign-fine A h c k at view v none = sym (sign-fault A h c k at view v) ∙ none
+sign-fine A h c k at view v none = sym (sign-fault A h c k at view (front-of _ _ view v)) ∙ none
 
 -- the seats that an act needs by the rows are those by the history
 sitting-shown : (A : History) → IsRegister A → (act : Act) (view : View) → IsViewOf (asks_by act) (tables A) view
@@ -91,7 +95,7 @@ abbrev Lacks : History → Sitting → Refusal → Type 0
 Lacks A s refusal = (positions : List ℕ) × IsLeast A s.ceremony s.at s.seats positions × (refusal ≡ Short (map suc positions))
 
 -- the rows tell of no more steps done than a script has
-not_overdone-shown : (A : History) → IsRegister A → (act : Act) (view : View) → IsViewOf (asks_by act) (tables A) view
+not_overdone-shown : (A : History) → IsRegister A → (act : Act) (view : View) → IsViewOf (front_asks (asks_by act)) (tables A) view
     → is_overdone view act ≡ false
 not_overdone-shown A h (Sign c k at) view v = not_overdone A h _ view v.steps
 not_overdone-shown A h (Except c text pass at) view v = not_overdone A h _ view v.steps
@@ -249,7 +253,20 @@ decision A x view last (Ok verdict) h new v e g = by_answer verdict.answer g
     by_answer None none = absurd none
     by_answer (Some answer) a = accepted A x view last verdict answer h v (e ∙ greatest-keys A h) (no_entry A x.key new) a
 decision A x view last (Err refusal) h new v e g = λ ne.
-    let shown = (g ne).first (not_overdone-shown A h x.act view v) in
+    let shown = (g ne).first (not_overdone-shown A h x.act view (front-of _ _ view v)) in
     rw (no_entry A x.key new)
     (refused_new A h x view refusal ne v (fault-shown A h x.act view v) (refusal_by view (is_full A) x.act) refl
     (rw (full-shown A x view last (e ∙ greatest-keys A h)) at shown))
+
+-- TOLD AHEAD
+
+-- what is told ahead, by the part of the rows that is read first, is a step of the machine
+pub ahead : (A : History) (x : Command) (view : View) (last : ℕ) (told : Option Refusal) → IsRegister A → row_of_key x.key (keys A) ≡ None
+    → IsViewOf (front_asks (asks_of x)) (tables A) view → last ≡ greatest_number (keys A) → IsToldAhead view (is_full_by last) x.act told
+    → IfSome told (λ refusal. IsDecision A x (Err refusal))
+ahead A x view last None h new v e g = tt
+ahead A x view last (Some refusal) h new v e g = λ ne.
+    let here : refusal_ahead_by view (is_full_by last) x.act ≡ Some refusal =
+    g (λ m. ne (let i : Some refusal ≡ Some Memory = m in cc)) (not_overdone-shown A h x.act view v) in
+    let known = ap (λ n. refusal_ahead_by view (nat_le 4000000000 n) x.act) (e ∙ greatest-keys A h) in
+    rw (no_entry A x.key new) (rw (ahead-shown A h x.act view v refusal (sym known ∙ here)) (refl, refl))

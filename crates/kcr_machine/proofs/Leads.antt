@@ -12,6 +12,7 @@ use Rattle.kcr_history.specs.declared.commands.Act.{Act}
 use Rattle.kcr_history.specs.declared.commands.Answer.{Answer}
 use Rattle.kcr_history.specs.declared.commands.Command.{Command}
 use Rattle.kcr_history.specs.declared.commands.Entry.{Entry}
+use Rattle.kcr_history.specs.declared.views.Asks.{Asks}
 use Rattle.kcr_history.specs.declared.views.Change.{Change}
 use Rattle.kcr_history.specs.declared.views.Change.TheVariants.{PutKey}
 use Rattle.kcr_history.specs.declared.views.View.{View}
@@ -21,6 +22,7 @@ use Rattle.kcr_history.specs.Changes.{changed, changed_by, same_key_row}
 use Rattle.kcr_history.specs.Machine.{with_command, answer_to}
 use Rattle.kcr_history.specs.Views.{is_of_key, IsViewOf}
 use Rattle.kcr_history.specs.Asked.{asks_by}
+use Rattle.kcr_history.specs.Front.{front_asks}
 use Rattle.kcr_history.specs.Conditions.{fault, is_full}
 use Rattle.kcr_history.proofs.Words.{row_of_key-keys}
 use Rattle.kcr_rules.specs.ByRows.{changes_by, refusal_by, all_changes_by}
@@ -42,6 +44,29 @@ changed_with changes x answer t = changed_by (changes ++ PutKey (new_key_row x a
 -- the changes of the act and its row of a key, made in the tables, give those of the history with the command
 abbrev pub Leads : History → View → Command → Answer → Type 0
 Leads A view x answer = changed_with (changes_by view x.act) x answer (tables A) ≡ tables (with_command A x answer)
+
+-- a view of what is asked for is one of the part that is read first
+pub front-of : (asks : Asks) (t : Tables) (view : View) → IsViewOf asks t view → IsViewOf (front_asks asks) t view
+front-of asks t view v =
+    record {
+      people = v.people;
+      trainings = tt;
+      withdrawals = tt;
+      appointments = tt;
+      boxes = v.boxes;
+      safes = v.safes;
+      bags = v.bags;
+      items = v.items;
+      ceremonies = v.ceremonies;
+      marks = v.marks;
+      steps = v.steps;
+      exceptions = v.exceptions;
+      stays = tt;
+    }
+
+-- by the rows of that part alone the act's first refusal is its fault
+abbrev pub FrontShown : History → Act → Type 0
+FrontShown A act = (view : View) → IsViewOf (front_asks (asks_by act)) (tables A) view → refusal_by view (is_full A) act ≡ fault A act
 
 -- by the rows of any view of what the act asks for its first refusal is its fault
 abbrev pub FaultShown : History → Act → Type 0

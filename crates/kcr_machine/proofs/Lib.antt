@@ -16,4 +16,5 @@ pub mod CustodyLeads
 pub mod SheetStays
 pub mod SheetFaults
 pub mod SheetLeads
+pub mod Ahead
 pub mod Decided

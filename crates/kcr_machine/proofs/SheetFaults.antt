@@ -150,7 +150,7 @@ overfull-stays rows c Ways.Leave = refl
 -- THE CONDITIONS
 
 -- the people are in the register by their rows where they are by the history
-people-shown : (A : History) (rows : List Person) (all : List (List ℕ)) → Shown (is_of_people all) (people A) rows
+pub people-shown : (A : History) (rows : List Person) (all : List (List ℕ)) → Shown (is_of_people all) (people A) rows
     → (who : List ℕ) → IsIn who all → is_person_by rows who ≡ is_person A who
 people-shown A rows all p who i =
     any-shown (λ row. same_text row.who who) (is_of_people all) (λ row h. in-any (same_text row.who) who all i h) (people A) rows p ∙ is_person-people A who

@@ -1,7 +1,8 @@
 //! How a command is decided: one whose key has a row, and one whose key is new.
-ghost use Rattle.std.specs.Prelude.{◌≡◌, Some, None};
+ghost use Rattle.std.specs.Prelude.{◌≡◌, Some, None, Err, IfSome};
 ghost use Rattle.kcr_history.specs.History.{History};
 ghost use Rattle.kcr_history.specs.Asked.{asks_of};
+ghost use Rattle.kcr_history.specs.Front.{front_asks};
 ghost use Rattle.kcr_history.specs.Tables.{tables};
 ghost use Rattle.kcr_history.specs.Views.{IsViewOf, greatest_number, row_of_key};
 ghost use Rattle.kcr_history.specs.Machine.{IsRegister, IsDecision};
@@ -11,7 +12,7 @@ use kcr_base::Refusal;
 use kcr_history::{
     Answer, Change, Command, KeyRow, Reply, Verdict, View, answer_text, command_text,
 };
-use kcr_rules::{Acted, perform};
+use kcr_rules::{Acted, perform, refusal_ahead};
 use std::alloc::Global;
 
 /// At most this many commands are accepted.
@@ -82,6 +83,27 @@ fn decide_by_rows(
         reply: Reply { text: reply },
         answer: Some(answer),
     })
+}
+
+/// The refusal of a command whose key is new that is told by the part of its rows that is read first, None where that
+/// part does not tell one.
+///
+/// For every history A that the machine leads to, and in whose tables the key has no row: where the view holds the rows
+/// of the tables of A that the command asks for, trainings, withdrawals, appointments and stays aside, and `accepted` is
+/// the number of the last command of A, a refusal is the machine's step from A. Out of memory (33) may be answered in
+/// its place. Nothing is told ahead of an act that has no ceremony.
+pub fn refused_ahead(
+    alloc: Global,
+    view: &View,
+    accepted: u32,
+    command: &Command,
+) -> Option<Refusal>
+    ensures { (A : History) → IsRegister A → row_of_key command.now.key (tables A).keys ≡ None
+        → IsViewOf (front_asks (asks_of command.now)) (tables A) view.now → accepted ≡ greatest_number (tables A).keys
+        → IfSome result (λ refusal. IsDecision A command.now (Err refusal)) }
+{
+    let full = MOST_COMMANDS <= accepted;
+    refusal_ahead(alloc, view, full, &command.act)
 }
 
 /// Decides a command whose key is new over the rows that it asks for and `accepted`, the number of the last command.

@@ -8,4 +8,4 @@
 
 mod decision;
 
-pub use decision::{decide, repeat};
+pub use decision::{decide, refused_ahead, repeat};

@@ -1,10 +1,10 @@
 -- What the acts on whole ceremonies say, by the rows of a view: planning, opening and closing.
-use Rattle.std.specs.Prelude.{ℕ, ◌+◌, ◌==◌, Bool, not, ◌&&◌, ◌||◌, nat_lt, List, [], ◌∷◌, map, Option}
+use Rattle.std.specs.Prelude.{ℕ, ◌+◌, ◌==◌, Bool, true, not, ◌&&◌, ◌||◌, nat_lt, List, [], ◌∷◌, map, Option}
 use Rattle.std.specs.Prelude.{Some, None, is_some}
 use Rattle.std.specs.List.{list_any}
 use Rattle.std.specs.Result.{result_unwrap_or}
 use Rattle.kcr_base.specs.Days.{day_of}
-use Rattle.kcr_base.specs.Refuse.{when, first_of, is_late}
+use Rattle.kcr_base.specs.Refuse.{when, first_of, no_ceremony, is_late}
 use Rattle.kcr_base.specs.Same.{same_facility}
 use Rattle.kcr_base.specs.declared.place.Facility.{Facility}
 use Rattle.kcr_base.specs.declared.refusal.Refusal.{Refusal}
@@ -14,7 +14,7 @@ use Rattle.kcr_base.specs.declared.refusal.Part.TheVariants as Parts
 use Rattle.kcr_base.specs.declared.refusal.Thing.TheVariants as Things
 use Rattle.kcr_custody.specs.declared.Bag.{Bag}
 use Rattle.kcr_custody.specs.declared.SafeNumber.TheVariants.{One, Two}
-use Rattle.kcr_custody.specs.Custody.{is_open_by, is_on_table}
+use Rattle.kcr_custody.specs.Custody.{is_open_by, is_on_table, not_ready}
 use Rattle.kcr_room.specs.declared.Stay.{Stay}
 use Rattle.kcr_room.specs.Stays.{lasts_at}
 use Rattle.kcr_script.specs.declared.script.Step.{Step}
@@ -28,7 +28,7 @@ use Rattle.kcr_history.specs.declared.views.Change.TheVariants.{PutCeremony, Put
 use Rattle.kcr_history.specs.declared.views.View.{View}
 use Rattle.kcr_history.specs.Conditions.{no_script}
 use Rattle.kcr_history.specs.Views.{is_step_at}
-use Rattle.kcr_rules.specs.Scene.{ceremony_by, is_open_state, mark_by}
+use Rattle.kcr_rules.specs.Scene.{ceremony_by, is_open_state, mark_by, scene_by}
 use Rattle.kcr_rules.specs.Signing.{next_by}
 
 -- OPENING
@@ -96,6 +96,14 @@ close_refusal view full ceremony at row =
 abbrev pub closing_refusal : View → Bool → ℕ → ℕ → Option CeremonyRow → Option Refusal
 closing_refusal view full ceremony at None = Some (Unknown (Things.Ceremony ceremony))
 closing_refusal view full ceremony at (Some row) = close_refusal view full ceremony at row
+
+-- the first refusal before what is left to do is looked at
+abbrev pub early_closing_refusal : View → Bool → ℕ → ℕ → Option Refusal
+early_closing_refusal view full ceremony at =
+    first_of
+    (no_ceremony (is_some (ceremony_by view.ceremonies.items ceremony)) ceremony
+    ∷ not_ready (scene_by view ceremony at full true)
+    ∷ [])
 
 -- the ceremony is closed from the moment on
 abbrev pub closing_changes : ℕ → Option CeremonyRow → List Change

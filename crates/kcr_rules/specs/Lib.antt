@@ -7,3 +7,4 @@ pub mod RoomRows
 pub mod SheetRows
 pub mod Kinds
 pub mod ByRows
+pub mod Ahead

@@ -63,6 +63,11 @@ early_refusal view ceremony people =
     ∷ when (not (is_open_row (ceremony_by view.ceremonies.items ceremony))) State
     ∷ [])
 
+-- the same, or it is not later than the mark
+abbrev pub timely_refusal : View → ℕ → List (List ℕ) → ℕ → Option Refusal
+timely_refusal view ceremony people at =
+    first_of (early_refusal view ceremony people ∷ is_not_later at (mark_by view.marks.items ceremony) ∷ [])
+
 -- and then
 abbrev pub late_refusal : View → Bool → ℕ → Way → List (List ℕ) → ℕ → Option Refusal
 late_refusal view full ceremony way people at =

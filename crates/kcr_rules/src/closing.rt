@@ -1,11 +1,12 @@
 //! Ceremonies closed, over the rows of a view.
-ghost use Rattle.std.specs.Prelude.{◌≡◌, suc};
+ghost use Rattle.std.specs.Prelude.{◌≡◌, suc, IfOk, Some};
 ghost use Rattle.std.specs.List.{list_any};
 ghost use Rattle.kcr_base.specs.Refuse.{Tests};
 ghost use Rattle.kcr_history.specs.declared.commands.Act.TheVariants as Kinds;
 ghost use Rattle.kcr_rules.specs.ByRows.{ComesTo};
 ghost use Rattle.kcr_history.specs.Views.{is_step_at};
 ghost use Rattle.kcr_rules.specs.CeremonyRows;
+ghost use Rattle.kcr_rules.specs.Scene;
 ghost use Rattle.kcr_rules.specs.Signing.{next_by};
 ghost use Rattle.kcr_room.specs.Stays;
 
@@ -100,15 +101,25 @@ fn check_finished(view: &View, ceremony: u32, at: Moment, row: CeremonyRow) -> R
 }
 
 impl Premises<'_> {
-    /// Closes an open ceremony.
-    pub fn close(&self, ceremony: u32, at: Moment) -> Result<Vec<Change>, Refusal>
-        ensures { ComesTo self.now (Kinds.Close ceremony at) result }
+    /// The row of a ceremony that may be closed once it is finished. Refused: 12 without the ceremony, 20 where it is not
+    /// open, 22 before its mark, 27 full.
+    pub fn closable(&self, ceremony: u32, at: Moment) -> Result<CeremonyRow, Refusal>
+        ensures row { IfOk result (λ row. Scene.ceremony_by self.now.view.now.ceremonies.items ceremony ≡ Some row) }
+        ensures tests { Tests (CeremonyRows.early_closing_refusal self.now.view.now self.now.is_full ceremony at) result }
     {
         let row = known(self.view, ceremony)?;
         check_running(self.view, ceremony, row.state, at)?;
         if self.is_full {
             return Err(Refusal::Full);
         }
+        Ok(row)
+    }
+
+    /// Closes an open ceremony.
+    pub fn close(&self, ceremony: u32, at: Moment) -> Result<Vec<Change>, Refusal>
+        ensures { ComesTo self.now (Kinds.Close ceremony at) result }
+    {
+        let row = self.closable(ceremony, at)?;
         check_finished(self.view, ceremony, at, row)?;
         let closed = CeremonyRow {
             state: CeremonyState::Closed,

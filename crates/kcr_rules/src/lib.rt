@@ -9,6 +9,7 @@
 #![tactic(auto)]
 
 mod acts;
+mod ahead;
 mod ceremonies;
 mod changes;
 mod closing;
@@ -23,3 +24,4 @@ mod signing;
 mod steps;
 
 pub use acts::{Acted, perform};
+pub use ahead::refusal_ahead;

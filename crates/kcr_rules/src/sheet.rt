@@ -2,7 +2,7 @@
 ghost use Rattle.std.specs.Prelude.{◌≡◌, ◌≢◌, ◌++◌, IfOk, MatchResult, Option, Some, None, map};
 ghost use Rattle.kcr_base.specs.declared.refusal.Refusal.{Refusal};
 ghost use Rattle.kcr_base.specs.declared.refusal.Refusal.TheVariants.{Memory};
-ghost use Rattle.kcr_base.specs.Refuse.{Tests};
+ghost use Rattle.kcr_base.specs.Refuse.{Tests, is_not_later};
 ghost use Rattle.kcr_room.specs.Adding;
 ghost use Rattle.kcr_room.specs.declared.Request.{Request};
 ghost use Rattle.kcr_history.specs.declared.views.View.{View};
@@ -14,7 +14,7 @@ ghost use Rattle.kcr_rules.specs.SheetRows;
 
 use crate::premises::Premises;
 use crate::scene::{is_open_state, known, mark};
-use kcr_base::{Initials, Refusal, Thing, is_among};
+use kcr_base::{Initials, Moment, Refusal, Thing, is_among};
 use kcr_history::{Change, View};
 use kcr_people::Person;
 use kcr_room::{Request, SheetRow, Stay, stays_in};
@@ -142,6 +142,31 @@ fn check_known(view: &View, ceremony: u32, people: &[Initials]) -> Result<(), Re
     Ok(())
 }
 
+/// The moment is later than the mark.
+fn check_later(at: Moment, mark: Moment) -> Result<(), Refusal>
+    ensures { Tests (is_not_later at (Some mark)) result }
+{
+    if at <= mark {
+        return Err(Refusal::Late { mark });
+    }
+    Ok(())
+}
+
+/// The first refusal of a request before the stays are looked at: the ceremony and the people are there, the ceremony is
+/// open, and the moment is later than its mark.
+pub fn request_ahead(view: &View, request: &Request<'_>) -> Option<Refusal>
+    ensures { let asked : Request = request.now in
+        result ≡ SheetRows.timely_refusal view.now asked.ceremony asked.people.now asked.at }
+{
+    match check_known(view, request.ceremony, request.people) {
+        Err(refusal) => Some(refusal),
+        Ok(()) => {
+            let mark = mark(view, request.ceremony)?;
+            check_later(request.at, mark).err()
+        }
+    }
+}
+
 impl Premises<'_> {
     /// The stays that a request changes, or the first refusal by the mark and the room.
     fn changed_stays(&self, request: &Request<'_>) -> Result<Vec<Stay>, Refusal>
@@ -157,9 +182,7 @@ impl Premises<'_> {
         let Some(mark) = mark(self.view, request.ceremony) else {
             return Err(Refusal::State);
         };
-        if request.at <= mark {
-            return Err(Refusal::Late { mark });
-        }
+        check_later(request.at, mark)?;
         if let Some(who) = first_twice(request.people) {
             return Err(Refusal::Turn { who });
         }

@@ -27,11 +27,11 @@ use kcr_history::{
     Answer, BagShown, CeremonyRow, Command, CustodiansShown, KeyRow, PersonShown, Question,
     RoomShown, Shown, Verdict, asks,
 };
-use kcr_machine::{decide, repeat};
+use kcr_machine::{decide, refused_ahead, repeat};
 use kcr_people::{Appointment, Person, Training, Withdrawal};
 use kcr_reading::Reading;
 use kcr_room::present_in;
-use kcr_tables::{all_rows, make_changes, rows_under, stays_of, view_of};
+use kcr_tables::{all_rows, completed, front_of, make_changes, rows_under, stays_of};
 use sqlite::{Alter, Connection, Error, ErrorCode, Transaction};
 use std::alloc::Global;
 
@@ -44,7 +44,8 @@ struct Turn<'a> {
 }
 
 /// What becomes of the command: a repeat is decided by the row of its key alone, and a command whose key is new over
-/// the rows that it asks for and the number of the last one. Nothing is written.
+/// the rows that it asks for and the number of the last one. Where the first part of these rows tells its refusal, the
+/// others are not read. Nothing is written.
 fn decision_of<S: Alter>(
     alloc: Global,
     tx: &mut Transaction<'_, S>,
@@ -67,7 +68,11 @@ fn decision_of<S: Alter>(
         Some(row) => repeat(alloc, row, command),
         None => {
             let asked = asks(alloc, command)?;
-            let view = view_of(alloc, tx, &asked)?;
+            let front = front_of(alloc, tx, &asked)?;
+            if let Some(refusal) = refused_ahead(alloc, &front, count, command) {
+                return Err(refusal);
+            }
+            let view = completed(alloc, tx, &asked, front)?;
             decide(alloc, &view, count, command)
         }
     }

@@ -16,3 +16,4 @@ pub mod StatementLemmas
 pub mod StayLemmas
 pub mod TrainingLemmas
 pub mod ViewLemmas
+pub mod FrontLemmas

@@ -11,7 +11,6 @@ use Rattle.sqlite.specs.declared.types.Value.TheVariants.{Int, Text}
 use Rattle.sqlite_rules.specs.Lists.{Has}
 use Rattle.kcr_base.specs.Place.{place_text}
 use Rattle.kcr_base.specs.declared.place.Place.{Place as Custodian}
-use Rattle.kcr_people.specs.declared.Person.{Person}
 use Rattle.kcr_people.specs.declared.Training.{Training}
 use Rattle.kcr_people.specs.declared.Withdrawal.{Withdrawal}
 use Rattle.kcr_people.specs.declared.Appointment.{Appointment}
@@ -19,7 +18,6 @@ use Rattle.kcr_custody.specs.declared.BoxRow.{BoxRow}
 use Rattle.kcr_custody.specs.declared.SafeRow.{SafeRow}
 use Rattle.kcr_custody.specs.declared.Bag.{Bag}
 use Rattle.kcr_custody.specs.declared.Item.{Item}
-use Rattle.kcr_room.specs.declared.Stay.{Stay}
 use Rattle.kcr_history.specs.declared.rows.CeremonyRow.{CeremonyRow}
 use Rattle.kcr_history.specs.declared.rows.MarkRow.{MarkRow}
 use Rattle.kcr_history.specs.declared.rows.StepRow.{StepRow}
@@ -144,10 +142,9 @@ StepsAreShown None seatings steps db = Unit {0}
 StepsAreShown (Some asked) seatings steps db =
     OneSeatingIsShown asked.ceremony seatings db × StepIsShown asked seatings steps db
 
--- of people and their offices
-pub record StaffIsShown (asks : Asks) (people : List Person) (trainings : List Training)
+-- of people's offices
+pub record StaffIsShown (asks : Asks) (trainings : List Training)
     (withdrawals : List Withdrawal) (appointments : List Appointment) (db : Trees) : Type 0 where
-  pub people_are : AskedAreShown person_row people_place (has_any 0) asks.people people db
   pub trainings_are : AskedAreShown training_row trainings_place is_training_row asks.trainings trainings db
   pub withdrawals_are : AskedAreShown withdrawal_row withdrawals_place (has_text 0) asks.withdrawals withdrawals db
   pub appointments_are : AppointmentsAreShown asks.appointments appointments db
@@ -160,19 +157,19 @@ pub record CustodyIsShown (asks : Asks) (boxes : List BoxRow) (safes : List Safe
   pub bags_are : AskedAreShown bag_row bags_place (has_text 0) asks.bags bags db
   pub items_are : AskedAreShown item_row items_place is_item_row asks.items items db
 
--- of ceremonies; of the stays those of the ceremony
+-- of ceremonies
 pub record CeremoniesAreShown (asks : Asks) (ceremonies : List CeremonyRow) (marks : List MarkRow)
-    (steps : List StepRow) (seatings : List SeatingRow) (exceptions : List ExceptionRow) (stays : List Stay)
-    (db : Trees) : Type 0 where
+    (steps : List StepRow) (seatings : List SeatingRow) (exceptions : List ExceptionRow) (db : Trees) : Type 0 where
   pub ceremonies_are : AskedAreShown ceremony_row ceremonies_place (has_number 0) asks.ceremonies ceremonies db
   pub marks_are : AskedAreShown mark_row marks_place (has_number 0) asks.marks marks db
   pub steps_are : StepsAreShown asks.steps seatings steps db
   pub exceptions_are : AskedAreShown exception_row exceptions_place (has_number 0) asks.exceptions exceptions db
-  pub stays_are : AskedAreShown stay_row stays_place is_stay_row asks.stays stays db
 
--- every row asked for, of each table, is the row of a value in the view
+-- every row asked for, of each table, is the row of a value in the view; of the stays those of the ceremony
 pub record NoneIsStrange (asks : Asks) (view : View) (db : Trees) : Type 0 where
-  pub staff : StaffIsShown asks view.people.items view.trainings.items view.withdrawals.items view.appointments.items db
+  pub people : AskedAreShown person_row people_place (has_any 0) asks.people view.people.items db
+  pub staff : StaffIsShown asks view.trainings.items view.withdrawals.items view.appointments.items db
   pub custody : CustodyIsShown asks view.boxes.items view.safes.items view.bags.items view.items.items db
   pub ceremonies : CeremoniesAreShown asks view.ceremonies.items view.marks.items view.steps.items
-      view.seatings.items view.exceptions.items view.stays.items db
+      view.seatings.items view.exceptions.items db
+  pub stays : AskedAreShown stay_row stays_place is_stay_row asks.stays view.stays.items db

@@ -42,4 +42,4 @@ pub use last::{last_key_row, last_stay_of};
 pub use rooms::stays_of;
 pub use table::{AsCell, Finds, Listed, all_rows, rows_under};
 pub use texts::create_text;
-pub use view::view_of;
+pub use view::{completed, front_of};

@@ -1,16 +1,14 @@
-//! The rows that a decision reads.
+//! The rows that a decision reads, in two parts.
 
-ghost use Rattle.std.specs.Prelude.{◌≡◌, IfOk};
+ghost use Rattle.std.specs.Prelude.{◌≡◌};
 ghost use Rattle.sqlite.specs.Held.{state};
-ghost use Rattle.sqlite.specs.State.{HasCleanDisk};
-ghost use Rattle.kcr_history.specs.Views.{IsViewOf, Shows, ShowsStays, is_of_people, is_withdrawal_of};
+ghost use Rattle.kcr_history.specs.Front.{front_asks};
+ghost use Rattle.kcr_history.specs.Views.{IsViewOf, Shows, is_training_asked, is_withdrawal_of};
 ghost use Rattle.kcr_history.specs.Views.{ShowsAppointments, is_of_serial, is_item_of, is_of_number, is_mark_of};
-ghost use Rattle.kcr_history.specs.Views.{ShowsSteps, is_exception_of, is_training_asked};
-ghost use Rattle.kcr_history.specs.Tables as machine;
+ghost use Rattle.kcr_history.specs.Views.{ShowsSteps, is_exception_of};
 ghost use Rattle.kcr_tables.specs.Asked.{asked_of, asked_all};
 ghost use Rattle.kcr_tables.specs.Exact.{StaffIsShown, CustodyIsShown, CeremoniesAreShown, NoneIsStrange};
-ghost use Rattle.kcr_tables.specs.Frame.{Tells, TellsExactly, Reads};
-ghost use Rattle.kcr_tables.specs.Joint.{HoldsTables};
+ghost use Rattle.kcr_tables.specs.Frame.{Tells, TellsMachine, TellsExactly, Reads};
 
 use crate::lasting::asked_trainings;
 use crate::places::asked_appointments;
@@ -26,10 +24,9 @@ use kcr_room::Stay;
 use sqlite::{Alter, Transaction};
 use std::alloc::Global;
 
-/// Rows of people and their offices.
+/// Rows of people's offices.
 #[derive(Drop)]
 struct StaffRows {
-    people: Vec<Person>,
     trainings: Vec<Training>,
     withdrawals: Vec<Withdrawal>,
     appointments: Vec<Appointment>,
@@ -52,18 +49,15 @@ struct CeremonyRows {
     steps: Vec<StepRow>,
     seatings: Vec<SeatingRow>,
     exceptions: Vec<ExceptionRow>,
-    stays: Vec<Stay>,
 }
 
-/// The rows asked for of people and their offices.
+/// The rows asked for of people's offices.
 fn staff_rows<S: Alter>(
     alloc: Global,
     tx: &mut Transaction<'_, S>,
     asks: &Asks,
 ) -> Result<StaffRows, Refusal>
     ensures same_reference { tx.new.conn.ghost_name ≡ tx.old.conn.ghost_name }
-    ensures people { Tells (state S.Store tx.old.conn.now) (state S.Store tx.new.conn.now) result
-        (λ t rows. Shows is_of_people asks.now.people t.rows.people rows.people.items) }
     ensures trainings { Tells (state S.Store tx.old.conn.now) (state S.Store tx.new.conn.now) result
         (λ t rows. rows.trainings.items ≡ asked_of is_training_asked asks.now.trainings t.rows.trainings) }
     ensures withdrawals { Tells (state S.Store tx.old.conn.now) (state S.Store tx.new.conn.now) result
@@ -71,16 +65,13 @@ fn staff_rows<S: Alter>(
     ensures appointments { Tells (state S.Store tx.old.conn.now) (state S.Store tx.new.conn.now) result
         (λ t rows. ShowsAppointments asks.now.appointments t.rows.appointments rows.appointments.items) }
     ensures exact { TellsExactly (state S.Store tx.old.conn.now) (state S.Store tx.new.conn.now) result
-        (λ db rows. StaffIsShown asks.now rows.people.items rows.trainings.items rows.withdrawals.items
-        rows.appointments.items db) }
+        (λ db rows. StaffIsShown asks.now rows.trainings.items rows.withdrawals.items rows.appointments.items db) }
     ensures frame { Reads (state S.Store tx.old.conn.now) (state S.Store tx.new.conn.now) result }
 {
-    let people = asked_people(alloc, tx, &asks.people)?;
     let trainings = asked_trainings(alloc, tx, &asks.trainings)?;
     let withdrawals = asked_rows(alloc, tx, &asks.withdrawals)?;
     let appointments = asked_appointments(alloc, tx, &asks.appointments)?;
     Ok(StaffRows {
-        people,
         trainings,
         withdrawals,
         appointments,
@@ -133,51 +124,47 @@ fn ceremony_rows<S: Alter>(
         (λ t rows. ShowsSteps asks.now.steps t.rows.seatings rows.seatings.items t.rows.steps rows.steps.items) }
     ensures exceptions { Tells (state S.Store tx.old.conn.now) (state S.Store tx.new.conn.now) result
         (λ t rows. rows.exceptions.items ≡ asked_of is_exception_of asks.now.exceptions t.rows.exceptions) }
-    ensures stays { Tells (state S.Store tx.old.conn.now) (state S.Store tx.new.conn.now) result
-        (λ t rows. ShowsStays asks.now.stays t.rows.stays rows.stays.items) }
     ensures exact { TellsExactly (state S.Store tx.old.conn.now) (state S.Store tx.new.conn.now) result
         (λ db rows. CeremoniesAreShown asks.now rows.ceremonies.items rows.marks.items rows.steps.items
-        rows.seatings.items rows.exceptions.items rows.stays.items db) }
+        rows.seatings.items rows.exceptions.items db) }
     ensures frame { Reads (state S.Store tx.old.conn.now) (state S.Store tx.new.conn.now) result }
 {
     let ceremonies = asked_rows(alloc, tx, &asks.ceremonies)?;
     let marks = asked_rows(alloc, tx, &asks.marks)?;
     let script = asked_steps(alloc, tx, &asks.steps)?;
     let exceptions = asked_rows(alloc, tx, &asks.exceptions)?;
-    let stays = asked_stays(alloc, tx, &asks.stays)?;
     Ok(CeremonyRows {
         ceremonies,
         marks,
         steps: script.steps,
         seatings: script.seatings,
         exceptions,
-        stays,
     })
 }
 
-/// The rows asked for, of each table. Of a table that is not asked for nothing is read. Nothing is changed. The error
-/// is `Memory` when out of memory, and else `Disk`: the device failed, or a row asked for is one that no register
-/// stores.
-pub fn view_of<S: Alter>(
+/// The rows asked for, but for trainings, withdrawals, appointments and stays, of which the view has none. Of a table
+/// that is not asked for nothing is read. Nothing is changed. The error is `Memory` when out of memory, and else `Disk`:
+/// the device failed, or a row asked for is one that no register stores.
+pub fn front_of<S: Alter>(
     alloc: Global,
     tx: &mut Transaction<'_, S>,
     asks: &Asks,
 ) -> Result<View, Refusal>
     ensures same_reference { tx.new.conn.ghost_name ≡ tx.old.conn.ghost_name }
-    ensures view { HasCleanDisk (state S.Store tx.new.conn.now) → (m : machine.Tables)
-        → HoldsTables m (state S.Store tx.old.conn.now).now → IfOk result (IsViewOf asks.now m) }
+    ensures view { TellsMachine (state S.Store tx.old.conn.now) (state S.Store tx.new.conn.now) result
+        (IsViewOf (front_asks asks.now)) }
     ensures exact { TellsExactly (state S.Store tx.old.conn.now) (state S.Store tx.new.conn.now) result
-        (λ db view. NoneIsStrange asks.now view db) }
+        (λ db view. NoneIsStrange (front_asks asks.now) view db) }
     ensures frame { Reads (state S.Store tx.old.conn.now) (state S.Store tx.new.conn.now) result }
 {
-    let staff = staff_rows(alloc, tx, asks)?;
+    let people = asked_people(alloc, tx, &asks.people)?;
     let custody = custody_rows(alloc, tx, asks)?;
     let ceremony = ceremony_rows(alloc, tx, asks)?;
     Ok(View {
-        people: staff.people,
-        trainings: staff.trainings,
-        withdrawals: staff.withdrawals,
-        appointments: staff.appointments,
+        people,
+        trainings: Vec::new(alloc),
+        withdrawals: Vec::new(alloc),
+        appointments: Vec::new(alloc),
         boxes: custody.boxes,
         safes: custody.safes,
         bags: custody.bags,
@@ -186,7 +173,33 @@ pub fn view_of<S: Alter>(
         marks: ceremony.marks,
         steps: ceremony.steps,
         seatings: ceremony.seatings,
-        stays: ceremony.stays,
+        stays: Vec::new(alloc),
         exceptions: ceremony.exceptions,
+    })
+}
+
+/// All rows asked for, of each table, where `front` has those of `front_of`, which are not read again. As there, nothing
+/// is changed, and the error is `Memory` or `Disk`.
+pub fn completed<S: Alter>(
+    alloc: Global,
+    tx: &mut Transaction<'_, S>,
+    asks: &Asks,
+    front: View,
+) -> Result<View, Refusal>
+    ensures same_reference { tx.new.conn.ghost_name ≡ tx.old.conn.ghost_name }
+    ensures view { TellsMachine (state S.Store tx.old.conn.now) (state S.Store tx.new.conn.now) result
+        (λ m view. IsViewOf (front_asks asks.now) m front → IsViewOf asks.now m view) }
+    ensures exact { TellsExactly (state S.Store tx.old.conn.now) (state S.Store tx.new.conn.now) result
+        (λ db view. NoneIsStrange (front_asks asks.now) front db → NoneIsStrange asks.now view db) }
+    ensures frame { Reads (state S.Store tx.old.conn.now) (state S.Store tx.new.conn.now) result }
+{
+    let staff = staff_rows(alloc, tx, asks)?;
+    let stays = asked_stays(alloc, tx, &asks.stays)?;
+    Ok(View {
+        trainings: staff.trainings,
+        withdrawals: staff.withdrawals,
+        appointments: staff.appointments,
+        stays,
+        ..front
     })
 }

@@ -3,9 +3,9 @@ ghost use Rattle.std.specs.Prelude.{◌≡◌};
 
 use crate::asserts::holds;
 use kcr_base::Refusal;
-use kcr_history::{Asks, KeyRow, SeatingRow, Selection, StepOf};
+use kcr_history::{Asks, KeyRow, SeatingRow, Selection, StepOf, View};
 use kcr_room::SheetRow;
-use kcr_tables::{Version, all_rows, make, view_of};
+use kcr_tables::{Version, all_rows, completed, front_of, make};
 use sqlite::{Alter, Connection, MemStore, Transaction};
 use std::alloc::Global;
 use std::rt::HostRuntime;
@@ -74,6 +74,18 @@ fn every_row() -> Asks {
 /// Whether the reading met a row that no register stores, which it tells as a fault of the device.
 fn is_refused<T>(read: &Result<T, Refusal>) -> bool {
     matches!(read, Err(Refusal::Disk))
+}
+
+/// The rows asked for, in the two parts that they are read in.
+fn view_of<S: Alter>(
+    alloc: Global,
+    tx: &mut Transaction<'_, S>,
+    asks: &Asks,
+) -> Result<View, Refusal>
+    ensures same_reference { tx.new.conn.ghost_name ≡ tx.old.conn.ghost_name }
+{
+    let front = front_of(alloc, tx, asks)?;
+    completed(alloc, tx, asks, front)
 }
 
 /// Whether a reading of all tables meets such a row.

@@ -2,9 +2,9 @@ use Rattle.std.proofs.Common.{rules}
 use Rattle.sqlite.specs.Held.{state}
 use Rattle.sqlite.specs.State.{HasCleanDisk}
 use Rattle.kcr_rows.proofs.InsideLemmas.{was_clean}
-use Rattle.kcr_rows.specs.Rows.{mark_row, exception_row, stay_row}
-use Rattle.kcr_tables.specs.Exact.{has_number, is_stay_row, AskedAreShown, StepsAreShown}
-use Rattle.kcr_tables.specs.Held.{marks_place, exceptions_place, stays_place}
+use Rattle.kcr_rows.specs.Rows.{mark_row, exception_row}
+use Rattle.kcr_tables.specs.Exact.{has_number, AskedAreShown, StepsAreShown}
+use Rattle.kcr_tables.specs.Held.{marks_place, exceptions_place}
 use Rattle.kcr_tables.proofs.FrameLemmas.{reads_on, fails_as, reads_then, reads_to, read_later}
 use Rattle.kcr_tables.proofs.view.ceremony_rows.Goals as goal
 
@@ -23,11 +23,6 @@ returns-in_err-exceptions-clause-frame g c = reads_on
     (reads_on (reads_on c.in_ok-ceremonies.ensures.frame c.in_ok-marks.ensures.frame) c.in_ok-script.ensures.frame)
     (fails_as c.from_residual-in_err-exceptions.ensures.1 c.in_err-exceptions.ensures.frame)
 
-pub returns-in_err-stays-clause-frame : goal.returns-in_err-stays-clause-frame
-returns-in_err-stays-clause-frame g c = reads_on
-    (reads_on (reads_on (reads_on c.in_ok-ceremonies.ensures.frame c.in_ok-marks.ensures.frame) c.in_ok-script.ensures.frame) c.in_ok-exceptions.ensures.frame)
-    (fails_as c.from_residual-in_err-stays.ensures.1 c.in_err-stays.ensures.frame)
-
 pub returns : goal.returns
 returns g c =
     let old = state g.S.Store c.args.tx.now.conn.now in
@@ -35,21 +30,17 @@ returns g c =
     let s1 = state g.S.Store c.asked_rows-2.new.tx.conn.now in
     let s2 = state g.S.Store c.asked_steps.new.tx.conn.now in
     let s3 = state g.S.Store c.asked_rows-3.new.tx.conn.now in
-    let s4 = state g.S.Store c.asked_stays.new.tx.conn.now in
     let to0 = c.in_ok-ceremonies.ensures.frame in
     let to1 = reads_then old s0 s1 _ _ to0 c.in_ok-marks.ensures.frame in
     let to2 = reads_then old s1 s2 _ _ to1 c.in_ok-script.ensures.frame in
-    let to3 = reads_then old s2 s3 _ _ to2 c.in_ok-exceptions.ensures.frame in
-    let clean3 : HasCleanDisk s4 → HasCleanDisk s3 = λ clean. was_clean s3 s4 _ c.in_ok-stays.ensures.frame.within.survives clean in
-    let clean2 : HasCleanDisk s4 → HasCleanDisk s2 = λ clean. was_clean s2 s3 _ c.in_ok-exceptions.ensures.frame.within.survives (clean3 clean) in
-    let clean1 : HasCleanDisk s4 → HasCleanDisk s1 = λ clean. was_clean s1 s2 _ c.in_ok-script.ensures.frame.within.survives (clean2 clean) in
-    let clean0 : HasCleanDisk s4 → HasCleanDisk s0 = λ clean. was_clean s0 s1 _ c.in_ok-marks.ensures.frame.within.survives (clean1 clean) in record {
+    let clean2 : HasCleanDisk s3 → HasCleanDisk s2 = λ clean. was_clean s2 s3 _ c.in_ok-exceptions.ensures.frame.within.survives clean in
+    let clean1 : HasCleanDisk s3 → HasCleanDisk s1 = λ clean. was_clean s1 s2 _ c.in_ok-script.ensures.frame.within.survives (clean2 clean) in
+    let clean0 : HasCleanDisk s3 → HasCleanDisk s0 = λ clean. was_clean s0 s1 _ c.in_ok-marks.ensures.frame.within.survives (clean1 clean) in record {
       same_reference = search rules;
       ceremonies = λ clean t held. c.in_ok-ceremonies.ensures.rows (clean0 clean) t held;
       marks = λ clean t held. c.in_ok-marks.ensures.rows (clean1 clean) t (to0.holds (clean0 clean) t held);
       steps = λ clean t held. c.in_ok-script.ensures.rows (clean2 clean) t (to1.holds (clean1 clean) t held);
-      exceptions = λ clean t held. c.in_ok-exceptions.ensures.rows (clean3 clean) t (to2.holds (clean2 clean) t held);
-      stays = λ clean t held. c.in_ok-stays.ensures.rows clean t (to3.holds (clean3 clean) t held);
+      exceptions = λ clean t held. c.in_ok-exceptions.ensures.rows clean t (to2.holds (clean2 clean) t held);
       exact = λ clean has.
           let asks = c.args.asks.now in record {
             ceremonies_are = c.in_ok-ceremonies.ensures.exact (clean0 clean) has;
@@ -59,9 +50,7 @@ returns g c =
                 (clean1 clean) has (c.in_ok-script.ensures.exact (clean2 clean));
             exceptions_are = read_later
                 (AskedAreShown exception_row exceptions_place (has_number 0) asks.exceptions c.in_ok-exceptions.exceptions.items) old s2 _ to2
-                (clean2 clean) has (c.in_ok-exceptions.ensures.exact (clean3 clean));
-            stays_are = read_later (AskedAreShown stay_row stays_place is_stay_row asks.stays c.in_ok-stays.stays.items) old s3 _ to3 (clean3 clean) has
-                (c.in_ok-stays.ensures.exact clean);
+                (clean2 clean) has (c.in_ok-exceptions.ensures.exact clean);
           };
-      frame = reads_to old s4 _ _ tt (reads_then old s3 s4 _ _ to3 c.in_ok-stays.ensures.frame);
+      frame = reads_to old s3 _ _ tt (reads_then old s2 s3 _ _ to2 c.in_ok-exceptions.ensures.frame);
     }

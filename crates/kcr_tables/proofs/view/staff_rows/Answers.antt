@@ -2,56 +2,46 @@ use Rattle.std.proofs.Common.{rules}
 use Rattle.sqlite.specs.Held.{state}
 use Rattle.sqlite.specs.State.{HasCleanDisk}
 use Rattle.kcr_rows.proofs.InsideLemmas.{was_clean}
-use Rattle.kcr_rows.specs.Rows.{training_row, withdrawal_row}
-use Rattle.kcr_tables.specs.Exact.{has_text, is_training_row, AskedAreShown, AppointmentsAreShown}
-use Rattle.kcr_tables.specs.Held.{trainings_place, withdrawals_place}
+use Rattle.kcr_rows.specs.Rows.{withdrawal_row}
+use Rattle.kcr_tables.specs.Exact.{has_text, AskedAreShown, AppointmentsAreShown}
+use Rattle.kcr_tables.specs.Held.{withdrawals_place}
 use Rattle.kcr_tables.proofs.FrameLemmas.{reads_on, fails_as, reads_then, reads_to, read_later}
 use Rattle.kcr_tables.proofs.view.staff_rows.Goals as goal
 
-pub returns-in_err-people-clause-frame : goal.returns-in_err-people-clause-frame
-returns-in_err-people-clause-frame g c = fails_as c.from_residual.ensures.1 c.in_err-people.ensures.frame
-
 pub returns-in_err-trainings-clause-frame : goal.returns-in_err-trainings-clause-frame
-returns-in_err-trainings-clause-frame g c = reads_on c.in_ok-people.ensures.frame
-    (fails_as c.from_residual-in_err-trainings.ensures.1 c.in_err-trainings.ensures.frame)
+returns-in_err-trainings-clause-frame g c = fails_as c.from_residual.ensures.1 c.in_err-trainings.ensures.frame
 
 pub returns-in_err-withdrawals-clause-frame : goal.returns-in_err-withdrawals-clause-frame
-returns-in_err-withdrawals-clause-frame g c = reads_on (reads_on c.in_ok-people.ensures.frame c.in_ok-trainings.ensures.frame)
+returns-in_err-withdrawals-clause-frame g c = reads_on c.in_ok-trainings.ensures.frame
     (fails_as c.from_residual-in_err-withdrawals.ensures.1 c.in_err-withdrawals.ensures.frame)
 
 pub returns-in_err-appointments-clause-frame : goal.returns-in_err-appointments-clause-frame
 returns-in_err-appointments-clause-frame g c = reads_on
-    (reads_on (reads_on c.in_ok-people.ensures.frame c.in_ok-trainings.ensures.frame) c.in_ok-withdrawals.ensures.frame)
+    (reads_on c.in_ok-trainings.ensures.frame c.in_ok-withdrawals.ensures.frame)
     (fails_as c.from_residual-in_err-appointments.ensures.1 c.in_err-appointments.ensures.frame)
 
 pub returns : goal.returns
 returns g c =
     let old = state g.S.Store c.args.tx.now.conn.now in
-    let s0 = state g.S.Store c.asked_people.new.tx.conn.now in
-    let s1 = state g.S.Store c.asked_trainings.new.tx.conn.now in
-    let s2 = state g.S.Store c.asked_rows.new.tx.conn.now in
-    let s3 = state g.S.Store c.asked_appointments.new.tx.conn.now in
-    let to0 = c.in_ok-people.ensures.frame in
-    let to1 = reads_then old s0 s1 _ _ to0 c.in_ok-trainings.ensures.frame in
-    let to2 = reads_then old s1 s2 _ _ to1 c.in_ok-withdrawals.ensures.frame in
-    let clean2 : HasCleanDisk s3 → HasCleanDisk s2 = λ clean. was_clean s2 s3 _ c.in_ok-appointments.ensures.frame.within.survives clean in
-    let clean1 : HasCleanDisk s3 → HasCleanDisk s1 = λ clean. was_clean s1 s2 _ c.in_ok-withdrawals.ensures.frame.within.survives (clean2 clean) in
-    let clean0 : HasCleanDisk s3 → HasCleanDisk s0 = λ clean. was_clean s0 s1 _ c.in_ok-trainings.ensures.frame.within.survives (clean1 clean) in record {
+    let s0 = state g.S.Store c.asked_trainings.new.tx.conn.now in
+    let s1 = state g.S.Store c.asked_rows.new.tx.conn.now in
+    let s2 = state g.S.Store c.asked_appointments.new.tx.conn.now in
+    let to0 = c.in_ok-trainings.ensures.frame in
+    let to1 = reads_then old s0 s1 _ _ to0 c.in_ok-withdrawals.ensures.frame in
+    let clean1 : HasCleanDisk s2 → HasCleanDisk s1 = λ clean. was_clean s1 s2 _ c.in_ok-appointments.ensures.frame.within.survives clean in
+    let clean0 : HasCleanDisk s2 → HasCleanDisk s0 = λ clean. was_clean s0 s1 _ c.in_ok-withdrawals.ensures.frame.within.survives (clean1 clean) in record {
       same_reference = search rules;
-      people = λ clean t held. c.in_ok-people.ensures.rows (clean0 clean) t held;
-      trainings = λ clean t held. c.in_ok-trainings.ensures.rows (clean1 clean) t (to0.holds (clean0 clean) t held);
-      withdrawals = λ clean t held. c.in_ok-withdrawals.ensures.rows (clean2 clean) t (to1.holds (clean1 clean) t held);
-      appointments = λ clean t held. c.in_ok-appointments.ensures.rows clean t (to2.holds (clean2 clean) t held);
+      trainings = λ clean t held. c.in_ok-trainings.ensures.rows (clean0 clean) t held;
+      withdrawals = λ clean t held. c.in_ok-withdrawals.ensures.rows (clean1 clean) t (to0.holds (clean0 clean) t held);
+      appointments = λ clean t held. c.in_ok-appointments.ensures.rows clean t (to1.holds (clean1 clean) t held);
       exact = λ clean has.
           let asks = c.args.asks.now in record {
-            people_are = c.in_ok-people.ensures.exact (clean0 clean) has;
-            trainings_are = read_later (AskedAreShown training_row trainings_place is_training_row asks.trainings c.in_ok-trainings.trainings.items) old s0 _
-                to0 (clean0 clean) has (c.in_ok-trainings.ensures.exact (clean1 clean));
+            trainings_are = c.in_ok-trainings.ensures.exact (clean0 clean) has;
             withdrawals_are = read_later
-                (AskedAreShown withdrawal_row withdrawals_place (has_text 0) asks.withdrawals c.in_ok-withdrawals.withdrawals.items) old s1 _ to1
-                (clean1 clean) has (c.in_ok-withdrawals.ensures.exact (clean2 clean));
-            appointments_are = read_later (AppointmentsAreShown asks.appointments c.in_ok-appointments.appointments.items) old s2 _ to2 (clean2 clean) has
+                (AskedAreShown withdrawal_row withdrawals_place (has_text 0) asks.withdrawals c.in_ok-withdrawals.withdrawals.items) old s0 _ to0
+                (clean0 clean) has (c.in_ok-withdrawals.ensures.exact (clean1 clean));
+            appointments_are = read_later (AppointmentsAreShown asks.appointments c.in_ok-appointments.appointments.items) old s1 _ to1 (clean1 clean) has
                 (c.in_ok-appointments.ensures.exact clean);
           };
-      frame = reads_to old s3 _ _ tt (reads_then old s2 s3 _ _ to2 c.in_ok-appointments.ensures.frame);
+      frame = reads_to old s2 _ _ tt (reads_then old s1 s2 _ _ to1 c.in_ok-appointments.ensures.frame);
     }
