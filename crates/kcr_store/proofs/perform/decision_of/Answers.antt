@@ -60,14 +60,14 @@ returns-in_err-view-in-None-clause-frame g c =
     (λ fault clean A had number. fault_steps A c.args.turn.now.command.now _ fault) c.in_err-view-in-None.ensures.frame.within)
 
 -- the first rows that are read tell its refusal
-pub returns-in-Some-in-None : goal.returns-in-Some-in-None
-returns-in-Some-in-None g c =
+pub returns-in-Some-refused_ahead-clause-frame : goal.returns-in-Some-refused_ahead-clause-frame
+returns-in-Some-refused_ahead-clause-frame g c =
     let old = state g.S.Store c.args.tx.now.conn.now in
     let new = state g.S.Store c.front_of.new.tx.conn.now in
     let x = c.args.turn.now.command.now in
     let kept = c.in_ok-kept.ensures in
     let front = c.in_ok-front-in-None.ensures in
-    let decision : IsDecided old new c.args.turn.now.count x (Err c.in-Some-in-None.refusal) =
+    let decision : IsDecided old new c.args.turn.now.count x (Err c.in-Some-refused_ahead.refusal) =
     λ clean A had number.
     let before = was_clean _ _ _ front.frame.within.survives clean in
     let was = had (kept.opened before) in
@@ -79,14 +79,8 @@ returns-in-Some-in-None g c =
     let shown = front.view clean (tables A) held1 in
     let last = number ∙ sym (greatest-keys A was.tables.register) in
     let told = c.refused_ahead.ensures A was.tables.register none (rw c.in_ok-asked-in-None.ensures at shown) last in
-    (subst (λ (o : Option Refusal). IfSome o (λ r. IsDecision A x (Err r))) c.in-Some-in-None.is told, front.frame.tables clean (tables A) held1) in
-    record {
-      same_reference = search rules;
-      decided = tt;
-      opened = λ clean. tt;
-      frame = within_to _ (refused old new c.args.turn.now.count x (Err c.in-Some-in-None.refusal) decision)
-          (within_then kept.frame.within front.frame.within);
-    }
+    (subst (λ (o : Option Refusal). IfSome o (λ r. IsDecision A x (Err r))) c.in-Some-refused_ahead.is told, front.frame.tables clean (tables A) held1) in
+    within_to _ (refused old new c.args.turn.now.count x (Err c.in-Some-refused_ahead.refusal) decision) (within_then kept.frame.within front.frame.within)
 
 pub returns : goal.returns
 returns g c =
