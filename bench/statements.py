@@ -22,7 +22,7 @@ sys.dont_write_bytecode = True  # no files beside these
 from table import EVERYBODY, LETTERS, Client, enter_staff, hold_ceremony, moment
 
 READS = re.compile(r"sqlite::transaction::Transaction::query_all\b")
-WRITES = re.compile(r"kcr_rows::statements::write\b")
+WRITES = re.compile(r"sqlite::connection::Connection::write\b")
 CALL = re.compile(r"(?m)^cfn=\((\d+)\)(?: (.*))?\ncalls=(\d+)")
 SUM = re.compile(r"(?m)^(?:summary|totals): (\d+)")
 NAME = re.compile(r"(?m)^c?fn=\((\d+)\) (.*)$")

@@ -531,13 +531,18 @@ def broken_in_a_stream(program, room):
 
 
 def report_stops(program, room):
-    """A report that meets such a row is refused, and a beginning of it was printed."""
-    file, text = filled(program, room, "003"), kcr.kept(stream("003"), "print-61")
-    change(file, "UPDATE steps SET seats = 'CO;CO' WHERE ceremony = 61 AND step = 3")
-    output, faults, status = call(program, "print", "--ceremony", "61", "--file", file)
-    expect("the end", (b"refused: 34 disk\n", 1), (faults, status))
-    expect("the beginning", text[:len(output)], output)
-    expect("what stands before step 3", text[:text.index(b"\n3 open") + 1], output)
+    """A report that meets such a row is refused, and a beginning of it was printed: of its steps, which are read sixteen
+    at a time, those that were read before."""
+    file, script = room / "stops", ("print", "--ceremony", "61", "--file")
+    call(program, "run", "--file", file, stream=(HERE / "cases" / "reports-of-33-rows").read_bytes())
+    text, faults, status = call(program, *script, file)
+    expect("the whole report", (True, b"", 0), (b"\n33 open" in text, faults, status))
+    for step, before in ((3, b"\n1 signed"), (16, b"\n1 signed"), (17, b"\n17 signed"), (33, b"\n33 open")):
+        marred = copy(file, room / f"stops-{step}")
+        change(marred, f"UPDATE steps SET seats = 'CO;CO' WHERE ceremony = 61 AND step = {step}")
+        output, faults, status = call(program, *script, marred)
+        expect(f"the end at step {step}", (b"refused: 34 disk\n", 1), (faults, status))
+        expect(f"what was printed before step {step}", text[:text.index(before) + 1], output)
 
 
 TESTS = [opened_anew, older_from_its_file, older_from_nothing, half_older, no_file_yet, relative_and_linked,
