@@ -1,7 +1,9 @@
 -- Which rows each kind of command asks for.
-use Rattle.std.specs.Prelude.{ℕ, Bool, true, false, List, [], ◌∷◌, Some, None}
+use Rattle.std.specs.Prelude.{ℕ, Bool, true, false, List, [], ◌∷◌, Option, Some, None}
 use Rattle.kcr_base.specs.Days.{day_of}
 use Rattle.kcr_base.specs.declared.place.Place.{Place}
+use Rattle.kcr_room.specs.declared.Way.{Way}
+use Rattle.kcr_room.specs.declared.Way.TheVariants as Ways
 use Rattle.kcr_history.specs.declared.commands.Act.{Act}
 use Rattle.kcr_history.specs.declared.commands.Act.TheVariants.{Enter, Train, Withdraw, Appoint, Replace, Release}
 use Rattle.kcr_history.specs.declared.commands.Act.TheVariants.{AddBox, AddItem, Plan, Open, Close, Sheet, Sign, Except}
@@ -32,23 +34,24 @@ asks_nothing =
       steps = None;
       exceptions = Nothing;
       stays = Nothing;
+      entries = None;
     }
 
--- the ceremony with its mark, the stays in its room, and of these people the last stay anywhere
-abbrev pub asks_room : ℕ → List (List ℕ) → Asks
-asks_room ceremony people =
+-- the ceremony with its mark, the stays in its room that last to the moment, and of these people the last stay anywhere
+abbrev pub asks_room : ℕ → List (List ℕ) → ℕ → Asks
+asks_room ceremony people at =
     record asks_nothing {
       ceremonies =
           Under ceremony;
       marks = Under ceremony;
-      stays = Under (record { ceremony = ceremony; people = people });
+      stays = Under (record { ceremony = ceremony; at = at; people = people });
     }
 
 -- the same, and whatever tells who in the room is trained at the moment: the trainings that last to its day, whosever
 -- they are, and all withdrawals
 abbrev pub asks_trained : ℕ → ℕ → Asks
 asks_trained ceremony at =
-    record (asks_room ceremony []) { trainings = Under (Trainings.Lasting (day_of at)); withdrawals = All }
+    record (asks_room ceremony [] at) { trainings = Under (Trainings.Lasting (day_of at)); withdrawals = All }
 
 -- what a bag's way into a safe or out of it asks for: the bag, the safes, the boxes and the holders of their places
 abbrev pub asks_bag : ℕ → List ℕ → ℕ → Asks
@@ -86,18 +89,18 @@ abbrev pub asks_to_release : Place → Asks
 asks_to_release place = record asks_nothing { appointments = Under (Appointments.Place place); marks = All }
 
 -- to close a ceremony: its room, its next step, the safes and the bags
-abbrev pub asks_to_close : ℕ → Asks
-asks_to_close ceremony =
-    record (asks_room ceremony []) {
+abbrev pub asks_to_close : ℕ → ℕ → Asks
+asks_to_close ceremony at =
+    record (asks_room ceremony [] at) {
       steps = Some (record { ceremony = ceremony; step = None });
       safes = true;
       bags = All;
     }
 
 -- who opens or shuts a safe, with their trainings
-abbrev pub asks_to_turn : ℕ → List ℕ → Asks
-asks_to_turn ceremony by =
-    record (asks_room ceremony []) {
+abbrev pub asks_to_turn : ℕ → List ℕ → ℕ → Asks
+asks_to_turn ceremony by at =
+    record (asks_room ceremony [] at) {
       people = Under (by ∷ []);
       trainings = Under (Trainings.Person by);
       withdrawals = Under by;
@@ -116,9 +119,15 @@ asks_ceremonies ceremonies = record asks_nothing { ceremonies = ceremonies }
 abbrev pub asks_to_add : ℕ → List ℕ → ℕ → Asks
 asks_to_add ceremony item at = record (asks_trained ceremony at) { items = Under (Items.Codes (item ∷ [])) }
 
--- the people, with the room and their last stays anywhere
-abbrev pub asks_sheet : ℕ → List (List ℕ) → Asks
-asks_sheet ceremony people = record (asks_room ceremony people) { people = Under people }
+-- where people come in, how many stays the ceremony has
+abbrev pub entries_asked : Way → ℕ → Option ℕ
+entries_asked Ways.Enter ceremony = Some ceremony
+entries_asked Ways.Leave ceremony = None
+
+-- the people, with the room and their last stays anywhere, and how many stays there are
+abbrev pub asks_sheet : ℕ → Way → List (List ℕ) → ℕ → Asks
+asks_sheet ceremony way people at =
+    record (asks_room ceremony people at) { people = Under people; entries = entries_asked way ceremony }
 
 -- the step, and the holders of places
 abbrev pub asks_to_sign : ℕ → ℕ → ℕ → Asks
@@ -144,7 +153,7 @@ abbrev pub asks_sealed : ℕ → List ℕ → List (List ℕ) → ℕ → Asks
 asks_sealed ceremony serial codes at = asks_items ceremony serial (Items.Codes codes) at
 
 -- of people those that the command names; of trainings theirs, or in a room those that last to the day of the act;
--- presence is read from stays; a ceremony's own rows by its number
+-- presence is read from the stays that last to its moment; a ceremony's own rows by its number
 abbrev pub asks_by : Act → Asks
 asks_by (Enter who name) = asks_person who
 asks_by (Train who role since until) = asks_to_train who
@@ -156,11 +165,11 @@ asks_by (AddBox facility number place) = asks_boxes
 asks_by (AddItem ceremony item at) = asks_to_add ceremony item at
 asks_by (Plan number facility day script) = asks_ceremonies (Under number)
 asks_by (Open ceremony at) = asks_ceremonies All
-asks_by (Close ceremony at) = asks_to_close ceremony
-asks_by (Sheet ceremony way people at) = asks_sheet ceremony people
+asks_by (Close ceremony at) = asks_to_close ceremony at
+asks_by (Sheet ceremony way people at) = asks_sheet ceremony way people at
 asks_by (Sign ceremony step at) = asks_to_sign ceremony step at
 asks_by (Except ceremony text pass at) = asks_to_except ceremony at
-asks_by (TurnSafe ceremony safe state by at) = asks_to_turn ceremony by
+asks_by (TurnSafe ceremony safe state by at) = asks_to_turn ceremony by at
 asks_by (Seal ceremony serial items at) = asks_sealed ceremony serial items at
 asks_by (Take ceremony serial at) = asks_bag ceremony serial at
 asks_by (Put ceremony serial to at) = asks_bag ceremony serial at

@@ -2,8 +2,15 @@
 -- the room.
 use Rattle.kcr_history.specs.declared.views.Asks.{Asks}
 use Rattle.kcr_history.specs.declared.views.Selection.TheVariants.{Nothing}
+use Rattle.std.specs.Prelude.{None}
 
 -- the rows asked for, but for trainings, withdrawals, appointments and stays
 abbrev pub front_asks : Asks → Asks
 front_asks asks =
-    record asks { trainings = Nothing; withdrawals = Nothing; appointments = Nothing; stays = Nothing }
+    record asks {
+      trainings = Nothing;
+      withdrawals = Nothing;
+      appointments = Nothing;
+      stays = Nothing;
+      entries = None;
+    }

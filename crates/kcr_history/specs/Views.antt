@@ -14,6 +14,8 @@ use Rattle.kcr_custody.specs.declared.Bag.{Bag}
 use Rattle.kcr_custody.specs.declared.Item.{Item}
 use Rattle.kcr_custody.specs.Custody.{lies_in}
 use Rattle.kcr_room.specs.declared.Stay.{Stay}
+use Rattle.kcr_room.specs.Stays.{is_lasting}
+use Rattle.kcr_room.specs.Adding.{entries}
 use Rattle.kcr_history.specs.declared.rows.CeremonyRow.{CeremonyRow}
 use Rattle.kcr_history.specs.declared.rows.MarkRow.{MarkRow}
 use Rattle.kcr_history.specs.declared.rows.StepRow.{StepRow}
@@ -81,9 +83,6 @@ is_seating_of ceremony row = row.ceremony == ceremony
 abbrev pub is_exception_of : ℕ → ExceptionRow → Bool
 is_exception_of ceremony row = row.ceremony == ceremony
 
-abbrev pub is_stay_of : ℕ → Stay → Bool
-is_stay_of ceremony row = row.ceremony == ceremony
-
 abbrev pub is_of_key : List ℕ → KeyRow → Bool
 is_of_key key row = same_text row.key key
 
@@ -137,15 +136,23 @@ abbrev pub ShowsLast : List (List ℕ) → List Stay → List Stay → Type 0
 ShowsLast [] table rows = Unit {0}
 ShowsLast (who ∷ people) table rows = (last_stay rows who ≡ last_stay table who) × ShowsLast people table rows
 
--- the stays of the ceremony, in any order, and of each of the people the one that began last
+-- the stays of the ceremony that last to the moment, in any order, and of each of the people the one that began last;
+-- and no stay that the table does not have
 pub record ShowsStaysOf (asked : StaysOf) (table rows : List Stay) : Type 0 where
-  pub room : IsPermutation (filter (is_stay_of asked.ceremony) table) (filter (is_stay_of asked.ceremony) rows)
+  pub room : IsPermutation
+      (filter (is_lasting asked.ceremony asked.at) table) (filter (is_lasting asked.ceremony asked.at) rows)
   pub last : ShowsLast asked.people table rows
+  pub within : (stay : Stay) → IsIn stay rows → IsIn stay table
 
 abbrev pub ShowsStays : Selection StaysOf → List Stay → List Stay → Type 0
 ShowsStays Nothing table rows = Unit {0}
 ShowsStays (Under asked) table rows = ShowsStaysOf asked table rows
 ShowsStays All table rows = IsPermutation table rows
+
+-- how many stays the ceremony has
+abbrev pub ShowsEntries : Option ℕ → List Stay → ℕ → Type 0
+ShowsEntries None table count = Unit {0}
+ShowsEntries (Some ceremony) table count = count ≡ entries table ceremony
 
 -- of each row that passes the test the view has one that passes it too and begins no earlier: so it has the last one
 abbrev pub ShowsLastOf : (Appointment → Bool) → List Appointment → List Appointment → Type 0
@@ -190,3 +197,4 @@ pub record IsViewOf (asks : Asks) (t : Tables) (view : View) : Type 0 where
   pub steps : ShowsSteps asks.steps t.seatings view.seatings.items t.steps view.steps.items
   pub exceptions : Shows is_exception_of asks.exceptions t.exceptions view.exceptions.items
   pub stays : ShowsStays asks.stays t.stays view.stays.items
+  pub entries : ShowsEntries asks.entries t.stays view.entries

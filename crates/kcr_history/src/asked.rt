@@ -8,6 +8,7 @@ use crate::views::{AppointmentsOf, Asks, ItemsOf, Selection, StaysOf, StepOf, Tr
 use kcr_base::{
     CeremonyNumber, Initials, ItemCode, Items, Moment, People, Place, Serial, StepNumber,
 };
+use kcr_room::Way;
 use std::alloc::{AllocError, Global};
 
 /// No rows.
@@ -28,6 +29,7 @@ fn asks_nothing() -> Asks
         steps: None,
         exceptions: Selection::Nothing,
         stays: Selection::Nothing,
+        entries: None,
     }
 }
 
@@ -49,18 +51,26 @@ fn only_item(alloc: Global, item: ItemCode) -> Result<ItemList, AllocError>
     Ok(ItemList::new(list))
 }
 
-/// The ceremony with its mark, the stays in its room, and of these people the last stay anywhere.
-fn asks_room(ceremony: CeremonyNumber, people: InitialsList) -> Asks
-    ensures { result ≡ Asked.asks_room ceremony people }
+/// The ceremony with its mark, the stays in its room that last to the moment, and of these people the last stay anywhere.
+fn asks_room(ceremony: CeremonyNumber, people: InitialsList, at: Moment) -> Asks
+    ensures { result ≡ Asked.asks_room ceremony people at }
 {
     let mut asks = asks_nothing();
     asks.ceremonies = Selection::Under(ceremony.get());
     asks.marks = Selection::Under(ceremony.get());
     asks.stays = Selection::Under(StaysOf {
         ceremony: ceremony.get(),
+        at,
         people,
     });
     asks
+}
+
+/// The same of nobody in particular.
+fn asks_bare_room(alloc: Global, ceremony: CeremonyNumber, at: Moment) -> Asks
+    ensures { result ≡ Asked.asks_room ceremony [] at }
+{
+    asks_room(ceremony, InitialsList::new(Vec::new(alloc)), at)
 }
 
 /// The same of nobody in particular, and whatever tells who in the room is trained at the moment: the trainings that
@@ -68,7 +78,7 @@ fn asks_room(ceremony: CeremonyNumber, people: InitialsList) -> Asks
 fn asks_trained(alloc: Global, ceremony: CeremonyNumber, at: Moment) -> Asks
     ensures { result ≡ Asked.asks_trained ceremony at }
 {
-    let mut asks = asks_room(ceremony, InitialsList::new(Vec::new(alloc)));
+    let mut asks = asks_bare_room(alloc, ceremony, at);
     asks.trainings = Selection::Under(TrainingsOf::Lasting(at.day()));
     asks.withdrawals = Selection::All;
     asks
@@ -170,10 +180,10 @@ fn asks_ceremonies(ceremonies: Selection<u32>) -> Asks
 }
 
 /// The room, the next step, the safes and the bags.
-fn asks_to_close(alloc: Global, ceremony: CeremonyNumber) -> Asks
-    ensures { result ≡ Asked.asks_to_close ceremony }
+fn asks_to_close(alloc: Global, ceremony: CeremonyNumber, at: Moment) -> Asks
+    ensures { result ≡ Asked.asks_to_close ceremony at }
 {
-    let mut asks = asks_room(ceremony, InitialsList::new(Vec::new(alloc)));
+    let mut asks = asks_bare_room(alloc, ceremony, at);
     asks.steps = Some(StepOf {
         ceremony: ceremony.get(),
         step: None,
@@ -183,13 +193,30 @@ fn asks_to_close(alloc: Global, ceremony: CeremonyNumber) -> Asks
     asks
 }
 
-/// The people, with the room and their last stays anywhere.
-fn asks_sheet(alloc: Global, ceremony: CeremonyNumber, people: &People) -> Result<Asks, AllocError>
-    ensures { IfOk result (λ asks. asks ≡ Asked.asks_sheet ceremony people.now) }
+/// Of whom it is asked how many stays there are: of a ceremony whose room people come into.
+fn entries_asked(way: Way, ceremony: CeremonyNumber) -> Option<u32>
+    ensures { result ≡ Asked.entries_asked way ceremony }
+{
+    match way {
+        Way::Enter => Some(ceremony.get()),
+        Way::Leave => None,
+    }
+}
+
+/// The people, with the room and their last stays anywhere, and where they come in how many stays the ceremony has.
+fn asks_sheet(
+    alloc: Global,
+    ceremony: CeremonyNumber,
+    way: Way,
+    people: &People,
+    at: Moment,
+) -> Result<Asks, AllocError>
+    ensures { IfOk result (λ asks. asks ≡ Asked.asks_sheet ceremony way people.now at) }
 {
     let people = people.as_slice();
-    let mut asks = asks_room(ceremony, InitialsList::copy_of(alloc, people)?);
+    let mut asks = asks_room(ceremony, InitialsList::copy_of(alloc, people)?, at);
     asks.people = Selection::Under(InitialsList::copy_of(alloc, people)?);
+    asks.entries = entries_asked(way, ceremony);
     Ok(asks)
 }
 
@@ -220,10 +247,15 @@ fn asks_to_except(alloc: Global, ceremony: CeremonyNumber, at: Moment) -> Asks
 }
 
 /// Who opens or shuts a safe, with their trainings, the room and the safes.
-fn asks_to_turn(alloc: Global, ceremony: CeremonyNumber, by: Initials) -> Result<Asks, AllocError>
-    ensures { IfOk result (λ asks. asks ≡ Asked.asks_to_turn ceremony by) }
+fn asks_to_turn(
+    alloc: Global,
+    ceremony: CeremonyNumber,
+    by: Initials,
+    at: Moment,
+) -> Result<Asks, AllocError>
+    ensures { IfOk result (λ asks. asks ≡ Asked.asks_to_turn ceremony by at) }
 {
-    let mut asks = asks_room(ceremony, InitialsList::new(Vec::new(alloc)));
+    let mut asks = asks_bare_room(alloc, ceremony, at);
     asks.people = Selection::Under(only(alloc, by)?);
     asks.trainings = Selection::Under(TrainingsOf::Person(by));
     asks.withdrawals = Selection::Under(by);
@@ -276,11 +308,21 @@ fn asks_by(alloc: Global, act: &Act) -> Result<Asks, AllocError>
         Act::AddItem { ceremony, item, at } => asks_to_add(alloc, *ceremony, *item, *at),
         Act::Plan { number, .. } => Ok(asks_ceremonies(Selection::Under(number.get()))),
         Act::Open { .. } => Ok(asks_ceremonies(Selection::All)),
-        Act::Close { ceremony, .. } => Ok(asks_to_close(alloc, *ceremony)),
-        Act::Sheet { ceremony, who, .. } => asks_sheet(alloc, *ceremony, who),
+        Act::Close { ceremony, at } => Ok(asks_to_close(alloc, *ceremony, *at)),
+        Act::Sheet {
+            ceremony,
+            way,
+            who,
+            at,
+        } => asks_sheet(alloc, *ceremony, *way, who, *at),
         Act::Sign { ceremony, step, at } => Ok(asks_to_sign(alloc, *ceremony, *step, *at)),
         Act::Except { ceremony, at, .. } => Ok(asks_to_except(alloc, *ceremony, *at)),
-        Act::TurnSafe { ceremony, by, .. } => asks_to_turn(alloc, *ceremony, *by),
+        Act::TurnSafe {
+            ceremony,
+            by,
+            at,
+            ..
+        } => asks_to_turn(alloc, *ceremony, *by, *at),
         Act::Seal {
             ceremony,
             serial,
@@ -308,6 +350,7 @@ fn asks_by(alloc: Global, act: &Act) -> Result<Asks, AllocError>
 
 /// The rows that the decision of this command reads: those under the keys, of the people, of the place or of the
 /// ceremony that it names; of a place's and a person's appointments the last one alone, of a ceremony's steps one.
+/// Of a ceremony's stays those that last to the moment of the command; how many it has in all where people come in.
 /// Where anybody in a room may be the one who is needed, the trainings are those that last to the day of the command.
 /// All rows are asked for only of tables that do not grow with each command: withdrawals and appointments where anybody
 /// in a room may be the one who is needed, marks, boxes and safes; of the ceremonies to open one, and of the bags to

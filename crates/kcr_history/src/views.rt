@@ -7,7 +7,7 @@ use kcr_custody::{Bag, BoxRow, Item, SafeRow};
 use kcr_people::{Appointment, Person, Training, Withdrawal};
 use kcr_room::{SheetRow, Stay};
 
-/// Rows of the tables that decisions read, one list for each table, each in any order.
+/// Rows of the tables that decisions read, one list for each table, each in any order, and how many stays a ceremony has.
 #[derive(Drop)]
 pub struct View {
     pub people: Vec<Person>,
@@ -23,6 +23,8 @@ pub struct View {
     pub steps: Vec<StepRow>,
     pub seatings: Vec<SeatingRow>,
     pub stays: Vec<Stay>,
+    /// How many stays the ceremony has of which that is asked, 0 where it is asked of none.
+    pub entries: usize,
     pub exceptions: Vec<ExceptionRow>,
 }
 
@@ -83,11 +85,13 @@ pub struct StepOf {
     pub step: Option<u32>,
 }
 
-/// Which stays are asked for: those of the ceremony, and of each of the people the one that began last, in whatever
-/// ceremony.
+/// Which stays are asked for: those of the ceremony that have no end, or end at the moment or later, and of each of the
+/// people the one that began last, in whatever ceremony. Whoever is in the room at the moment is there by one of the
+/// former, so those that ended before need not be read.
 #[derive(Drop)]
 pub struct StaysOf {
     pub ceremony: u32,
+    pub at: Moment,
     pub people: InitialsList,
 }
 
@@ -117,6 +121,8 @@ pub struct Asks {
     /// The exceptions of a ceremony.
     pub exceptions: Selection<u32>,
     pub stays: Selection<StaysOf>,
+    /// The ceremony of which it is asked how many stays it has.
+    pub entries: Option<u32>,
 }
 
 /// A whole row that is put into its table, new or in place of the row that has its key. No row is ever removed.

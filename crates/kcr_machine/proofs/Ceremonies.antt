@@ -50,7 +50,6 @@ use Rattle.kcr_history.specs.Custody.{spot}
 use Rattle.std.specs.Result.{result_unwrap_or}
 use Rattle.kcr_script.specs.Reading.{script_of}
 use Rattle.kcr_history.specs.declared.views.Change.{Change}
-use Rattle.kcr_room.proofs.Lists as RoomLists
 use Rattle.kcr_machine.proofs.BagsWords.{open-shown}
 use Rattle.kcr_machine.proofs.Keyed.{Shown, put-at, put-first, put-new}
 use Rattle.kcr_machine.proofs.Leads.{FaultShown, Leads, command_of, entry_as, new_key}
@@ -167,7 +166,7 @@ close-fault A h c at view v =
       open-state A c,
       mark-shown A h c view.marks.items v.marks,
       left-shown A h c view v.steps,
-      used-shown A h c at view.stays.items v.stays.room,
+      used-shown A h c at view.stays.items v.stays.room v.stays.within,
       open-shown A view.safes.items v.safes (facility_of A c) One,
       open-shown A view.safes.items v.safes (facility_of A c) Two,
       table-shown A (facility_of A c) view.bags.items v.bags,

@@ -1,5 +1,6 @@
 -- The first refusal of an act of custody, on a box, an item, a safe or a bag, by the rows of a view, is its fault by the history.
-use Rattle.kcr_history.specs.Views.{is_stay_of, is_of_number, is_mark_of, lasts_to}
+use Rattle.kcr_room.specs.Stays.{is_lasting}
+use Rattle.kcr_history.specs.Views.{is_of_number, is_mark_of, lasts_to}
 use Rattle.std.proofs.Common.{◌≡◌, ℕ, Bool, false, List, [], ◌∷◌, Option, Some, None, option_map, is_none, refl, ap, ◌∙◌, ◌||◌, inl, reverse}
 use Rattle.std.specs.Prelude.{option_and_then}
 use Rattle.std.specs.List.{list_any, list_all, cons_option}
@@ -68,7 +69,7 @@ module _ (A : History) (rows : List Item) (codes : List (List ℕ)) (same : (k :
 
 -- by the rows of the view as by the history
 ca-scene : (A : History) → IsRegister A → (c at : ℕ) (view : View) → Shown (is_of_number c) (ceremonies A) view.ceremonies.items
-    → Shown (is_mark_of c) (marks A) view.marks.items → Shown (is_stay_of c) (reverse (stays_by (sheet A))) view.stays.items
+    → Shown (is_mark_of c) (marks A) view.marks.items → Shown (is_lasting c at) (reverse (stays_by (sheet A))) view.stays.items
     → Shown (lasts_to (day_of at)) (trainings A) view.trainings.items → IsPermutation (withdrawals A) view.withdrawals.items
     → scene_in view (is_full A) c at ≡ scene_at A c at
 ca-scene A h c at view p q room ts ws =
@@ -107,7 +108,7 @@ turn-fault A h c safe state by at view v =
     ap (λ scene. turn_refusal scene view.safes.items safe state (keeper_by view c by at)) (scene-shown A h c at false view v.ceremonies v.marks)
     ∙ rw (
       person-shown A by view.people.items v.people,
-      in-shown A c view.stays.items v.stays.room by at,
+      in-shown A c at view.stays.items v.stays.room by,
       trained-own A h view.trainings.items view.withdrawals.items by v.trainings v.withdrawals Ssc1 (day_of at),
       trained-own A h view.trainings.items view.withdrawals.items by v.trainings v.withdrawals Ssc2 (day_of at),
       open-shown A view.safes.items v.safes (facility_of A c) safe,
@@ -139,7 +140,7 @@ take-fault A h c t at view v =
       spot-shown A h t view.bags.items v.bags,
       functions-same (is_open_by view.safes.items here) (is_safe_open A here) (open-shown A view.safes.items v.safes here),
       functions-same (place_of_box_by view.boxes.items here) (place_of_box A here) (place-shown A h view.boxes.items v.boxes here),
-      no_holder-shown A c at view (λ place. holder_in-shown A h view c v.stays.room v.appointments place at)
+      no_holder-shown A c at view (holder_in-shown A h view c at v.stays.room v.appointments)
           (option_and_then (place_of_box A here) (box_of (spot A t))),
     )
 
@@ -153,6 +154,6 @@ put-fault A h c t to at view v =
       spot-shown A h t view.bags.items v.bags,
       open-shown A view.safes.items v.safes here (safe_of_store to),
       functions-same (place_of_box_by view.boxes.items here) (place_of_box A here) (place-shown A h view.boxes.items v.boxes here),
-      no_holder-shown A c at view (λ place. holder_in-shown A h view c v.stays.room v.appointments place at)
+      no_holder-shown A c at view (holder_in-shown A h view c at v.stays.room v.appointments)
           (option_and_then (place_of_box A here) (box_of_store to)),
     )

@@ -15,7 +15,7 @@ use Rattle.kcr_people.proofs.Orders.{trained-order}
 use Rattle.kcr_room.specs.declared.Stay.{Stay}
 use Rattle.kcr_room.specs.Room.{ascending}
 use Rattle.kcr_room.specs.Stays as Stays
-use Rattle.kcr_room.specs.Stays.{present_in_by, stays_by}
+use Rattle.kcr_room.specs.Stays.{is_lasting, present_in_by, stays_by}
 use Rattle.kcr_room.proofs.Lists.{filter-kept}
 use Rattle.kcr_room.proofs.Agreement.{same-present}
 use Rattle.kcr_room.proofs.Orders.{present-order}
@@ -26,7 +26,7 @@ use Rattle.kcr_history.specs.Training.{trained}
 use Rattle.kcr_history.specs.Room.{sheet, is_in, present}
 use Rattle.kcr_history.specs.Room as Rooms
 use Rattle.kcr_history.specs.Tables.{trainings, withdrawals, appointments}
-use Rattle.kcr_history.specs.Views.{is_stay_of, is_training_of, is_withdrawal_of, lasts_to}
+use Rattle.kcr_history.specs.Views.{is_training_of, is_withdrawal_of, lasts_to}
 use Rattle.kcr_history.specs.Conditions.{has_holder_in}
 use Rattle.kcr_history.specs.Machine.{IsRegister}
 use Rattle.kcr_history.proofs.Trained.{trained-rows}
@@ -37,25 +37,27 @@ use Rattle.kcr_machine.proofs.People.{trained-shown}
 
 -- THE ROOM
 
-holds-of : (c t : ℕ) (stay : Stay) → Stays.holds c t stay ≡ true → is_stay_of c stay ≡ true
-holds-of c t stay h = grind arith
+-- a stay by which somebody is in the room at the moment lasts to it
+holds-lasts : (c t : ℕ) (stay : Stay) → Stays.holds c t stay ≡ true → is_lasting c t stay ≡ true
+holds-lasts c t stay h = grind arith
 
-present-own : (stays : List Stay) (c t : ℕ) → present_in_by (filter (is_stay_of c) stays) c t ≡ present_in_by stays c t
-present-own stays c t = ap (λ some. ascending (map (λ stay. stay.who) some)) (filter-kept (Stays.holds c t) (is_stay_of c) stays (holds-of c t))
+-- those in the room at the moment, by the stays of it that last to the moment
+present-own : (stays : List Stay) (c t : ℕ) → present_in_by (filter (is_lasting c t) stays) c t ≡ present_in_by stays c t
+present-own stays c t = ap (λ some. ascending (map (λ stay. stay.who) some)) (filter-kept (Stays.holds c t) (is_lasting c t) stays (holds-lasts c t))
 
-module _ (A : History) (c : ℕ) (rows : List Stay) (p : Shown (is_stay_of c) (reverse (stays_by (sheet A))) rows) where
+module _ (A : History) (c t : ℕ) (rows : List Stay) (p : Shown (is_lasting c t) (reverse (stays_by (sheet A))) rows) where
   -- those in the room
-  pub present-shown : (t : ℕ) → present_in_by rows c t ≡ present A c t
-  present-shown t =
+  pub present-shown : present_in_by rows c t ≡ present A c t
+  present-shown =
       sym (present-own rows c t)
-      ∙ present-order (filter (is_stay_of c) (reverse (stays_by (sheet A)))) (filter (is_stay_of c) rows) p c t
+      ∙ present-order (filter (is_lasting c t) (reverse (stays_by (sheet A)))) (filter (is_lasting c t) rows) p c t
       ∙ present-own (reverse (stays_by (sheet A))) c t
       ∙ present-order (stays_by (sheet A)) (reverse (stays_by (sheet A))) (IsPermutation-reverse (stays_by (sheet A))) c t
       ∙ same-present (sheet A) c t
 
   -- whether a person is in the room
-  pub in-shown : (who : List ℕ) (t : ℕ) → is_in_by rows who c t ≡ is_in A who c t
-  in-shown who t = ap (list_any (same_text who)) (present-shown t) ∙ present_are_in (sheet A) who c t
+  pub in-shown : (who : List ℕ) → is_in_by rows who c t ≡ is_in A who c t
+  in-shown who = ap (list_any (same_text who)) present-shown ∙ present_are_in (sheet A) who c t
 
 -- TRAINING
 
@@ -79,18 +81,18 @@ trained-lasting A h us vs day p q who role =
     ∙ trained-rows A h who role day
 
 -- whether somebody in the room is trained at the moment
-pub attended-shown : (A : History) → IsRegister A → (view : View) (c t : ℕ) → Shown (is_stay_of c) (reverse (stays_by (sheet A))) view.stays.items
+pub attended-shown : (A : History) → IsRegister A → (view : View) (c t : ℕ) → Shown (is_lasting c t) (reverse (stays_by (sheet A))) view.stays.items
     → Shown (lasts_to (day_of t)) (trainings A) view.trainings.items → IsPermutation (withdrawals A) view.withdrawals.items
     → (role : Role) → is_attended_by view role c t ≡ Rooms.is_attended_by A role c t
 attended-shown A h view c t s p q role =
     any-same (λ who. trained_by view.trainings.items view.withdrawals.items who role (day_of t)) (λ who. trained A who role (day_of t))
     (present_in_by view.stays.items c t) (λ who. trained-lasting A h view.trainings.items view.withdrawals.items (day_of t) p q who role)
-    ∙ ap (list_any (λ who. trained A who role (day_of t))) (present-shown A c view.stays.items s t)
+    ∙ ap (list_any (λ who. trained A who role (day_of t))) (present-shown A c t view.stays.items s)
 
 -- whether the place has a holder, who is in the room
-pub holder_in-shown : (A : History) → IsRegister A → (view : View) (c : ℕ) → Shown (is_stay_of c) (reverse (stays_by (sheet A))) view.stays.items
+pub holder_in-shown : (A : History) → IsRegister A → (view : View) (c t : ℕ) → Shown (is_lasting c t) (reverse (stays_by (sheet A))) view.stays.items
     → IsPermutation (appointments A) view.appointments.items
-    → (place : Place) (t : ℕ) → has_holder_in_by view place c t ≡ has_holder_in A place c t
-holder_in-shown A h view c s p place t =
-    let inside : (who : List ℕ) → is_in_by view.stays.items who c t ≡ is_in A who c t = λ who. in-shown A c view.stays.items s who t in
+    → (place : Place) → has_holder_in_by view place c t ≡ has_holder_in A place c t
+holder_in-shown A h view c t s p place =
+    let inside : (who : List ℕ) → is_in_by view.stays.items who c t ≡ is_in A who c t = in-shown A c t view.stays.items s in
     grind (arith, holder-all A h view.appointments.items p place (day_of t), inside)

@@ -62,6 +62,7 @@ front-of asks t view v =
       steps = v.steps;
       exceptions = v.exceptions;
       stays = tt;
+      entries = tt;
     }
 
 -- by the rows of that part alone the act's first refusal is its fault

@@ -1,12 +1,10 @@
 -- The first refusal of a request of the sheet by the rows of a view is its fault by the history, and so the sheet of a register was made in turn.
-use Rattle.std.proofs.Common.{◌≡◌, ℕ, Bool, true, false, cond, not, ◌||◌, ◌&&◌, ◌==◌, nat_le, nat_lt, List, [], ◌∷◌, ◌++◌, map, filter, reverse}
-use Rattle.std.proofs.Common.{Option, Some, None, is_none, refl, sym, ap, ◌∙◌, subst, arith, append-nil, inl, inr}
+use Rattle.std.proofs.Common.{◌≡◌, ℕ, Bool, true, false, cond, not, ◌||◌, ◌&&◌, ◌==◌, nat_le, nat_lt, List, [], ◌∷◌, ◌++◌, map, reverse}
+use Rattle.std.proofs.Common.{Option, Some, None, is_none, refl, sym, ap, ◌∙◌, arith}
 use Rattle.std.specs.Prelude.{is_some, count_by}
-use Rattle.std.specs.List.{cons_option}
 use Rattle.std.specs.List.Sorted.{IsPermutation}
-use Rattle.std.proofs.lemmas.Bool.{true≢false}
-use Rattle.std.proofs.lemmas.List.Elements.{filter-append}
-use Rattle.std.proofs.lemmas.List.Sorted.{IsPermutation-refl, IsPermutation-reverse, IsPermutation-append}
+use Rattle.std.proofs.lemmas.Bool.{true≢false, eqb-true, ltb-true}
+use Rattle.std.proofs.lemmas.List.Sorted.{IsPermutation-reverse, sum_by-IsPermutation}
 use Rattle.kcr_base.specs.Refuse.{when, first_of, no_people, is_not_later}
 use Rattle.kcr_base.proofs.RefuseLemmas.{none_holds, met, behind, nested, no_first}
 use Rattle.kcr_base.specs.Same.{same_text}
@@ -18,17 +16,19 @@ use Rattle.kcr_room.specs.declared.SheetRow.{SheetRow}
 use Rattle.kcr_room.specs.declared.Stay.{Stay}
 use Rattle.kcr_room.specs.declared.Way.{Way}
 use Rattle.kcr_room.specs.declared.Way.TheVariants as Ways
-use Rattle.kcr_room.specs.Room.{enters, entries_by, Followed, followed_rows}
-use Rattle.kcr_room.specs.Stays.{stay_from, next_of, stays_of, stays_by}
+use Rattle.kcr_room.specs.Room.{enters, entries_by, crowd_by, Followed, followed_rows}
+use Rattle.kcr_room.specs.Moments.{IsFirst, IsEver}
+use Rattle.kcr_room.specs.Stays.{stay_from, next_of, stays_of, stays_by, first_lone_in_by, is_crowded_in_by}
 use Rattle.kcr_room.proofs.Followed.{followed-same}
-use Rattle.kcr_room.specs.Adding.{is_out_of_turn_in, new_row, new_stay, closed, of_ceremony, after, stays_refusal, rows_refusal}
-use Rattle.kcr_room.specs.Adding.{entries, is_overfull_by}
+use Rattle.kcr_room.specs.Adding.{is_out_of_turn_in, new_row, of_ceremony, stays_refusal, rows_refusal}
+use Rattle.kcr_room.specs.Adding.{entries, is_overfull_by, is_overfull as is_overfull_with}
 use Rattle.kcr_base.specs.Lists.{are_apart}
-use Rattle.kcr_room.specs.Laws.{IsSheet}
-use Rattle.kcr_room.proofs.Lists.{filter-kept, count-cons}
+use Rattle.kcr_room.specs.Laws.{IsSheet, IsSettled}
+use Rattle.kcr_room.proofs.Lists.{count-cons}
 use Rattle.kcr_room.proofs.Keeping.{turns_keep}
 use Rattle.kcr_room.proofs.Orders.{refusal-order}
 use Rattle.kcr_room.proofs.Refusals.{same_refusal}
+use Rattle.kcr_room.proofs.Lasting.{later-lasting}
 use Rattle.kcr_history.specs.declared.commands.Act.{Act}
 use Rattle.kcr_history.specs.declared.commands.Act.TheVariants.{Sheet}
 use Rattle.kcr_history.specs.History.{History}
@@ -36,99 +36,82 @@ use Rattle.kcr_history.specs.Training.{is_person}
 use Rattle.kcr_history.specs.Ceremonies.{closed as closed_at, is_open, mark}
 use Rattle.kcr_history.specs.Room.{sheet, sheet_after}
 use Rattle.kcr_history.specs.Tables.{people}
-use Rattle.kcr_history.specs.Views.{last_stay, is_of_people, ShowsLast}
+use Rattle.kcr_history.specs.Views.{is_of_people, ShowsEntries, ShowsLast, ShowsStaysOf}
+use Rattle.kcr_history.specs.Asked.{entries_asked}
 use Rattle.kcr_history.specs.Conditions.{conditions, fault, is_full, no_ceremony, not_open, not_later, out_of_turn}
 use Rattle.kcr_history.specs.Conditions.{crowded, lone, is_overfull, full}
 use Rattle.kcr_history.specs.Machine.{IsRegister}
 use Rattle.kcr_history.proofs.Steps.{took}
 use Rattle.kcr_history.proofs.Words.{is_person-people}
-use Rattle.kcr_rules.specs.SheetRows.{elsewhere, last_elsewhere, stays_of_request, named_twice, room_refusal}
+use Rattle.kcr_rules.specs.SheetRows.{named_twice, room_refusal}
 use Rattle.kcr_machine.proofs.Keyed.{Shown, any-shown}
 use Rattle.kcr_machine.proofs.Leads.{FaultShown}
-use Rattle.kcr_base.proofs.Members.{IsIn, filter-in, filter-none, filter_map-in, find-same-in, in-any, in-append, in-behind, in-filter, in-filter_map}
-use Rattle.kcr_base.proofs.Members.{in-front}
+use Rattle.kcr_base.proofs.Members.{IsIn, find-same-in, in-any}
+use Rattle.kcr_laws.proofs.Alone.{rooms}
+use Rattle.kcr_laws.proofs.Crowding.{first, ever}
 use Rattle.kcr_machine.proofs.Scenes.{is_open-shown, known-shown, mark-shown, marked-opened}
-use Rattle.kcr_machine.proofs.SheetStays.{IsClear, clear-order, clear-sheet, last-in, turn-last}
+use Rattle.kcr_machine.proofs.SheetStays.{IsClear, clear-order, clear-sheet, last-in, last-shown, turn-last}
 
--- THE STAYS THAT A REQUEST BEARS ON
+-- THE STAYS THAT A VIEW SHOWS OF A REQUEST
 
--- the last stays elsewhere are the same in the view as in the table
-last-same : (table rows : List Stay) (c : ℕ) (people : List (List ℕ)) → ShowsLast people table rows
-    → last_elsewhere rows c people ≡ last_elsewhere table c people
-last-same table rows c [] h = refl
-last-same table rows c (who ∷ people) h =
-    ap (λ o. cons_option (elsewhere c o) (last_elsewhere rows c people)) h.0
-    ∙ ap (cons_option (elsewhere c (last_stay table who))) (last-same table rows c people h.1)
-
--- the stays of a request are the same, in some order
-pub stays-shown : (table rows : List Stay) (c : ℕ) (people : List (List ℕ)) → Shown (of_ceremony c) table rows → ShowsLast people table rows
-    → IsPermutation (stays_of_request table c people) (stays_of_request rows c people)
-stays-shown table rows c people p h =
-    IsPermutation-append (filter (of_ceremony c) table) (filter (of_ceremony c) rows) (last_elsewhere table c people) (last_elsewhere rows c people) p
-    (subst (IsPermutation (last_elsewhere table c people)) (sym (last-same table rows c people h)) (IsPermutation-refl (last_elsewhere table c people)))
-
--- a last stay elsewhere is the last stay, and is elsewhere
-is-last : (c : ℕ) (o : Option Stay) (s : Stay) → elsewhere c o ≡ Some s → (o ≡ Some s) × (of_ceremony c s ≡ false)
-is-last c o s e = grind arith
-
--- none of them is of the ceremony
-not-here : (stays : List Stay) (c : ℕ) (people : List (List ℕ)) → filter (of_ceremony c) (last_elsewhere stays c people) ≡ []
-not-here stays c people =
-    filter-none (of_ceremony c) (last_elsewhere stays c people) (λ r i.
-    let k = in-filter_map (λ who. elsewhere c (last_stay stays who)) r people i in (is-last c (last_stay stays k.0) r k.2).1)
-
--- of the ceremony they have the stays that all have
-own-stays : (stays : List Stay) (c : ℕ) (people : List (List ℕ)) → filter (of_ceremony c) (stays_of_request stays c people) ≡ filter (of_ceremony c) stays
-own-stays stays c people =
-    filter-append (of_ceremony c) (filter (of_ceremony c) stays) (last_elsewhere stays c people)
-    ∙ ap (λ more. filter (of_ceremony c) (filter (of_ceremony c) stays) ++ more) (not-here stays c people)
-    ∙ append-nil (filter (of_ceremony c) (filter (of_ceremony c) stays))
-    ∙ filter-kept (of_ceremony c) (of_ceremony c) stays (λ x e. e)
-
-same-after : (stays : List Stay) (c : ℕ) (way : Way) (people : List (List ℕ)) (at : ℕ)
-    → after (stays_of_request stays c people) c way people at ≡ after stays c way people at
-same-after stays c Ways.Enter people at = ap (λ own. own ++ map (new_stay c at) people) (own-stays stays c people)
-same-after stays c Ways.Leave people at = ap (map (closed people at)) (own-stays stays c people)
-
--- each of them is one of all, and each of the people has the last stay among them
-pub among-all : (stays : List Stay) (c : ℕ) (people : List (List ℕ)) (r : Stay) → IsIn r (stays_of_request stays c people) → IsIn r stays
-among-all stays c people r i = elim (in-append r (filter (of_ceremony c) stays) (last_elsewhere stays c people) i) [
-  | inl j ↦ (in-filter (of_ceremony c) r stays j).0
-  | inr j ↦ let k = in-filter_map (λ who. elsewhere c (last_stay stays who)) r people j in last-in stays k.0 r (is-last c (last_stay stays k.0) r k.2).0
-]
-
-has-last : (stays : List Stay) (c : ℕ) (people : List (List ℕ)) (who : List ℕ) → IsIn who people → (s : Stay) → last_stay stays who ≡ Some s
-    → IsIn s (stays_of_request stays c people)
-has-last stays c people who i s e = by_test (s.ceremony == c) refl
+-- of a room in which nobody was ever alone, nor too many
+pub settled : (A : History) → IsRegister A → (c : ℕ) → IsSettled (stays_by (sheet A)) c
+settled A h c =
+    record {
+      lone = by_moment (first_lone_in_by (stays_by (sheet A)) c) (first (sheet A) c);
+      crowded = by_test (is_crowded_in_by (stays_by (sheet A)) c) (ever (sheet A) c);
+    }
   where
-    by_test : (b : Bool) → s.ceremony == c ≡ b → IsIn s (stays_of_request stays c people)
-    by_test true f = in-front s (filter (of_ceremony c) stays) (last_elsewhere stays c people) (filter-in (of_ceremony c) s stays (last-in stays who s e) f)
-    by_test false f =
-        in-behind s (filter (of_ceremony c) stays) (last_elsewhere stays c people)
-        (filter_map-in (λ who. elsewhere c (last_stay stays who)) who s people i (ap (elsewhere c) e ∙ ap (λ b. cond b None (Some s)) f))
+    by_moment : (o : Option ℕ) → IsFirst (λ t. crowd_by (sheet A) c t == 1) o → o ≡ None
+    by_moment None f = refl
+    by_moment (Some t) f = absurd ((rooms A h c t).0 (eqb-true (crowd_by (sheet A) c t) 1 f.0))
 
--- a request is refused by them for what it is refused for by all
-some-refusal : (stays : List Stay) → IsClear stays → (c m : ℕ) (full : Bool) (way : Way) (people : List (List ℕ)) (at : ℕ)
-    → stays_refusal (stays_of_request stays c people) c m full way people at ≡ stays_refusal stays c m full way people at
-some-refusal stays clear c m full way people at =
+    by_test : (b : Bool) → IsEver (λ t. nat_lt 128 (crowd_by (sheet A) c t)) b → b ≡ false
+    by_test true e = let l = ltb-true 128 (crowd_by (sheet A) c e.0) e.1 in absurd (omega (arith, l, (rooms A h c e.0).1))
+    by_test false e = refl
+
+-- how many have come is asked only where more come
+same-overfull : (table : List Stay) (c count : ℕ) (way : Way) (people : List (List ℕ)) → ShowsEntries (entries_asked way c) table count
+    → is_overfull_with count way people ≡ is_overfull_with (entries table c) way people
+same-overfull table c count Ways.Enter people e = ap (λ n. is_overfull_with n Ways.Enter people) e
+same-overfull table c count Ways.Leave people e = refl
+
+-- by the stays that a view shows it is the turn of whoever has it by all
+turn-shown : (table shown : List Stay) → IsClear table → (people : List (List ℕ)) → ShowsLast people table shown
+    → ((r : Stay) → IsIn r shown → IsIn r table) → (c : ℕ) (way : Way) (at : ℕ) (who : List ℕ) → IsIn who people
+    → is_out_of_turn_in shown c way at who ≡ is_out_of_turn_in table c way at who
+turn-shown table shown clear people last within c way at who i =
+    turn-last table shown who clear within (λ s e. last-in shown who s (last-shown table shown people last who i ∙ e)) c way at
+
+-- so a request is refused by them for what it is refused for by all
+shown-refusal : (table shown : List Stay) → IsClear table → (c m count : ℕ) (full : Bool) (way : Way) (people : List (List ℕ)) (at : ℕ)
+    → ShowsStaysOf (record { ceremony = c; at = at; people = people }) table shown → ShowsEntries (entries_asked way c) table count
+    → stays_refusal shown count c m full way people at ≡ stays_refusal table (entries table c) c m full way people at
+shown-refusal table shown clear c m count full way people at v e =
     rw (
-      find-same-in (is_out_of_turn_in (stays_of_request stays c people) c way at) (is_out_of_turn_in stays c way at) people
-          (λ who i. turn-last stays (stays_of_request stays c people) who clear (among-all stays c people) (has-last stays c people who i) c way at),
-      same-after stays c way people at,
+      find-same-in (is_out_of_turn_in shown c way at) (is_out_of_turn_in table c way at) people
+          (turn-shown table shown clear people v.last v.within c way at),
+      later-lasting table shown c at v.room way people (full || is_overfull_with count way people),
+      same-overfull table c count way people e,
     )
     refl
 
+-- as many have come by the stays in another order
+entries-order : (xs ys : List Stay) → IsPermutation xs ys → (c : ℕ) → entries ys c ≡ entries xs c
+entries-order xs ys p c = sum_by-IsPermutation (λ s. cond (of_ceremony c s) 1 0) xs ys p
+
 -- so by the rows of a view it is refused for what it is refused for by the sheet
-request-refusal : (rows : List SheetRow) → IsSheet rows → (shown : List Stay) (c m : ℕ) (full : Bool) (way : Way) (people : List (List ℕ)) (at : ℕ)
-    → Shown (of_ceremony c) (reverse (stays_by rows)) shown → ShowsLast people (reverse (stays_by rows)) shown → are_apart people ≡ true
-    → stays_refusal (stays_of_request shown c people) c m full way people at ≡ rows_refusal rows c m full way people at
-request-refusal rows s shown c m full way people at p l a =
+request-refusal : (rows : List SheetRow) → IsSheet rows → (shown : List Stay) (c m count : ℕ) (full : Bool) (way : Way) (people : List (List ℕ)) (at : ℕ)
+    → ShowsStaysOf (record { ceremony = c; at = at; people = people }) (reverse (stays_by rows)) shown
+    → ShowsEntries (entries_asked way c) (reverse (stays_by rows)) count → are_apart people ≡ true → IsSettled (stays_by rows) c
+    → stays_refusal shown count c m full way people at ≡ rows_refusal rows c m full way people at
+request-refusal rows s shown c m count full way people at v e a still =
     let table : List Stay = reverse (stays_by rows) in
     let turned = IsPermutation-reverse (stays_by rows) in
-    refusal-order (stays_of_request table c people) (stays_of_request shown c people) (stays-shown table shown c people p l) c m full way people at
-    ∙ some-refusal table (clear-order (stays_by rows) table turned (clear-sheet rows s)) c m full way people at
-    ∙ refusal-order (stays_by rows) table turned c m full way people at
-    ∙ same_refusal rows s c m full way people at a
+    shown-refusal table shown (clear-order (stays_by rows) table turned (clear-sheet rows s)) c m count full way people at v e
+    ∙ ap (λ n. stays_refusal table n c m full way people at) (entries-order (stays_by rows) table turned c)
+    ∙ refusal-order (stays_by rows) table turned (entries (stays_by rows) c) c m full way people at
+    ∙ same_refusal rows s c m full way people at a still
 
 -- HOW MANY HAVE COME
 
@@ -199,22 +182,22 @@ sheet-fault A h s c way all at view v =
       mark-shown A h c view.marks.items v.marks,
     )
     (nested (no_ceremony A c ∷ no_people (is_person A) all ∷ not_open A c ∷ [])
-    (room_refusal (stays_of_request view.stays.items c all) c (mark A c) (is_full A) way all at ∷ [])
+    (room_refusal view.stays.items view.entries c (mark A c) (is_full A) way all at ∷ [])
     ∙ behind (no_ceremony A c ∷ no_people (is_person A) all ∷ []) _ _ (by_mark (mark A c) refl))
   where
     never : mark A c ≡ None → is_open A c ≡ false
     never e = ap (λ b. b && is_none (closed_at A c)) (sym (marked-opened A h c) ∙ ap is_some e)
 
     by_mark : (o : Option ℕ) → mark A c ≡ o
-        → first_of (not_open A c ∷ room_refusal (stays_of_request view.stays.items c all) c o (is_full A) way all at ∷ [])
+        → first_of (not_open A c ∷ room_refusal view.stays.items view.entries c o (is_full A) way all at ∷ [])
         ≡ first_of (not_open A c ∷ is_not_later at o ∷ named_twice all ∷ room_conditions A c way all at)
     by_mark None e = rw (never e) refl
     by_mark (Some m) e =
         behind (not_open A c ∷ []) _ _
-        (twice-first (when (nat_le at m) (Late m)) (named_twice all) (stays_refusal (stays_of_request view.stays.items c all) c m (is_full A) way all at)
+        (twice-first (when (nat_le at m) (Late m)) (named_twice all) (stays_refusal view.stays.items view.entries c m (is_full A) way all at)
         (room_conditions A c way all at)
-        (λ n. ap (λ r. first_of (r ∷ [])) (request-refusal (sheet A) s view.stays.items c m (is_full A) way all at v.stays.room v.stays.last
-        (named_once all n)) ∙ rows-conditions A c m way all at))
+        (λ n. ap (λ r. first_of (r ∷ [])) (request-refusal (sheet A) s view.stays.items c m view.entries (is_full A) way all at v.stays v.entries
+        (named_once all n) (settled A h c)) ∙ rows-conditions A c m way all at))
 
 -- SHEETS ARE MADE IN TURN
 

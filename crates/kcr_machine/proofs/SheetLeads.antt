@@ -14,10 +14,9 @@ use Rattle.kcr_room.specs.declared.Stay.{Stay}
 use Rattle.kcr_room.specs.declared.Way.{Way}
 use Rattle.kcr_room.specs.declared.Way.TheVariants.{Enter, Leave}
 use Rattle.kcr_room.specs.Room.{later, last_onto, last_row_of}
-use Rattle.kcr_room.specs.Stays.{stays_by}
+use Rattle.kcr_room.specs.Stays.{is_lasting, stays_by}
 use Rattle.kcr_base.specs.Lists.{is_among}
-use Rattle.kcr_room.specs.Adding.{is_open, is_inside, is_inside_of, is_out_of_turn_in, is_out_of_turn_by, new_row, new_stay, closed, of_ceremony}
-use Rattle.kcr_base.specs.Lists.{is_among}
+use Rattle.kcr_room.specs.Adding.{is_open, is_inside, is_inside_of, is_out_of_turn_in, is_out_of_turn_by, new_row, new_stay, closed}
 use Rattle.kcr_room.specs.Adding.{ends_by, changed_stays, reaches, turn_refusal}
 use Rattle.kcr_base.specs.Lists.{are_apart}
 use Rattle.kcr_base.proofs.SameLemmas.{same-is, same-itself, same-turned}
@@ -34,16 +33,15 @@ use Rattle.kcr_history.specs.History.{History, entry_of}
 use Rattle.kcr_history.specs.Room.{sheet}
 use Rattle.kcr_history.specs.Tables.{Tables, SameTables, tables, withdrawals}
 use Rattle.kcr_history.specs.Changes.{same_sheet_row, same_stay, changed_by}
-use Rattle.kcr_history.specs.Views.{ShowsLast, IsViewOf}
+use Rattle.kcr_history.specs.Views.{IsViewOf}
 use Rattle.kcr_history.specs.Asked.{asks_by}
 use Rattle.kcr_history.specs.Conditions.{out_of_turn}
 use Rattle.kcr_history.specs.Machine.{with_command}
-use Rattle.kcr_rules.specs.SheetRows.{stays_of_request, sheet_changes_by}
+use Rattle.kcr_rules.specs.SheetRows.{sheet_changes_by}
 use Rattle.kcr_machine.specs.RowDecision.{new_key_row}
 use Rattle.kcr_machine.proofs.Keyed.{Shown, put-rows}
 use Rattle.kcr_machine.proofs.Leads.{changed_by-rows, changed_with, command_of, new_key, other-order}
-use Rattle.kcr_base.proofs.Members.{IsIn, any-in, filter-in, in-any, in-filter, in-front, in-order, map-same-in, none-in, none-passes}
-use Rattle.kcr_machine.proofs.SheetFaults.{among-all, stays-shown}
+use Rattle.kcr_base.proofs.Members.{IsIn, any-in, filter-in, in-any, in-filter, in-order, map-same-in, none-in, none-passes}
 use Rattle.kcr_machine.proofs.SheetStays.{IsClear, before-enter, clear-order, clear-sheet}
 
 -- NEW ROWS ARE PUT IN FRONT
@@ -143,17 +141,19 @@ map-itself (x ∷ xs) = ap (λ ys. x ∷ ys) (map-itself xs)
 same-stay : (x : Stay) → same_stay x x ≡ true
 same-stay x = and_from (same_text x.who x.who) (x.since == x.since) (same-itself x.who) (eq-eqb x.since x.since refl)
 
+-- an open stay lasts to every moment
+open-lasts : (c at : ℕ) (r : Stay) → (r.ceremony == c) ≡ true → is_open r.until ≡ true → is_lasting c at r ≡ true
+open-lasts c at r here o = grind arith
+
 -- those who leave get an end
-module _ (all shown : List Stay) (c at : ℕ) (people : List (List ℕ)) (clear : IsClear all) (p : Shown (of_ceremony c) all shown)
-    (last : ShowsLast people all shown)
+module _ (all shown : List Stay) (c at : ℕ) (people : List (List ℕ)) (clear : IsClear all) (p : Shown (is_lasting c at) all shown)
+    (within : (x : Stay) → IsIn x shown → IsIn x all)
     (turns : (who : List ℕ) → IsIn who people → is_out_of_turn_in all c Leave at who ≡ false) where
   abbrev changed : List Stay
-  changed = filter (ends_by c people) (stays_of_request shown c people)
+  changed = filter (ends_by c people) shown
 
   changed-in : (x : Stay) → IsIn x changed → IsIn x all
-  changed-in x i =
-      among-all all c people x (in-order x (stays_of_request all c people) (stays_of_request shown c people) (stays-shown all shown c people p last)
-      (in-filter (ends_by c people) x (stays_of_request shown c people) i).0)
+  changed-in x i = within x (in-filter (ends_by c people) x shown i).0
 
   only-one : (x r : Stay) → IsIn x all → IsIn r all → same_stay x r ≡ true → x ≡ r
   only-one x r i j e =
@@ -178,11 +178,9 @@ module _ (all shown : List Stay) (c at : ℕ) (people : List (List ℕ)) (clear 
       ] in
       let here : (r.ceremony == c) ≡ true = rw is (grind arith) in
       let fits : ends_by c people r ≡ true = grind arith in
-      let own : IsIn r (filter (of_ceremony c) shown) = in-order r (filter (of_ceremony c) shown) (filter (of_ceremony c) all)
-      (IsPermutation-sym (filter (of_ceremony c) all) (filter (of_ceremony c) shown) p) (filter-in (of_ceremony c) r all i here) in
-      in-any (λ x. same_stay x r) r changed
-      (filter-in (ends_by c people) r (stays_of_request shown c people) (in-front r (filter (of_ceremony c) shown) _ own) fits)
-      (same-stay r)
+      let own : IsIn r (filter (is_lasting c at) shown) = in-order r (filter (is_lasting c at) shown) (filter (is_lasting c at) all)
+      (IsPermutation-sym (filter (is_lasting c at) all) (filter (is_lasting c at) shown) p) (filter-in (is_lasting c at) r all i (open-lasts c at r here o)) in
+      in-any (λ x. same_stay x r) r changed (filter-in (ends_by c people) r shown (in-filter (is_lasting c at) r shown own).0 fits) (same-stay r)
     where
       by_time : (r s : Stay) → IsIn r all → IsIn s all → same_text r.who s.who ≡ true → is_open r.until ≡ true → r.since ≤ s.since → r ≡ s
       by_time r s i j e o l = elim (clear.apart r s i j e l) [ inl same ↦ same | inr q ↦ absurd (true≢false (sym o ∙ ap is_open q.1.1)) ]
@@ -196,12 +194,12 @@ module _ (all shown : List Stay) (c at : ℕ) (people : List (List ℕ)) (clear 
 
 -- the stays are put
 stays-put : (rows : List SheetRow) → IsSheet rows → (shown : List Stay) (c : ℕ) (way : Way) (at : ℕ) (people : List (List ℕ)) → are_apart people ≡ true
-    → Shown (of_ceremony c) (reverse (stays_by rows)) shown → ShowsLast people (reverse (stays_by rows)) shown
+    → Shown (is_lasting c at) (reverse (stays_by rows)) shown → ((x : Stay) → IsIn x shown → IsIn x (reverse (stays_by rows)))
     → turn_refusal (find (is_out_of_turn_by rows c way at) people) ≡ None
-    → IsPermutation (put_all same_stay (changed_stays (stays_of_request shown c people) c way people at) (reverse (stays_by rows)))
+    → IsPermutation (put_all same_stay (changed_stays shown c way people at) (reverse (stays_by rows)))
     (reverse (stays_by (rows ++ map (new_row c way at) people)))
 stays-put rows s shown c way at people a p l h =
-    subst (λ stays. IsPermutation (put_all same_stay (changed_stays (stays_of_request shown c people) c way people at) (reverse (stays_by rows)))
+    subst (λ stays. IsPermutation (put_all same_stay (changed_stays shown c way people at) (reverse (stays_by rows)))
     (reverse stays))
     (sym (rows-added c way at people rows s a h))
     (by_way way (λ who i. sym (same-turns rows s c way at who) ∙ turns-each (is_out_of_turn_by rows c way at) people h who i))
@@ -210,7 +208,7 @@ stays-put rows s shown c way at people a p l h =
     table = stays_by rows
 
     by_way : (w : Way) → ((who : List ℕ) → IsIn who people → is_out_of_turn_in table c w at who ≡ false)
-        → IsPermutation (put_all same_stay (changed_stays (stays_of_request shown c people) c w people at) (reverse table))
+        → IsPermutation (put_all same_stay (changed_stays shown c w people at) (reverse table))
         (reverse (added c w at people table))
     by_way Enter turns = enter-put table c at people a turns
     by_way Leave turns =
@@ -242,7 +240,7 @@ pub sheet-leads : (A : History) → IsSheet (sheet A) → (key : List ℕ) (c : 
 sheet-leads A s key c way all at a view answer v k f =
     let x : Command = command_of key (Sheet c way all at) in
     let news = map (new_row c way at) all in
-    let stays = changed_stays (stays_of_request view.stays.items c all) c way all at in
+    let stays = changed_stays view.stays.items c way all at in
     let rest = PutKey (new_key_row x answer) ∷ [] in
     rw (
       append_assoc (map PutSheet news) (map PutStay stays) rest,
@@ -252,4 +250,4 @@ sheet-leads A s key c way all at a view answer v k f =
       new_key A x answer k,
     )
     (other-order (tables (with_command A x answer)) (withdrawals A) _ _ (IsPermutation-refl (withdrawals A)) (sheet-put (sheet A) c way at all a f)
-    (stays-put (sheet A) s view.stays.items c way at all a v.stays.room v.stays.last f))
+    (stays-put (sheet A) s view.stays.items c way at all a v.stays.room v.stays.within f))

@@ -1,9 +1,10 @@
 -- The stays of a sheet made in turn: of a person's stays each ended before the next began, so the last one tells whose turn it is.
-use Rattle.std.proofs.Common.{◌≡◌, ℕ, ◌<◌, ◌≤◌, Bool, true, false, cond, ◌&&◌, nat_le, List, [], ◌∷◌, ◌++◌, map, filter, Option, Some, None, refl, sym, ap}
-use Rattle.std.proofs.Common.{◌∙◌, subst, arith, ◌⊎◌, inl, inr}
+use Rattle.std.proofs.Common.{◌≡◌, ℕ, ◌<◌, ◌≤◌, Bool, true, false, cond, not, ◌&&◌, ◌||◌, nat_le, List, [], ◌∷◌, ◌++◌, map, filter, Option, Some, None, refl}
+use Rattle.std.proofs.Common.{sym, ap, ◌∙◌, subst, arith, ◌⊎◌, inl, inr}
 use Rattle.std.specs.List.{list_any}
 use Rattle.std.specs.List.Sorted.{IsPermutation}
 use Rattle.std.proofs.lemmas.Bool.{true≢false, or_parts, leb-true, leb-false, and_right}
+use Rattle.std.proofs.lemmas.Option.{same_Some, none-some}
 use Rattle.kcr_base.specs.Same.{same_text}
 use Rattle.kcr_base.proofs.SameLemmas.{same-is, same-turned}
 use Rattle.kcr_room.specs.declared.SheetRow.{SheetRow}
@@ -13,11 +14,10 @@ use Rattle.kcr_room.specs.declared.Way.TheVariants.{Enter, Leave}
 use Rattle.kcr_room.specs.Stays.{stays_by}
 use Rattle.kcr_base.specs.Lists.{is_among}
 use Rattle.kcr_room.specs.Adding.{is_open, ends_from, reaches, is_inside, is_inside_of, is_out_of_turn_in, new_stay, closed}
-use Rattle.kcr_base.specs.Lists.{is_among}
 use Rattle.kcr_room.specs.Adding.{new_row}
 use Rattle.kcr_room.specs.Laws.{IsSheet}
 use Rattle.kcr_room.proofs.Sheets.{same-turns, added, row-added, made-in-turn}
-use Rattle.kcr_history.specs.Views.{later_stay, last_of, last_stay}
+use Rattle.kcr_history.specs.Views.{later_stay, last_of, last_stay, ShowsLast}
 use Rattle.kcr_base.proofs.Members.{IsIn, any-in, filter-in, in-any, in-append, in-behind, in-filter, in-front, in-map, in-order, map-in, none-in}
 use Rattle.kcr_base.proofs.Members.{same-answers}
 
@@ -66,6 +66,13 @@ last-in stays who s e = (in-filter (λ stay. same_text stay.who who) s stays (su
   where
     own : List Stay
     own = filter (λ stay. same_text stay.who who) stays
+
+-- of each of the people the view has the last stay
+pub last-shown : (table rows : List Stay) (people : List (List ℕ)) → ShowsLast people table rows → (who : List ℕ) → IsIn who people
+    → last_stay rows who ≡ last_stay table who
+last-shown table rows [] h who i = absurd i
+last-shown table rows (first ∷ people) h who (inl e) = rw e h.0
+last-shown table rows (first ∷ people) h who (inr i) = last-shown table rows people h.1 who i
 
 -- STAYS ONE AFTER THE OTHER
 
@@ -214,6 +221,42 @@ stay-begun = stays-in-turn (λ rows. (s : Stay) → IsIn s (stays_by rows) → B
         → ((s : Stay) → IsIn s (stays_by before) → Begun before s)
         → (s : Stay) → IsIn s (stays_by (before ++ row ∷ [])) → Begun (before ++ row ∷ []) s
     next before row turn e old s i = by_way before row.ceremony row.way row.at row.who old s (subst (IsIn s) e i)
+
+-- where it has an end, it ended later than it began
+abbrev pub EndsLater : Stay → Type 0
+EndsLater s = (u : ℕ) → s.until ≡ Some u → s.since < u
+
+-- whoever leaves in turn came before the moment
+closed-later : (stays : List Stay) (c at : ℕ) (who : List ℕ) → is_out_of_turn_in stays c Leave at who ≡ false → (s : Stay) → IsIn s stays → EndsLater s
+    → EndsLater (closed (who ∷ []) at s)
+closed-later stays c at who turn s i later =
+    by_until (same_text s.who who) s.until
+    (none-in (reaches who at) s stays (or_parts (list_any (reaches who at) stays) (not (list_any (is_inside_of c who) stays)) turn).0 i) later
+  where
+    by_until : (b : Bool) (until : Option ℕ) → (b && (nat_le at s.since || ends_from at until)) ≡ false → ((u : ℕ) → until ≡ Some u → s.since < u)
+        → (u : ℕ) → cond ((b || false) && is_open until) (Some at) until ≡ Some u → s.since < u
+    by_until true None early old u h = omega (arith, leb-false at s.since (or_parts (nat_le at s.since) false early).0, same_Some at u h)
+    by_until true (Some v) early old u h = old u h
+    by_until false until early old u h = old u h
+
+-- each stay of a sheet made in turn ended later than it began
+pub ends-later : (rows : List SheetRow) → IsSheet rows → (s : Stay) → IsIn s (stays_by rows) → EndsLater s
+ends-later = stays-in-turn (λ rows. (s : Stay) → IsIn s (stays_by rows) → EndsLater s) next (λ s i. absurd i)
+  where
+    by_way : (stays : List Stay) (c : ℕ) (way : Way) (at : ℕ) (who : List ℕ) → is_out_of_turn_in stays c way at who ≡ false
+        → ((s : Stay) → IsIn s stays → EndsLater s) → (s : Stay) → IsIn s (added c way at (who ∷ []) stays) → EndsLater s
+    by_way stays c Enter at who turn old s i = elim (in-append s stays (new_stay c at who ∷ []) i) [
+      | inl j ↦ old s j
+      | inr j ↦ elim j [ inl same ↦ (λ u e. absurd (none-some u (sym (ap (λ t. t.until) same) ∙ e))) | inr none ↦ absurd none ]
+    ]
+    by_way stays c Leave at who turn old s i =
+        let m = in-map (closed (who ∷ []) at) s stays i in rw m.2 (closed-later stays c at who turn m.0 m.1 (old m.0 m.1))
+
+    next : (before : List SheetRow) (row : SheetRow) → is_out_of_turn_in (stays_by before) row.ceremony row.way row.at row.who ≡ false
+        → stays_by (before ++ row ∷ []) ≡ added row.ceremony row.way row.at (row.who ∷ []) (stays_by before)
+        → ((s : Stay) → IsIn s (stays_by before) → EndsLater s)
+        → (s : Stay) → IsIn s (stays_by (before ++ row ∷ [])) → EndsLater s
+    next before row turn e old s i = by_way (stays_by before) row.ceremony row.way row.at row.who turn old s (subst (IsIn s) e i)
 
 -- WHOSE TURN IT IS, BY SOME OF THE STAYS
 

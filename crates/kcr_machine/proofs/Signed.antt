@@ -8,7 +8,6 @@ use Rattle.std.proofs.lemmas.Bool.{ltb-true}
 use Rattle.kcr_base.specs.Days.{day_of}
 use Rattle.kcr_base.specs.Rows.{put}
 use Rattle.kcr_base.specs.declared.place.Facility.{Facility}
-use Rattle.kcr_base.specs.declared.place.Place.TheVariants as Places
 use Rattle.kcr_base.specs.declared.place.Role.TheVariants.{Ca, Iw}
 use Rattle.kcr_base.specs.declared.refusal.Refusal.{Refusal}
 use Rattle.kcr_base.specs.declared.refusal.Refusal.TheVariants.{Short}
@@ -128,7 +127,7 @@ sign-sitting : (A : History) → IsRegister A → (c k at : ℕ) (view : View) �
 sign-sitting A h c k at view v =
     record {
       facility = facility-shown A c view.ceremonies.items v.ceremonies;
-      room = present-shown A c view.stays.items v.stays.room at;
+      room = present-shown A c at view.stays.items v.stays.room;
       fit = λ j who. fits-shown A h view (day_of at) v.trainings v.withdrawals v.appointments (facility_of A c) (slice_get (seats_at (steps_of A c) k) j) who;
     }
 
@@ -137,7 +136,7 @@ pass-sitting : (A : History) → IsRegister A → (c : ℕ) (text : List ℕ) (a
 pass-sitting A h c text at view v =
     record {
       facility = facility-shown A c view.ceremonies.items v.ceremonies;
-      room = present-shown A c view.stays.items v.stays.room at;
+      room = present-shown A c at view.stays.items v.stays.room;
       fit = staff-shown A h view (day_of at) v.trainings v.withdrawals (facility_of A c);
     }
 

@@ -1,5 +1,5 @@
 -- Steps and exceptions: how many there are by the rows as by the history, each step once and in order, and the rows of one that is done.
-use Rattle.std.proofs.Common.{◌≡◌, ℕ, zero, suc, ◌+◌, ◌-◌, ◌≤◌, Bool, true, false, cond, ◌&&◌, List, [], ◌∷◌, map, filter, length, Option, Some}
+use Rattle.std.proofs.Common.{◌≡◌, ℕ, zero, suc, ◌+◌, ◌≤◌, Bool, true, false, cond, ◌&&◌, List, [], ◌∷◌, map, filter, length, Option, Some}
 use Rattle.std.proofs.Common.{None, is_none, Result, Ok, Err, refl, sym, ap, ◌∙◌, arith, subst, ◌<◌, ◌==◌}
 use Rattle.std.specs.Prelude.{is_some, slice_get, unwrap_or, option_map}
 use Rattle.std.specs.List.{list_any}

@@ -1,25 +1,26 @@
 -- Whether anybody is in the room of a ceremony at a moment or comes or goes later: by the stays that a view shows as by the sheet.
-use Rattle.std.proofs.Common.{◌≡◌, ℕ, true, not, ◌&&◌, ◌==◌, nat_lt, List, [], ◌∷◌, reverse, length, refl, sym, ap, ◌∙◌, arith, inl, inr}
+use Rattle.std.proofs.Common.{◌≡◌, ℕ, ◌<◌, true, not, ◌&&◌, ◌||◌, ◌==◌, nat_lt, List, [], ◌∷◌, filter, reverse, length, Option, Some, None, refl, sym, ap, ◌∙◌}
+use Rattle.std.proofs.Common.{arith, inl, inr}
 use Rattle.std.specs.List.{list_any}
+use Rattle.std.proofs.lemmas.Bool.Decides.{nat_tests}
 use Rattle.std.proofs.lemmas.Bool.{lt-ltb, or_left, or_right, cases_Bool, or_cases}
-use Rattle.std.proofs.lemmas.List.Sorted.{list_any-IsPermutation, IsPermutation-reverse}
+use Rattle.std.proofs.lemmas.List.Sorted.{list_any-IsPermutation, IsPermutation-reverse, IsPermutation-sym}
 use Rattle.kcr_base.proofs.ListLemmas.{any-more}
 use Rattle.kcr_room.specs.declared.SheetRow.{SheetRow}
 use Rattle.kcr_room.specs.declared.Stay.{Stay}
 use Rattle.kcr_room.specs.Room.{present_by}
-use Rattle.kcr_room.specs.Stays.{holds, stays_by, crowd_in_by}
+use Rattle.kcr_room.specs.Stays.{lasts_at, lasts_to, is_lasting, holds, stays_by, crowd_in_by}
 use Rattle.kcr_room.proofs.Agreement.{same-crowd}
 use Rattle.kcr_room.proofs.Moments.{crowd-cons}
 use Rattle.kcr_history.specs.History.{History}
 use Rattle.kcr_history.specs.Room.{sheet, present}
 use Rattle.kcr_history.specs.Conditions.{is_empty, is_room_used}
 use Rattle.kcr_history.specs.Machine.{IsRegister}
-use Rattle.kcr_history.specs.Views.{is_stay_of}
 use Rattle.kcr_rules.specs.CeremonyRows.{is_unended}
-use Rattle.kcr_machine.proofs.Keyed.{Shown, any-shown}
-use Rattle.kcr_base.proofs.Members.{any-in, in-any, same-answers}
+use Rattle.kcr_machine.proofs.Keyed.{Shown}
+use Rattle.kcr_base.proofs.Members.{IsIn, any-in, filter-in, in-any, in-filter, in-order, same-answers}
 use Rattle.kcr_machine.proofs.SheetFaults.{sheet-made}
-use Rattle.kcr_machine.proofs.SheetStays.{row-bounds, stay-begun}
+use Rattle.kcr_machine.proofs.SheetStays.{EndsLater, ends-later, row-bounds, stay-begun}
 
 -- somebody is in the room where some stay holds
 held : (c t : ℕ) (stays : List Stay) → nat_lt 0 (crowd_in_by stays c t) ≡ list_any (holds c t) stays
@@ -57,10 +58,44 @@ used-unended A h c t e = elim (or_cases (not (is_empty (present A c t))) (list_a
     here : (s : Stay) → holds c t s ≡ true → is_unended c t s ≡ true
     here s q = grind arith
 
+-- a stay that has not ended, or begins later, lasts to the moment, as it ends later than it begins
+unended-lasts : (c t : ℕ) (stay : Stay) → EndsLater stay → is_unended c t stay ≡ true → is_lasting c t stay ≡ true
+unended-lasts c t stay later e = by_until stay.until later e
+  where
+    by_until : (until : Option ℕ) → ((u : ℕ) → until ≡ Some u → stay.since < u)
+        → (stay.ceremony == c && (nat_lt t stay.since || lasts_at t until)) ≡ true → (stay.ceremony == c && lasts_to t until) ≡ true
+    by_until None later e = grind arith
+    by_until (Some u) later e = let l = later u refl in grind (arith, nat_tests, l)
+
+-- some stay that is shown has not ended where some stay of the table has not
+unended-shown : (table rows : List Stay) (c t : ℕ) → ((stay : Stay) → IsIn stay table → EndsLater stay)
+    → Shown (is_lasting c t) table rows → ((stay : Stay) → IsIn stay rows → IsIn stay table)
+    → list_any (is_unended c t) rows ≡ list_any (is_unended c t) table
+unended-shown table rows c t later p within = same-answers (list_any (is_unended c t) rows) (list_any (is_unended c t) table) out back
+  where
+    out : list_any (is_unended c t) rows ≡ true → list_any (is_unended c t) table ≡ true
+    out h = let a = any-in (is_unended c t) rows h in in-any (is_unended c t) a.0 table (within a.0 a.1) a.2
+
+    shown : (stay : Stay) → IsIn stay table → is_lasting c t stay ≡ true → IsIn stay rows
+    shown stay i e =
+        let own = filter-in (is_lasting c t) stay table i e in
+        (in-filter (is_lasting c t) stay rows
+        (in-order stay (filter (is_lasting c t) rows) (filter (is_lasting c t) table)
+        (IsPermutation-sym (filter (is_lasting c t) table) (filter (is_lasting c t) rows) p) own)).0
+
+    back : list_any (is_unended c t) table ≡ true → list_any (is_unended c t) rows ≡ true
+    back h =
+        let a = any-in (is_unended c t) table h in
+        in-any (is_unended c t) a.0 rows (shown a.0 a.1 (unended-lasts c t a.0 (later a.0 a.1) a.2)) a.2
+
 -- the room is used where some stay that is shown has not ended
-pub used-shown : (A : History) → IsRegister A → (c t : ℕ) (rows : List Stay) → Shown (is_stay_of c) (reverse (stays_by (sheet A))) rows
+pub used-shown : (A : History) → IsRegister A → (c t : ℕ) (rows : List Stay) → Shown (is_lasting c t) (reverse (stays_by (sheet A))) rows
+    → ((stay : Stay) → IsIn stay rows → IsIn stay (reverse (stays_by (sheet A))))
     → list_any (is_unended c t) rows ≡ is_room_used A c t
-used-shown A h c t rows p =
-    any-shown (is_unended c t) (is_stay_of c) (λ stay e. grind arith) (reverse (stays_by (sheet A))) rows p
+used-shown A h c t rows p within =
+    let table : List Stay = reverse (stays_by (sheet A)) in
+    unended-shown table rows c t
+    (λ stay i. ends-later (sheet A) (sheet-made A h) stay
+    (in-order stay (stays_by (sheet A)) table (IsPermutation-reverse (stays_by (sheet A))) i)) p within
     ∙ sym (list_any-IsPermutation (is_unended c t) (stays_by (sheet A)) (reverse (stays_by (sheet A))) (IsPermutation-reverse (stays_by (sheet A))))
     ∙ same-answers (list_any (is_unended c t) (stays_by (sheet A))) (is_room_used A c t) (unended-used A h c t) (used-unended A h c t)

@@ -6,7 +6,8 @@ ghost use Rattle.kcr_history.specs.Front.{front_asks};
 ghost use Rattle.kcr_history.specs.Tables.{tables};
 ghost use Rattle.kcr_history.specs.Views.{IsViewOf, greatest_number, row_of_key};
 ghost use Rattle.kcr_history.specs.Machine.{IsRegister, IsDecision};
-ghost use Rattle.kcr_machine.specs.RowDecision.{IsRowDecision, IsRowRepeat};
+ghost use Rattle.kcr_rules.specs.Ahead.{IsToldAhead};
+ghost use Rattle.kcr_machine.specs.RowDecision.{IsRowDecision, IsRowRepeat, is_full_by};
 
 use kcr_base::Refusal;
 use kcr_history::{
@@ -92,15 +93,19 @@ fn decide_by_rows(
 /// of the tables of A that the command asks for, trainings, withdrawals, appointments and stays aside, and `accepted` is
 /// the number of the last command of A, a refusal is the machine's step from A. Out of memory (33) may be answered in
 /// its place. Nothing is told ahead of an act that has no ceremony.
+///
+/// And the other way round, over any view and number: a refusal that this part of the rows tells is told, out of memory
+/// aside, unless the rows tell of more steps done than a script has, which no register's rows do.
 pub fn refused_ahead(
     alloc: Global,
     view: &View,
     accepted: u32,
     command: &Command,
 ) -> Option<Refusal>
-    ensures { (A : History) → IsRegister A → row_of_key command.now.key (tables A).keys ≡ None
+    ensures step { (A : History) → IsRegister A → row_of_key command.now.key (tables A).keys ≡ None
         → IsViewOf (front_asks (asks_of command.now)) (tables A) view.now → accepted ≡ greatest_number (tables A).keys
         → IfSome result (λ refusal. IsDecision A command.now (Err refusal)) }
+    ensures told { IsToldAhead view.now (is_full_by accepted) command.now.act result }
 {
     let full = MOST_COMMANDS <= accepted;
     refusal_ahead(alloc, view, full, &command.act)

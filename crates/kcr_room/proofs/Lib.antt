@@ -6,9 +6,11 @@ pub mod Firsts
 pub mod Moments
 pub mod Keeping
 pub mod Sheets
+pub mod Crowds
 pub mod Refusals
 pub mod Rising
 pub mod Orders
+pub mod Lasting
 pub mod Listed
 pub mod Ends
 pub mod Steps

@@ -1,19 +1,17 @@
 -- Stays in another order: who is in the room, and what a request is refused for.
 use Rattle.std.proofs.Common.{append-nil, get_or, length, take, ◌+◌, ◌<◌}
-use Rattle.std.proofs.Common.{◌≡◌, ℕ, Bool, true, false, cond, nat_le, nat_lt, List, [], ◌∷◌, ◌++◌, map, refl, sym, ap, ◌∙◌, arith}
-use Rattle.std.specs.List.{filter, find}
+use Rattle.std.proofs.Common.{◌≡◌, ℕ, Bool, true, false, cond, ◌||◌, List, [], ◌∷◌, ◌++◌, map, refl, sym, ap, ◌∙◌, arith}
+use Rattle.std.specs.List.{filter}
 use Rattle.std.proofs.lemmas.List.{take_more, map-append}
 use Rattle.std.proofs.lemmas.List.Elements.{filter-append}
 use Rattle.std.specs.List.Sorted.{IsPermutation}
 use Rattle.kcr_base.proofs.RowsLemmas.{Shuffled, shuffled, filter-order}
-use Rattle.std.proofs.lemmas.List.Sorted.{IsPermutation-map, IsPermutation-append_left, length_permutation, sum_by-IsPermutation}
+use Rattle.std.proofs.lemmas.List.Sorted.{IsPermutation-map, IsPermutation-append_left, sum_by-IsPermutation}
 use Rattle.std.proofs.lemmas.List.Sorted.{list_any-IsPermutation}
-use Rattle.kcr_base.specs.Refuse.{when, first_of}
-use Rattle.kcr_base.specs.declared.refusal.Refusal.TheVariants.{Late}
 use Rattle.kcr_room.specs.Room.{ascending, put_person}
 use Rattle.kcr_room.specs.Stays.{holds, crowd_in_by, present_in_by}
 use Rattle.kcr_room.specs.Adding.{reaches, is_inside, is_inside_of, is_out_of_turn_in, new_stay, closed, of_ceremony, after}
-use Rattle.kcr_room.specs.Adding.{turn_refusal, is_overfull, later_refusal, stays_refusal}
+use Rattle.kcr_room.specs.Adding.{from_moment, later, is_overfull, stays_refusal}
 use Rattle.kcr_room.proofs.Words.{nat_tests, is_before, Way, Enter, Leave, Stay}
 use Rattle.kcr_room.proofs.Agreement.{same-is}
 use Rattle.kcr_room.proofs.Refusals.{refused-same, find-same}
@@ -69,27 +67,27 @@ present-order xs ys p c t =
     let moved = IsPermutation-map (λ stay. stay.who) (filter (holds c t) xs) (filter (holds c t) ys) (filter-order (holds c t) xs ys p) in
     sym (same-ascending (shuffled _ _ moved))
 
-after-order : (xs ys : List Stay) → IsPermutation xs ys → (c : ℕ) (way : Way) (people : List (List ℕ)) (at : ℕ)
+-- WHAT A REQUEST IS REFUSED FOR
+
+pub after-order : (xs ys : List Stay) → IsPermutation xs ys → (c : ℕ) (way : Way) (people : List (List ℕ)) (at : ℕ)
     → IsPermutation (after xs c way people at) (after ys c way people at)
 after-order xs ys p c Enter people at = IsPermutation-append_left (map (new_stay c at) people) _ _ (filter-order (of_ceremony c) xs ys p)
 after-order xs ys p c Leave people at = IsPermutation-map (closed people at) _ _ (filter-order (of_ceremony c) xs ys p)
 
-overfull-order : (xs ys : List Stay) → IsPermutation xs ys → (way : Way) → is_overfull ys way ≡ is_overfull xs way
-overfull-order xs ys p Enter = ap (λ n. nat_lt 1000 n) (length_permutation xs ys p)
-overfull-order xs ys p Leave = refl
+-- as many people are there from the moment on
+pub later-order : (xs ys : List Stay) → IsPermutation xs ys → (c : ℕ) (way : Way) (people : List (List ℕ)) (at t : ℕ)
+    → crowd_in_by (later ys c way people at) c t ≡ crowd_in_by (later xs c way people at) c t
+later-order xs ys p c way people at t =
+    crowd-order _ _ (IsPermutation-map (from_moment at) _ _ (after-order xs ys p c way people at)) c t
 
-later-order : (xs ys : List Stay) → IsPermutation xs ys → (c : ℕ) (full : Bool) (way : Way) → later_refusal ys c full way ≡ later_refusal xs c full way
-later-order xs ys p c full way = refused-same ys xs c _ _ full (crowd-order xs ys p c) (overfull-order xs ys p way)
-
-turn-order : (xs ys : List Stay) → IsPermutation xs ys → (c : ℕ) (way : Way) (at : ℕ) (who : List ℕ)
+pub turn-order : (xs ys : List Stay) → IsPermutation xs ys → (c : ℕ) (way : Way) (at : ℕ) (who : List ℕ)
     → is_out_of_turn_in ys c way at who ≡ is_out_of_turn_in xs c way at who
 turn-order xs ys p c Enter at who = rw (list_any-IsPermutation (reaches who at) xs ys p, list_any-IsPermutation (is_inside who) xs ys p)
 turn-order xs ys p c Leave at who = rw (list_any-IsPermutation (reaches who at) xs ys p, list_any-IsPermutation (is_inside_of c who) xs ys p)
 
-pub refusal-order : (xs ys : List Stay) → IsPermutation xs ys → (c mark : ℕ) (full : Bool) (way : Way) (people : List (List ℕ)) (at : ℕ)
-    → stays_refusal ys c mark full way people at ≡ stays_refusal xs c mark full way people at
-refusal-order xs ys p c mark full way people at =
-    ap (λ o. first_of (when (nat_le at mark) (Late mark) ∷ turn_refusal o ∷ later_refusal (after ys c way people at) c full way ∷ []))
-    (find-same (is_out_of_turn_in ys c way at) (is_out_of_turn_in xs c way at) (turn-order xs ys p c way at) people)
-    ∙ ap (λ x. first_of (when (nat_le at mark) (Late mark) ∷ turn_refusal (find (is_out_of_turn_in xs c way at) people) ∷ x ∷ []))
-    (later-order _ _ (after-order xs ys p c way people at) c full way)
+pub refusal-order : (xs ys : List Stay) → IsPermutation xs ys → (entered c mark : ℕ) (full : Bool) (way : Way) (people : List (List ℕ)) (at : ℕ)
+    → stays_refusal ys entered c mark full way people at ≡ stays_refusal xs entered c mark full way people at
+refusal-order xs ys p entered c mark full way people at = rw (
+  find-same (is_out_of_turn_in ys c way at) (is_out_of_turn_in xs c way at) (turn-order xs ys p c way at) people,
+  refused-same (later ys c way people at) (later xs c way people at) c (full || is_overfull entered way people) (later-order xs ys p c way people at),
+)

@@ -345,16 +345,16 @@ filter-closed : (c at : ℕ) (people : List (List ℕ)) (stays : List Stay)
 filter-closed c at people [] = refl
 filter-closed c at people (stay ∷ stays) = grind (arith, nat_tests, filter-closed c at people stays)
 
+-- of all stays with the rows of a request those of the ceremony are its stays with them
+pub after-added : (stays : List Stay) (c : ℕ) (way : Way) (at : ℕ) (people : List (List ℕ))
+    → filter (of_ceremony c) (added c way at people stays) ≡ after stays c way people at
+after-added stays c Enter at people =
+    filter-append (of_ceremony c) stays (map (new_stay c at) people) ∙ ap (λ more. filter (of_ceremony c) stays ++ more) (filter-new c at people)
+after-added stays c Leave at people = filter-closed c at people stays
+
 -- rows added to a sheet in their turn give the ceremony's stays as they are changed
 pub same-added : (rows : List SheetRow) → IsSheet rows → (c : ℕ) (way : Way) (at : ℕ) (people : List (List ℕ)) → are_apart people ≡ true
     → turn_refusal (find (is_out_of_turn_by rows c way at) people) ≡ None
     → filter (of_ceremony c) (stays_by (rows ++ map (new_row c way at) people)) ≡ after (stays_by rows) c way people at
 same-added rows s c way at people a h =
-    ap (filter (of_ceremony c))
-    (rows-added c way at people rows s a h) ∙ by_way way
-  where
-    by_way : (way : Way) → filter (of_ceremony c) (added c way at people (stays_by rows)) ≡ after (stays_by rows) c way people at
-    by_way Enter =
-        filter-append (of_ceremony c) (stays_by rows) (map (new_stay c at) people)
-        ∙ ap (λ more. filter (of_ceremony c) (stays_by rows) ++ more) (filter-new c at people)
-    by_way Leave = filter-closed c at people (stays_by rows)
+    ap (filter (of_ceremony c)) (rows-added c way at people rows s a h) ∙ after-added (stays_by rows) c way at people

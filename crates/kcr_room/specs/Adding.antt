@@ -1,5 +1,5 @@
 -- What a request adds to the sheet, by stays, and why it is refused.
-use Rattle.std.specs.Prelude.{ℕ, ◌==◌, Bool, true, false, not, ◌&&◌, ◌||◌, nat_lt, nat_le, List, [], ◌∷◌, ◌++◌, map}
+use Rattle.std.specs.Prelude.{ℕ, ◌==◌, ◌+◌, Bool, true, false, not, ◌&&◌, ◌||◌, nat_lt, nat_le, List, [], ◌∷◌, ◌++◌, map}
 use Rattle.std.specs.Prelude.{filter, length, Option, Some, None, option_map, if◌then◌else◌}
 use Rattle.std.specs.List.{list_any, count_by, find}
 use Rattle.kcr_base.specs.Lists.{is_among}
@@ -76,27 +76,35 @@ turn_refusal who = option_map Turn who
 abbrev pub lone_refusal : Option ℕ → Option Refusal
 lone_refusal moment = option_map Lone moment
 
--- with the request the ceremony has more than 1,000 `in` rows
-abbrev pub is_overfull : List Stay → Way → Bool
-is_overfull later Enter = nat_lt 1000 (length later)
-is_overfull later Leave = false
+-- the stay from the moment on
+abbrev pub from_moment : ℕ → Stay → Stay
+from_moment at stay = record stay { since = if nat_lt stay.since at then at else stay.since }
 
--- the first refusal for the ceremony's stays after the request
-abbrev pub later_refusal : List Stay → ℕ → Bool → Way → Option Refusal
-later_refusal later ceremony full way =
+-- the ceremony's stays with the rows of the request, from its moment on
+abbrev pub later : List Stay → ℕ → Way → List (List ℕ) → ℕ → List Stay
+later stays ceremony way people at = map (from_moment at) (after stays ceremony way people at)
+
+-- with these people the ceremony, which has so many `in` rows, has more than 1,000 of them
+abbrev pub is_overfull : ℕ → Way → List (List ℕ) → Bool
+is_overfull entered Enter people = nat_lt 1000 (entered + length people)
+is_overfull entered Leave people = false
+
+-- the first refusal for these stays of the ceremony
+abbrev pub later_refusal : List Stay → ℕ → Bool → Option Refusal
+later_refusal stays ceremony full =
     first_of
-    (when (is_crowded_in_by later ceremony) Crowd
-    ∷ lone_refusal (first_lone_in_by later ceremony)
-    ∷ when (full || is_overfull later way) Full
+    (when (is_crowded_in_by stays ceremony) Crowd
+    ∷ lone_refusal (first_lone_in_by stays ceremony)
+    ∷ when full Full
     ∷ [])
 
--- the first refusal in order
-abbrev pub stays_refusal : List Stay → ℕ → ℕ → Bool → Way → List (List ℕ) → ℕ → Option Refusal
-stays_refusal stays ceremony mark full way people at =
+-- the first refusal in order, of a ceremony that has so many `in` rows
+abbrev pub stays_refusal : List Stay → ℕ → ℕ → ℕ → Bool → Way → List (List ℕ) → ℕ → Option Refusal
+stays_refusal stays entered ceremony mark full way people at =
     first_of
     (is_not_later at (Some mark)
     ∷ turn_refusal (find (is_out_of_turn_in stays ceremony way at) people)
-    ∷ later_refusal (after stays ceremony way people at) ceremony full way
+    ∷ later_refusal (later stays ceremony way people at) ceremony (full || is_overfull entered way people)
     ∷ [])
 
 -- by the last row it is no turn for a row of this way

@@ -13,6 +13,15 @@ abbrev pub lasts_at : ℕ → Option ℕ → Bool
 lasts_at t None = true
 lasts_at t (Some until) = nat_lt t until
 
+-- the end is none, or t or later
+abbrev pub lasts_to : ℕ → Option ℕ → Bool
+lasts_to t None = true
+lasts_to t (Some until) = nat_le t until
+
+-- the stay is of the ceremony, and its end is none, or t or later
+abbrev pub is_lasting : ℕ → ℕ → Stay → Bool
+is_lasting ceremony t stay = stay.ceremony == ceremony && lasts_to t stay.until
+
 -- somebody is in the room of the ceremony at t by this stay
 abbrev pub holds : ℕ → ℕ → Stay → Bool
 holds ceremony t stay = stay.ceremony == ceremony && nat_le stay.since t && lasts_at t stay.until

@@ -122,8 +122,8 @@ fn ends_by(ceremony: u32, people: &[Initials], stay: &Stay) -> bool
     stay.ceremony == ceremony && is_among(people, stay.who) && is_open(stay.until)
 }
 
-/// The stays of a ceremony, in their order. The error comes only when out of memory.
-pub fn stays_in(alloc: Global, stays: &[Stay], ceremony: u32) -> Result<Vec<Stay>, AllocError>
+// The stays of a ceremony, in their order.
+fn stays_in(alloc: Global, stays: &[Stay], ceremony: u32) -> Result<Vec<Stay>, AllocError>
     ensures { IfOk result (λ own. own.items ≡ filter (Adding.of_ceremony ceremony) stays.now) }
 {
     let mut own = Vec::new(alloc);
@@ -220,61 +220,88 @@ fn changed_stays(
     }
 }
 
-fn is_overfull(later: &[Stay], way: Way) -> bool
-    ensures { result ≡ Adding.is_overfull later.now way }
+// The stay from the moment on.
+fn from_moment(at: Moment, stay: &Stay) -> Stay
+    ensures { result ≡ Adding.from_moment at stay.now }
 {
-    match way {
-        Way::Enter => later.len() > 1000,
+    let since = if stay.since < at { at } else { stay.since };
+    Stay {
+        ceremony: stay.ceremony,
+        who: stay.who,
+        since,
+        until: stay.until,
+    }
+}
+
+// The ceremony's stays after the request, from its moment on.
+fn later(alloc: Global, stays: &[Stay], request: &Request<'_>) -> Result<Vec<Stay>, AllocError>
+    ensures { let asked : Request = request.now in IfOk result (λ cut.
+        cut.items ≡ Adding.later stays.now asked.ceremony asked.way asked.people.now asked.at) }
+{
+    let stays = after(alloc, stays, request)?;
+    stays
+        .iter()
+        .map(|stay| from_moment(request.at, stay))
+        .collect(alloc)
+}
+
+fn is_overfull(entered: usize, request: &Request<'_>) -> bool
+    ensures { let asked : Request = request.now in
+        result ≡ Adding.is_overfull entered asked.way asked.people.now }
+{
+    match request.way {
+        Way::Enter => entered.saturating_add(request.people.len()) > 1000,
         Way::Leave => false,
     }
 }
 
-// What the ceremony's stays after the request are refused for.
+// What these stays of the ceremony are refused for.
 fn later_refusal(
     alloc: Global,
-    later: &[Stay],
+    stays: &[Stay],
     ceremony: u32,
     full: bool,
-    way: Way,
 ) -> Result<Option<Refusal>, AllocError>
-    ensures { IfOk result (λ refusal. refusal ≡ Adding.later_refusal later.now ceremony full way) }
+    ensures { IfOk result (λ refusal. refusal ≡ Adding.later_refusal stays.now ceremony full) }
 {
-    let crowding = crowding_of(alloc, later, ceremony)?;
+    let crowding = crowding_of(alloc, stays, ceremony)?;
     if crowding.is_crowded {
         return Ok(Some(Refusal::Crowd));
     }
     if let Some(moment) = crowding.first_lone {
         return Ok(Some(Refusal::Lone { moment }));
     }
-    if full || is_overfull(later, way) {
+    if full {
         return Ok(Some(Refusal::Full));
     }
     Ok(None)
 }
 
 /// What a request of the sheet changes for a ceremony: for `in` a new stay for each person, for `out`
-/// the open stays of the people with their end. `stays` are all stays of the register, or at least
-/// those of the ceremony and of the people; `mark` is the ceremony's mark, and `full` says that the
-/// register takes no more commands. The first refusal that holds, of: `Late` with the mark, the
-/// moment is not later than the mark; `Turn` with the first of the people, in the order of the
-/// request, who has a row at the moment or later, or who for `in` is in some room, or for `out` is
-/// not in the room of this ceremony; then, of the ceremony's stays as they would be after the whole
-/// request, at every moment: `Crowd`, more than 128 people would be in the room; `Lone` with the first
-/// moment at which exactly one would be; `Full`, for `in` there would be more than 1,000 `in` rows,
-/// or the register is full. A refusal changes nothing. `Memory` comes where memory runs out.
+/// the open stays of the people with their end. `stays` are all stays of the register, or at least those
+/// of the ceremony that last to the moment, and of each of the people the last one; `entered` is how many
+/// stays the ceremony has in all, `mark` is its mark, and `full` says that the register takes no more
+/// commands. The first refusal that holds, of: `Late` with the mark, the moment is not later than the
+/// mark; `Turn` with the first of the people, in the order of the request, who has a row at the moment or
+/// later, or who for `in` is in some room, or for `out` is not in the room of this ceremony; then, of the
+/// room as it would be after the whole request, at its moment and at every later one: `Crowd`, more than
+/// 128 people would be in it; `Lone` with the first moment at which exactly one would be; `Full`, for `in`
+/// there would be more than 1,000 `in` rows, or the register is full. What was before the moment the
+/// request does not change. A refusal changes nothing. `Memory` comes where memory runs out.
 pub fn add_stays(
     alloc: Global,
     stays: &[Stay],
+    entered: usize,
     mark: Moment,
     full: bool,
     request: &Request<'_>,
 ) -> Result<Vec<Stay>, Refusal>
     ensures { let asked : Request = request.now in MatchResult result
         (λ changed. (Adding.stays_refusal
-        stays.now asked.ceremony mark full asked.way asked.people.now asked.at ≡ None)
+        stays.now entered asked.ceremony mark full asked.way asked.people.now asked.at ≡ None)
         × (changed.items ≡ Adding.changed_stays stays.now asked.ceremony asked.way asked.people.now asked.at))
         (λ refusal. refusal ≢ Memory
-        → Adding.stays_refusal stays.now asked.ceremony mark full asked.way asked.people.now asked.at
+        → Adding.stays_refusal stays.now entered asked.ceremony mark full asked.way asked.people.now asked.at
         ≡ Some refusal) }
 {
     if request.at <= mark {
@@ -283,8 +310,9 @@ pub fn add_stays(
     if let Some(who) = first_out_of_turn(stays, request) {
         return Err(Refusal::Turn { who });
     }
-    let later = after(alloc, stays, request)?;
-    if let Some(refusal) = later_refusal(alloc, &later, request.ceremony, full, request.way)? {
+    let later = later(alloc, stays, request)?;
+    let full = full || is_overfull(entered, request);
+    if let Some(refusal) = later_refusal(alloc, &later, request.ceremony, full)? {
         return Err(refusal);
     }
     let changed = changed_stays(alloc, stays, request)?;

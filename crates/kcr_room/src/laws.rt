@@ -9,8 +9,9 @@ ghost use Rattle.kcr_room.specs.Stays;
 ghost use Rattle.kcr_room.specs.declared.SheetRow.{SheetRow};
 ghost use Rattle.kcr_room.specs.declared.Stay.{Stay};
 
-/// A law: a sheet answers as its stays do. By both the same people are in a room, and as many; and of
-/// a sheet made in turn both refuse a request alike, and are changed alike by one that is not refused.
+/// A law: a sheet answers as its stays do. By both the same people are in a room, and as many. Of a
+/// sheet made in turn both are changed alike by a request that is not refused, and where in the room of
+/// the ceremony nobody was ever alone, nor too many, both refuse a request alike.
 pub fn sheets_answer_as_stays()
     ensures present { Laws.SamePresent }
     ensures crowd { Laws.SameCrowd }

@@ -19,6 +19,22 @@ pub(crate) fn lasts_at(at: Moment, until: Option<Moment>) -> bool
     }
 }
 
+fn lasts_to(at: Moment, until: Option<Moment>) -> bool
+    ensures { result ≡ Stays.lasts_to at until }
+{
+    match until {
+        None => true,
+        Some(until) => at <= until,
+    }
+}
+
+/// Whether the stay is of the ceremony and has no end, or ends at the moment or later.
+pub fn is_lasting(ceremony: u32, at: Moment, stay: &Stay) -> bool
+    ensures { result ≡ Stays.is_lasting ceremony at stay.now }
+{
+    stay.ceremony == ceremony && lasts_to(at, stay.until)
+}
+
 /// Whether the stay is of the ceremony, begins at the moment or before, and ends, if at all, later.
 pub fn holds(ceremony: u32, at: Moment, stay: Stay) -> bool
     ensures { result ≡ Stays.holds ceremony at stay }

@@ -6,8 +6,10 @@
 #![tactic(auto)]
 
 pub mod cells;
+mod count;
 mod rows;
 pub mod statements;
 pub mod stored;
 
+pub use count::Count;
 pub use rows::Version;

@@ -2,7 +2,6 @@ pub mod Own
 pub mod Unless
 pub mod BagsTold
 pub mod RoomTold
-pub mod LastStays
 pub mod Plain
 pub mod NotFull
 pub mod Told

@@ -6,7 +6,6 @@ ghost use Rattle.kcr_base.specs.Refuse.{Tests, is_not_later};
 ghost use Rattle.kcr_room.specs.Adding;
 ghost use Rattle.kcr_room.specs.declared.Request.{Request};
 ghost use Rattle.kcr_history.specs.declared.views.View.{View};
-ghost use Rattle.kcr_history.specs.Views;
 ghost use Rattle.kcr_history.specs.declared.commands.Act.TheVariants as Kinds;
 ghost use Rattle.kcr_history.specs.declared.views.Change.TheVariants.{PutSheet, PutStay};
 ghost use Rattle.kcr_rules.specs.ByRows.{ComesTo};
@@ -17,61 +16,8 @@ use crate::scene::{is_open_state, known, mark};
 use kcr_base::{Initials, Moment, Refusal, Thing, is_among};
 use kcr_history::{Change, View};
 use kcr_people::Person;
-use kcr_room::{Request, SheetRow, Stay, stays_in};
+use kcr_room::{Request, SheetRow, Stay};
 use std::alloc::{AllocError, Global};
-
-/// The later of a stay found so far and a further one.
-fn later(found: Option<Stay>, stay: Stay) -> Option<Stay>
-    ensures { result ≡ SheetRows.next_last_of found stay }
-{
-    match found {
-        Some(other) if stay.since <= other.since => Some(other),
-        _ => Some(stay),
-    }
-}
-
-/// The same where the further one is the person's.
-fn later_own(found: Option<Stay>, who: Initials, stay: Stay) -> Option<Stay>
-    ensures { result ≡ SheetRows.next_last who found stay }
-{
-    if stay.who == who {
-        later(found, stay)
-    } else {
-        found
-    }
-}
-
-/// The stay of a person that began last.
-#[tactic(auto, using(crate::proofs::LastStays::further_stay))]
-fn last_stay(stays: &[Stay], who: Initials) -> Option<Stay>
-    ensures { result ≡ Views.last_stay stays.now who }
-{
-    let mut found: Option<Stay> = None;
-    for stay in stays {
-        found = later_own(found, who, *stay);
-    }
-    found
-}
-
-/// The stays that a request bears on: those of the ceremony, and of the people the last ones elsewhere.
-fn stays_of_request(
-    alloc: Global,
-    stays: &[Stay],
-    request: &Request<'_>,
-) -> Result<Vec<Stay>, AllocError>
-    ensures { IfOk result (λ some.
-        some.items ≡ SheetRows.stays_of_request stays.now request.now.ceremony request.now.people.now) }
-{
-    let mut some = stays_in(alloc, stays, request.ceremony)?;
-    for who in request.people {
-        if let Some(stay) = last_stay(stays, *who)
-            && stay.ceremony != request.ceremony
-        {
-            some.push(stay)?;
-        }
-    }
-    Ok(some)
-}
 
 /// The first of the people who is not in the register.
 fn first_unknown(rows: &[Person], people: &[Initials]) -> Option<Initials>
@@ -175,8 +121,7 @@ impl Premises<'_> {
             view self.now.is_full asked.ceremony asked.way asked.people.now asked.at in
             MatchResult result
             (λ changed. (first ≡ None) × (changed.items ≡ Adding.changed_stays
-            (SheetRows.stays_of_request view.stays.items asked.ceremony asked.people.now)
-            asked.ceremony asked.way asked.people.now asked.at))
+            view.stays.items asked.ceremony asked.way asked.people.now asked.at))
             (λ refusal. refusal ≢ Memory → first ≡ Some refusal) }
     {
         let Some(mark) = mark(self.view, request.ceremony) else {
@@ -186,8 +131,14 @@ impl Premises<'_> {
         if let Some(who) = first_twice(request.people) {
             return Err(Refusal::Turn { who });
         }
-        let stays = stays_of_request(self.alloc, &self.view.stays, request)?;
-        kcr_room::add_stays(self.alloc, &stays, mark, self.is_full, request)
+        kcr_room::add_stays(
+            self.alloc,
+            &self.view.stays,
+            self.view.entries,
+            mark,
+            self.is_full,
+            request,
+        )
     }
 
     /// Lists people who come into the room of a ceremony, or go out of it: the rows to put, or the first refusal.

@@ -26,7 +26,8 @@ use Rattle.kcr_history.specs.Custody.{spot}
 use Rattle.kcr_history.specs.Machine.{IsRegister}
 use Rattle.kcr_history.specs.Room.{sheet, present}
 use Rattle.kcr_history.specs.Tables.{Tables, SameTables, tables, items, bags, ceremonies, ceremony_row, planned_number}
-use Rattle.kcr_history.specs.Views.{is_of_serial, is_of_number, is_stay_of}
+use Rattle.kcr_history.specs.Views.{is_of_serial, is_of_number}
+use Rattle.kcr_room.specs.Stays.{is_lasting}
 use Rattle.kcr_machine.proofs.BagsWords.{spot-shown}
 use Rattle.kcr_laws.proofs.Staffed.{holder-all}
 use Rattle.kcr_machine.proofs.InRoom.{present-shown}
@@ -104,11 +105,11 @@ module _ (A : History) (register : IsRegister A) (t : Tables) (same : SameTables
       says false e = subst Says (sym (first ∙ rw e at (ceremony-shown A ceremony t.ceremonies ordered))) (inr (e, refl))
 
   -- who is in the room
-  pub present_shown : (ceremony at : ℕ) (rows : List Stay) → IsPermutation (filter (is_stay_of ceremony) t.stays) rows
+  pub present_shown : (ceremony at : ℕ) (rows : List Stay) → IsPermutation (filter (is_lasting ceremony at) t.stays) rows
       → present_in_by rows ceremony at ≡ present A ceremony at
   present_shown ceremony at rows are =
-      let of_it = is_stay_of ceremony in
+      let of_it = is_lasting ceremony at in
       let stored = filter-order of_it (reverse (stays_by (sheet A))) t.stays same.stays in
       let kept : IsPermutation (filter of_it t.stays) (filter of_it rows) =
       subst (λ l. IsPermutation l (filter of_it rows)) (twice of_it t.stays) (filter-order of_it (filter of_it t.stays) rows are) in
-      present-shown A ceremony rows (IsPermutation-trans _ _ _ stored kept) at
+      present-shown A ceremony at rows (IsPermutation-trans _ _ _ stored kept)

@@ -31,7 +31,7 @@ use kcr_machine::{decide, refused_ahead, repeat};
 use kcr_people::{Appointment, Person, Training, Withdrawal};
 use kcr_reading::Reading;
 use kcr_room::present_in;
-use kcr_tables::{all_rows, completed, front_of, make_changes, rows_under, stays_of};
+use kcr_tables::{all_rows, completed, front_of, make_changes, rows_under, stays_lasting_to};
 use sqlite::{Alter, Connection, Error, ErrorCode, Transaction};
 use std::alloc::Global;
 
@@ -308,7 +308,7 @@ fn read_room<S: Alter>(
             thing: Thing::Ceremony(number),
         });
     }
-    let stays = stays_of(alloc, tx, number)?;
+    let stays = stays_lasting_to(alloc, tx, number, at)?;
     let people = present_in(alloc, &stays, number, at)?;
     Ok(RoomShown { at, people })
 }

@@ -79,6 +79,7 @@ pub(crate) fn all_of<S: Alter>(
         steps,
         seatings,
         stays,
+        entries: 0,
         exceptions,
     };
     Ok(WholeView { asked, sheet, keys })

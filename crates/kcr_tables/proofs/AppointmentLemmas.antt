@@ -1,5 +1,5 @@
 -- What is shown of appointments: of a place and of a person the one that began last.
-use Rattle.std.proofs.Common.{◌≡◌, inl, inr, ◌≤◌, ◌&&◌, nat_le, Bool, true, ℕ, List, [], ◌∷◌, ◌++◌, filter, refl, sym, subst}
+use Rattle.std.proofs.Common.{◌≡◌, inl, inr, ◌≤◌, ◌&&◌, nat_le, Bool, true, ℕ, List, ◌++◌, filter, refl, sym, subst}
 use Rattle.std.specs.List.{list_any}
 use Rattle.std.specs.List.Sorted.{IsPermutation}
 use Rattle.std.proofs.lemmas.Bool.{and_from, le-leb}
@@ -16,12 +16,7 @@ use Rattle.kcr_history.specs.declared.views.Selection.TheVariants.{Nothing, Unde
 use Rattle.kcr_history.specs.Views.{ShowsLastOf, ShowsAppointmentsOf, ShowsAppointments, is_appointment_to, is_appointment_of}
 use Rattle.kcr_base.specs.declared.place.Place.{Place}
 use Rattle.kcr_rows.specs.Greatest.{IsGreatest}
-use Rattle.kcr_tables.proofs.HasLemmas.{filter_from, filter_to, filter_is}
-
-is_in : (x : Appointment) (xs : List Appointment) → Has xs x → IsIn x xs
-is_in x [] h = h
-is_in x (y ∷ xs) (inl same) = inl same
-is_in x (y ∷ xs) (inr h) = inr (is_in x xs h)
+use Rattle.kcr_tables.proofs.HasLemmas.{has_in, filter_from, filter_to, filter_is}
 
 -- where the row passes, one that is shown passes too and begins no earlier
 abbrev Reached : (Appointment → Bool) → List Appointment → Appointment → Type 0
@@ -35,7 +30,7 @@ module _ (test : Appointment → Bool) (table shown : List Appointment) (last : 
   pub from_table : (x : Appointment) → IsIn x shown → IsIn x table
   from_table x i = elim last [
     | inl none ↦ absurd (subst (IsIn x) none.1 i)
-    | inr some ↦ is_in x table
+    | inr some ↦ has_in x table
         (filter_from test table x (elim (subst (IsIn x) some.1 i) [ inl same ↦ subst (Has (filter test table)) (sym same) some.2 | inr none ↦ absurd none ]))
   ]
 

@@ -7,9 +7,21 @@ use Rattle.sqlite.specs.Order.{Row}
 use Rattle.sqlite.specs.Tree.{IsAscending}
 use Rattle.sqlite_rules.specs.Lists.{Has}
 use Rattle.sqlite_rules.proofs.ListLemmas.{all_has}
+use Rattle.kcr_base.specs.Rows.{IsIn}
 use Rattle.kcr_rows.specs.Keyed.{by_key}
 use Rattle.kcr_rows.proofs.SameLemmas.{key_total}
 use Rattle.kcr_rows.proofs.OrderLemmas.{from_map}
+
+-- two ways to say that a list has an element
+pub has_in : {X : Type 0} (x : X) (xs : List X) → Has xs x → IsIn x xs
+has_in x [] h = h
+has_in x (y ∷ xs) (inl same) = inl same
+has_in x (y ∷ xs) (inr h) = inr (has_in x xs h)
+
+pub in_has : {X : Type 0} (x : X) (xs : List X) → IsIn x xs → Has xs x
+in_has x [] i = i
+in_has x (y ∷ xs) (inl same) = inl same
+in_has x (y ∷ xs) (inr i) = inr (in_has x xs i)
 
 abbrev Found : {X : Type 0} → (X → Bool) → List X → X → Type 0
 Found p xs x = Has xs x × (p x ≡ true)

@@ -1,4 +1,5 @@
 pub mod AppointmentLemmas
+pub mod CountLemmas
 pub mod ExactLemmas
 pub mod FirstLemmas
 pub mod FrameLemmas

@@ -1,44 +1,53 @@
--- The text that shows the stays of a ceremony in the order of their beginnings.
-use Rattle.std.proofs.Common.{◌≡◌, ℕ, pos, negsuc, List, [], ◌∷◌, filter, codes, Option, Some, None, refl, sym, ◌∙◌}
+-- The text that shows the stays of a ceremony that last to a moment, in the order of their beginnings.
+use Rattle.std.proofs.Common.{◌≡◌, ℕ, pos, negsuc, ◌&&◌, ◌||◌, not, ◌==◌, Bool, true, false, List, [], ◌∷◌, filter, codes, Option, Some, None, refl, sym, ap, ◌∙◌}
+use Rattle.std.specs.Ordering.{is_ge, is_eq}
+use Rattle.std.proofs.lemmas.Cmp.{tied_itself}
 use Rattle.sqlite.specs.declared.types.Value.{Value}
 use Rattle.sqlite.specs.declared.types.Value.TheVariants.{Null, Int, Real, Text, Blob}
-use Rattle.sqlite.specs.Order.{Row, column}
-use Rattle.sqlite.specs.Query.{key_cmp}
-use Rattle.sqlite.specs.Term.{col}
+use Rattle.sqlite.specs.Order.{Row, column, value_cmp}
+use Rattle.sqlite.specs.Ops.{is_null, is_true, truth, from_truth, or3, binary}
+use Rattle.sqlite.specs.Term.{Term, lit, col, op2}
 use Rattle.sqlite.specs.Collation.TheVariants.{Binary}
 use Rattle.sqlite.specs.Listing.{understood}
-use Rattle.sqlite_value.specs.Keys.{ascending, rising}
+use Rattle.sqlite_schema.specs.Rules.{equal}
+use Rattle.sqlite_sql.specs.declared.ops.BinaryOp.TheVariants.{Compare, Is, Or}
+use Rattle.sqlite_sql.specs.declared.ops.CompareOp.TheVariants.{Eq, Ge}
+use Rattle.sqlite_value.specs.Keys.{ascending}
+use Rattle.sqlite_value.proofs.OrderLemmas.{value_cmp-Int, value_cmp_total}
 use Rattle.sqlite_tied.specs.Compute.{everything}
-use Rattle.kcr_history.specs.Views.{is_stay_of}
 use Rattle.kcr_room.specs.declared.Stay.{Stay}
+use Rattle.kcr_room.specs.Stays.{is_lasting, lasts_to}
 use Rattle.kcr_rows.specs.Rows.{stay_row}
 use Rattle.kcr_rows.specs.Values.{int_or_null}
 use Rattle.kcr_rows.proofs.FilterLemmas.{filter_as, value_is}
 use Rattle.kcr_rows.proofs.SameLemmas.{number_ties}
-use Rattle.kcr_tables.specs.Exact.{has_number}
+use Rattle.kcr_tables.specs.Exact.{has_number, is_lasting_row}
 use Rattle.kcr_tables.specs.Held.{stays_place}
 use Rattle.kcr_tables.specs.Parts.{text_in, number_in}
-use Rattle.kcr_tables.specs.Statements.{is_given, Choice, Shows}
+use Rattle.kcr_tables.specs.Statements.{ShowsPassing}
 use Rattle.kcr_tables.specs.StaysLaws as laws
+use Rattle.kcr_tables.proofs.TrainingLemmas.{number_from}
 
 abbrev pub room_sql : List ℕ
-room_sql = codes "SELECT who, since, ceremony, until FROM stays WHERE ceremony = ?1 ORDER BY since, who"
+room_sql = codes "SELECT who, since, ceremony, until FROM stays WHERE ceremony = ?1 AND (until IS NULL OR until >= ?2) ORDER BY since, who"
 
-abbrev rank : Row → Row
-rank row = column row 1 ∷ column row 0 ∷ []
+abbrev room_test : List Term
+room_test =
+    op2 (Compare Eq Binary) (col 1 3) (col 0 0)
+    ∷ op2 Or (op2 (Is Binary) (col 1 4) (lit Null)) (op2 (Compare Ge Binary) (col 1 4) (col 0 1))
+    ∷ []
 
--- those of the ceremony, by their beginnings and then by the people
-abbrev pub by_beginning : ℕ → Choice
-by_beginning ceremony = record {
-  passes = has_number 2 ceremony;
-  rank = rank;
-  compare = λ a b. key_cmp 0 (rising 2 []) (rank a) (rank b);
-}
+-- whether there is no end, or one from the moment on, as the text tests it
+abbrev ends_from : Value → ℕ → Bool
+ends_from until at = is_true (binary Or (binary (Is Binary) until Null) (binary (Compare Ge Binary) until (Int (pos at))))
 
-pub room_shows : (ceremony : ℕ) → Shows room_sql stays_place (Int (pos ceremony) ∷ []) (by_beginning ceremony) (negsuc 0)
+abbrev pub passes : ℕ → ℕ → Row → Bool
+passes ceremony at row = equal Binary (column row 2) (Int (pos ceremony)) && (ends_from (column row 3) at && true)
+
+pub room_shows : (ceremony at : ℕ) → ShowsPassing room_sql stays_place (Int (pos ceremony) ∷ Int (pos at) ∷ []) (passes ceremony at)
 unfolding understood everything
-room_shows ceremony = record {
-  test = is_given 3;
+room_shows ceremony at = record {
+  test = room_test;
   project = laws.project;
   order = (col 1 2, ascending Binary) ∷ (col 1 1, ascending Binary) ∷ [];
   names = laws.names;
@@ -46,9 +55,56 @@ room_shows ceremony = record {
   is = refl;
 }
 
-pub stays_in : (ceremony : ℕ) (all : List Stay) → filter (λ x. has_number 2 ceremony (stay_row x)) all ≡ filter (is_stay_of ceremony) all
-stays_in ceremony =
-    filter_as _ _ (λ x. value_is (Int (pos x.ceremony)) (Int (pos ceremony)) refl refl ∙ sym (number_ties x.ceremony ceremony))
+-- whether one of two tests passes, as SQL tells it
+abbrev either : Bool → Bool → Bool
+either a b = is_true (from_truth (or3 (truth (from_truth (Some a))) (truth (from_truth (Some b)))))
+
+either_is : (b : Bool) → either false b ≡ b
+either_is true = refl
+either_is false = refl
+
+nothing_is : (v : Value) → is_eq (value_cmp v Null) ≡ is_null v
+unfolding value_cmp
+nothing_is Null = ap is_eq (tied_itself value_cmp_total Null)
+nothing_is (Int m) = refl
+nothing_is (Real x) = refl
+nothing_is (Text t) = refl
+nothing_is (Blob b) = refl
+
+-- there is nothing, or what there is is at least the moment
+ends_is : (v : Value) (n : ℕ) → ends_from v n ≡ (is_null v || (not (is_null v) && is_ge (value_cmp v (Int (pos n)))))
+unfolding binary
+ends_is Null n = ap (λ a. is_true (from_truth (or3 (truth (from_truth (Some a))) None))) (nothing_is Null)
+ends_is (Int m) n = let b = is_ge (value_cmp (Int m) (Int (pos n))) in ap (λ a. either a b) (nothing_is (Int m)) ∙ either_is b
+ends_is (Real x) n = let b = is_ge (value_cmp (Real x) (Int (pos n))) in ap (λ a. either a b) (nothing_is (Real x)) ∙ either_is b
+ends_is (Text t) n = let b = is_ge (value_cmp (Text t) (Int (pos n))) in ap (λ a. either a b) (nothing_is (Text t)) ∙ either_is b
+ends_is (Blob c) n = let b = is_ge (value_cmp (Blob c) (Int (pos n))) in ap (λ a. either a b) (nothing_is (Blob c)) ∙ either_is b
+
+-- the text's test is that the row is of the ceremony and lasts to the moment
+pub passes_row : (ceremony at : ℕ) (row : Row) → passes ceremony at row ≡ is_lasting_row ceremony at row
+passes_row ceremony at row = both (equal Binary (column row 2) (Int (pos ceremony))) _ _ (ends_is (column row 3) at)
+  where
+    both : (a b c : Bool) → b ≡ c → (a && (b && true)) ≡ ((a && true) && c)
+    both true true c e = e
+    both true false c e = e
+    both false b c e = refl
+
+-- so it is of a stay
+pub passes_stay : (ceremony at : ℕ) (x : Stay) → passes ceremony at (stay_row x) ≡ is_lasting ceremony at x
+passes_stay ceremony at x =
+    passes_row ceremony at (stay_row x)
+    ∙ (λ i. of_number i && lasting x.until i)
+  where
+    of_number : has_number 2 ceremony (stay_row x) ≡ (x.ceremony == ceremony)
+    of_number = value_is (Int (pos x.ceremony)) (Int (pos ceremony)) refl refl ∙ sym (number_ties x.ceremony ceremony)
+
+    lasting : (until : Option ℕ)
+        → (is_null (int_or_null until) || (not (is_null (int_or_null until)) && is_ge (value_cmp (int_or_null until) (Int (pos at))))) ≡ lasts_to at until
+    lasting None = refl
+    lasting (Some until) = ap is_ge (value_cmp-Int (pos until) (pos at)) ∙ number_from until at
+
+pub stays_in : (ceremony at : ℕ) (all : List Stay) → filter (λ x. passes ceremony at (stay_row x)) all ≡ filter (is_lasting ceremony at) all
+stays_in ceremony at = filter_as _ _ (passes_stay ceremony at)
 
 -- ---- the stay that a row tells
 

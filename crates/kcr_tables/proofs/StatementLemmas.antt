@@ -1,12 +1,12 @@
 -- What the statements of a table do, from what it proves of their texts.
-use Rattle.std.proofs.Common.{◌≡◌, inl, inr, ℕ, negsuc, Bool, List, [], map, filter, Ok, sym, ap, subst, subst₂, ◌∙◌, IsPermutation}
+use Rattle.std.proofs.Common.{◌≡◌, inl, inr, ℕ, negsuc, Bool, List, [], ◌∷◌, map, filter, Ok, sym, ap, subst, subst₂, ◌∙◌, IsPermutation}
 use Rattle.std.specs.List.{AllByRecursion}
 use Rattle.std.proofs.lemmas.List.{map-id}
 use Rattle.std.proofs.lemmas.List.Sorted.{IsPermutation-map, IsPermutation-trans}
 use Rattle.sqlite.specs.declared.types.Value.TheVariants.{Null}
 use Rattle.sqlite.specs.Order.{Row}
 use Rattle.sqlite.specs.Program.{overlay}
-use Rattle.sqlite.specs.Query.{Output, IsAnswer}
+use Rattle.sqlite.specs.Query.{Output, IsAnswer, output}
 use Rattle.sqlite.specs.State.{State, Shown, Executes}
 use Rattle.sqlite.proofs.Callers.{reads_as}
 use Rattle.sqlite_trees.proofs.ListLemmas.{map-map, filter-map, IsPermutation-filter}
@@ -15,13 +15,13 @@ use Rattle.kcr_rows.proofs.TableLemmas.{Changes, executes_insert, put_in_rows, s
 use Rattle.sqlite.specs.Tree.{Trees}
 use Rattle.kcr_rows.proofs.OrderLemmas.{put_in_all}
 use Rattle.kcr_rows.proofs.FilterLemmas.{filter_as}
-use Rattle.kcr_rows.proofs.ReadLemmas.{asking, kept_cells}
+use Rattle.kcr_rows.proofs.ReadLemmas.{asking, kept_from}
 use Rattle.kcr_rows.proofs.UpsertLemmas.{executes_upsert}
 use Rattle.kcr_rows.proofs.UpdateLemmas.{Updated, executes_update}
 use Rattle.kcr_tables.specs.Schema.{register_schema}
 use Rattle.kcr_tables.specs.Exact.{rows_at}
 use Rattle.kcr_tables.specs.Held.{Tables, Holds}
-use Rattle.kcr_tables.specs.Statements.{Choice, Shows, ShowsRows, UpsertsRow, InsertsRow, UpdatesRow, PutsRow}
+use Rattle.kcr_tables.specs.Statements.{ShowsRows, ShowsPassing, UpsertsRow, InsertsRow, UpdatesRow, PutsRow}
 use Rattle.kcr_tables.specs.Table.{Table, IsTable, with_put}
 
 module _ {X : Type 0} (sql : List ℕ) (place : Place) (params : Row) (passes : Row → Bool) (s : ShowsRows sql place params passes) (row_of : X → Row) where
@@ -42,32 +42,34 @@ module _ {X : Type 0} (sql : List ℕ) (place : Place) (params : Row) (passes : 
       shown_exact place register_schema sql params s.test s.project s.order s.names passes (λ i. (s.is i).command, λ i. (s.is i).reads_catalog) s.bare
       (λ r i. (s.is i).shows r) (λ r i. (s.is i).passes r) (λ a b i. (s.is i).compares a b) (λ i. (s.is i).is_far) row_of old new xs has h
 
--- a text with an order of its own
-module _ {place : Place} {sql : List ℕ} {params : Row} {choice : Choice} (s : Shows sql place params choice (negsuc 0)) where
+-- a text whose order is of no account
+module _ {place : Place} {sql : List ℕ} {params : Row} {passes : Row → Bool} (s : ShowsPassing sql place params passes) where
   -- whatever the tree has, its rows that pass are shown
   pub passing_rows : (old new : State) (rows : List Row) → old.now.schema ≡ register_schema → Shown sql params old new rows
-      → IsPermutation (filter choice.passes (rows_at place old.now.trees)) rows
+      → IsPermutation (filter passes (rows_at place old.now.trees)) rows
   passing_rows old new rows has h =
+      let query = asking place.tree s.test s.project s.order (negsuc 0) in
       let read = reads_as sql params old new register_schema has _ (λ i. (s.is i).command) s.bare (λ i. (s.is i).reads_catalog) rows h in
-      let a : IsAnswer (asking place.tree s.test s.project s.order (negsuc 0)) (overlay old.now.trees []) params rows = read.answer Null in
-      let out : Row → Output = λ row. (choice.rank row, row) in
+      let a : IsAnswer query (overlay old.now.trees []) params rows = read.answer Null in
       let second = λ (o : Output). o.1 in
-      let passed = filter choice.passes (rows_at place old.now.trees) in
-      let kept : a.kept ≡ map out passed = kept_cells place s.test s.project s.order (negsuc 0) params choice.passes out
-      (λ r i. (s.is i).shows r) (λ r i. (s.is i).passes r) (λ i. (s.is i).is_far) old.now.trees rows a in
-      let firsts : map second a.kept ≡ passed = ap (map second) kept ∙ map-map second out passed ∙ map-id passed in
-      subst₂ IsPermutation firsts (sym a.shown) (IsPermutation-map second _ _ a.same)
+      let entries = old.now.trees place.tree in
+      let shown : map second a.kept ≡ filter passes (rows_at place old.now.trees) =
+      ap (map second) (kept_from place.tree s.test s.project s.order (negsuc 0) params (λ i. (s.is i).is_far) old.now.trees rows a)
+      ∙ map-map second (λ r. output query (params ∷ r ∷ [])) _
+      ∙ (λ i. map (λ r. (s.is i).shows r) (filter (λ r. (s.is i).passes r) entries))
+      ∙ sym (filter-map passes (cells place) entries) in
+      subst₂ IsPermutation shown (sym a.shown) (IsPermutation-map second _ _ a.same)
 
   -- where each value is told by its row, the values are those whose rows pass
   pub passing_values : {X : Type 0} (row_of : X → Row) (value_in : Row → X) → ((x : X) → value_in (row_of x) ≡ x) → (old new : State) (xs ys : List X)
       → old.now.schema ≡ register_schema → Shown sql params old new (map row_of xs) → Keeps place old.now.trees (map row_of ys)
-      → IsPermutation (filter (λ y. choice.passes (row_of y)) ys) xs
+      → IsPermutation (filter (λ y. passes (row_of y)) ys) xs
   passing_values {X} row_of value_in told old new xs ys has h keeps =
-      let mine = filter (λ y. choice.passes (row_of y)) ys in
+      let mine = filter (λ y. passes (row_of y)) ys in
       let back : (l : List X) → map value_in (map row_of l) ≡ l = λ l. map-map value_in row_of l ∙ (λ i. map (λ x. told x i) l) ∙ map-id l in
-      let passed : IsPermutation (map row_of mine) (filter choice.passes (rows_at place old.now.trees)) =
-      subst (λ l. IsPermutation l (filter choice.passes (rows_at place old.now.trees))) (filter-map choice.passes row_of ys)
-      (IsPermutation-filter choice.passes _ _ keeps.same) in
+      let passed : IsPermutation (map row_of mine) (filter passes (rows_at place old.now.trees)) =
+      subst (λ l. IsPermutation l (filter passes (rows_at place old.now.trees))) (filter-map passes row_of ys)
+      (IsPermutation-filter passes _ _ keeps.same) in
       subst₂ IsPermutation (back mine) (back xs)
       (IsPermutation-map value_in _ _ (IsPermutation-trans _ _ _ passed (passing_rows old new (map row_of xs) has h)))
 

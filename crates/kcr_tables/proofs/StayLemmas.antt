@@ -5,23 +5,26 @@ use Rattle.std.specs.List.{AllByRecursion}
 use Rattle.std.proofs.lemmas.Bool.{eq-eqb}
 use Rattle.std.proofs.lemmas.Bool.Decides.{nat_tests}
 use Rattle.std.proofs.lemmas.Slice.Eq.{bytes_eq-Decides}
-use Rattle.std.proofs.lemmas.List.Sorted.{IsPermutation-sym, IsPermutation-trans, IsPermutation-append_left}
+use Rattle.std.proofs.lemmas.List.Sorted.{IsPermutation-sym, IsPermutation-trans, IsPermutation-append_left, sum_by-IsPermutation}
 use Rattle.sqlite.specs.Tree.{IsAscending}
 use Rattle.sqlite_rules.specs.Lists.{Has}
 use Rattle.sqlite_rules.proofs.ListLemmas.{all_has}
 use Rattle.sqlite_trees.proofs.ListLemmas.{IsPermutation-filter, all-append}
 use Rattle.kcr_base.specs.Same.{same_text}
+use Rattle.kcr_base.proofs.Members.{in-order}
+use Rattle.kcr_room.specs.Adding.{of_ceremony}
+use Rattle.kcr_room.specs.Stays.{is_lasting}
 use Rattle.kcr_room.specs.declared.Stay.{Stay}
 use Rattle.kcr_history.specs.declared.views.StaysOf.{StaysOf}
 use Rattle.kcr_history.specs.declared.views.Selection.{Selection}
 use Rattle.kcr_history.specs.declared.views.Selection.TheVariants.{Nothing, Under, All}
-use Rattle.kcr_history.specs.Views.{is_stay_of, later_stay, last_of, last_stay, ShowsLast, ShowsStaysOf, ShowsStays}
+use Rattle.kcr_history.specs.Views.{later_stay, last_of, last_stay, ShowsLast, ShowsStaysOf, ShowsStays, ShowsEntries}
 use Rattle.kcr_rows.specs.Keyed.{by_key}
 use Rattle.kcr_rows.specs.Greatest.{IsGreatest}
 use Rattle.kcr_rows.proofs.PutLemmas.{has_same}
 use Rattle.kcr_rows.specs.Rows.{stay_row}
 use Rattle.kcr_tables.proofs.JointLemmas.{key_of_stays}
-use Rattle.kcr_tables.proofs.HasLemmas.{has_append, has_left, has_right, filter_from, filter_to, filter_is, one_key_of}
+use Rattle.kcr_tables.proofs.HasLemmas.{has_in, in_has, has_append, has_left, has_right, filter_from, filter_to, filter_is, one_key_of}
 use Rattle.kcr_tables.proofs.NamedLemmas.{twice}
 
 -- ---- the stay of a list that began last
@@ -142,16 +145,16 @@ module _ (table rows : List Stay) (apart : Apart table) (within : (x : Stay) →
 
 -- ---- the rows gathered so far
 
-pub record Gathered (ceremony : ℕ) (people : List (List ℕ)) (table rows : List Stay) : Type 0 where
+pub record Gathered (mine : Stay → Bool) (people : List (List ℕ)) (table rows : List Stay) : Type 0 where
   pub more : List Stay
-  pub are : IsPermutation (filter (is_stay_of ceremony) table ++ more) rows
-  pub elsewhere : filter (is_stay_of ceremony) more ≡ []
+  pub are : IsPermutation (filter mine table ++ more) rows
+  pub elsewhere : filter mine more ≡ []
   pub there : (x : Stay) → Has more x → Has table x
   pub last : AllByRecursion (HasLast table rows) people
 
--- at first those of the ceremony
-pub room_gathered : (ceremony : ℕ) (table rows : List Stay) → IsPermutation (filter (is_stay_of ceremony) table) rows → Gathered ceremony [] table rows
-room_gathered ceremony table rows are = record {
+-- at first those that pass
+pub room_gathered : (mine : Stay → Bool) (table rows : List Stay) → IsPermutation (filter mine table) rows → Gathered mine [] table rows
+room_gathered mine table rows are = record {
   more = [];
   are = subst (λ l. IsPermutation l rows) (sym (append-nil _)) are;
   elsewhere = refl;
@@ -188,32 +191,32 @@ all_more : (table rows found : List Stay) (people : List (List ℕ)) → AllByRe
 all_more table rows found [] all = tt
 all_more table rows found (who ∷ people) all = ((all.0.0, all.0.1, λ x h. has_left rows found x (all.0.2 x h)), all_more table rows found people all.1)
 
-module _ (ceremony : ℕ) (people : List (List ℕ)) (table rows last found : List Stay) (who : List ℕ) (had : Gathered ceremony people table rows)
-    (greatest : IsGreatest (λ x. x.since) (filter (is_of who) table) last) (found_is : found ≡ filter (λ x. not (is_stay_of ceremony x)) last) where
+module _ (mine : Stay → Bool) (people : List (List ℕ)) (table rows last found : List Stay) (who : List ℕ) (had : Gathered mine people table rows)
+    (greatest : IsGreatest (λ x. x.since) (filter (is_of who) table) last) (found_is : found ≡ filter (λ x. not (mine x)) last) where
   in_table : (x : Stay) → Has last x → Has table x
   in_table x h = filter_from (is_of who) table x (greatest_there _ last greatest x h)
 
   here : (x : Stay) → Has last x → Has (rows ++ found) x
-  here x h = by_test (is_stay_of ceremony x) refl
+  here x h = by_test (mine x) refl
     where
-      by_test : (b : Bool) → is_stay_of ceremony x ≡ b → Has (rows ++ found) x
+      by_test : (b : Bool) → mine x ≡ b → Has (rows ++ found) x
       by_test true e = has_left rows found x
           (has_same _ rows x had.are
-          (has_left (filter (is_stay_of ceremony) table) had.more x (filter_to (is_stay_of ceremony) table x (in_table x h) e)))
-      by_test false e = has_right rows found x (subst (λ l. Has l x) (sym found_is) (filter_to (λ y. not (is_stay_of ceremony y)) last x h (ap not e)))
+          (has_left (filter mine table) had.more x (filter_to mine table x (in_table x h) e)))
+      by_test false e = has_right rows found x (subst (λ l. Has l x) (sym found_is) (filter_to (λ y. not (mine y)) last x h (ap not e)))
 
-  pub more_gathered : Gathered ceremony (people ++ who ∷ []) table (rows ++ found)
+  pub more_gathered : Gathered mine (people ++ who ∷ []) table (rows ++ found)
   more_gathered = record {
     more = had.more ++ found;
-    are = subst (λ l. IsPermutation l (rows ++ found)) (append_assoc (filter (is_stay_of ceremony) table) had.more found)
+    are = subst (λ l. IsPermutation l (rows ++ found)) (append_assoc (filter mine table) had.more found)
         (IsPermutation-append_left found _ rows had.are);
-    elsewhere = filter_more (is_stay_of ceremony) had.more found ∙ ap (λ l. l ++ filter (is_stay_of ceremony) found) had.elsewhere
-        ∙ ap (filter (is_stay_of ceremony)) found_is ∙ none_both (is_stay_of ceremony) last;
+    elsewhere = filter_more mine had.more found ∙ ap (λ l. l ++ filter mine found) had.elsewhere
+        ∙ ap (filter mine) found_is ∙ none_both mine last;
     there = λ x h. elim
         (has_append had.more found x h) [
           | inl before ↦ had.there x before
           | inr new ↦ in_table x
-              (filter_from (λ y. not (is_stay_of ceremony y)) last x (subst (λ l. Has l x) found_is new))
+              (filter_from (λ y. not (mine y)) last x (subst (λ l. Has l x) found_is new))
         ];
     last = all-append (HasLast table (rows ++ found)) people (who ∷ []) (all_more table rows found people had.last) ((last, greatest, here), tt);
   }
@@ -223,9 +226,10 @@ all_last : (table rows : List Stay) → Apart table → ((x : Stay) → Has rows
 all_last table rows apart within [] all = tt
 all_last table rows apart within (who ∷ people) all = (same_last table rows apart within who all.0, all_last table rows apart within people all.1)
 
-pub gathered_shows : (asked : StaysOf) (table rows : List Stay) → Apart table → Gathered asked.ceremony asked.people table rows → ShowsStaysOf asked table rows
+pub gathered_shows : (asked : StaysOf) (table rows : List Stay) → Apart table
+    → Gathered (is_lasting asked.ceremony asked.at) asked.people table rows → ShowsStaysOf asked table rows
 gathered_shows asked table rows apart had =
-    let mine = is_stay_of asked.ceremony in
+    let mine = is_lasting asked.ceremony asked.at in
     let within : (x : Stay) → Has rows x → Has table x = λ x h. elim
     (has_append (filter mine table) had.more x (has_same rows _ x (IsPermutation-sym _ rows had.are) h)) [
       | inl room ↦ filter_from mine table x room
@@ -236,6 +240,7 @@ gathered_shows asked table rows apart had =
     record {
       room = subst (λ l. IsPermutation l (filter mine rows)) room (IsPermutation-filter mine _ rows had.are);
       last = all_last table rows apart within asked.people had.last;
+      within = λ x i. has_in x table (within x (in_has x rows i));
     }
 
 -- ---- the same stays in another order
@@ -268,7 +273,13 @@ order_lasts xs ys rows apart same (who ∷ people) h = (h.0 ∙ sym (order_last 
 pub stays_shown : (asked : Selection StaysOf) (xs ys rows : List Stay) → Apart ys → IsPermutation xs ys → ShowsStays asked ys rows → ShowsStays asked xs rows
 stays_shown Nothing xs ys rows apart same h = tt
 stays_shown (Under asked) xs ys rows apart same h = record {
-  room = IsPermutation-trans _ _ _ (IsPermutation-filter (is_stay_of asked.ceremony) xs ys same) h.room;
+  room = IsPermutation-trans _ _ _ (IsPermutation-filter (is_lasting asked.ceremony asked.at) xs ys same) h.room;
   last = order_lasts xs ys rows apart same asked.people h.last;
+  within = λ x i. in-order x xs ys same (h.within x i);
 }
 stays_shown All xs ys rows apart same h = IsPermutation-trans _ _ _ same h
+
+-- and as many of a ceremony
+pub entries_shown : (asked : Option ℕ) (xs ys : List Stay) (count : ℕ) → IsPermutation xs ys → ShowsEntries asked ys count → ShowsEntries asked xs count
+entries_shown None xs ys count same h = tt
+entries_shown (Some ceremony) xs ys count same h = h ∙ sum_by-IsPermutation (λ s. cond (of_ceremony ceremony s) 1 0) xs ys same

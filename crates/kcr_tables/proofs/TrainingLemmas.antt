@@ -1,5 +1,6 @@
--- The text that shows the trainings that last to a day.
-use Rattle.std.proofs.Common.{◌≡◌, ℕ, pos, ◌&&◌, not, nat_le, Bool, true, false, List, [], ◌∷◌, codes, Some, refl, ap, ◌∙◌, arith}
+-- The text that shows the trainings that last to a day, and the training that a row tells.
+use Rattle.std.proofs.Common.{◌≡◌, ℕ, pos, ◌&&◌, not, nat_le, Bool, true, false, List, [], ◌∷◌, filter, find, codes, Some, refl, ap, ◌∙◌, arith}
+use Rattle.std.specs.Prelude.{unwrap_or}
 use Rattle.std.specs.Ordering.{is_ge, int_cmp}
 use Rattle.std.proofs.lemmas.Bool.Decides.{nat_tests}
 use Rattle.sqlite.specs.declared.types.Value.{Value}
@@ -11,18 +12,25 @@ use Rattle.sqlite.specs.Collation.TheVariants.{Binary}
 use Rattle.sqlite.specs.Listing.{understood}
 use Rattle.sqlite_sql.specs.declared.ops.BinaryOp.TheVariants.{Compare}
 use Rattle.sqlite_sql.specs.declared.ops.CompareOp.TheVariants.{Ge}
+use Rattle.sqlite_value.specs.Keys.{ascending}
 use Rattle.sqlite_value.proofs.OrderLemmas.{value_cmp-Int}
 use Rattle.sqlite_tied.specs.Compute.{everything}
+use Rattle.kcr_base.specs.declared.place.Role.{Role}
+use Rattle.kcr_base.specs.declared.place.Role.TheVariants.{Ca, Iw, Sa, Ssc1, Ssc2, Rkos, Sw}
+use Rattle.kcr_base.specs.Role.{role_text}
+use Rattle.kcr_base.specs.Same.{same_text}
 use Rattle.kcr_people.specs.declared.Training.{Training}
 use Rattle.kcr_history.specs.Views.{lasts_to}
 use Rattle.kcr_rows.specs.Rows.{training_row}
+use Rattle.kcr_rows.proofs.FilterLemmas.{filter_as}
 use Rattle.kcr_tables.specs.Exact.{has_from}
 use Rattle.kcr_tables.specs.Held.{trainings_place}
-use Rattle.kcr_tables.specs.Statements.{key_order, ShowsRows}
+use Rattle.kcr_tables.specs.Parts.{text_in, number_in}
+use Rattle.kcr_tables.specs.Statements.{ShowsPassing}
 use Rattle.kcr_tables.specs.TrainingsLaws as laws
 
 abbrev pub lasting_sql : List ℕ
-lasting_sql = codes "SELECT who, role, since, until FROM trainings WHERE until >= ?1 ORDER BY who, role, since, until"
+lasting_sql = codes "SELECT who, role, since, until FROM trainings WHERE until >= ?1 ORDER BY rowid"
 
 abbrev lasting_test : List Term
 lasting_test = op2 (Compare Ge Binary) (col 1 4) (col 0 0) ∷ []
@@ -31,17 +39,23 @@ lasting_test = op2 (Compare Ge Binary) (col 1 4) (col 0 0) ∷ []
 abbrev pub passes : ℕ → Row → Bool
 passes day row = is_true (binary (Compare Ge Binary) (column row 3) (Int (pos day))) && true
 
-pub lasting_shows : (day : ℕ) → ShowsRows lasting_sql trainings_place (Int (pos day) ∷ []) (passes day)
+pub lasting_shows : (day : ℕ) → ShowsPassing lasting_sql trainings_place (Int (pos day) ∷ []) (passes day)
 unfolding understood everything
-lasting_shows day =
-    record { test = lasting_test; project = laws.project; order = key_order trainings_place; names = laws.names; bare = (refl, refl); is = refl }
+lasting_shows day = record {
+  test = lasting_test;
+  project = laws.project;
+  order = (col 1 0, ascending Binary) ∷ [];
+  names = laws.names;
+  bare = (refl, refl);
+  is = refl;
+}
 
 truth_is : (b : Bool) → (is_true (from_truth (Some b)) && true) ≡ b
 truth_is true = refl
 truth_is false = refl
 
 -- NULL is not compared, and whatever else there is stands in the order of values
-at_least : (v : Value) (n : ℕ) → (is_true (binary (Compare Ge Binary) v (Int (pos n))) && true) ≡ (not (is_null v) && is_ge (value_cmp v (Int (pos n))))
+pub at_least : (v : Value) (n : ℕ) → (is_true (binary (Compare Ge Binary) v (Int (pos n))) && true) ≡ (not (is_null v) && is_ge (value_cmp v (Int (pos n))))
 unfolding binary
 at_least Null n = refl
 at_least (Int m) n = truth_is _
@@ -52,8 +66,34 @@ at_least (Blob b) n = truth_is _
 pub passes_row : (day : ℕ) (row : Row) → passes day row ≡ has_from 3 day row
 passes_row day row = at_least (column row 3) day
 
-number_from : (n day : ℕ) → is_ge (int_cmp (pos n) (pos day)) ≡ nat_le day n
+pub number_from : (n day : ℕ) → is_ge (int_cmp (pos n) (pos day)) ≡ nat_le day n
 number_from n day = grind (arith, nat_tests)
 
 pub passes_training : (day : ℕ) (x : Training) → passes day (training_row x) ≡ lasts_to day x
 passes_training day x = passes_row day (training_row x) ∙ ap is_ge (value_cmp-Int (pos x.until) (pos day)) ∙ number_from x.until day
+
+pub trainings_in : (day : ℕ) (all : List Training) → filter (λ x. passes day (training_row x)) all ≡ filter (lasts_to day) all
+trainings_in day = filter_as _ _ (passes_training day)
+
+-- ---- the training that a row tells
+
+abbrev roles : List Role
+roles = Ca ∷ Iw ∷ Sa ∷ Ssc1 ∷ Ssc2 ∷ Rkos ∷ Sw ∷ []
+
+abbrev role_in : List ℕ → Role
+role_in text = unwrap_or (find (λ role. same_text (role_text role) text) roles) Ca
+
+role_told : (role : Role) → role_in (role_text role) ≡ role
+role_told Ca = refl
+role_told Iw = refl
+role_told Sa = refl
+role_told Ssc1 = refl
+role_told Ssc2 = refl
+role_told Rkos = refl
+role_told Sw = refl
+
+abbrev pub training_in : Row → Training
+training_in row = record { who = text_in 0 row; role = role_in (text_in 1 row); since = number_in 2 row; until = number_in 3 row }
+
+pub training_told : (x : Training) → training_in (training_row x) ≡ x
+training_told x = λ i. record { who = x.who; role = role_told x.role i; since = x.since; until = x.until }

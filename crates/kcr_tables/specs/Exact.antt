@@ -1,6 +1,6 @@
 -- Of the rows that a decision asks for none is strange: each is the row of a value that is shown, whatever else the
 -- tables have.
-use Rattle.std.specs.Prelude.{◌≡◌, ◌⊎◌, ◌&&◌, not, ℕ, pos, Bool, List, [], ◌∷◌, ◌++◌, map, filter, Option, Some, None}
+use Rattle.std.specs.Prelude.{◌≡◌, ◌⊎◌, ◌&&◌, ◌||◌, not, ℕ, pos, Bool, List, [], ◌∷◌, ◌++◌, map, filter, Option, Some, None}
 use Rattle.std.specs.List.{AllByRecursion, list_any}
 use Rattle.std.specs.Ordering.{is_ge}
 use Rattle.sqlite.specs.Ops.{is_null}
@@ -89,8 +89,12 @@ is_training_row (Trainings.Lasting day) row = has_from 3 day row
 abbrev pub is_row_of_step : ℕ → ℕ → Row → Bool
 is_row_of_step ceremony step row = has_number 0 ceremony row && has_number 1 step row
 
+-- of the ceremony, and with no end, or one from the moment on
+abbrev pub is_lasting_row : ℕ → ℕ → Row → Bool
+is_lasting_row ceremony at row = has_number 2 ceremony row && (is_null (column row 3) || has_from 3 at row)
+
 abbrev pub is_stay_row : StaysOf → Row → Bool
-is_stay_row asked row = has_number 2 asked.ceremony row
+is_stay_row asked row = is_lasting_row asked.ceremony asked.at row
 
 -- ---- the rows asked for
 

@@ -104,6 +104,44 @@ abbrev pub ShowsRows : List ℕ → Place → Row → (Row → Bool) → Type 0
 ShowsRows sql place params passes =
     Shows sql place params (record { passes = passes; rank = take place.keys; compare = by_key place.keys }) (negsuc 0)
 
+-- what is computed of a text whose order is of no account
+pub record Passing : Type 0 where
+  pub command : Command
+  pub reads_catalog : Bool
+  pub is_far : Bool
+  pub passes : Row → Bool
+  pub shows : Row → Row
+
+-- of this one
+abbrev pub passing : List ℕ → Place → Row → List Term → Query → Passing
+passing sql place params test query = record {
+  command = command_of (understood register_schema sql);
+  reads_catalog = reads_listing register_schema sql;
+  is_far = nat_le (2 ^ 31) place.tree;
+  passes = λ r. list_all (holds (params ∷ r ∷ [])) test;
+  shows = λ r. (output query (params ∷ r ∷ [])).1;
+}
+
+-- of one that shows the rows that pass
+abbrev pub passing_by : Place → (Row → Bool) → Query → List (List ℕ) → Passing
+passing_by place passes query names = record {
+  command = Select (record { lets = []; body = query }) names;
+  reads_catalog = false;
+  is_far = false;
+  passes = λ r. passes (cells place r);
+  shows = cells place;
+}
+
+-- The text shows, with these parameters, all rows of a table that pass, in whatever order.
+pub record ShowsPassing (sql : List ℕ) (place : Place) (params : Row) (passes : Row → Bool) : Type 0 where
+  pub test : List Term
+  pub project : List Term
+  pub order : List (Term × Key)
+  pub names : List (List ℕ)
+  pub bare : IsPlain (understood register_schema sql)
+  pub is : passing sql place params test (asking place.tree test project order (negsuc 0))
+      ≡ passing_by place passes (asking place.tree test project order (negsuc 0)) names
+
 -- ---- texts that put a row into a table
 
 -- what a new row is made of, which row an update finds, and what it makes of it, by how many columns there are

@@ -1,70 +1,77 @@
-//! The stays that are asked for: those of a ceremony, and of some people the one that began last.
+//! The stays that are asked for: those of a ceremony that last to a moment, and of some people the one that began last;
+//! and how many a ceremony has.
 
-ghost use Rattle.std.specs.Prelude.{◌≡◌, ◌==◌, not, List, filter, map, IsPermutation};
+ghost use Rattle.std.specs.Prelude.{◌≡◌, not, List, filter, map, IsPermutation};
 ghost use Rattle.sqlite.specs.Held.{state};
-ghost use Rattle.kcr_history.specs.Views.{ShowsStays, ShowsStaysOf, is_stay_of};
+ghost use Rattle.kcr_history.specs.Views.{ShowsEntries, ShowsStays, ShowsStaysOf};
 ghost use Rattle.kcr_base.specs.Same.{same_text};
 ghost use Rattle.kcr_room.specs.declared.Stay.{Stay as AnyStay};
+ghost use Rattle.kcr_room.specs.Adding.{entries};
+ghost use Rattle.kcr_room.specs.Stays.{is_lasting};
 ghost use Rattle.kcr_rows.specs.Greatest.{IsGreatest};
 ghost use Rattle.kcr_rows.specs.Rows.{stay_row};
-ghost use Rattle.kcr_tables.specs.Exact.{rows_at, has_number, is_stay_row, AreShown, AskedAreShown};
+ghost use Rattle.kcr_tables.specs.Exact.{rows_at, is_lasting_row, is_stay_row, AreShown, AskedAreShown};
 ghost use Rattle.kcr_tables.specs.Held.{stays_place};
 ghost use Rattle.kcr_tables.specs.Frame.{Tells, TellsExactly, Reads};
 
 use crate::last::last_stay_of;
 use crate::table::all_rows;
-use kcr_base::{Initials, Refusal};
+use kcr_base::{Initials, Moment, Refusal};
 use kcr_history::{Selection, StaysOf};
-use kcr_room::Stay;
-use kcr_rows::cells::number_cell;
+use kcr_room::{Stay, is_lasting};
+use kcr_rows::Count;
+use kcr_rows::cells::{moment_cell, number_cell};
 use kcr_rows::statements::rows_of;
 use sqlite::{Alter, Transaction};
 use std::alloc::Global;
 
-/// The stays of the ceremony, in the order in which they began, which is that of an index. Nothing is changed. The
-/// error is `Memory` when out of memory, and else `Disk`: the device failed, or a row of the ceremony is one that no
-/// register stores.
-pub fn stays_of<S: Alter>(
+/// The stays of the ceremony that have no end, or end at the moment or later, in the order in which they began, which is
+/// that of an index. Nothing is changed. The error is `Memory` when out of memory, and else `Disk`: the device failed, or
+/// a row that is shown is one that no register stores.
+pub fn stays_lasting_to<S: Alter>(
     alloc: Global,
     tx: &mut Transaction<'_, S>,
     ceremony: u32,
+    at: Moment,
 ) -> Result<Vec<Stay>, Refusal>
     ensures same_reference { tx.new.conn.ghost_name ≡ tx.old.conn.ghost_name }
     ensures rows { Tells (state S.Store tx.old.conn.now) (state S.Store tx.new.conn.now) result
-        (λ t all. IsPermutation (filter (is_stay_of ceremony) t.rows.stays) all.items) }
+        (λ t all. IsPermutation (filter (is_lasting ceremony at) t.rows.stays) all.items) }
     ensures exact { TellsExactly (state S.Store tx.old.conn.now) (state S.Store tx.new.conn.now) result
-        (λ db all. IsPermutation (filter (has_number 2 ceremony) (rows_at stays_place db)) (map stay_row all.items)) }
+        (λ db all. IsPermutation (filter (is_lasting_row ceremony at) (rows_at stays_place db)) (map stay_row all.items)) }
     ensures frame { Reads (state S.Store tx.old.conn.now) (state S.Store tx.new.conn.now) result }
 {
     let c0 = number_cell(ceremony);
+    let c1 = moment_cell(at);
     rows_of(
         alloc,
         tx,
-        "SELECT who, since, ceremony, until FROM stays WHERE ceremony = ?1 ORDER BY since, who",
-        &[c0],
+        "SELECT who, since, ceremony, until FROM stays WHERE ceremony = ?1 AND (until IS NULL OR until >= ?2) ORDER BY since, who",
+        &[c0, c1],
     )
 }
 
-/// The person's stay that began last, alone, unless it is of this ceremony.
+/// The person's stay that began last, alone, unless it is of this ceremony and lasts to the moment.
 fn last_elsewhere<S: Alter>(
     alloc: Global,
     tx: &mut Transaction<'_, S>,
-    ceremony: u32,
+    asked: &StaysOf,
     who: &Initials,
 ) -> Result<Vec<Stay>, Refusal>
     ensures same_reference { tx.new.conn.ghost_name ≡ tx.old.conn.ghost_name }
     ensures rows { Tells (state S.Store tx.old.conn.now) (state S.Store tx.new.conn.now) result
         (λ t all. (last : List AnyStay)
         × IsGreatest (λ x. x.since) (filter (λ x. same_text x.who who.now) t.rows.stays) last
-        × (all.items ≡ filter (λ x. not (x.ceremony == ceremony)) last)) }
+        × (all.items ≡ filter (λ x. not (is_lasting asked.now.ceremony asked.now.at x)) last)) }
     ensures frame { Reads (state S.Store tx.old.conn.now) (state S.Store tx.new.conn.now) result }
 {
     let mut last = last_stay_of(alloc, tx, who)?;
-    last.retain(|stay| stay.ceremony != ceremony);
+    last.retain(|stay| !is_lasting(asked.ceremony, asked.at, stay));
     Ok(last)
 }
 
-/// The stays of the ceremony, and of each of the people the one that began last, in whatever ceremony.
+/// The stays of the ceremony that last to the moment, and of each of the people the one that began last, in whatever
+/// ceremony.
 fn stays_and_last<S: Alter>(
     alloc: Global,
     tx: &mut Transaction<'_, S>,
@@ -77,10 +84,10 @@ fn stays_and_last<S: Alter>(
         (λ db all. AreShown stay_row all.items (filter (is_stay_row asked.now) (rows_at stays_place db))) }
     ensures frame { Reads (state S.Store tx.old.conn.now) (state S.Store tx.new.conn.now) result }
 {
-    let mut rows = stays_of(alloc, tx, asked.ceremony)?;
+    let mut rows = stays_lasting_to(alloc, tx, asked.ceremony, asked.at)?;
     let people = asked.people.as_slice();
     for who in people {
-        let mut last = last_elsewhere(alloc, tx, asked.ceremony, who)?;
+        let mut last = last_elsewhere(alloc, tx, asked, who)?;
         rows.append(&mut last)?;
     }
     Ok(rows)
@@ -103,5 +110,47 @@ pub fn asked_stays<S: Alter>(
         Selection::Nothing => Ok(Vec::new(alloc)),
         Selection::Under(asked) => stays_and_last(alloc, tx, asked),
         Selection::All => all_rows(alloc, tx),
+    }
+}
+
+/// How many stays the ceremony has, counted along an index. Nothing is changed. The error is `Memory` when out of memory,
+/// and else `Disk`: the device failed, or there are more than 4,294,967,295.
+fn entries_of<S: Alter>(
+    alloc: Global,
+    tx: &mut Transaction<'_, S>,
+    ceremony: u32,
+) -> Result<usize, Refusal>
+    ensures same_reference { tx.new.conn.ghost_name ≡ tx.old.conn.ghost_name }
+    ensures rows { Tells (state S.Store tx.old.conn.now) (state S.Store tx.new.conn.now) result
+        (λ t count. count ≡ entries t.rows.stays ceremony) }
+    ensures frame { Reads (state S.Store tx.old.conn.now) (state S.Store tx.new.conn.now) result }
+{
+    let c0 = number_cell(ceremony);
+    let counts: Vec<Count> = rows_of(
+        alloc,
+        tx,
+        "SELECT (SELECT COUNT(*) FROM stays WHERE ceremony = ?1)",
+        &[c0],
+    )?;
+    match counts.first() {
+        Some(count) => Ok(count.number as usize),
+        None => Err(Refusal::Disk),
+    }
+}
+
+/// How many stays the ceremony has of which that is asked, 0 where it is asked of none.
+pub fn asked_entries<S: Alter>(
+    alloc: Global,
+    tx: &mut Transaction<'_, S>,
+    asked: &Option<u32>,
+) -> Result<usize, Refusal>
+    ensures same_reference { tx.new.conn.ghost_name ≡ tx.old.conn.ghost_name }
+    ensures rows { Tells (state S.Store tx.old.conn.now) (state S.Store tx.new.conn.now) result
+        (λ t count. ShowsEntries asked.now t.rows.stays count) }
+    ensures frame { Reads (state S.Store tx.old.conn.now) (state S.Store tx.new.conn.now) result }
+{
+    match asked {
+        None => Ok(0),
+        Some(ceremony) => entries_of(alloc, tx, *ceremony),
     }
 }

@@ -12,7 +12,7 @@ ghost use Rattle.kcr_tables.specs.Frame.{Tells, TellsMachine, TellsExactly, Read
 
 use crate::lasting::asked_trainings;
 use crate::places::asked_appointments;
-use crate::rooms::asked_stays;
+use crate::rooms::{asked_entries, asked_stays};
 use crate::script::asked_steps;
 use crate::several::{asked_items, asked_people};
 use crate::table::{asked_rows, asked_whole};
@@ -59,7 +59,7 @@ fn staff_rows<S: Alter>(
 ) -> Result<StaffRows, Refusal>
     ensures same_reference { tx.new.conn.ghost_name ≡ tx.old.conn.ghost_name }
     ensures trainings { Tells (state S.Store tx.old.conn.now) (state S.Store tx.new.conn.now) result
-        (λ t rows. rows.trainings.items ≡ asked_of is_training_asked asks.now.trainings t.rows.trainings) }
+        (λ t rows. Shows is_training_asked asks.now.trainings t.rows.trainings rows.trainings.items) }
     ensures withdrawals { Tells (state S.Store tx.old.conn.now) (state S.Store tx.new.conn.now) result
         (λ t rows. rows.withdrawals.items ≡ asked_of is_withdrawal_of asks.now.withdrawals t.rows.withdrawals) }
     ensures appointments { Tells (state S.Store tx.old.conn.now) (state S.Store tx.new.conn.now) result
@@ -174,6 +174,7 @@ pub fn front_of<S: Alter>(
         steps: ceremony.steps,
         seatings: ceremony.seatings,
         stays: Vec::new(alloc),
+        entries: 0,
         exceptions: ceremony.exceptions,
     })
 }
@@ -195,11 +196,13 @@ pub fn completed<S: Alter>(
 {
     let staff = staff_rows(alloc, tx, asks)?;
     let stays = asked_stays(alloc, tx, &asks.stays)?;
+    let entries = asked_entries(alloc, tx, &asks.entries)?;
     Ok(View {
         trainings: staff.trainings,
         withdrawals: staff.withdrawals,
         appointments: staff.appointments,
         stays,
+        entries,
         ..front
     })
 }

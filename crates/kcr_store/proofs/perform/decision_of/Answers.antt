@@ -78,7 +78,7 @@ returns-in-Some-refused_ahead-clause-frame g c =
     let held1 = kept.frame.tables before (tables A) held in
     let shown = front.view clean (tables A) held1 in
     let last = number ∙ sym (greatest-keys A was.tables.register) in
-    let told = c.refused_ahead.ensures A was.tables.register none (rw c.in_ok-asked-in-None.ensures at shown) last in
+    let told = c.refused_ahead.ensures.step A was.tables.register none (rw c.in_ok-asked-in-None.ensures at shown) last in
     (subst (λ (o : Option Refusal). IfSome o (λ r. IsDecision A x (Err r))) c.in-Some-refused_ahead.is told, front.frame.tables clean (tables A) held1) in
     within_to _ (refused old new c.args.turn.now.count x (Err c.in-Some-refused_ahead.refusal) decision) (within_then kept.frame.within front.frame.within)
 

@@ -1,18 +1,14 @@
 use Rattle.std.proofs.Common.{rules, List, [], ◌∷◌, map, IfOk, subst, IsPermutation}
-use Rattle.std.specs.Bool.{⊤}
 use Rattle.sqlite.specs.Order.{Row}
 use Rattle.sqlite.specs.Held.{state}
 use Rattle.sqlite.specs.State.{HasCleanDisk, Shown}
-use Rattle.kcr_history.specs.Views.{lasts_to}
+use Rattle.kcr_people.specs.declared.Training.{Training}
 use Rattle.kcr_rows.proofs.FailLemmas.{if_ok}
 use Rattle.kcr_rows.proofs.FilterLemmas.{filter_as}
-use Rattle.kcr_rows.proofs.TableLemmas.{each_is}
 use Rattle.kcr_rows.specs.Rows.{training_row}
-use Rattle.kcr_tables.specs.Held.{trainings_place}
-use Rattle.kcr_tables.specs.TrainingsLaws as laws
 use Rattle.kcr_tables.proofs.FrameLemmas.{reads_by}
-use Rattle.kcr_tables.proofs.StatementLemmas.{rows_shown, every_row}
-use Rattle.kcr_tables.proofs.TrainingLemmas.{lasting_sql, lasting_shows, passes, passes_row, passes_training}
+use Rattle.kcr_tables.proofs.StatementLemmas.{passing_rows, passing_values}
+use Rattle.kcr_tables.proofs.TrainingLemmas.{lasting_sql, lasting_shows, passes_row, trainings_in, training_in, training_told}
 use Rattle.kcr_tables.proofs.lasting.trainings_lasting_to.Goals as goal
 
 pub returns : goal.returns
@@ -26,11 +22,11 @@ returns g c =
     (λ i. c.day_cell-c0.ensures i ∷ []) (did.shown clean) in record {
       same_reference = search rules;
       rows = λ clean t held. if_ok _ _ (λ all h.
-          rows_shown lasting_sql trainings_place _ (passes day) text training_row (λ _. ⊤) (λ _. ⊤) laws.one (lasts_to day) (passes_training day)
-          old new all.items held.schema h (each_is all.items) t.rows.trainings (each_is t.rows.trainings) held.kept.trainings)
+          subst (λ (l : List Training). IsPermutation l all.items) (trainings_in day t.rows.trainings)
+          (passing_values text training_row training_in training_told old new all.items t.rows.trainings held.schema h held.kept.trainings))
           c.rows_of.result (shown clean);
       exact = λ clean has. if_ok _ _ (λ all h.
           subst (λ (l : List Row). IsPermutation l (map training_row all.items)) (filter_as _ _ (passes_row day) _)
-          (every_row lasting_sql trainings_place _ (passes day) text training_row old new all.items has h)) c.rows_of.result (shown clean);
+          (passing_rows text old new (map training_row all.items) has h)) c.rows_of.result (shown clean);
       frame = reads_by lasting_sql old new c.rows_of.result text.bare did.same did.frame;
     }

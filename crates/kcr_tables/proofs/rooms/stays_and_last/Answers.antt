@@ -1,6 +1,7 @@
 use Rattle.std.proofs.Common.{rules, arith, ◌≡◌, ◌+◌, ◌<◌, ◌++◌, ◌∷◌, [], ◌∙◌, List, ℕ, length, take, get_or, filter, sym, ap, subst, subst₂}
 use Rattle.std.proofs.lemmas.List.{take_all, take_more}
 use Rattle.sqlite.specs.Held.{state}
+use Rattle.kcr_room.specs.Stays.{is_lasting}
 use Rattle.kcr_room.specs.declared.Stay.{Stay}
 use Rattle.kcr_rows.proofs.InsideLemmas.{was_clean}
 use Rattle.kcr_rows.specs.Rows.{stay_row}
@@ -16,7 +17,7 @@ loop-who-init g c =
     let e = c.in_ok-rows.ensures in record {
       same_reference = e.same_reference;
       frame = reads_to _ _ _ _ tt e.frame;
-      rows = λ clean t held. room_gathered c.args.asked.now.ceremony t.rows.stays c.in_ok-rows.rows.items (e.rows clean t held);
+      rows = λ clean t held. room_gathered (is_lasting c.args.asked.now.ceremony c.args.asked.now.at) t.rows.stays c.in_ok-rows.rows.items (e.rows clean t held);
       exact = λ clean has. are_shown stay_row _ c.in_ok-rows.rows.items (e.exact clean has);
     }
 
@@ -38,8 +39,8 @@ loop-who-preserved g c =
           let at : get_or people i who ≡ who = search rules in
           let last = step.rows clean t (had.frame.holds before t held) in
           let more : take (i + 1) people ≡ take i people ++ who ∷ [] = take_more people i who low ∙ ap (λ k. take i people ++ k ∷ []) at in
-          subst₂ (λ (ks : List (List ℕ)) (l : List Stay). Gathered c.args.asked.now.ceremony ks t.rows.stays l) (sym more) (sym c.in_ok-append.ensures.items)
-          (more_gathered c.args.asked.now.ceremony (take i people) t.rows.stays c.loop-who.rows.items last.0 c.in_ok-last.last.items who
+          subst₂ (λ (ks : List (List ℕ)) (l : List Stay). Gathered (is_lasting c.args.asked.now.ceremony c.args.asked.now.at) ks t.rows.stays l) (sym more) (sym c.in_ok-append.ensures.items)
+          (more_gathered (is_lasting c.args.asked.now.ceremony c.args.asked.now.at) (take i people) t.rows.stays c.loop-who.rows.items last.0 c.in_ok-last.last.items who
           (had.rows before t held) last.1 last.2);
       exact = λ clean has.
           let was = had.exact (was_clean mid new _ step.frame.within.survives clean) has in
@@ -51,7 +52,7 @@ pub returns-clause-rows : goal.returns-clause-rows
 returns-clause-rows g c clean t held =
     let people = c.as_slice-people.result.now in
     gathered_shows c.args.asked.now t.rows.stays c.loop-who.rows.items (apart_of t.rows.stays held.kept.stays.rising)
-    (subst (λ (ks : List (List ℕ)). Gathered c.args.asked.now.ceremony ks t.rows.stays c.loop-who.rows.items)
+    (subst (λ (ks : List (List ℕ)). Gathered (is_lasting c.args.asked.now.ceremony c.args.asked.now.at) ks t.rows.stays c.loop-who.rows.items)
     (take_all c.loop-who.who-index people (omega arith) ∙ c.as_slice-people.ensures) (c.loop-who.invariant.rows clean t held))
 
 pub returns-in_err-last-clause-frame : goal.returns-in_err-last-clause-frame

@@ -2,6 +2,7 @@ use Rattle.std.proofs.Common.{◌≡◌, Ok, take, filter}
 use Rattle.sqlite.specs.Held.{state}
 use Rattle.sqlite.specs.State.{HasCleanDisk}
 use Rattle.kcr_tables.specs.Frame.{Reads}
+use Rattle.kcr_room.specs.Stays.{is_lasting}
 use Rattle.kcr_rows.specs.Rows.{stay_row}
 use Rattle.kcr_tables.specs.Exact.{rows_at, is_stay_row, AreShown}
 use Rattle.kcr_tables.specs.Schema.{register_schema}
@@ -15,7 +16,7 @@ invariant-loop-who g l =
     let now = state g.S.Store l.tx.conn.now in record {
       same_reference : l.tx.conn.ghost_name ≡ l.fn.tx.conn.ghost_name;
       frame : Reads {A = Unit {0}} old now (Ok tt);
-      rows : HasCleanDisk now → (t : Tables) → Holds old.now t → Gathered l.asked.ceremony (take l.who-index l.people) t.rows.stays l.rows.items;
+      rows : HasCleanDisk now → (t : Tables) → Holds old.now t → Gathered (is_lasting l.asked.ceremony l.asked.at) (take l.who-index l.people) t.rows.stays l.rows.items;
       exact : HasCleanDisk now → old.now.schema ≡ register_schema
           → AreShown stay_row l.rows.items (filter (is_stay_row l.asked) (rows_at stays_place old.now.trees));
     }

@@ -10,8 +10,8 @@ use Rattle.kcr_tables.proofs.AppointmentLemmas.{appointments_shown}
 use Rattle.kcr_tables.proofs.FrameLemmas.{reads_on, fails_as, reads_then, reads_to, read_later}
 use Rattle.kcr_tables.proofs.FrontLemmas.{custody_whole, ceremonies_whole}
 use Rattle.kcr_tables.proofs.HoldLemmas.{held_of}
-use Rattle.kcr_tables.proofs.StayLemmas.{stays_shown, apart_of}
-use Rattle.kcr_tables.proofs.ViewLemmas.{asked_shows}
+use Rattle.kcr_tables.proofs.StayLemmas.{stays_shown, entries_shown, apart_of}
+use Rattle.kcr_tables.proofs.ViewLemmas.{shows_on, asked_shows}
 use Rattle.kcr_tables.proofs.view.completed.Goals as goal
 
 pub returns-in_err-staff-clause-frame : goal.returns-in_err-staff-clause-frame
@@ -21,13 +21,20 @@ pub returns-in_err-stays-clause-frame : goal.returns-in_err-stays-clause-frame
 returns-in_err-stays-clause-frame g c = reads_on c.in_ok-staff.ensures.frame
     (fails_as c.from_residual-in_err-stays.ensures.1 c.in_err-stays.ensures.frame)
 
+pub returns-in_err-entries-clause-frame : goal.returns-in_err-entries-clause-frame
+returns-in_err-entries-clause-frame g c = reads_on (reads_on c.in_ok-staff.ensures.frame c.in_ok-stays.ensures.frame)
+    (fails_as c.from_residual-in_err-entries.ensures.1 c.in_err-entries.ensures.frame)
+
 pub returns : goal.returns
 returns g c =
     let old = state g.S.Store c.args.tx.now.conn.now in
     let s1 = state g.S.Store c.staff_rows.new.tx.conn.now in
     let s2 = state g.S.Store c.asked_stays.new.tx.conn.now in
+    let s3 = state g.S.Store c.asked_entries.new.tx.conn.now in
     let to1 = c.in_ok-staff.ensures.frame in
-    let clean1 : HasCleanDisk s2 → HasCleanDisk s1 = λ clean. was_clean s1 s2 _ c.in_ok-stays.ensures.frame.within.survives clean in record {
+    let to2 = reads_then old s1 s2 _ _ to1 c.in_ok-stays.ensures.frame in
+    let clean2 : HasCleanDisk s3 → HasCleanDisk s2 = λ clean. was_clean s2 s3 _ c.in_ok-entries.ensures.frame.within.survives clean in
+    let clean1 : HasCleanDisk s3 → HasCleanDisk s1 = λ clean. was_clean s1 s2 _ c.in_ok-stays.ensures.frame.within.survives (clean2 clean) in record {
       same_reference = search rules;
       view = λ clean m h front.
           let t = h.tables.t in
@@ -36,7 +43,7 @@ returns g c =
           let held = held_of m old.now h in
           let staff = c.in_ok-staff.ensures in record {
             people = front.people;
-            trainings = asked_shows is_training_asked asks.trainings m.trainings t.rows.trainings _ s.trainings (staff.trainings (clean1 clean) t held);
+            trainings = shows_on is_training_asked asks.trainings m.trainings t.rows.trainings _ s.trainings (staff.trainings (clean1 clean) t held);
             withdrawals = asked_shows is_withdrawal_of asks.withdrawals m.withdrawals t.rows.withdrawals _ s.withdrawals
                 (staff.withdrawals (clean1 clean) t held);
             appointments = appointments_shown asks.appointments m.appointments t.rows.appointments _ s.appointments (staff.appointments (clean1 clean) t held);
@@ -49,7 +56,9 @@ returns g c =
             steps = front.steps;
             exceptions = front.exceptions;
             stays = stays_shown asks.stays m.stays t.rows.stays _ (apart_of t.rows.stays h.tables.kept.stays.rising) s.stays
-                (c.in_ok-stays.ensures.rows clean t (to1.holds (clean1 clean) t held));
+                (c.in_ok-stays.ensures.rows (clean2 clean) t (to1.holds (clean1 clean) t held));
+            entries = entries_shown asks.entries m.stays t.rows.stays _ s.stays
+                (c.in_ok-entries.ensures.rows clean t (to2.holds (clean2 clean) t held));
           };
       exact = λ clean has front.
           let asks = c.args.asks.now in record {
@@ -58,7 +67,7 @@ returns g c =
             custody = custody_whole front.custody;
             ceremonies = ceremonies_whole front.ceremonies;
             stays = read_later (AskedAreShown stay_row stays_place is_stay_row asks.stays c.in_ok-stays.stays.items) old s1 _ to1 (clean1 clean) has
-                (c.in_ok-stays.ensures.exact clean);
+                (c.in_ok-stays.ensures.exact (clean2 clean));
           };
-      frame = reads_to old s2 _ _ tt (reads_then old s1 s2 _ _ to1 c.in_ok-stays.ensures.frame);
+      frame = reads_to old s3 _ _ tt (reads_then old s2 s3 _ _ to2 c.in_ok-entries.ensures.frame);
     }

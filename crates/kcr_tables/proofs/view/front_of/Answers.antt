@@ -55,6 +55,7 @@ returns g c =
             steps = steps_on asks.steps m.seatings t.rows.seatings _ m.steps t.rows.steps _ s.seatings s.steps (ceremony.steps clean t held3);
             exceptions = asked_shows is_exception_of asks.exceptions m.exceptions t.rows.exceptions _ s.exceptions (ceremony.exceptions clean t held3);
             stays = tt;
+            entries = tt;
           };
       exact = λ clean has.
           let asks = c.args.asks.now in record {

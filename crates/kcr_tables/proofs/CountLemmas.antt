@@ -1,0 +1,139 @@
+-- The text that shows how many stays a ceremony has.
+use Rattle.std.proofs.Common.{◌≡◌, ◌<◌, ◌^◌, ℕ, pos, negsuc, min, Bool, false, List, [], ◌∷◌, map, filter, length, codes, Some, None, refl, sym, ap, ◌∙◌, arith}
+use Rattle.std.specs.Prelude.{slice_get}
+use Rattle.std.specs.List.{list_all}
+use Rattle.std.proofs.lemmas.List.{length-map}
+use Rattle.std.proofs.lemmas.List.Sums.{length-filter}
+use Rattle.std.proofs.lemmas.List.Sorted.{length_permutation}
+use Rattle.sqlite.specs.declared.types.Value.TheVariants.{Null, Int}
+use Rattle.sqlite.specs.Order.{Row}
+use Rattle.sqlite.specs.Term.{Term, lit, col, holds}
+use Rattle.sqlite.specs.Query.{Query, inner, counted, end, IsAnswer, Output, output, output_cmp}
+use Rattle.sqlite.specs.Program.{overlay}
+use Rattle.sqlite.specs.Tree.{Trees}
+use Rattle.sqlite.specs.Command.{Command}
+use Rattle.sqlite.specs.Command.TheVariants.{Select}
+use Rattle.sqlite.specs.State.{State, Shown}
+use Rattle.sqlite.specs.Listing.{understood, reads_listing}
+use Rattle.sqlite.proofs.Callers.{IsPlain, command_of, reads_as}
+use Rattle.sqlite_sql.proofs.QueryLemmas.{output_cmp_total}
+use Rattle.sqlite_trees.proofs.ListLemmas.{filter-map, IsPermutation-filter}
+use Rattle.sqlite_keyed.proofs.SortLemmas.{sorted_unique}
+use Rattle.sqlite_tied.specs.Compute.{everything}
+use Rattle.kcr_room.specs.Adding.{entries, of_ceremony}
+use Rattle.kcr_room.specs.declared.Stay.{Stay}
+use Rattle.kcr_rows.specs.Count.{count_row}
+use Rattle.kcr_rows.specs.declared.count.Count.{Count}
+use Rattle.kcr_rows.specs.Keyed.{Keeps, cells}
+use Rattle.kcr_rows.specs.Rows.{stay_row}
+use Rattle.kcr_rows.proofs.FilterLemmas.{filter_as, value_is}
+use Rattle.kcr_rows.proofs.ReadLemmas.{matched}
+use Rattle.kcr_rows.proofs.SameLemmas.{number_ties}
+use Rattle.kcr_tables.specs.Exact.{has_number}
+use Rattle.kcr_tables.specs.Held.{stays_place}
+use Rattle.kcr_tables.specs.Schema.{register_schema}
+use Rattle.kcr_tables.specs.Statements.{is_given}
+
+-- no greater number is counted
+abbrev pub most : ℕ
+most = 9223372036854775807
+
+-- the query that counts the rows of a table that pass
+abbrev pub counting : ℕ → List Term → Query
+counting tree test = record {
+  from = counted most (inner tree end) test end;
+  filter = [];
+  group = None;
+  project = col 1 0 ∷ [];
+  distinct = false;
+  collations = [];
+  order = [];
+  limit = lit (Int (negsuc 0));
+  offset = lit (Int (pos 0));
+}
+
+abbrev pub count_sql : List ℕ
+count_sql = codes "SELECT (SELECT COUNT(*) FROM stays WHERE ceremony = ?1)"
+
+abbrev names : List (List ℕ)
+names = codes "(SELECT COUNT(*) FROM stays WHERE ceremony = ?1)" ∷ []
+
+-- what is computed of the text
+record Counting : Type 0 where
+  pub command : Command
+  pub reads_catalog : Bool
+  pub passes : Row → Bool
+
+abbrev counting_by : ℕ → Counting
+counting_by ceremony = record {
+  command = command_of (understood register_schema count_sql);
+  reads_catalog = reads_listing register_schema count_sql;
+  passes = λ r. list_all (holds ((Int (pos ceremony) ∷ []) ∷ r ∷ [])) (is_given 3);
+}
+
+-- it counts the stays of the ceremony
+abbrev counting_of : ℕ → Counting
+counting_of ceremony = record {
+  command = Select (record { lets = []; body = counting stays_place.tree (is_given 3) }) names;
+  reads_catalog = false;
+  passes = λ r. has_number 2 ceremony (cells stays_place r);
+}
+
+pub count_bare : IsPlain (understood register_schema count_sql)
+unfolding understood everything
+count_bare = (refl, refl)
+
+count_is : (ceremony : ℕ) → counting_by ceremony ≡ counting_of ceremony
+unfolding understood everything
+count_is ceremony = refl
+
+-- of the rows that a table keeps those of the ceremony are as many as the stays
+of_tree : (ceremony : ℕ) (db : Trees) (stays : List Stay) → Keeps stays_place db (map stay_row stays)
+    → length (filter (λ r. has_number 2 ceremony (cells stays_place r)) (db stays_place.tree)) ≡ entries stays ceremony
+of_tree ceremony db stays keeps =
+    let of_it = has_number 2 ceremony in
+    let shown = cells stays_place in
+    sym (length-map (filter (λ r. of_it (shown r)) (db stays_place.tree)) shown)
+    ∙ ap length (sym (filter-map of_it shown (db stays_place.tree)))
+    ∙ length_permutation _ _ (IsPermutation-filter of_it _ _ keeps.same)
+    ∙ ap length (filter-map of_it stay_row stays)
+    ∙ length-map (filter (λ x. of_it (stay_row x)) stays) stay_row
+    ∙ ap length (filter_as _ (of_ceremony ceremony) same stays)
+    ∙ length-filter (of_ceremony ceremony) stays
+  where
+    same : (x : Stay) → has_number 2 ceremony (stay_row x) ≡ of_ceremony ceremony x
+    same x = value_is (Int (pos x.ceremony)) (Int (pos ceremony)) refl refl ∙ sym (number_ties x.ceremony ceremony)
+
+-- the one row that is shown has their number
+pub count_shown : (ceremony : ℕ) (old new : State) (rows : List Row) → old.now.schema ≡ register_schema
+    → Shown count_sql (Int (pos ceremony) ∷ []) old new rows → (stays : List Stay) → Keeps stays_place old.now.trees (map stay_row stays)
+    → rows ≡ (Int (pos (min most (entries stays ceremony))) ∷ []) ∷ []
+count_shown ceremony old new rows has h stays keeps =
+    let params : Row = Int (pos ceremony) ∷ [] in
+    let db = old.now.trees in
+    let tree = stays_place.tree in
+    let test = is_given 3 in
+    let q = counting tree test in
+    let p = λ (r : Row). list_all (holds (params ∷ r ∷ [])) test in
+    let read = reads_as count_sql params old new register_schema has _ (λ i. (count_is ceremony i).command) count_bare
+    (λ i. (count_is ceremony i).reads_catalog) rows h in
+    let a : IsAnswer q (overlay db []) params rows = read.answer Null in
+    let over : overlay db [] tree ≡ db tree = refl in
+    let many = ap length (matched p (λ r. params ∷ r ∷ []) (overlay db [] tree))
+    ∙ length-map (filter p (overlay db [] tree)) (λ r. params ∷ r ∷ [])
+    ∙ ap (λ (l : List Row). length (filter p l)) over
+    ∙ ap (λ (test : Row → Bool). length (filter test (db tree))) (λ i. (count_is ceremony i).passes)
+    ∙ of_tree ceremony db stays keeps in
+    let out : ℕ → List Output = λ n. ([], Int (pos (min most n)) ∷ []) ∷ [] in
+    let kept : a.kept ≡ out (entries stays ceremony) = a.distinct ∙ ap (map (output q)) a.grouped ∙ ap out many in
+    let ordered = sorted_unique (output_cmp q) (output_cmp_total q) a.kept a.ordered (rw kept (tt, tt)) a.same a.sorted in
+    a.shown ∙ ap (map (λ (o : Output). o.1)) (ordered ∙ kept)
+
+-- a number that is less than the most is all that there are
+pub count_told : (counts : List Count) (n : ℕ) → map count_row counts ≡ (Int (pos (min most n)) ∷ []) ∷ [] → (count : Count)
+    → slice_get counts 0 ≡ Some count → count.number < 2 ^ 32 → count.number ≡ n
+count_told [] n h count first low = absurd (cc)
+count_told (x ∷ xs) n h count first low =
+    let is : count ≡ x = cc in
+    let number : x.number ≡ min most n = cc in
+    let same = ap (λ (c : Count). c.number) is in grind (arith, same, number, low)
