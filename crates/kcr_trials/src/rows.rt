@@ -68,6 +68,7 @@ fn every_row() -> Asks {
         }),
         exceptions: Selection::All,
         stays: Selection::All,
+        entries: None,
     }
 }
 
