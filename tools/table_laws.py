@@ -95,30 +95,24 @@ unfolding understood everything
 """
 
 
-def change_fields(t, test, count):
-    """Which row a text finds, and what it makes of it."""
-    return {"test": f"{test} {count}", "sets": f"update_terms {len(t.columns)}"}
-
-
-def put_by(t):
-    """The text that gives the table a row."""
-    is_new = t.is_entered
-    fields = {"at": t.at, "table": t.name, "terms": terms(t)}
-    fields |= {"given": f"λ x. {given(t)}"} if is_new else change_fields(t, "update_test", len(t.columns))
-    fields |= {"casts": f"λ x i. {casts(t, is_new)}", "bare": "(refl, refl)", "is": "refl"}
-    return text_law(t, ("put_sql", "puts"), t.put_text(), "PutsRow", f"{'inr' if is_new else 'inl'} ({lines(fields).rstrip()})")
+def insert_by(t):
+    """The text that gives the table a new row."""
+    others = listed(f"({listed(str(t.places()[i]) for i in other)})" for other in t.others)
+    fields = {"at": t.at, "table": t.name, "terms": terms(t), "given": f"λ x. {given(t)}", "others": others}
+    fields |= {"casts": f"λ x i. {casts(t, True)}", "bare": "(refl, refl)", "is": "refl"}
+    return text_law(t, ("insert_sql", "inserts"), t.insert_text(), "InsertsRow", lines(fields).rstrip())
 
 
 def update_by(t):
     """The text that changes the row that is there."""
-    fields = {"at": t.at, "table": t.name} | change_fields(t, "key_test", t.keys)
+    fields = {"at": t.at, "table": t.name, "test": f"key_test {t.keys}", "sets": f"update_terms {len(t.columns)}"}
     fields |= {"casts": f"λ x i. {casts(t, False)}", "bare": "(refl, refl)", "is": "refl"}
     return text_law(t, ("update_sql", "updates"), t.update_text(), "UpdatesRow", lines(fields).rstrip())
 
 
 def puts(t):
-    out = "\n-- ---- a row put under its key\n" + put_by(t)
-    return out + ("\n-- in the place of the one that is there" + update_by(t) if t.mostly_there else "")
+    out = "\n-- ---- a row put under its key\n" + insert_by(t)
+    return out + ("\n-- in the place of the one that is there" + update_by(t) if t.may_change else "")
 
 
 def finds(t, r):
@@ -242,7 +236,7 @@ use Rattle.kcr_base.specs.Place.{place_text}
     if facts:
         out += f"use Rattle.kcr_rows.specs.States.{{{', '.join(facts)}}}\n"
     out += f"use Rattle.kcr_tables.specs.Schema.{{register_schema, {t.name}}}\nuse Rattle.kcr_tables.specs.Held.{{Tables, Kept, {', '.join(u.place for u in TABLES)}}}\n"
-    out += "use Rattle.kcr_tables.specs.First.{first_tables}\nuse Rattle.kcr_tables.specs.Parts.{text_in, number_in}\nuse Rattle.kcr_tables.specs.Statements.{shown_columns, key_order, is_given, ShowsRows, new_terms, update_test, key_test, update_terms, PutsRow, UpdatesRow}\nuse Rattle.kcr_tables.specs.Table.{Table, IsTable, Finding, IsFinding}\n"
+    out += "use Rattle.kcr_tables.specs.First.{first_tables}\nuse Rattle.kcr_tables.specs.Parts.{text_in, number_in}\nuse Rattle.kcr_tables.specs.Statements.{shown_columns, key_order, is_given, ShowsRows, new_terms, key_test, update_terms, InsertsRow, UpdatesRow}\nuse Rattle.kcr_tables.specs.Table.{Table, IsTable, Finding, IsFinding}\n"
     out += f"\nabbrev pub project : List Term\nproject = shown_columns {t.place}\n"
     out += f"\nabbrev order : List (Term × Key)\norder = key_order {t.place}\n"
     out += f"\nabbrev pub names : List (List ℕ)\nnames = {listed(codes(c.name) for c in cols)}\n"

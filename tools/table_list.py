@@ -99,7 +99,7 @@ class Reading:
 
 class Table:
     def __init__(self, name, row, type_, crate, module, columns, keys, doc, change=None, same=None, turned=False, others=(), readings=(), alias=None, always_new=False,
-                 mostly_there=False, new_where=None, is_read=None, is_stored=None, stored_fact=None):
+                 new_where=None, is_read=None, is_stored=None, stored_fact=None):
         self.name, self.row, self.type = name, row, type_
         self.crate = crate
         self.declared = f"Rattle.{crate}.specs.declared.{module}{type_}.{{{type_}}}"
@@ -108,9 +108,8 @@ class Table:
         self.others, self.readings = others, readings
         self.alias = alias  # the column that is the row id: such a table has a key of one column
         self.always_new = always_new  # a row that is put has a key that no row had: it is entered, and never changed
-        self.mostly_there = mostly_there  # mostly a row has the key already: an UPDATE changes it, and an INSERT enters the new one where there was none
+        self.may_change = not always_new  # a row may have the key already: an UPDATE changes it, and an INSERT enters the new one where there was none
         self.new_where = new_where  # of such a table, which rows have a key that no row had: an INSERT alone enters these
-        self.is_entered = always_new or mostly_there  # the INSERT that puts a row is a plain one; else it is an upsert
         self.is_read, self.is_stored, self.stored_fact = is_read, is_stored, stored_fact
         self.row_of = f"{row}_row"
         self.place = f"{name}_place"
@@ -132,10 +131,9 @@ class Table:
         order = f"{reading.greatest} DESC LIMIT 1" if reading.greatest else self.order()
         return f"SELECT {self.names()} FROM {self.name}{where} ORDER BY {order}"
 
-    def put_text(self):
+    def insert_text(self):
         marks = ", ".join(f"?{i + 1}" for i in range(len(self.columns)))
-        over = "" if self.is_entered else f" ON CONFLICT ({self.order()}) DO UPDATE SET {self.sets(self.columns, ', ')}"
-        return f"INSERT INTO {self.name} ({self.names()}) VALUES ({marks}){over}"
+        return f"INSERT INTO {self.name} ({self.names()}) VALUES ({marks})"
 
     def update_text(self):
         return f"UPDATE {self.name} SET {self.sets(self.columns, ', ')} WHERE {self.sets(self.columns[: self.keys], ' AND ')}"
@@ -220,10 +218,10 @@ TABLES = [
           "a ceremony under its number", "PutCeremony", "same_ceremony",
           readings=[Reading("ceremony_of", "The row of the ceremony with this number, alone, or none", "number", "number", "u32", NUMBER, "{x}.number == {v}", ask="is_of_number {v}")]),
     Table("marks", "mark", "MarkRow", "kcr_history", "rows.", [Column("ceremony", NUMBER), Column("at", MOMENT)], 1,
-          "the mark of a ceremony that was opened, under its number", "PutMark", "same_mark", mostly_there=True,
+          "the mark of a ceremony that was opened, under its number", "PutMark", "same_mark",
           readings=[Reading("mark_of", "The row of the ceremony, alone, or none", "ceremony", "ceremony", "u32", NUMBER, "{x}.ceremony == {v}", ask="is_mark_of {v}")]),
     Table("steps", "step", "StepRow", "kcr_history", "rows.", [Column("ceremony", NUMBER), Column("step", NUMBER), Column("activity", LINE), Column("seats", SEATS), Column("state", STEP_STATE), Column("at", MOMENT_OR_NULL)], 2,
-          "a step of a ceremony under both numbers", "PutStep", "same_step", mostly_there=True, new_where="self.state == StepState::Undone",
+          "a step of a ceremony under both numbers", "PutStep", "same_step", new_where="self.state == StepState::Undone",
           is_read="HasOnlyTheseSeats", is_stored="HasSeatsText", stored_fact="seats"),
     Table("seatings", "seating", "SeatingRow", "kcr_history", "rows.", [Column("ceremony", NUMBER), Column("step", NUMBER), Column("seat", NUMBER), Column("who", INITIALS)], 3,
           "who filled a seat of a step, under the ceremony, the step and the seat", "PutSeating", "same_seating", always_new=True,
@@ -234,14 +232,14 @@ TABLES = [
           "a script exception of a ceremony under both numbers", "PutException", "same_exception", always_new=True,
           readings=[of_ceremony("exceptions", "is_exception_of")]),
     Table("versions", "version", "Version", "kcr_rows", "rows.", [Column("number", NUMBER)], 1,
-          "one row with the number of the schema"),
+          "one row with the number of the schema", always_new=True),
     Table("keys", "key", "KeyRow", "kcr_history", "rows.", [Column("key", KEY), Column("accepted", NUMBER), Column("command", TEXT), Column("reply", TEXT)], 1,
           "a row for each accepted command, under its key; its number is the row id, and that of no other row",
           "PutKey", "same_key_row", alias="accepted", always_new=True,
           readings=[Reading("key_row_of", "The row of this key, alone, or none", '"key"', "key", "&Key", KEY, "same_text {x}.key {v}", ask="is_of_key {v}"),
                     Reading("last_key_row", "The row with the greatest number, alone, or none where there is no row", None, greatest="accepted")]),
     Table("stays", "stay", "Stay", "kcr_room", "", [Column("who", INITIALS), Column("since", MOMENT), Column("ceremony", NUMBER), Column("until", MOMENT_OR_NULL)], 2,
-          "a stay of a person in the room of a ceremony, under the person and its beginning", "PutStay", "same_stay", others=[[2, 1, 0]],
+          "a stay of a person in the room of a ceremony, under the person and its beginning", "PutStay", "same_stay", others=[[2, 1, 0]], new_where="self.until.is_none()",
           readings=[Reading("last_stay_of", "The row of the person's stay that began last, alone, or none", "who", "who", "&Initials", INITIALS, "same_text {x}.who {v}", ask="is_of {v}", greatest="since")]),
     Table("withdrawals", "withdrawal", "Withdrawal", "kcr_people", "", [Column("who", INITIALS), Column("role", ROLE), Column("since", DAY), Column("until", DAY), Column("day", DAY)], 4,
           "from which day a training is withdrawn, under the training's key", "PutWithdrawal", "same_withdrawn",

@@ -29,19 +29,19 @@ def put_source(t):
         if c.kind.prelude:
             out += "        " + c.kind.prelude.format(f=c.field, x=f"self.{c.field}") + "\n"
     cells = ", ".join(c.kind.write.format(f=c.field, x=f"self.{c.field}") for c in t.columns)
-    update, put = rust_text(t.update_text()), rust_text(t.put_text())
-    if not t.mostly_there:
-        return out + f"        put_cells(tx, self, {put}, &[{cells}])\n    }}\n"
+    update, insert = rust_text(t.update_text()), rust_text(t.insert_text())
+    if not t.may_change:
+        return out + f"        put_new(tx, self, {insert}, &[{cells}])\n    }}\n"
     if not t.new_where:
-        return out + f"        put_over(tx, self, {update}, {put}, &[{cells}])\n    }}\n"
-    out += f"        let insert = {put};\n        let cells = [{cells}];\n"
-    out += f"        if {t.new_where} {{\n            put_cells(tx, self, insert, &cells)\n        }} else {{\n"
+        return out + f"        put_over(tx, self, {update}, {insert}, &[{cells}])\n    }}\n"
+    out += f"        let insert = {insert};\n        let cells = [{cells}];\n"
+    out += f"        if {t.new_where} {{\n            put_new(tx, self, insert, &cells)\n        }} else {{\n"
     return out + f"            put_over(tx, self, {update}, insert, &cells)\n        }}\n    }}\n"
 
 
 def put_calls(t):
     """The calls that put a row by these texts."""
-    return ["put_cells"] * bool(t.new_where or not t.mostly_there) + ["put_over"] * t.mostly_there
+    return ["put_new"] * bool(t.new_where or not t.may_change) + ["put_over"] * t.may_change
 
 
 def source(t):
@@ -52,7 +52,7 @@ def source(t):
         p = r.prefix
         body = member("finding", f"laws.{p}") + text_method("find_text", t.text_of(r)) + member("finding_laws", f"laws.{p}_laws")
         out += f"/// {r.doc}.\n" + impl(f"Finds<{KEY_TYPES[r.ty]}>", t, body)
-    names = ["puts"] + ["updates"] * t.mostly_there
+    names = ["inserts"] + ["updates"] * t.may_change
     lemmas = f"    #[tactic(auto, using({', '.join(f'crate::specs::{t.laws}::{name}' for name in names)}))]\n"
     out += impl("PutWords" if t.needs_alloc else "Put", t, lemmas + put_source(t))
     keys = {KEY_TYPES[r.ty] for r in found}

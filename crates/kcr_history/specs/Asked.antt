@@ -53,10 +53,16 @@ abbrev pub asks_trained : ℕ → ℕ → Asks
 asks_trained ceremony at =
     record (asks_room ceremony [] at) { trainings = Under (Trainings.Lasting (day_of at)); withdrawals = All }
 
--- what a bag's way into a safe or out of it asks for: the bag, the safes, the boxes and the holders of their places
+-- what a bag's way into a safe or out of it asks for: the bag, the safes, the boxes and the appointments that last
+-- beyond the day, which tell the holders of their places
 abbrev pub asks_bag : ℕ → List ℕ → ℕ → Asks
 asks_bag ceremony serial at =
-    record (asks_trained ceremony at) { bags = Under serial; safes = true; boxes = true; appointments = All }
+    record (asks_trained ceremony at) {
+      bags = Under serial;
+      safes = true;
+      boxes = true;
+      appointments = Under (Appointments.Lasting (day_of at));
+    }
 
 -- the person
 abbrev pub asks_person : List ℕ → Asks
@@ -129,12 +135,12 @@ abbrev pub asks_sheet : ℕ → Way → List (List ℕ) → ℕ → Asks
 asks_sheet ceremony way people at =
     record (asks_room ceremony people at) { people = Under people; entries = entries_asked way ceremony }
 
--- the step, and the holders of places
+-- the step, and the appointments that last beyond the day
 abbrev pub asks_to_sign : ℕ → ℕ → ℕ → Asks
 asks_to_sign ceremony step at =
     record (asks_trained ceremony at) {
       steps = Some (record { ceremony = ceremony; step = Some step });
-      appointments = All;
+      appointments = Under (Appointments.Lasting (day_of at));
     }
 
 -- the next step and the exceptions of the ceremony
@@ -152,8 +158,8 @@ asks_items ceremony serial items at = record (asks_trained ceremony at) { bags =
 abbrev pub asks_sealed : ℕ → List ℕ → List (List ℕ) → ℕ → Asks
 asks_sealed ceremony serial codes at = asks_items ceremony serial (Items.Codes codes) at
 
--- of people those that the command names; of trainings theirs, or in a room those that last to the day of the act;
--- presence is read from the stays that last to its moment; a ceremony's own rows by its number
+-- of people those that the command names; of trainings and appointments theirs, or in a room those that last to the day
+-- of the act; presence is read from the stays that last to its moment; a ceremony's own rows by its number
 abbrev pub asks_by : Act → Asks
 asks_by (Enter who name) = asks_person who
 asks_by (Train who role since until) = asks_to_train who

@@ -10,6 +10,7 @@ use Rattle.kcr_people.specs.declared.Person.{Person}
 use Rattle.kcr_people.specs.declared.Training.{Training}
 use Rattle.kcr_people.specs.declared.Withdrawal.{Withdrawal}
 use Rattle.kcr_people.specs.declared.Appointment.{Appointment}
+use Rattle.kcr_people.specs.People.{lasts_beyond}
 use Rattle.kcr_custody.specs.declared.Bag.{Bag}
 use Rattle.kcr_custody.specs.declared.Item.{Item}
 use Rattle.kcr_custody.specs.Custody.{lies_in}
@@ -159,14 +160,16 @@ abbrev pub ShowsLastOf : (Appointment → Bool) → List Appointment → List Ap
 ShowsLastOf test table rows =
     EachOf (λ row. test row ≡ true → list_any (λ shown. test shown && nat_le row.since shown.since) rows ≡ true) table
 
--- the last appointment to the place, that of the person, or both
+-- the last appointment to the place, that of the person, or both; or those that last beyond the day, in any order
 abbrev pub ShowsAppointmentsOf : AppointmentsOf → List Appointment → List Appointment → Type 0
 ShowsAppointmentsOf (Appointments.Place place) table rows = ShowsLastOf (is_appointment_to place) table rows
 ShowsAppointmentsOf (Appointments.Person who) table rows = ShowsLastOf (is_appointment_of who) table rows
 ShowsAppointmentsOf (Appointments.Both place who) table rows =
     ShowsLastOf (is_appointment_to place) table rows × ShowsLastOf (is_appointment_of who) table rows
+ShowsAppointmentsOf (Appointments.Lasting day) table rows =
+    IsPermutation (filter (lasts_beyond day) table) (filter (lasts_beyond day) rows)
 
--- the view has the last appointments that are asked for, and no row that the table does not have
+-- the view has the appointments that are asked for, and no row that the table does not have
 abbrev pub ShowsAppointments : Selection AppointmentsOf → List Appointment → List Appointment → Type 0
 ShowsAppointments Nothing table rows = Unit {0}
 ShowsAppointments (Under asked) table rows =

@@ -51,7 +51,8 @@ fn only_item(alloc: Global, item: ItemCode) -> Result<ItemList, AllocError>
     Ok(ItemList::new(list))
 }
 
-/// The ceremony with its mark, the stays in its room that last to the moment, and of these people the last stay anywhere.
+/// The ceremony with its mark, the stays in its room that last to the moment, and of these people the last stay
+/// anywhere.
 fn asks_room(ceremony: CeremonyNumber, people: InitialsList, at: Moment) -> Asks
     ensures { result ≡ Asked.asks_room ceremony people at }
 {
@@ -92,7 +93,7 @@ fn asks_bag(alloc: Global, ceremony: CeremonyNumber, serial: Serial, at: Moment)
     asks.bags = Selection::Under(serial);
     asks.safes = true;
     asks.boxes = true;
-    asks.appointments = Selection::All;
+    asks.appointments = Selection::Under(AppointmentsOf::Lasting(at.day()));
     asks
 }
 
@@ -220,7 +221,7 @@ fn asks_sheet(
     Ok(asks)
 }
 
-/// The step and the appointments, beside who in the room is trained.
+/// The step and the appointments that last beyond the day, beside who in the room is trained.
 fn asks_to_sign(alloc: Global, ceremony: CeremonyNumber, step: StepNumber, at: Moment) -> Asks
     ensures { result ≡ Asked.asks_to_sign ceremony step at }
 {
@@ -229,7 +230,7 @@ fn asks_to_sign(alloc: Global, ceremony: CeremonyNumber, step: StepNumber, at: M
         ceremony: ceremony.get(),
         step: Some(step.get()),
     });
-    asks.appointments = Selection::All;
+    asks.appointments = Selection::Under(AppointmentsOf::Lasting(at.day()));
     asks
 }
 
@@ -351,10 +352,10 @@ fn asks_by(alloc: Global, act: &Act) -> Result<Asks, AllocError>
 /// The rows that the decision of this command reads: those under the keys, of the people, of the place or of the
 /// ceremony that it names; of a place's and a person's appointments the last one alone, of a ceremony's steps one.
 /// Of a ceremony's stays those that last to the moment of the command; how many it has in all where people come in.
-/// Where anybody in a room may be the one who is needed, the trainings are those that last to the day of the command.
-/// All rows are asked for only of tables that do not grow with each command: withdrawals and appointments where anybody
-/// in a room may be the one who is needed, marks, boxes and safes; of the ceremonies to open one, and of the bags to
-/// close one. The error is out of memory.
+/// Where anybody in a room may be the one who is needed, the trainings and the appointments are those that last to the
+/// day of the command. All rows are asked for only of tables that do not grow with each command: withdrawals where
+/// anybody in a room may be the one who is needed, marks, boxes and safes; of the ceremonies to open one, and of the bags
+/// to close one. The error is out of memory.
 pub fn asks(alloc: Global, command: &Command) -> Result<Asks, AllocError>
     ensures { IfOk result (λ asks. asks ≡ Asked.asks_of command.now) }
 {

@@ -55,8 +55,9 @@ pub enum TrainingsOf {
     Lasting(Day),
 }
 
-/// Which appointments are asked for: the one to a place that began last, the one of a person that began last, or both.
-/// No others are needed, since neither a place nor a person has two appointments at a time.
+/// Which appointments are asked for. To change one, the one to a place that began last and the one of a person that began
+/// last are enough, since neither a place nor a person has two appointments at a time. An appointment counts on a day only
+/// where it lasts beyond it, so those that ended before need not be read to tell who holds a place.
 #[derive(Clone, Copy, PartialEq, Eq)]
 pub enum AppointmentsOf {
     /// The last one to the place.
@@ -65,6 +66,8 @@ pub enum AppointmentsOf {
     Person(Initials),
     /// The last one to the place, and the last one of the person.
     Both(Place, Initials),
+    /// Those to whatever place that have no end, or end on a day after this one.
+    Lasting(Day),
 }
 
 /// Which items are asked for.

@@ -140,7 +140,7 @@ take-fault A h c t at view v =
       spot-shown A h t view.bags.items v.bags,
       functions-same (is_open_by view.safes.items here) (is_safe_open A here) (open-shown A view.safes.items v.safes here),
       functions-same (place_of_box_by view.boxes.items here) (place_of_box A here) (place-shown A h view.boxes.items v.boxes here),
-      no_holder-shown A c at view (holder_in-shown A h view c at v.stays.room v.appointments)
+      no_holder-shown A c at view (holder_in-shown A h view c at v.stays.room v.appointments.1)
           (option_and_then (place_of_box A here) (box_of (spot A t))),
     )
 
@@ -154,6 +154,6 @@ put-fault A h c t to at view v =
       spot-shown A h t view.bags.items v.bags,
       open-shown A view.safes.items v.safes here (safe_of_store to),
       functions-same (place_of_box_by view.boxes.items here) (place_of_box A here) (place-shown A h view.boxes.items v.boxes here),
-      no_holder-shown A c at view (holder_in-shown A h view c at v.stays.room v.appointments)
+      no_holder-shown A c at view (holder_in-shown A h view c at v.stays.room v.appointments.1)
           (option_and_then (place_of_box A here) (box_of_store to)),
     )

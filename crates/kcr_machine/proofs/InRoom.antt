@@ -1,5 +1,5 @@
 -- Who is in a room, who is trained and who holds a place: by the rows that a view shows, as by the history.
-use Rattle.std.proofs.Common.{◌≡◌, ℕ, true, List, map, filter, reverse, sym, ap, ◌∙◌, arith}
+use Rattle.std.proofs.Common.{◌≡◌, ℕ, true, List, map, filter, reverse, option_map, sym, ap, ◌∙◌, arith}
 use Rattle.std.specs.List.{list_any}
 use Rattle.std.specs.List.Sorted.{IsPermutation}
 use Rattle.std.proofs.lemmas.List.Sorted.{IsPermutation-refl, IsPermutation-reverse}
@@ -8,9 +8,10 @@ use Rattle.kcr_base.specs.Same.{same_text}
 use Rattle.kcr_base.specs.declared.place.Place.{Place}
 use Rattle.kcr_base.specs.declared.place.Role.{Role}
 use Rattle.kcr_base.proofs.ListLemmas.{any-same}
+use Rattle.kcr_people.specs.declared.Appointment.{Appointment}
 use Rattle.kcr_people.specs.declared.Training.{Training}
 use Rattle.kcr_people.specs.declared.Withdrawal.{Withdrawal}
-use Rattle.kcr_people.specs.People.{trains, trained_by}
+use Rattle.kcr_people.specs.People.{trains, trained_by, holds, lasts_beyond}
 use Rattle.kcr_people.proofs.Orders.{trained-order}
 use Rattle.kcr_room.specs.declared.Stay.{Stay}
 use Rattle.kcr_room.specs.Room.{ascending}
@@ -29,10 +30,12 @@ use Rattle.kcr_history.specs.Tables.{trainings, withdrawals, appointments}
 use Rattle.kcr_history.specs.Views.{is_training_of, is_withdrawal_of, lasts_to}
 use Rattle.kcr_history.specs.Conditions.{has_holder_in}
 use Rattle.kcr_history.specs.Machine.{IsRegister}
+use Rattle.kcr_history.proofs.Orderly.{orderly, holder-appointments}
 use Rattle.kcr_history.proofs.Trained.{trained-rows}
 use Rattle.kcr_rules.specs.Scene.{is_in_by, is_attended_by, has_holder_in_by}
-use Rattle.kcr_laws.proofs.Staffed.{holder-all}
-use Rattle.kcr_machine.proofs.Keyed.{Shown, any-shown}
+use Rattle.kcr_laws.proofs.Finds.{only-holder}
+use Rattle.kcr_laws.proofs.Staffed.{TellsHolders}
+use Rattle.kcr_machine.proofs.Keyed.{Shown, any-shown, find-shown}
 use Rattle.kcr_machine.proofs.People.{trained-shown}
 
 -- THE ROOM
@@ -89,10 +92,25 @@ attended-shown A h view c t s p q role =
     (present_in_by view.stays.items c t) (λ who. trained-lasting A h view.trainings.items view.withdrawals.items (day_of t) p q who role)
     ∙ ap (list_any (λ who. trained A who role (day_of t))) (present-shown A c t view.stays.items s)
 
+-- PLACES
+
+-- an appointment by which somebody holds a place on the day lasts beyond it
+holds-beyond : (place : Place) (day : ℕ) (row : Appointment) → holds place day row ≡ true → lasts_beyond day row ≡ true
+holds-beyond place day row h = grind arith
+
+-- who holds a place on the day, by the appointments that last beyond it
+pub holder-lasting : (A : History) → IsRegister A → (rows : List Appointment) (day : ℕ) → Shown (lasts_beyond day) (appointments A) rows
+    → TellsHolders A rows day
+holder-lasting A h rows day p place =
+    ap (option_map (λ row. row.who))
+    (find-shown (holds place day) (lasts_beyond day) (holds-beyond place day) (appointments A) rows p
+    (λ r e. only-holder place day r (appointments A) (orderly A h).0 e))
+    ∙ holder-appointments A h place day
+
 -- whether the place has a holder, who is in the room
 pub holder_in-shown : (A : History) → IsRegister A → (view : View) (c t : ℕ) → Shown (is_lasting c t) (reverse (stays_by (sheet A))) view.stays.items
-    → IsPermutation (appointments A) view.appointments.items
+    → Shown (lasts_beyond (day_of t)) (appointments A) view.appointments.items
     → (place : Place) → has_holder_in_by view place c t ≡ has_holder_in A place c t
 holder_in-shown A h view c t s p place =
     let inside : (who : List ℕ) → is_in_by view.stays.items who c t ≡ is_in A who c t = in-shown A c t view.stays.items s in
-    grind (arith, holder-all A h view.appointments.items p place (day_of t), inside)
+    grind (arith, holder-lasting A h view.appointments.items (day_of t) p place, inside)

@@ -1,5 +1,5 @@
 -- Tables whose rows are functions of their keys: what is found among the rows that a view shows, and what a row put under its key makes of them.
-use Rattle.std.proofs.Common.{◌≡◌, Bool, true, false, cond, ◌&&◌, ◌||◌, List, [], ◌∷◌, map, filter, find, Option, option_map, is_some, refl, sym}
+use Rattle.std.proofs.Common.{◌≡◌, Bool, true, false, cond, ◌&&◌, ◌||◌, List, [], ◌∷◌, map, filter, find, Option, Some, None, option_map, is_some, refl, sym}
 use Rattle.std.proofs.Common.{ap, ◌∙◌, inl, inr, arith}
 use Rattle.std.specs.Prelude.{unwrap_or}
 use Rattle.std.specs.List.{list_any, AllByRecursion}
@@ -9,7 +9,7 @@ use Rattle.std.proofs.lemmas.List.Sorted.{list_any-IsPermutation}
 use Rattle.std.proofs.lemmas.List.Elements.{All-from_recursion, recursion_from_All, All-filter}
 use Rattle.kcr_base.specs.Rows.{put, put_all}
 use Rattle.kcr_base.proofs.RowsLemmas.{filter-order}
-use Rattle.kcr_base.proofs.ListLemmas.{any-same, find-all, some_if, any-map, Only, all-keys, only-order}
+use Rattle.kcr_base.proofs.ListLemmas.{any-same, find-all, find-none, none-find, some-find, some_if, any-map, Only, all-keys, only-order}
 use Rattle.kcr_room.proofs.Lists as RoomLists
 use Rattle.kcr_room.proofs.Lists.{map-map, filter-kept}
 use Rattle.kcr_base.proofs.Members.{IsIn, Implies, map-same-in}
@@ -53,6 +53,15 @@ found-shown {X} test of v inside table rows p only =
     let shown = only-order test v (filter of table) (filter of rows) p kept in
     find-all test v rows (unfilter P of (λ x e t. absurd (both_ways (of x) e (inside x t))) rows shown)
     ∙ ap (λ b. some_if b v) (any-shown test of inside table rows p)
+
+-- where all of them are the first that passes, the same one is found
+pub find-shown : {X : Type 0} (test of : X → Bool) → Implies test of → (table rows : List X) → Shown of table rows
+    → ((x : X) → find test table ≡ Some x → Only test x table) → find test rows ≡ find test table
+find-shown {X} test of inside table rows p only = by_first (find test table) refl
+  where
+    by_first : (o : Option X) → find test table ≡ o → find test rows ≡ o
+    by_first None e = find-none test rows (any-shown test of inside table rows p ∙ none-find test table e)
+    by_first (Some x) e = found-shown test of x inside table rows p (only x e) ∙ ap (λ b. some_if b x) (some-find test x table e)
 
 -- what that one says is what the history says, where it is there exactly where the history says something
 pub said-shown : {X Y : Type 0} (test of : X → Bool) (v : X) (says : X → Y) (said : Option Y) (other : Y) → Implies test of → (table rows : List X)

@@ -11,6 +11,7 @@ use Rattle.kcr_base.specs.declared.place.Facility.{Facility}
 use Rattle.kcr_base.specs.declared.place.Role.TheVariants.{Ca, Iw}
 use Rattle.kcr_base.specs.declared.refusal.Refusal.{Refusal}
 use Rattle.kcr_base.specs.declared.refusal.Refusal.TheVariants.{Short}
+use Rattle.kcr_people.specs.People.{lasts_beyond}
 use Rattle.kcr_script.specs.declared.seat.Seat.{Seat}
 use Rattle.kcr_seats.specs.Seating as Search
 use Rattle.kcr_history.specs.declared.commands.Act.{Act}
@@ -40,7 +41,7 @@ use Rattle.kcr_laws.proofs.Alone.{rooms}
 use Rattle.kcr_laws.proofs.Done.{next_signed}
 use Rattle.kcr_laws.proofs.Staffed.{fits-on}
 use Rattle.std.proofs.lemmas.Option.{same_Some, none-some}
-use Rattle.kcr_machine.proofs.InRoom.{present-shown, trained-lasting}
+use Rattle.kcr_machine.proofs.InRoom.{present-shown, trained-lasting, holder-lasting}
 use Rattle.kcr_machine.proofs.Keyed.{Shown, put-new}
 use Rattle.kcr_machine.proofs.Leads.{FrontShown, SeatsLeadOn, changed-append, command_of, entry_as, new_key}
 use Rattle.kcr_machine.proofs.Scenes.{facility-shown, is_open-shown, known-shown, mark-shown, marks-put}
@@ -91,17 +92,17 @@ pub seats-shown : (A : History) → IsRegister A → (c k : ℕ) (view : View) �
     → seats_by (step_by view.steps.items c k) ≡ seats_at (steps_of A c) k
 seats-shown A h c k view p e = rw (step-shown A h c k view.steps.items p, e) refl
 
--- who fits a seat on the day of a sitting, by the trainings that last to it, all withdrawals and all appointments
+-- who fits a seat on the day of a sitting, by the trainings that last to it, all withdrawals and the appointments that last beyond it
 abbrev by_view : History → View → Sitting → Seat → List ℕ → Bool
 by_view A view s = fits_by view.trainings.items view.withdrawals.items view.appointments.items (facility_of A s.ceremony) (day_of s.at)
 
 pub fits-shown : (A : History) → IsRegister A → (view : View) (day : ℕ) → Shown (lasts_to day) (trainings A) view.trainings.items
-    → IsPermutation (withdrawals A) view.withdrawals.items → IsPermutation (appointments A) view.appointments.items
+    → IsPermutation (withdrawals A) view.withdrawals.items → Shown (lasts_beyond day) (appointments A) view.appointments.items
     → (f : Facility) (o : Option Seat) (who : List ℕ)
     → on_seat (fits_by view.trainings.items view.withdrawals.items view.appointments.items f day) o who ≡ on_seat (fits A f day) o who
 fits-shown A h view day p q r f None who = refl
 fits-shown A h view day p q r f (Some seat) who =
-    fits-on A h view.trainings.items view.withdrawals.items view.appointments.items r day
+    fits-on A view.trainings.items view.withdrawals.items view.appointments.items day (holder-lasting A h view.appointments.items day r)
     (trained-lasting A h view.trainings.items view.withdrawals.items day p q) f seat who
 
 -- of the seats of a passing exception trainings and withdrawals are enough
@@ -128,7 +129,7 @@ sign-sitting A h c k at view v =
     record {
       facility = facility-shown A c view.ceremonies.items v.ceremonies;
       room = present-shown A c at view.stays.items v.stays.room;
-      fit = λ j who. fits-shown A h view (day_of at) v.trainings v.withdrawals v.appointments (facility_of A c) (slice_get (seats_at (steps_of A c) k) j) who;
+      fit = λ j who. fits-shown A h view (day_of at) v.trainings v.withdrawals v.appointments.1 (facility_of A c) (slice_get (seats_at (steps_of A c) k) j) who;
     }
 
 pass-sitting : (A : History) → IsRegister A → (c : ℕ) (text : List ℕ) (at : ℕ) (view : View)

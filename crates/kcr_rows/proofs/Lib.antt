@@ -10,7 +10,6 @@ pub mod SameLemmas
 pub mod OrderLemmas
 pub mod GreatestLemmas
 pub mod CreateLemmas
-pub mod UpsertLemmas
 pub mod StateLemmas
 pub mod FrameLemmas
 pub mod OverLemmas

@@ -13,7 +13,8 @@ use Rattle.kcr_base.specs.declared.refusal.Refusal.TheVariants.{Unknown}
 use Rattle.kcr_base.specs.declared.refusal.Thing.TheVariants as Things
 use Rattle.kcr_base.proofs.RowsLemmas.{filter-order}
 use Rattle.kcr_base.proofs.ListLemmas.{any-map}
-use Rattle.kcr_people.specs.People.{holder_by}
+use Rattle.kcr_people.specs.declared.Appointment.{Appointment}
+use Rattle.kcr_people.specs.People.{holder_by, lasts_beyond}
 use Rattle.kcr_custody.specs.declared.Bag.{Bag}
 use Rattle.kcr_custody.specs.Custody.{spot_by, lies_in}
 use Rattle.kcr_room.specs.declared.Stay.{Stay}
@@ -25,15 +26,15 @@ use Rattle.kcr_history.specs.Ceremonies.{is_ceremony}
 use Rattle.kcr_history.specs.Custody.{spot}
 use Rattle.kcr_history.specs.Machine.{IsRegister}
 use Rattle.kcr_history.specs.Room.{sheet, present}
-use Rattle.kcr_history.specs.Tables.{Tables, SameTables, tables, items, bags, ceremonies, ceremony_row, planned_number}
+use Rattle.kcr_history.specs.Tables.{Tables, SameTables, tables, appointments, items, bags, ceremonies, ceremony_row, planned_number}
 use Rattle.kcr_history.specs.Views.{is_of_serial, is_of_number}
 use Rattle.kcr_room.specs.Stays.{is_lasting}
 use Rattle.kcr_machine.proofs.BagsWords.{spot-shown}
-use Rattle.kcr_laws.proofs.Staffed.{holder-all}
-use Rattle.kcr_machine.proofs.InRoom.{present-shown}
+use Rattle.kcr_machine.proofs.InRoom.{present-shown, holder-lasting}
+use Rattle.kcr_machine.proofs.Keyed.{Shown}
 use Rattle.kcr_machine.proofs.Scenes.{ceremony-shown}
 use Rattle.kcr_tables.proofs.JointLemmas.{Rises}
-use Rattle.kcr_tables.proofs.NamedLemmas.{twice}
+use Rattle.kcr_tables.proofs.NamedLemmas.{passing}
 use Rattle.kcr_tables.proofs.ViewLemmas.{asked_shows}
 use Rattle.kcr_history.specs.declared.questions.BagShown.{BagShown}
 use Rattle.kcr_history.specs.Questions.{holders_by, holders_on, IsBagShown}
@@ -53,10 +54,18 @@ some_kept test (x ∷ xs) = by_test (test x) (some_kept test xs)
 
 -- ---- what the rows of a register's tables show
 
+-- rows that are those of a table that pass, in some order, pass; so they show those of the table in another order
+passing_shown : {X : Type 0} (of : X → Bool) (xs ys rows : List X) → IsPermutation xs ys → IsPermutation (filter of ys) rows → Shown of xs rows
+passing_shown of xs ys rows same are =
+    IsPermutation-trans _ _ _ (filter-order of xs ys same) (passing of ys rows are)
+
 module _ (A : History) (register : IsRegister A) (t : Tables) (same : SameTables (tables A) t) where
   -- who holds which place on a day
-  pub holders_shown : (day : ℕ) → holders_by (λ place. holder_by t.appointments place day) ≡ holders_on A day
-  holders_shown day = λ i. holders_by (λ place. holder-all A register t.appointments same.appointments place day i)
+  pub holders_shown : (day : ℕ) (rows : List Appointment) → IsPermutation (filter (lasts_beyond day) t.appointments) rows
+      → holders_by (λ place. holder_by rows place day) ≡ holders_on A day
+  holders_shown day rows are =
+      let shown = passing_shown (lasts_beyond day) (appointments A) t.appointments rows same.appointments are in
+      λ i. holders_by (λ place. holder-lasting A register rows day shown place i)
 
   -- where the bag lies
   pub spot_shown : (serial : List ℕ) (rows : List Bag) → rows ≡ filter (is_of_serial serial) t.bags → spot_by rows serial ≡ spot A serial
@@ -108,8 +117,4 @@ module _ (A : History) (register : IsRegister A) (t : Tables) (same : SameTables
   pub present_shown : (ceremony at : ℕ) (rows : List Stay) → IsPermutation (filter (is_lasting ceremony at) t.stays) rows
       → present_in_by rows ceremony at ≡ present A ceremony at
   present_shown ceremony at rows are =
-      let of_it = is_lasting ceremony at in
-      let stored = filter-order of_it (reverse (stays_by (sheet A))) t.stays same.stays in
-      let kept : IsPermutation (filter of_it t.stays) (filter of_it rows) =
-      subst (λ l. IsPermutation l (filter of_it rows)) (twice of_it t.stays) (filter-order of_it (filter of_it t.stays) rows are) in
-      present-shown A ceremony at rows (IsPermutation-trans _ _ _ stored kept)
+      present-shown A ceremony at rows (passing_shown (is_lasting ceremony at) (reverse (stays_by (sheet A))) t.stays rows same.stays are)

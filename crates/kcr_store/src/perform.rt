@@ -28,10 +28,13 @@ use kcr_history::{
     RoomShown, Shown, Verdict, asks,
 };
 use kcr_machine::{decide, refused_ahead, repeat};
-use kcr_people::{Appointment, Person, Training, Withdrawal};
+use kcr_people::{Person, Training, Withdrawal};
 use kcr_reading::Reading;
 use kcr_room::present_in;
-use kcr_tables::{all_rows, completed, front_of, make_changes, rows_under, stays_lasting_to};
+use kcr_tables::{
+    all_rows, appointments_lasting_beyond, completed, front_of, make_changes, rows_under,
+    stays_lasting_to,
+};
 use sqlite::{Alter, Connection, Error, ErrorCode, Transaction};
 use std::alloc::Global;
 
@@ -256,7 +259,7 @@ fn read_custodians<S: Alter>(
         (state S.Store tx.new.conn.now) (λ A. IfOk result (AreCustodiansShown A day)) }
     ensures frame { StaysWithin IsFault (state S.Store tx.old.conn.now) (state S.Store tx.new.conn.now) result }
 {
-    let appointments = all_rows::<_, Appointment>(alloc, tx)?;
+    let appointments = appointments_lasting_beyond(alloc, tx, day)?;
     Ok(custodians_shown(alloc, &appointments, day)?)
 }
 

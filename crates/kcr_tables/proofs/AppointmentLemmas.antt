@@ -1,4 +1,4 @@
--- What is shown of appointments: of a place and of a person the one that began last.
+-- What is shown of appointments: of a place and of a person the one that began last, or those that last beyond a day.
 use Rattle.std.proofs.Common.{◌≡◌, inl, inr, ◌≤◌, ◌&&◌, nat_le, Bool, true, ℕ, List, ◌++◌, filter, refl, sym, subst}
 use Rattle.std.specs.List.{list_any}
 use Rattle.std.specs.List.Sorted.{IsPermutation}
@@ -7,8 +7,10 @@ use Rattle.std.proofs.lemmas.List.Elements.{All-from_recursion}
 use Rattle.std.proofs.lemmas.List.Sorted.{All-permutation, IsPermutation-sym, IsPermutation-trans}
 use Rattle.sqlite_rules.specs.Lists.{Has}
 use Rattle.sqlite_rules.proofs.ListLemmas.{all_has, all_from}
-use Rattle.kcr_base.proofs.Members.{IsIn, in-any, in-append, in-front, in-behind, in-order}
+use Rattle.kcr_base.proofs.RowsLemmas.{filter-order}
+use Rattle.kcr_base.proofs.Members.{IsIn, in-any, in-append, in-front, in-behind, in-filter, in-order}
 use Rattle.kcr_people.specs.declared.Appointment.{Appointment}
+use Rattle.kcr_people.specs.People.{lasts_beyond}
 use Rattle.kcr_history.specs.declared.views.AppointmentsOf.{AppointmentsOf}
 use Rattle.kcr_history.specs.declared.views.AppointmentsOf.TheVariants as Wanted
 use Rattle.kcr_history.specs.declared.views.Selection.{Selection}
@@ -17,6 +19,7 @@ use Rattle.kcr_history.specs.Views.{ShowsLastOf, ShowsAppointmentsOf, ShowsAppoi
 use Rattle.kcr_base.specs.declared.place.Place.{Place}
 use Rattle.kcr_rows.specs.Greatest.{IsGreatest}
 use Rattle.kcr_tables.proofs.HasLemmas.{has_in, filter_from, filter_to, filter_is}
+use Rattle.kcr_tables.proofs.NamedLemmas.{passing}
 
 -- where the row passes, one that is shown passes too and begins no earlier
 abbrev Reached : (Appointment → Bool) → List Appointment → Appointment → Type 0
@@ -72,6 +75,14 @@ both_shown place who table front behind to of = (
   ),
 )
 
+-- those that last beyond a day, alone
+pub beyond_shown : (day : ℕ) (table shown : List Appointment) → IsPermutation (filter (lasts_beyond day) table) shown
+    → ShowsAppointments (Under (Wanted.Lasting day)) table shown
+beyond_shown day table shown is = (
+  λ x i. (in-filter (lasts_beyond day) x table (in-order x (filter (lasts_beyond day) table) shown is i)).0,
+  passing (lasts_beyond day) table shown is,
+)
+
 -- the same of a table that has its rows in another order
 pub appointments_shown : (asked : Selection AppointmentsOf) (xs ys rows : List Appointment) → IsPermutation xs ys → ShowsAppointments asked ys rows
     → ShowsAppointments asked xs rows
@@ -86,3 +97,4 @@ appointments_shown (Under asked) xs ys rows same h = (λ x i. in-order x xs ys s
     lasts (Wanted.Place place) l = turned (is_appointment_to place) l
     lasts (Wanted.Person who) l = turned (is_appointment_of who) l
     lasts (Wanted.Both place who) l = (turned (is_appointment_to place) l.0, turned (is_appointment_of who) l.1)
+    lasts (Wanted.Lasting day) l = IsPermutation-trans _ _ _ (filter-order (lasts_beyond day) xs ys same) l

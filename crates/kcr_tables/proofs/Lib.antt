@@ -1,4 +1,5 @@
 pub mod AppointmentLemmas
+pub mod BeyondLemmas
 pub mod CountLemmas
 pub mod ExactLemmas
 pub mod FirstLemmas

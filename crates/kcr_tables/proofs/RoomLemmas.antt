@@ -11,7 +11,9 @@ use Rattle.sqlite.specs.Collation.TheVariants.{Binary}
 use Rattle.sqlite.specs.Listing.{understood}
 use Rattle.sqlite_schema.specs.Rules.{equal}
 use Rattle.sqlite_sql.specs.declared.ops.BinaryOp.TheVariants.{Compare, Is, Or}
+use Rattle.sqlite_sql.specs.declared.ops.CompareOp.{CompareOp}
 use Rattle.sqlite_sql.specs.declared.ops.CompareOp.TheVariants.{Eq, Ge}
+use Rattle.sqlite_sql.specs.Ops.{test}
 use Rattle.sqlite_value.specs.Keys.{ascending}
 use Rattle.sqlite_value.proofs.OrderLemmas.{value_cmp-Int, value_cmp_total}
 use Rattle.sqlite_tied.specs.Compute.{everything}
@@ -23,7 +25,6 @@ use Rattle.kcr_rows.proofs.FilterLemmas.{filter_as, value_is}
 use Rattle.kcr_rows.proofs.SameLemmas.{number_ties}
 use Rattle.kcr_tables.specs.Exact.{has_number, is_lasting_row}
 use Rattle.kcr_tables.specs.Held.{stays_place}
-use Rattle.kcr_tables.specs.Parts.{text_in, number_in}
 use Rattle.kcr_tables.specs.Statements.{ShowsPassing}
 use Rattle.kcr_tables.specs.StaysLaws as laws
 use Rattle.kcr_tables.proofs.TrainingLemmas.{number_from}
@@ -37,12 +38,12 @@ room_test =
     ∷ op2 Or (op2 (Is Binary) (col 1 4) (lit Null)) (op2 (Compare Ge Binary) (col 1 4) (col 0 1))
     ∷ []
 
--- whether there is no end, or one from the moment on, as the text tests it
-abbrev ends_from : Value → ℕ → Bool
-ends_from until at = is_true (binary Or (binary (Is Binary) until Null) (binary (Compare Ge Binary) until (Int (pos at))))
+-- whether there is nothing, or a number that the comparison passes, as a text tests it
+abbrev pub ends : CompareOp → Value → ℕ → Bool
+ends op until n = is_true (binary Or (binary (Is Binary) until Null) (binary (Compare op Binary) until (Int (pos n))))
 
 abbrev pub passes : ℕ → ℕ → Row → Bool
-passes ceremony at row = equal Binary (column row 2) (Int (pos ceremony)) && (ends_from (column row 3) at && true)
+passes ceremony at row = equal Binary (column row 2) (Int (pos ceremony)) && (ends Ge (column row 3) at && true)
 
 pub room_shows : (ceremony at : ℕ) → ShowsPassing room_sql stays_place (Int (pos ceremony) ∷ Int (pos at) ∷ []) (passes ceremony at)
 unfolding understood everything
@@ -71,18 +72,18 @@ nothing_is (Real x) = refl
 nothing_is (Text t) = refl
 nothing_is (Blob b) = refl
 
--- there is nothing, or what there is is at least the moment
-ends_is : (v : Value) (n : ℕ) → ends_from v n ≡ (is_null v || (not (is_null v) && is_ge (value_cmp v (Int (pos n)))))
+-- it is what SQL tells
+pub ends_is : (op : CompareOp) (v : Value) (n : ℕ) → ends op v n ≡ (is_null v || (not (is_null v) && test op (value_cmp v (Int (pos n)))))
 unfolding binary
-ends_is Null n = ap (λ a. is_true (from_truth (or3 (truth (from_truth (Some a))) None))) (nothing_is Null)
-ends_is (Int m) n = let b = is_ge (value_cmp (Int m) (Int (pos n))) in ap (λ a. either a b) (nothing_is (Int m)) ∙ either_is b
-ends_is (Real x) n = let b = is_ge (value_cmp (Real x) (Int (pos n))) in ap (λ a. either a b) (nothing_is (Real x)) ∙ either_is b
-ends_is (Text t) n = let b = is_ge (value_cmp (Text t) (Int (pos n))) in ap (λ a. either a b) (nothing_is (Text t)) ∙ either_is b
-ends_is (Blob c) n = let b = is_ge (value_cmp (Blob c) (Int (pos n))) in ap (λ a. either a b) (nothing_is (Blob c)) ∙ either_is b
+ends_is op Null n = ap (λ a. is_true (from_truth (or3 (truth (from_truth (Some a))) None))) (nothing_is Null)
+ends_is op (Int m) n = let b = test op (value_cmp (Int m) (Int (pos n))) in ap (λ a. either a b) (nothing_is (Int m)) ∙ either_is b
+ends_is op (Real x) n = let b = test op (value_cmp (Real x) (Int (pos n))) in ap (λ a. either a b) (nothing_is (Real x)) ∙ either_is b
+ends_is op (Text t) n = let b = test op (value_cmp (Text t) (Int (pos n))) in ap (λ a. either a b) (nothing_is (Text t)) ∙ either_is b
+ends_is op (Blob c) n = let b = test op (value_cmp (Blob c) (Int (pos n))) in ap (λ a. either a b) (nothing_is (Blob c)) ∙ either_is b
 
 -- the text's test is that the row is of the ceremony and lasts to the moment
 pub passes_row : (ceremony at : ℕ) (row : Row) → passes ceremony at row ≡ is_lasting_row ceremony at row
-passes_row ceremony at row = both (equal Binary (column row 2) (Int (pos ceremony))) _ _ (ends_is (column row 3) at)
+passes_row ceremony at row = both (equal Binary (column row 2) (Int (pos ceremony))) _ _ (ends_is Ge (column row 3) at)
   where
     both : (a b c : Bool) → b ≡ c → (a && (b && true)) ≡ ((a && true) && c)
     both true true c e = e
@@ -105,23 +106,3 @@ passes_stay ceremony at x =
 
 pub stays_in : (ceremony at : ℕ) (all : List Stay) → filter (λ x. passes ceremony at (stay_row x)) all ≡ filter (is_lasting ceremony at) all
 stays_in ceremony at = filter_as _ _ (passes_stay ceremony at)
-
--- ---- the stay that a row tells
-
-abbrev number_or_none : Value → Option ℕ
-number_or_none Null = None
-number_or_none (Int (pos n)) = Some n
-number_or_none (Int (negsuc n)) = None
-number_or_none (Real x) = None
-number_or_none (Text t) = None
-number_or_none (Blob b) = None
-
-until_told : (until : Option ℕ) → number_or_none (int_or_null until) ≡ until
-until_told None = refl
-until_told (Some n) = refl
-
-abbrev pub stay_in : Row → Stay
-stay_in row = record { who = text_in 0 row; since = number_in 1 row; ceremony = number_in 2 row; until = number_or_none (column row 3) }
-
-pub stay_told : (x : Stay) → stay_in (stay_row x) ≡ x
-stay_told x = λ i. record { who = x.who; since = x.since; ceremony = x.ceremony; until = until_told x.until i }

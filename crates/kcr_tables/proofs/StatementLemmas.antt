@@ -1,27 +1,31 @@
 -- What the statements of a table do, from what it proves of their texts.
-use Rattle.std.proofs.Common.{◌≡◌, inl, inr, ℕ, negsuc, Bool, List, [], ◌∷◌, map, filter, Ok, sym, ap, subst, subst₂, ◌∙◌, IsPermutation}
-use Rattle.std.specs.List.{AllByRecursion}
-use Rattle.std.proofs.lemmas.List.{map-id}
-use Rattle.std.proofs.lemmas.List.Sorted.{IsPermutation-map, IsPermutation-trans}
+use Rattle.std.proofs.Common.{◌≡◌, ◌<◌, ℕ, negsuc, not, Bool, List, [], ◌∷◌, map, filter, length, get_or, set, Ok, refl, sym, ap, subst, subst₂, ◌∙◌, arith, IsPermutation}
+use Rattle.std.specs.Bool.{⊤}
+use Rattle.std.specs.List.{AllByRecursion, list_all}
+use Rattle.std.specs.Prelude.{swap}
+use Rattle.std.proofs.Math.ListN.{get_or-map}
+use Rattle.std.proofs.lemmas.List.{length-map, map-set}
+use Rattle.std.proofs.lemmas.List.Sorted.{IsPermutation-map, IsPermutation-keeps, IsPermutation-refl, IsPermutation-swap, IsPermutation-trans}
 use Rattle.sqlite.specs.declared.types.Value.TheVariants.{Null}
 use Rattle.sqlite.specs.Order.{Row}
 use Rattle.sqlite.specs.Program.{overlay}
 use Rattle.sqlite.specs.Query.{Output, IsAnswer, output}
 use Rattle.sqlite.specs.State.{State, Shown, Executes}
 use Rattle.sqlite.proofs.Callers.{reads_as}
+use Rattle.sqlite_schema.specs.Rules.{clashes}
+use Rattle.sqlite_value.specs.Keys.{plain}
 use Rattle.sqlite_trees.proofs.ListLemmas.{map-map, filter-map, IsPermutation-filter}
 use Rattle.kcr_rows.specs.Keyed.{Place, Keeps, cells, put_in}
-use Rattle.kcr_rows.proofs.TableLemmas.{Changes, executes_insert, put_in_rows, shown_checked, shown_exact}
+use Rattle.kcr_rows.proofs.TableLemmas.{Changes, each_is, executes_insert, put_in_rows, same_values, shown_checked, shown_exact}
 use Rattle.sqlite.specs.Tree.{Trees}
 use Rattle.kcr_rows.proofs.OrderLemmas.{put_in_all}
 use Rattle.kcr_rows.proofs.FilterLemmas.{filter_as}
 use Rattle.kcr_rows.proofs.ReadLemmas.{asking, kept_from}
-use Rattle.kcr_rows.proofs.UpsertLemmas.{executes_upsert}
 use Rattle.kcr_rows.proofs.UpdateLemmas.{Updated, executes_update}
 use Rattle.kcr_tables.specs.Schema.{register_schema}
 use Rattle.kcr_tables.specs.Exact.{rows_at}
 use Rattle.kcr_tables.specs.Held.{Tables, Holds}
-use Rattle.kcr_tables.specs.Statements.{ShowsRows, ShowsPassing, UpsertsRow, InsertsRow, UpdatesRow, PutsRow}
+use Rattle.kcr_tables.specs.Statements.{ShowsRows, ShowsPassing, InsertsRow, UpdatesRow}
 use Rattle.kcr_tables.specs.Table.{Table, IsTable, with_put}
 
 module _ {X : Type 0} (sql : List ℕ) (place : Place) (params : Row) (passes : Row → Bool) (s : ShowsRows sql place params passes) (row_of : X → Row) where
@@ -42,6 +46,25 @@ module _ {X : Type 0} (sql : List ℕ) (place : Place) (params : Row) (passes : 
       shown_exact place register_schema sql params s.test s.project s.order s.names passes (λ i. (s.is i).command, λ i. (s.is i).reads_catalog) s.bare
       (λ r i. (s.is i).shows r) (λ r i. (s.is i).passes r) (λ a b i. (s.is i).compares a b) (λ i. (s.is i).is_far) row_of old new xs has h
 
+-- the rows of values in whatever order are those of the same values in that order
+in_row_order : {X : Type 0} (row_of : X → Row) (ys : List X) (rows : List Row) → IsPermutation (map row_of ys) rows
+    → (xs : List X) × (rows ≡ map row_of xs) × IsPermutation ys xs
+in_row_order {X} row_of ys rows p =
+    IsPermutation-keeps (map row_of ys) (λ l. (xs : List X) × (l ≡ map row_of xs) × IsPermutation ys xs) (ys, refl, IsPermutation-refl ys)
+    (λ l i j p q h. let long = ap length h.1 ∙ length-map h.0 row_of in (
+      swap h.0 i j,
+      ap (λ l. swap l i j) h.1 ∙ sym (map-swap h.0 i j),
+      IsPermutation-trans ys h.0 _ h.2 (IsPermutation-swap h.0 _ i j (subst (λ n. i < n) long p) (subst (λ n. j < n) long q) refl),
+    )) rows p
+  where
+    map-swap : (xs : List X) (i j : ℕ) → map row_of (swap xs i j) ≡ swap (map row_of xs) i j
+    map-swap [] i j = refl
+    map-swap (x ∷ xs) i j =
+        let all = x ∷ xs in
+        map-set row_of (set all i (get_or all j x)) j (get_or all i x)
+        ∙ ap (λ l. set l j (row_of (get_or all i x))) (map-set row_of all i (get_or all j x))
+        ∙ (λ t. set (set (map row_of all) i (sym (get_or-map row_of all j x) t)) j (sym (get_or-map row_of all i x) t))
+
 -- a text whose order is of no account
 module _ {place : Place} {sql : List ℕ} {params : Row} {passes : Row → Bool} (s : ShowsPassing sql place params passes) where
   -- whatever the tree has, its rows that pass are shown
@@ -60,18 +83,18 @@ module _ {place : Place} {sql : List ℕ} {params : Row} {passes : Row → Bool}
       ∙ sym (filter-map passes (cells place) entries) in
       subst₂ IsPermutation shown (sym a.shown) (IsPermutation-map second _ _ a.same)
 
-  -- where each value is told by its row, the values are those whose rows pass
-  pub passing_values : {X : Type 0} (row_of : X → Row) (value_in : Row → X) → ((x : X) → value_in (row_of x) ≡ x) → (old new : State) (xs ys : List X)
+  -- where no two values stand for one row, the values are those whose rows pass
+  pub passing_values : {X : Type 0} (row_of : X → Row) → ((x y : X) → ⊤ → ⊤ → row_of x ≡ row_of y → x ≡ y) → (old new : State) (xs ys : List X)
       → old.now.schema ≡ register_schema → Shown sql params old new (map row_of xs) → Keeps place old.now.trees (map row_of ys)
       → IsPermutation (filter (λ y. passes (row_of y)) ys) xs
-  passing_values {X} row_of value_in told old new xs ys has h keeps =
+  passing_values row_of one old new xs ys has h keeps =
       let mine = filter (λ y. passes (row_of y)) ys in
-      let back : (l : List X) → map value_in (map row_of l) ≡ l = λ l. map-map value_in row_of l ∙ (λ i. map (λ x. told x i) l) ∙ map-id l in
       let passed : IsPermutation (map row_of mine) (filter passes (rows_at place old.now.trees)) =
       subst (λ l. IsPermutation l (filter passes (rows_at place old.now.trees))) (filter-map passes row_of ys)
       (IsPermutation-filter passes _ _ keeps.same) in
-      subst₂ IsPermutation (back mine) (back xs)
-      (IsPermutation-map value_in _ _ (IsPermutation-trans _ _ _ passed (passing_rows old new (map row_of xs) has h)))
+      let found = in_row_order row_of mine (map row_of xs) (IsPermutation-trans _ _ _ passed (passing_rows old new (map row_of xs) has h)) in
+      let same = same_values row_of (λ _. ⊤) (λ _. ⊤) one xs found.0 (each_is xs) (each_is found.0) found.1 in
+      subst (IsPermutation mine) (sym same) found.2
 
 -- one row is put
 module _ {X : Type 0} (sql : List ℕ) (place : Place) (row_of : X → Row) (x : X) (old new : State) (count : ℕ)
@@ -79,25 +102,13 @@ module _ {X : Type 0} (sql : List ℕ) (place : Place) (row_of : X → Row) (x :
   abbrev Put : Type 0
   Put = (new.now.schema ≡ register_schema) × Changes place register_schema (row_of x) old.now.trees new.now.trees
 
-  upserted : UpsertsRow sql place row_of → Put
-  upserted p =
-      executes_upsert place register_schema p.at p.table (λ i. (p.is i).giving.writing.here) (λ olds news i. (p.is i).giving.writing.alone olds news)
-      (λ a b i. (p.is i).giving.writing.compares a b) (λ a i. (p.is i).giving.writing.fulls a) sql p.terms p.bare (row_of x)
-      (λ i. (p.is i).giving.given x) (p.casts x) (λ id i. (p.is i).shown x id) (λ i. (p.is i).giving.writing.filled x) p.test p.sets
-      (λ entries there r i. (p.is i).tests x entries there r)
-      (λ entries there r i. (p.is i).gives x entries there r) (λ i. (p.is i).is_far) (λ a b i. (p.is i).shared a b) (λ i. (p.is i).giving.writing.command)
-      old new count has h
-
-  inserted : InsertsRow sql place row_of → Put
-  inserted p =
+  pub row_put : InsertsRow sql place row_of → Put
+  row_put p =
       executes_insert place register_schema p.at p.table (λ i. (p.is i).giving.writing.here) (λ olds news i. (p.is i).giving.writing.alone olds news)
-      (λ a b i. (p.is i).giving.writing.compares a b) (λ a i. (p.is i).giving.writing.fulls a) (λ rows row i. (p.is i).guarded rows row) sql p.terms
+      (λ a b i. (p.is i).giving.writing.compares a b) (λ a i. (p.is i).giving.writing.fulls a) (λ rows row. list_all (λ columns. not (clashes plain columns rows row)) p.others)
+      (λ rows row i. (p.is i).guarded rows row) sql p.terms
       (λ i. (p.is i).giving.writing.command) p.bare (row_of x) (p.given x) (λ i. (p.is i).giving.given x) (p.casts x)
       (λ entries i. (p.is i).numbered x entries) (λ entries i. (p.is i).shown x entries) (λ i. (p.is i).giving.writing.filled x) old new count has h
-
-  pub row_put : PutsRow sql place row_of → Put
-  row_put (inl p) = upserted p
-  row_put (inr p) = inserted p
 
   -- or is changed, where there is one that has its key
   pub row_updated : UpdatesRow sql place row_of

@@ -1,6 +1,5 @@
--- The text that shows the trainings that last to a day, and the training that a row tells.
+-- The text that shows the trainings that last to a day.
 use Rattle.std.proofs.Common.{◌≡◌, ℕ, pos, ◌&&◌, not, nat_le, Bool, true, false, List, [], ◌∷◌, filter, find, codes, Some, refl, ap, ◌∙◌, arith}
-use Rattle.std.specs.Prelude.{unwrap_or}
 use Rattle.std.specs.Ordering.{is_ge, int_cmp}
 use Rattle.std.proofs.lemmas.Bool.Decides.{nat_tests}
 use Rattle.sqlite.specs.declared.types.Value.{Value}
@@ -15,17 +14,12 @@ use Rattle.sqlite_sql.specs.declared.ops.CompareOp.TheVariants.{Ge}
 use Rattle.sqlite_value.specs.Keys.{ascending}
 use Rattle.sqlite_value.proofs.OrderLemmas.{value_cmp-Int}
 use Rattle.sqlite_tied.specs.Compute.{everything}
-use Rattle.kcr_base.specs.declared.place.Role.{Role}
-use Rattle.kcr_base.specs.declared.place.Role.TheVariants.{Ca, Iw, Sa, Ssc1, Ssc2, Rkos, Sw}
-use Rattle.kcr_base.specs.Role.{role_text}
-use Rattle.kcr_base.specs.Same.{same_text}
 use Rattle.kcr_people.specs.declared.Training.{Training}
 use Rattle.kcr_history.specs.Views.{lasts_to}
 use Rattle.kcr_rows.specs.Rows.{training_row}
 use Rattle.kcr_rows.proofs.FilterLemmas.{filter_as}
 use Rattle.kcr_tables.specs.Exact.{has_from}
 use Rattle.kcr_tables.specs.Held.{trainings_place}
-use Rattle.kcr_tables.specs.Parts.{text_in, number_in}
 use Rattle.kcr_tables.specs.Statements.{ShowsPassing}
 use Rattle.kcr_tables.specs.TrainingsLaws as laws
 
@@ -74,26 +68,3 @@ passes_training day x = passes_row day (training_row x) ∙ ap is_ge (value_cmp-
 
 pub trainings_in : (day : ℕ) (all : List Training) → filter (λ x. passes day (training_row x)) all ≡ filter (lasts_to day) all
 trainings_in day = filter_as _ _ (passes_training day)
-
--- ---- the training that a row tells
-
-abbrev roles : List Role
-roles = Ca ∷ Iw ∷ Sa ∷ Ssc1 ∷ Ssc2 ∷ Rkos ∷ Sw ∷ []
-
-abbrev role_in : List ℕ → Role
-role_in text = unwrap_or (find (λ role. same_text (role_text role) text) roles) Ca
-
-role_told : (role : Role) → role_in (role_text role) ≡ role
-role_told Ca = refl
-role_told Iw = refl
-role_told Sa = refl
-role_told Ssc1 = refl
-role_told Ssc2 = refl
-role_told Rkos = refl
-role_told Sw = refl
-
-abbrev pub training_in : Row → Training
-training_in row = record { who = text_in 0 row; role = role_in (text_in 1 row); since = number_in 2 row; until = number_in 3 row }
-
-pub training_told : (x : Training) → training_in (training_row x) ≡ x
-training_told x = λ i. record { who = x.who; role = role_told x.role i; since = x.since; until = x.until }

@@ -1,8 +1,8 @@
 -- What the table appointments proves of its texts, and of its place among the others.
-use Rattle.std.proofs.Common.{◌≡◌, ◌≢◌, inl, ℕ, pos, List, [], ◌∷◌, map, codes, true, refl, ap}
+use Rattle.std.proofs.Common.{◌≡◌, ◌≢◌, ℕ, pos, List, [], ◌∷◌, map, codes, true, refl, ap}
 use Rattle.std.specs.Bool.{⊤}
 use Rattle.std.specs.List.{AllByRecursion}
-use Rattle.sqlite.specs.declared.types.Value.TheVariants.{Text}
+use Rattle.sqlite.specs.declared.types.Value.TheVariants.{Null, Text}
 use Rattle.sqlite.specs.Order.{Row, column}
 use Rattle.sqlite.specs.Term.{Term}
 use Rattle.sqlite.specs.Tree.{Trees}
@@ -13,7 +13,7 @@ use Rattle.sqlite_value.specs.declared.keys.Key.{Key}
 use Rattle.sqlite_tied.specs.Compute.{everything}
 use Rattle.kcr_base.specs.Place.{place_text}
 use Rattle.kcr_rows.specs.Keyed.{Keeps}
-use Rattle.kcr_rows.proofs.WriteLemmas.{cast_int}
+use Rattle.kcr_rows.proofs.WriteLemmas.{cast_null, cast_int}
 use Rattle.kcr_rows.proofs.TableLemmas.{keeps_still, each_is}
 use Rattle.kcr_rows.proofs.SameLemmas.{one_number, one_place}
 use Rattle.kcr_rows.proofs.StateLemmas.{cast_or_null}
@@ -25,8 +25,8 @@ use Rattle.kcr_tables.specs.Held.{safes_place, bags_place, items_place, ceremoni
 use Rattle.kcr_tables.specs.Held.{seatings_place, sheet_place, exceptions_place, versions_place, keys_place}
 use Rattle.kcr_tables.specs.Held.{stays_place, withdrawals_place}
 use Rattle.kcr_tables.specs.Parts.{text_in, number_in}
-use Rattle.kcr_tables.specs.Statements.{shown_columns, key_order, ShowsRows, new_terms, update_test, update_terms}
-use Rattle.kcr_tables.specs.Statements.{PutsRow}
+use Rattle.kcr_tables.specs.Statements.{shown_columns, key_order, ShowsRows, new_terms, key_test, update_terms}
+use Rattle.kcr_tables.specs.Statements.{InsertsRow, UpdatesRow}
 use Rattle.kcr_tables.specs.Table.{Table, IsTable}
 
 abbrev pub project : List Term
@@ -62,21 +62,38 @@ lists = record { test = []; project = project; order = order; names = names; bar
 
 -- ---- a row put under its key
 
-abbrev put_sql : List ℕ
-put_sql = codes "INSERT INTO appointments (place, since, who, until) VALUES (?1, ?2, ?3, ?4) ON CONFLICT (place, since) DO UPDATE SET place = ?1, since = ?2, who = ?3, until = ?4"
+abbrev insert_sql : List ℕ
+insert_sql = codes "INSERT INTO appointments (place, since, who, until) VALUES (?1, ?2, ?3, ?4)"
 
-pub puts : PutsRow put_sql appointments_place appointment_row
+pub inserts : InsertsRow insert_sql appointments_place appointment_row
 unfolding understood everything
-puts = inl (record {
+inserts = record {
   at = 2;
   table = appointments;
   terms = new_terms 4;
-  test = update_test 4;
+  given = λ x. Null ∷ appointment_row x;
+  others = (3 ∷ 2 ∷ 1 ∷ []) ∷ [];
+  casts = λ x i. cast_null i ∷ Text (place_text x.place) ∷ cast_int (pos x.since) i ∷ Text x.who
+      ∷ cast_or_null x.until i ∷ [];
+  bare = (refl, refl);
+  is = refl;
+}
+
+-- in the place of the one that is there
+abbrev update_sql : List ℕ
+update_sql = codes "UPDATE appointments SET place = ?1, since = ?2, who = ?3, until = ?4 WHERE place = ?1 AND since = ?2"
+
+pub updates : UpdatesRow update_sql appointments_place appointment_row
+unfolding understood everything
+updates = record {
+  at = 2;
+  table = appointments;
+  test = key_test 2;
   sets = update_terms 4;
   casts = λ x i. Text (place_text x.place) ∷ cast_int (pos x.since) i ∷ Text x.who ∷ cast_or_null x.until i ∷ [];
   bare = (refl, refl);
   is = refl;
-})
+}
 
 -- the other tables stay where the rows of this one are changed
 pub still : (old new : Trees) (rows : List Appointment) (t : Tables) → IsSound register_schema new

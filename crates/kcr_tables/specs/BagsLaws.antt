@@ -1,7 +1,7 @@
 -- What the table bags proves of its texts, and of its place among the others.
-use Rattle.std.proofs.Common.{◌≡◌, ◌≢◌, inl, ℕ, List, [], ◌∷◌, map, codes, true, refl, sym, ap, ◌∙◌}
+use Rattle.std.proofs.Common.{◌≡◌, ◌≢◌, ℕ, List, [], ◌∷◌, map, codes, true, refl, sym, ap, ◌∙◌}
 use Rattle.std.specs.List.{AllByRecursion}
-use Rattle.sqlite.specs.declared.types.Value.TheVariants.{Text}
+use Rattle.sqlite.specs.declared.types.Value.TheVariants.{Null, Text}
 use Rattle.sqlite.specs.Term.{Term}
 use Rattle.sqlite.specs.Tree.{Trees}
 use Rattle.sqlite.specs.Edit.{IsNoIndex}
@@ -12,6 +12,7 @@ use Rattle.sqlite_tied.specs.Compute.{everything}
 use Rattle.kcr_history.specs.Views.{is_of_serial}
 use Rattle.kcr_rows.specs.Keyed.{Keeps}
 use Rattle.kcr_rows.proofs.FilterLemmas.{has_value, value_is}
+use Rattle.kcr_rows.proofs.WriteLemmas.{cast_null}
 use Rattle.kcr_rows.proofs.TableLemmas.{keeps_still}
 use Rattle.kcr_rows.proofs.SameLemmas.{text_ties}
 use Rattle.kcr_rows.proofs.StateLemmas.{one_spot}
@@ -25,8 +26,8 @@ use Rattle.kcr_tables.specs.Held.{safes_place, bags_place, items_place, ceremoni
 use Rattle.kcr_tables.specs.Held.{seatings_place, sheet_place, exceptions_place, versions_place, keys_place}
 use Rattle.kcr_tables.specs.Held.{stays_place, withdrawals_place}
 use Rattle.kcr_tables.specs.Parts.{text_in}
-use Rattle.kcr_tables.specs.Statements.{shown_columns, key_order, is_given, ShowsRows, new_terms, update_test}
-use Rattle.kcr_tables.specs.Statements.{update_terms, PutsRow}
+use Rattle.kcr_tables.specs.Statements.{shown_columns, key_order, is_given, ShowsRows, new_terms, key_test}
+use Rattle.kcr_tables.specs.Statements.{update_terms, InsertsRow, UpdatesRow}
 use Rattle.kcr_tables.specs.Table.{Table, IsTable, Finding, IsFinding}
 
 abbrev pub project : List Term
@@ -76,21 +77,37 @@ bag_of_laws = record { finds = shows_bag_of; under = under_bag_of }
 
 -- ---- a row put under its key
 
-abbrev put_sql : List ℕ
-put_sql = codes "INSERT INTO bags (serial, spot) VALUES (?1, ?2) ON CONFLICT (serial) DO UPDATE SET serial = ?1, spot = ?2"
+abbrev insert_sql : List ℕ
+insert_sql = codes "INSERT INTO bags (serial, spot) VALUES (?1, ?2)"
 
-pub puts : PutsRow put_sql bags_place bag_row
+pub inserts : InsertsRow insert_sql bags_place bag_row
 unfolding understood everything
-puts = inl (record {
+inserts = record {
   at = 5;
   table = bags;
   terms = new_terms 2;
-  test = update_test 2;
+  given = λ x. Null ∷ bag_row x;
+  others = [];
+  casts = λ x i. cast_null i ∷ Text x.serial ∷ Text (spot_text x.spot) ∷ [];
+  bare = (refl, refl);
+  is = refl;
+}
+
+-- in the place of the one that is there
+abbrev update_sql : List ℕ
+update_sql = codes "UPDATE bags SET serial = ?1, spot = ?2 WHERE serial = ?1"
+
+pub updates : UpdatesRow update_sql bags_place bag_row
+unfolding understood everything
+updates = record {
+  at = 5;
+  table = bags;
+  test = key_test 1;
   sets = update_terms 2;
   casts = λ x i. Text x.serial ∷ Text (spot_text x.spot) ∷ [];
   bare = (refl, refl);
   is = refl;
-})
+}
 
 -- the other tables stay where the rows of this one are changed
 pub still : (old new : Trees) (rows : List Bag) (t : Tables) → IsSound register_schema new

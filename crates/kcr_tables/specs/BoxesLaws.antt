@@ -1,5 +1,5 @@
 -- What the table boxes proves of its texts, and of its place among the others.
-use Rattle.std.proofs.Common.{◌≡◌, ◌≢◌, inr, ℕ, pos, List, [], ◌∷◌, map, codes, true, refl, ap}
+use Rattle.std.proofs.Common.{◌≡◌, ◌≢◌, ℕ, pos, List, [], ◌∷◌, map, codes, true, refl, ap}
 use Rattle.std.specs.Bool.{⊤}
 use Rattle.std.specs.List.{AllByRecursion}
 use Rattle.sqlite.specs.declared.types.Value.TheVariants.{Null, Text}
@@ -24,7 +24,7 @@ use Rattle.kcr_tables.specs.Held.{safes_place, bags_place, items_place, ceremoni
 use Rattle.kcr_tables.specs.Held.{seatings_place, sheet_place, exceptions_place, versions_place, keys_place}
 use Rattle.kcr_tables.specs.Held.{stays_place, withdrawals_place}
 use Rattle.kcr_tables.specs.Parts.{text_in, number_in}
-use Rattle.kcr_tables.specs.Statements.{shown_columns, key_order, ShowsRows, new_terms, PutsRow}
+use Rattle.kcr_tables.specs.Statements.{shown_columns, key_order, ShowsRows, new_terms, InsertsRow}
 use Rattle.kcr_tables.specs.Table.{Table, IsTable}
 
 abbrev pub project : List Term
@@ -59,21 +59,22 @@ lists = record { test = []; project = project; order = order; names = names; bar
 
 -- ---- a row put under its key
 
-abbrev put_sql : List ℕ
-put_sql = codes "INSERT INTO boxes (facility, box, place) VALUES (?1, ?2, ?3)"
+abbrev insert_sql : List ℕ
+insert_sql = codes "INSERT INTO boxes (facility, box, place) VALUES (?1, ?2, ?3)"
 
-pub puts : PutsRow put_sql boxes_place box_row
+pub inserts : InsertsRow insert_sql boxes_place box_row
 unfolding understood everything
-puts = inr (record {
+inserts = record {
   at = 3;
   table = boxes;
   terms = new_terms 3;
   given = λ x. Null ∷ box_row x;
+  others = [];
   casts = λ x i. cast_null i ∷ Text (facility_text x.facility) ∷ cast_int (pos x.number) i ∷ Text (place_text x.place)
       ∷ [];
   bare = (refl, refl);
   is = refl;
-})
+}
 
 -- the other tables stay where the rows of this one are changed
 pub still : (old new : Trees) (rows : List BoxRow) (t : Tables) → IsSound register_schema new

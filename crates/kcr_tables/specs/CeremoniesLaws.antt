@@ -1,8 +1,8 @@
 -- What the table ceremonies proves of its texts, and of its place among the others.
-use Rattle.std.proofs.Common.{◌≡◌, ◌≢◌, inl, ℕ, pos, List, [], ◌∷◌, map, codes, true, refl, sym, ap, ◌∙◌}
+use Rattle.std.proofs.Common.{◌≡◌, ◌≢◌, ℕ, pos, List, [], ◌∷◌, map, codes, true, refl, sym, ap, ◌∙◌}
 use Rattle.std.specs.Bool.{⊤}
 use Rattle.std.specs.List.{AllByRecursion}
-use Rattle.sqlite.specs.declared.types.Value.TheVariants.{Int, Text}
+use Rattle.sqlite.specs.declared.types.Value.TheVariants.{Null, Int, Text}
 use Rattle.sqlite.specs.Order.{Row, column}
 use Rattle.sqlite.specs.Term.{Term}
 use Rattle.sqlite.specs.Tree.{Trees}
@@ -14,7 +14,7 @@ use Rattle.sqlite_tied.specs.Compute.{everything}
 use Rattle.kcr_history.specs.Views.{is_of_number}
 use Rattle.kcr_rows.specs.Keyed.{Keeps}
 use Rattle.kcr_rows.proofs.FilterLemmas.{has_value, value_is}
-use Rattle.kcr_rows.proofs.WriteLemmas.{cast_int}
+use Rattle.kcr_rows.proofs.WriteLemmas.{cast_null, cast_int}
 use Rattle.kcr_rows.proofs.TableLemmas.{keeps_still, each_is}
 use Rattle.kcr_rows.proofs.SameLemmas.{one_facility, one_number, number_ties}
 use Rattle.kcr_rows.proofs.StateLemmas.{cast_or_null, one_ceremony_state}
@@ -28,8 +28,8 @@ use Rattle.kcr_tables.specs.Held.{safes_place, bags_place, items_place, ceremoni
 use Rattle.kcr_tables.specs.Held.{seatings_place, sheet_place, exceptions_place, versions_place, keys_place}
 use Rattle.kcr_tables.specs.Held.{stays_place, withdrawals_place}
 use Rattle.kcr_tables.specs.Parts.{text_in, number_in}
-use Rattle.kcr_tables.specs.Statements.{shown_columns, key_order, is_given, ShowsRows, new_terms, update_test}
-use Rattle.kcr_tables.specs.Statements.{update_terms, PutsRow}
+use Rattle.kcr_tables.specs.Statements.{shown_columns, key_order, is_given, ShowsRows, new_terms, key_test}
+use Rattle.kcr_tables.specs.Statements.{update_terms, InsertsRow, UpdatesRow}
 use Rattle.kcr_tables.specs.Table.{Table, IsTable, Finding, IsFinding}
 
 abbrev pub project : List Term
@@ -86,22 +86,39 @@ ceremony_of_laws = record { finds = shows_ceremony_of; under = under_ceremony_of
 
 -- ---- a row put under its key
 
-abbrev put_sql : List ℕ
-put_sql = codes "INSERT INTO ceremonies (number, facility, day, state, opened, closed) VALUES (?1, ?2, ?3, ?4, ?5, ?6) ON CONFLICT (number) DO UPDATE SET number = ?1, facility = ?2, day = ?3, state = ?4, opened = ?5, closed = ?6"
+abbrev insert_sql : List ℕ
+insert_sql = codes "INSERT INTO ceremonies (number, facility, day, state, opened, closed) VALUES (?1, ?2, ?3, ?4, ?5, ?6)"
 
-pub puts : PutsRow put_sql ceremonies_place ceremony_row
+pub inserts : InsertsRow insert_sql ceremonies_place ceremony_row
 unfolding understood everything
-puts = inl (record {
+inserts = record {
   at = 7;
   table = ceremonies;
   terms = new_terms 6;
-  test = update_test 6;
+  given = λ x. Null ∷ ceremony_row x;
+  others = [];
+  casts = λ x i. cast_null i ∷ cast_int (pos x.number) i ∷ Text (facility_text x.facility) ∷ cast_int (pos x.day) i
+      ∷ cast_int (pos (ceremony_number x.state)) i ∷ cast_or_null x.opened i ∷ cast_or_null x.closed i ∷ [];
+  bare = (refl, refl);
+  is = refl;
+}
+
+-- in the place of the one that is there
+abbrev update_sql : List ℕ
+update_sql = codes "UPDATE ceremonies SET number = ?1, facility = ?2, day = ?3, state = ?4, opened = ?5, closed = ?6 WHERE number = ?1"
+
+pub updates : UpdatesRow update_sql ceremonies_place ceremony_row
+unfolding understood everything
+updates = record {
+  at = 7;
+  table = ceremonies;
+  test = key_test 1;
   sets = update_terms 6;
   casts = λ x i. cast_int (pos x.number) i ∷ Text (facility_text x.facility) ∷ cast_int (pos x.day) i
       ∷ cast_int (pos (ceremony_number x.state)) i ∷ cast_or_null x.opened i ∷ cast_or_null x.closed i ∷ [];
   bare = (refl, refl);
   is = refl;
-})
+}
 
 -- the other tables stay where the rows of this one are changed
 pub still : (old new : Trees) (rows : List CeremonyRow) (t : Tables) → IsSound register_schema new

@@ -2,7 +2,7 @@
 -- tables have.
 use Rattle.std.specs.Prelude.{◌≡◌, ◌⊎◌, ◌&&◌, ◌||◌, not, ℕ, pos, Bool, List, [], ◌∷◌, ◌++◌, map, filter, Option, Some, None}
 use Rattle.std.specs.List.{AllByRecursion, list_any}
-use Rattle.std.specs.Ordering.{is_ge}
+use Rattle.std.specs.Ordering.{is_ge, is_gt}
 use Rattle.sqlite.specs.Ops.{is_null}
 use Rattle.sqlite.specs.Order.{Row, column, value_cmp}
 use Rattle.sqlite.specs.Tree.{Trees}
@@ -72,6 +72,10 @@ has_number at number row = has_value at (Int (pos number)) row
 abbrev pub has_from : ℕ → ℕ → Row → Bool
 has_from at number row = not (is_null (column row at)) && is_ge (value_cmp (column row at) (Int (pos number)))
 
+-- a greater number than this one, or a text or a blob; but not NULL
+abbrev pub has_beyond : ℕ → ℕ → Row → Bool
+has_beyond at number row = not (is_null (column row at)) && is_gt (value_cmp (column row at) (Int (pos number)))
+
 -- one of the texts
 abbrev pub has_any : ℕ → List (List ℕ) → Row → Bool
 has_any at texts row = list_any (λ text. has_text at text row) texts
@@ -84,6 +88,10 @@ is_item_row (Items.Bag serial) row = has_text 2 serial row
 abbrev pub is_training_row : TrainingsOf → Row → Bool
 is_training_row (Trainings.Person who) row = has_text 0 who row
 is_training_row (Trainings.Lasting day) row = has_from 3 day row
+
+-- an appointment with no end, or one after the day
+abbrev pub is_beyond_row : ℕ → Row → Bool
+is_beyond_row day row = is_null (column row 3) || has_beyond 3 day row
 
 -- that of a step, by its ceremony and its number
 abbrev pub is_row_of_step : ℕ → ℕ → Row → Bool
@@ -118,7 +126,7 @@ abbrev pub AreOneOfEach : List Row → List Row → List Row → Type 0
 AreOneOfEach first others shown =
     (front : List Row) × (behind : List Row) × (shown ≡ front ++ behind) × IsOneOf first front × IsOneOf others behind
 
--- of the appointments one to the place, one of the person, or one of each; or all
+-- of the appointments one to the place, one of the person, or one of each; those that last beyond the day; or all
 abbrev pub AppointmentsAreShown : Selection AppointmentsOf → List Appointment → Trees → Type 0
 AppointmentsAreShown Nothing shown db = Unit {0}
 AppointmentsAreShown (Under (Appointments.Place place)) shown db =
@@ -127,6 +135,8 @@ AppointmentsAreShown (Under (Appointments.Person who)) shown db =
     IsOneOf (rows_of_person who db) (map appointment_row shown)
 AppointmentsAreShown (Under (Appointments.Both place who)) shown db =
     AreOneOfEach (rows_to place db) (rows_of_person who db) (map appointment_row shown)
+AppointmentsAreShown (Under (Appointments.Lasting day)) shown db =
+    AreShown appointment_row shown (filter (is_beyond_row day) (rows_at appointments_place db))
 AppointmentsAreShown All shown db = AreShown appointment_row shown (rows_at appointments_place db)
 
 -- of the seatings of the ceremony one, or none where there are none

@@ -1,5 +1,5 @@
 -- What the table exceptions proves of its texts, and of its place among the others.
-use Rattle.std.proofs.Common.{◌≡◌, ◌≢◌, inr, ℕ, pos, List, [], ◌∷◌, map, codes, true, refl, sym, ap, ◌∙◌}
+use Rattle.std.proofs.Common.{◌≡◌, ◌≢◌, ℕ, pos, List, [], ◌∷◌, map, codes, true, refl, sym, ap, ◌∙◌}
 use Rattle.std.specs.Bool.{⊤}
 use Rattle.std.specs.List.{AllByRecursion}
 use Rattle.sqlite.specs.declared.types.Value.TheVariants.{Null, Int, Text}
@@ -26,7 +26,7 @@ use Rattle.kcr_tables.specs.Held.{safes_place, bags_place, items_place, ceremoni
 use Rattle.kcr_tables.specs.Held.{seatings_place, sheet_place, exceptions_place, versions_place, keys_place}
 use Rattle.kcr_tables.specs.Held.{stays_place, withdrawals_place}
 use Rattle.kcr_tables.specs.Parts.{text_in, number_in}
-use Rattle.kcr_tables.specs.Statements.{shown_columns, key_order, is_given, ShowsRows, new_terms, PutsRow}
+use Rattle.kcr_tables.specs.Statements.{shown_columns, key_order, is_given, ShowsRows, new_terms, InsertsRow}
 use Rattle.kcr_tables.specs.Table.{Table, IsTable, Finding, IsFinding}
 
 abbrev pub project : List Term
@@ -82,21 +82,22 @@ exceptions_of_laws = record { finds = shows_exceptions_of; under = under_excepti
 
 -- ---- a row put under its key
 
-abbrev put_sql : List ℕ
-put_sql = codes "INSERT INTO exceptions (ceremony, exception, text, at, passed) VALUES (?1, ?2, ?3, ?4, ?5)"
+abbrev insert_sql : List ℕ
+insert_sql = codes "INSERT INTO exceptions (ceremony, exception, text, at, passed) VALUES (?1, ?2, ?3, ?4, ?5)"
 
-pub puts : PutsRow put_sql exceptions_place exception_row
+pub inserts : InsertsRow insert_sql exceptions_place exception_row
 unfolding understood everything
-puts = inr (record {
+inserts = record {
   at = 12;
   table = exceptions;
   terms = new_terms 5;
   given = λ x. Null ∷ exception_row x;
+  others = [];
   casts = λ x i. cast_null i ∷ cast_int (pos x.ceremony) i ∷ cast_int (pos x.exception) i ∷ Text x.text
       ∷ cast_int (pos x.at) i ∷ cast_or_null x.passed i ∷ [];
   bare = (refl, refl);
   is = refl;
-})
+}
 
 -- the other tables stay where the rows of this one are changed
 pub still : (old new : Trees) (rows : List ExceptionRow) (t : Tables) → IsSound register_schema new

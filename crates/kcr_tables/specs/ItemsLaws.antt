@@ -1,8 +1,8 @@
 -- What the table items proves of its texts, and of its place among the others.
-use Rattle.std.proofs.Common.{◌≡◌, ◌≢◌, inl, ℕ, List, [], ◌∷◌, map, codes, true, refl, sym, ap, ◌∙◌}
+use Rattle.std.proofs.Common.{◌≡◌, ◌≢◌, ℕ, List, [], ◌∷◌, map, codes, true, refl, sym, ap, ◌∙◌}
 use Rattle.std.specs.Bool.{⊤}
 use Rattle.std.specs.List.{AllByRecursion}
-use Rattle.sqlite.specs.declared.types.Value.TheVariants.{Text}
+use Rattle.sqlite.specs.declared.types.Value.TheVariants.{Null, Text}
 use Rattle.sqlite.specs.Order.{Row, column}
 use Rattle.sqlite.specs.Term.{Term}
 use Rattle.sqlite.specs.Tree.{Trees}
@@ -16,6 +16,7 @@ use Rattle.kcr_history.specs.Views.{is_item_of}
 use Rattle.kcr_history.specs.declared.views.ItemsOf.TheVariants as Wanted
 use Rattle.kcr_rows.specs.Keyed.{Keeps}
 use Rattle.kcr_rows.proofs.FilterLemmas.{has_value, value_is}
+use Rattle.kcr_rows.proofs.WriteLemmas.{cast_null}
 use Rattle.kcr_rows.proofs.TableLemmas.{keeps_still, each_is}
 use Rattle.kcr_rows.proofs.SameLemmas.{text_ties}
 use Rattle.kcr_rows.proofs.StateLemmas.{cast_loose, cast_within, one_rest, within_is}
@@ -27,8 +28,8 @@ use Rattle.kcr_tables.specs.Held.{safes_place, bags_place, items_place, ceremoni
 use Rattle.kcr_tables.specs.Held.{seatings_place, sheet_place, exceptions_place, versions_place, keys_place}
 use Rattle.kcr_tables.specs.Held.{stays_place, withdrawals_place}
 use Rattle.kcr_tables.specs.Parts.{text_in}
-use Rattle.kcr_tables.specs.Statements.{shown_columns, key_order, is_given, ShowsRows, new_terms, update_test}
-use Rattle.kcr_tables.specs.Statements.{update_terms, PutsRow}
+use Rattle.kcr_tables.specs.Statements.{shown_columns, key_order, is_given, ShowsRows, new_terms, key_test}
+use Rattle.kcr_tables.specs.Statements.{update_terms, InsertsRow, UpdatesRow}
 use Rattle.kcr_tables.specs.Table.{Table, IsTable, Finding, IsFinding}
 
 abbrev pub project : List Term
@@ -96,21 +97,37 @@ items_within_laws = record { finds = shows_items_within; under = under_items_wit
 
 -- ---- a row put under its key
 
-abbrev put_sql : List ℕ
-put_sql = codes "INSERT INTO items (code, facility, serial) VALUES (?1, ?2, ?3) ON CONFLICT (code) DO UPDATE SET code = ?1, facility = ?2, serial = ?3"
+abbrev insert_sql : List ℕ
+insert_sql = codes "INSERT INTO items (code, facility, serial) VALUES (?1, ?2, ?3)"
 
-pub puts : PutsRow put_sql items_place item_row
+pub inserts : InsertsRow insert_sql items_place item_row
 unfolding understood everything
-puts = inl (record {
+inserts = record {
   at = 6;
   table = items;
   terms = new_terms 3;
-  test = update_test 3;
+  given = λ x. Null ∷ item_row x;
+  others = (3 ∷ 1 ∷ []) ∷ [];
+  casts = λ x i. cast_null i ∷ Text x.code ∷ cast_loose x.rest i ∷ cast_within x.rest i ∷ [];
+  bare = (refl, refl);
+  is = refl;
+}
+
+-- in the place of the one that is there
+abbrev update_sql : List ℕ
+update_sql = codes "UPDATE items SET code = ?1, facility = ?2, serial = ?3 WHERE code = ?1"
+
+pub updates : UpdatesRow update_sql items_place item_row
+unfolding understood everything
+updates = record {
+  at = 6;
+  table = items;
+  test = key_test 1;
   sets = update_terms 3;
   casts = λ x i. Text x.code ∷ cast_loose x.rest i ∷ cast_within x.rest i ∷ [];
   bare = (refl, refl);
   is = refl;
-})
+}
 
 -- the other tables stay where the rows of this one are changed
 pub still : (old new : Trees) (rows : List Item) (t : Tables) → IsSound register_schema new

@@ -1,5 +1,5 @@
 -- What the table keys proves of its texts, and of its place among the others.
-use Rattle.std.proofs.Common.{◌≡◌, ◌≢◌, inr, ℕ, pos, List, [], ◌∷◌, map, codes, true, refl, sym, ◌∙◌}
+use Rattle.std.proofs.Common.{◌≡◌, ◌≢◌, ℕ, pos, List, [], ◌∷◌, map, codes, true, refl, sym, ◌∙◌}
 use Rattle.std.specs.Bool.{⊤}
 use Rattle.std.specs.List.{AllByRecursion}
 use Rattle.sqlite.specs.declared.types.Value.TheVariants.{Null, Int, Text}
@@ -24,7 +24,7 @@ use Rattle.kcr_tables.specs.Held.{safes_place, bags_place, items_place, ceremoni
 use Rattle.kcr_tables.specs.Held.{seatings_place, sheet_place, exceptions_place, versions_place, keys_place}
 use Rattle.kcr_tables.specs.Held.{stays_place, withdrawals_place}
 use Rattle.kcr_tables.specs.Parts.{text_in, number_in}
-use Rattle.kcr_tables.specs.Statements.{shown_columns, key_order, is_given, ShowsRows, PutsRow}
+use Rattle.kcr_tables.specs.Statements.{shown_columns, key_order, is_given, ShowsRows, InsertsRow}
 use Rattle.kcr_tables.specs.Table.{Table, IsTable, Finding, IsFinding}
 
 abbrev pub project : List Term
@@ -76,20 +76,21 @@ key_row_of_laws = record { finds = shows_key_row_of; under = under_key_row_of }
 
 -- ---- a row put under its key
 
-abbrev put_sql : List ℕ
-put_sql = codes "INSERT INTO keys (\"key\", accepted, command, reply) VALUES (?1, ?2, ?3, ?4)"
+abbrev insert_sql : List ℕ
+insert_sql = codes "INSERT INTO keys (\"key\", accepted, command, reply) VALUES (?1, ?2, ?3, ?4)"
 
-pub puts : PutsRow put_sql keys_place key_row
+pub inserts : InsertsRow insert_sql keys_place key_row
 unfolding understood everything
-puts = inr (record {
+inserts = record {
   at = 14;
   table = keys;
   terms = col 0 1 ∷ col 0 0 ∷ lit Null ∷ col 0 2 ∷ col 0 3 ∷ [];
   given = λ x. Int (pos x.accepted) ∷ Text x.key ∷ Null ∷ Text x.command ∷ Text x.reply ∷ [];
+  others = [];
   casts = λ x i. cast_int (pos x.accepted) i ∷ Text x.key ∷ cast_null i ∷ Text x.command ∷ Text x.reply ∷ [];
   bare = (refl, refl);
   is = refl;
-})
+}
 
 -- the other tables stay where the rows of this one are changed
 pub still : (old new : Trees) (rows : List KeyRow) (t : Tables) → IsSound register_schema new

@@ -1,5 +1,5 @@
 -- What the table marks proves of its texts, and of its place among the others.
-use Rattle.std.proofs.Common.{◌≡◌, ◌≢◌, inr, ℕ, pos, List, [], ◌∷◌, map, codes, true, refl, sym, ◌∙◌}
+use Rattle.std.proofs.Common.{◌≡◌, ◌≢◌, ℕ, pos, List, [], ◌∷◌, map, codes, true, refl, sym, ◌∙◌}
 use Rattle.std.specs.Bool.{⊤}
 use Rattle.std.specs.List.{AllByRecursion}
 use Rattle.sqlite.specs.declared.types.Value.TheVariants.{Null, Int}
@@ -25,7 +25,7 @@ use Rattle.kcr_tables.specs.Held.{seatings_place, sheet_place, exceptions_place,
 use Rattle.kcr_tables.specs.Held.{stays_place, withdrawals_place}
 use Rattle.kcr_tables.specs.Parts.{number_in}
 use Rattle.kcr_tables.specs.Statements.{shown_columns, key_order, is_given, ShowsRows, new_terms, key_test}
-use Rattle.kcr_tables.specs.Statements.{update_terms, PutsRow, UpdatesRow}
+use Rattle.kcr_tables.specs.Statements.{update_terms, InsertsRow, UpdatesRow}
 use Rattle.kcr_tables.specs.Table.{Table, IsTable, Finding, IsFinding}
 
 abbrev pub project : List Term
@@ -74,20 +74,21 @@ mark_of_laws = record { finds = shows_mark_of; under = under_mark_of }
 
 -- ---- a row put under its key
 
-abbrev put_sql : List ℕ
-put_sql = codes "INSERT INTO marks (ceremony, at) VALUES (?1, ?2)"
+abbrev insert_sql : List ℕ
+insert_sql = codes "INSERT INTO marks (ceremony, at) VALUES (?1, ?2)"
 
-pub puts : PutsRow put_sql marks_place mark_row
+pub inserts : InsertsRow insert_sql marks_place mark_row
 unfolding understood everything
-puts = inr (record {
+inserts = record {
   at = 8;
   table = marks;
   terms = new_terms 2;
   given = λ x. Null ∷ mark_row x;
+  others = [];
   casts = λ x i. cast_null i ∷ cast_int (pos x.ceremony) i ∷ cast_int (pos x.at) i ∷ [];
   bare = (refl, refl);
   is = refl;
-})
+}
 
 -- in the place of the one that is there
 abbrev update_sql : List ℕ

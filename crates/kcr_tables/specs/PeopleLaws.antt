@@ -1,5 +1,5 @@
 -- What the table people proves of its texts, and of its place among the others.
-use Rattle.std.proofs.Common.{◌≡◌, ◌≢◌, inr, ℕ, List, [], ◌∷◌, map, codes, true, refl, sym, ◌∙◌}
+use Rattle.std.proofs.Common.{◌≡◌, ◌≢◌, ℕ, List, [], ◌∷◌, map, codes, true, refl, sym, ◌∙◌}
 use Rattle.std.specs.Bool.{⊤}
 use Rattle.std.specs.List.{AllByRecursion}
 use Rattle.sqlite.specs.declared.types.Value.TheVariants.{Null, Text}
@@ -24,7 +24,7 @@ use Rattle.kcr_tables.specs.Held.{safes_place, bags_place, items_place, ceremoni
 use Rattle.kcr_tables.specs.Held.{seatings_place, sheet_place, exceptions_place, versions_place, keys_place}
 use Rattle.kcr_tables.specs.Held.{stays_place, withdrawals_place}
 use Rattle.kcr_tables.specs.Parts.{text_in}
-use Rattle.kcr_tables.specs.Statements.{shown_columns, key_order, is_given, ShowsRows, new_terms, PutsRow}
+use Rattle.kcr_tables.specs.Statements.{shown_columns, key_order, is_given, ShowsRows, new_terms, InsertsRow}
 use Rattle.kcr_tables.specs.Table.{Table, IsTable, Finding, IsFinding}
 
 abbrev pub project : List Term
@@ -71,20 +71,21 @@ person_of_laws = record { finds = shows_person_of; under = under_person_of }
 
 -- ---- a row put under its key
 
-abbrev put_sql : List ℕ
-put_sql = codes "INSERT INTO people (who, name) VALUES (?1, ?2)"
+abbrev insert_sql : List ℕ
+insert_sql = codes "INSERT INTO people (who, name) VALUES (?1, ?2)"
 
-pub puts : PutsRow put_sql people_place person_row
+pub inserts : InsertsRow insert_sql people_place person_row
 unfolding understood everything
-puts = inr (record {
+inserts = record {
   at = 0;
   table = people;
   terms = new_terms 2;
   given = λ x. Null ∷ person_row x;
+  others = [];
   casts = λ x i. cast_null i ∷ Text x.who ∷ Text x.name ∷ [];
   bare = (refl, refl);
   is = refl;
-})
+}
 
 -- the other tables stay where the rows of this one are changed
 pub still : (old new : Trees) (rows : List Person) (t : Tables) → IsSound register_schema new

@@ -1,8 +1,8 @@
 -- What the table safes proves of its texts, and of its place among the others.
-use Rattle.std.proofs.Common.{◌≡◌, ◌≢◌, inl, ℕ, pos, List, [], ◌∷◌, map, codes, true, refl, ap}
+use Rattle.std.proofs.Common.{◌≡◌, ◌≢◌, ℕ, pos, List, [], ◌∷◌, map, codes, true, refl, ap}
 use Rattle.std.specs.Bool.{⊤}
 use Rattle.std.specs.List.{AllByRecursion}
-use Rattle.sqlite.specs.declared.types.Value.TheVariants.{Text}
+use Rattle.sqlite.specs.declared.types.Value.TheVariants.{Null, Text}
 use Rattle.sqlite.specs.Term.{Term}
 use Rattle.sqlite.specs.Tree.{Trees}
 use Rattle.sqlite.specs.Edit.{IsNoIndex}
@@ -11,7 +11,7 @@ use Rattle.sqlite_catalog.specs.Listing.{IsSound}
 use Rattle.sqlite_value.specs.declared.keys.Key.{Key}
 use Rattle.sqlite_tied.specs.Compute.{everything}
 use Rattle.kcr_rows.specs.Keyed.{Keeps}
-use Rattle.kcr_rows.proofs.WriteLemmas.{cast_int}
+use Rattle.kcr_rows.proofs.WriteLemmas.{cast_null, cast_int}
 use Rattle.kcr_rows.proofs.TableLemmas.{keeps_still, each_is}
 use Rattle.kcr_rows.proofs.SameLemmas.{one_facility}
 use Rattle.kcr_rows.proofs.StateLemmas.{one_safe, one_truth}
@@ -26,8 +26,8 @@ use Rattle.kcr_tables.specs.Held.{safes_place, bags_place, items_place, ceremoni
 use Rattle.kcr_tables.specs.Held.{seatings_place, sheet_place, exceptions_place, versions_place, keys_place}
 use Rattle.kcr_tables.specs.Held.{stays_place, withdrawals_place}
 use Rattle.kcr_tables.specs.Parts.{text_in, number_in}
-use Rattle.kcr_tables.specs.Statements.{shown_columns, key_order, ShowsRows, new_terms, update_test, update_terms}
-use Rattle.kcr_tables.specs.Statements.{PutsRow}
+use Rattle.kcr_tables.specs.Statements.{shown_columns, key_order, ShowsRows, new_terms, key_test, update_terms}
+use Rattle.kcr_tables.specs.Statements.{InsertsRow, UpdatesRow}
 use Rattle.kcr_tables.specs.Table.{Table, IsTable}
 
 abbrev pub project : List Term
@@ -62,22 +62,39 @@ lists = record { test = []; project = project; order = order; names = names; bar
 
 -- ---- a row put under its key
 
-abbrev put_sql : List ℕ
-put_sql = codes "INSERT INTO safes (facility, safe, state) VALUES (?1, ?2, ?3) ON CONFLICT (facility, safe) DO UPDATE SET facility = ?1, safe = ?2, state = ?3"
+abbrev insert_sql : List ℕ
+insert_sql = codes "INSERT INTO safes (facility, safe, state) VALUES (?1, ?2, ?3)"
 
-pub puts : PutsRow put_sql safes_place safe_row
+pub inserts : InsertsRow insert_sql safes_place safe_row
 unfolding understood everything
-puts = inl (record {
+inserts = record {
   at = 4;
   table = safes;
   terms = new_terms 3;
-  test = update_test 3;
+  given = λ x. Null ∷ safe_row x;
+  others = [];
+  casts = λ x i. cast_null i ∷ Text (facility_text x.facility) ∷ cast_int (pos (safe_digit x.safe)) i
+      ∷ cast_int (pos (truth_number x.is_open)) i ∷ [];
+  bare = (refl, refl);
+  is = refl;
+}
+
+-- in the place of the one that is there
+abbrev update_sql : List ℕ
+update_sql = codes "UPDATE safes SET facility = ?1, safe = ?2, state = ?3 WHERE facility = ?1 AND safe = ?2"
+
+pub updates : UpdatesRow update_sql safes_place safe_row
+unfolding understood everything
+updates = record {
+  at = 4;
+  table = safes;
+  test = key_test 2;
   sets = update_terms 3;
   casts = λ x i. Text (facility_text x.facility) ∷ cast_int (pos (safe_digit x.safe)) i
       ∷ cast_int (pos (truth_number x.is_open)) i ∷ [];
   bare = (refl, refl);
   is = refl;
-})
+}
 
 -- the other tables stay where the rows of this one are changed
 pub still : (old new : Trees) (rows : List SafeRow) (t : Tables) → IsSound register_schema new

@@ -1,5 +1,5 @@
 -- What the table sheet proves of its texts, and of its place among the others.
-use Rattle.std.proofs.Common.{◌≡◌, ◌≢◌, inr, ℕ, pos, List, [], ◌∷◌, map, codes, true, refl, ap}
+use Rattle.std.proofs.Common.{◌≡◌, ◌≢◌, ℕ, pos, List, [], ◌∷◌, map, codes, true, refl, ap}
 use Rattle.std.specs.Bool.{⊤}
 use Rattle.std.specs.List.{AllByRecursion}
 use Rattle.sqlite.specs.declared.types.Value.TheVariants.{Null, Text}
@@ -23,7 +23,7 @@ use Rattle.kcr_tables.specs.Held.{safes_place, bags_place, items_place, ceremoni
 use Rattle.kcr_tables.specs.Held.{seatings_place, sheet_place, exceptions_place, versions_place, keys_place}
 use Rattle.kcr_tables.specs.Held.{stays_place, withdrawals_place}
 use Rattle.kcr_tables.specs.Parts.{text_in, number_in}
-use Rattle.kcr_tables.specs.Statements.{shown_columns, key_order, ShowsRows, new_terms, PutsRow}
+use Rattle.kcr_tables.specs.Statements.{shown_columns, key_order, ShowsRows, new_terms, InsertsRow}
 use Rattle.kcr_tables.specs.Table.{Table, IsTable}
 
 abbrev pub project : List Term
@@ -59,21 +59,22 @@ lists = record { test = []; project = project; order = order; names = names; bar
 
 -- ---- a row put under its key
 
-abbrev put_sql : List ℕ
-put_sql = codes "INSERT INTO sheet (who, at, ceremony, way) VALUES (?1, ?2, ?3, ?4)"
+abbrev insert_sql : List ℕ
+insert_sql = codes "INSERT INTO sheet (who, at, ceremony, way) VALUES (?1, ?2, ?3, ?4)"
 
-pub puts : PutsRow put_sql sheet_place sheet_row
+pub inserts : InsertsRow insert_sql sheet_place sheet_row
 unfolding understood everything
-puts = inr (record {
+inserts = record {
   at = 11;
   table = sheet;
   terms = new_terms 4;
   given = λ x. Null ∷ sheet_row x;
+  others = [];
   casts = λ x i. cast_null i ∷ Text x.who ∷ cast_int (pos x.at) i ∷ cast_int (pos x.ceremony) i
       ∷ cast_int (pos (way_number x.way)) i ∷ [];
   bare = (refl, refl);
   is = refl;
-})
+}
 
 -- the other tables stay where the rows of this one are changed
 pub still : (old new : Trees) (rows : List SheetRow) (t : Tables) → IsSound register_schema new

@@ -13,28 +13,25 @@ use Rattle.sqlite.specs.Tree.{rowid}
 use Rattle.sqlite.specs.Source.{Source}
 use Rattle.sqlite.specs.Source.TheVariants.{Values}
 use Rattle.sqlite.specs.Command.{Command}
-use Rattle.sqlite.specs.Command.TheVariants.{Insert, InsertOr, Select, Update}
+use Rattle.sqlite.specs.Command.TheVariants.{Insert, Select, Update}
 use Rattle.sqlite.specs.Effect.{value_rows}
 use Rattle.sqlite.specs.Listing.{understood, reads_listing}
 use Rattle.sqlite.proofs.Callers.{IsPlain, command_of}
-use Rattle.sqlite_schema.specs.Rules.{agree, equal, guards, clashes}
+use Rattle.sqlite_schema.specs.Rules.{guards, clashes}
 use Rattle.sqlite_schema.specs.declared.schema.Keys.TheVariants.{Enforced}
 use Rattle.sqlite_schema.specs.declared.schema.Table.{Table}
-use Rattle.sqlite_schema.specs.declared.command.Conflict.TheVariants.{Abort}
 use Rattle.sqlite_sql.specs.declared.ops.BinaryOp.TheVariants.{Compare}
 use Rattle.sqlite_sql.specs.declared.ops.CompareOp.TheVariants.{Eq}
 use Rattle.sqlite_value.specs.declared.keys.Key.{Key}
 use Rattle.sqlite_value.specs.Keys.{plain, rising, ascending}
 use Rattle.sqlite_trees.specs.View.{is_int}
 use Rattle.sqlite_rules.specs.Action.{Work, works}
-use Rattle.sqlite_rules.specs.Keys.{shares}
 use Rattle.kcr_rows.specs.Columns.{simple_as}
 use Rattle.kcr_rows.specs.Keyed.{Place, cells, by_key, is_full}
 use Rattle.kcr_rows.proofs.ReadLemmas.{asking}
 use Rattle.kcr_rows.proofs.KeyLemmas.{places_from, full, same_from}
 use Rattle.kcr_rows.proofs.WriteLemmas.{entered}
 use Rattle.kcr_rows.proofs.OverLemmas.{finding}
-use Rattle.kcr_rows.proofs.UpsertLemmas.{seen}
 use Rattle.kcr_tables.specs.Schema.{register_schema}
 
 -- ---- texts that show rows of a table
@@ -144,12 +141,9 @@ pub record ShowsPassing (sql : List ℕ) (place : Place) (params : Row) (passes 
 
 -- ---- texts that put a row into a table
 
--- what a new row is made of, which row an update finds, and what it makes of it, by how many columns there are
+-- what a new row is made of, and what an update makes of one, by how many columns there are
 abbrev pub new_terms : ℕ → List Term
 new_terms count = lit Null ∷ map (col 0) (range_with_len 0 count)
-
-abbrev pub update_test : ℕ → List Term
-update_test count = op2 (Compare Eq Binary) (col 1 0) (col 0 count) ∷ []
 
 abbrev pub update_terms : ℕ → List Term
 update_terms count = col 1 0 ∷ col 1 0 ∷ map (col 0) (range_with_len 0 count)
@@ -209,57 +203,6 @@ giving_one place table terms command given = record {
   given = λ x. given x ∷ [];
 }
 
--- what is computed of one that puts the row in the place of the one that has its key
-pub record Upserting (X : Type 0) : Type 0 where
-  pub giving : Giving X
-  -- the row of a value under a row id
-  pub shown : X → ℤ → Row
-  -- which row meets the new one, and which row it changes to what where there is one
-  pub shared : Row → Row → Bool
-  pub is_far : Bool
-  pub tests : X → List Row → Row → Row → Bool
-  pub gives : X → List Row → Row → Row → Row
-
--- of these
-abbrev pub upserting : {X : Type 0} → List ℕ → Place → (X → Row) → ℕ → Table
-    → List Term → List Term → List Term → Upserting X
-upserting sql place row_of at table terms test sets = record {
-  giving = giving sql place row_of at terms;
-  shown = λ x id. cells place (Int id ∷ row_of x);
-  shared = λ a b. list_any (shares (Some (places_from 1 place.keys)) table a b) register_schema.indexes;
-  is_far = nat_le (2 ^ 31) place.tree;
-  tests = λ x entries there r. list_all (holds (seen table entries (row_of x) there ∷ r ∷ [])) test;
-  gives = λ x entries there r. eval_all sets (seen table entries (row_of x) there ∷ r ∷ []);
-}
-
--- of one that does so
-abbrev pub upserting_by_key : {X : Type 0} → Place → (X → Row) → ℕ → Table
-    → List Term → List Term → List Term → Upserting X
-upserting_by_key place row_of at table terms test sets =
-    let keys = places_from 1 place.keys in record {
-      giving = giving_one place table terms (λ from. InsertOr at Abort from (record {
-        target = Some keys;
-        update = Some (record { lets = []; body = finding place.tree test sets });
-      } ∷ [])) (λ x. Null ∷ row_of x);
-      shown = λ x id. row_of x;
-      shared = λ a b. agree plain keys b keys a || false;
-      is_far = false;
-      tests = λ x entries there r. equal Binary (rowid r) (rowid there) && true;
-      gives = λ x entries there r. rowid r ∷ rowid r ∷ row_of x;
-    }
-
--- The text puts the row of a value into a table, in the place of the one that has its key.
-pub record UpsertsRow {X : Type 0} (sql : List ℕ) (place : Place) (row_of : X → Row) : Type 0 where
-  pub at : ℕ
-  pub table : Table
-  pub terms : List Term
-  pub test : List Term
-  pub sets : List Term
-  pub casts : (x : X) → cast_all table.columns (row_of x) ≡ row_of x
-  pub bare : IsPlain (understood register_schema sql)
-  pub is : upserting sql place row_of at (simple_as place.tree table) terms test sets
-      ≡ upserting_by_key place row_of at (simple_as place.tree table) terms test sets
-
 -- what is computed of a text that adds the row to those that are there
 pub record Inserting (X : Type 0) : Type 0 where
   pub giving : Giving X
@@ -279,30 +222,29 @@ inserting sql place row_of at table terms given = record {
       list_all (λ i. not (guards i table && clashes i.order i.columns rows row)) register_schema.indexes;
 }
 
--- of one whose key no row has before
-abbrev pub inserting_new : {X : Type 0} → Place → (X → Row) → ℕ → Table → List Term → (X → Row) → Inserting X
-inserting_new place row_of at table terms given = record {
+-- of one whose key no row has before, in a table with other keys as well, by the columns of each
+abbrev pub inserting_new : {X : Type 0} → Place → (X → Row) → ℕ → Table → List Term → (X → Row) → List (List ℕ)
+    → Inserting X
+inserting_new place row_of at table terms given others = record {
   giving = giving_one place table terms (Insert at) given;
   numbered = λ x entries. true;
   shown = λ x entries. row_of x;
-  guarded = λ rows row. not (clashes plain (places_from 1 place.keys) rows row) && true;
+  guarded = λ rows row. not (clashes plain (places_from 1 place.keys) rows row)
+      && list_all (λ columns. not (clashes plain columns rows row)) others;
 }
 
 -- The text adds the row of a value to a table, which it gives with its row id or with NULL in place of one; where a row
--- has its key it fails.
+-- has its key, or agrees with it in one of the table's other keys, it fails.
 pub record InsertsRow {X : Type 0} (sql : List ℕ) (place : Place) (row_of : X → Row) : Type 0 where
   pub at : ℕ
   pub table : Table
   pub terms : List Term
   pub given : X → Row
+  pub others : List (List ℕ)
   pub casts : (x : X) → cast_row (simple_as place.tree table) (given x) ≡ given x
   pub bare : IsPlain (understood register_schema sql)
   pub is : inserting sql place row_of at (simple_as place.tree table) terms given
-      ≡ inserting_new place row_of at (simple_as place.tree table) terms given
-
--- The text puts the row of a value into a table, in one of these ways.
-abbrev pub PutsRow : {X : Type 0} → List ℕ → Place → (X → Row) → Type 0
-PutsRow sql place row_of = UpsertsRow sql place row_of ⊎ InsertsRow sql place row_of
+      ≡ inserting_new place row_of at (simple_as place.tree table) terms given others
 
 -- ---- texts that change a row that is there
 

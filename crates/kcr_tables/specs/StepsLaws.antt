@@ -1,5 +1,5 @@
 -- What the table steps proves of its texts, and of its place among the others.
-use Rattle.std.proofs.Common.{◌≡◌, ◌≢◌, inr, ℕ, pos, List, [], ◌∷◌, map, codes, true, refl, ap}
+use Rattle.std.proofs.Common.{◌≡◌, ◌≢◌, ℕ, pos, List, [], ◌∷◌, map, codes, true, refl, ap}
 use Rattle.std.specs.List.{AllByRecursion}
 use Rattle.sqlite.specs.declared.types.Value.TheVariants.{Null, Text}
 use Rattle.sqlite.specs.Order.{Row, column}
@@ -26,8 +26,8 @@ use Rattle.kcr_tables.specs.Held.{safes_place, bags_place, items_place, ceremoni
 use Rattle.kcr_tables.specs.Held.{seatings_place, sheet_place, exceptions_place, versions_place, keys_place}
 use Rattle.kcr_tables.specs.Held.{stays_place, withdrawals_place}
 use Rattle.kcr_tables.specs.Parts.{text_in, number_in}
-use Rattle.kcr_tables.specs.Statements.{shown_columns, key_order, ShowsRows, new_terms, key_test, update_terms, PutsRow}
-use Rattle.kcr_tables.specs.Statements.{UpdatesRow}
+use Rattle.kcr_tables.specs.Statements.{shown_columns, key_order, ShowsRows, new_terms, key_test, update_terms}
+use Rattle.kcr_tables.specs.Statements.{InsertsRow, UpdatesRow}
 use Rattle.kcr_tables.specs.Table.{Table, IsTable}
 
 abbrev pub project : List Term
@@ -65,21 +65,22 @@ lists = record { test = []; project = project; order = order; names = names; bar
 
 -- ---- a row put under its key
 
-abbrev put_sql : List ℕ
-put_sql = codes "INSERT INTO steps (ceremony, step, activity, seats, state, at) VALUES (?1, ?2, ?3, ?4, ?5, ?6)"
+abbrev insert_sql : List ℕ
+insert_sql = codes "INSERT INTO steps (ceremony, step, activity, seats, state, at) VALUES (?1, ?2, ?3, ?4, ?5, ?6)"
 
-pub puts : PutsRow put_sql steps_place step_row
+pub inserts : InsertsRow insert_sql steps_place step_row
 unfolding understood everything
-puts = inr (record {
+inserts = record {
   at = 9;
   table = steps;
   terms = new_terms 6;
   given = λ x. Null ∷ step_row x;
+  others = [];
   casts = λ x i. cast_null i ∷ cast_int (pos x.ceremony) i ∷ cast_int (pos x.step) i ∷ Text x.activity
       ∷ Text (written x.seats) ∷ cast_int (pos (step_number x.state)) i ∷ cast_or_null x.at i ∷ [];
   bare = (refl, refl);
   is = refl;
-})
+}
 
 -- in the place of the one that is there
 abbrev update_sql : List ℕ

@@ -1,5 +1,5 @@
 -- What the table trainings proves of its texts, and of its place among the others.
-use Rattle.std.proofs.Common.{◌≡◌, ◌≢◌, inr, ℕ, pos, List, [], ◌∷◌, map, codes, true, refl, sym, ap, ◌∙◌}
+use Rattle.std.proofs.Common.{◌≡◌, ◌≢◌, ℕ, pos, List, [], ◌∷◌, map, codes, true, refl, sym, ap, ◌∙◌}
 use Rattle.std.specs.Bool.{⊤}
 use Rattle.std.specs.List.{AllByRecursion}
 use Rattle.sqlite.specs.declared.types.Value.TheVariants.{Null, Text}
@@ -25,7 +25,7 @@ use Rattle.kcr_tables.specs.Held.{safes_place, bags_place, items_place, ceremoni
 use Rattle.kcr_tables.specs.Held.{seatings_place, sheet_place, exceptions_place, versions_place, keys_place}
 use Rattle.kcr_tables.specs.Held.{stays_place, withdrawals_place}
 use Rattle.kcr_tables.specs.Parts.{text_in, number_in}
-use Rattle.kcr_tables.specs.Statements.{shown_columns, key_order, is_given, ShowsRows, new_terms, PutsRow}
+use Rattle.kcr_tables.specs.Statements.{shown_columns, key_order, is_given, ShowsRows, new_terms, InsertsRow}
 use Rattle.kcr_tables.specs.Table.{Table, IsTable, Finding, IsFinding}
 
 abbrev pub project : List Term
@@ -78,21 +78,22 @@ trainings_of_laws = record { finds = shows_trainings_of; under = under_trainings
 
 -- ---- a row put under its key
 
-abbrev put_sql : List ℕ
-put_sql = codes "INSERT INTO trainings (who, role, since, until) VALUES (?1, ?2, ?3, ?4)"
+abbrev insert_sql : List ℕ
+insert_sql = codes "INSERT INTO trainings (who, role, since, until) VALUES (?1, ?2, ?3, ?4)"
 
-pub puts : PutsRow put_sql trainings_place training_row
+pub inserts : InsertsRow insert_sql trainings_place training_row
 unfolding understood everything
-puts = inr (record {
+inserts = record {
   at = 1;
   table = trainings;
   terms = new_terms 4;
   given = λ x. Null ∷ training_row x;
+  others = [];
   casts = λ x i. cast_null i ∷ Text x.who ∷ Text (role_text x.role) ∷ cast_int (pos x.since) i
       ∷ cast_int (pos x.until) i ∷ [];
   bare = (refl, refl);
   is = refl;
-})
+}
 
 -- the other tables stay where the rows of this one are changed
 pub still : (old new : Trees) (rows : List Training) (t : Tables) → IsSound register_schema new

@@ -1,8 +1,9 @@
 -- What the table versions proves of its texts, and of its place among the others.
-use Rattle.std.proofs.Common.{◌≡◌, ◌≢◌, inl, IsPermutation, ℕ, pos, List, [], ◌∷◌, map, codes, true, refl, sym, subst}
+use Rattle.std.proofs.Common.{◌≡◌, ◌≢◌, IsPermutation, ℕ, pos, List, [], ◌∷◌, map, codes, true, refl, sym, subst}
 use Rattle.std.specs.Bool.{⊤}
 use Rattle.std.specs.List.{AllByRecursion}
 use Rattle.std.proofs.lemmas.List.Sorted.{IsPermutation-refl}
+use Rattle.sqlite.specs.declared.types.Value.TheVariants.{Null}
 use Rattle.sqlite.specs.Term.{Term}
 use Rattle.sqlite.specs.Tree.{Trees}
 use Rattle.sqlite.specs.Edit.{IsNoIndex}
@@ -11,7 +12,7 @@ use Rattle.sqlite_catalog.specs.Listing.{IsSound}
 use Rattle.sqlite_value.specs.declared.keys.Key.{Key}
 use Rattle.sqlite_tied.specs.Compute.{everything}
 use Rattle.kcr_rows.specs.Keyed.{Keeps}
-use Rattle.kcr_rows.proofs.WriteLemmas.{cast_int}
+use Rattle.kcr_rows.proofs.WriteLemmas.{cast_null, cast_int}
 use Rattle.kcr_rows.proofs.TableLemmas.{keeps_still, each_is}
 use Rattle.kcr_rows.specs.Rows.{version_row}
 use Rattle.kcr_rows.specs.declared.rows.Version.{Version}
@@ -22,8 +23,7 @@ use Rattle.kcr_tables.specs.Held.{seatings_place, sheet_place, exceptions_place,
 use Rattle.kcr_tables.specs.Held.{stays_place, withdrawals_place}
 use Rattle.kcr_tables.specs.First.{first_tables}
 use Rattle.kcr_tables.specs.Parts.{number_in}
-use Rattle.kcr_tables.specs.Statements.{shown_columns, key_order, ShowsRows, new_terms, update_test, update_terms}
-use Rattle.kcr_tables.specs.Statements.{PutsRow}
+use Rattle.kcr_tables.specs.Statements.{shown_columns, key_order, ShowsRows, new_terms, InsertsRow}
 use Rattle.kcr_tables.specs.Table.{Table, IsTable}
 
 abbrev pub project : List Term
@@ -54,21 +54,21 @@ lists = record { test = []; project = project; order = order; names = names; bar
 
 -- ---- a row put under its key
 
-abbrev put_sql : List ℕ
-put_sql = codes "INSERT INTO versions (number) VALUES (?1) ON CONFLICT (number) DO UPDATE SET number = ?1"
+abbrev insert_sql : List ℕ
+insert_sql = codes "INSERT INTO versions (number) VALUES (?1)"
 
-pub puts : PutsRow put_sql versions_place version_row
+pub inserts : InsertsRow insert_sql versions_place version_row
 unfolding understood everything
-puts = inl (record {
+inserts = record {
   at = 13;
   table = versions;
   terms = new_terms 1;
-  test = update_test 1;
-  sets = update_terms 1;
-  casts = λ x i. cast_int (pos x.number) i ∷ [];
+  given = λ x. Null ∷ version_row x;
+  others = [];
+  casts = λ x i. cast_null i ∷ cast_int (pos x.number) i ∷ [];
   bare = (refl, refl);
   is = refl;
-})
+}
 
 -- the other tables stay where the rows of this one are changed
 pub still : (old new : Trees) (rows : List Version) (t : Tables) → IsSound register_schema new

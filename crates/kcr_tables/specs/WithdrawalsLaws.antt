@@ -1,8 +1,8 @@
 -- What the table withdrawals proves of its texts, and of its place among the others.
-use Rattle.std.proofs.Common.{◌≡◌, ◌≢◌, inl, ℕ, pos, List, [], ◌∷◌, map, codes, true, refl, sym, ap, ◌∙◌}
+use Rattle.std.proofs.Common.{◌≡◌, ◌≢◌, ℕ, pos, List, [], ◌∷◌, map, codes, true, refl, sym, ap, ◌∙◌}
 use Rattle.std.specs.Bool.{⊤}
 use Rattle.std.specs.List.{AllByRecursion}
-use Rattle.sqlite.specs.declared.types.Value.TheVariants.{Text}
+use Rattle.sqlite.specs.declared.types.Value.TheVariants.{Null, Text}
 use Rattle.sqlite.specs.Term.{Term}
 use Rattle.sqlite.specs.Tree.{Trees}
 use Rattle.sqlite.specs.Edit.{IsNoIndex}
@@ -13,7 +13,7 @@ use Rattle.sqlite_tied.specs.Compute.{everything}
 use Rattle.kcr_history.specs.Views.{is_withdrawal_of}
 use Rattle.kcr_rows.specs.Keyed.{Keeps}
 use Rattle.kcr_rows.proofs.FilterLemmas.{has_value, value_is}
-use Rattle.kcr_rows.proofs.WriteLemmas.{cast_int}
+use Rattle.kcr_rows.proofs.WriteLemmas.{cast_null, cast_int}
 use Rattle.kcr_rows.proofs.TableLemmas.{keeps_still, each_is}
 use Rattle.kcr_rows.proofs.SameLemmas.{one_role, text_ties}
 use Rattle.kcr_base.specs.Role.{role_text}
@@ -25,8 +25,8 @@ use Rattle.kcr_tables.specs.Held.{safes_place, bags_place, items_place, ceremoni
 use Rattle.kcr_tables.specs.Held.{seatings_place, sheet_place, exceptions_place, versions_place, keys_place}
 use Rattle.kcr_tables.specs.Held.{stays_place, withdrawals_place}
 use Rattle.kcr_tables.specs.Parts.{text_in, number_in}
-use Rattle.kcr_tables.specs.Statements.{shown_columns, key_order, is_given, ShowsRows, new_terms, update_test}
-use Rattle.kcr_tables.specs.Statements.{update_terms, PutsRow}
+use Rattle.kcr_tables.specs.Statements.{shown_columns, key_order, is_given, ShowsRows, new_terms, key_test}
+use Rattle.kcr_tables.specs.Statements.{update_terms, InsertsRow, UpdatesRow}
 use Rattle.kcr_tables.specs.Table.{Table, IsTable, Finding, IsFinding}
 
 abbrev pub project : List Term
@@ -81,22 +81,39 @@ withdrawals_of_laws = record { finds = shows_withdrawals_of; under = under_withd
 
 -- ---- a row put under its key
 
-abbrev put_sql : List ℕ
-put_sql = codes "INSERT INTO withdrawals (who, role, since, until, day) VALUES (?1, ?2, ?3, ?4, ?5) ON CONFLICT (who, role, since, until) DO UPDATE SET who = ?1, role = ?2, since = ?3, until = ?4, day = ?5"
+abbrev insert_sql : List ℕ
+insert_sql = codes "INSERT INTO withdrawals (who, role, since, until, day) VALUES (?1, ?2, ?3, ?4, ?5)"
 
-pub puts : PutsRow put_sql withdrawals_place withdrawal_row
+pub inserts : InsertsRow insert_sql withdrawals_place withdrawal_row
 unfolding understood everything
-puts = inl (record {
+inserts = record {
   at = 16;
   table = withdrawals;
   terms = new_terms 5;
-  test = update_test 5;
+  given = λ x. Null ∷ withdrawal_row x;
+  others = [];
+  casts = λ x i. cast_null i ∷ Text x.who ∷ Text (role_text x.role) ∷ cast_int (pos x.since) i
+      ∷ cast_int (pos x.until) i ∷ cast_int (pos x.day) i ∷ [];
+  bare = (refl, refl);
+  is = refl;
+}
+
+-- in the place of the one that is there
+abbrev update_sql : List ℕ
+update_sql = codes "UPDATE withdrawals SET who = ?1, role = ?2, since = ?3, until = ?4, day = ?5 WHERE who = ?1 AND role = ?2 AND since = ?3 AND until = ?4"
+
+pub updates : UpdatesRow update_sql withdrawals_place withdrawal_row
+unfolding understood everything
+updates = record {
+  at = 16;
+  table = withdrawals;
+  test = key_test 4;
   sets = update_terms 5;
   casts = λ x i. Text x.who ∷ Text (role_text x.role) ∷ cast_int (pos x.since) i ∷ cast_int (pos x.until) i
       ∷ cast_int (pos x.day) i ∷ [];
   bare = (refl, refl);
   is = refl;
-})
+}
 
 -- the other tables stay where the rows of this one are changed
 pub still : (old new : Trees) (rows : List Withdrawal) (t : Tables) → IsSound register_schema new

@@ -2,7 +2,7 @@
 
 ghost use Rattle.kcr_tables.specs.AppointmentsLaws as laws;
 
-use crate::table::{Listed, Put, put_cells};
+use crate::table::{Listed, Put, put_over};
 use kcr_base::Refusal;
 use kcr_people::Appointment;
 use kcr_rows::cells::{code_cell, day_cell, day_or_null_cell, initials_cell};
@@ -19,13 +19,14 @@ impl Listed for Appointment {
 }
 
 impl Put for Appointment {
-    #[tactic(auto, using(crate::specs::AppointmentsLaws::puts))]
+    #[tactic(auto, using(crate::specs::AppointmentsLaws::inserts, crate::specs::AppointmentsLaws::updates))]
     fn put<S: Alter>(&self, tx: &mut Transaction<'_, S>) -> Result<(), Refusal> {
         let place = self.place.text();
-        put_cells(
+        put_over(
             tx,
             self,
-            "INSERT INTO appointments (place, since, who, until) VALUES (?1, ?2, ?3, ?4) ON CONFLICT (place, since) DO UPDATE SET place = ?1, since = ?2, who = ?3, until = ?4",
+            "UPDATE appointments SET place = ?1, since = ?2, who = ?3, until = ?4 WHERE place = ?1 AND since = ?2",
+            "INSERT INTO appointments (place, since, who, until) VALUES (?1, ?2, ?3, ?4)",
             &[
                 code_cell(&place),
                 day_cell(self.since),

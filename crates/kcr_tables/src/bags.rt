@@ -2,7 +2,7 @@
 
 ghost use Rattle.kcr_tables.specs.BagsLaws as laws;
 
-use crate::table::{Finds, Listed, PutWords, put_cells};
+use crate::table::{Finds, Listed, PutWords, put_over};
 use kcr_base::{Refusal, Serial};
 use kcr_custody::Bag;
 use kcr_rows::cells::{serial_cell, spot_words, text_cell};
@@ -31,17 +31,18 @@ impl Finds<Serial> for Bag {
 }
 
 impl PutWords for Bag {
-    #[tactic(auto, using(crate::specs::BagsLaws::puts))]
+    #[tactic(auto, using(crate::specs::BagsLaws::inserts, crate::specs::BagsLaws::updates))]
     fn put_words<S: Alter>(
         &self,
         alloc: Global,
         tx: &mut Transaction<'_, S>,
     ) -> Result<(), Refusal> {
         let spot = spot_words(alloc, self.spot)?;
-        put_cells(
+        put_over(
             tx,
             self,
-            "INSERT INTO bags (serial, spot) VALUES (?1, ?2) ON CONFLICT (serial) DO UPDATE SET serial = ?1, spot = ?2",
+            "UPDATE bags SET serial = ?1, spot = ?2 WHERE serial = ?1",
+            "INSERT INTO bags (serial, spot) VALUES (?1, ?2)",
             &[serial_cell(&self.serial), text_cell(&spot)],
         )
     }

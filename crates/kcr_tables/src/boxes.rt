@@ -2,7 +2,7 @@
 
 ghost use Rattle.kcr_tables.specs.BoxesLaws as laws;
 
-use crate::table::{Listed, Put, put_cells};
+use crate::table::{Listed, Put, put_new};
 use kcr_base::Refusal;
 use kcr_custody::BoxRow;
 use kcr_rows::cells::{code_cell, facility_cell, number_cell};
@@ -19,10 +19,10 @@ impl Listed for BoxRow {
 }
 
 impl Put for BoxRow {
-    #[tactic(auto, using(crate::specs::BoxesLaws::puts))]
+    #[tactic(auto, using(crate::specs::BoxesLaws::inserts))]
     fn put<S: Alter>(&self, tx: &mut Transaction<'_, S>) -> Result<(), Refusal> {
         let place = self.place.text();
-        put_cells(
+        put_new(
             tx,
             self,
             "INSERT INTO boxes (facility, box, place) VALUES (?1, ?2, ?3)",

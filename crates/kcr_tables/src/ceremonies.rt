@@ -2,7 +2,7 @@
 
 ghost use Rattle.kcr_tables.specs.CeremoniesLaws as laws;
 
-use crate::table::{Finds, Listed, Put, put_cells};
+use crate::table::{Finds, Listed, Put, put_over};
 use kcr_base::Refusal;
 use kcr_history::CeremonyRow;
 use kcr_rows::cells::{
@@ -32,12 +32,13 @@ impl Finds<u32> for CeremonyRow {
 }
 
 impl Put for CeremonyRow {
-    #[tactic(auto, using(crate::specs::CeremoniesLaws::puts))]
+    #[tactic(auto, using(crate::specs::CeremoniesLaws::inserts, crate::specs::CeremoniesLaws::updates))]
     fn put<S: Alter>(&self, tx: &mut Transaction<'_, S>) -> Result<(), Refusal> {
-        put_cells(
+        put_over(
             tx,
             self,
-            "INSERT INTO ceremonies (number, facility, day, state, opened, closed) VALUES (?1, ?2, ?3, ?4, ?5, ?6) ON CONFLICT (number) DO UPDATE SET number = ?1, facility = ?2, day = ?3, state = ?4, opened = ?5, closed = ?6",
+            "UPDATE ceremonies SET number = ?1, facility = ?2, day = ?3, state = ?4, opened = ?5, closed = ?6 WHERE number = ?1",
+            "INSERT INTO ceremonies (number, facility, day, state, opened, closed) VALUES (?1, ?2, ?3, ?4, ?5, ?6)",
             &[
                 number_cell(self.number),
                 facility_cell(self.facility),

@@ -2,7 +2,7 @@
 
 ghost use Rattle.kcr_tables.specs.ExceptionsLaws as laws;
 
-use crate::table::{Finds, Listed, Put, put_cells};
+use crate::table::{Finds, Listed, Put, put_new};
 use kcr_base::Refusal;
 use kcr_history::ExceptionRow;
 use kcr_rows::cells::{line_cell, moment_cell, number_cell, number_or_null_cell};
@@ -30,9 +30,9 @@ impl Finds<u32> for ExceptionRow {
 }
 
 impl Put for ExceptionRow {
-    #[tactic(auto, using(crate::specs::ExceptionsLaws::puts))]
+    #[tactic(auto, using(crate::specs::ExceptionsLaws::inserts))]
     fn put<S: Alter>(&self, tx: &mut Transaction<'_, S>) -> Result<(), Refusal> {
-        put_cells(
+        put_new(
             tx,
             self,
             "INSERT INTO exceptions (ceremony, exception, text, at, passed) VALUES (?1, ?2, ?3, ?4, ?5)",

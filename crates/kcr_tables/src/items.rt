@@ -2,7 +2,7 @@
 
 ghost use Rattle.kcr_tables.specs.ItemsLaws as laws;
 
-use crate::table::{Finds, Listed, Put, put_cells};
+use crate::table::{Finds, Listed, Put, put_over};
 use kcr_base::{ItemCode, Refusal, Serial};
 use kcr_custody::Item;
 use kcr_rows::cells::{item_cell, loose_cell, within_cell};
@@ -41,12 +41,13 @@ impl Finds<Serial> for Item {
 }
 
 impl Put for Item {
-    #[tactic(auto, using(crate::specs::ItemsLaws::puts))]
+    #[tactic(auto, using(crate::specs::ItemsLaws::inserts, crate::specs::ItemsLaws::updates))]
     fn put<S: Alter>(&self, tx: &mut Transaction<'_, S>) -> Result<(), Refusal> {
-        put_cells(
+        put_over(
             tx,
             self,
-            "INSERT INTO items (code, facility, serial) VALUES (?1, ?2, ?3) ON CONFLICT (code) DO UPDATE SET code = ?1, facility = ?2, serial = ?3",
+            "UPDATE items SET code = ?1, facility = ?2, serial = ?3 WHERE code = ?1",
+            "INSERT INTO items (code, facility, serial) VALUES (?1, ?2, ?3)",
             &[
                 item_cell(&self.code),
                 loose_cell(self.rest),

@@ -2,7 +2,7 @@
 
 ghost use Rattle.kcr_tables.specs.KeysLaws as laws;
 
-use crate::table::{Finds, Listed, Put, put_cells};
+use crate::table::{Finds, Listed, Put, put_new};
 use kcr_base::{Key, Refusal};
 use kcr_history::KeyRow;
 use kcr_rows::cells::{key_cell, number_cell, text_cell};
@@ -30,9 +30,9 @@ impl Finds<Key> for KeyRow {
 }
 
 impl Put for KeyRow {
-    #[tactic(auto, using(crate::specs::KeysLaws::puts))]
+    #[tactic(auto, using(crate::specs::KeysLaws::inserts))]
     fn put<S: Alter>(&self, tx: &mut Transaction<'_, S>) -> Result<(), Refusal> {
-        put_cells(
+        put_new(
             tx,
             self,
             "INSERT INTO keys (\"key\", accepted, command, reply) VALUES (?1, ?2, ?3, ?4)",

@@ -39,6 +39,7 @@ pub use changes::make_changes;
 pub use creation::make;
 pub use kcr_rows::Version;
 pub use last::{last_key_row, last_stay_of};
+pub use places::appointments_lasting_beyond;
 pub use rooms::stays_lasting_to;
 pub use table::{AsCell, Finds, Listed, all_rows, rows_under};
 pub use texts::create_text;

@@ -30,7 +30,7 @@ impl Finds<u32> for MarkRow {
 }
 
 impl Put for MarkRow {
-    #[tactic(auto, using(crate::specs::MarksLaws::puts, crate::specs::MarksLaws::updates))]
+    #[tactic(auto, using(crate::specs::MarksLaws::inserts, crate::specs::MarksLaws::updates))]
     fn put<S: Alter>(&self, tx: &mut Transaction<'_, S>) -> Result<(), Refusal> {
         put_over(
             tx,

@@ -2,7 +2,7 @@
 
 ghost use Rattle.kcr_tables.specs.PeopleLaws as laws;
 
-use crate::table::{Finds, Listed, Put, put_cells};
+use crate::table::{Finds, Listed, Put, put_new};
 use kcr_base::{Initials, Refusal};
 use kcr_people::Person;
 use kcr_rows::cells::{initials_cell, line_cell};
@@ -30,9 +30,9 @@ impl Finds<Initials> for Person {
 }
 
 impl Put for Person {
-    #[tactic(auto, using(crate::specs::PeopleLaws::puts))]
+    #[tactic(auto, using(crate::specs::PeopleLaws::inserts))]
     fn put<S: Alter>(&self, tx: &mut Transaction<'_, S>) -> Result<(), Refusal> {
-        put_cells(
+        put_new(
             tx,
             self,
             "INSERT INTO people (who, name) VALUES (?1, ?2)",

@@ -1,20 +1,52 @@
-//! The appointments that are asked for: of a place and of a person the one that began last.
+//! The appointments that are asked for: of a place and of a person the one that began last, or those that last beyond a
+//! day.
 
-ghost use Rattle.std.specs.Prelude.{◌≡◌};
+ghost use Rattle.std.specs.Prelude.{◌≡◌, filter, map, IsPermutation};
 ghost use Rattle.sqlite.specs.Held.{state};
+ghost use Rattle.kcr_people.specs.People.{lasts_beyond};
 ghost use Rattle.kcr_history.specs.Views.{ShowsAppointments};
 ghost use Rattle.kcr_history.specs.declared.views.AppointmentsOf.TheVariants as Wanted;
 ghost use Rattle.kcr_history.specs.declared.views.Selection.TheVariants as Selections;
-ghost use Rattle.kcr_tables.specs.Exact.{AppointmentsAreShown};
-ghost use Rattle.kcr_tables.specs.Frame.{Tells, TellsExactly, Reads};
+ghost use Rattle.kcr_rows.specs.Rows.{appointment_row};
+ghost use Rattle.kcr_tables.specs.Exact.{rows_at, is_beyond_row, AppointmentsAreShown};
+ghost use Rattle.kcr_tables.specs.Held.{appointments_place};
+ghost use Rattle.kcr_tables.specs.Frame.{TellsOpen, Tells, TellsExactly, Reads};
 
 use crate::last::{last_appointment_of, last_appointment_to};
 use crate::table::all_rows;
-use kcr_base::{Initials, Place, Refusal};
+use kcr_base::{Day, Initials, Place, Refusal};
 use kcr_history::{AppointmentsOf, Selection};
 use kcr_people::Appointment;
+use kcr_rows::cells::day_cell;
+use kcr_rows::statements::rows_of;
 use sqlite::{Alter, Transaction};
 use std::alloc::Global;
+
+/// The appointments that have no end, or end on a day after this one, in no order that is told. No index begins with the
+/// end, so every row is read, along the table itself. Nothing is changed. The error is `Memory` when out of memory, and
+/// else `Disk`: the device failed, or a row that is shown is one that no register stores.
+pub fn appointments_lasting_beyond<S: Alter>(
+    alloc: Global,
+    tx: &mut Transaction<'_, S>,
+    day: Day,
+) -> Result<Vec<Appointment>, Refusal>
+    ensures same_reference { tx.new.conn.ghost_name ≡ tx.old.conn.ghost_name }
+    ensures rows { Tells (state S.Store tx.old.conn.now) (state S.Store tx.new.conn.now) result
+        (λ t all. IsPermutation (filter (lasts_beyond day) t.rows.appointments) all.items) }
+    ensures exact { TellsExactly (state S.Store tx.old.conn.now) (state S.Store tx.new.conn.now) result
+        (λ db all. IsPermutation (filter (is_beyond_row day) (rows_at appointments_place db))
+        (map appointment_row all.items)) }
+    ensures opened { TellsOpen (state S.Store tx.old.conn.now) (state S.Store tx.new.conn.now) result }
+    ensures frame { Reads (state S.Store tx.old.conn.now) (state S.Store tx.new.conn.now) result }
+{
+    let c0 = day_cell(day);
+    rows_of(
+        alloc,
+        tx,
+        "SELECT place, since, who, until FROM appointments WHERE until IS NULL OR until > ?1 ORDER BY rowid",
+        &[c0],
+    )
+}
 
 /// The last appointment to the place and behind it the last of the person, which may be the same row twice.
 fn last_of_both<S: Alter>(
@@ -36,7 +68,7 @@ fn last_of_both<S: Alter>(
     Ok(rows)
 }
 
-/// The appointments that are asked for: all, or the last to a place, of a person or of both.
+/// The appointments that are asked for: all, the last to a place, of a person or of both, or those that last beyond a day.
 pub fn asked_appointments<S: Alter>(
     alloc: Global,
     tx: &mut Transaction<'_, S>,
@@ -54,6 +86,9 @@ pub fn asked_appointments<S: Alter>(
         Selection::Under(AppointmentsOf::Place(place)) => last_appointment_to(alloc, tx, *place),
         Selection::Under(AppointmentsOf::Person(who)) => last_appointment_of(alloc, tx, who),
         Selection::Under(AppointmentsOf::Both(place, who)) => last_of_both(alloc, tx, *place, who),
+        Selection::Under(AppointmentsOf::Lasting(day)) => {
+            appointments_lasting_beyond(alloc, tx, *day)
+        }
         Selection::All => all_rows(alloc, tx),
     }
 }

@@ -2,7 +2,7 @@
 
 ghost use Rattle.kcr_tables.specs.SafesLaws as laws;
 
-use crate::table::{Listed, Put, put_cells};
+use crate::table::{Listed, Put, put_over};
 use kcr_base::Refusal;
 use kcr_custody::SafeRow;
 use kcr_rows::cells::{facility_cell, safe_cell, truth_cell};
@@ -19,12 +19,13 @@ impl Listed for SafeRow {
 }
 
 impl Put for SafeRow {
-    #[tactic(auto, using(crate::specs::SafesLaws::puts))]
+    #[tactic(auto, using(crate::specs::SafesLaws::inserts, crate::specs::SafesLaws::updates))]
     fn put<S: Alter>(&self, tx: &mut Transaction<'_, S>) -> Result<(), Refusal> {
-        put_cells(
+        put_over(
             tx,
             self,
-            "INSERT INTO safes (facility, safe, state) VALUES (?1, ?2, ?3) ON CONFLICT (facility, safe) DO UPDATE SET facility = ?1, safe = ?2, state = ?3",
+            "UPDATE safes SET facility = ?1, safe = ?2, state = ?3 WHERE facility = ?1 AND safe = ?2",
+            "INSERT INTO safes (facility, safe, state) VALUES (?1, ?2, ?3)",
             &[
                 facility_cell(self.facility),
                 safe_cell(self.safe),

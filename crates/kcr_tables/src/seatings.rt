@@ -2,7 +2,7 @@
 
 ghost use Rattle.kcr_tables.specs.SeatingsLaws as laws;
 
-use crate::table::{Listed, Put, put_cells};
+use crate::table::{Listed, Put, put_new};
 use kcr_base::Refusal;
 use kcr_history::SeatingRow;
 use kcr_rows::cells::{initials_cell, number_cell};
@@ -19,9 +19,9 @@ impl Listed for SeatingRow {
 }
 
 impl Put for SeatingRow {
-    #[tactic(auto, using(crate::specs::SeatingsLaws::puts))]
+    #[tactic(auto, using(crate::specs::SeatingsLaws::inserts))]
     fn put<S: Alter>(&self, tx: &mut Transaction<'_, S>) -> Result<(), Refusal> {
-        put_cells(
+        put_new(
             tx,
             self,
             "INSERT INTO seatings (ceremony, step, seat, who) VALUES (?1, ?2, ?3, ?4)",

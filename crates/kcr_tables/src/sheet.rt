@@ -2,7 +2,7 @@
 
 ghost use Rattle.kcr_tables.specs.SheetLaws as laws;
 
-use crate::table::{Listed, Put, put_cells};
+use crate::table::{Listed, Put, put_new};
 use kcr_base::Refusal;
 use kcr_room::SheetRow;
 use kcr_rows::cells::{initials_cell, moment_cell, number_cell, way_cell};
@@ -19,9 +19,9 @@ impl Listed for SheetRow {
 }
 
 impl Put for SheetRow {
-    #[tactic(auto, using(crate::specs::SheetLaws::puts))]
+    #[tactic(auto, using(crate::specs::SheetLaws::inserts))]
     fn put<S: Alter>(&self, tx: &mut Transaction<'_, S>) -> Result<(), Refusal> {
-        put_cells(
+        put_new(
             tx,
             self,
             "INSERT INTO sheet (who, at, ceremony, way) VALUES (?1, ?2, ?3, ?4)",

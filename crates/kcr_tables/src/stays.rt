@@ -2,7 +2,7 @@
 
 ghost use Rattle.kcr_tables.specs.StaysLaws as laws;
 
-use crate::table::{Listed, Put, put_cells};
+use crate::table::{Listed, Put, put_new, put_over};
 use kcr_base::Refusal;
 use kcr_room::Stay;
 use kcr_rows::cells::{initials_cell, moment_cell, moment_or_null_cell, number_cell};
@@ -19,18 +19,25 @@ impl Listed for Stay {
 }
 
 impl Put for Stay {
-    #[tactic(auto, using(crate::specs::StaysLaws::puts))]
+    #[tactic(auto, using(crate::specs::StaysLaws::inserts, crate::specs::StaysLaws::updates))]
     fn put<S: Alter>(&self, tx: &mut Transaction<'_, S>) -> Result<(), Refusal> {
-        put_cells(
-            tx,
-            self,
-            "INSERT INTO stays (who, since, ceremony, until) VALUES (?1, ?2, ?3, ?4) ON CONFLICT (who, since) DO UPDATE SET who = ?1, since = ?2, ceremony = ?3, until = ?4",
-            &[
-                initials_cell(&self.who),
-                moment_cell(self.since),
-                number_cell(self.ceremony),
-                moment_or_null_cell(self.until),
-            ],
-        )
+        let insert = "INSERT INTO stays (who, since, ceremony, until) VALUES (?1, ?2, ?3, ?4)";
+        let cells = [
+            initials_cell(&self.who),
+            moment_cell(self.since),
+            number_cell(self.ceremony),
+            moment_or_null_cell(self.until),
+        ];
+        if self.until.is_none() {
+            put_new(tx, self, insert, &cells)
+        } else {
+            put_over(
+                tx,
+                self,
+                "UPDATE stays SET who = ?1, since = ?2, ceremony = ?3, until = ?4 WHERE who = ?1 AND since = ?2",
+                insert,
+                &cells,
+            )
+        }
     }
 }

@@ -2,7 +2,7 @@
 
 ghost use Rattle.kcr_tables.specs.StepsLaws as laws;
 
-use crate::table::{Listed, PutWords, put_cells, put_over};
+use crate::table::{Listed, PutWords, put_new, put_over};
 use kcr_base::Refusal;
 use kcr_history::{StepRow, StepState};
 use kcr_rows::cells::{
@@ -22,7 +22,7 @@ impl Listed for StepRow {
 }
 
 impl PutWords for StepRow {
-    #[tactic(auto, using(crate::specs::StepsLaws::puts, crate::specs::StepsLaws::updates))]
+    #[tactic(auto, using(crate::specs::StepsLaws::inserts, crate::specs::StepsLaws::updates))]
     fn put_words<S: Alter>(
         &self,
         alloc: Global,
@@ -40,7 +40,7 @@ impl PutWords for StepRow {
             moment_or_null_cell(self.at),
         ];
         if self.state == StepState::Undone {
-            put_cells(tx, self, insert, &cells)
+            put_new(tx, self, insert, &cells)
         } else {
             put_over(
                 tx,

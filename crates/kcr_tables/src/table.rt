@@ -13,7 +13,7 @@ ghost use Rattle.kcr_rows.specs.Frame.{StaysWithin};
 ghost use Rattle.kcr_tables.specs.Frame.{TellsOpen, Tells, TellsMachine, TellsExactly, Leaves, Reads};
 ghost use Rattle.kcr_tables.specs.Asked.{asked_of, asked_all};
 ghost use Rattle.kcr_tables.specs.Exact.{rows_at, AskedAreShown, WholeIsShown};
-ghost use Rattle.kcr_tables.specs.Statements.{PutsRow, UpdatesRow};
+ghost use Rattle.kcr_tables.specs.Statements.{InsertsRow, UpdatesRow};
 ghost use Rattle.kcr_tables.specs.Table.{Table, IsTable, Finding, IsFinding, with_put, machine_rows};
 
 use kcr_base::code::Code;
@@ -113,12 +113,12 @@ pub trait Finds<K: AsCell>: Listed {
 /// A table in which the row of a value is put under its key.
 pub trait Put: Listed {
     /// Puts the row under its key, new or in the place of the row there; every other row stays. A person, a training, a
-    /// box, a seating, a row of the sheet, an exception and an accepted command are put only once, and a step that is
-    /// neither signed nor passed: by a plain `INSERT`. The error is `Memory`, or else `Disk`, as where the key of one
-    /// of these or the number of a command is taken. What was committed before stays.
+    /// box, a seating, a row of the sheet, an exception and an accepted command are put only once, so are a step that is
+    /// neither signed nor passed and a stay that has no end: by an `INSERT`. The error is `Memory`, or else `Disk`, as
+    /// where the key of one of these or the number of a command is taken. What was committed before stays.
     ///
-    /// The row of a mark, and of a step that is signed or passed, is mostly there. So an `UPDATE` changes it, which
-    /// costs much less than an upsert, and an `INSERT` follows where it changed none. All else is put by an upsert.
+    /// Any other row may be there: an `UPDATE` changes it, and an `INSERT` follows where it changed none. Both together
+    /// cost less than one upsert.
     fn put<S: Alter>(&self, tx: &mut Transaction<'_, S>) -> Result<(), Refusal>
         ensures same_reference { tx.new.conn.ghost_name ≡ tx.old.conn.ghost_name }
         ensures holds { Leaves (state S.Store tx.old.conn.now) (state S.Store tx.new.conn.now) result
@@ -216,15 +216,15 @@ pub fn asked_whole<S: Alter, T: Listed>(
     }
 }
 
-/// Puts the row of a value under its key by the text `sql`, whose parameters are `cells`, those of the row; the errors
-/// are those of `Put::put`.
-pub fn put_cells<S: Alter, T: Listed>(
+/// Puts the row of a value whose key no row has by the text `sql`, whose parameters are `cells`, those of the row; the
+/// errors are those of `Put::put`.
+pub fn put_new<S: Alter, T: Listed>(
     tx: &mut Transaction<'_, S>,
     row: &T,
     sql: &str,
     cells: &[ValueRef<'_>],
 ) -> Result<(), Refusal>
-    requires puts { PutsRow sql.now T.table.place T.row_of }
+    requires inserts { InsertsRow sql.now T.table.place T.row_of }
     requires cells { bound cells.now ≡ T.row_of row.now }
     requires stored { T.table.is_stored row.now }
     ensures same_reference { tx.new.conn.ghost_name ≡ tx.old.conn.ghost_name }
@@ -236,18 +236,18 @@ pub fn put_cells<S: Alter, T: Listed>(
     write(tx, sql, cells)
 }
 
-/// Puts the row of a value under its key, where mostly a row has it already: the text `update_sql` changes that row,
-/// and where it changed none `put_sql` puts the row. The parameters of both are `cells`, those of the row; the errors
-/// are those of `Put::put`.
+/// Puts the row of a value under its key, which a row may have already: the text `update_sql` changes that row, and where
+/// it changed none `insert_sql` puts the row. The parameters of both are `cells`, those of the row; the errors are those
+/// of `Put::put`.
 pub fn put_over<S: Alter, T: Listed>(
     tx: &mut Transaction<'_, S>,
     row: &T,
     update_sql: &str,
-    put_sql: &str,
+    insert_sql: &str,
     cells: &[ValueRef<'_>],
 ) -> Result<(), Refusal>
     requires updates { UpdatesRow update_sql.now T.table.place T.row_of }
-    requires puts { PutsRow put_sql.now T.table.place T.row_of }
+    requires inserts { InsertsRow insert_sql.now T.table.place T.row_of }
     requires cells { bound cells.now ≡ T.row_of row.now }
     requires stored { T.table.is_stored row.now }
     ensures same_reference { tx.new.conn.ghost_name ≡ tx.old.conn.ghost_name }
@@ -257,7 +257,7 @@ pub fn put_over<S: Alter, T: Listed>(
 {
     let _value = row;
     if changed_rows(tx, update_sql, cells)? == 0 {
-        write(tx, put_sql, cells)
+        write(tx, insert_sql, cells)
     } else {
         Ok(())
     }

@@ -2,7 +2,7 @@
 
 ghost use Rattle.kcr_tables.specs.TrainingsLaws as laws;
 
-use crate::table::{Finds, Listed, Put, put_cells};
+use crate::table::{Finds, Listed, Put, put_new};
 use kcr_base::{Initials, Refusal};
 use kcr_people::Training;
 use kcr_rows::cells::{day_cell, initials_cell, role_cell};
@@ -30,9 +30,9 @@ impl Finds<Initials> for Training {
 }
 
 impl Put for Training {
-    #[tactic(auto, using(crate::specs::TrainingsLaws::puts))]
+    #[tactic(auto, using(crate::specs::TrainingsLaws::inserts))]
     fn put<S: Alter>(&self, tx: &mut Transaction<'_, S>) -> Result<(), Refusal> {
-        put_cells(
+        put_new(
             tx,
             self,
             "INSERT INTO trainings (who, role, since, until) VALUES (?1, ?2, ?3, ?4)",

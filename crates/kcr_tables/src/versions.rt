@@ -2,7 +2,7 @@
 
 ghost use Rattle.kcr_tables.specs.VersionsLaws as laws;
 
-use crate::table::{Listed, Put, put_cells};
+use crate::table::{Listed, Put, put_new};
 use kcr_base::Refusal;
 use kcr_rows::Version;
 use kcr_rows::cells::number_cell;
@@ -19,12 +19,12 @@ impl Listed for Version {
 }
 
 impl Put for Version {
-    #[tactic(auto, using(crate::specs::VersionsLaws::puts))]
+    #[tactic(auto, using(crate::specs::VersionsLaws::inserts))]
     fn put<S: Alter>(&self, tx: &mut Transaction<'_, S>) -> Result<(), Refusal> {
-        put_cells(
+        put_new(
             tx,
             self,
-            "INSERT INTO versions (number) VALUES (?1) ON CONFLICT (number) DO UPDATE SET number = ?1",
+            "INSERT INTO versions (number) VALUES (?1)",
             &[number_cell(self.number)],
         )
     }

@@ -2,7 +2,7 @@
 
 ghost use Rattle.kcr_tables.specs.WithdrawalsLaws as laws;
 
-use crate::table::{Finds, Listed, Put, put_cells};
+use crate::table::{Finds, Listed, Put, put_over};
 use kcr_base::{Initials, Refusal};
 use kcr_people::Withdrawal;
 use kcr_rows::cells::{day_cell, initials_cell, role_cell};
@@ -30,12 +30,13 @@ impl Finds<Initials> for Withdrawal {
 }
 
 impl Put for Withdrawal {
-    #[tactic(auto, using(crate::specs::WithdrawalsLaws::puts))]
+    #[tactic(auto, using(crate::specs::WithdrawalsLaws::inserts, crate::specs::WithdrawalsLaws::updates))]
     fn put<S: Alter>(&self, tx: &mut Transaction<'_, S>) -> Result<(), Refusal> {
-        put_cells(
+        put_over(
             tx,
             self,
-            "INSERT INTO withdrawals (who, role, since, until, day) VALUES (?1, ?2, ?3, ?4, ?5) ON CONFLICT (who, role, since, until) DO UPDATE SET who = ?1, role = ?2, since = ?3, until = ?4, day = ?5",
+            "UPDATE withdrawals SET who = ?1, role = ?2, since = ?3, until = ?4, day = ?5 WHERE who = ?1 AND role = ?2 AND since = ?3 AND until = ?4",
+            "INSERT INTO withdrawals (who, role, since, until, day) VALUES (?1, ?2, ?3, ?4, ?5)",
             &[
                 initials_cell(&self.who),
                 role_cell(self.role),

@@ -10,10 +10,11 @@ returns-clause-shown g c clean accepted had =
     let was = had (c.in_ok-appointments.ensures.opened clean) in
     let kept = was.tables.kept in
     let rows = c.in_ok-appointments.ensures.rows clean kept.t (holds_in accepted _ was) in
+    let shown = c.in_ok-appointments.appointments.items in
     record {
       day = c.in_ok-custodians_shown.ensures.day;
       holders =
           c.in_ok-custodians_shown.ensures.holders
-          ∙ ap (λ rows. holders_by (λ place. holder_by rows place c.args.day)) (c.deref.ensures.value ∙ rows)
-          ∙ holders_shown accepted was.tables.register kept.t.rows kept.stands.rows c.args.day;
+          ∙ ap (λ rows. holders_by (λ place. holder_by rows place c.args.day)) c.deref.ensures.value
+          ∙ holders_shown accepted was.tables.register kept.t.rows kept.stands.rows c.args.day shown rows;
     }

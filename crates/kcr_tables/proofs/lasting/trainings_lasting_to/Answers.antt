@@ -8,7 +8,8 @@ use Rattle.kcr_rows.proofs.FilterLemmas.{filter_as}
 use Rattle.kcr_rows.specs.Rows.{training_row}
 use Rattle.kcr_tables.proofs.FrameLemmas.{reads_by}
 use Rattle.kcr_tables.proofs.StatementLemmas.{passing_rows, passing_values}
-use Rattle.kcr_tables.proofs.TrainingLemmas.{lasting_sql, lasting_shows, passes_row, trainings_in, training_in, training_told}
+use Rattle.kcr_tables.proofs.TrainingLemmas.{lasting_sql, lasting_shows, passes_row, trainings_in}
+use Rattle.kcr_tables.specs.TrainingsLaws as laws
 use Rattle.kcr_tables.proofs.lasting.trainings_lasting_to.Goals as goal
 
 pub returns : goal.returns
@@ -23,7 +24,7 @@ returns g c =
       same_reference = search rules;
       rows = λ clean t held. if_ok _ _ (λ all h.
           subst (λ (l : List Training). IsPermutation l all.items) (trainings_in day t.rows.trainings)
-          (passing_values text training_row training_in training_told old new all.items t.rows.trainings held.schema h held.kept.trainings))
+          (passing_values text training_row laws.one old new all.items t.rows.trainings held.schema h held.kept.trainings))
           c.rows_of.result (shown clean);
       exact = λ clean has. if_ok _ _ (λ all h.
           subst (λ (l : List Row). IsPermutation l (map training_row all.items)) (filter_as _ _ (passes_row day) _)

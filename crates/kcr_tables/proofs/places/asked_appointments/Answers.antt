@@ -8,7 +8,7 @@ use Rattle.kcr_history.specs.declared.views.Selection.TheVariants.{Under}
 use Rattle.kcr_rows.specs.Rows.{appointment_row}
 use Rattle.kcr_rows.proofs.FailLemmas.{if_ok}
 use Rattle.kcr_tables.specs.Exact.{AppointmentsAreShown}
-use Rattle.kcr_tables.proofs.AppointmentLemmas.{to_shown, of_shown}
+use Rattle.kcr_tables.proofs.AppointmentLemmas.{to_shown, of_shown, beyond_shown}
 use Rattle.kcr_tables.proofs.ExactLemmas.{are_shown}
 use Rattle.kcr_tables.proofs.places.asked_appointments.Goals as goal
 
@@ -27,6 +27,22 @@ returns-in-Under-Person-clause-rows g c clean t held =
     (ap Under (sym inner) ∙ sym c.in-Under-Person.is)
     (if_ok _ _ (λ all last. of_shown c.in-Under-Person.who t.rows.appointments all.items last) c.last_appointment_of.result
     (c.last_appointment_of.ensures.rows clean t held))
+
+pub returns-in-Under-Lasting-clause-rows : goal.returns-in-Under-Lasting-clause-rows
+returns-in-Under-Lasting-clause-rows g c clean t held =
+    let inner : c.in-Under-Lasting.field-0 ≡ Wanted.Lasting c.in-Under-Lasting.day = search rules in
+    subst (λ (q : Selection AppointmentsOf). IfOk c.appointments_lasting_beyond.result (λ all. ShowsAppointments q t.rows.appointments all.items))
+    (ap Under (sym inner) ∙ sym c.in-Under-Lasting.is)
+    (if_ok _ _ (λ all so. beyond_shown c.in-Under-Lasting.day t.rows.appointments all.items so) c.appointments_lasting_beyond.result
+    (c.appointments_lasting_beyond.ensures.rows clean t held))
+
+pub returns-in-Under-Lasting-clause-exact : goal.returns-in-Under-Lasting-clause-exact
+returns-in-Under-Lasting-clause-exact g c clean has =
+    let inner : c.in-Under-Lasting.field-0 ≡ Wanted.Lasting c.in-Under-Lasting.day = search rules in
+    subst (λ (q : Selection AppointmentsOf). IfOk c.appointments_lasting_beyond.result
+    (λ all. AppointmentsAreShown q all.items (state g.S.Store c.args.tx.now.conn.now).now.trees)) (ap Under (sym inner) ∙ sym c.in-Under-Lasting.is)
+    (if_ok _ _ (λ all same. are_shown appointment_row _ all.items same) c.appointments_lasting_beyond.result
+    (c.appointments_lasting_beyond.ensures.exact clean has))
 
 pub returns-in-All-clause-exact : goal.returns-in-All-clause-exact
 returns-in-All-clause-exact g c clean has =

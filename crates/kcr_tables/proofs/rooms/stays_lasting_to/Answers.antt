@@ -7,7 +7,8 @@ use Rattle.kcr_rows.proofs.FailLemmas.{if_ok}
 use Rattle.kcr_rows.proofs.FilterLemmas.{filter_as}
 use Rattle.kcr_rows.specs.Rows.{stay_row}
 use Rattle.kcr_tables.proofs.FrameLemmas.{reads_by}
-use Rattle.kcr_tables.proofs.RoomLemmas.{room_sql, room_shows, passes_row, stays_in, stay_in, stay_told}
+use Rattle.kcr_tables.proofs.RoomLemmas.{room_sql, room_shows, passes_row, stays_in}
+use Rattle.kcr_tables.specs.StaysLaws as laws
 use Rattle.kcr_tables.proofs.StatementLemmas.{passing_rows, passing_values}
 use Rattle.kcr_tables.proofs.rooms.stays_lasting_to.Goals as goal
 
@@ -24,7 +25,7 @@ returns g c =
       same_reference = search rules;
       rows = λ clean t held. if_ok _ _ (λ all h.
           subst (λ (l : List Stay). IsPermutation l all.items) (stays_in ceremony at t.rows.stays)
-          (passing_values text stay_row stay_in stay_told old new all.items t.rows.stays held.schema h held.kept.stays)) c.rows_of.result (shown clean);
+          (passing_values text stay_row laws.one old new all.items t.rows.stays held.schema h held.kept.stays)) c.rows_of.result (shown clean);
       exact = λ clean has. if_ok _ _ (λ all h.
           subst (λ (l : List Row). IsPermutation l (map stay_row all.items)) (filter_as _ _ (passes_row ceremony at) _)
           (passing_rows text old new (map stay_row all.items) has h)) c.rows_of.result (shown clean);

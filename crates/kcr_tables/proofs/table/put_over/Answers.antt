@@ -23,10 +23,10 @@ returns-then-branch-eq0-clause-holds g c clean t held =
     let none : count ≡ 0 = search rules in
     let is = row_updated c.args.update_sql.now T.place row_of x old mid count held.schema tried c.requires.updates in
     let stays = subst (Updated T.place register_schema (row_of x) old.now.trees mid.now.trees) none is.1 in
-    let ran = subst (λ (v : Row). OnOk c.write.result ((n : ℕ) × Executes c.args.put_sql.now v mid new (Ok n))) c.requires.cells
+    let ran = subst (λ (v : Row). OnOk c.write.result ((n : ℕ) × Executes c.args.insert_sql.now v mid new (Ok n))) c.requires.cells
     (c.write.ensures.runs clean) in
     on_ok_then _ _ (λ h.
-    let it = row_put c.args.put_sql.now T.place row_of x mid new h.0 is.0 h.1 c.requires.puts in
+    let it = row_put c.args.insert_sql.now T.place row_of x mid new h.0 is.0 h.1 c.requires.inserts in
     let put = changes_then T.place register_schema (row_of x) old.now.trees mid.now.trees new.now.trees stays it.1 in
     put_holds T row_of g.T.Stored.is_read g.met.T.Listed.table_laws x c.requires.stored old new (it.0, put) t held) c.write.result ran
 

@@ -4,7 +4,7 @@ use Rattle.sqlite.specs.Held.{state}
 use Rattle.sqlite.specs.State.{Executes}
 use Rattle.kcr_rows.proofs.FailLemmas.{on_ok_then}
 use Rattle.kcr_tables.proofs.StatementLemmas.{row_put, put_holds}
-use Rattle.kcr_tables.proofs.table.put_cells.Goals as goal
+use Rattle.kcr_tables.proofs.table.put_new.Goals as goal
 
 pub returns-clause-holds : goal.returns-clause-holds
 returns-clause-holds g c clean t held =
@@ -16,5 +16,5 @@ returns-clause-holds g c clean t held =
     let new = state g.S.Store c.write.new.tx.conn.now in
     let ran = subst (λ (v : Row). OnOk c.write.result ((count : ℕ) × Executes sql v old new (Ok count))) c.requires.cells (c.write.ensures.runs clean) in
     on_ok_then _ _ (λ h.
-    let it = row_put sql T.place row_of x old new h.0 held.schema h.1 c.requires.puts in
+    let it = row_put sql T.place row_of x old new h.0 held.schema h.1 c.requires.inserts in
     put_holds T row_of g.T.Stored.is_read g.met.T.Listed.table_laws x c.requires.stored old new it t held) c.write.result ran
