@@ -40,7 +40,7 @@ from kcr import HERE, SECONDS, Wrong, call, expect
 ROOT = HERE.parent
 REGISTER = "register.db"
 PLANS_KEPT = 64  # by the kit's connection, as its README says
-NEVER_WHOLE = ("steps", "seatings", "sheet", "exceptions", "stays", "items", "keys", "versions")  # by a request
+NEVER_WHOLE = ("appointments", "steps", "seatings", "sheet", "exceptions", "stays", "items", "keys", "versions")  # by a request
 BEGIN_AND_COMMIT = 2
 METHODS = "GET HEAD POST PUT PATCH DELETE OPTIONS get".split()
 MARKED = re.compile(r"(?ms)^```(http|sh|text) (request|answer|example|output|error)( new| [0-9]+)?\n(.*?)^```$")
@@ -544,8 +544,9 @@ def unlike(message, head, body):
 def texts_fit(_):
     """The SQL texts of commands, questions and reports are as many as docs/COST.md says; with those that begin and end a
     transaction they fit among the plans that the connection keeps, so none is made twice. Tables of which no request reads
-    all rows are read whole by an opening, an audit or a verification alone."""
-    whole = re.compile(rf"SELECT [^?]* FROM ({'|'.join(NEVER_WHOLE)}) ORDER BY [^?]*(?<!LIMIT 1)$|INSERT INTO versions")
+    all rows are read whole by an opening, an audit or a verification alone, and the rows of safes and of the version are
+    new in an empty register alone."""
+    whole = re.compile(rf"SELECT [^?]* FROM ({'|'.join(NEVER_WHOLE)}) ORDER BY [^?]*(?<!LIMIT 1)$|INSERT INTO (safes|versions) ")
     texts = {text for crate in ("kcr_tables", "kcr_reading") for file in (ROOT / "crates" / crate / "src").glob("*.rt")
              for text in re.findall(r'"((?:SELECT|INSERT|UPDATE) (?:\\"|[^"])*)"', file.read_text(encoding="utf-8"))
              if not whole.match(text)}

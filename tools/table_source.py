@@ -6,7 +6,7 @@ from table_writer import ROWS_CRATE, write, rust_text
 
 
 # the kinds of values by which rows are found, as the trait `AsCell` has them
-KEY_TYPES = {"&Initials": "Initials", "&Serial": "Serial", "&ItemCode": "ItemCode", "&Key": "Key", "u32": "u32", "Place": "kcr_base::code::Code<9>"}
+KEY_TYPES = {"&Initials": "Initials", "&Serial": "Serial", "&ItemCode": "ItemCode", "&Key": "Key", "u32": "u32"}
 
 
 def text_method(name, text):

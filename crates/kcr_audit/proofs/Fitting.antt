@@ -1,38 +1,23 @@
 -- Who fits a seat by the rows of a register, in whatever order, is who fits it by its history.
-use Rattle.std.proofs.Common.{◌≡◌, ℕ, Bool, true, not, ◌&&◌, ◌==◌, List, [], ◌∷◌, map, find, Option, Some, None, option_map, refl, sym, ap, ◌∙◌, inl, inr}
-use Rattle.std.specs.Prelude.{is_some}
-use Rattle.std.specs.List.{list_any, AllByRecursion, cons_option}
+use Rattle.std.proofs.Common.{◌≡◌, ℕ, true, not, ◌&&◌, ◌==◌, List, [], ◌∷◌, Some, refl, sym, ap, ◌∙◌}
+use Rattle.std.specs.List.{list_any}
 use Rattle.std.specs.List.Sorted.{IsPermutation}
-use Rattle.std.proofs.lemmas.Bool.{cases_Bool, eqb-true}
-use Rattle.std.proofs.lemmas.List.Sorted.{list_any-IsPermutation, All-permutation}
-use Rattle.std.proofs.lemmas.List.Elements.{All-from_recursion, recursion_from_All}
+use Rattle.std.proofs.lemmas.Bool.{eqb-true}
+use Rattle.std.proofs.lemmas.List.Sorted.{list_any-IsPermutation}
 use Rattle.kcr_base.specs.Days.{day_of}
-use Rattle.kcr_base.specs.Rows.{or_else}
-use Rattle.kcr_base.specs.Same.{same_text, is_this}
+use Rattle.kcr_base.specs.Same.{same_text}
 use Rattle.kcr_base.specs.declared.place.Facility.{Facility}
-use Rattle.kcr_base.specs.declared.place.Place.{Place}
-use Rattle.kcr_base.specs.declared.place.Place.TheVariants as Places
-use Rattle.kcr_base.proofs.ListLemmas.{any-same, any-map, all-keys, find-only, find-order, only-order}
-use Rattle.kcr_people.specs.declared.Appointment.{Appointment}
-use Rattle.kcr_people.specs.People.{holder_by, holds}
-use Rattle.kcr_people.proofs.Orders.{trained-order}
+use Rattle.kcr_base.proofs.ListLemmas.{any-map, all-keys, find-only, only-order}
 use Rattle.kcr_script.specs.declared.seat.Seat.{Seat}
-use Rattle.kcr_script.specs.declared.seat.Seat.TheVariants.{Staff, AnyCo, AnyRksh, Co, Rksh}
-use Rattle.kcr_history.specs.declared.commands.Act.{Act}
-use Rattle.kcr_history.specs.declared.commands.Act.TheVariants.{Plan}
-use Rattle.kcr_history.specs.declared.rows.CeremonyRow.{CeremonyRow}
 use Rattle.kcr_history.specs.declared.views.WholeView.{WholeView}
 use Rattle.kcr_history.specs.Audit.{eligible_by, is_seating_by, ceremony_in}
-use Rattle.kcr_history.specs.Fitting.{is_holder_by, fits_by}
+use Rattle.kcr_history.specs.Fitting.{fits_by}
 use Rattle.kcr_history.specs.History.{History, all_said}
-use Rattle.kcr_history.specs.Ceremonies.{Planned, planned_as, plan_of, is_ceremony, facility_of}
+use Rattle.kcr_history.specs.Ceremonies.{is_ceremony, facility_of}
 use Rattle.kcr_history.specs.Room.{is_in}
-use Rattle.kcr_history.specs.Seating.{fits, eligible, is_seating, one_to_seven}
-use Rattle.kcr_history.specs.Training.{holder, is_holder}
-use Rattle.kcr_history.specs.Tables.{appointments, trainings, withdrawals, ceremonies, ceremony_row, planned_number, tables, SameTables}
+use Rattle.kcr_history.specs.Seating.{fits, eligible, is_seating}
+use Rattle.kcr_history.specs.Tables.{ceremonies, ceremony_row, planned_number, tables, SameTables}
 use Rattle.kcr_history.specs.Machine.{IsRegister}
-use Rattle.kcr_history.proofs.Orderly.{orderly, holder-appointments}
-use Rattle.kcr_history.proofs.Trained.{trained-rows}
 use Rattle.kcr_history.proofs.Words.{planned-number}
 use Rattle.kcr_audit.specs.Whole.{tables_of}
 use Rattle.kcr_audit.proofs.Alike.{shown-in}

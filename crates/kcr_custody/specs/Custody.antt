@@ -1,7 +1,6 @@
 -- Safes, boxes, bags and items, by rows.
-use Rattle.std.specs.Prelude.{◌≡◌, ℕ, Bool, true, false, not, ◌&&◌, ◌||◌, nat_eq, List, [], ◌∷◌, map, filter, find}
+use Rattle.std.specs.Prelude.{ℕ, Bool, true, false, not, ◌&&◌, ◌||◌, nat_eq, List, [], ◌∷◌, map, filter, find}
 use Rattle.std.specs.Prelude.{Option, Some, None, option_map, option_and_then, is_some, is_none, if◌then◌else◌}
-use Rattle.std.specs.Prelude.{Result, MatchResult}
 use Rattle.std.specs.List.{list_any, list_all}
 use Rattle.kcr_base.specs.Same.{same_text, same_facility, same_place}
 use Rattle.kcr_base.specs.Refuse.{when, first_of, no_person, no_ceremony, is_late}

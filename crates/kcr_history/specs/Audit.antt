@@ -4,7 +4,6 @@ use Rattle.std.specs.Prelude.{Option, Some, None, IsTrue}
 use Rattle.std.specs.List.{list_any, count_by}
 use Rattle.kcr_base.specs.Days.{day_of}
 use Rattle.kcr_base.specs.Same.{same_text}
-use Rattle.kcr_base.specs.declared.place.Facility.{Facility}
 use Rattle.kcr_room.specs.Room.{in_by, crowd_by}
 use Rattle.kcr_custody.specs.Balance.{holds_items}
 use Rattle.kcr_custody.specs.Custody.{is_box}

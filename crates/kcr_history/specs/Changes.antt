@@ -1,5 +1,5 @@
 -- What a change makes of the tables: one whole row is put under its key.
-use Rattle.std.specs.Prelude.{ℕ, ◌==◌, Bool, ◌&&◌, List, [], ◌∷◌}
+use Rattle.std.specs.Prelude.{◌==◌, Bool, ◌&&◌, List, [], ◌∷◌}
 use Rattle.kcr_base.specs.Rows.{put}
 use Rattle.kcr_base.specs.Same.{same_text, same_place, same_facility}
 use Rattle.kcr_people.specs.declared.Person.{Person}

@@ -12,11 +12,10 @@ use Rattle.kcr_custody.specs.declared.Spot.{Spot}
 use Rattle.kcr_custody.specs.declared.Spot.TheVariants.{Table, Spent}
 use Rattle.kcr_custody.specs.declared.Rest.{Rest}
 use Rattle.kcr_custody.specs.declared.Rest.TheVariants.{Loose, Within}
-use Rattle.kcr_custody.specs.declared.Store.{Store}
 use Rattle.kcr_custody.specs.Custody.{same_safe, spot_of_store}
 use Rattle.kcr_history.specs.declared.commands.Act.{Act}
 use Rattle.kcr_history.specs.declared.commands.Act.TheVariants.{AddBox, AddItem, TurnSafe, Seal, Take, Put, Cut}
-use Rattle.kcr_history.specs.History.{History, some_command, last_said, last_told}
+use Rattle.kcr_history.specs.History.{History, last_said, last_told}
 use Rattle.kcr_history.specs.Ceremonies.{facility_of}
 
 -- BAGS

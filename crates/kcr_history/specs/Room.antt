@@ -1,5 +1,5 @@
 -- What the history says of rooms.
-use Rattle.std.specs.Prelude.{ℕ, Bool, List, [], ◌∷◌, ◌++◌, map, length}
+use Rattle.std.specs.Prelude.{ℕ, Bool, List, [], ◌∷◌, ◌++◌, map}
 use Rattle.std.specs.List.{list_any}
 use Rattle.kcr_base.specs.Days.{day_of}
 use Rattle.kcr_base.specs.declared.place.Role.{Role}

@@ -1,9 +1,8 @@
 -- Who is eligible for a seat, what a seating is, and what a shortage is.
-use Rattle.std.specs.Prelude.{◌≡◌, ◌≢◌, ℕ, suc, ◌<◌, ◌==◌, Bool, true, false, not, ◌&&◌, nat_lt, nat_le, List, [], ◌∷◌}
-use Rattle.std.specs.Prelude.{map, filter, length, Option, Some, None, slice_get, slice_index, EachIndex, if◌then◌else◌}
+use Rattle.std.specs.Prelude.{◌≡◌, ◌≢◌, ℕ, suc, ◌==◌, Bool, true, false, not, ◌&&◌, nat_lt, nat_le, List, [], ◌∷◌}
+use Rattle.std.specs.Prelude.{filter, length, Option, Some, None, slice_get, if◌then◌else◌}
 use Rattle.std.specs.Prelude.{IsTrue}
 use Rattle.std.specs.List.{list_any, list_all}
-use Rattle.std.specs.List.Sorted.{IsStrictlyIncreasing}
 use Rattle.kcr_base.specs.Same.{same_text, is_before}
 use Rattle.kcr_base.specs.Days.{day_of}
 use Rattle.kcr_base.specs.declared.place.Facility.{Facility}

@@ -1,5 +1,5 @@
 -- The tables of a history: for each table its rows, the one that was put first last.
-use Rattle.std.specs.Prelude.{ℕ, suc, ◌==◌, Bool, true, ◌&&◌, List, [], ◌∷◌, map, reverse, length, Option, Some, None}
+use Rattle.std.specs.Prelude.{ℕ, suc, ◌==◌, Bool, true, ◌&&◌, List, [], ◌∷◌, map, reverse, Option, Some, None}
 use Rattle.std.specs.Prelude.{option_map, is_some, unwrap_or, if◌then◌else◌}
 use Rattle.std.specs.List.{filter_map}
 use Rattle.std.specs.List.Sorted.{IsPermutation}

@@ -350,12 +350,12 @@ fn asks_by(alloc: Global, act: &Act) -> Result<Asks, AllocError>
 }
 
 /// The rows that the decision of this command reads: those under the keys, of the people, of the place or of the
-/// ceremony that it names; of a place's and a person's appointments the last one alone, of a ceremony's steps one.
-/// Of a ceremony's stays those that last to the moment of the command; how many it has in all where people come in.
-/// Where anybody in a room may be the one who is needed, the trainings and the appointments are those that last to the
-/// day of the command. All rows are asked for only of tables that do not grow with each command: withdrawals where
-/// anybody in a room may be the one who is needed, marks, boxes and safes; of the ceremonies to open one, and of the bags
-/// to close one. The error is out of memory.
+/// ceremony that it names; of a place's and a person's appointments the last one alone, of a ceremony's steps one. Of a
+/// ceremony's stays those that last to the moment of the command; how many it has in all where people come in. Where
+/// anybody in a room may be the one who is needed, the trainings and the appointments are those that last to the day of
+/// the command. All rows are asked for only of tables that do not grow with each command: withdrawals where anybody in
+/// a room may be the one who is needed, marks, boxes and safes; of the ceremonies to open one, and of the bags to close
+/// one. The error is out of memory.
 pub fn asks(alloc: Global, command: &Command) -> Result<Asks, AllocError>
     ensures { IfOk result (λ asks. asks ≡ Asked.asks_of command.now) }
 {

@@ -7,7 +7,8 @@ use kcr_custody::{Bag, BoxRow, Item, SafeRow};
 use kcr_people::{Appointment, Person, Training, Withdrawal};
 use kcr_room::{SheetRow, Stay};
 
-/// Rows of the tables that decisions read, one list for each table, each in any order, and how many stays a ceremony has.
+/// Rows of the tables that decisions read, one list for each table, each in any order, and how many stays a ceremony
+/// has.
 #[derive(Drop)]
 pub struct View {
     pub people: Vec<Person>,
@@ -55,9 +56,9 @@ pub enum TrainingsOf {
     Lasting(Day),
 }
 
-/// Which appointments are asked for. To change one, the one to a place that began last and the one of a person that began
-/// last are enough, since neither a place nor a person has two appointments at a time. An appointment counts on a day only
-/// where it lasts beyond it, so those that ended before need not be read to tell who holds a place.
+/// Which appointments are asked for. To change one, the one to a place that began last and the one of a person that
+/// began last are enough, since neither a place nor a person has two appointments at a time. An appointment counts on a
+/// day only where it lasts beyond it, so those that ended before need not be read to tell who holds a place.
 #[derive(Clone, Copy, PartialEq, Eq)]
 pub enum AppointmentsOf {
     /// The last one to the place.

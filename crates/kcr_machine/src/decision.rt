@@ -90,9 +90,9 @@ fn decide_by_rows(
 /// part does not tell one.
 ///
 /// For every history A that the machine leads to, and in whose tables the key has no row: where the view holds the rows
-/// of the tables of A that the command asks for, trainings, withdrawals, appointments and stays aside, and `accepted` is
-/// the number of the last command of A, a refusal is the machine's step from A. Out of memory (33) may be answered in
-/// its place. Nothing is told ahead of an act that has no ceremony.
+/// of the tables of A that the command asks for, trainings, withdrawals, appointments and stays aside, and `accepted`
+/// is the number of the last command of A, a refusal is the machine's step from A. Out of memory (33) may be answered
+/// in its place. Nothing is told ahead of an act that has no ceremony.
 ///
 /// And the other way round, over any view and number: a refusal that this part of the rows tells is told, out of memory
 /// aside, unless the rows tell of more steps done than a script has, which no register's rows do.

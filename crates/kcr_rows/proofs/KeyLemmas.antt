@@ -1,8 +1,8 @@
 -- Which rows of a table have the key of a new row.
-use Rattle.std.proofs.Common.{◌≡◌, inl, inr, Some, ℕ, ℤ, zero, suc, ◌&&◌, not, Bool, true, false, List, [], ◌∷◌, Ordering, refl, sym, ap, ap₂, ◌∙◌, ◌||◌, arith}
+use Rattle.std.proofs.Common.{◌≡◌, inl, inr, Some, ℕ, ℤ, zero, suc, ◌&&◌, not, Bool, true, false, List, [], ◌∷◌, Ordering, refl, sym, ap, ◌∙◌, arith}
 use Rattle.std.specs.List.{list_any}
 use Rattle.std.specs.Ordering.{is_eq, is_ne, ordering_then}
-use Rattle.std.proofs.lemmas.Bool.{and_parts, and_right, or_parts, not-true}
+use Rattle.std.proofs.lemmas.Bool.{and_parts, or_parts, not-true}
 use Rattle.sqlite.specs.declared.types.Value.{Value}
 use Rattle.sqlite.specs.declared.types.Value.TheVariants.{Int}
 use Rattle.sqlite.specs.Order.{Row, column, value_cmp}
@@ -15,9 +15,6 @@ use Rattle.sqlite_value.specs.Keys.{plain, first_key, rising}
 use Rattle.sqlite_value.proofs.KeyLemmas.{first_key-plain}
 use Rattle.sqlite_rules.specs.Lists.{Has}
 use Rattle.sqlite_rules.specs.Edit.{id_in, is_taken}
-use Rattle.sqlite.specs.Table.{Table}
-use Rattle.sqlite_schema.specs.declared.schema.Index.{Index}
-use Rattle.sqlite_rules.specs.Keys.{conflicts, shares, aims}
 use Rattle.kcr_rows.specs.Keyed.{Place, cells, by_key, is_full}
 
 abbrev pub places_from : ℕ → ℕ → List ℕ
@@ -109,16 +106,3 @@ module _ (place : Place) (entries : List Row) (entry : Row) (id : ℤ) (values :
   fresh_key r h own whole filled none =
       sym (agrees place entry values compares fulls shown r whole filled)
       ∙ alone _ _ none (differ_is (rowid r) (rowid entry) (ap is_null own) there_is ∙ ap not (apart r h))
-
-  -- a row conflicts with it at the key where it has the key
-  pub meets_key : (indexes : List Index) (table : Table)
-      → ((a b : Row) → list_any (shares (Some target) table a b) indexes ≡ (agree plain target b target a || false))
-      → (r : Row) → Has entries r → rowid r ≡ Int (id_in (rowid r)) → is_full place.keys (cells place r) ≡ true → is_full place.keys values ≡ true
-      → conflicts (Some target) indexes table entry r ≡ is_eq (by_key place.keys (cells place r) values)
-  meets_key indexes table shared r h own whole filled =
-      let rowids : agree plain (0 ∷ []) r (0 ∷ []) entry ≡ false =
-      rw (first_key-plain, equal_is (rowid r) (rowid entry) (ap is_null own) there_is, apart r h) in
-      ap₂ ◌||◌ (and_right (aims (Some target) (0 ∷ [])) _ rowids) (shared entry r ∙ or_false _ ∙ agrees place entry values compares fulls shown r whole filled)
-    where
-      or_false : (b : Bool) → (b || false) ≡ b
-      or_false b = grind arith

@@ -13,7 +13,7 @@ use Rattle.sqlite.specs.Schema.{Schema}
 use Rattle.sqlite.specs.Kind.TheVariants as kind
 use Rattle.sqlite.specs.Source.TheVariants.{Values}
 use Rattle.sqlite.specs.Command.TheVariants.{Insert}
-use Rattle.sqlite.specs.Edit.{edit_of, next_rowid, is_taken, are_fresh, IsNoIndex, taken_by, with_rowid}
+use Rattle.sqlite.specs.Edit.{edit_of, is_taken, are_fresh, IsNoIndex, taken_by, with_rowid}
 use Rattle.sqlite.specs.Rowids.TheVariants.{Chosen}
 use Rattle.sqlite_schema.specs.Rules.{Fits}
 use Rattle.sqlite_schema.specs.declared.schema.Keys.TheVariants.{Enforced}
@@ -47,10 +47,6 @@ same_value e = cc
 -- a row as it is stored: with the rowid that it has, or else the next one
 abbrev pub entered : List Row → Row → Row
 entered entries given = with_rowid Chosen entries given
-
--- the row of these values, whose rowid is the next one
-abbrev pub stored : List Row → Row → Row
-stored entries values = Int (next_rowid entries) ∷ values
 
 -- the entry went in beside those that were there
 pub record IsInserted (schema : Schema) (tree : ℕ) (old new : Trees) (entry : Row) : Type 0 where

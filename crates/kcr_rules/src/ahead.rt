@@ -238,8 +238,8 @@ impl Premises<'_> {
 /// The first refusal of an act, as far as it is told by a view that has no stays, trainings, withdrawals or
 /// appointments: the act then has it whatever those rows are.
 ///
-/// Of an act that has no ceremony, and of an opening, nothing is told ahead. Out of memory (33) may be answered in place
-/// of a refusal, and 34 where the rows tell of more steps done than a script has.
+/// Of an act that has no ceremony, and of an opening, nothing is told ahead. Out of memory (33) may be answered in
+/// place of a refusal, and 34 where the rows tell of more steps done than a script has.
 pub fn refusal_ahead(alloc: Global, view: &View, full: bool, act: &Act) -> Option<Refusal>
     ensures { IsToldAhead view.now full act.now result }
 {

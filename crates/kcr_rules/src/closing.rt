@@ -101,8 +101,8 @@ fn check_finished(view: &View, ceremony: u32, at: Moment, row: CeremonyRow) -> R
 }
 
 impl Premises<'_> {
-    /// The row of a ceremony that may be closed once it is finished. Refused: 12 without the ceremony, 20 where it is not
-    /// open, 22 before its mark, 27 full.
+    /// The row of a ceremony that may be closed once it is finished. Refused: 12 without the ceremony, 20 where it is
+    /// not open, 22 before its mark, 27 full.
     pub fn closable(&self, ceremony: u32, at: Moment) -> Result<CeremonyRow, Refusal>
         ensures row { IfOk result (λ row. Scene.ceremony_by self.now.view.now.ceremonies.items ceremony ≡ Some row) }
         ensures tests { Tests (CeremonyRows.early_closing_refusal self.now.view.now self.now.is_full ceremony at) result }

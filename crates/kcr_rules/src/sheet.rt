@@ -98,8 +98,8 @@ fn check_later(at: Moment, mark: Moment) -> Result<(), Refusal>
     Ok(())
 }
 
-/// The first refusal of a request before the stays are looked at: the ceremony and the people are there, the ceremony is
-/// open, and the moment is later than its mark.
+/// The first refusal of a request before the stays are looked at: the ceremony and the people are there, the ceremony
+/// is open, and the moment is later than its mark.
 pub fn request_ahead(view: &View, request: &Request<'_>) -> Option<Refusal>
     ensures { let asked : Request = request.now in
         result ≡ SheetRows.timely_refusal view.now asked.ceremony asked.people.now asked.at }

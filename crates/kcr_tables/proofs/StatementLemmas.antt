@@ -1,5 +1,5 @@
 -- What the statements of a table do, from what it proves of their texts.
-use Rattle.std.proofs.Common.{◌≡◌, ◌<◌, ℕ, negsuc, not, Bool, List, [], ◌∷◌, map, filter, length, get_or, set, Ok, refl, sym, ap, subst, subst₂, ◌∙◌, arith, IsPermutation}
+use Rattle.std.proofs.Common.{◌≡◌, ◌<◌, ℕ, negsuc, not, Bool, List, [], ◌∷◌, map, filter, length, get_or, set, Ok, refl, sym, ap, subst, subst₂, ◌∙◌, IsPermutation}
 use Rattle.std.specs.Bool.{⊤}
 use Rattle.std.specs.List.{AllByRecursion, list_all}
 use Rattle.std.specs.Prelude.{swap}

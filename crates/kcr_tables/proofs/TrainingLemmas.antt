@@ -1,5 +1,5 @@
 -- The text that shows the trainings that last to a day.
-use Rattle.std.proofs.Common.{◌≡◌, ℕ, pos, ◌&&◌, not, nat_le, Bool, true, false, List, [], ◌∷◌, filter, find, codes, Some, refl, ap, ◌∙◌, arith}
+use Rattle.std.proofs.Common.{◌≡◌, ℕ, pos, ◌&&◌, not, nat_le, Bool, true, false, List, [], ◌∷◌, filter, codes, Some, refl, ap, ◌∙◌, arith}
 use Rattle.std.specs.Ordering.{is_ge, int_cmp}
 use Rattle.std.proofs.lemmas.Bool.Decides.{nat_tests}
 use Rattle.sqlite.specs.declared.types.Value.{Value}

@@ -1,7 +1,7 @@
 -- What a table proves of its SQL texts, on which the general calls stand.
-use Rattle.std.specs.Prelude.{◌≡◌, ◌⊎◌, ◌||◌, ◌&&◌, not, ℕ, ℤ, pos, negsuc, suc, ◌/◌, ◌^◌, nat_le, Bool, true, false}
+use Rattle.std.specs.Prelude.{◌≡◌, ◌&&◌, not, ℕ, ℤ, pos, negsuc, suc, ◌/◌, ◌^◌, nat_le, Bool, true, false}
 use Rattle.std.specs.Prelude.{List, [], ◌∷◌, ◌++◌, map, take, length, slice_get, Option, Some}
-use Rattle.std.specs.List.{list_all, list_any, range_with_len}
+use Rattle.std.specs.List.{list_all, range_with_len}
 use Rattle.std.specs.declared.cmp.Ordering.{Ordering}
 use Rattle.sqlite.specs.declared.types.Value.TheVariants.{Null, Int}
 use Rattle.sqlite.specs.Order.{Row}

@@ -17,10 +17,10 @@ use kcr_rows::statements::rows_of;
 use sqlite::{Alter, Transaction};
 use std::alloc::Global;
 
-/// The trainings whose last day is this day or a later one, in no order that is told. No index begins with the last day,
-/// so every row is read: by the row ids the engine goes along the table itself, where in the order of the keys it goes
-/// along the index of the key, which costs twice as much. Nothing is changed. The error is `Memory` when out of memory,
-/// and else `Disk`: the device failed, or a row that is shown is one that no register stores.
+/// The trainings whose last day is this day or a later one, in no order that is told. No index begins with the last
+/// day, so every row is read: by the row ids the engine goes along the table itself, where in the order of the keys it
+/// goes along the index of the key, which costs twice as much. Nothing is changed. The error is `Memory` when out of
+/// memory, and else `Disk`: the device failed, or a row that is shown is one that no register stores.
 fn trainings_lasting_to<S: Alter>(
     alloc: Global,
     tx: &mut Transaction<'_, S>,

@@ -22,9 +22,9 @@ use kcr_rows::statements::rows_of;
 use sqlite::{Alter, Transaction};
 use std::alloc::Global;
 
-/// The appointments that have no end, or end on a day after this one, in no order that is told. No index begins with the
-/// end, so every row is read, along the table itself. Nothing is changed. The error is `Memory` when out of memory, and
-/// else `Disk`: the device failed, or a row that is shown is one that no register stores.
+/// The appointments that have no end, or end on a day after this one, in no order that is told. No index begins with
+/// the end, so every row is read, along the table itself. Nothing is changed. The error is `Memory` when out of memory,
+/// and else `Disk`: the device failed, or a row that is shown is one that no register stores.
 pub fn appointments_lasting_beyond<S: Alter>(
     alloc: Global,
     tx: &mut Transaction<'_, S>,
@@ -68,7 +68,8 @@ fn last_of_both<S: Alter>(
     Ok(rows)
 }
 
-/// The appointments that are asked for: all, the last to a place, of a person or of both, or those that last beyond a day.
+/// The appointments that are asked for: all, the last to a place, of a person or of both, or those that last beyond a
+/// day.
 pub fn asked_appointments<S: Alter>(
     alloc: Global,
     tx: &mut Transaction<'_, S>,

@@ -25,9 +25,9 @@ use kcr_rows::statements::rows_of;
 use sqlite::{Alter, Transaction};
 use std::alloc::Global;
 
-/// The stays of the ceremony that have no end, or end at the moment or later, in the order in which they began, which is
-/// that of an index. Nothing is changed. The error is `Memory` when out of memory, and else `Disk`: the device failed, or
-/// a row that is shown is one that no register stores.
+/// The stays of the ceremony that have no end, or end at the moment or later, in the order in which they began, which
+/// is that of an index. Nothing is changed. The error is `Memory` when out of memory, and else `Disk`: the device
+/// failed, or a row that is shown is one that no register stores.
 pub fn stays_lasting_to<S: Alter>(
     alloc: Global,
     tx: &mut Transaction<'_, S>,
@@ -113,8 +113,8 @@ pub fn asked_stays<S: Alter>(
     }
 }
 
-/// How many stays the ceremony has, counted along an index. Nothing is changed. The error is `Memory` when out of memory,
-/// and else `Disk`: the device failed, or there are more than 4,294,967,295.
+/// How many stays the ceremony has, counted along an index. Nothing is changed. The error is `Memory` when out of
+/// memory, and else `Disk`: the device failed, or there are more than 4,294,967,295.
 fn entries_of<S: Alter>(
     alloc: Global,
     tx: &mut Transaction<'_, S>,

@@ -16,10 +16,9 @@ ghost use Rattle.kcr_tables.specs.Exact.{rows_at, AskedAreShown, WholeIsShown};
 ghost use Rattle.kcr_tables.specs.Statements.{InsertsRow, UpdatesRow};
 ghost use Rattle.kcr_tables.specs.Table.{Table, IsTable, Finding, IsFinding, with_put, machine_rows};
 
-use kcr_base::code::Code;
 use kcr_base::{Initials, ItemCode, Key, Refusal, Serial};
 use kcr_history::Selection;
-use kcr_rows::cells::{code_cell, initials_cell, item_cell, key_cell, number_cell, serial_cell};
+use kcr_rows::cells::{initials_cell, item_cell, key_cell, number_cell, serial_cell};
 use kcr_rows::statements::{changed_rows, rows_of, write};
 use kcr_rows::stored::Stored;
 use sqlite::types::ValueRef;
@@ -81,14 +80,6 @@ impl AsCell for Serial {
     }
 }
 
-impl<const N: usize> AsCell for Code<N> {
-    ghost value_of = { Text };
-
-    fn cell(&self) -> ValueRef<'_> {
-        code_cell(self)
-    }
-}
-
 impl AsCell for u32 {
     ghost value_of = { λ n. Int (pos n) };
 
@@ -113,9 +104,9 @@ pub trait Finds<K: AsCell>: Listed {
 /// A table in which the row of a value is put under its key.
 pub trait Put: Listed {
     /// Puts the row under its key, new or in the place of the row there; every other row stays. A person, a training, a
-    /// box, a seating, a row of the sheet, an exception and an accepted command are put only once, so are a step that is
-    /// neither signed nor passed and a stay that has no end: by an `INSERT`. The error is `Memory`, or else `Disk`, as
-    /// where the key of one of these or the number of a command is taken. What was committed before stays.
+    /// box, a seating, a row of the sheet, an exception and an accepted command are put only once, so are a step that
+    /// is neither signed nor passed and a stay that has no end: by an `INSERT`. The error is `Memory`, or else `Disk`,
+    /// as where the key of one of these or the number of a command is taken. What was committed before stays.
     ///
     /// Any other row may be there: an `UPDATE` changes it, and an `INSERT` follows where it changed none. Both together
     /// cost less than one upsert.
@@ -236,9 +227,9 @@ pub fn put_new<S: Alter, T: Listed>(
     write(tx, sql, cells)
 }
 
-/// Puts the row of a value under its key, which a row may have already: the text `update_sql` changes that row, and where
-/// it changed none `insert_sql` puts the row. The parameters of both are `cells`, those of the row; the errors are those
-/// of `Put::put`.
+/// Puts the row of a value under its key, which a row may have already: the text `update_sql` changes that row, and
+/// where it changed none `insert_sql` puts the row. The parameters of both are `cells`, those of the row; the errors
+/// are those of `Put::put`.
 pub fn put_over<S: Alter, T: Listed>(
     tx: &mut Transaction<'_, S>,
     row: &T,

@@ -143,8 +143,8 @@ fn ceremony_rows<S: Alter>(
 }
 
 /// The rows asked for, but for trainings, withdrawals, appointments and stays, of which the view has none. Of a table
-/// that is not asked for nothing is read. Nothing is changed. The error is `Memory` when out of memory, and else `Disk`:
-/// the device failed, or a row asked for is one that no register stores.
+/// that is not asked for nothing is read. Nothing is changed. The error is `Memory` when out of memory, and else
+/// `Disk`: the device failed, or a row asked for is one that no register stores.
 pub fn front_of<S: Alter>(
     alloc: Global,
     tx: &mut Transaction<'_, S>,
@@ -179,8 +179,8 @@ pub fn front_of<S: Alter>(
     })
 }
 
-/// All rows asked for, of each table, where `front` has those of `front_of`, which are not read again. As there, nothing
-/// is changed, and the error is `Memory` or `Disk`.
+/// All rows asked for, of each table, where `front` has those of `front_of`, which are not read again. As there,
+/// nothing is changed, and the error is `Memory` or `Disk`.
 pub fn completed<S: Alter>(
     alloc: Global,
     tx: &mut Transaction<'_, S>,
