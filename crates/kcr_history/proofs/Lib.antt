@@ -8,3 +8,4 @@ pub mod Orderly
 pub mod Trained
 pub mod Settled
 pub mod Distinct
+pub mod Tops

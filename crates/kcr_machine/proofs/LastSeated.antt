@@ -26,6 +26,7 @@ use Rattle.kcr_history.specs.Seating.{is_seating}
 use Rattle.kcr_history.specs.Tables.{steps, seatings, seat_rows, seating_rows, seats_at, ceremony_of_step}
 use Rattle.kcr_history.specs.Views.{ShowsSteps, is_seating_of, is_step_at, last_seated}
 use Rattle.kcr_history.proofs.Piled.{filter-stacked}
+use Rattle.kcr_history.proofs.Tops.{top, top-more}
 use Rattle.kcr_rules.specs.Signing.{staff}
 use Rattle.kcr_laws.proofs.Accepted.{IsAnswerTo, IsAccepted, one, each_register}
 use Rattle.kcr_laws.proofs.Done.{one_more, next_signed, done-after}
@@ -65,22 +66,9 @@ some_people A c t (seat ∷ seats) (who ∷ people) h l = omega arith
 
 -- THE GREATEST NUMBER OF A STEP
 
-abbrev top : List SeatingRow → ℕ
-top rows = fold max 0 (map (λ row. row.step) rows)
-
-fold-more : (n : ℕ) (xs : List ℕ) → fold max n xs ≡ max n (fold max 0 xs)
-fold-more n [] = omega arith
-fold-more n (x ∷ xs) = omega (arith, fold-more (max n x) xs, fold-more (max 0 x) xs)
-
 top-stacked : (front rows : List SeatingRow) → top (stacked_on front rows) ≡ max (top front) (top rows)
 top-stacked [] rows = omega arith
-top-stacked (x ∷ front) rows =
-    omega (
-      arith,
-      top-stacked front (x ∷ rows),
-      fold-more (max 0 x.step) (map (λ (row : SeatingRow). row.step) rows),
-      fold-more (max 0 x.step) (map (λ (row : SeatingRow). row.step) front),
-    )
+top-stacked (x ∷ front) rows = omega (arith, top-stacked front (x ∷ rows), top-more x rows, top-more x front)
 
 top-seats : (c k i : ℕ) (people : List (List ℕ)) → 1 ≤ length people → top (seat_rows c k i people) ≡ k
 top-seats c k i [] l = absurd (omega (arith, l))
@@ -88,7 +76,7 @@ top-seats c k i (who ∷ []) l = omega arith
 top-seats c k i (who ∷ other ∷ people) l =
     omega (
       arith,
-      fold-more (max 0 k) (map (λ (row : SeatingRow). row.step) (seat_rows c k (suc i) (other ∷ people))),
+      top-more (record { ceremony = c; step = k; seat = suc i; who = who }) (seat_rows c k (suc i) (other ∷ people)),
       top-seats c k (suc i) (other ∷ people) (omega arith),
     )
 

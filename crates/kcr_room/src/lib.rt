@@ -14,7 +14,7 @@ ghost use Rattle.kcr_room.specs.Room.{way_text};
 
 pub use adding::add_stays;
 use kcr_base::{Initials, Moment};
-pub use presence::{first_lone, holds, is_crowded, is_lasting, present_in};
+pub use presence::{first_lone, holds, is_crowded, is_lasting, lasts_at, present_in};
 pub use stays::stays_of;
 
 /// Whether people come into a room or go out of it.

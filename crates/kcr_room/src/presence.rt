@@ -10,7 +10,8 @@ use crate::{SheetRow, Stay, stays_of};
 use kcr_base::{Initials, Moment, is_before};
 use std::alloc::{AllocError, Global};
 
-pub(crate) fn lasts_at(at: Moment, until: Option<Moment>) -> bool
+/// Whether an end is none, or later than the moment.
+pub fn lasts_at(at: Moment, until: Option<Moment>) -> bool
     ensures { result ≡ Stays.lasts_at at until }
 {
     match until {
@@ -19,6 +20,7 @@ pub(crate) fn lasts_at(at: Moment, until: Option<Moment>) -> bool
     }
 }
 
+/// Whether an end is none, or the moment itself, or later.
 fn lasts_to(at: Moment, until: Option<Moment>) -> bool
     ensures { result ≡ Stays.lasts_to at until }
 {

@@ -8,7 +8,6 @@ ghost use Rattle.kcr_history.specs.Views.{is_step_at};
 ghost use Rattle.kcr_rules.specs.CeremonyRows;
 ghost use Rattle.kcr_rules.specs.Scene;
 ghost use Rattle.kcr_rules.specs.Signing.{next_by};
-ghost use Rattle.kcr_room.specs.Stays;
 
 use crate::changes::only;
 use crate::premises::Premises;
@@ -17,7 +16,7 @@ use kcr_base::{Facility, Moment, Part, Refusal};
 use kcr_custody::rows::is_open;
 use kcr_custody::{Bag, SafeNumber, Spot};
 use kcr_history::{CeremonyRow, CeremonyState, Change, StepRow, View, last_seated};
-use kcr_room::Stay;
+use kcr_room::{Stay, lasts_at};
 
 /// Whether the row is the ceremony's step after this one.
 fn is_step_after(ceremony: u32, last: u32, row: &StepRow) -> bool
@@ -36,21 +35,11 @@ fn has_next_step(view: &View, ceremony: u32) -> bool
         .any(|row| is_step_after(ceremony, last, row))
 }
 
-/// Whether an end is none, or later than the moment.
-fn lasts(at: Moment, until: Option<Moment>) -> bool
-    ensures { result ≡ Stays.lasts_at at until }
-{
-    match until {
-        None => true,
-        Some(until) => at < until,
-    }
-}
-
 /// Whether the stay in the ceremony's room begins or ends later than the moment, or has no end.
 fn is_unended(ceremony: u32, at: Moment, stay: Stay) -> bool
     ensures { result ≡ CeremonyRows.is_unended ceremony at stay }
 {
-    stay.ceremony == ceremony && (at < stay.since || lasts(at, stay.until))
+    stay.ceremony == ceremony && (at < stay.since || lasts_at(at, stay.until))
 }
 
 /// Whether anybody is in the ceremony's room at the moment, or comes or goes later.

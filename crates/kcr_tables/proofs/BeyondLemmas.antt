@@ -1,5 +1,5 @@
 -- The text that shows the appointments that last beyond a day.
-use Rattle.std.proofs.Common.{◌≡◌, ℕ, pos, ◌&&◌, ◌||◌, not, nat_lt, Bool, true, false, List, [], ◌∷◌, filter, codes, Option, Some, None, refl, ap, ◌∙◌, arith}
+use Rattle.std.proofs.Common.{◌≡◌, ℕ, pos, ◌&&◌, ◌||◌, not, nat_lt, Bool, true, false, List, [], ◌∷◌, codes, Option, Some, None, refl, ap, ◌∙◌, arith}
 use Rattle.std.specs.Ordering.{is_gt, int_cmp}
 use Rattle.std.proofs.lemmas.Bool.Decides.{nat_tests}
 use Rattle.sqlite.specs.declared.types.Value.TheVariants.{Null, Int}
@@ -17,7 +17,6 @@ use Rattle.kcr_people.specs.declared.Appointment.{Appointment}
 use Rattle.kcr_people.specs.People.{lasts_beyond, ends_after}
 use Rattle.kcr_rows.specs.Rows.{appointment_row}
 use Rattle.kcr_rows.specs.Values.{int_or_null}
-use Rattle.kcr_rows.proofs.FilterLemmas.{filter_as}
 use Rattle.kcr_tables.specs.AppointmentsLaws as laws
 use Rattle.kcr_tables.specs.Exact.{is_beyond_row}
 use Rattle.kcr_tables.specs.Held.{appointments_place}
@@ -62,6 +61,3 @@ passes_appointment day x = passes_row day (appointment_row x) ∙ lasting x.unti
         → (is_null (int_or_null until) || (not (is_null (int_or_null until)) && is_gt (value_cmp (int_or_null until) (Int (pos day))))) ≡ ends_after until day
     lasting None = refl
     lasting (Some until) = ap is_gt (value_cmp-Int (pos until) (pos day)) ∙ number_beyond until day
-
-pub appointments_in : (day : ℕ) (all : List Appointment) → filter (λ x. passes day (appointment_row x)) all ≡ filter (lasts_beyond day) all
-appointments_in day = filter_as _ _ (passes_appointment day)

@@ -1,5 +1,5 @@
 -- The text that shows the stays of a ceremony that last to a moment, in the order of their beginnings.
-use Rattle.std.proofs.Common.{◌≡◌, ℕ, pos, ◌&&◌, ◌||◌, not, ◌==◌, Bool, true, false, List, [], ◌∷◌, filter, codes, Option, Some, None, refl, sym, ap, ◌∙◌}
+use Rattle.std.proofs.Common.{◌≡◌, ℕ, pos, ◌&&◌, ◌||◌, not, ◌==◌, Bool, true, false, List, [], ◌∷◌, codes, Option, Some, None, refl, sym, ap, ◌∙◌}
 use Rattle.std.specs.Ordering.{is_ge, is_eq}
 use Rattle.std.proofs.lemmas.Cmp.{tied_itself}
 use Rattle.sqlite.specs.declared.types.Value.{Value}
@@ -21,7 +21,7 @@ use Rattle.kcr_room.specs.declared.Stay.{Stay}
 use Rattle.kcr_room.specs.Stays.{is_lasting, lasts_to}
 use Rattle.kcr_rows.specs.Rows.{stay_row}
 use Rattle.kcr_rows.specs.Values.{int_or_null}
-use Rattle.kcr_rows.proofs.FilterLemmas.{filter_as, value_is}
+use Rattle.kcr_rows.proofs.FilterLemmas.{value_is}
 use Rattle.kcr_rows.proofs.SameLemmas.{number_ties}
 use Rattle.kcr_tables.specs.Exact.{has_number, is_lasting_row}
 use Rattle.kcr_tables.specs.Held.{stays_place}
@@ -103,6 +103,3 @@ passes_stay ceremony at x =
         → (is_null (int_or_null until) || (not (is_null (int_or_null until)) && is_ge (value_cmp (int_or_null until) (Int (pos at))))) ≡ lasts_to at until
     lasting None = refl
     lasting (Some until) = ap is_ge (value_cmp-Int (pos until) (pos at)) ∙ number_from until at
-
-pub stays_in : (ceremony at : ℕ) (all : List Stay) → filter (λ x. passes ceremony at (stay_row x)) all ≡ filter (is_lasting ceremony at) all
-stays_in ceremony at = filter_as _ _ (passes_stay ceremony at)

@@ -18,6 +18,7 @@ use Rattle.kcr_history.specs.declared.rows.SeatingRow.{SeatingRow}
 use Rattle.kcr_history.specs.declared.rows.StepRow.{StepRow}
 use Rattle.kcr_history.specs.declared.views.StepOf.{StepOf}
 use Rattle.kcr_history.specs.Views.{is_step_at, is_seating_of, last_seated, step_asked, ShowsStepOf, ShowsSteps}
+use Rattle.kcr_history.proofs.Tops.{top, top-more}
 use Rattle.kcr_rows.specs.Greatest.{IsGreatest}
 use Rattle.kcr_rows.specs.Rows.{step_row}
 use Rattle.kcr_rows.proofs.FilterLemmas.{value_is}
@@ -63,31 +64,17 @@ passes_step ceremony step x =
 
 -- ---- the last step that has a seating
 
-abbrev number : SeatingRow → ℕ
-number row = row.step
-
--- the greatest number of these rows, 0 where there is none
-abbrev top : List SeatingRow → ℕ
-top rows = fold max 0 (map number rows)
-
-fold_more : (n : ℕ) (xs : List ℕ) → fold max n xs ≡ max n (fold max 0 xs)
-fold_more n [] = omega arith
-fold_more n (x ∷ xs) = omega (arith, fold_more (max n x) xs, fold_more (max 0 x) xs)
-
-top_more : (x : SeatingRow) (xs : List SeatingRow) → top (x ∷ xs) ≡ max x.step (top xs)
-top_more x xs = omega (arith, fold_more (max 0 x.step) (map number xs))
-
 top_below : (n : ℕ) (xs : List SeatingRow) → ((x : SeatingRow) → Has xs x → x.step ≤ n) → top xs ≤ n
 top_below n [] h = omega arith
 top_below n (x ∷ xs) h =
     let here = h x (inl refl) in
     let more = top_below n xs (λ y there. h y (inr there)) in
-    let is = top_more x xs in omega (arith, here, more, is)
+    let is = top-more x xs in omega (arith, here, more, is)
 
 top_above : (xs : List SeatingRow) (x : SeatingRow) → Has xs x → x.step ≤ top xs
 top_above [] x h = absurd h
-top_above (y ∷ ys) x (inl same) = let e : x.step ≡ y.step = ap number same in let is = top_more y ys in omega (arith, e, is)
-top_above (y ∷ ys) x (inr later) = let h = top_above ys x later in let is = top_more y ys in omega (arith, h, is)
+top_above (y ∷ ys) x (inl same) = let e : x.step ≡ y.step = ap (λ (row : SeatingRow). row.step) same in let is = top-more y ys in omega (arith, e, is)
+top_above (y ∷ ys) x (inr later) = let h = top_above ys x later in let is = top-more y ys in omega (arith, h, is)
 
 -- lists that have the same rows
 top_same : (xs ys : List SeatingRow) → ((x : SeatingRow) → Has xs x → Has ys x) → ((x : SeatingRow) → Has ys x → Has xs x) → top xs ≡ top ys

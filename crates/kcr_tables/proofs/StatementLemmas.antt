@@ -1,5 +1,5 @@
 -- What the statements of a table do, from what it proves of their texts.
-use Rattle.std.proofs.Common.{◌≡◌, ◌<◌, ℕ, negsuc, not, Bool, List, [], ◌∷◌, map, filter, length, get_or, set, Ok, refl, sym, ap, subst, subst₂, ◌∙◌, IsPermutation}
+use Rattle.std.proofs.Common.{◌≡◌, ◌<◌, ℕ, negsuc, not, Bool, List, [], ◌∷◌, map, filter, length, get_or, set, Vec, Global, Result, IfOk, Ok, refl, sym, ap, subst, subst₂, ◌∙◌, IsPermutation}
 use Rattle.std.specs.Bool.{⊤}
 use Rattle.std.specs.List.{AllByRecursion, list_all}
 use Rattle.std.specs.Prelude.{swap}
@@ -10,21 +10,24 @@ use Rattle.sqlite.specs.declared.types.Value.TheVariants.{Null}
 use Rattle.sqlite.specs.Order.{Row}
 use Rattle.sqlite.specs.Program.{overlay}
 use Rattle.sqlite.specs.Query.{Output, IsAnswer, output}
-use Rattle.sqlite.specs.State.{State, Shown, Executes}
+use Rattle.sqlite.specs.State.{State, HasCleanDisk, Shown, Executes}
 use Rattle.sqlite.proofs.Callers.{reads_as}
 use Rattle.sqlite_schema.specs.Rules.{clashes}
 use Rattle.sqlite_value.specs.Keys.{plain}
 use Rattle.sqlite_trees.proofs.ListLemmas.{map-map, filter-map, IsPermutation-filter}
+use Rattle.kcr_base.specs.declared.refusal.Refusal.{Refusal}
 use Rattle.kcr_rows.specs.Keyed.{Place, Keeps, cells, put_in}
 use Rattle.kcr_rows.proofs.TableLemmas.{Changes, each_is, executes_insert, put_in_rows, same_values, shown_checked, shown_exact}
 use Rattle.sqlite.specs.Tree.{Trees}
 use Rattle.kcr_rows.proofs.OrderLemmas.{put_in_all}
+use Rattle.kcr_rows.proofs.FailLemmas.{if_ok}
 use Rattle.kcr_rows.proofs.FilterLemmas.{filter_as}
 use Rattle.kcr_rows.proofs.ReadLemmas.{asking, kept_from}
 use Rattle.kcr_rows.proofs.UpdateLemmas.{Updated, executes_update}
 use Rattle.kcr_tables.specs.Schema.{register_schema}
 use Rattle.kcr_tables.specs.Exact.{rows_at}
-use Rattle.kcr_tables.specs.Held.{Tables, Holds}
+use Rattle.kcr_tables.specs.Frame.{Tells, TellsExactly}
+use Rattle.kcr_tables.specs.Held.{Tables, Kept, Holds}
 use Rattle.kcr_tables.specs.Statements.{ShowsRows, ShowsPassing, InsertsRow, UpdatesRow}
 use Rattle.kcr_tables.specs.Table.{Table, IsTable, with_put}
 
@@ -68,7 +71,7 @@ in_row_order {X} row_of ys rows p =
 -- a text whose order is of no account
 module _ {place : Place} {sql : List ℕ} {params : Row} {passes : Row → Bool} (s : ShowsPassing sql place params passes) where
   -- whatever the tree has, its rows that pass are shown
-  pub passing_rows : (old new : State) (rows : List Row) → old.now.schema ≡ register_schema → Shown sql params old new rows
+  passing_rows : (old new : State) (rows : List Row) → old.now.schema ≡ register_schema → Shown sql params old new rows
       → IsPermutation (filter passes (rows_at place old.now.trees)) rows
   passing_rows old new rows has h =
       let query = asking place.tree s.test s.project s.order (negsuc 0) in
@@ -84,7 +87,7 @@ module _ {place : Place} {sql : List ℕ} {params : Row} {passes : Row → Bool}
       subst₂ IsPermutation shown (sym a.shown) (IsPermutation-map second _ _ a.same)
 
   -- where no two values stand for one row, the values are those whose rows pass
-  pub passing_values : {X : Type 0} (row_of : X → Row) → ((x y : X) → ⊤ → ⊤ → row_of x ≡ row_of y → x ≡ y) → (old new : State) (xs ys : List X)
+  passing_values : {X : Type 0} (row_of : X → Row) → ((x y : X) → ⊤ → ⊤ → row_of x ≡ row_of y → x ≡ y) → (old new : State) (xs ys : List X)
       → old.now.schema ≡ register_schema → Shown sql params old new (map row_of xs) → Keeps place old.now.trees (map row_of ys)
       → IsPermutation (filter (λ y. passes (row_of y)) ys) xs
   passing_values row_of one old new xs ys has h keeps =
@@ -95,6 +98,22 @@ module _ {place : Place} {sql : List ℕ} {params : Row} {passes : Row → Bool}
       let found = in_row_order row_of mine (map row_of xs) (IsPermutation-trans _ _ _ passed (passing_rows old new (map row_of xs) has h)) in
       let same = same_values row_of (λ _. ⊤) (λ _. ⊤) one xs found.0 (each_is xs) (each_is found.0) found.1 in
       subst (IsPermutation mine) (sym same) found.2
+
+  -- so much a call tells that runs the text: of the values that the table holds, and of its rows, whatever these are
+  module _ {X : Type 0} (row_of : X → Row) (one : (x y : X) → ⊤ → ⊤ → row_of x ≡ row_of y → x ≡ y) (old new : State)
+      (result : Result (Vec X Global) Refusal) (shown : HasCleanDisk new → IfOk result (λ all. Shown sql params old new (map row_of all.items))) where
+    pub passing_told : (rows_in : Tables → List X) → ((t : Tables) → Kept old.now.trees t → Keeps place old.now.trees (map row_of (rows_in t)))
+        → (test : X → Bool) → ((x : X) → passes (row_of x) ≡ test x)
+        → Tells old new result (λ t all. IsPermutation (filter test (rows_in t)) all.items)
+    passing_told rows_in keeps test is clean t held = if_ok _ _ (λ all h.
+        subst (λ l. IsPermutation l all.items) (filter_as (λ x. passes (row_of x)) test is (rows_in t))
+        (passing_values row_of one old new all.items (rows_in t) held.schema h (keeps t held.kept))) result (shown clean)
+
+    pub passing_exact : (test : Row → Bool) → ((row : Row) → passes row ≡ test row)
+        → TellsExactly old new result (λ db all. IsPermutation (filter test (rows_at place db)) (map row_of all.items))
+    passing_exact test is clean has = if_ok _ _ (λ all h.
+        subst (λ l. IsPermutation l (map row_of all.items)) (filter_as passes test is (rows_at place old.now.trees))
+        (passing_rows old new (map row_of all.items) has h)) result (shown clean)
 
 -- one row is put
 module _ {X : Type 0} (sql : List ℕ) (place : Place) (row_of : X → Row) (x : X) (old new : State) (count : ℕ)

@@ -1,5 +1,5 @@
 -- The text that shows the trainings that last to a day.
-use Rattle.std.proofs.Common.{◌≡◌, ℕ, pos, ◌&&◌, not, nat_le, Bool, true, false, List, [], ◌∷◌, filter, codes, Some, refl, ap, ◌∙◌, arith}
+use Rattle.std.proofs.Common.{◌≡◌, ℕ, pos, ◌&&◌, not, nat_le, Bool, true, false, List, [], ◌∷◌, codes, Some, refl, ap, ◌∙◌, arith}
 use Rattle.std.specs.Ordering.{is_ge, int_cmp}
 use Rattle.std.proofs.lemmas.Bool.Decides.{nat_tests}
 use Rattle.sqlite.specs.declared.types.Value.{Value}
@@ -17,7 +17,6 @@ use Rattle.sqlite_tied.specs.Compute.{everything}
 use Rattle.kcr_people.specs.declared.Training.{Training}
 use Rattle.kcr_history.specs.Views.{lasts_to}
 use Rattle.kcr_rows.specs.Rows.{training_row}
-use Rattle.kcr_rows.proofs.FilterLemmas.{filter_as}
 use Rattle.kcr_tables.specs.Exact.{has_from}
 use Rattle.kcr_tables.specs.Held.{trainings_place}
 use Rattle.kcr_tables.specs.Statements.{ShowsPassing}
@@ -65,6 +64,3 @@ number_from n day = grind (arith, nat_tests)
 
 pub passes_training : (day : ℕ) (x : Training) → passes day (training_row x) ≡ lasts_to day x
 passes_training day x = passes_row day (training_row x) ∙ ap is_ge (value_cmp-Int (pos x.until) (pos day)) ∙ number_from x.until day
-
-pub trainings_in : (day : ℕ) (all : List Training) → filter (λ x. passes day (training_row x)) all ≡ filter (lasts_to day) all
-trainings_in day = filter_as _ _ (passes_training day)

@@ -1,15 +1,14 @@
-use Rattle.std.proofs.Common.{rules, List, [], ◌∷◌, map, IfOk, subst, IsPermutation}
+use Rattle.std.proofs.Common.{rules, [], ◌∷◌, map, IfOk, subst}
 use Rattle.sqlite.specs.Order.{Row}
 use Rattle.sqlite.specs.Held.{state}
 use Rattle.sqlite.specs.State.{HasCleanDisk, Shown}
-use Rattle.kcr_people.specs.declared.Training.{Training}
-use Rattle.kcr_rows.proofs.FailLemmas.{if_ok}
-use Rattle.kcr_rows.proofs.FilterLemmas.{filter_as}
+use Rattle.kcr_history.specs.Views.{lasts_to}
 use Rattle.kcr_rows.specs.Rows.{training_row}
-use Rattle.kcr_tables.proofs.FrameLemmas.{reads_by}
-use Rattle.kcr_tables.proofs.StatementLemmas.{passing_rows, passing_values}
-use Rattle.kcr_tables.proofs.TrainingLemmas.{lasting_sql, lasting_shows, passes_row, trainings_in}
 use Rattle.kcr_tables.specs.TrainingsLaws as laws
+use Rattle.kcr_tables.specs.Exact.{has_from}
+use Rattle.kcr_tables.proofs.FrameLemmas.{reads_by}
+use Rattle.kcr_tables.proofs.StatementLemmas.{passing_told, passing_exact}
+use Rattle.kcr_tables.proofs.TrainingLemmas.{lasting_sql, lasting_shows, passes_row, passes_training}
 use Rattle.kcr_tables.proofs.lasting.trainings_lasting_to.Goals as goal
 
 pub returns : goal.returns
@@ -22,12 +21,9 @@ returns g c =
     let shown = λ (clean : HasCleanDisk new). subst (λ (v : Row). IfOk c.rows_of.result (λ all. Shown lasting_sql v old new (map training_row all.items)))
     (λ i. c.day_cell-c0.ensures i ∷ []) (did.shown clean) in record {
       same_reference = search rules;
-      rows = λ clean t held. if_ok _ _ (λ all h.
-          subst (λ (l : List Training). IsPermutation l all.items) (trainings_in day t.rows.trainings)
-          (passing_values text training_row laws.one old new all.items t.rows.trainings held.schema h held.kept.trainings))
-          c.rows_of.result (shown clean);
-      exact = λ clean has. if_ok _ _ (λ all h.
-          subst (λ (l : List Row). IsPermutation l (map training_row all.items)) (filter_as _ _ (passes_row day) _)
-          (passing_rows text old new (map training_row all.items) has h)) c.rows_of.result (shown clean);
+      rows = passing_told text training_row laws.one old new c.rows_of.result shown laws.table.rows_in
+          (laws.table_laws.keeps old.now.trees)
+          (lasts_to day) (passes_training day);
+      exact = passing_exact text training_row laws.one old new c.rows_of.result shown (has_from 3 day) (passes_row day);
       frame = reads_by lasting_sql old new c.rows_of.result text.bare did.same did.frame;
     }
