@@ -18,7 +18,7 @@ use Rattle.kcr_desk.specs.Turn.{BreaksTurn, asked_by}
 use Rattle.kcr_desk.specs.Waiting.{Gathered}
 use Rattle.kcr_print.specs.Written.{WritesFront}
 use Rattle.kcr_desk.proofs.FoundLemmas.{known_split, head_here}
-use Rattle.kcr_desk.proofs.WaitingLemmas.{with_more, sent_whole, sent_front, sent_on}
+use Rattle.kcr_desk.proofs.WaitingLemmas.{gathered_nothing, with_more, sent_whole, sent_front, sent_on}
 use Rattle.kcr_desk.proofs.TurnLemmas.{breaks_ending}
 
 -- what holds between two messages
@@ -31,6 +31,17 @@ pub record Serving
   pub run : Run step before exchanges now
   pub written : Gathered old_contents new_contents (flat_map exchange_text exchanges) waiting
   pub requests : count ≡ length exchanges
+
+-- before the first message nothing is held and nothing waits
+pub serving_first : {S : Type 0} (step : S → Asked → Told → S → Type 0) (input contents : Option (List ℕ)) (s : S) (held waiting : List ℕ) → held ≡ []
+    → waiting ≡ [] → Serving step input (prepend_known held input) contents contents waiting s s 0
+serving_first step input contents s held waiting none_held none_waits = record {
+  exchanges = [];
+  front = λ bytes is. (bytes, ap (λ l. prepend_known l input) none_held ∙ ap (prepend_known []) is, refl);
+  run = refl;
+  written = subst (Gathered contents contents []) (sym none_waits) (gathered_nothing contents []);
+  requests = refl;
+}
 
 -- ---- lists of messages
 

@@ -1,9 +1,10 @@
 -- What a loop that takes bytes in keeps.
-use Rattle.std.proofs.Common.{◌≡◌, ◌≤◌, ◌+◌, ◌*◌, List, ℕ, vec_len}
-use Rattle.std.specs.Prelude.{Option}
+use Rattle.std.proofs.Common.{◌≡◌, ◌≤◌, ◌+◌, ◌*◌, ◌++◌, List, ℕ, length, sym, ap, ◌∙◌, append_assoc}
+use Rattle.std.specs.Prelude.{Option, Some, None}
+use Rattle.std.specs.Io.KnownBytes.{prepend_known, Consumes}
 use Rattle.kcr_base.specs.Counted.{inner_of, failures_of, gifts_of}
 use Rattle.kcr_base.specs.declared.counted.Counted.{Counted}
-use Rattle.kcr_desk.specs.Intake.{Stays, left}
+use Rattle.kcr_desk.specs.Intake.{Stays, held, left}
 use Rattle.kcr_desk.specs.Waiting.{Gathered}
 use Rattle.kcr_desk.specs.declared.intake.Intake.{Intake}
 
@@ -11,8 +12,16 @@ use Rattle.kcr_desk.specs.declared.intake.Intake.{Intake}
 pub record TakesSoFar {R W : Type 0} (remaining : R → Option (List ℕ)) (contents : W → Option (List ℕ)) (old new : Intake)
     (reader read : Counted R) (writer written : Counted W) (waited waiting : List ℕ) : Type 0 where
   pub kept : Stays (left remaining old reader) (left remaining new read)
-  pub room : vec_len new.buffer + 4096 * old.reads ≤ vec_len old.buffer + 4096 * new.reads
+  pub room : length (held new) + 4096 * old.reads ≤ length (held old) + 4096 * new.reads
   pub gathered : Gathered (contents (inner_of writer)) (contents (inner_of written)) waited waiting
   pub calm_reader : failures_of read ≡ failures_of reader
   pub calm_writer : failures_of written ≡ failures_of writer
   pub counted : gifts_of read + old.reads ≡ gifts_of reader + new.reads
+
+-- bytes that were read go behind those that were held
+pub read_behind : (old new chunk : List ℕ) (unread after : Option (List ℕ)) → new ≡ old ++ chunk → Consumes unread after chunk
+    → Stays (prepend_known old unread) (prepend_known new after)
+read_behind old new chunk None after e c bytes is = absurd (cc)
+read_behind old new chunk (Some xs) None e c bytes is = absurd c
+read_behind old new chunk (Some xs) (Some ys) e c bytes is =
+    let all : new ++ ys ≡ old ++ xs = ap (λ l. l ++ ys) e ∙ append_assoc old chunk ys ∙ ap (λ l. old ++ l) (sym c) in ap Some all ∙ is

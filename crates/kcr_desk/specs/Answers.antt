@@ -18,7 +18,6 @@ use Rattle.kcr_history.specs.Prints.{annotated, attendance}
 use Rattle.kcr_store.specs.Register.{Seen}
 use Rattle.kcr_store.specs.Rows.{HasNoRow}
 use Rattle.kcr_store.specs.Steps.{Steps, IsNext, IsAsked}
-use Rattle.kcr_history.specs.declared.questions.Question.{Question}
 use Rattle.kcr_history.specs.declared.questions.Shown.{Shown}
 use Rattle.kcr_wire.specs.Commands.{command_of}
 use Rattle.kcr_wire.specs.Inquiries.{inquiry_of}

@@ -12,6 +12,7 @@ use crate::page::Page;
 use crate::put::send;
 use httparse::spans::RequestSpans;
 use kcr_base::{Counted, Refusal};
+use std::alloc::Global;
 use std::io::{Read, Write};
 
 /// How many reads are made at most for one stream.
@@ -26,17 +27,52 @@ pub(crate) enum Found {
     Quiet,
 }
 
-/// The bytes that were read and are no whole message yet, and how many reads gave a byte.
+/// The bytes that were read and not taken yet, and how many reads gave a byte. Those that were taken stay where they
+/// are until more is read: so of the many messages that one read may give none is moved.
 #[derive(Drop)]
 pub(crate) struct Intake {
-    pub buffer: Vec<u8>,
+    bytes: Vec<u8>,
+    /// Where those begin that were not taken.
+    start: usize,
     pub reads: u32,
     ghost bounded: { reads ≤ MAX_READS },
+    ghost within: { start ≤ vec_len bytes },
 }
 
 impl Intake {
     ghost use Rattle.kcr_desk.specs.Found.{IsFound};
-    ghost use Rattle.kcr_desk.specs.Intake.{TakesIn};
+    ghost use Rattle.kcr_desk.specs.Intake.{TakesIn, held};
+
+    /// Nothing yet.
+    pub fn new(alloc: Global) -> Intake
+        ensures held { held result ≡ [] }
+        ensures reads { result.reads ≡ 0 }
+    {
+        Intake {
+            bytes: Vec::new(alloc),
+            start: 0,
+            reads: 0,
+        }
+    }
+
+    /// The bytes that were read and not taken yet.
+    pub fn held(&self) -> &[u8]
+        ensures { result.now ≡ held self.now }
+    {
+        &self.bytes[self.start..]
+    }
+
+    /// Moves these bytes to the front, where those lie that were taken.
+    fn close_up(&mut self)
+        ensures held { held self.new ≡ held self.old }
+        ensures start { self.new.start ≡ 0 }
+        ensures reads { self.new.reads ≡ self.old.reads }
+    {
+        let left = self.bytes.len() - self.start;
+        self.bytes.copy_within(self.start.., 0);
+        self.bytes.truncate(left);
+        self.start = 0;
+    }
 
     /// Writes what waits and then reads once, so that nobody who waits for an answer is asked for more. It answers
     /// whether there was a byte.
@@ -50,9 +86,9 @@ impl Intake {
         ensures sent { OnOk result (waiting.new.items ≡ []) }
         ensures takes { TakesIn R.remaining self.old self.new reader.old reader.new result }
         ensures grown { IfOk result (λ more. more ≡ true → (self.new.reads ≡ self.old.reads + 1)
-            × ((bytes : List ℕ) × (self.new.buffer.items ≡ self.old.buffer.items ++ bytes) × (length bytes ≤ 4096))) }
+            × ((bytes : List ℕ) × (held self.new ≡ held self.old ++ bytes) × (length bytes ≤ 4096))) }
         ensures ended { IfOk result (λ more. more ≡ false → (self.new.reads ≡ self.old.reads)
-            × (self.new.buffer.items ≡ self.old.buffer.items) × IsAtEnd (R.remaining (inner_of reader.new))) }
+            × (held self.new ≡ held self.old) × IsAtEnd (R.remaining (inner_of reader.new))) }
         ensures gathered { Gathers result (W.contents (inner_of writer.old)) (W.contents (inner_of writer.new))
             waiting.old.items waiting.new.items }
         ensures calm { OnOk result (failures_of writer.new ≡ failures_of writer.old) }
@@ -72,7 +108,8 @@ impl Intake {
             return Ok(false);
         }
         self.reads += 1;
-        self.buffer.extend_from_slice(&chunk[..count])?;
+        self.close_up();
+        self.bytes.extend_from_slice(&chunk[..count])?;
         Ok(true)
     }
 
@@ -84,24 +121,24 @@ impl Intake {
         waiting: &mut Page,
     ) -> Result<Found, DeskFault>
         ensures takes { TakesIn R.remaining self.old self.new reader.old reader.new result }
-        ensures found { IfOk result (IsFound (R.remaining (inner_of reader.new)) self.new.buffer.items) }
+        ensures found { IfOk result (IsFound (R.remaining (inner_of reader.new)) (held self.new)) }
         ensures gathered { Gathers result (W.contents (inner_of writer.old)) (W.contents (inner_of writer.new))
             waiting.old.items waiting.new.items }
         ensures calm { OnOk result (failures_of writer.new ≡ failures_of writer.old) }
         ensures write_fault { IsErrOf result DeskFault.Write → failures_of writer.old < failures_of writer.new }
     {
         'head: loop {
-            match try_head(&self.buffer) {
+            match try_head(self.held()) {
                 Tried::Whole(spans, Ok(plan)) => return Ok(Found::Whole(spans, plan)),
                 Tried::Whole(spans, Err(refusal)) => {
-                    let bare = is_head_method(spans.method.of(&self.buffer));
+                    let bare = is_head_method(spans.method.of(self.held()));
                     return Ok(Found::Refused(refusal, bare));
                 }
                 Tried::Nothing => return Ok(Found::Refused(Refusal::Head, false)),
                 Tried::More => {}
             }
             if !self.fill(reader, writer, waiting)? {
-                if is_quiet(&self.buffer) {
+                if is_quiet(self.held()) {
                     return Ok(Found::Quiet);
                 }
                 return Ok(Found::Refused(Refusal::Head, false));
@@ -118,16 +155,16 @@ impl Intake {
         end: usize,
     ) -> Result<bool, DeskFault>
         ensures takes { TakesIn R.remaining self.old self.new reader.old reader.new result }
-        ensures grown { OnOk result ((bytes : List ℕ) × (self.new.buffer.items ≡ self.old.buffer.items ++ bytes)) }
-        ensures enough { IfOk result (λ enough. enough ≡ true → end ≤ vec_len self.new.buffer) }
-        ensures ended { IfOk result (λ enough. enough ≡ false → (vec_len self.new.buffer < end)
+        ensures grown { OnOk result ((bytes : List ℕ) × (held self.new ≡ held self.old ++ bytes)) }
+        ensures enough { IfOk result (λ enough. enough ≡ true → end ≤ length (held self.new)) }
+        ensures ended { IfOk result (λ enough. enough ≡ false → (length (held self.new) < end)
             × IsAtEnd (R.remaining (inner_of reader.new))) }
         ensures gathered { Gathers result (W.contents (inner_of writer.old)) (W.contents (inner_of writer.new))
             waiting.old.items waiting.new.items }
         ensures calm { OnOk result (failures_of writer.new ≡ failures_of writer.old) }
         ensures write_fault { IsErrOf result DeskFault.Write → failures_of writer.old < failures_of writer.new }
     {
-        'body: while self.buffer.len() < end {
+        'body: while self.held().len() < end {
             if !self.fill(reader, writer, waiting)? {
                 return Ok(false);
             }
@@ -135,15 +172,13 @@ impl Intake {
         Ok(true)
     }
 
-    /// Drops the bytes before `end`.
-    pub fn drop_front(&mut self, end: usize)
-        requires { end ≤ vec_len self.old.buffer }
-        ensures items { self.new.buffer.items ≡ drop end self.old.buffer.items }
-        ensures len { vec_len self.new.buffer + end ≡ vec_len self.old.buffer }
+    /// Takes the bytes before `end`.
+    pub fn take_front(&mut self, end: usize)
+        requires { end ≤ length (held self.old) }
+        ensures held { held self.new ≡ drop end (held self.old) }
+        ensures len { length (held self.new) + end ≡ length (held self.old) }
         ensures reads { self.new.reads ≡ self.old.reads }
     {
-        let left = self.buffer.len() - end;
-        self.buffer.copy_within(end.., 0);
-        self.buffer.truncate(left);
+        self.start += end;
     }
 }

@@ -2,7 +2,7 @@
 ghost use Rattle.std.specs.Prelude.{◌≡◌, ℕ, List, ◌++◌, ◌+◌, ◌*◌, ◌<◌, ◌≤◌, ◌⊎◌, vec_len, IfOk, OnOk, OnErr, IsErrOf};
 ghost use Rattle.std.specs.Io.KnownBytes.{Appends, prepend_known};
 ghost use Rattle.kcr_base.specs.Counted.{inner_of, failures_of, gifts_of};
-ghost use Rattle.kcr_desk.specs.Intake.{TakesIn, left};
+ghost use Rattle.kcr_desk.specs.Intake.{TakesIn, held, left};
 ghost use Rattle.kcr_desk.specs.Found.{IsReady, HasPlan};
 ghost use Rattle.kcr_desk.specs.Plans.{is_head};
 ghost use Rattle.kcr_desk.specs.Texts.{Told, answer_text};
@@ -51,8 +51,8 @@ fn take_message<R: Read, W: Write>(
     spans: RequestSpans,
     plan: Plan,
 ) -> Result<Turn, DeskFault>
-    requires { HasPlan intake.old.buffer.items spans plan }
-    ensures turn { EndsTurn result (left R.remaining intake.old reader.old) intake.new.buffer.items
+    requires { HasPlan (held intake.old) spans plan }
+    ensures turn { EndsTurn result (left R.remaining intake.old reader.old) (held intake.new)
         (W.contents (inner_of writer.old)) (W.contents (inner_of writer.new)) waiting.old.items waiting.new.items }
     ensures takes { TakesIn R.remaining intake.old intake.new reader.old reader.new result }
     ensures calm { OnOk result (failures_of writer.new ≡ failures_of writer.old) }
@@ -62,7 +62,7 @@ fn take_message<R: Read, W: Write>(
     if intake.take_body(reader, writer, waiting, spans.len + plan.length)? {
         return Ok(Turn::Message(spans, plan));
     }
-    let bare = is_head_method(spans.method.of(&intake.buffer));
+    let bare = is_head_method(spans.method.of(intake.held()));
     put_refusal(writer, waiting, Refusal::Cut, bare)?;
     Ok(Turn::Ended)
 }
@@ -74,7 +74,7 @@ fn next_turn<R: Read, W: Write>(
     writer: &mut Counted<W>,
     waiting: &mut Page,
 ) -> Result<Turn, DeskFault>
-    ensures turn { EndsTurn result (left R.remaining intake.old reader.old) intake.new.buffer.items
+    ensures turn { EndsTurn result (left R.remaining intake.old reader.old) (held intake.new)
         (W.contents (inner_of writer.old)) (W.contents (inner_of writer.new)) waiting.old.items waiting.new.items }
     ensures takes { TakesIn R.remaining intake.old intake.new reader.old reader.new result }
     ensures calm { OnOk result (failures_of writer.new ≡ failures_of writer.old) }
@@ -101,16 +101,16 @@ fn answer_front<W: Write, G: Responder>(
     spans: RequestSpans,
     plan: Plan,
 ) -> Result<(), DeskFault>
-    requires { IsReady intake.now.buffer.items spans plan }
+    requires { IsReady (held intake.now) spans plan }
     ensures answered { (reply : Told)
-        × G.step responder.old (asked_by intake.now.buffer.items spans plan) reply responder.new
+        × G.step responder.old (asked_by (held intake.now) spans plan) reply responder.new
         × Gathers result (W.contents (inner_of writer.old)) (W.contents (inner_of writer.new)) (waiting.old.items
-        ++ answer_text (is_head (asked_by intake.now.buffer.items spans plan).method) plan.closes reply)
+        ++ answer_text (is_head (asked_by (held intake.now) spans plan).method) plan.closes reply)
         waiting.new.items }
     ensures calm { OnOk result (failures_of writer.new ≡ failures_of writer.old) }
     ensures fault { OnErr result ((result ≡ Err DeskFault.Write) × (failures_of writer.old < failures_of writer.new)) }
 {
-    let buffer = intake.buffer.as_slice();
+    let buffer = intake.held();
     let asked = Asked {
         method: spans.method.of(buffer),
         target: spans.path.of(buffer),
@@ -158,10 +158,7 @@ pub(crate) fn serve_stream<R: Read, W: Write, G: Responder>(
     ensures write_fault { IsErrOf result DeskFault.Write → failures_of writer.old < failures_of writer.new }
     ensures bound { gifts_of reader.new ≤ gifts_of reader.old + 1000000 }
 {
-    let mut intake = Intake {
-        buffer: Vec::new(alloc),
-        reads: 0,
-    };
+    let mut intake = Intake::new(alloc);
     let mut waiting = Page::new();
     let mut paths = None;
     let mut requests = 0;
@@ -183,7 +180,7 @@ pub(crate) fn serve_stream<R: Read, W: Write, G: Responder>(
                 if plan.closes {
                     return finish(writer, &mut waiting, requests);
                 }
-                intake.drop_front(spans.len + plan.length);
+                intake.take_front(spans.len + plan.length);
             }
         }
     }

@@ -1,5 +1,6 @@
 use Rattle.std.proofs.lemmas.List.{append-nil}
 use Rattle.std.proofs.lemmas.Result.{err_from_is_err_and, MatchResult-weaker}
+use Rattle.kcr_desk.specs.Intake.{held}
 use Rattle.kcr_desk.specs.Stream.{quiet, refused}
 use Rattle.kcr_desk.specs.declared.stream.Turn.TheVariants.{Ended}
 use Rattle.kcr_desk.proofs.TurnLemmas.{breaks_at_once, ends_before, breaks_ending, turn_later, breaks_later}
@@ -26,7 +27,7 @@ pub returns-in_ok-put_refusal-in-Refused-clause-turn : goal.returns-in_ok-put_re
 returns-in_ok-put_refusal-in-Refused-clause-turn g c =
     let found = rw c.in-Refused.is at c.in_ok-take_head.ensures.found in
     let e = refused c.in-Refused.refusal c.in-Refused.bare in
-    turn_later c.take_head.new.self.buffer.items _ _ c.in_ok-take_head.ensures.takes.kept c.in_ok-take_head.ensures.gathered Ended
+    turn_later (held c.take_head.new.self) _ _ c.in_ok-take_head.ensures.takes.kept c.in_ok-take_head.ensures.gathered Ended
     (e, found, c.in_ok-put_refusal-in-Refused.ensures.gathered)
 
 pub returns-in-Whole-clause-turn : goal.returns-in-Whole-clause-turn
@@ -34,4 +35,4 @@ returns-in-Whole-clause-turn g c =
     let stays = c.in_ok-take_head.ensures.takes.kept in
     let gathered = c.in_ok-take_head.ensures.gathered in
     MatchResult-weaker c.take_message.result c.take_message.ensures.turn
-    (turn_later c.take_message.new.intake.buffer.items _ _ stays gathered) (λ _. breaks_later _ stays gathered)
+    (turn_later (held c.take_message.new.intake) _ _ stays gathered) (λ _. breaks_later _ stays gathered)

@@ -1,6 +1,7 @@
-use Rattle.std.proofs.Common.{◌<◌, ◌∙◌, arith}
+use Rattle.std.proofs.Common.{◌<◌, ◌∙◌, length, refl, ap, arith}
 use Rattle.std.proofs.lemmas.Result.{err_from_is_err_and, IfOk-weaker, on_err_weaker}
-use Rattle.kcr_desk.proofs.ServeLemmas.{ended_served, ended_broken, turn_broken, serving_then, closed_served, closed_broken, answer_broken}
+use Rattle.kcr_desk.specs.Intake.{held}
+use Rattle.kcr_desk.proofs.ServeLemmas.{serving_first, ended_served, ended_broken, turn_broken, serving_then, closed_served, closed_broken, answer_broken}
 use Rattle.kcr_desk.proofs.stream.serve_stream.Goals as goal
 
 pub returns-in_err-next_turn-clause-broken : goal.returns-in_err-next_turn-clause-broken
@@ -17,11 +18,11 @@ messages-preserved g c =
     (g.W.Write.contents c.next_turn.new.writer.inner) (g.W.Write.contents c.answer_front.new.writer.inner) turn.1 c.if-plan.false told.2 in
     let some : 0 < c.in-Message.spans.len = turn.0.front.whole.some in
     record {
-      serving = rw c.drop_front.ensures.items there;
-      room = rw c.drop_front.ensures.reads (omega (arith, c.in_ok-next_turn.ensures.takes.room, c.messages.invariant.room, c.drop_front.ensures.len));
+      serving = rw c.take_front.ensures.held there;
+      room = rw c.take_front.ensures.reads (omega (arith, c.in_ok-next_turn.ensures.takes.room, c.messages.invariant.room, c.take_front.ensures.len));
       calm_reader = c.in_ok-next_turn.ensures.takes.calm ∙ c.messages.invariant.calm_reader;
       calm_writer = c.in_ok-answer_front-in-Message.ensures.calm ∙ c.in_ok-next_turn.ensures.calm ∙ c.messages.invariant.calm_writer;
-      counted = rw c.drop_front.ensures.reads (omega (arith, c.next_turn.ensures.takes.counted, c.messages.invariant.counted));
+      counted = rw c.take_front.ensures.reads (omega (arith, c.next_turn.ensures.takes.counted, c.messages.invariant.counted));
     }
 
 pub returns-in-Ended-clause-served : goal.returns-in-Ended-clause-served
@@ -68,3 +69,14 @@ returns-then-plan-clause-broken g c =
     (g.W.Write.contents c.next_turn.new.writer.inner) (g.W.Write.contents c.answer_front.new.writer.inner) turn.1
     (g.W.Write.contents c.finish-then-plan.new.writer.inner) told.2)
     c.finish-then-plan.ensures.broken
+
+pub messages-init : goal.messages-init
+messages-init g c = record {
+  serving =
+      serving_first _ (g.R.Read.remaining c.args.reader.now.inner) (g.W.Write.contents c.args.writer.now.inner) c.args.responder.now
+      (held c.new-intake.result) c.new-waiting.result.items c.new-intake.ensures.held c.new-waiting.ensures;
+  room = omega (arith, ap length c.new-intake.ensures.held);
+  calm_reader = refl;
+  calm_writer = refl;
+  counted = omega (arith, c.new-intake.ensures.reads);
+}

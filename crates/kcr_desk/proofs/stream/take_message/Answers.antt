@@ -1,10 +1,11 @@
-use Rattle.std.proofs.Common.{◌≡◌, ◌+◌, ◌<◌, ◌≤◌, ◌++◌, true, length, arith}
+use Rattle.std.proofs.Common.{◌≡◌, ◌++◌, true, arith}
 use Rattle.std.specs.Io.KnownBytes.{prepend_known}
 use Rattle.std.proofs.lemmas.Result.{err_from_is_err_and}
 use Rattle.httparse.specs.Spans.{span_bytes}
 use Rattle.kcr_desk.specs.Plans.{is_head}
 use Rattle.kcr_desk.specs.Stream.{cut_off}
 use Rattle.kcr_desk.specs.Found.{EndsAs}
+use Rattle.kcr_desk.specs.Intake.{held}
 use Rattle.kcr_desk.specs.Run.{ending_text}
 use Rattle.kcr_base.specs.declared.refusal.Refusal.TheVariants.{Cut}
 use Rattle.kcr_desk.specs.Texts.{continue_text, answer_text, told_of}
@@ -31,25 +32,22 @@ returns-in_err-take_body-clause-turn g c =
 
 pub returns-then-branch-clause-turn : goal.returns-then-branch-clause-turn
 returns-then-branch-clause-turn g c =
-    let grown = c.in_ok-take_body.ensures.grown in
-    let enough : c.args.spans.len + c.args.plan.length ≤ length c.take_body.new.self.buffer.items =
-    rw c.take_body.new.self.buffer.ok.0 at (c.in_ok-take_body.ensures.enough c.if-branch.true) in (
-      record { front = plan_more grown.0 c.requires grown.1; enough = enough },
+    let grown = c.in_ok-take_body.ensures.grown in (
+      record { front = plan_more grown.0 c.requires grown.1; enough = c.in_ok-take_body.ensures.enough c.if-branch.true },
       sent_on c.in_ok-put_continue.ensures.gathered c.in_ok-take_body.ensures.gathered,
     )
 
 -- what the end of a stream inside a body is
 cut_at_end : (g : Over) (c : After-put_refusal g)
-    → EndsAs (prepend_known c.args.intake.now.buffer.items (g.R.Read.remaining c.args.reader.now.inner)) (cut_off c.args.plan c.is_head_method-bare.result)
+    → EndsAs (prepend_known (held c.args.intake.now) (g.R.Read.remaining c.args.reader.now.inner)) (cut_off c.args.plan c.is_head_method-bare.result)
 cut_at_end g c =
     let grown = c.in_ok-take_body.ensures.grown in
-    let new = c.take_body.new.self.buffer.items in
+    let new = held c.take_body.new.self in
     let ended = c.in_ok-take_body.ensures.ended c.if-branch.false in
-    let few : length new < c.args.spans.len + c.args.plan.length = rw c.take_body.new.self.buffer.ok.0 at ended.0 in
     let bare : c.is_head_method-bare.result ≡ is_head (span_bytes new c.args.spans.method) =
-    cc (c.is_head_method-bare.ensures, c.of.ensures, c.deref.ensures.value) in
+    cc (c.is_head_method-bare.ensures, c.of.ensures, c.held.ensures) in
     ends_before _ (prepend_known new (g.R.Read.remaining c.take_body.new.reader.inner)) _ c.in_ok-take_body.ensures.takes.kept
-    (rw bare (cut_ends (g.R.Read.remaining c.take_body.new.reader.inner) (plan_more grown.0 c.requires grown.1) few ended.1))
+    (rw bare (cut_ends (g.R.Read.remaining c.take_body.new.reader.inner) (plan_more grown.0 c.requires grown.1) ended.0 ended.1))
 
 -- what was written and what waits, with the answer behind it
 so_far : (g : Over) (c : After-put_refusal g)

@@ -1,5 +1,6 @@
 use Rattle.std.proofs.Common.{◌≡◌, sym, ◌∙◌, subst}
 use Rattle.httparse.specs.Spans.{span_bytes}
+use Rattle.kcr_desk.specs.Intake.{held}
 use Rattle.kcr_desk.specs.Plans.{is_head}
 use Rattle.kcr_desk.specs.Heads.{IsWhole, IsHopeless}
 use Rattle.kcr_desk.specs.Stream.{HasNoHead, IsQuiet, is_quiet, no_head}
@@ -12,28 +13,28 @@ pub returns-in-Whole-default-Err-clause-found : goal.returns-in-Whole-default-Er
 returns-in-Whole-default-Err-clause-found g c =
     let spans = c.in-Whole-default-Err.spans in
     let refusal = c.in-Whole-default-Err.refusal in
-    let buf = c.head.self.buffer.items in
+    let buf = held c.head.self in
     let w = rw c.in-Whole-default-Err.field-1-is at c.in-Whole-default-Err.ensures in
     let bare : c.is_head_method-bare.result ≡ is_head (span_bytes buf spans.method) =
-    cc (c.is_head_method-bare.ensures, c.of.ensures, c.deref-in-Whole-default-Err.ensures.value) in
-    rw bare (failed_ends buf (g.R.Read.remaining c.head.reader.inner) spans w.0 refusal (subst (λ t. IsWhole t spans w.0) c.deref.ensures.value w.1) w.2)
+    cc (c.is_head_method-bare.ensures, c.of.ensures, c.held-in-Whole-default-Err.ensures) in
+    rw bare (failed_ends buf (g.R.Read.remaining c.head.reader.inner) spans w.0 refusal (subst (λ t. IsWhole t spans w.0) c.held.ensures w.1) w.2)
 
 pub returns-in-Nothing-clause-found : goal.returns-in-Nothing-clause-found
 returns-in-Nothing-clause-found g c =
-    let none = subst IsHopeless c.deref.ensures.value c.in-Nothing.ensures in
-    ends_all c.head.self.buffer.items _ _ (λ u. no_head (none.no_head u) (none.not_quiet u))
+    let none = subst IsHopeless c.held.ensures c.in-Nothing.ensures in
+    ends_all (held c.head.self) _ _ (λ u. no_head (none.no_head u) (none.not_quiet u))
 
 pub returns-then-is_quiet-clause-found : goal.returns-then-is_quiet-clause-found
 returns-then-is_quiet-clause-found g c =
-    ends_here c.fill.new.self.buffer.items _ _ (c.in_ok-fill.ensures.ended c.if-not-branch.true).2
-    (is_quiet (subst IsQuiet c.deref-then-not-branch.ensures.value (c.is_quiet.ensures.0 c.if-is_quiet.true)))
+    ends_here (held c.fill.new.self) _ _ (c.in_ok-fill.ensures.ended c.if-not-branch.true).2
+    (is_quiet (subst IsQuiet c.held-then-not-branch.ensures (c.is_quiet.ensures.0 c.if-is_quiet.true)))
 
 pub returns-then-not-branch-clause-found : goal.returns-then-not-branch-clause-found
 returns-then-not-branch-clause-found g c =
     let ended = c.in_ok-fill.ensures.ended c.if-not-branch.true in
-    ends_here c.fill.new.self.buffer.items _ _ ended.2
-    (no_head (subst HasNoHead (c.deref.ensures.value ∙ sym ended.1) c.in-More.ensures)
-    (λ q. cc (c.is_quiet.ensures.1 (subst IsQuiet (sym c.deref-then-not-branch.ensures.value) q), c.if-is_quiet.false)))
+    ends_here (held c.fill.new.self) _ _ ended.2
+    (no_head (subst HasNoHead (c.held.ensures ∙ sym ended.1) c.in-More.ensures)
+    (λ q. cc (c.is_quiet.ensures.1 (subst IsQuiet (sym c.held-then-not-branch.ensures) q), c.if-is_quiet.false)))
 
 pub returns-in_err-fill-clause-gathered : goal.returns-in_err-fill-clause-gathered
 returns-in_err-fill-clause-gathered g c =
