@@ -62,16 +62,18 @@ impl Intake {
         &self.bytes[self.start..]
     }
 
-    /// Moves these bytes to the front, where those lie that were taken.
+    /// Moves these bytes to the front, where those lie that were taken, if any.
     fn close_up(&mut self)
         ensures held { held self.new ≡ held self.old }
         ensures start { self.new.start ≡ 0 }
         ensures reads { self.new.reads ≡ self.old.reads }
     {
-        let left = self.bytes.len() - self.start;
-        self.bytes.copy_within(self.start.., 0);
-        self.bytes.truncate(left);
-        self.start = 0;
+        if self.start > 0 {
+            let left = self.bytes.len() - self.start;
+            self.bytes.copy_within(self.start.., 0);
+            self.bytes.truncate(left);
+            self.start = 0;
+        }
     }
 
     /// Writes what waits and then reads once, so that nobody who waits for an answer is asked for more. It answers
