@@ -9,6 +9,9 @@ use clap::builder::ValueParser;
 use clap::{Arg, Command};
 use std::alloc::{AllocError, Global};
 
+/// The program's version, and the kit that it is proved with.
+const VERSION: &str = "1.0.0 (rattle-kit-13b logic dac8208d650f15bf)";
+
 /// The option of the register's file.
 fn file_option<'a>(alloc: Global) -> Arg<'a>
     ensures rule { rule_of result ≡ file_rule }
@@ -176,7 +179,7 @@ fn root<'a>(alloc: Global) -> Command<'a>
     ensures { app_of result ≡ root_app }
 {
     Command::new(alloc, "kcr")
-        .version("0.1.0")
+        .version(VERSION)
         .about("The register of the DNSSEC root zone key ceremonies")
         .after_help("Example: kcr serve --file register.db --port 8053 --connections 100")
         .subcommand_required(true)
