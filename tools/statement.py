@@ -1,0 +1,125 @@
+#!/usr/bin/env python3
+"""Writes docs/STATEMENT.md: all that one has to read to believe the theorem. It follows every name from the contracts
+of the program's outermost functions to the definitions in `specs/` and the types in `src/`.
+
+    python3 tools/statement.py              writes the page, and says how long it is
+    python3 tools/statement.py --check      compares it with the page that is there: status 1 if they differ
+    python3 tools/statement.py --unreached  lists the definitions in `specs/` that the statement does not reach
+    python3 tools/statement.py --long       lists the definitions of more than 12 lines that it reaches
+
+A clause without a sentence, a name that is not found, and a name of the kit without a line end it with status 2 and a
+line that names them. What the page is made of stands in `statement_list.py`, the lines of the kit's names in
+`statement_kit.py`.
+"""
+import argparse
+import os
+import sys
+
+sys.dont_write_bytecode = True  # no files beside these
+
+from statement_contracts import Contract, contracts_in
+from statement_list import CONTRACTS, EXAMPLES
+from statement_names import Library, Reach, acts_named, cited, contract_names
+from statement_read import Stop
+from statement_write import missing, page, shown, unused
+
+PAGE = "docs/STATEMENT.md"
+LONG = 12  # lines
+
+
+def main():
+    wanted = arguments()
+    os.chdir(os.path.dirname(os.path.dirname(os.path.abspath(__file__))))
+    library = Library()
+    contracts = [Contract(library.source(f"crates/{crate}/src/{file}.rt"), f"{crate}::{function}")
+                 for crate, file, function in CONTRACTS]
+    reach = Reach(library, [found for contract in contracts for found in contract_names(library, contract)])
+    if wanted.unreached:
+        return list_unreached(library, reach)
+    if wanted.long:
+        return list_long(reach)
+    lacking = list(missing(contracts, reach))
+    if lacking:
+        raise Stop("\n".join(lacking))
+    text = "\n".join(page(library, contracts, reach, examples_of(library))).rstrip() + "\n"
+    if wanted.check:
+        return check(text)
+    write(text, reach, unused(contracts, reach))
+    return 0
+
+
+def arguments():
+    parser = argparse.ArgumentParser(description="Writes docs/STATEMENT.md, or compares it, or lists definitions.")
+    one = parser.add_mutually_exclusive_group()
+    one.add_argument("--check", action="store_true", help="compare the page with the one that is there")
+    one.add_argument("--unreached", action="store_true", help="list the definitions that it does not reach")
+    one.add_argument("--long", action="store_true", help=f"list the definitions of more than {LONG} lines")
+    return parser.parse_args()
+
+
+def examples_of(library):
+    """For each item the example that leads to it by the fewest names, the first of several."""
+    nearest = {}
+    for contract in (contract for path in EXAMPLES for contract in contracts_in(library.source(path))):
+        acts = acts_named(library, contract, "/".join(contract.path.split("/")[:2]) + "/")
+        for key, distance in Reach(library, contract_names(library, contract), acts).distance.items():
+            if key not in nearest or distance < nearest[key][0]:
+                nearest[key] = (distance, contract.root)
+    return {key: name for key, (_, name) in nearest.items()}
+
+
+def write(text, reach, not_needed):
+    with open(PAGE, "w", encoding="utf-8") as file:
+        file.write(text)
+    lines = sum(len(shown(item)) for item in reach.items.values())
+    print(f"{PAGE}: {len(reach.items)} definitions in {lines} lines")
+    for entry in not_needed:
+        print(f"not needed: {entry}")
+
+
+def check(text):
+    there = ""
+    if os.path.exists(PAGE):
+        with open(PAGE, encoding="utf-8") as file:
+            there = file.read()
+    if there == text:
+        print(f"tools/statement.py writes the {PAGE} that stands in the repository")
+        return 0
+    old, new = there.split("\n"), text.split("\n")
+    at = next((n for n, (a, b) in enumerate(zip(old, new)) if a != b), min(len(old), len(new)))
+    print(f"{PAGE} is not what tools/statement.py writes: line {at + 1} is and should be")
+    print("\n".join(old[at:at + 1] + new[at:at + 1]))
+    return 1
+
+
+def list_unreached(library, reach):
+    """Those that other clauses lead to come first: they belong in `specs/`. No clause leads to the others."""
+    others = Reach(library, cited(library)).items
+    left = [item for path, source in library.sources.items() if "/specs/" in path for item in source.items.values()
+            if item.key() not in reach.items]
+    list_items("definitions that clauses of other functions lead to", [x for x in left if x.key() in others])
+    list_items("definitions that no clause leads to", [x for x in left if x.key() not in others])
+    return 0
+
+
+def list_items(title, items):
+    print(f"{len(items)} {title}:")
+    for path in dict.fromkeys(item.path for item in items):
+        print(f"  {path}: {', '.join(item.name for item in items if item.path == path)}")
+
+
+def list_long(reach):
+    lengths = {item.key(): len(shown(item)) - len(item.comment) for item in reach.items.values()}
+    for (path, name), length in sorted(lengths.items(), key=lambda entry: (-entry[1], entry[0])):
+        if length > LONG:
+            print(f"{length:4} {path} {name}")
+    return 0
+
+
+if __name__ == "__main__":
+    try:
+        sys.exit(main())
+    except Stop as stop:
+        for line in str(stop).split("\n"):
+            print(f"tools/statement.py: {line}", file=sys.stderr)
+        sys.exit(2)

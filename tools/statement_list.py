@@ -1,0 +1,199 @@
+"""What the statement is made of: the contracts, their sentences, and the parts in which the definitions are read."""
+
+# The functions whose contracts the statement is: the crate, the file in `src/`, and the function.
+CONTRACTS = [
+    ("kcr_desk", "desk", "serve"),
+    ("kcr_store", "register", "Register::in_memory"),
+    ("kcr_store", "open", "connect"),
+    ("kcr_store", "register", "Register::adopt"),
+    ("kcr_store", "register", "Register::open"),
+    ("kcr_tool", "act", "act"),
+    ("kcr_verify", "verification", "verify"),
+    ("kcr_verify", "verification", "rebuild"),
+]
+
+# The files with worked examples.
+EXAMPLES = ["crates/kcr_laws/src/worked.rt"]
+
+# A sentence for each clause that has no comment of its own in the sources. A comment there goes before a sentence here.
+SENTENCES = {
+    "kcr_desk::serve": {
+        "answered_in_part": "After a fault a prefix of such replies was written.",
+        "founded": "The register stays founded if it was, and not otherwise.",
+        "clean": "A disk that is clean at the end was clean at the beginning.",
+        "read_fault": "`Read` is returned only if a read failed, or if 1,000,000 reads returned bytes.",
+        "write_fault": "`Write` is returned only if a write failed.",
+        "bound": "At most 1,000,000 reads return bytes.",
+    },
+    "kcr_store::Register::in_memory": {
+        "new": "The register is founded, has no command, and is not broken.",
+        "fault": "The fault is `Memory` or `Disk`.",
+    },
+    "kcr_store::connect": {
+        "autocommit": "The connection is outside of a transaction.",
+        "founded": "If the files held a history, or nothing, the connection may be adopted with that history.",
+        "kind": "The fault is `Memory` or `Disk`.",
+    },
+    "kcr_store::Register::adopt": {
+        "past": "The caller's proof names a history, and says whether the database is known to hold it.",
+        "autocommit": "The connection is outside of a transaction.",
+        "founded": "If the history is said to be known, the database is empty or holds the tables of that history.",
+        "adopted": "The register has the history that was named, and is not broken.",
+        "kept": "The register is outside of a transaction and, if it is founded, whole.",
+        "taken": "A database that holds the named history is refused only for memory or for the device.",
+        "version": "Tables of this version are taken only if their number is 3, and refused as `Version` only if "
+        "it is not.",
+        "older": "Tables of version 1 or 2 are taken only if they have that number, and refused as `Version` only "
+        "if not.",
+        "foreign": "`Foreign` is returned only for a database that looks like no register.",
+        "left": "A database that is refused as `Foreign` or `Version` is left as it was.",
+    },
+    "kcr_store::Register::open": {
+        "unknown": "Nothing is known of the history that the file holds: the register is not founded.",
+        "kept": "The register is outside of a transaction. More follows only of a founded one.",
+    },
+    "kcr_tool::act": {
+        "status": "The exit status is 0, 1 or 2.",
+        "answered": "Over any register: the words are a task, each message got a reply, and the line of a port, "
+        "an audit, a verification or a rebuild was written. Of a report nothing is said.",
+        "answered_in_part": "Over any register: a finding was told, or nothing was written, or a prefix of the "
+        "replies or of the task's line was. Of a report nothing is said.",
+    },
+    "kcr_verify::verify": {
+        "told": "If the answer is `Whole`, the rows are the tables of a history that the machine reaches, with "
+        "that many commands.",
+        "cause": "The refusals are those for memory and for the device.",
+    },
+    "kcr_verify::rebuild": {
+        "intact": "The new register is founded, whole, and not broken.",
+        "empty": "The new register has no command.",
+        "cause": "The refusals are those for memory and for the device.",
+        "founded": "The new register stays founded.",
+        "torn": "The new register is not broken if there is a result.",
+        "clean": "A disk that is clean at the end was clean at the beginning.",
+        "kept": "The new register is whole.",
+    },
+}
+
+# The parts in the order in which they are read: a title, what the part says, and its files in their order, as
+# `crate/File` for one in `specs/` and `crate/src/file`. A file that is not here goes to the end of the part with most
+# files of its crate.
+PARTS = [
+    ("Values",
+     "A number is a `ℕ` to a clause, a text the list of its bytes. A type of Rust is the record or the choice that it "
+     "declares.",
+     """kcr_base/src/place kcr_base/Same kcr_base/Lists kcr_base/Rows kcr_base/Initials kcr_base/Line kcr_base/Serial
+     kcr_base/Number kcr_base/Facility kcr_base/Place kcr_base/Role kcr_base/Day kcr_base/Days kcr_base/Moment
+     kcr_base/src/day kcr_base/src/initials kcr_base/src/key kcr_base/src/line kcr_base/src/lists kcr_base/src/moment
+     kcr_base/src/number kcr_base/src/positions kcr_base/src/serial kcr_base/src/text kcr_base/src/refusal
+     kcr_custody/src/lib kcr_custody/Spots kcr_room/src/lib kcr_people/src/lib kcr_base/src/tally kcr_base/src/counted
+     kcr_base/Counted"""),
+    ("Scripts and seats as texts",
+     "Which texts are scripts, and which steps and seats they stand for.",
+     """kcr_script/src/seat kcr_script/src/seats kcr_script/src/script kcr_script/Seat kcr_script/Seats
+     kcr_script/Script kcr_script/Reading"""),
+    ("Commands and the history",
+     "A register is the list of its accepted commands. All else is said of that list.",
+     """kcr_history/src/lists kcr_history/src/commands kcr_history/History kcr_history/Training kcr_history/Ceremonies
+     kcr_room/Room kcr_room/Moments kcr_room/Stays kcr_history/Room kcr_history/Custody"""),
+    ("The rows of the history",
+     "For each table the rows of a history, in the order in which they were made.",
+     """kcr_history/src/rows kcr_history/Tables"""),
+    ("Conditions by command",
+     "Why a command of each kind is refused: the first condition of its list that holds.",
+     """kcr_base/Refuse kcr_people/People kcr_people/Laws kcr_custody/Custody kcr_room/Adding
+     kcr_history/Conditions"""),
+    ("Seats", "Who fits a seat, the first seating, and a least shortage.", "kcr_history/Seating"),
+    ("The machine",
+     "One step of the machine: what a command is answered, and the history after it.",
+     "kcr_history/Machine"),
+    ("The run",
+     "The machine's steps over the messages of a stream, and all that is written. The messages and the texts that it "
+     "names stand in the parts below.",
+     """kcr_desk/src/fault kcr_desk/src/stream kcr_rows/Refusals kcr_store/Steps kcr_store/Rows kcr_print/Written
+     kcr_desk/Run kcr_desk/Answers"""),
+    ("The cut of the stream",
+     "Which bytes are which messages, and how a stream ends.",
+     """kcr_desk/src/head kcr_desk/Members kcr_desk/Plans kcr_desk/Stream"""),
+    ("Questions and reports",
+     "What a question is shown, and the text of each report, by the history.",
+     """kcr_history/src/questions kcr_history/Views kcr_history/Questions kcr_history/Prints"""),
+    ("Requests as texts",
+     "Which path and which body are which command, question or report.",
+     """kcr_wire/src/method kcr_wire/src/allow kcr_wire/src/route kcr_wire/src/target kcr_wire/src/inquiry
+     kcr_forms/Forms kcr_wire/OrMemory kcr_wire/Routes kcr_wire/Targets kcr_wire/Members kcr_wire/Commands
+     kcr_wire/Inquiries"""),
+    ("Answers as texts",
+     "The bytes of each answer, and the text of a command that is kept.",
+     """kcr_base/Refusal kcr_history/Json kcr_history/Refusals kcr_history/Texts kcr_wire/Shows kcr_desk/src/reply
+     kcr_desk/Texts"""),
+    ("The tables of the file",
+     "The cells of each row, the schema, and what trees hold the tables of a history. For a crash it is enough that "
+     "what it leaves and what an opening takes are one fact, `IsTables`; what the fact says counts for those who read "
+     "the file with another program.",
+     """kcr_rows/src/rows kcr_rows/Values kcr_rows/States kcr_rows/Rows kcr_rows/Columns kcr_rows/Keyed
+     kcr_tables/Schema kcr_tables/Held kcr_tables/First kcr_tables/Joint kcr_tables/Made"""),
+    ("The file and crash",
+     "What a file holds of a history, what an opening makes of it, and what a crash may leave.",
+     """kcr_older/src/renewal kcr_older/Versions kcr_older/Older kcr_older/Standing kcr_store/src/open
+     kcr_store/Stored kcr_store/Register kcr_store/src/register kcr_store/Opening"""),
+    ("The verification",
+     "What it means that a register is the one of its own commands.",
+     """kcr_history/src/views kcr_audit/Whole kcr_store/Whole kcr_forms/Acts kcr_verify/src/compare
+     kcr_verify/src/verification kcr_verify/Verified"""),
+    ("The program",
+     "Which arguments are which task, and what each task writes.",
+     """kcr_verify/src/fresh kcr_tool/src/words kcr_tool/src/fault kcr_tool/Commands kcr_tool/Tasks kcr_tool/Lines
+     kcr_tool/Faults kcr_tool/Audits kcr_tool/Verifications kcr_tool/Runs"""),
+]
+
+# The last part of what is answered and kept. The parts behind it say how that is written as bytes, and what the program
+# does with it.
+CORE_ENDS = "The cut of the stream"
+
+ABOUT = """
+# The statement
+
+This page is all that one has to read to believe the theorem without believing us: the contracts of the outermost
+functions of the program, each clause below a sentence, and every definition that they name, in the order in which a
+reader needs them. A definition has the comment that its file has. `tools/statement.py` writes the page from the
+sources, and the gate compares the two.
+
+How to read it: `f : A → B` says that `f` takes an `A` and returns a `B`. The lines below it are its cases, and the
+first that fits counts. A fact is a type: a definition that ends in `Type 0` is a fact and no value. `(x : A) → P` says
+that `P` holds of each `x`, `(x : A) × P` that it holds of some `x`. A record of facts holds if each of its fields does.
+`x.old` is a value before the call, `x.new` after it.
+""".strip().split("\n") + [""]
+
+# What the statement leaves out, and why.
+NOT_IN_IT = [
+    ("the proofs, in `proofs/`", "the prover checks them, and refuses a wrong one"),
+    ("the bodies of functions, and all other contracts",
+     "the prover checks each body against its contract, and proves the contracts here from the others"),
+    ("definitions to which no clause here leads, as what a command comes to by rows (`tools/statement.py --unreached`)",
+     "they serve proofs: no clause here says anything else if one of them is wrong"),
+    ("how a type keeps its value", "a clause speaks only of the value"),
+    ("the definitions of the kit", "they are named at the end, each with what it stands for; they stand in the kit"),
+    ("the step from a crash after a call to a crash within one",
+     "the kit argues it and does not prove it (`sqlite_wal/README.md`): after a crash within a call each call of the "
+     "disk fails, so the function returns, and its clauses hold of what the crash may leave"),
+    ("the prover, the compilers, the machine code", "they are trusted (README); no statement is about them"),
+]
+
+CONTRACTS_ABOUT = (
+    "The comment over a clause is its sentence. `serve` is the theorem. `in_memory`, or `connect` and then `adopt`, "
+    "make the register with which it begins; `open` is what the program does with a file. `act` is the program. "
+    "`verify` and `rebuild` compare a register with its own commands."
+)
+
+KIT_ABOUT = (
+    "These are named above and not unfolded. Each is a definition of the kit, or a type or a trait of one of its "
+    "crates."
+)
+
+EXAMPLES_ABOUT = (
+    "Definitions with a value: {shown} on an example, {none} on none. Each stands behind the example of "
+    "`kcr_laws::worked` that leads to its name by the fewest names between. Cases for a kind of command are followed "
+    "only if the example has such a command. The names do not show which of its other cases a definition takes. Facts "
+    "and types are not listed."
+)
