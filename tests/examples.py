@@ -7,7 +7,7 @@ Shown are: that `examples/make.py` writes the stream and the shell script that a
 three kept reports are those that a small model here makes of the requests by the rules alone (who is trained, who holds
 a place, who is in the room, the first seating, where each bag is); that the program gives them byte for byte, over a
 file and to curl over a port, and gives its answers again to the commands sent again; that its audit finds nothing; that
-the kept picture is what `tools/room.py` draws of the attendance; that sqlite3 answers examples/queries.sql as is kept;
+the first commands of README.md print what stands below them; that the kept picture is what `tools/room.py` draws of the attendance; that sqlite3 answers examples/queries.sql as is kept;
 and that mandoc has nothing to say of docs/kcr.1. What needs curl, sqlite3 or mandoc is left out with a line where that
 is not there. With names only the tests with these names run.
 
@@ -412,6 +412,19 @@ def by_curl(program, room):
     reported(program, file)
 
 
+def first_page(program, room):
+    """The first commands of README.md print what stands below them, and the server of 9 connections ends."""
+    page = (ROOT / "README.md").read_text(encoding="utf-8")
+    commands, printed = re.search(r"(?ms)^```sh\n(.*?)^```\n.*?^```text\n(.*?)^```$", page).groups()
+    port = str(kcr.free_port())
+    until_it_listens = f"until (exec 3<>/dev/tcp/127.0.0.1/{port}) 2>&-; do sleep 0.1; done"
+    # A connection that only looks whether the port is taken is served, too.
+    commands = commands.replace("8053", port).replace("--connections 9", "--connections 10")
+    script = f'kcr() {{ "{program}" "$@"; }}\n' + commands.replace("sleep 1\n", f"{until_it_listens}\n") + "wait\n"
+    run = subprocess.run(["bash", "-c", script], cwd=room, capture_output=True, text=True, timeout=SECONDS)
+    expect("what is printed", (printed.replace("8053", port), 0), (run.stdout, run.returncode))
+
+
 def pictured(_program, _room):
     """The kept picture is what `tools/room.py` draws of the kept attendance, and what is none is refused."""
     def draw(text):
@@ -440,8 +453,8 @@ def manual(_program, _room):
     expect("what it says", (b"", b"", 0), (run.stdout, run.stderr, run.returncode))
 
 
-TESTS = [made, by_the_rules, over_a_file, again, by_curl, pictured, queried, manual]
-NEEDS = {by_curl: "curl", queried: "sqlite3", manual: "mandoc"}
+TESTS = [made, by_the_rules, over_a_file, again, by_curl, first_page, pictured, queried, manual]
+NEEDS = {by_curl: "curl", first_page: "curl", queried: "sqlite3", manual: "mandoc"}
 
 
 def main():
