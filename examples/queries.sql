@@ -1,37 +1,50 @@
 -- Ten questions that an auditor asks of a register's file, with sqlite3:
---     sqlite3 copy.db < examples/queries.sql
--- where copy.db is a copy of the file that was made while no kcr had it open, with its log if one lay beside it.
--- Moments are kept as seconds and days as days since 1970-01-01, UTC. The state of a ceremony is 0 (planned), 1 (open)
--- or 2 (closed), that of a step 0 (open), 1 (signed) or 2 (passed over), that of a safe 0 (shut) or 1 (open).
+--     sqlite3 -cmd '.parameter set :ceremony 61' copy.db < examples/queries.sql
+-- Without the parameter, questions 2, 4 and 6 are about the ceremony that was opened last. copy.db is a copy of the
+-- file that was made while no kcr had it open, with its log if there was one.
+-- The tables contain moments as seconds and days as days since 1970-01-01, UTC. The state of a ceremony is 0 (planned),
+-- 1 (open) or 2 (closed), of a step 0 (open), 1 (signed) or 2 (passed over), of a safe 0 (shut) or 1 (open).
 .mode list
 .separator ' | '
 .headers on
 .nullvalue -
 
+CREATE TEMP TABLE asked AS
+SELECT coalesce(:ceremony, (SELECT number FROM ceremonies WHERE opened IS NOT NULL ORDER BY opened DESC LIMIT 1))
+       AS ceremony;
+
+.print The ceremony of questions 2, 4 and 6
+SELECT ceremony, coalesce((SELECT facility || ' ' || date(day * 86400, 'unixepoch') FROM ceremonies
+                           WHERE number = asked.ceremony), 'not in this register') AS facility_and_day
+FROM asked;
+
+.print
 .print 1. Which ceremonies are there, and how long did each take?
 SELECT number, facility, date(day * 86400, 'unixepoch') AS day, state,
-       time(opened, 'unixepoch') AS opened, time(closed, 'unixepoch') AS closed, (closed - opened) / 60 AS minutes,
+       strftime('%Y-%m-%dT%H:%M:%SZ', opened, 'unixepoch') AS opened,
+       strftime('%Y-%m-%dT%H:%M:%SZ', closed, 'unixepoch') AS closed, (closed - opened) / 60 AS minutes,
        (SELECT count(*) FROM steps WHERE ceremony = number) AS steps,
        (SELECT count(*) FROM exceptions WHERE ceremony = number) AS exceptions
 FROM ceremonies ORDER BY number;
 
 .print
-.print 2. Who was in the room of ceremony 61, for how many minutes, and sat in how many steps?
-SELECT who, name, count(*) AS stays, sum(until - since) / 60 AS minutes, time(min(since), 'unixepoch') AS first_in,
-       time(max(until), 'unixepoch') AS last_out,
-       (SELECT count(*) FROM seatings WHERE seatings.who = stays.who AND seatings.ceremony = 61) AS steps
-FROM stays JOIN people USING (who) WHERE ceremony = 61 GROUP BY who ORDER BY steps DESC, who;
+.print 2. Who was in the room, for how many minutes, and sat in how many steps?
+SELECT who, name, count(*) AS stays, sum(until - since) / 60 AS minutes,
+       strftime('%Y-%m-%dT%H:%M:%SZ', min(since), 'unixepoch') AS first_in,
+       strftime('%Y-%m-%dT%H:%M:%SZ', max(until), 'unixepoch') AS last_out,
+       (SELECT count(*) FROM seatings WHERE seatings.who = stays.who AND seatings.ceremony = stays.ceremony) AS steps
+FROM stays JOIN people USING (who) JOIN asked USING (ceremony) GROUP BY who ORDER BY steps DESC, who;
 
 .print
 .print 3. Which exceptions were there, and which activity did one pass over?
-SELECT e.ceremony, e.exception, time(e.at, 'unixepoch') AS at, e.passed, s.activity, e.text
+SELECT e.ceremony, e.exception, strftime('%Y-%m-%dT%H:%M:%SZ', e.at, 'unixepoch') AS at, e.passed, s.activity, e.text
 FROM exceptions AS e LEFT JOIN steps AS s ON s.ceremony = e.ceremony AND s.step = e.passed
 ORDER BY e.ceremony, e.exception;
 
 .print
-.print 4. Which steps of ceremony 61 came longest after the step before?
-SELECT step, time(at, 'unixepoch') AS at, seconds, activity
-FROM (SELECT step, at, activity, at - lag(at) OVER (ORDER BY step) AS seconds FROM steps WHERE ceremony = 61)
+.print 4. Which steps came longest after the step before?
+SELECT step, strftime('%Y-%m-%dT%H:%M:%SZ', at, 'unixepoch') AS at, seconds, activity
+FROM (SELECT step, at, activity, at - lag(at) OVER (ORDER BY step) AS seconds FROM steps JOIN asked USING (ceremony))
 ORDER BY seconds DESC, step LIMIT 5;
 
 .print
@@ -42,11 +55,13 @@ WHERE NOT EXISTS (SELECT 1 FROM stays WHERE stays.who = t.who AND stays.ceremony
                   AND stays.since <= s.at AND (stays.until IS NULL OR stays.until > s.at));
 
 .print
-.print 6. What was done with each bag in ceremony 61, command by command?
-WITH parts AS (SELECT accepted, substr(command, 21) AS tail FROM keys WHERE command GLOB '/ceremonies/61/bags/*'),
+.print 6. What was done with each bag, command by command?
+WITH starts AS (SELECT '/ceremonies/' || ceremony || '/bags/' AS start FROM asked),
+     parts AS (SELECT accepted, substr(command, length(start) + 1) AS tail FROM keys JOIN starts
+               ON command GLOB start || '*'),
      acts AS (SELECT accepted, substr(tail, 1, instr(tail, '/') - 1) AS bag, substr(tail, instr(tail, '/') + 1) AS act
               FROM parts)
-SELECT bag, accepted, substr(act, 1, instr(act, char(10)) - 1) AS act, substr(act, -9, 8) AS at,
+SELECT bag, accepted, substr(act, 1, instr(act, char(10)) - 1) AS act, substr(act, -20) AS at,
        substr(act, instr(act, char(10)) + 1, max(0, length(act) - instr(act, char(10)) - 21)) AS items_or_spot
 FROM acts ORDER BY bag, accepted;
 
@@ -73,7 +88,8 @@ FROM appointments ORDER BY place, appointments.since;
 
 .print
 .print 10. Are the accepted commands numbered without a gap, and how many are there of each kind?
-SELECT count(*) AS commands, max(accepted) AS last, iif(count(*) = max(accepted), 'no', 'yes') AS gap FROM keys;
+SELECT count(*) AS commands, max(accepted) AS last, iif(count(*) = coalesce(max(accepted), 0), 'no', 'yes') AS gap
+FROM keys;
 WITH kinds (kind, pattern) AS (VALUES
     ('person', '/people'), ('training', '/people/*/roles'), ('withdrawal', '/people/*/withdrawals'),
     ('place', '/custodians*'), ('box', '/boxes'), ('item', '/items'), ('plan', '/ceremonies'),

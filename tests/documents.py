@@ -3,12 +3,15 @@
 
     tests/documents.py PROGRAM [NAME ..]
 
-Shown are: that each example of docs/API.md and README.md gets the bytes that the page shows; that docs/openapi.yaml and
-the headings of docs/API.md have each path of the program with its methods and no other; that the program takes exactly
-the parts of paths and the members of bodies that docs/openapi.yaml says, shown by values around each form and bound;
-that the examples fit the schemas; that the refusals in docs/REFUSALS.md, docs/API.md and docs/openapi.yaml have the numbers,
-words, statuses and members of the code; and that the SQL texts are as many as docs/COST.md says. With names only the
-tests with these names run.
+Shown are: that each example of docs/API.md, docs/AUDIT.md and README.md gets the bytes that the page shows; that
+docs/openapi.yaml and the headings of docs/API.md have each path of the program with its methods and no other; that the
+program takes exactly the parts of paths and the members of bodies that docs/openapi.yaml says, shown by values around
+each form and bound; that the examples fit the schemas; that the refusals in docs/REFUSALS.md, docs/API.md and
+docs/openapi.yaml have the numbers, words, statuses and members of the code, and docs/kcr.1 their sentences; that the
+man page, and docs/OPERATING.md and docs/AUDIT.md together, have each line that the program prints for a fault or a
+finding, and no other; that the scripts of docs/OPERATING.md for backup and restore keep every command, and that its
+proxy refuses what it says; and that the SQL texts are as many as docs/COST.md says. With names only the tests with
+these names run. Examples with sqlite3 are left out if it is missing, and the proxy without nginx and openssl.
 
 An example is a fenced block of a page. `http request` has requests, and the block `http answer` behind it their
 answers. Each line of a head is sent with CR LF, a body is as long as its head says, and the empty lines between two
@@ -31,13 +34,17 @@ import json
 import os
 import pathlib
 import re
+import shutil
 import subprocess
 import tempfile
 
 import kcr
+import machine
 from kcr import HERE, SECONDS, Wrong, call, expect
 
 ROOT = HERE.parent
+sys.path.append(str(ROOT / "tools"))
+import manual  # noqa: E402
 REGISTER = "register.db"
 PLANS_KEPT = 64  # by the kit's connection, as its README says
 NEVER_WHOLE = ("appointments", "steps", "seatings", "sheet", "exceptions", "stays", "items", "keys", "versions")  # by a request
@@ -186,6 +193,9 @@ def examples(program, page):
     yield page, "its blocks", lambda _: examples_of(page)
     with contextlib.suppress(Wrong):
         for example in examples_of(page):
+            if "sqlite3 " in example.text and not shutil.which("sqlite3"):
+                print(f"no sqlite3 here, so {example.name} is left out")
+                continue
             test = requested if example.word is None else commanded
             yield example.name, example.text.splitlines()[0], functools.partial(test, program, example)
 
@@ -213,7 +223,7 @@ def tabled(_):
 
 def named(_):
     """Each refusal that a page names with its number and its word is one of the code."""
-    for page in ("docs/API.md", "docs/REFUSALS.md", "README.md"):
+    for page in ("docs/API.md", "docs/REFUSALS.md", "docs/OPERATING.md", "docs/AUDIT.md", "README.md"):
         for number, word in re.findall(r"\b([0-9]+) `([a-z]+)`", text_of(page)):
             expect(f"{page}: the word of {number}", refusals().get(int(number), ("none",))[0], word)
 
@@ -247,6 +257,36 @@ def listed(_):
         for number in re.findall(r"\b([0-9]+) `", line[1]):
             status = str(refusals()[int(number)][1])
             expect(f"{method} {path} has the status of {number}", True, status in statuses)
+
+
+def worded(_):
+    """docs/REFUSALS.md has a sentence for each refusal, which names the member that it carries once, and one for each
+    value of 30 and 31; docs/kcr.1 has the same sentences."""
+    text = text_of("docs/REFUSALS.md")
+    for number, word, _, sentence, _ in manual.rows(text):
+        member = refusals()[number][2]
+        expect(f"how often {number} {word} names what it carries", 1 if member else 0,
+               sentence.count(f"`{member}`") if member else 0)
+        expect(f"the end of {number} {word}", ".", sentence[-1])
+    parts = re.findall(r'Part::\w+ => "(\w+)"', text_of("crates/kcr_base/src/refusal.rt"))
+    wanted_ones = [(30, "initials"), (30, "place"), (30, "`CA`"), *((31, f"`{part}`") for part in parts)]
+    agree("the values with a sentence", wanted_ones, [(number, value) for number, value, _ in manual.values(text)])
+    page = text_of("docs/kcr.1")
+    expect("docs/kcr.1 (tools/manual.py writes its list)", manual.page_of(text, page).encode(), page.encode())
+
+
+def lined(_):
+    """docs/kcr.1 has each line that the program prints for a fault or a finding, and no other; so have
+    docs/OPERATING.md and docs/AUDIT.md together."""
+    code = "".join(text_of(f"crates/kcr_tool/src/{name}.rt") for name in ("fault", "audit", "verify"))
+    lines = {line.replace("\\n", "").strip() for line in re.findall(r'"((?:open|into|fault|finding): [^"]*)"', code)}
+    expect("whether lines were found", True, len(lines) > 20)
+    kinds = "(?:open|into|fault|finding)"
+    pages = text_of("docs/OPERATING.md") + text_of("docs/AUDIT.md")
+    for where, shown in (("the man page", re.findall(rf"(?m)^\.It ({kinds}: .*)$", text_of("docs/kcr.1"))),
+                         ("the pages", re.findall(rf"`({kinds}: [^`]+)`", pages))):
+        heads = {" ".join(line.split(" ")[:2]) for line in shown}
+        agree(f"the lines of {where}", sorted(lines), sorted(heads))
 
 
 # YAML, as far as docs/openapi.yaml uses it
@@ -557,11 +597,11 @@ def texts_fit(_):
 
 def tests(program):
     """Each test: its name, what it shows, and the call that takes an empty folder."""
-    for page in ("docs/API.md", "README.md"):
+    for page in ("docs/API.md", "docs/AUDIT.md", "README.md"):
         yield from examples(program, page)
-    for test in (tabled, named, described, listed, same_paths, same_bodies, texts_fit):
+    for test in (tabled, named, worded, lined, described, listed, same_paths, same_bodies, texts_fit):
         yield test.__name__, test.__doc__, test
-    for test in (same_methods, same_parts, same_members):
+    for test in (*machine.tests(), same_methods, same_parts, same_members):
         yield test.__name__, test.__doc__, functools.partial(test, program)
 
 
