@@ -7,9 +7,10 @@ Shown are: for each of the twelve kept streams under tests/files that its reques
 that the reports and the audit of the file are the kept texts, that sqlite3 (Python's module, C's sqlite) finds it sound
 and with the kept rows and the register's schema, and that each accepted command sent again gets its answer again and
 changes nothing; that it makes no difference whether the file is opened anew before each request; that registers of the
-versions 1 and 2, which sqlite3 makes of files that the program wrote or from nothing, are brought to version 3; what
-becomes of files that are no register, and of one that somebody else has open; and what the audit and the reports say of
-a register in which sqlite3 changed a cell. With names only the tests with these names run.
+versions 1 and 2, which sqlite3 makes of files that the program wrote or from nothing, are brought to version 3; that a
+register is taken as it is where its recorded people are not the first who fill the seats; what becomes of files that
+are no register, and of one that somebody else has open; and what the audit and the reports say of a register in which
+sqlite3 changed a cell. With names only the tests with these names run.
 
 The twelve streams were taken from thirty so that together they have each kind of command accepted, each refusal and
 each table, spot, state and form of line that the thirty have. A folder has the stream (`requests`), what it is answered
@@ -173,6 +174,70 @@ def half_older(program, room):
     made_older(older, 2)
     change(older, "UPDATE versions SET number = 3")
     refused(program, older, VERSION)
+
+
+def officers_and_staff():
+    """Requests of a ceremony whose three steps each want a Crypto Officer, with three of them and two people of staff in
+    the room: the first step is signed, and the second passed over, which are commands 16 and 17."""
+    year = b'"from":"2025-01-01","until":"2025-12-31"'
+    roles = [(b"AA", b"CA"), (b"AA", b"IW"), (b"BB", b"CA"), (b"BB", b"IW")]
+    places = [(1, b"EA"), (2, b"EB"), (5, b"EE")]
+    steps = b"".join(b"%d,Act,CO\\n" % step for step in (1, 2, 3))
+    return [
+        *(kcr.person(b"p" + who, who, b"N") for who in (b"AA", b"BB", b"EA", b"EB", b"EE")),
+        *(kcr.post(b"/people/%s/roles" % who, b"r" + who + role, b'"role":"%s",%s' % (role, year)) for who, role in roles),
+        *(kcr.post(b"/custodians", b"c" + who, b'"place":"CO-EAST-%d","who":"%s","day":"2025-01-01"' % (number, who))
+          for number, who in places),
+        kcr.post(b"/ceremonies", b"plan", b'"number":61,"facility":"EAST","day":"2025-02-13",'
+                                          b'"script":"step,activity,seats\\n%s"' % steps),
+        kcr.post(b"/ceremonies/61/opening", b"open", b'"at":"2025-02-13T20:00:00Z"'),
+        kcr.post(b"/ceremonies/61/sheet", b"come", b'"way":"in","who":["AA","BB","EA","EB","EE"],'
+                                                   b'"at":"2025-02-13T20:05:00Z"'),
+        kcr.post(b"/ceremonies/61/steps/1/signature", b"sign", b'"at":"2025-02-13T20:10:00Z"'),
+        kcr.post(b"/ceremonies/61/exceptions", b"pass", b'"text":"Broken","pass":true,"at":"2025-02-13T20:12:00Z"'),
+    ]
+
+
+def seated(number, people, step, more=b""):
+    """The answer to an accepted command that seats people."""
+    named = b",".join(b'"%s"' % who for who in people)
+    return kcr.answer(b"200 OK", b'{"accepted":%d,%s"seating":[%s],"step":%d}' % (number, more, named, step))
+
+
+def other_seatings(program, room):
+    """A register of any version whose recorded people fill the seats, but are not the first who do, is taken as it is:
+    they are printed, audited and told again, and a new signature records the first ones. Only a verification tells it."""
+    requests, file = officers_and_staff(), room / "first"
+    first = [kcr.accepted(number + 1) for number in range(15)]
+    first += [seated(16, [b"EA"], 1), seated(17, [b"AA", b"BB"], 2, b'"exception":1,')]
+    expect("the answers", (b"".join(first), b"", 0), call(program, "run", "--file", file, stream=b"".join(requests)))
+    other = [*first[:15], seated(16, [b"EE"], 1), seated(17, [b"BB", b"AA"], 2, b'"exception":1,')]
+    printed = (b"Ceremony 61 EAST 2025-02-13 open\nOpened 2025-02-13T20:00:00Z\n"
+               b"1 signed 2025-02-13T20:10:00Z Act\n  CO EE\n2 passed 2025-02-13T20:12:00Z Act\n  CA BB\n  IW AA\n")
+    for version in (1, 2, 3):
+        older = copy(file, room / f"version-{version}")
+        change(older, "UPDATE seatings SET who = 'EE' WHERE step = 1",
+               "UPDATE seatings SET who = CASE seat WHEN 1 THEN 'BB' ELSE 'AA' END WHERE step = 2",
+               "UPDATE keys SET reply = replace(reply, '\"EA\"', '\"EE\"') WHERE accepted = 16",
+               "UPDATE keys SET reply = replace(reply, '\"AA\",\"BB\"', '\"BB\",\"AA\"') WHERE accepted = 17")
+        if version < 3:
+            made_older(older, version)
+        differed(program, older, "reply 16")
+        fresh = room / f"rebuilt-{version}"
+        expect("rebuild", (b"finding: reply 16\n", b"", 1), call(program, "rebuild", "--file", older, "--into", fresh))
+        verified(program, fresh, 16)
+        output, *ended = call(program, "print", "--ceremony", "61", "--file", older)
+        expect("print", (printed, [b"", 0]), (output[:len(printed)], ended))
+        expect("audit", NOTHING_FOUND, call(program, "audit", "--file", older))
+        expect("the commands again", (b"".join(other), b"", 0),
+               call(program, "run", "--file", older, stream=b"".join(requests)))
+        again = kcr.post(b"/ceremonies/61/steps/3/signature", b"last", b'"at":"2025-02-13T20:20:00Z"')
+        expect("a new signature", (seated(18, [b"EA"], 3), b"", 0), call(program, "run", "--file", older, stream=again))
+        expect("the audit after it", NOTHING_FOUND, call(program, "audit", "--file", older))
+        with opened(older) as database:
+            expect("the seatings", [(61, 1, 1, "EE"), (61, 2, 1, "BB"), (61, 2, 2, "AA"), (61, 3, 1, "EA")],
+                   sorted(kcr.rows_in(database)["seatings"]))
+            expect("the version", [(3,)], kcr.rows_in(database)["versions"])
 
 
 # Files that are no register
@@ -545,9 +610,9 @@ def report_stops(program, room):
         expect(f"what was printed before step {step}", text[:text.index(before) + 1], output)
 
 
-TESTS = [opened_anew, older_from_its_file, older_from_nothing, half_older, no_file_yet, relative_and_linked,
-         no_database, foreign_databases, no_one_number, held_by_serve, held_by_sqlite, hot_journal, unknown_ceremony,
-         over_memory, numbers_out_of_range, output_is_full, findings, doubled_key, crowd, differences,
+TESTS = [opened_anew, older_from_its_file, older_from_nothing, half_older, other_seatings, no_file_yet,
+         relative_and_linked, no_database, foreign_databases, no_one_number, held_by_serve, held_by_sqlite, hot_journal,
+         unknown_ceremony, over_memory, numbers_out_of_range, output_is_full, findings, doubled_key, crowd, differences,
          changed_commands, rows_of_no_register, broken_in_a_stream, report_stops]
 
 

@@ -2,6 +2,10 @@
 
 # The crate, names, and what they stand for.
 KIT = [
+    ("std", "ℤ", "A signed number without a bound."),
+    ("std", "IsSorted", "The list is in the order of this comparison."),
+    ("sqlite_schema", "table_named", "The place of the table of this name in the schema, or none."),
+    ("sqlite_schema", "place_of", "The place of a column of the table in its rows."),
     ("std", "ℕ zero suc pos",
      "A number without a bound. `suc n` is `n + 1`, and `pos n` the signed number that equals `n`."),
     ("std", "List ◌∷◌ ◌++◌", "A list, `x ∷ xs` with one element more at its front, and two lists joined."),

@@ -41,12 +41,7 @@ SENTENCES = {
         "adopted": "The register has the history that was named, and is not broken.",
         "kept": "The register is outside of a transaction and, if it is founded, whole.",
         "taken": "A database that holds the named history is refused only for memory or for the device.",
-        "version": "Tables of this version are taken only if their number is 3, and refused as `Version` only if "
-        "it is not.",
-        "older": "Tables of version 1 or 2 are taken only if they have that number, and refused as `Version` only "
-        "if not.",
-        "foreign": "`Foreign` is returned only for a database that looks like no register.",
-        "left": "A database that is refused as `Foreign` or `Version` is left as it was.",
+        "known": "Only an empty database, or one with the whole schema of version 1, 2 or 3, is taken.",
     },
     "kcr_store::Register::open": {
         "unknown": "Nothing is known of the history that the file holds: the register is not founded.",
@@ -135,7 +130,7 @@ PARTS = [
      kcr_tables/Schema kcr_tables/Held kcr_tables/First kcr_tables/Joint kcr_tables/Made"""),
     ("The file and crash",
      "What a file holds of a history, what an opening makes of it, and what a crash may leave.",
-     """kcr_older/src/renewal kcr_older/Versions kcr_older/Older kcr_older/Standing kcr_store/src/open
+     """kcr_older/Older kcr_older/Standing kcr_store/src/open
      kcr_store/Stored kcr_store/Register kcr_store/src/register kcr_store/Opening"""),
     ("The verification",
      "What it means that a register is the one of its own commands.",

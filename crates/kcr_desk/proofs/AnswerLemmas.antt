@@ -66,7 +66,8 @@ module _ {S Value : Type 0} (g : Ghosts S) (before after : Seen S) (target : Lis
   by_torn Does (Some t) broken does wanting (inr m) = absurd (m.2 (broken refl).0)
 
   -- what is done of the result, where out of memory is told in its place only if the history stays
-  pub result_answered : (Does : Standing → Standing → Result Value Refusal → Type 0)
+  pub result_answered : (Does : Standing → Standing → Result Value Refusal → Type 0) (MayBe : Result Value Refusal → Type 0)
+      → MayBe (Err Refusals.Memory) → (before.torn ≡ None → MayBe result)
       → (IsSome before.torn → (result ≡ Err Refusals.Broken) × (after ≡ before))
       → (before.torn ≡ None → IsSome after.torn ↔ (result ≡ Err Refusals.Disk))
       → (IsTrue before.is_founded → before.torn ≡ None → ends_clean → Does (standing before) (standing after) result)
@@ -75,12 +76,16 @@ module _ {S Value : Type 0} (g : Ghosts S) (before after : Seen S) (target : Lis
       → Answered g before target told after
       (λ old new. MatchOption old.torn ((r : Result Value Refusal) × (told ≡ told_by r) × Does old new r)
       (λ _. IsRefused old target told new Refusals.Broken))
-      (λ old new. Replies told_by old target told new)
-  result_answered Does broken breaks does stays clean founded tells = record {
+      (λ old new. Replies told_by MayBe old target told new)
+  result_answered Does MayBe memory may broken breaks does stays clean founded tells = record {
     founded = founded;
     clean = clean;
-    reply = by_torn (λ r. IsSome after.torn ↔ (r ≡ Err Refusals.Disk)) before.torn broken breaks
-        (λ none m n. inr (Err Refusals.Memory, m ∙ sym (as_refusal Refusals.Memory), ((λ some. absurd (n ((breaks none).0 some))), (λ is. cc)))) tells;
+    reply = by_torn (λ r. MayBe r × (IsSome after.torn ↔ (r ≡ Err Refusals.Disk))) before.torn broken (λ none. (may none, breaks none))
+        (λ none m n. inr (
+          Err Refusals.Memory,
+          m ∙ sym (as_refusal Refusals.Memory),
+          (memory, ((λ some. absurd (n ((breaks none).0 some))), (λ is. cc))),
+        )) tells;
     answer = λ is_founded is_clean.
         by_torn (Does (standing before) (standing after)) before.torn broken (λ none. does is_founded none is_clean)
         (λ none m n.
@@ -89,10 +94,12 @@ module _ {S Value : Type 0} (g : Ghosts S) (before after : Seen S) (target : Lis
   }
 
   -- what only reads
-  pub reading_answered : (Says : History → Result Value Refusal → Type 0) {MayFail : Refusal → Type 0} → Looks g MayFail before after result
-      → OfHistory g before after (λ A. Says A result) → TellsOrMemory told_by target result told → AnswersReading g before target told after told_by Says
-  reading_answered Says looks says =
-      result_answered (λ old new r. Inquires Says old.accepted r new) looks.broken looks.breaks
+  pub reading_answered : (Says : History → Result Value Refusal → Type 0) (MayBe : Result Value Refusal → Type 0) {MayFail : Refusal → Type 0}
+      → MayBe (Err Refusals.Memory) → (before.torn ≡ None → MayBe result) → Looks g MayFail before after result
+      → OfHistory g before after (λ A. Says A result) → TellsOrMemory told_by target result told
+      → AnswersReading g before target told after told_by MayBe Says
+  reading_answered Says MayBe memory may looks says =
+      result_answered (λ old new r. Inquires Says old.accepted r new) MayBe memory may looks.broken looks.breaks
       (λ founded none clean. record { says = says founded none clean; same = looks.same; breaks = looks.breaks none; tried = looks.tried none })
       (λ m does. looks.same) looks.clean looks.founded
 

@@ -15,3 +15,4 @@ pub mod StandingLemmas
 pub mod RegisterLemmas
 pub mod ReportLemmas
 pub mod PlainLemmas
+pub mod ConnectionLemmas

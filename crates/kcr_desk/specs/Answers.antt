@@ -1,23 +1,26 @@
 -- What a message is told, and what it leaves of the register.
 use Rattle.std.specs.Prelude.{◌≡◌, ◌⊎◌, ◌↔◌, ◌≢◌, ⊤, ℕ, List, Option, None, Result, Ok, Err, MatchOption, MatchResult}
-use Rattle.std.specs.Prelude.{IsSome, IsTrue, unwrap_or, codes, if◌then◌else◌}
+use Rattle.std.specs.Prelude.{IfErr, IsSome, IsTrue, unwrap_or, codes, if◌then◌else◌}
 use Rattle.std.specs.Str.{bytes_eq}
 use Rattle.sqlite.specs.Held.{state}
 use Rattle.sqlite.specs.State.{HasCleanDisk}
 use Rattle.sqlite.specs.Store.{Ghosts}
+use Rattle.kcr_forms.specs.Acts.{IsAct}
+use Rattle.kcr_forms.specs.Values.{AreValues}
 use Rattle.kcr_base.specs.Refusal.{status_of}
 use Rattle.kcr_base.specs.declared.refusal.Refusal.{Refusal}
 use Rattle.kcr_base.specs.declared.refusal.Refusal.TheVariants as Refusals
 use Rattle.kcr_history.specs.History.{History}
-use Rattle.kcr_history.specs.Machine.{IsRegister}
+use Rattle.kcr_history.specs.Machine.{IsOfMachine, IsRegister}
 use Rattle.kcr_history.specs.Refusals.{refusal_text}
 use Rattle.kcr_history.specs.declared.commands.Command.{Command}
 use Rattle.kcr_history.specs.declared.commands.Reply.{Reply}
 use Rattle.kcr_history.specs.Ceremonies.{is_ceremony}
 use Rattle.kcr_history.specs.Prints.{annotated, attendance}
 use Rattle.kcr_store.specs.Register.{Seen}
-use Rattle.kcr_store.specs.Rows.{HasNoRow}
-use Rattle.kcr_store.specs.Steps.{Steps, IsNext, IsAsked}
+use Rattle.kcr_store.specs.Rows.{HasNoRow, MayHaveNoRow}
+use Rattle.kcr_store.specs.Steps.{Steps, IsNext, IsAsked, MayRefuse}
+use Rattle.kcr_history.specs.declared.questions.Question.{Question}
 use Rattle.kcr_history.specs.declared.questions.Shown.{Shown}
 use Rattle.kcr_wire.specs.Commands.{command_of}
 use Rattle.kcr_wire.specs.Inquiries.{inquiry_of}
@@ -93,9 +96,10 @@ abbrev pub kind_of : CeremonyReport → Kind
 kind_of (Script ceremony) = Text
 kind_of (Attendance ceremony) = Csv
 
--- a register that is not broken takes the command as the machine does. A fault of the device breaks it, and then a
--- crash may have left the history with the command
+-- a register that is not broken takes the command, whose parts are values of their types, as the machine does. A fault
+-- of the device breaks it, and then a crash may have left the history with the command
 pub record Performs (A : History) (x : Command) (result : Result Reply Refusal) (after : Standing) : Type 0 where
+  pub values : IsAct x.act
   pub step : Steps A x result after.accepted
   pub breaks : IsSome after.torn ↔ (result ≡ Err Refusals.Disk)
   pub tried : IsNext A x (unwrap_or after.torn after.accepted)
@@ -159,28 +163,39 @@ IsAnswer before asked told after =
 
 -- WHATEVER THE REGISTER IS
 
--- a request that could be read is told its result, and a fault of the device alone breaks the register; of its history
--- nothing is said. A broken one says so, and stays as it was
-abbrev pub Replies : {Value : Type 0} → (Result Value Refusal → Told) → Standing → List ℕ → Told → Standing → Type 0
-Replies {Value} told_by before target told after =
+-- what a question may get, whatever the tables hold
+abbrev pub MayBeShown : Question → Result Shown Refusal → Type 0
+MayBeShown question result = IfErr result (MayRefuse question)
+
+-- what a report of a ceremony may get
+abbrev pub MayBeReported : ℕ → Result (List ℕ) Refusal → Type 0
+MayBeReported ceremony result = IfErr result (MayHaveNoRow ceremony)
+
+-- a request that could be read is told its result, one that it may get, and a fault of the device alone breaks the
+-- register; of its history nothing is said. A broken one says so, and stays as it was
+abbrev pub Replies : {Value : Type 0} → (Result Value Refusal → Told) → (Result Value Refusal → Type 0) → Standing
+    → List ℕ → Told → Standing → Type 0
+Replies {Value} told_by MayBe before target told after =
     MatchOption before.torn
-    ((result : Result Value Refusal) × (told ≡ told_by result) × (IsSome after.torn ↔ (result ≡ Err Refusals.Disk)))
+    ((result : Result Value Refusal) × (told ≡ told_by result)
+    × (MayBe result × (IsSome after.torn ↔ (result ≡ Err Refusals.Disk))))
     (λ _. IsRefused before target told after Refusals.Broken)
 
 -- a question, or a report
 abbrev pub RepliesInquiry : Standing → List ℕ → Told → Standing → Inquiry → Type 0
 RepliesInquiry before target told after (inquiry.Question question) =
-    Replies (told_shown target) before target told after
+    Replies (told_shown target) (MayBeShown question) before target told after
 RepliesInquiry before target told after (inquiry.Script ceremony) =
-    Replies (told_report Text target) before target told after
+    Replies (told_report Text target) (MayBeReported ceremony) before target told after
 RepliesInquiry before target told after (inquiry.Attendance ceremony) =
-    Replies (told_report Csv target) before target told after
+    Replies (told_report Csv target) (MayBeReported ceremony) before target told after
 
 -- a POST is a command, and all else asks for something, or is refused for its path, its method, its text or its form
 abbrev pub RepliesBy : Method → Standing → Asked → Told → Standing → Type 0
 RepliesBy Post before asked told after =
     MatchResult (command_of asked.target asked.body)
-    (λ _. Replies (told_reply asked.target) before asked.target told after) (IsRefused before asked.target told after)
+    (λ _. Replies (told_reply asked.target) (λ _. ⊤) before asked.target told after)
+    (IsRefused before asked.target told after)
 RepliesBy method before asked told after =
     MatchResult (inquiry_of method asked.target)
     (RepliesInquiry before asked.target told after) (IsRefused before asked.target told after)
@@ -193,9 +208,17 @@ IsReply before asked told after =
 
 -- REGISTERS
 
--- its history, and the one that a crash may have left in its place, are ones that the machine leads to
+-- its history, and the one that a crash may have left in its place, are those of registers
 abbrev pub AreRegisters : Standing → Type 0
 AreRegisters s = IsRegister s.accepted × IsRegister (unwrap_or s.torn s.accepted)
+
+-- the machine leads to both from the empty history
+abbrev pub AreOfMachine : Standing → Type 0
+AreOfMachine s = IsOfMachine s.accepted × IsOfMachine (unwrap_or s.torn s.accepted)
+
+-- the parts of the commands of both are values of their types
+abbrev pub AreOfValues : Standing → Type 0
+AreOfValues s = AreValues s.accepted × AreValues (unwrap_or s.torn s.accepted)
 
 -- a message is answered by a register: in any case a reply; and over a database that was empty or a register's at
 -- first, as long as its disk is clean, the answer
@@ -214,14 +237,16 @@ pub record Answered
 abbrev pub AnswersCommand : {S : Type 0} → Ghosts S → Seen S → List ℕ → Told → Seen S → Command → Type 0
 AnswersCommand g before target told after x =
     Answered g before target told after
-    (λ old new. TakesCommand old target told new x) (λ old new. Replies (told_reply target) old target told new)
+    (λ old new. TakesCommand old target told new x)
+    (λ old new. Replies (told_reply target) (λ _. ⊤) old target told new)
 
--- what only reads: what it says of the history, and how its result is told
+-- what only reads: how its result is told, what it may get, and what it says of the history
 abbrev pub AnswersReading : {S Value : Type 0} → Ghosts S → Seen S → List ℕ → Told → Seen S
-    → (Result Value Refusal → Told) → (History → Result Value Refusal → Type 0) → Type 0
-AnswersReading g before target told after told_by Says =
+    → (Result Value Refusal → Told) → (Result Value Refusal → Type 0) → (History → Result Value Refusal → Type 0)
+    → Type 0
+AnswersReading g before target told after told_by MayBe Says =
     Answered g before target told after
-    (λ old new. Reads told_by Says old target told new) (λ old new. Replies told_by old target told new)
+    (λ old new. Reads told_by Says old target told new) (λ old new. Replies told_by MayBe old target told new)
 
 -- a question, or a report
 abbrev pub AnswersInquiry : {S : Type 0} → Ghosts S → Seen S → List ℕ → Told → Seen S → Inquiry → Type 0

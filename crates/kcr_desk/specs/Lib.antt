@@ -11,3 +11,4 @@ pub mod Told
 pub mod Waiting
 pub mod Turn
 pub mod Answers
+pub mod Connections

@@ -12,13 +12,14 @@ ghost use Rattle.kcr_base.specs.declared.refusal.Refusal.TheVariants as Refusals
 ghost use Rattle.kcr_desk.specs.Answers.{Answers, AnswersAs, Answered, AnswersCommand, AnswersReading, AnswersInquiry};
 ghost use Rattle.kcr_desk.specs.Answers.{IsReported, method_of, told_text, told_refusal, told_shown, told_report};
 ghost use Rattle.kcr_desk.specs.Answers.{allowed, IsRefused, TakesInquiry, RepliesInquiry, TellsOrMemory, refusal_of};
-ghost use Rattle.kcr_desk.specs.Answers.{kind_of, outcome_of};
+ghost use Rattle.kcr_desk.specs.Answers.{kind_of, outcome_of, MayBeReported, MayBeShown};
 ghost use Rattle.kcr_desk.specs.Told.{told};
 
 use crate::reply::{Body, Heading, Kind, Response, refusal_heading};
 use crate::responder::{Asked, Responder};
 use http::StatusCode;
 use kcr_base::{Counted, Refusal, Text};
+use kcr_forms::laws::acts_are_values;
 use kcr_history::{Command, Question, fixed_text};
 use kcr_print::{CeremonyReport, PrintFault, ceremony_report};
 use kcr_store::Register;
@@ -112,6 +113,7 @@ fn take_command<S: Alter>(
 ) -> Response
     ensures { AnswersCommand S.Store register.old target.now (told result) register.new command.now }
 {
+    acts_are_values(&command.act);
     match register.apply(command) {
         Ok(reply) => text_reply(reply.text),
         Err(refusal) => refused_reply(alloc, paths, target, &refusal),
@@ -127,7 +129,7 @@ fn take_question<S: Alter>(
     question: &Question,
 ) -> Response
     ensures { AnswersReading S.Store register.old target.now (told result) register.new
-        (told_shown target.now) (λ A shown. IsAsked A question.now shown) }
+        (told_shown target.now) (MayBeShown question.now) (λ A shown. IsAsked A question.now shown) }
 {
     match register.look(question) {
         Ok(shown) => {
@@ -195,7 +197,8 @@ fn take_report<S: Alter>(
     report: CeremonyReport,
 ) -> Response
     ensures { AnswersReading S.Store register.old target.now (told result) register.new
-        (told_report (kind_of report) target.now) (IsReported (text_of report) (ceremony_of report)) }
+        (told_report (kind_of report) target.now) (MayBeReported (ceremony_of report))
+        (IsReported (text_of report) (ceremony_of report)) }
 {
     let kind = kind_of(&report);
     let mut page = Counted::new(Vec::new(alloc));

@@ -6,7 +6,8 @@ ghost use Rattle.kcr_base.specs.Counted.{inner_of, failures_of, gifts_of};
 ghost use Rattle.kcr_base.specs.declared.refusal.Refusal.{Refusal};
 ghost use Rattle.kcr_history.specs.Refusals.{carries, refusal_text};
 ghost use Rattle.kcr_store.specs.Register.{IsKept};
-ghost use Rattle.kcr_desk.specs.Answers.{Standing, IsAnswer, IsReply, AreRegisters, standing};
+ghost use Rattle.kcr_desk.specs.Answers.{Standing, IsAnswer, IsReply, standing};
+ghost use Rattle.kcr_desk.specs.Answers.{AreRegisters, AreOfMachine, AreOfValues};
 ghost use Rattle.kcr_desk.specs.Run.{IsServed, IsBroken};
 ghost use Rattle.kcr_desk.specs.Texts.{plain_text};
 
@@ -72,10 +73,21 @@ pub fn one_text_of_a_refusal()
 {}
 
 /// Every stream leads from registers to registers, whether it was served whole or in part. So what holds of every
-/// register holds of the history that a stream leaves, and of the one that a crash may leave in its place.
+/// register holds of the history that a stream leaves, and of the one that a crash may leave in its place. Where the
+/// machine leads to the histories before, it leads to those after; and where the parts of their commands are values of
+/// their types, so are those of the commands after. So of the tables that a stream leaves of a new register a
+/// verification says that nothing differs.
 pub fn streams_keep_registers()
     ensures served { (input old new : Option (List ℕ)) (before after : Standing) (count : ℕ) → AreRegisters before →
         IsServed IsAnswer input old new before after count → AreRegisters after }
     ensures broken { (input old new : Option (List ℕ)) (before after : Standing) → AreRegisters before →
         IsBroken IsAnswer input old new before after → AreRegisters after }
+    ensures led { (input old new : Option (List ℕ)) (before after : Standing) (count : ℕ) → AreOfMachine before →
+        IsServed IsAnswer input old new before after count → AreOfMachine after }
+    ensures led_in_part { (input old new : Option (List ℕ)) (before after : Standing) → AreOfMachine before →
+        IsBroken IsAnswer input old new before after → AreOfMachine after }
+    ensures values { (input old new : Option (List ℕ)) (before after : Standing) (count : ℕ) → AreOfValues before →
+        IsServed IsAnswer input old new before after count → AreOfValues after }
+    ensures values_in_part { (input old new : Option (List ℕ)) (before after : Standing) → AreOfValues before →
+        IsBroken IsAnswer input old new before after → AreOfValues after }
 {}

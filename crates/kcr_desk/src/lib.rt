@@ -5,6 +5,7 @@
 #![tactic(auto)]
 
 mod answer;
+pub mod connection;
 pub mod desk;
 pub mod fault;
 pub mod head;
@@ -16,6 +17,7 @@ pub mod reply;
 mod responder;
 pub mod stream;
 
+pub use connection::{Ended, connections_keep_registers, one};
 pub use desk::{one_text_of_a_refusal, serve, streams_keep_registers};
 pub use fault::DeskFault;
 pub use stream::{Served, broken_begins_output, one_cut};

@@ -2,3 +2,4 @@ pub mod Forms
 pub mod Acts
 pub mod Cuts
 pub mod Told
+pub mod Values

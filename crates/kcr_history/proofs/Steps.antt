@@ -6,12 +6,14 @@ use Rattle.kcr_base.proofs.RefuseLemmas.{none_holds}
 use Rattle.kcr_custody.specs.Custody.{not_ready}
 use Rattle.kcr_history.specs.declared.commands.Act.{Act}
 use Rattle.kcr_history.specs.declared.commands.Answer.{Answer}
+use Rattle.kcr_history.specs.declared.commands.Command.{Command}
 use Rattle.kcr_history.specs.declared.commands.Entry.{Entry}
 use Rattle.kcr_history.specs.History.{History, entry_of}
 use Rattle.kcr_history.specs.Conditions.{fault, not_open, late, full, scene_at}
 use Rattle.kcr_history.specs.Tables.{keys}
 use Rattle.kcr_history.specs.Views.{greatest_number}
-use Rattle.kcr_history.specs.Machine.{Accepts, Sitting, sitting, answer_to, acts, repeats, seats, accepts, machine, IsRegister}
+use Rattle.kcr_history.specs.Machine.{Accepts, Sitting, sitting, answer_to, with_command, acts, repeats, seats, accepts, machine}
+use Rattle.kcr_history.specs.Machine.{IsOfMachine, IsAnswerTo, CanFollow, IsRegister}
 
 -- the key was new, no condition held, and the answer is the machine's, with the people who were seated where seats were needed
 pub record Took (A : History) (entry : Entry) : Type 0 where
@@ -24,37 +26,56 @@ pub record Took (A : History) (entry : Entry) : Type 0 where
 pub none_ready : (A : History) (c at : ℕ) → not_ready (scene_at A c at) ≡ None → NoneHolds (not_open A c ∷ late A c at ∷ full A ∷ [])
 none_ready A c at = none_holds (not_open A c ∷ late A c at ∷ full A ∷ [])
 
+-- WHAT A REGISTER'S ENTRY TELLS
+
+abbrev Told : History → Entry → Type 0
+Told A entry = (people : Option (List (List ℕ))) × (entry.answer ≡ answer_to A entry.command.act people)
+
+told_by : (A : History) (entry : Entry) (o : Option Sitting) → IsAnswerTo A entry.command.act entry.answer o → Told A entry
+told_by A entry None h = (None, h)
+told_by A entry (Some s) h = (Some h.0, h.2)
+
+pub took : (A : History) (entry : Entry) → CanFollow A entry → Took A entry
+took A entry h =
+    let t = told_by A entry (sitting A entry.command.act) h.answered in
+    record { new_key = h.new_key; no_fault = h.no_fault; people = t.0; answer = t.1 }
+
+-- WHAT THE MACHINE ACCEPTS CAN FOLLOW
+
 longer : {X : Type 0} (x : X) (xs : List X) → x ∷ xs ≡ xs → ⊥
 longer x xs e = omega (arith, ap length e)
 
 told : (a b : Answer) → Accepts a ≡ Accepts b → a ≡ b
 told a b e = cc
 
-abbrev Told : History → Entry → Type 0
-Told A entry = (people : Option (List (List ℕ))) × (entry.answer ≡ answer_to A entry.command.act people)
+module _ (A : History) (x : Command) (answer : Answer) where
+  abbrev A' : History
+  A' = with_command A x answer
 
-took_seats : (A : History) (entry : Entry) (s : Sitting) → seats A entry.command s (Accepts entry.answer) (entry ∷ A) → Told A entry
-took_seats A entry s (inl (people, first, a)) = (Some people, told _ _ a.0)
-took_seats A entry s (inr (positions, least, r)) = absurd (longer entry A r.1)
+  by_sitting : (o : Option Sitting) → MatchOption o (accepts A x (answer_to A x.act None) (Accepts answer) A') (λ s. seats A x s (Accepts answer) A')
+      → IsAnswerTo A x.act answer o
+  by_sitting None h = told _ _ h.0
+  by_sitting (Some s) (inl w) = (w.0, w.1.seating, told _ _ w.2.0)
+  by_sitting (Some s) (inr w) = absurd (longer _ A w.2.1)
 
-took_none : (A : History) (entry : Entry) (o : Option Sitting)
-    → MatchOption o (accepts A entry.command (answer_to A entry.command.act None) (Accepts entry.answer) (entry ∷ A))
-    (λ s. seats A entry.command s (Accepts entry.answer) (entry ∷ A))
-    → Told A entry
-took_none A entry None h = (None, told _ _ h.0)
-took_none A entry (Some s) h = took_seats A entry s h
+  by_key : (k : Option Entry) (f : Option Refusal)
+      → MatchOption k (acts A x f (Accepts answer) A') (λ kept. repeats A x kept (Accepts answer) A')
+      → (k ≡ None) × (f ≡ None) × IsAnswerTo A x.act answer (sitting A x.act)
+  by_key (Some kept) f h = absurd (longer _ A h.1)
+  by_key None (Some refusal) h = absurd (longer _ A h.1)
+  by_key None None h = (refl, refl, by_sitting (sitting A x.act) h)
 
-took_by : (A : History) (entry : Entry) (k : Option Entry) (f : Option Refusal)
-    → MatchOption k (acts A entry.command f (Accepts entry.answer) (entry ∷ A)) (λ kept. repeats A entry.command kept (Accepts entry.answer) (entry ∷ A))
-    → (k ≡ None) × (f ≡ None) × Told A entry
-took_by A entry (Some kept) f h = absurd (longer entry A h.1)
-took_by A entry None (Some refusal) h = absurd (longer entry A h.1)
-took_by A entry None None h = (refl, refl, took_none A entry (sitting A entry.command.act) h)
+  pub follows : machine A x (Accepts answer) A' → CanFollow A (record { command = x; answer = answer })
+  follows h =
+      let k = by_key (entry_of A x.key) (fault A x.act) h in
+      record { new_key = k.0; no_fault = k.1; answered = k.2 }
 
-pub took : (A : History) (entry : Entry) → machine A entry.command (Accepts entry.answer) (entry ∷ A) → Took A entry
-took A entry h =
-    let t = took_by A entry (entry_of A entry.command.key) (fault A entry.command.act) h in
-    record { new_key = t.0; no_fault = t.1; people = t.2.0; answer = t.2.1 }
+-- a history that the machine leads to is a register's
+pub of_machine : (A : History) → IsOfMachine A → IsRegister A
+of_machine [] h = tt
+of_machine (entry ∷ A) h = (follows A entry.command entry.answer h.0, of_machine A h.1)
+
+-- NUMBERS
 
 -- each answer has its number
 pub number_of_answer : (A : History) (act : Act) (people : Option (List (List ℕ))) → (answer_to A act people).accepted ≡ length A + 1

@@ -1,4 +1,4 @@
--- What holds of every history that the machine leads to.
+-- What holds of every register.
 use Rattle.std.specs.Prelude.{ℕ, Bool, true, false, ◌&&◌, List, [], ◌∷◌, map, Option, Some, None, is_some, ◌↔◌, IsTrue}
 use Rattle.std.specs.List.{list_any, list_all}
 use Rattle.kcr_base.specs.Same.{same_text}
@@ -16,7 +16,7 @@ use Rattle.kcr_history.specs.History.{History, all_said}
 use Rattle.kcr_history.specs.Ceremonies.{facility_of}
 use Rattle.kcr_history.specs.Room.{sheet}
 use Rattle.kcr_history.specs.Custody.{spot, rest, place_of_box}
-use Rattle.kcr_history.specs.Seating.{is_seating}
+use Rattle.kcr_history.specs.Seating.{is_seating, IsFirst}
 use Rattle.kcr_history.specs.Tables.{sealed_serial, added_item}
 use Rattle.kcr_history.specs.Machine.{Sitting, sitting}
 
@@ -42,6 +42,20 @@ are_seated A = list_all (λ entry. is_seated A (sitting A entry.command.act) ent
 pub record IsSound (A : History) : Type 0 where
   pub seated : IsTrue (are_seated A)
   pub rooms : (ceremony t : ℕ) → IsAllowed (crowd_by (sheet A) ceremony t)
+
+-- FIRST SEATINGS
+
+-- the recorded people are the first seating by A; a command that needs no seats has nothing to show
+abbrev pub IsSeatedFirst : History → Option Sitting → Option (List (List ℕ)) → Type 0
+IsSeatedFirst A None people = Unit {0}
+IsSeatedFirst A (Some s) None = ⊥
+IsSeatedFirst A (Some s) (Some people) = IsFirst A s.ceremony s.at s.seats people
+
+-- every recorded seating is the first one by the history before it
+abbrev pub HasFirstSeatings : History → Type 0
+HasFirstSeatings [] = Unit {0}
+HasFirstSeatings (entry ∷ A) =
+    IsSeatedFirst A (sitting A entry.command.act) entry.answer.seating × HasFirstSeatings A
 
 -- BALANCED
 

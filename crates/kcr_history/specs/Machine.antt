@@ -1,6 +1,6 @@
 -- What the register answers to a command, and what its history is afterwards.
 use Rattle.std.specs.Prelude.{◌≡◌, ◌≢◌, ℕ, suc, ◌+◌, true, false, List, [], ◌∷◌, map, length, Option, Some, None}
-use Rattle.std.specs.Prelude.{MatchOption, MatchResult, Result, ◌⊎◌, if◌then◌else◌}
+use Rattle.std.specs.Prelude.{MatchOption, MatchResult, Result, ◌⊎◌, if◌then◌else◌, IsTrue}
 use Rattle.kcr_base.specs.declared.place.Role.TheVariants.{Ca, Iw}
 use Rattle.kcr_base.specs.declared.refusal.Refusal.{Refusal}
 use Rattle.kcr_base.specs.declared.refusal.Refusal.TheVariants.{Key, Short, Memory}
@@ -14,7 +14,7 @@ use Rattle.kcr_history.specs.declared.commands.Entry.{Entry}
 use Rattle.kcr_history.specs.declared.views.Verdict.{Verdict}
 use Rattle.kcr_history.specs.History.{History, entry_of}
 use Rattle.kcr_history.specs.Ceremonies.{steps_of, next_step, exceptions_of}
-use Rattle.kcr_history.specs.Seating.{IsFirst, IsLeast}
+use Rattle.kcr_history.specs.Seating.{is_seating, IsFirst, IsLeast}
 use Rattle.kcr_history.specs.Texts.{same_command, answer_text}
 use Rattle.kcr_history.specs.Tables.{tables, seats_at, SameTables}
 use Rattle.kcr_history.specs.Changes.{changed_by}
@@ -100,9 +100,30 @@ machine A x outcome A' =
     MatchOption (entry_of A x.key) (acts A x (fault A x.act) outcome A') (λ kept. repeats A x kept outcome A')
 
 -- a history that the machine leads to from the empty one
+abbrev pub IsOfMachine : History → Type 0
+IsOfMachine [] = Unit {0}
+IsOfMachine (entry ∷ A) = machine A entry.command (Accepts entry.answer) (entry ∷ A) × IsOfMachine A
+
+-- REGISTERS
+
+-- the answer is that of the act where it is accepted; where it needs seats, with some people who fill them
+abbrev pub IsAnswerTo : History → Act → Answer → Option Sitting → Type 0
+IsAnswerTo A act answer None = answer ≡ answer_to A act None
+IsAnswerTo A act answer (Some s) =
+    (people : List (List ℕ)) × IsTrue (is_seating A s.ceremony s.at s.seats people)
+    × (answer ≡ answer_to A act (Some people))
+
+-- the entry can come next: its key is new, nothing refuses its command, and its answer is one of that command, whether
+-- or not the seating in it is the first one
+pub record CanFollow (A : History) (entry : Entry) : Type 0 where
+  pub new_key : entry_of A entry.command.key ≡ None
+  pub no_fault : fault A entry.command.act ≡ None
+  pub answered : IsAnswerTo A entry.command.act entry.answer (sitting A entry.command.act)
+
+-- a register's history: each entry can follow those before it
 abbrev pub IsRegister : History → Type 0
 IsRegister [] = Unit {0}
-IsRegister (entry ∷ A) = machine A entry.command (Accepts entry.answer) (entry ∷ A) × IsRegister A
+IsRegister (entry ∷ A) = CanFollow A entry × IsRegister A
 
 -- DECISIONS
 

@@ -24,9 +24,9 @@ use Rattle.kcr_history.specs.Ceremonies.{facility_of}
 use Rattle.kcr_history.specs.Custody.{moved, spot, sealed_in, added_at, rest_in, rest, boxed, place_of_box}
 use Rattle.kcr_history.specs.Tables.{sealed_serial, added_item}
 use Rattle.kcr_history.specs.Conditions.{fault}
-use Rattle.kcr_history.specs.Machine.{IsRegister}
+use Rattle.kcr_history.specs.Machine.{CanFollow, IsRegister}
 use Rattle.kcr_history.specs.Laws.{is_added, is_kept, has_its_box, is_in_place, were_in_place, IsBalanced}
-use Rattle.kcr_laws.proofs.Accepted.{IsAccepted, one, each_history, each_register}
+use Rattle.kcr_laws.proofs.Accepted.{one, each_history, each_register}
 use Rattle.kcr_laws.proofs.Stored.{sealed_somewhere, items_known}
 
 -- BAGS
@@ -35,7 +35,7 @@ use Rattle.kcr_laws.proofs.Stored.{sealed_somewhere, items_known}
 sealed_is : (A : History) → IsRegister A → (serial : List ℕ) → list_any (same_text serial) (all_said sealed_serial A) ≡ is_some (spot A serial)
 sealed_is A r serial = any-same (same_text serial) (λ k. same_text k serial) (all_said sealed_serial A) (same-turned serial) ∙ sealed_somewhere A r serial
 
-sealed_after : (A : History) (key : List ℕ) (act : Act) (answer : Answer) → IsRegister A → IsAccepted A (one key act answer)
+sealed_after : (A : History) (key : List ℕ) (act : Act) (answer : Answer) → IsRegister A → CanFollow A (one key act answer)
     → all_differ (all_said sealed_serial A) ≡ true → all_differ (all_said sealed_serial (one key act answer ∷ A)) ≡ true
 sealed_after A key (Seal c s items at) answer r a ih =
     let f : fault A (Seal c s items at) ≡ None = a.no_fault in
@@ -71,7 +71,7 @@ rest_added : (A : History) (item : List ℕ) → (is_some (sealed A item) ≡ tr
 rest_added A item g h = grind (arith, g, has_rest A item, added_is A item)
 
 -- an item that was sealed was added
-sealed_added_after : (A : History) (key : List ℕ) (act : Act) (answer : Answer) (item : List ℕ) → IsAccepted A (one key act answer)
+sealed_added_after : (A : History) (key : List ℕ) (act : Act) (answer : Answer) (item : List ℕ) → CanFollow A (one key act answer)
     → (is_some (sealed A item) ≡ true → is_added A item ≡ true)
     → is_some (sealed (one key act answer ∷ A) item) ≡ true → is_added (one key act answer ∷ A) item ≡ true
 sealed_added_after A key (AddItem c i at) answer item a ih h = or_right (same_text item i) (is_added A item) (ih h)
@@ -86,7 +86,7 @@ sealed_added A h item =
     each_register (λ B. is_some (sealed B item) ≡ true → is_added B item ≡ true) (λ s. absurd (false≢true s))
     (λ B key act answer r. sealed_added_after B key act answer item) A h
 
-added_after : (A : History) (key : List ℕ) (act : Act) (answer : Answer) → IsRegister A → IsAccepted A (one key act answer)
+added_after : (A : History) (key : List ℕ) (act : Act) (answer : Answer) → IsRegister A → CanFollow A (one key act answer)
     → all_differ (all_said added_item A) ≡ true → all_differ (all_said added_item (one key act answer ∷ A)) ≡ true
 added_after A key (AddItem c i at) answer r a ih =
     let f : fault A (AddItem c i at) ≡ None = a.no_fault in

@@ -9,6 +9,7 @@ pub mod Stored
 pub mod Rooms
 pub mod Alone
 pub mod Seated
+pub mod Seatings
 pub mod Balance
 pub mod Halves
 pub mod Fixed

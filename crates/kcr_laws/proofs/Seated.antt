@@ -30,9 +30,9 @@ use Rattle.kcr_history.specs.Room.{sheet, is_in}
 use Rattle.kcr_history.specs.Seating.{fits, eligible, is_seating, one_to_seven}
 use Rattle.kcr_history.specs.Tables.{seats_at}
 use Rattle.kcr_history.specs.Conditions.{fault}
-use Rattle.kcr_history.specs.Machine.{sitting, IsRegister}
+use Rattle.kcr_history.specs.Machine.{sitting, IsAnswerTo, IsRegister}
 use Rattle.kcr_history.specs.Laws.{is_seated, are_seated}
-use Rattle.kcr_laws.proofs.Accepted.{IsAnswerTo, accepted, one, each_history}
+use Rattle.kcr_laws.proofs.Accepted.{one, each_history}
 use Rattle.kcr_laws.proofs.Stays.{trained_stays, holder_stays}
 use Rattle.kcr_laws.proofs.Rooms.{in_before, in_other}
 use Rattle.kcr_laws.proofs.Alone.{turns}
@@ -248,10 +248,10 @@ new_seated : (A : History) (key : List ℕ) (act : Act) (answer : Answer) → Is
     → is_seated (one key act answer ∷ A) (sitting (one key act answer ∷ A) act) answer.seating ≡ true
 new_seated A key (Sign c k at) answer w =
     let B = one key (Sign c k at) answer ∷ A in
-    rw w.2 (seating_mono A B c at (eligible_mono A B c at (λ who. refl) refl (λ who role h. h) (λ place. refl)) (seats_at (steps_of A c) k) w.0 w.1.seating)
+    rw w.2 (seating_mono A B c at (eligible_mono A B c at (λ who. refl) refl (λ who role h. h) (λ place. refl)) (seats_at (steps_of A c) k) w.0 w.1)
 new_seated A key (Except c text true at) answer w =
     let B = one key (Except c text true at) answer ∷ A in
-    rw w.2 (seating_mono A B c at (eligible_mono A B c at (λ who. refl) refl (λ who role h. h) (λ place. refl)) (Staff Ca ∷ Staff Iw ∷ []) w.0 w.1.seating)
+    rw w.2 (seating_mono A B c at (eligible_mono A B c at (λ who. refl) refl (λ who role h. h) (λ place. refl)) (Staff Ca ∷ Staff Iw ∷ []) w.0 w.1)
 new_seated A key (Except c text false at) answer w = refl
 new_seated A key act answer w = refl
 
@@ -277,11 +277,10 @@ seated_still A entry (old ∷ entries) f p h =
 pub all_pasts : (A : History) → IsRegister A → all_past A A ≡ true
 all_pasts [] h = refl
 all_pasts (entry ∷ A) h =
-    and_from (is_past_if (entry ∷ A) (marked entry.command.act)) _ (now_past A entry (accepted A entry h.0).no_fault) (past_still A entry A (all_pasts A h.1))
+    and_from (is_past_if (entry ∷ A) (marked entry.command.act)) _ (now_past A entry h.0.no_fault) (past_still A entry A (all_pasts A h.1))
 
 pub seated : (A : History) → IsRegister A → are_seated A ≡ true
 seated [] h = refl
 seated (entry ∷ A) h =
-    let a = accepted A entry h.0 in
     and_from (is_seated (entry ∷ A) (sitting (entry ∷ A) entry.command.act) entry.answer.seating) _
-    (new_seated A entry.command.key entry.command.act entry.answer a.answered) (seated_still A entry A a.no_fault (all_pasts A h.1) (seated A h.1))
+    (new_seated A entry.command.key entry.command.act entry.answer h.0.answered) (seated_still A entry A h.0.no_fault (all_pasts A h.1) (seated A h.1))

@@ -1,4 +1,4 @@
-//! What holds of every history that the machine leads to: functions that do nothing, whose contracts say it.
+//! What holds of every register: functions that do nothing, whose contracts say it.
 ghost use Rattle.std.specs.Prelude.{◌≡◌, ◌∷◌, ◌++◌, ◌==◌, map, option_map, ℕ, suc, ◌<◌, ◌≤◌, nat_lt, Bool, true, List};
 ghost use Rattle.std.specs.Prelude.{length, Option, Some, None, IsTrue, ◌⊎◌, ◌↔◌};
 ghost use Rattle.kcr_base.specs.declared.place.Place.{Place};
@@ -25,8 +25,8 @@ ghost use Rattle.kcr_history.specs.Room.{sheet, sheet_after};
 ghost use Rattle.kcr_history.specs.Tables.{trainings, withdrawals, appointments, seats_at};
 ghost use Rattle.kcr_history.specs.Conditions.{fault, crowded, lone};
 ghost use Rattle.kcr_history.specs.Texts.{same_command};
-ghost use Rattle.kcr_history.specs.Machine.{Outcome, Accepts, Refuses, machine, IsRegister};
-ghost use Rattle.kcr_history.specs.Laws.{IsOnce, IsSound, IsBalanced};
+ghost use Rattle.kcr_history.specs.Machine.{Outcome, Accepts, Refuses, machine, IsOfMachine, IsRegister};
+ghost use Rattle.kcr_history.specs.Laws.{HasFirstSeatings, IsOnce, IsSound, IsBalanced};
 ghost use Rattle.kcr_laws.specs.Conditions.{signature, IsAccepted, CanFill, IsShortOf, IsEverCrowded, IsFirstAlone};
 ghost use Rattle.kcr_laws.specs.Conditions.{IsNeverAlone, IsHeldFrom, HoldsFrom, IsTrainedFrom, BeginsFrom, held_since};
 ghost use Rattle.kcr_laws.specs.Examples.{AreAnswered};
@@ -52,6 +52,12 @@ pub fn steps_keep_registers()
         → machine A x outcome A' → IsRegister A' }
     ensures many { (A A' : History) (said : List (Act × List ℕ)) → IsRegister A → AreAnswered A said A'
         → IsRegister A' }
+{}
+
+/// The machine leads to exactly those registers whose recorded seatings are the first ones. In any other register each
+/// recorded seating is one, if not the first.
+pub fn machine_leads_to_first_seatings()
+    ensures { (A : History) → IsOfMachine A ↔ (IsRegister A × HasFirstSeatings A) }
 {}
 
 /// What the machine answers is fixed, apart from which of several least shortages it names: a command is accepted with

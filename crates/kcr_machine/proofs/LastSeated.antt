@@ -21,14 +21,14 @@ use Rattle.kcr_history.specs.declared.views.View.{View}
 use Rattle.kcr_history.specs.History.{History, stacked_on}
 use Rattle.kcr_history.specs.Ceremonies.{Planned, planned_as, plan_of, steps_of, step_at, does_step, steps_done, next_step}
 use Rattle.kcr_history.specs.Conditions.{fault}
-use Rattle.kcr_history.specs.Machine.{IsRegister, sitting}
+use Rattle.kcr_history.specs.Machine.{IsRegister, IsAnswerTo, CanFollow, sitting}
 use Rattle.kcr_history.specs.Seating.{is_seating}
 use Rattle.kcr_history.specs.Tables.{steps, seatings, seat_rows, seating_rows, seats_at, ceremony_of_step}
 use Rattle.kcr_history.specs.Views.{ShowsSteps, is_seating_of, is_step_at, last_seated}
 use Rattle.kcr_history.proofs.Piled.{filter-stacked}
 use Rattle.kcr_history.proofs.Tops.{top, top-more}
 use Rattle.kcr_rules.specs.Signing.{staff}
-use Rattle.kcr_laws.proofs.Accepted.{IsAnswerTo, IsAccepted, one, each_register}
+use Rattle.kcr_laws.proofs.Accepted.{one, each_register}
 use Rattle.kcr_laws.proofs.Done.{one_more, next_signed, done-after}
 use Rattle.kcr_machine.proofs.StepRows.{any_step-shown, done-below, few-steps, sign-there}
 
@@ -116,14 +116,14 @@ next-of A d c k e q = e ∙ ap (λ z. suc (steps_done A z)) (eqb-true d c q)
 by_act : (A : History) (act : Act) (answer : Answer) (c : ℕ) → fault A act ≡ None
     → IsAnswerTo A act answer (sitting A act) → last_seated (seatings A) c ≡ steps_done A c
     → last_seated (stacked_on (seating_rows (ceremony_of_step act) answer.step answer.seating) (seatings A)) c ≡ one_more (does_step c act) (steps_done A c)
-by_act A (Sign d k at) answer c f (people, first, e) ih =
+by_act A (Sign d k at) answer c f (people, seated, e) ih =
     rw e (seated-after c d k (steps_done A c) (d == c) people (seatings A) refl
-    (some_people A d at (seats_at (steps_of A d) k) people first.seating (some_seats (steps_of A d) k (each_form A d) (sign-there A d k at f)))
+    (some_people A d at (seats_at (steps_of A d) k) people seated (some_seats (steps_of A d) k (each_form A d) (sign-there A d k at f)))
     (next-of A d c k (next_signed A d k at f)) ih)
-by_act A (Except d text true at) answer c f (people, first, e) ih =
+by_act A (Except d text true at) answer c f (people, seated, e) ih =
     let two : 1 ≤ length staff = omega arith in
     rw e (seated-after c d (next_step A d) (steps_done A c) (does_step c (Except d text true at)) people (seatings A) (grind arith)
-    (some_people A d at staff people first.seating two) (next-of A d c (next_step A d) refl) ih)
+    (some_people A d at staff people seated two) (next-of A d c (next_step A d) refl) ih)
 by_act A (Except d text false at) answer c f e ih = rw e (ih ∙ grind arith)
 by_act A act answer c f e ih = ih
 
@@ -131,7 +131,7 @@ by_act A act answer c f e ih = ih
 pub last-seated : (A : History) → IsRegister A → (c : ℕ) → last_seated (seatings A) c ≡ steps_done A c
 last-seated A h c = each_register (λ A. last_seated (seatings A) c ≡ steps_done A c) refl step A h
   where
-    step : (A : History) (key : List ℕ) (act : Act) (answer : Answer) → IsRegister A → IsAccepted A (one key act answer)
+    step : (A : History) (key : List ℕ) (act : Act) (answer : Answer) → IsRegister A → CanFollow A (one key act answer)
         → last_seated (seatings A) c ≡ steps_done A c → last_seated (seatings (one key act answer ∷ A)) c ≡ steps_done (one key act answer ∷ A) c
     step A key act answer h a ih =
         by_act A act answer c a.no_fault a.answered ih

@@ -27,10 +27,6 @@ old_holds version A db s = record { schema = s.schema; kept = s.tables.kept }
 
 -- ---- what is put leaves the number of the version
 
-pub all_number : (from : Older) (t : Tables) → (with_bare_tables from t).versions ≡ t.versions
-all_number First t = refl
-all_number Second t = refl
-
 pub same_number : (from : Older) (t : Tables) → (with_own_stays from (with_bare_tables from t)).versions ≡ t.versions
 same_number First t = refl
 same_number Second t = refl

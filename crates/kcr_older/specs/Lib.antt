@@ -1,5 +1,6 @@
 pub mod Older
 pub mod Standing
+pub mod Plain
 pub mod Versions
 pub mod Growth
 pub mod Filled

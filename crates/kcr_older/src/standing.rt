@@ -1,98 +1,77 @@
-//! What a database is, told by the names of its tables and of their columns.
+//! What a database is, told by its schema.
 
-ghost use Rattle.std.specs.Prelude.{◌≡◌, ◌↔◌, false, IsTrue, IfOk, IfErr, OnOk, map};
-ghost use Rattle.std.specs.List.{list_any};
+ghost use Rattle.std.specs.Prelude.{◌≡◌, false, IfOk, IfErr, OnOk, is_some};
 ghost use Rattle.sqlite.specs.Held.{state};
 ghost use Rattle.sqlite.specs.State.{HasCleanDisk};
 ghost use Rattle.sqlite.specs.Steps.{over_memory};
 ghost use Rattle.kcr_rows.specs.Refusals.{IsFault};
-ghost use Rattle.kcr_tables.specs.Schema.{all_tables, register_schema};
-ghost use Rattle.kcr_older.specs.Standing.{outline, is_number_in, no_schema, StandsAs};
+ghost use Rattle.kcr_tables.specs.Schema.{register_schema};
+ghost use Rattle.kcr_older.specs.Standing as spec;
+ghost use Rattle.kcr_older.specs.Standing.{numbered_table, no_schema, StandsAs};
 
+use crate::schemas::is_made_of;
 use kcr_base::Refusal;
 use kcr_tables::make;
 use sqlite::{Alter, Connection, Error, ErrorCode, MemStore};
-use sqlite_schema::schema::{Column, Schema, Table};
+use sqlite_schema::schema::{Column, Schema};
 use std::alloc::Global;
 
-/// What a database is.
+/// What a database is by its schema.
 #[derive(Clone, Copy, Drop)]
 pub enum Standing {
     /// It has nothing.
     Empty,
-    /// It looks like a register of this version, which is 3.
+    /// The schema of a register of this version, which is 3.
     Current,
-    /// It looks like a register of version 2, which has no withdrawals.
+    /// That of version 2, which has no withdrawals.
     Second,
-    /// It looks like a register of version 1, which has no stays either.
+    /// That of version 1, which has no stays either.
     First,
-    /// It looks like none of these, and has a table `versions` of the one column `number`.
+    /// None of these, with a table `versions` of the one column `number`.
     Numbered,
-    /// It is something else.
+    /// Something else.
     Foreign,
 }
 
-/// Whether the columns have the same names, one by one.
-fn are_named_alike(columns: &[Column], others: &[Column]) -> bool
-    ensures { IsTrue result ↔ (map (λ c. c.name) columns.now ≡ map (λ c. c.name) others.now) }
+/// Whether there is a table `versions` with the one column `number`.
+fn has_number(schema: &Schema) -> bool
+    ensures { result ≡ is_some (numbered_table schema.now) }
 {
-    match (columns.split_first(), others.split_first()) {
-        (None, None) => true,
-        (Some((column, columns)), Some((other, others))) => {
-            column.name.as_slice() == other.name.as_slice() && are_named_alike(columns, others)
-        }
+    let Some(at) = schema.table_named(b"versions") else {
+        return false;
+    };
+    match schema.tables.get(at) {
+        Some(table) => is_number(table.columns.as_slice()),
+        None => false,
+    }
+}
+
+/// Whether this is the one column `number`.
+fn is_number(columns: &[Column]) -> bool
+    ensures { result ≡ spec.is_number columns.now }
+{
+    match columns {
+        [column] => column.name.as_slice() == b"number".as_slice(),
         _ => false,
     }
 }
 
-/// Whether the tables have the same names, and so have their columns, one by one.
-fn are_alike(tables: &[Table], others: &[Table]) -> bool
-    ensures { IsTrue result ↔ (map outline tables.now ≡ map outline others.now) }
-{
-    match (tables.split_first(), others.split_first()) {
-        (None, None) => true,
-        (Some((table, tables)), Some((other, others))) => {
-            table.name.as_slice() == other.name.as_slice()
-                && are_named_alike(table.columns.as_slice(), other.columns.as_slice())
-                && are_alike(tables, others)
-        }
-        _ => false,
-    }
-}
-
-/// Whether the table is `versions`, with the one column `number`.
-fn is_number(table: &Table) -> bool
-    ensures { result ≡ is_number_in table.now.name table.now.columns }
-{
-    match table.columns.as_slice() {
-        [column] => {
-            table.is_named(b"versions") && column.name.as_slice() == b"number".as_slice()
-        }
-        _ => false,
-    }
-}
-
-fn is_any_number(tables: &[Table]) -> bool
-    ensures { result ≡ list_any (λ table. is_number_in table.name table.columns) tables.now }
-{
-    tables.iter().any(is_number)
-}
-
-/// What a database with this schema is, where `all` are the tables of this version.
-fn compare(schema: &Schema, all: &[Table]) -> Standing
-    requires { all.now ≡ all_tables }
+/// What a database with this schema is, where `all` is the schema of this version.
+fn compare(schema: &Schema, all: &Schema) -> Standing
+    requires { all.now ≡ register_schema }
     ensures { StandsAs schema.now result }
 {
-    let tables = schema.tables.as_slice();
-    if tables.is_empty() && schema.indexes.is_empty() && schema.views.is_empty() {
+    let tables = all.tables.as_slice();
+    let indexes = all.indexes.as_slice();
+    if schema.tables.is_empty() && schema.indexes.is_empty() && schema.views.is_empty() {
         Standing::Empty
-    } else if are_alike(tables, all) {
+    } else if is_made_of(schema, tables, indexes) {
         Standing::Current
-    } else if are_alike(tables, &all[..16]) {
+    } else if is_made_of(schema, &tables[..16], &indexes[..19]) {
         Standing::Second
-    } else if are_alike(tables, &all[..15]) {
+    } else if is_made_of(schema, &tables[..15], &indexes[..17]) {
         Standing::First
-    } else if is_any_number(tables) {
+    } else if has_number(schema) {
         Standing::Numbered
     } else {
         Standing::Foreign
@@ -128,13 +107,13 @@ fn model(alloc: Global) -> Result<Connection<MemStore>, Refusal>
     Ok(conn)
 }
 
-/// What a database with this schema is: the first standing that says it. It is told by names alone, so a database that
-/// has the names of a register's tables and columns, and in their order, passes for one. Of a register it is true.
-/// The error is out of memory, or what a store in memory tells as a fault.
+/// What a database with this schema is. The schema is compared as a whole: with a table, an index, a view or a trigger
+/// more, or a column less, it is that of no version. The error is out of memory, or what a store in memory tells as a
+/// fault.
 pub fn standing_of(alloc: Global, schema: &Schema) -> Result<Standing, Refusal>
     ensures stands { IfOk result (StandsAs schema.now) }
     ensures cause { IfErr result IsFault }
 {
     let model = model(alloc)?;
-    Ok(compare(schema, model.schema().tables.as_slice()))
+    Ok(compare(schema, model.schema()))
 }

@@ -10,6 +10,8 @@ use Rattle.sqlite.specs.State.{HasCleanDisk}
 use Rattle.kcr_base.specs.Counted.{inner_of, failures_of}
 use Rattle.kcr_base.specs.declared.counted.Counted.{Counted}
 use Rattle.kcr_base.specs.declared.refusal.Refusal.{Refusal}
+use Rattle.kcr_base.specs.declared.refusal.Refusal.TheVariants as Refusals
+use Rattle.kcr_base.specs.declared.refusal.Thing.TheVariants as Things
 use Rattle.kcr_history.specs.History.{History}
 use Rattle.kcr_history.specs.Tables as machine
 use Rattle.kcr_history.specs.Tables.{ceremony_row, tables}
@@ -36,6 +38,20 @@ stops_weaker M Write h = tt
 pub cause_weaker : (M : Refusal → Type 0) (r : Result ⊤ PrintFault) → IfErr r (Stops (λ _. ⊥)) → IfErr r (Stops M)
 cause_weaker M (Ok v) h = h
 cause_weaker M (Err e) h = stops_weaker M e h
+
+-- a part that nothing denies is not stopped by a refusal that names a ceremony
+not_named : (ceremony : ℕ) (e : PrintFault) (refusal : Refusal) → Stops (λ _. ⊥) e → NamesCeremony ceremony refusal → e ≡ Refused refusal → ⊥
+not_named ceremony (Refused other) refusal (inl fault) names is = by fault (let same : other ≡ refusal = cc in same ∙ names)
+  where
+    by : IsFault other → other ≡ Refusals.Unknown (Things.Ceremony ceremony) → ⊥
+    by (inl memory) unknown = let e : Refusals.Memory ≡ Refusals.Unknown (Things.Ceremony ceremony) = sym memory ∙ unknown in cc
+    by (inr disk) unknown = let e : Refusals.Disk ≡ Refusals.Unknown (Things.Ceremony ceremony) = sym disk ∙ unknown in cc
+not_named ceremony (Refused other) refusal (inr none) names is = none
+not_named ceremony Write refusal h names is = let e : Write ≡ Refused refusal = is in cc
+
+err_is : (r : Result ⊤ PrintFault) (e f : PrintFault) → IsErrAnd r (λ fault. fault ≡ e) → r ≡ Err f → e ≡ f
+err_is (Ok v) e f is eq = absurd is
+err_is (Err g) e f is eq = let same : g ≡ f = cc in sym is ∙ same
 
 -- WHERE IT IS WHOLE
 
@@ -214,17 +230,34 @@ module _ {S W : Type 0} {g : Ghosts S} {contents : W → Option (List ℕ)} wher
 
   -- one that stops is not whole, so nothing is said of its ceremony
   pub stops_planned : {a b : Seen S} {x y : Counted W} {report : History → ℕ → List ℕ} {ceremony : ℕ} (r : Result ⊤ PrintFault) {e : PrintFault}
-      → IsErr r → IsErrAnd r (λ fault. fault ≡ e)
+      → IsErr r → IsErrAnd r (λ fault. fault ≡ e) → Stops (λ _. ⊥) e
       → Puts g contents a b x y (Err e) (λ A. IsNotPlanned A ceremony) (NamesCeremony ceremony) (λ A. report A ceremony)
       → PutsPlanned report ceremony g contents a b x y r
-  stops_planned r {e} err is p = record { puts = puts_err r e is p; planned = λ founded torn clean. not_ok r _ err }
+  stops_planned {ceremony = ceremony} r {e} err is cause p = record {
+    puts = puts_err r e is p;
+    planned = λ founded torn clean. not_ok r _ err;
+    unwritten = λ refusal names eq. absurd (not_named ceremony e refusal cause names (err_is r e (Refused refusal) is eq));
+  }
+
+  -- likewise one that stops before anything is written
+  pub denied_planned : {a b : Seen S} {x : Counted W} {report : History → ℕ → List ℕ} {ceremony : ℕ} (r : Result ⊤ PrintFault) {e : PrintFault}
+      → IsErr r → IsErrAnd r (λ fault. fault ≡ e)
+      → Puts g contents a b x x (Err e) (λ A. IsNotPlanned A ceremony) (NamesCeremony ceremony) (λ A. report A ceremony)
+      → PutsPlanned report ceremony g contents a b x x r
+  denied_planned r {e} err is p =
+      record { puts = puts_err r e is p; planned = λ founded torn clean. not_ok r _ err; unwritten = λ refusal names eq. refl }
 
   -- one that is whole is of a ceremony whose row was read
   pub ends_planned : {a c : Seen S} {x y : Counted W} {report : History → ℕ → List ℕ} {ceremony : ℕ} {r : Result ⊤ PrintFault} {row : CeremonyRow}
       (b : Seen S) → OfHistory g a b (λ A. IsRowOf A ceremony row) → (HasCleanDisk (state g c.conn) → HasCleanDisk (state g b.conn))
+      → IfErr r (Stops (λ _. ⊥))
       → Puts g contents a c x y r (λ A. IsNotPlanned A ceremony) (NamesCeremony ceremony) (λ A. report A ceremony)
       → PutsPlanned report ceremony g contents a c x y r
-  ends_planned {r = r} b row clean p = record { puts = p; planned = λ founded torn now. on_ok r _ (row founded torn (clean now)).planned }
+  ends_planned {ceremony = ceremony} {r = r} b row clean cause p = record {
+    puts = p;
+    planned = λ founded torn now. on_ok r _ (row founded torn (clean now)).planned;
+    unwritten = λ refusal names eq. absurd (not_named ceremony (Refused refusal) refusal (rw eq at cause) names refl);
+  }
 
   -- the row of the ceremony was refused, and nothing was written
   pub no_planned : {a b : Seen S} {x : Counted W} {ceremony : ℕ} {refusal : Refusal} {t : History → List ℕ}

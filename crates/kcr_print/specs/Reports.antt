@@ -86,18 +86,25 @@ abbrev pub IsOfPlanned : {S : Type 0} → Ghosts S → Seen S → Seen S → Res
 IsOfPlanned g before after result ceremony =
     OfHistory g before after (λ A. OnOk result (IsTrue (is_ceremony A ceremony)))
 
--- a part of the report of a ceremony: it is denied only where the ceremony was never planned
+-- a refusal that names the ceremony leaves the writer as it was
+abbrev pub DeniesUnwritten : {W : Type 0} → ℕ → Counted W → Counted W → Result ⊤ PrintFault → Type 0
+DeniesUnwritten ceremony old new result =
+    (refusal : Refusal) → NamesCeremony ceremony refusal → result ≡ Err (Refused refusal) → new ≡ old
+
+-- a part of the report of a ceremony: it is denied only where the ceremony was never planned, and before it is begun
 pub record PutsPlanned {S W : Type 0} (report : History → ℕ → List ℕ) (ceremony : ℕ) (g : Ghosts S)
     (contents : W → Option (List ℕ)) (before after : Seen S) (old new : Counted W)
     (result : Result ⊤ PrintFault) : Type 0 where
   pub puts : Puts g contents before after old new result
       (λ A. IsNotPlanned A ceremony) (NamesCeremony ceremony) (λ A. report A ceremony)
   pub planned : IsOfPlanned g before after result ceremony
+  pub unwritten : DeniesUnwritten ceremony old new result
 
--- the report of a ceremony: it is denied only where the ceremony was never planned
+-- the report of a ceremony: it is denied only where the ceremony was never planned, and before it is begun
 pub record PrintsPlanned {S W : Type 0} (report : History → ℕ → List ℕ) (ceremony : ℕ) (g : Ghosts S)
     (contents : W → Option (List ℕ)) (before after : Seen S) (old new : Counted W)
     (result : Result ⊤ PrintFault) : Type 0 where
   pub prints : Prints g contents before after old new result
       (λ A. IsNotPlanned A ceremony) (NamesCeremony ceremony) (λ A. report A ceremony)
   pub planned : IsOfPlanned g before after result ceremony
+  pub unwritten : DeniesUnwritten ceremony old new result

@@ -1,11 +1,12 @@
 -- What an opening finds.
-use Rattle.std.proofs.Common.{arith, refl, Bool, false, true, ◌≡◌, ◌⊎◌, inl, inr, ℕ, ◌+◌, [], length, take, map, None, IsTrue, sym, ap, subst, ◌∙◌}
-use Rattle.std.proofs.lemmas.List.{length-map}
+use Rattle.std.proofs.Common.{arith, refl, Bool, false, true, ◌≡◌, ◌≢◌, ◌⊎◌, inl, inr, ℕ, ◌+◌, ℤ, pos, [], length, Option, Some, None, Result, Ok, Err, IsTrue, sym, ap, subst, ◌∙◌}
+use Rattle.std.specs.Prelude.{IfErr, is_some}
 use Rattle.sqlite.specs.Schema.{Schema}
+use Rattle.sqlite.specs.Table.{Table}
 use Rattle.sqlite.specs.Effect.{Database}
 use Rattle.sqlite.proofs.ListingLemmas.{empty_is_sound}
 use Rattle.sqlite.specs.Start.{FindsIn}
-use Rattle.sqlite.specs.State.{State, Opens, HasCleanDisk, IsLive, Survives}
+use Rattle.sqlite.specs.State.{State, Opens, HasCleanDisk, IsLive, IsUnchanged, Survives}
 use Rattle.sqlite.specs.Store.{Ghosts}
 use Rattle.sqlite.specs.Tree.{Trees}
 use Rattle.sqlite.specs.Held.{Held, state}
@@ -16,27 +17,26 @@ use Rattle.kcr_tables.specs.Made.{first}
 use Rattle.kcr_tables.specs.Joint.{HoldsTables}
 use Rattle.kcr_tables.proofs.OpenLemmas.{one_schema}
 use Rattle.kcr_older.specs.Older.{IsTablesAs, StoresAs}
-use Rattle.kcr_older.specs.Standing.{outline, LooksLike, IsStrange, no_schema}
+use Rattle.kcr_older.specs.Versions.{number_of}
+use Rattle.kcr_older.specs.declared.renewal.Older.{Older}
+use Rattle.kcr_older.specs.declared.renewal.Older.TheVariants as older
+use Rattle.kcr_older.specs.Standing.{IsForeign, IsOfOtherVersion, IsOfVersion, IsStrange, IsTaken, no_schema, numbered_table, version_in}
+use Rattle.kcr_older.proofs.NumberHeld.{IsKnown, has_versions, held_version, older_version, only_version}
 use Rattle.kcr_store.specs.Stored.{Stores, IsTables}
 use Rattle.kcr_store.specs.Register.{Shows, IsWhole}
 use Rattle.sqlite_wal.specs.Recovery.{Image}
-use Rattle.kcr_store.specs.Opening.{IsBrought, IsFounded, IsHeld, IsHeldIn}
+use Rattle.kcr_store.specs.Opening.{IsAnswer, IsAnswerBy, IsBrought, IsFounded, IsHeld, IsHeldIn, IsOpened, RefusesAs}
+use Rattle.kcr_store.specs.declared.«open».OpenFault.{OpenFault}
+use Rattle.kcr_store.specs.declared.«open».OpenFault.TheVariants as fault
 use Rattle.kcr_store.specs.Frame.{StaysOutside}
 use Rattle.kcr_store.proofs.WholeLemmas.{begun_has, made_outside}
-
--- how many tables there are in a database that looks like a register of this version
-counted : (version : ℕ) (s : Schema) → LooksLike version s → length s.tables ≡ length (take (14 + version) all_tables)
-counted version s like = sym (length-map s.tables outline) ∙ ap length like ∙ length-map (take (14 + version) all_tables) outline
 
 abbrev pub count : Schema → ℕ
 count s = length s.tables
 
--- it has the schema of another version
-pub apart : (version : ℕ) (s t : Schema) → LooksLike version s → s ≡ t → count t ≡ length (take (14 + version) all_tables)
-apart version s t like is = ap count (sym is) ∙ counted version s like
-
-pub of_first : (version : ℕ) (s : Schema) → s ≡ first (14 + version) → LooksLike version s
-of_first version s is = ap (λ (t : Schema). map outline t.tables) is
+-- two schemas of one database have the same number of tables
+pub apart : {s a b : Schema} → s ≡ a → s ≡ b → count a ≡ count b
+apart one other = ap count (sym one ∙ other)
 
 module _ {S : Type 0} (g : Ghosts S) (settled : (s : S) (db : Trees) → IsTrue (g.view s).is_open → g.recovers s db → db ≡ (g.view s).committed) where
   pub adopted : (accepted : History) (old : State) (new : Held S) → IsFounded accepted old
@@ -48,12 +48,93 @@ module _ {S : Type 0} (g : Ghosts S) (settled : (s : S) (db : Trees) → IsTrue 
         let it = found clean accepted founded in subst (IsTables accepted) (sym (settled new.store db it.1 may)) it.0.committed.tables;
   }
 
--- ---- what looks like a register, or like none
+pub opened_with : {accepted : History} {count : ℕ} {s : State} → IsOpened accepted count s → Shows accepted s × IsTrue s.is_open
+opened_with opened = (opened.shows, opened.live)
 
-pub none_strange : (version : ℕ) (s : Schema) → IsStrange s → s ≡ first (14 + version) → (version ≡ 1) ⊎ ((version ≡ 2) ⊎ (version ≡ 3)) → ⊥
-none_strange version s strange is (inl one) = strange.first (of_first 1 s (subst (λ v. s ≡ first (14 + v)) one is))
-none_strange version s strange is (inr (inl two)) = strange.second (of_first 2 s (subst (λ v. s ≡ first (14 + v)) two is))
-none_strange version s strange is (inr (inr three)) = strange.third (of_first 3 s (subst (λ v. s ≡ first (14 + v)) three is))
+-- ---- the schema of a version, or of none
+
+pub none_strange : (version : ℕ) (s : Schema) → IsStrange s → s ≡ first (14 + version) → IsKnown version → ⊥
+none_strange version s strange is (inl one) = strange.first (subst (λ v. s ≡ first (14 + v)) one is)
+none_strange version s strange is (inr (inl two)) = strange.second (subst (λ v. s ≡ first (14 + v)) two is)
+none_strange version s strange is (inr (inr three)) = strange.third (subst (λ v. s ≡ first (14 + v)) three is)
+
+never_taken : (db : Database) → IsStrange db.schema → ¬ IsTaken db
+never_taken db strange (inl none) = strange.something none
+never_taken db strange (inr (inl one)) = strange.first one.0
+never_taken db strange (inr (inr (inl two))) = strange.second two.0
+never_taken db strange (inr (inr (inr three))) = strange.third three.0
+
+-- a database without the table of a number has none
+numberless : (schema : Schema) (trees : Trees) (found : Option Table) → numbered_table schema ≡ found → is_some found ≡ false
+    → ¬ IsOfOtherVersion (record { schema = schema; trees = trees })
+numberless schema trees None is none h = absurd (let e = rw is at h.1 in cc)
+numberless schema trees (Some table) is none h = absurd cc
+
+number_same : (db : Database) (n m : ℤ) → version_in db ≡ Some n → version_in db ≡ Some m → n ≡ m
+number_same db n m one other = let both = sym one ∙ other in cc
+
+-- a number is not that of another version, and one of these
+other_taken : (db : Database) → IsOfOtherVersion db → ¬ IsTaken db
+other_taken db other (inl none) =
+    numberless db.schema db.trees _ refl (ap (λ (s : Schema). is_some (numbered_table s)) none) other
+other_taken db other (inr (inl one)) = other.2 (number_same db other.0 _ other.1 one.1)
+other_taken db other (inr (inr (inl two))) = other.3 (number_same db other.0 _ other.1 two.1)
+other_taken db other (inr (inr (inr three))) = other.4 (number_same db other.0 _ other.1 three.1)
+
+-- ---- each answer is what its name says
+
+pub empty_answer : {A : Type 0} (db : Database) (result : Result A OpenFault) → db.schema ≡ no_schema
+    → IfErr result (λ e. (e ≡ fault.Memory) ⊎ (e ≡ fault.Disk)) → IsAnswer db result
+empty_answer db (Ok x) none kind = inl none
+empty_answer db (Err e) none (inl memory) = subst (RefusesAs db) (sym memory) tt
+empty_answer db (Err e) none (inr disk) = subst (RefusesAs db) (sym disk) tt
+
+taken_at : (version : ℕ) → IsKnown version → (db : Database) → IsOfVersion version db → IsTaken db
+taken_at version (inl one) db h = inr (inl (subst (λ v. IsOfVersion v db) one h))
+taken_at version (inr (inl two)) db h = inr (inr (inl (subst (λ v. IsOfVersion v db) two h)))
+taken_at version (inr (inr three)) db h = inr (inr (inr (subst (λ v. IsOfVersion v db) three h)))
+
+-- of a database with the schema of a version no other number is taken
+only_own : (version : ℕ) → IsKnown version → (db : Database) → db.schema ≡ first (14 + version) → version_in db ≢ Some (pos version) → ¬ IsTaken db
+only_own version (inl one) db schema other (inl none) =
+    absurd (let e = apart none (subst (λ v. db.schema ≡ first (14 + v)) one schema) in omega (arith, e))
+only_own version (inl one) db schema other (inr (inl h)) = other (h.1 ∙ ap (λ v. Some (pos v)) (sym one))
+only_own version (inl one) db schema other (inr (inr (inl h))) =
+    absurd (let e = apart h.0 (subst (λ v. db.schema ≡ first (14 + v)) one schema) in omega (arith, e))
+only_own version (inl one) db schema other (inr (inr (inr h))) =
+    absurd (let e = apart h.0 (subst (λ v. db.schema ≡ first (14 + v)) one schema) in omega (arith, e))
+only_own version (inr (inl two)) db schema other (inl none) =
+    absurd (let e = apart none (subst (λ v. db.schema ≡ first (14 + v)) two schema) in omega (arith, e))
+only_own version (inr (inl two)) db schema other (inr (inl h)) =
+    absurd (let e = apart h.0 (subst (λ v. db.schema ≡ first (14 + v)) two schema) in omega (arith, e))
+only_own version (inr (inl two)) db schema other (inr (inr (inl h))) = other (h.1 ∙ ap (λ v. Some (pos v)) (sym two))
+only_own version (inr (inl two)) db schema other (inr (inr (inr h))) =
+    absurd (let e = apart h.0 (subst (λ v. db.schema ≡ first (14 + v)) two schema) in omega (arith, e))
+only_own version (inr (inr three)) db schema other (inl none) =
+    absurd (let e = apart none (subst (λ v. db.schema ≡ first (14 + v)) three schema) in omega (arith, e))
+only_own version (inr (inr three)) db schema other (inr (inl h)) =
+    absurd (let e = apart h.0 (subst (λ v. db.schema ≡ first (14 + v)) three schema) in omega (arith, e))
+only_own version (inr (inr three)) db schema other (inr (inr (inl h))) =
+    absurd (let e = apart h.0 (subst (λ v. db.schema ≡ first (14 + v)) three schema) in omega (arith, e))
+only_own version (inr (inr three)) db schema other (inr (inr (inr h))) = other (h.1 ∙ ap (λ v. Some (pos v)) (sym three))
+
+pub number_answer : {A : Type 0} (version : ℕ) → IsKnown version → (db : Database) (result : Result A OpenFault) → db.schema ≡ first (14 + version)
+    → IsAnswerBy (pos version) db result → IsAnswer db result
+number_answer version known db (Ok x) schema h = taken_at version known db (schema, h)
+number_answer version known db (Err fault.Version) schema h = h
+number_answer version known db (Err fault.Foreign) schema h = (only_own version known db schema h.0, h.1)
+number_answer version known db (Err fault.Memory) schema h = tt
+number_answer version known db (Err fault.Disk) schema h = tt
+
+pub stranger_answer : (db : Database) (e : OpenFault) → IsStrange db.schema
+    → (e ≡ fault.Version → IsOfOtherVersion db) × (e ≡ fault.Foreign → ¬ IsOfOtherVersion db) → RefusesAs db e
+stranger_answer db fault.Version strange h = h.0 refl
+stranger_answer db fault.Foreign strange h = (never_taken db strange, h.1 refl)
+stranger_answer db fault.Memory strange h = tt
+stranger_answer db fault.Disk strange h = tt
+
+pub foreign_answer : (db : Database) → IsStrange db.schema → is_some (numbered_table db.schema) ≡ false → IsForeign db
+foreign_answer db strange none = (never_taken db strange, numberless db.schema db.trees _ refl none)
 
 -- ---- a database that is one of a register
 
@@ -84,43 +165,106 @@ module _ (accepted : History) (old : State) (settled : IsTrue old.is_open → ol
   pub of_empty : (new : State) → old.now.schema ≡ no_schema → Shows [] new → Shows accepted new
   of_empty new none made = subst (λ l. Shows l new) (sym (nothing_accepted none)) made
 
-  pub of_ours : LooksLike 3 old.now.schema → Shows accepted old
-  of_ours like = elim (f clean live) [
-    | inl nothing ↦ absurd (let e : 0 ≡ 17 = apart 3 old.now.schema no_schema like nothing.0 in omega (arith, e))
-    | inr (inl t) ↦ record { now = subst (Stores accepted) (sym now_is) (stored t); committed = stored t }
-    | inr (inr (inl one)) ↦ absurd (let e : 15 ≡ 17 = apart 3 old.now.schema _ like (stored_as 1 one).schema in omega (arith, e))
-    | inr (inr (inr two)) ↦ absurd (let e : 16 ≡ 17 = apart 3 old.now.schema _ like (stored_as 2 two).schema in omega (arith, e))
+  now_stores : IsTables accepted old.committed.trees → Stores accepted old.now
+  now_stores t = subst (Stores accepted) (sym now_is) (stored t)
+
+  pub of_ours : old.now.schema ≡ first 17 → Shows accepted old
+  of_ours is = elim (f clean live) [
+    | inl nothing ↦ absurd (let e : 0 ≡ 17 = apart nothing.0 is in omega (arith, e))
+    | inr (inl t) ↦ record { now = now_stores t; committed = stored t }
+    | inr (inr (inl one)) ↦ absurd (let e : 15 ≡ 17 = apart (stored_as 1 one).schema is in omega (arith, e))
+    | inr (inr (inr two)) ↦ absurd (let e : 16 ≡ 17 = apart (stored_as 2 two).schema is in omega (arith, e))
   ]
 
-  pub of_first_version : LooksLike 1 old.now.schema → StoresAs 1 accepted old.now
-  of_first_version like = elim (f clean live) [
-    | inl nothing ↦ absurd (let e : 0 ≡ 15 = apart 1 old.now.schema no_schema like nothing.0 in omega (arith, e))
-    | inr (inl t) ↦ absurd (let e : 17 ≡ 15 = apart 1 old.now.schema _ like (schema_is t) in omega (arith, e))
+  pub of_first_version : old.now.schema ≡ first 15 → StoresAs 1 accepted old.now
+  of_first_version is = elim (f clean live) [
+    | inl nothing ↦ absurd (let e : 0 ≡ 15 = apart nothing.0 is in omega (arith, e))
+    | inr (inl t) ↦ absurd (let e : 17 ≡ 15 = apart (schema_is t) is in omega (arith, e))
     | inr (inr (inl one)) ↦ stored_as 1 one
-    | inr (inr (inr two)) ↦ absurd (let e : 16 ≡ 15 = apart 1 old.now.schema _ like (stored_as 2 two).schema in omega (arith, e))
+    | inr (inr (inr two)) ↦ absurd (let e : 16 ≡ 15 = apart (stored_as 2 two).schema is in omega (arith, e))
   ]
 
-  pub of_second_version : LooksLike 2 old.now.schema → StoresAs 2 accepted old.now
-  of_second_version like = elim (f clean live) [
-    | inl nothing ↦ absurd (let e : 0 ≡ 16 = apart 2 old.now.schema no_schema like nothing.0 in omega (arith, e))
-    | inr (inl t) ↦ absurd (let e : 17 ≡ 16 = apart 2 old.now.schema _ like (schema_is t) in omega (arith, e))
-    | inr (inr (inl one)) ↦ absurd (let e : 15 ≡ 16 = apart 2 old.now.schema _ like (stored_as 1 one).schema in omega (arith, e))
+  pub of_second_version : old.now.schema ≡ first 16 → StoresAs 2 accepted old.now
+  of_second_version is = elim (f clean live) [
+    | inl nothing ↦ absurd (let e : 0 ≡ 16 = apart nothing.0 is in omega (arith, e))
+    | inr (inl t) ↦ absurd (let e : 17 ≡ 16 = apart (schema_is t) is in omega (arith, e))
+    | inr (inr (inl one)) ↦ absurd (let e : 15 ≡ 16 = apart (stored_as 1 one).schema is in omega (arith, e))
     | inr (inr (inr two)) ↦ stored_as 2 two
   ]
 
-  pub of_strange : IsStrange old.now.schema → ⊥
-  of_strange strange = elim (f clean live) [
-    | inl nothing ↦ strange.something nothing.0
-    | inr (inl t) ↦ none_strange 3 old.now.schema strange (schema_is t) (inr (inr refl))
-    | inr (inr (inl one)) ↦ none_strange 1 old.now.schema strange (stored_as 1 one).schema (inl refl)
-    | inr (inr (inr two)) ↦ none_strange 2 old.now.schema strange (stored_as 2 two).schema (inr (inl refl))
+  stored_version : Stores accepted old.now → IsOfVersion 3 old.now
+  stored_version s = (
+    s.schema,
+    held_version 3 (inr (inr refl)) old.now _ s.schema s.tables.kept.kept.versions ∙ ap only_version s.tables.kept.stands.versions,
+  )
+
+  older_stored : (version : ℕ) → IsKnown version → StoresAs version accepted old.now → IsOfVersion version old.now
+  older_stored version known s = (s.schema, older_version version known old.now _ (record { schema = s.schema; kept = s.tables.kept }))
+
+  pub founded_taken : IsTaken old.now
+  founded_taken = elim (f clean live) [
+    | inl nothing ↦ inl nothing.0
+    | inr (inl t) ↦ inr (inr (inr (stored_version (now_stores t))))
+    | inr (inr (inl one)) ↦ inr (inl (older_stored 1 (inl refl) (stored_as 1 one)))
+    | inr (inr (inr two)) ↦ inr (inr (inl (older_stored 2 (inr (inl refl)) (stored_as 2 two))))
   ]
+
+  pub of_strange : ¬ IsStrange old.now.schema
+  of_strange strange = never_taken old.now strange founded_taken
+
+  -- so it is not refused
+  pub is_taken : {A : Type 0} (result : Result A OpenFault) → IsAnswer old.now result
+      → IfErr result (λ e. (e ≡ fault.Memory) ⊎ (e ≡ fault.Disk))
+  is_taken (Ok x) h = tt
+  is_taken (Err fault.Memory) h = inl refl
+  is_taken (Err fault.Disk) h = inr refl
+  is_taken (Err fault.Foreign) h = absurd (h.0 founded_taken)
+  is_taken (Err fault.Version) h = absurd (other_taken old.now h founded_taken)
+
+-- ---- the number is read, and nothing else is changed
+
+-- every version has the table of the number
+pub there : (version : ℕ) → IsKnown version → (s : Schema) → s ≡ first (14 + version) → IsTrue (is_some (numbered_table s))
+there version known s is = ap (λ (t : Schema). is_some (numbered_table t)) is ∙ ap is_some (has_versions version known)
+
+pub known_1 : IsKnown 1
+known_1 = inl refl
+
+pub known_2 : IsKnown 2
+known_2 = inr (inl refl)
+
+pub known_3 : IsKnown 3
+known_3 = inr (inr refl)
+
+pub is_known : (from : Older) → IsKnown (number_of from)
+is_known older.First = inl refl
+is_known older.Second = inr (inl refl)
+
+-- what the database had it has still
+pub still_has : (P : Database → Type 0) (old mid : State) → IsUnchanged old mid → P old.now → P mid.now
+still_has P old mid same has = subst P (sym same.0.now_is) has
+
+pub still_stores : (A : History) (old mid : State) → (IsTrue old.is_open → Stores A old.now) → IsTrue old.is_open
+    → (IsTrue (is_some (numbered_table old.now.schema)) → IsUnchanged old mid) → Stores A mid.now
+still_stores A old mid had live same =
+    let was = had live in still_has (Stores A) old mid (same (there 3 (inr (inr refl)) old.now.schema was.schema)) was
+
+pub still_shows : (A : History) (old new : State) → IsUnchanged old new → Shows A old → Shows A new
+still_shows A old new same s = record {
+  now = subst (Stores A) (sym same.0.now_is) s.now;
+  committed = subst (Stores A) (sym same.0.committed_is) s.committed;
+}
 
 -- ---- a reading that is rolled back
 
 module _ {S : Type 0} (g : Ghosts S) (old begun : Held S) (is : begun ≡ record old { in_transaction = true }) where
   pub begun_inside : IsTrue (state g begun).in_transaction
   begun_inside = rw is refl
+
+  -- what is said of the database as the transaction begins
+  pub begun_says : (P : Database → Type 0) (schema : Schema) → (IsLive (state g begun) → (state g begun).now.schema ≡ schema → P (state g begun).now)
+      → IsLive (state g old) → (state g old).now.schema ≡ schema → P (state g old).now
+  begun_says P schema h = rw is at h
 
   pub begun_shows : (accepted : History) → (IsTrue (state g old).is_open → Shows accepted (state g old)) → IsTrue (state g begun).is_open
       → Shows accepted (state g begun)
@@ -133,14 +277,14 @@ brought_tables : {version : ℕ} {before : Database} (db : Database) → ((A : H
 brought_tables db holds = record { tables = λ A s. record { register = s.tables.register; kept = (holds A s).tables } }
 
 -- and a crash leaves what was there or such tables, whether the commit came or not
-pub renewed_outside : {S Known : Type 0} (g : Ghosts S) (old begun : Held S) → begun ≡ record old { in_transaction = true } → (mid : State)
+pub renewed_outside : {S : Type 0} (g : Ghosts S) (old begun : Held S) → begun ≡ record old { in_transaction = true } → (mid : State)
     → Survives (state g begun) mid (λ _. ⊥) → (version : ℕ)
-    → (HasCleanDisk mid → (A : History) → StoresAs version A (state g begun).now → Known × HoldsTables (tables A) mid.now)
+    → (HasCleanDisk mid → (A : History) → StoresAs version A (state g begun).now → HoldsTables (tables A) mid.now)
     → (end : Held S) → Survives mid (state g end) (λ db. db ≡ mid.now.trees) → end.in_transaction ≡ false
     → StaysOutside g (IsBrought version (state g old).now) old end
 renewed_outside g old begun is mid within version brought end then out =
     made_outside g old begun is mid within end (IsBrought version (state g old).now) then
-    (λ clean. brought_tables mid.now (λ A stored. (brought clean A (begun_has g old begun (StoresAs version A) is stored)).1)) out
+    (λ clean. brought_tables mid.now (λ A stored. brought clean A (begun_has g old begun (StoresAs version A) is stored))) out
 
 -- ---- what the files held is what the connection shows
 

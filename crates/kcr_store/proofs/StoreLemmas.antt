@@ -25,7 +25,7 @@ use Rattle.kcr_history.specs.History.{History}
 use Rattle.kcr_history.specs.Tables.{Tables, SameTables, tables}
 use Rattle.kcr_history.specs.Changes.{changed_by}
 use Rattle.kcr_history.specs.Machine.{IsRegister, IsAcceptance, IsRepeat, IsDecision}
-use Rattle.kcr_history.proofs.Steps.{numbers}
+use Rattle.kcr_history.proofs.Steps.{follows, numbers}
 use Rattle.kcr_tables.specs.Keyed.{by_key}
 use Rattle.kcr_rows.specs.Rows.{person_row, item_row}
 use Rattle.kcr_rows.specs.States.{loose_value, within_value}
@@ -57,7 +57,7 @@ module _ (A : History) (x : Command) (v : Verdict) where
   steps None d = (d.0.answer, d.1.step, d.1.reply)
 
   next_register : (answer : Option Answer) → Decides A x v answer → IsRegister A → IsRegister (with_answer A x answer)
-  next_register (Some a) d r = (d.step, r)
+  next_register (Some a) d r = (follows A x a d.step, r)
   next_register None d r = r
 
   -- the tables with the changes are those of the history after the command, up to the order of their rows
@@ -102,6 +102,10 @@ pub faults : {T : Type 0} (old new : State) (x : Command) (count : ℕ) (r : Res
     → IfErr r (λ e. OfStored old new (λ A. count ≡ length A → Steps A x (Err e) A))
 faults old new x count (Ok v) fault = tt
 faults old new x count (Err e) fault = λ clean A had is. fault_steps A x e fault
+
+-- the tables of a history, in the database of a register
+pub brought_stores : (A : History) (db : Database) → IsRegister A → HoldsTables (tables A) db → Stores A db
+brought_stores A db register h = record { schema = h.schema; tables = record { register = register; kept = h.tables } }
 
 -- a new register's tables
 pub first_stores : (db : Database) → HoldsTables (tables []) db → Stores [] db

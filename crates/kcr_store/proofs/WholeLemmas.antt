@@ -172,6 +172,46 @@ module _ {S : Type 0} (g : Ghosts S) (old begun : Held S) (is : begun ≡ record
           (λ clean db same. subst P (sym same) (done (was_clean mid (state g end) _ then clean))) within then;
     }
 
+    -- nothing was committed, where the store that met out of memory at the commit is still open
+    pub nothing_made : (HasCleanDisk mid → IsTrue (state g begun).in_transaction → KeepsCommit (state g begun) mid)
+        → ((db : Trees) → IsTrue (state g old).is_open → db ≡ (state g old).committed.trees → (state g old).may_leave db)
+        → (end : State) → Survives mid end (λ db. db ≡ mid.now.trees) → (e : Error) → e ≡ SqliteFailure OutOfMemory
+        → (HasCleanDisk end → FailsToCommit mid end e) → (last : Held S) → Survives end (state g last) (λ _. ⊥) → (HasCleanDisk (state g last) → IsUnchanged end (state g last))
+        → ((db : Trees) → IsTrue (state g last).is_open → (state g last).may_leave db → db ≡ (state g last).committed.trees)
+        → Survives (state g old) (state g last) (λ _. ⊥)
+    nothing_made keeps stays end then e memory failed last probed same settled =
+        let made = λ (db : Trees). db ≡ mid.now.trees in
+        let committed = survives_then (state g old) mid end (λ _. ⊥) made made (λ _ db none. absurd none) (λ _ db is. is) within then in
+        let all = survives_then (state g old) end (state g last) made (λ _. ⊥) made (λ _ db is. is) (λ _ db none. absurd none) committed probed in
+        record {
+          clean = all.clean;
+          shield = all.shield;
+          counts = all.counts;
+          limit = all.limit;
+          closes = all.closes;
+          crash = λ clean db may.
+              let u = same clean in
+              let mine = was_clean end (state g last) _ probed clean in
+              let inside : IsTrue (state g begun).in_transaction = rw is refl in
+              let kept : KeepsCommit (state g (record old { in_transaction = true })) mid =
+              subst (λ (h : Held S). KeepsCommit (state g h) mid) is (keeps (was_clean mid end _ then mine) inside) in
+              elim (failed mine) [
+                | inl f ↦ inl (
+                  let open_still = f.3.was_open u.0.was_open in
+                  let same_commit : (state g last).committed ≡ (state g old).committed = u.0.committed_is ∙ (f.3.undone u.0.was_open).1 ∙ kept.committed open_still in
+                  stays db (kept.was_open open_still) (settled db u.0.is_open may ∙ ap (λ (d : Database). d.trees) same_commit))
+                | inr other ↦ absurd (let apart = sym memory ∙ other.0 in cc)
+              ];
+        }
+
+-- a call that leaves what was there follows
+pub outside_then : {S : Type 0} (g : Ghosts S) (P : Trees → Type 0) (old mid end : Held S) → StaysOutside g P old mid → StaysOutside g (λ _. ⊥) mid end
+    → StaysOutside g P old end
+outside_then g P old mid end one two = record {
+  autocommit = two.autocommit;
+  survives = survives_then (state g old) (state g mid) (state g end) P (λ _. ⊥) P (λ _ db made. made) (λ _ db none. absurd none) one.survives two.survives;
+}
+
 -- what is whole, with its number
 pub counted_as : {count : ℕ} {accepted : History} {s : State} → IsWhole accepted s → (HasCleanDisk s → count ≡ length accepted) → IsCounted count accepted s
 counted_as whole counts = record { whole = whole; counts = counts }
@@ -268,3 +308,8 @@ module _ {S A : Type 0} {r : Result A Refusal} (old mid new : Seen S) (whole : o
 pub if_ok : {T E : Type 0} (P : Type 0) (Q : T → Type 0) (r : Result T E) → OnOk r P → (P → IfOk r Q) → IfOk r Q
 if_ok P Q (Ok x) p f = f p
 if_ok P Q (Err e) p f = tt
+
+-- what is said of a value, and what holds where there is one
+pub both_ok : {T E : Type 0} (Q : T → Type 0) (P : Type 0) (r : Result T E) → IfOk r Q → OnOk r P → IfOk r (λ x. Q x × P)
+both_ok Q P (Ok x) q p = (q, p)
+both_ok Q P (Err e) q p = tt

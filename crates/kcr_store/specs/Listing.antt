@@ -1,5 +1,5 @@
 -- What a reading of a database of any version gives.
-use Rattle.std.specs.Prelude.{◌≡◌, ◌≢◌, ◌+◌, ◌⊎◌, [], Result, MatchResult}
+use Rattle.std.specs.Prelude.{◌≡◌, ◌≢◌, ◌+◌, ◌⊎◌, [], pos, Result, Err, IfOk, IfErr, MatchResult}
 use Rattle.sqlite.specs.Effect.{Database}
 use Rattle.sqlite.specs.Tree.{Trees}
 use Rattle.kcr_history.specs.History.{History}
@@ -15,7 +15,10 @@ use Rattle.kcr_older.specs.declared.standing.Standing.{Standing}
 use Rattle.kcr_older.specs.declared.standing.Standing.TheVariants.{Empty, Current, Second, First, Numbered, Foreign}
 use Rattle.kcr_store.specs.Whole.{IsListed, Lists}
 use Rattle.kcr_store.specs.declared.«open».OpenFault.{OpenFault}
-use Rattle.kcr_store.specs.declared.«open».OpenFault.TheVariants.{Version}
+use Rattle.kcr_store.specs.declared.«open».OpenFault.TheVariants as foreign
+use Rattle.kcr_store.specs.declared.«open».OpenFault.TheVariants.{Memory, Disk, Version}
+use Rattle.kcr_store.specs.Opening.{IsAnswerBy}
+use Rattle.kcr_tables.specs.Made.{first}
 use Rattle.kcr_tables.specs.Held as held
 
 -- the view has these rows, in the order in which a database keeps them
@@ -36,21 +39,31 @@ IsBroughtView from t view = (t.versions ≡ numbered (number_of from)) × IsKept
 abbrev pub GivesOr : Type 0 → (WholeView → Type 0) → Result WholeView OpenFault → Type 0
 GivesOr Other Is result = MatchResult result Is (λ fault. fault ≡ Version → Other)
 
--- what is given of a register of an older version, by its rows and by its history
+-- what is given of a register of an older version, by its number, its rows and its history
 pub record GivesOlder (from : Older) (db : Database) (result : Result WholeView OpenFault) : Type 0 where
-  pub rows : (t : held.Tables) → HoldsUpTo (14 + number_of from) db t
-      → GivesOr (t.versions ≢ numbered (number_of from)) (IsBroughtView from t) result
-  pub own : (A : History) → StoresAs (number_of from) A db → GivesOr ⊥ (IsListed (tables A)) result
+  pub answer : db.schema ≡ first (14 + number_of from) → IsAnswerBy (pos (number_of from)) db result
+  pub rows : (t : held.Tables) → HoldsUpTo (14 + number_of from) db t → t.versions ≡ numbered (number_of from)
+      → IfOk result (IsKeptView (brought from t))
+  pub own : (A : History) → StoresAs (number_of from) A db → IfOk result (IsListed (tables A))
+
+-- and of one of this version
+pub record GivesCurrent (db : Database) (result : Result WholeView OpenFault) : Type 0 where
+  pub answer : db.schema ≡ first 17 → IsAnswerBy (pos 3) db result
+  pub rows : (t : held.Tables) → held.Holds db t → IfOk result (IsKeptView t)
+
+-- and of an empty database
+pub record GivesNew (db : Database) (result : Result WholeView OpenFault) : Type 0 where
+  pub rows : db.schema ≡ no_schema → IfOk result (IsListed (tables []))
+  pub kind : IfErr result (λ fault. (fault ≡ Memory) ⊎ (fault ≡ Disk))
 
 -- what is given of a database of each standing
 abbrev pub Gives : Standing → Database → Result WholeView OpenFault → Type 0
-Gives Empty db result = db.schema ≡ no_schema → GivesOr ⊥ (IsListed (tables [])) result
-Gives Current db result =
-    (t : held.Tables) → held.Holds db t → GivesOr (t.versions ≢ numbered 3) (IsNumberedView t) result
+Gives Empty db result = GivesNew db result
+Gives Current db result = GivesCurrent db result
 Gives Second db result = GivesOlder older.Second db result
 Gives First db result = GivesOlder older.First db result
 Gives Numbered db result = Unit {0}
-Gives Foreign db result = Unit {0}
+Gives Foreign db result = result ≡ Err foreign.Foreign
 
 -- what is not read
 abbrev pub IsUnread : Standing → Type 0

@@ -1,23 +1,38 @@
 -- What an opening finds and makes.
-use Rattle.std.specs.Prelude.{◌≡◌, ◌⊎◌, ◌≢◌, ℕ, [], IsTrue, Bool, true, false, Result, MatchResult}
+use Rattle.std.specs.Prelude.{◌≡◌, ◌⊎◌, ◌≢◌, ℕ, ℤ, [], length, IsTrue, Bool, true, false, Some, Result, MatchResult}
 use Rattle.sqlite.specs.Effect.{Database}
 use Rattle.sqlite.specs.Files.{HoldsDatabase, AreFoundIn, IsEmpty}
 use Rattle.sqlite.specs.State.{State, HasCleanDisk}
 use Rattle.sqlite.specs.Tree.{Trees}
 use Rattle.sqlite_wal.specs.Recovery.{Image}
 use Rattle.kcr_history.specs.History.{History}
-use Rattle.kcr_tables.specs.Held.{Tables}
-use Rattle.kcr_older.specs.Older.{IsTablesAs, StoresAs, numbered}
-use Rattle.kcr_older.specs.Standing.{LooksLike, no_schema}
+use Rattle.kcr_tables.specs.Made.{first}
+use Rattle.kcr_older.specs.Older.{IsTablesAs, StoresAs}
+use Rattle.kcr_older.specs.Standing.{IsForeign, IsOfOtherVersion, IsTaken, no_schema, version_in}
 use Rattle.kcr_store.specs.declared.«open».OpenFault.{OpenFault}
-use Rattle.kcr_store.specs.declared.«open».OpenFault.TheVariants.{Version}
+use Rattle.kcr_store.specs.declared.«open».OpenFault.TheVariants.{Foreign, Version}
+use Rattle.kcr_store.specs.Register.{Shows}
 use Rattle.kcr_store.specs.Stored.{IsTables}
 
--- tables of which those of this version or an older one hold these rows are taken only where their number is that
--- version's, and refused for their version only where it is not
-abbrev pub IsNumberAnswer : ℕ → Tables → Result (Unit {0}) OpenFault → Type 0
-IsNumberAnswer version t result =
-    MatchResult result (λ _. t.versions ≡ numbered version) (λ fault. fault ≡ Version → t.versions ≢ numbered version)
+-- why a database is refused: for its version where it has the number of another one, and as foreign where it is neither
+-- taken nor that
+abbrev pub RefusesAs : Database → OpenFault → Type 0
+RefusesAs db Version = IsOfOtherVersion db
+RefusesAs db Foreign = IsForeign db
+RefusesAs db _ = Unit {0}
+
+-- what is answered to a database: what is taken is empty or a register's
+abbrev pub IsAnswer : {A : Type 0} → Database → Result A OpenFault → Type 0
+IsAnswer db result = MatchResult result (λ _. IsTaken db) (RefusesAs db)
+
+-- the same of one that has the schema of a version, by its number alone
+abbrev pub RefusesBy : ℤ → Database → OpenFault → Type 0
+RefusesBy number db Version = IsOfOtherVersion db
+RefusesBy number db Foreign = (version_in db ≢ Some number) × ¬ IsOfOtherVersion db
+RefusesBy number db _ = Unit {0}
+
+abbrev pub IsAnswerBy : {A : Type 0} → ℤ → Database → Result A OpenFault → Type 0
+IsAnswerBy number db result = MatchResult result (λ _. version_in db ≡ Some number) (RefusesBy number db)
 
 -- the trees hold the tables of the history, as a file of any version has them that is taken
 abbrev pub IsHeld : History → Trees → Type 0
@@ -29,6 +44,12 @@ IsFounded accepted s =
     HasCleanDisk s → IsTrue s.is_open → ((s.now.schema ≡ no_schema) × (accepted ≡ []))
     ⊎ IsHeld accepted s.committed.trees
 
+-- the connection shows the tables of the history, and this is the number of its last command
+pub record IsOpened (accepted : History) (count : ℕ) (s : State) : Type 0 where
+  pub shows : Shows accepted s
+  pub live : IsTrue s.is_open
+  pub counts : count ≡ length accepted
+
 -- where a register of the older version held the tables of a history, these are that history's tables
 pub record IsBrought (version : ℕ) (before : Database) (db : Trees) : Type 0 where
   pub tables : (A : History) → StoresAs version A before → IsTables A db
@@ -38,7 +59,7 @@ pub record IsBrought (version : ℕ) (before : Database) (db : Trees) : Type 0 w
 abbrev pub IsMadeOf : Database → Trees → Type 0
 IsMadeOf before db =
     ((before.schema ≡ no_schema) × IsTables [] db)
-    ⊎ ((LooksLike 1 before.schema × IsBrought 1 before db) ⊎ (LooksLike 2 before.schema × IsBrought 2 before db))
+    ⊎ (((before.schema ≡ first 15) × IsBrought 1 before db) ⊎ ((before.schema ≡ first 16) × IsBrought 2 before db))
 
 -- the files held the tables of the history, or, before the first command, no entry at all
 abbrev pub IsHeldIn : History → Image → Type 0

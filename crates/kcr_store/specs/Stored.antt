@@ -9,7 +9,7 @@ use Rattle.kcr_history.specs.Machine.{IsRegister}
 use Rattle.kcr_tables.specs.Schema.{register_schema}
 use Rattle.kcr_tables.specs.Joint.{KeepsTables}
 
--- the machine leads to the history, and the file holds the machine's tables of it
+-- the history is a register's, and the file holds the machine's tables of it
 pub record IsTables (accepted : History) (db : Trees) : Type 0 where
   pub register : IsRegister accepted
   pub kept : KeepsTables (tables accepted) db

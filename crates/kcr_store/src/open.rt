@@ -1,44 +1,46 @@
 //! Taking a database over.
-ghost use Rattle.std.specs.Prelude.{◌≡◌, ◌≢◌, ◌↔◌, ◌⊎◌, ◌+◌, false, length, [], IsTrue, IfOk, IfErr, OnOk};
+ghost use Rattle.std.specs.Prelude.{◌≡◌, ◌≢◌, ◌↔◌, ◌⊎◌, ◌+◌, false, length, [], pos, IsTrue, is_some, IfOk, IfErr, OnOk};
 ghost use Rattle.sqlite.specs.State.{HasCleanDisk, IsLive, IsUnchanged, Survives};
 ghost use Rattle.sqlite.specs.Files.{file_state};
 ghost use Rattle.sqlite.specs.Held.{state};
 ghost use Rattle.sqlite.specs.WalFiles.{image_at};
 ghost use Rattle.kcr_history.specs.History.{History};
-ghost use Rattle.kcr_tables.specs.First.{first_tables};
-ghost use Rattle.kcr_tables.specs.Held.{Tables, Holds};
-ghost use Rattle.kcr_older.specs.Older.{StoresAs, HoldsUpTo};
-ghost use Rattle.kcr_older.specs.Standing.{StandsAs, IsStrange, no_schema};
+ghost use Rattle.kcr_history.specs.Tables.{tables};
+ghost use Rattle.kcr_rows.specs.Frame.{StaysWithin};
+ghost use Rattle.kcr_tables.specs.Frame.{Reads};
+ghost use Rattle.kcr_tables.specs.Joint.{HoldsTables};
+ghost use Rattle.kcr_tables.specs.Made.{first};
+ghost use Rattle.kcr_older.specs.Older.{StoresAs};
+ghost use Rattle.kcr_older.specs.Standing.{StandsAs, IsStrange, IsOtherNumber, IsOfOtherVersion, no_schema, numbered_table};
 ghost use Rattle.kcr_older.specs.Versions.{number_of};
 ghost use Rattle.kcr_tables.specs.Refusals.{IsFault};
 ghost use Rattle.kcr_store.specs.Frame.{StaysOutside};
-ghost use Rattle.kcr_store.specs.Stored.{IsTables};
+ghost use Rattle.kcr_store.specs.Stored.{IsTables, OfStored};
 ghost use Rattle.kcr_store.specs.Register.{Shows};
-ghost use Rattle.kcr_store.specs.Opening.{IsFounded, IsHeldIn, IsBrought, IsMadeOf, IsNumberAnswer};
+ghost use Rattle.kcr_store.specs.Opening.{IsFounded, IsHeldIn, IsBrought, IsMadeOf, IsOpened, IsAnswer, IsAnswerBy};
 
-use crate::perform::Asked;
 use kcr_base::Refusal;
-use kcr_older::{Older, Standing, bring, standing_of};
-use kcr_tables::{Version, all_rows, last_key_row, make};
+use kcr_older::{Older, Standing, bring, standing_of, version_in};
+use kcr_tables::{last_key_row, make};
 use sqlite::{Alter, Connection, Error, ErrorCode, FileFrom, FileStore, Start, Transaction};
 use std::alloc::Global;
 
 /// Why a database is not taken.
 #[derive(Clone, Copy, PartialEq, Eq, Drop)]
 pub enum OpenFault {
-    /// Memory was refused. The database is as it was, or has the tables of an empty register.
+    /// Out of memory. The database is as it was.
     Memory,
-    /// The device failed.
+    /// The device failed. The database is as it was, or as the opening makes it.
     Disk,
-    /// It has something, and looks like no register: its tables and columns have other names than those of the versions
-    /// 1, 2 and 3, and it has no table `versions` with one number.
+    /// It has something, and is neither a register of version 1, 2 or 3 nor of another version.
     Foreign,
-    /// Its table `versions` has the number of another version.
+    /// It has a table `versions` of the one column `number`, with exactly one row, and the whole number there is none
+    /// of 1, 2 and 3.
     Version,
 }
 
 /// The version of the tables.
-const VERSION: u32 = 3;
+pub(crate) const VERSION: u32 = 3;
 
 pub(crate) fn fault_of(refusal: Refusal) -> OpenFault
     ensures kind { (result ≡ OpenFault.Memory) ⊎ (result ≡ OpenFault.Disk) }
@@ -92,7 +94,22 @@ pub(crate) fn inspect<S: Alter>(alloc: Global, conn: &Connection<S>) -> Result<S
     }
 }
 
-/// Makes the tables of an empty register, in a transaction of its own.
+/// What a commit that met out of memory is told as: `Memory` where the store is still open, so that nothing was
+/// committed, and else `Disk`, since the commit may stand.
+fn told_of_commit<S: Alter>(conn: &mut Connection<S>) -> OpenFault
+    requires autocommit { conn.old.in_transaction ≡ false }
+    ensures kind { (result ≡ OpenFault.Memory) ⊎ (result ≡ OpenFault.Disk) }
+    ensures same { HasCleanDisk (state S.Store conn.new) → result ≡ OpenFault.Memory
+        → IsUnchanged (state S.Store conn.old) (state S.Store conn.new) }
+    ensures frame { StaysOutside S.Store (λ _. ⊥) conn.old conn.new }
+{
+    match conn.prepare("COMMIT") {
+        Ok(_) => OpenFault::Memory,
+        Err(_) => OpenFault::Disk,
+    }
+}
+
+/// Makes the tables of an empty register, in a transaction of its own; it has no command.
 #[tactic(auto, using(crate::proofs::StoreLemmas::first_stores))]
 fn found<S: Alter>(conn: &mut Connection<S>) -> Result<(), OpenFault>
     requires autocommit { conn.old.in_transaction ≡ false }
@@ -102,6 +119,8 @@ fn found<S: Alter>(conn: &mut Connection<S>) -> Result<(), OpenFault>
         (Shows [] (state S.Store conn.new) × IsTrue (state S.Store conn.new).is_open
         × IsTrue (state S.Store conn.old).is_open) }
     ensures kind { IfErr result (λ e. (e ≡ OpenFault.Memory) ⊎ (e ≡ OpenFault.Disk)) }
+    ensures left { IfErr result (λ e. e ≡ OpenFault.Memory
+        → Survives (state S.Store conn.old) (state S.Store conn.new) (λ _. ⊥)) }
     ensures frame { StaysOutside S.Store (IsTables []) conn.old conn.new }
 {
     let mut tx = conn.transaction();
@@ -110,7 +129,8 @@ fn found<S: Alter>(conn: &mut Connection<S>) -> Result<(), OpenFault>
     }
     match tx.commit() {
         Ok(()) => Ok(()),
-        Err(error) => Err(fault_of_error(error)),
+        Err(Error::SqliteFailure(ErrorCode::OutOfMemory)) => Err(told_of_commit(conn)),
+        Err(_) => Err(OpenFault::Disk),
     }
 }
 
@@ -128,154 +148,224 @@ fn probe<S: Alter>(conn: &mut Connection<S>) -> Result<(), OpenFault>
     }
 }
 
-/// The rows of the table of versions, read in a transaction that is rolled back.
-fn read_versions<S: Alter>(alloc: Global, conn: &mut Connection<S>) -> Result<Vec<Version>, Refusal>
+/// Why a database that is not taken is refused, by its number.
+fn refused_by(number: Option<i64>) -> OpenFault
+    ensures version { (result ≡ OpenFault.Version) ↔ IsOtherNumber number }
+    ensures kind { (result ≡ OpenFault.Version) ⊎ (result ≡ OpenFault.Foreign) }
+{
+    match number {
+        Some(1) | Some(2) | Some(3) | None => OpenFault::Foreign,
+        Some(_) => OpenFault::Version,
+    }
+}
+
+/// Goes on where this is the number of the database, and else tells why that is refused. Nothing is changed.
+pub(crate) fn expect_number<S: Alter>(
+    alloc: Global,
+    tx: &mut Transaction<'_, S>,
+    number: u32,
+) -> Result<(), OpenFault>
+    ensures same_reference { tx.new.conn.ghost_name ≡ tx.old.conn.ghost_name }
+    ensures answer { HasCleanDisk (state S.Store tx.new.conn.now) → IsLive (state S.Store tx.old.conn.now)
+        → IsTrue (is_some (numbered_table (state S.Store tx.old.conn.now).now.schema))
+        → IsAnswerBy (pos number) (state S.Store tx.old.conn.now).now result }
+    ensures same { HasCleanDisk (state S.Store tx.new.conn.now)
+        → IsTrue (is_some (numbered_table (state S.Store tx.old.conn.now).now.schema))
+        → OnOk result (IsUnchanged (state S.Store tx.old.conn.now) (state S.Store tx.new.conn.now)) }
+    ensures opened { HasCleanDisk (state S.Store tx.new.conn.now)
+        → OnOk result (IsTrue (state S.Store tx.old.conn.now).is_open) }
+    ensures frame { StaysWithin (λ _. Unit {0}) (state S.Store tx.old.conn.now) (state S.Store tx.new.conn.now) result }
+{
+    match version_in(alloc, tx) {
+        Ok(Some(found)) if found == i64::from(number) => Ok(()),
+        Ok(other) => Err(refused_by(other)),
+        Err(refusal) => Err(fault_of(refusal)),
+    }
+}
+
+/// The number of the last command, 0 where there is none. Nothing is changed.
+fn last_number<S: Alter>(alloc: Global, tx: &mut Transaction<'_, S>) -> Result<u32, Refusal>
+    ensures same_reference { tx.new.conn.ghost_name ≡ tx.old.conn.ghost_name }
+    ensures count { OfStored (state S.Store tx.old.conn.now) (state S.Store tx.new.conn.now)
+        (λ A. IfOk result (λ count. count ≡ length A)) }
+    ensures frame { Reads (state S.Store tx.old.conn.now) (state S.Store tx.new.conn.now) result }
+{
+    let last = last_key_row(alloc, tx)?;
+    match last.first() {
+        Some(row) => Ok(row.accepted),
+        None => Ok(0),
+    }
+}
+
+/// The number of the last command of a register of this version, where the database has its number. Nothing is changed.
+fn count_in<S: Alter>(alloc: Global, tx: &mut Transaction<'_, S>) -> Result<u32, OpenFault>
+    ensures same_reference { tx.new.conn.ghost_name ≡ tx.old.conn.ghost_name }
+    ensures answer { HasCleanDisk (state S.Store tx.new.conn.now) → IsLive (state S.Store tx.old.conn.now)
+        → (state S.Store tx.old.conn.now).now.schema ≡ first 17
+        → IsAnswerBy (pos 3) (state S.Store tx.old.conn.now).now result }
+    ensures count { OfStored (state S.Store tx.old.conn.now) (state S.Store tx.new.conn.now)
+        (λ A. IfOk result (λ count. count ≡ length A)) }
+    ensures frame { StaysWithin (λ _. Unit {0}) (state S.Store tx.old.conn.now) (state S.Store tx.new.conn.now) result }
+{
+    if let Err(fault) = expect_number(alloc, tx, VERSION) {
+        return Err(fault);
+    }
+    match last_number(alloc, tx) {
+        Ok(count) => Ok(count),
+        Err(refusal) => Err(fault_of(refusal)),
+    }
+}
+
+/// The same in a transaction that is rolled back.
+fn read_count<S: Alter>(alloc: Global, conn: &mut Connection<S>) -> Result<u32, OpenFault>
     requires autocommit { conn.old.in_transaction ≡ false }
-    ensures rows { HasCleanDisk (state S.Store conn.new) → (A : History)
+    ensures answer { HasCleanDisk (state S.Store conn.new) → IsLive (state S.Store conn.old)
+        → (state S.Store conn.old).now.schema ≡ first 17 → IsAnswerBy (pos 3) (state S.Store conn.old).now result }
+    ensures count { HasCleanDisk (state S.Store conn.new) → (A : History)
         → (IsTrue (state S.Store conn.old).is_open → Shows A (state S.Store conn.old))
-        → IfOk result (λ rows. rows.items ≡ first_tables.versions) }
-    ensures exact { HasCleanDisk (state S.Store conn.new) → (t : Tables) → Holds (state S.Store conn.old).now t
-        → IfOk result (λ rows. rows.items ≡ t.versions) }
+        → IfOk result (λ count. count ≡ length A) }
     ensures shows { HasCleanDisk (state S.Store conn.new) → (A : History)
         → (IsTrue (state S.Store conn.old).is_open → Shows A (state S.Store conn.old))
         → IsTrue (state S.Store conn.new).is_open → Shows A (state S.Store conn.new) }
     ensures frame { StaysOutside S.Store (λ _. ⊥) conn.old conn.new }
 {
     let mut tx = conn.transaction();
-    let versions = all_rows::<_, Version>(alloc, &mut tx);
+    let count = count_in(alloc, &mut tx);
     tx.rollback();
-    versions
+    count
 }
 
-/// Whether these are the rows of this version: the one number.
-pub(crate) fn is_this_version(versions: &[Version]) -> bool
-    ensures { IsTrue result ↔ (versions.now ≡ first_tables.versions) }
-{
-    match versions {
-        [version] => version.number == VERSION,
-        _ => false,
-    }
-}
-
-/// Takes the database of a register of this version, and changes nothing.
-fn resume<S: Alter>(alloc: Global, conn: &mut Connection<S>) -> Result<(), OpenFault>
+/// Takes the database of a register of this version, and changes nothing: the number of its last command.
+fn resume<S: Alter>(alloc: Global, conn: &mut Connection<S>) -> Result<u32, OpenFault>
     requires autocommit { conn.old.in_transaction ≡ false }
     ensures shows { HasCleanDisk (state S.Store conn.new) → (A : History)
         → (IsTrue (state S.Store conn.old).is_open → Shows A (state S.Store conn.old))
-        → OnOk result (Shows A (state S.Store conn.new) × IsTrue (state S.Store conn.new).is_open) }
-    ensures taken { HasCleanDisk (state S.Store conn.new) → (A : History)
-        → (IsTrue (state S.Store conn.old).is_open → Shows A (state S.Store conn.old))
-        → IfErr result (λ e. (e ≡ OpenFault.Memory) ⊎ (e ≡ OpenFault.Disk)) }
-    ensures version { HasCleanDisk (state S.Store conn.new) → (t : Tables) → Holds (state S.Store conn.old).now t
-        → IsNumberAnswer 3 t result }
-    ensures kind { IfErr result (λ e. e ≢ OpenFault.Foreign) }
+        → IfOk result (λ count. IsOpened A count (state S.Store conn.new)) }
+    ensures answer { HasCleanDisk (state S.Store conn.new) → IsLive (state S.Store conn.old)
+        → (state S.Store conn.old).now.schema ≡ first 17 → IsAnswerBy (pos 3) (state S.Store conn.old).now result }
     ensures frame { StaysOutside S.Store (λ _. ⊥) conn.old conn.new }
 {
-    match read_versions(alloc, conn) {
-        Ok(versions) => {
-            if is_this_version(versions.as_slice()) {
-                probe(conn)
-            } else {
-                Err(OpenFault::Version)
-            }
-        }
+    let count = read_count(alloc, conn)?;
+    probe(conn)?;
+    Ok(count)
+}
+
+/// Brings the tables of a register of an older version to this one: the number of its last command. After an error the
+/// caller has to roll back.
+fn brought_count<S: Alter>(
+    alloc: Global,
+    tx: &mut Transaction<'_, S>,
+    from: Older,
+) -> Result<u32, Refusal>
+    ensures same_reference { tx.new.conn.ghost_name ≡ tx.old.conn.ghost_name }
+    ensures brought { HasCleanDisk (state S.Store tx.new.conn.now) → (A : History)
+        → StoresAs (number_of from) A (state S.Store tx.old.conn.now).now
+        → IfOk result (λ count. (count ≡ length A) × HoldsTables (tables A) (state S.Store tx.new.conn.now).now) }
+    ensures frame { StaysWithin IsFault (state S.Store tx.old.conn.now) (state S.Store tx.new.conn.now) result }
+{
+    bring(alloc, tx, from)?;
+    last_number(alloc, tx)
+}
+
+/// The same where the database has the number of that version.
+fn renewed_count<S: Alter>(
+    alloc: Global,
+    tx: &mut Transaction<'_, S>,
+    from: Older,
+) -> Result<u32, OpenFault>
+    ensures same_reference { tx.new.conn.ghost_name ≡ tx.old.conn.ghost_name }
+    ensures answer { HasCleanDisk (state S.Store tx.new.conn.now) → IsLive (state S.Store tx.old.conn.now)
+        → (state S.Store tx.old.conn.now).now.schema ≡ first (14 + number_of from)
+        → IsAnswerBy (pos (number_of from)) (state S.Store tx.old.conn.now).now result }
+    ensures brought { HasCleanDisk (state S.Store tx.new.conn.now) → (A : History)
+        → StoresAs (number_of from) A (state S.Store tx.old.conn.now).now
+        → IfOk result (λ count. (count ≡ length A) × HoldsTables (tables A) (state S.Store tx.new.conn.now).now) }
+    ensures frame { StaysWithin (λ _. Unit {0}) (state S.Store tx.old.conn.now) (state S.Store tx.new.conn.now) result }
+{
+    if let Err(fault) = expect_number(alloc, tx, from.number()) {
+        return Err(fault);
+    }
+    match brought_count(alloc, tx, from) {
+        Ok(count) => Ok(count),
         Err(refusal) => Err(fault_of(refusal)),
     }
 }
 
-/// Brings a register of an older version to this one, in a transaction of its own. A crash leaves it as it was, or
-/// brought.
-fn renew<S: Alter>(alloc: Global, conn: &mut Connection<S>, from: Older) -> Result<(), OpenFault>
+/// Brings a register of an older version to this one, in a transaction of its own: the number of its last command. A
+/// crash leaves it as it was, or brought.
+fn renew<S: Alter>(
+    alloc: Global,
+    conn: &mut Connection<S>,
+    from: Older,
+) -> Result<u32, OpenFault>
     requires autocommit { conn.old.in_transaction ≡ false }
     ensures shows { HasCleanDisk (state S.Store conn.new) → (A : History)
         → StoresAs (number_of from) A (state S.Store conn.old).now
-        → OnOk result (Shows A (state S.Store conn.new) × IsTrue (state S.Store conn.new).is_open) }
+        → IfOk result (λ count. IsOpened A count (state S.Store conn.new)) }
     ensures opened { HasCleanDisk (state S.Store conn.new) → OnOk result (IsTrue (state S.Store conn.old).is_open) }
-    ensures taken { HasCleanDisk (state S.Store conn.new) → (A : History)
-        → StoresAs (number_of from) A (state S.Store conn.old).now
-        → IfErr result (λ e. (e ≡ OpenFault.Memory) ⊎ (e ≡ OpenFault.Disk)) }
-    ensures version { HasCleanDisk (state S.Store conn.new) → (t : Tables)
-        → HoldsUpTo (14 + number_of from) (state S.Store conn.old).now t → IsNumberAnswer (number_of from) t result }
-    ensures kind { IfErr result (λ e. e ≢ OpenFault.Foreign) }
-    ensures left { IfErr result (λ e. e ≡ OpenFault.Version
+    ensures answer { HasCleanDisk (state S.Store conn.new) → IsLive (state S.Store conn.old)
+        → (state S.Store conn.old).now.schema ≡ first (14 + number_of from)
+        → IsAnswerBy (pos (number_of from)) (state S.Store conn.old).now result }
+    ensures left { IfErr result (λ e. e ≢ OpenFault.Disk
         → Survives (state S.Store conn.old) (state S.Store conn.new) (λ _. ⊥)) }
     ensures frame { StaysOutside S.Store (IsBrought (number_of from) (state S.Store conn.old).now) conn.old conn.new }
 {
     let mut tx = conn.transaction();
-    match bring(alloc, &mut tx, from) {
-        Ok(true) => match tx.commit() {
-            Ok(()) => Ok(()),
-            Err(error) => Err(fault_of_error(error)),
-        },
-        Ok(false) => {
-            tx.rollback();
-            Err(OpenFault::Version)
-        }
-        Err(refusal) => Err(fault_of(refusal)),
+    let count = match renewed_count(alloc, &mut tx, from) {
+        Ok(count) => count,
+        Err(fault) => return Err(fault),
+    };
+    match tx.commit() {
+        Ok(()) => Ok(count),
+        Err(Error::SqliteFailure(ErrorCode::OutOfMemory)) => Err(told_of_commit(conn)),
+        Err(_) => Err(OpenFault::Disk),
     }
 }
 
-/// Asks for the number of the last command, 0 where there is none.
-#[derive(Clone, Copy)]
-pub(crate) struct LastNumber;
-
-impl Asked for LastNumber {
-    type Answer = u32;
-
-    ghost is_answer = { λ _ A result. IfOk result (λ count. count ≡ length A) };
-
-    ghost may_refuse = { λ _. IsFault };
-
-    fn read<S: Alter>(&self, alloc: Global, tx: &mut Transaction<'_, S>) -> Result<u32, Refusal> {
-        let last = last_key_row(alloc, tx)?;
-        match last.first() {
-            Some(row) => Ok(row.accepted),
-            None => Ok(0),
-        }
-    }
-}
-
-/// Why a database with a table `versions` of one column `number`, which looks like no register that is taken, is
-/// refused: for its version where that table has one row with a whole number.
+/// Why a database with a table `versions` of the one column `number`, whose schema is that of no version, is refused.
 pub(crate) fn stranger<S: Alter>(alloc: Global, conn: &mut Connection<S>) -> OpenFault
     requires autocommit { conn.old.in_transaction ≡ false }
+    ensures answer { HasCleanDisk (state S.Store conn.new) → IsLive (state S.Store conn.old)
+        → IsTrue (is_some (numbered_table (state S.Store conn.old).now.schema))
+        → ((result ≡ OpenFault.Version) → IsOfOtherVersion (state S.Store conn.old).now)
+        × ((result ≡ OpenFault.Foreign) → ¬ IsOfOtherVersion (state S.Store conn.old).now) }
     ensures frame { StaysOutside S.Store (λ _. ⊥) conn.old conn.new }
 {
-    match read_versions(alloc, conn) {
-        Ok(versions) => match versions.as_slice() {
-            [_] => OpenFault::Version,
-            _ => OpenFault::Foreign,
-        },
-        Err(Refusal::Memory) => OpenFault::Memory,
-        Err(_) => match probe(conn) {
-            Ok(()) => OpenFault::Foreign,
-            Err(fault) => fault,
-        },
+    let mut tx = conn.transaction();
+    let number = version_in(alloc, &mut tx);
+    tx.rollback();
+    match number {
+        Ok(number) => refused_by(number),
+        Err(refusal) => fault_of(refusal),
     }
 }
 
-/// Makes the tables of an empty database, takes a register of this version, and brings an older one to it.
-pub(crate) fn settle<S: Alter>(alloc: Global, conn: &mut Connection<S>) -> Result<(), OpenFault>
+/// Makes the tables of an empty database, takes a register of this version, and brings an older one to it: the number
+/// of its last command.
+pub(crate) fn settle<S: Alter>(alloc: Global, conn: &mut Connection<S>) -> Result<u32, OpenFault>
     requires autocommit { conn.old.in_transaction ≡ false }
     ensures found { HasCleanDisk (state S.Store conn.new) → (A : History) → IsFounded A (state S.Store conn.old)
-        → OnOk result (Shows A (state S.Store conn.new) × IsTrue (state S.Store conn.new).is_open) }
+        → IfOk result (λ count. IsOpened A count (state S.Store conn.new)) }
     ensures taken { HasCleanDisk (state S.Store conn.new) → IsTrue (state S.Store conn.old).is_open → (A : History)
         → IsFounded A (state S.Store conn.old)
         → IfErr result (λ e. (e ≡ OpenFault.Memory) ⊎ (e ≡ OpenFault.Disk)) }
-    ensures version { HasCleanDisk (state S.Store conn.new) → (t : Tables) → Holds (state S.Store conn.old).now t
-        → IsNumberAnswer 3 t result }
-    ensures older { HasCleanDisk (state S.Store conn.new) → (from : Older) → (t : Tables)
-        → HoldsUpTo (14 + number_of from) (state S.Store conn.old).now t → IsNumberAnswer (number_of from) t result }
+
+    // What is taken, and each refusal, is what its name says, and no database is two of these.
+    ensures answer { HasCleanDisk (state S.Store conn.new) → IsAnswer (state S.Store conn.old).now result }
     ensures known { IfOk result (λ _. ¬ IsStrange (state S.Store conn.old).now.schema) }
-    ensures foreign { IfErr result (λ e. e ≡ OpenFault.Foreign → IsStrange (state S.Store conn.old).now.schema) }
-    ensures left { IfErr result (λ e. (e ≡ OpenFault.Foreign) ⊎ (e ≡ OpenFault.Version)
+
+    // An opening that fails changes nothing, but after a fault of the device it may have.
+    ensures left { IfErr result (λ e. e ≢ OpenFault.Disk
         → Survives (state S.Store conn.old) (state S.Store conn.new) (λ _. ⊥)) }
     ensures frame { StaysOutside S.Store (IsMadeOf (state S.Store conn.old).now) conn.old conn.new }
 {
     let is_settled = conn.is_autocommit();
     prove!(is_settled);
     match inspect(alloc, conn)? {
-        Standing::Empty => found(conn),
+        Standing::Empty => match found(conn) {
+            Ok(()) => Ok(0),
+            Err(fault) => Err(fault),
+        },
         Standing::Current => resume(alloc, conn),
         Standing::Second => renew(alloc, conn, Older::Second),
         Standing::First => renew(alloc, conn, Older::First),

@@ -5,7 +5,7 @@ ghost use Rattle.sqlite.specs.State.{HasCleanDisk};
 ghost use Rattle.sqlite.specs.Held.{state};
 ghost use Rattle.kcr_store.specs.Steps.{Steps, IsNext, IsAsked, MayRefuse};
 
-use crate::open::{LastNumber, OpenFault, connect, fault_of, settle};
+use crate::open::{OpenFault, connect, settle};
 use crate::past::Past;
 use crate::perform::{Performed, ask, number_after, perform};
 use crate::whole::{audit_of, rows_in_table};
@@ -62,24 +62,20 @@ impl<S: Alter> Model for Register<S> {
 }
 
 impl<S: Alter + Drop> Register<S> {
-    ghost use Rattle.std.specs.Prelude.{Bool, MatchResult, ◌⊎◌, ◌≢◌, ◌+◌};
+    ghost use Rattle.std.specs.Prelude.{Bool, MatchResult, ◌⊎◌, ◌≢◌};
     ghost use Rattle.sqlite.specs.Held.{Held};
     ghost use Rattle.sqlite.specs.State.{Survives};
     ghost use Rattle.kcr_history.specs.History.{History};
-    ghost use Rattle.kcr_tables.specs.Held.{Tables, Holds};
-    ghost use Rattle.kcr_older.specs.Older.{HoldsUpTo, numbered};
-    ghost use Rattle.kcr_older.specs.Standing.{IsStrange, no_schema};
-    ghost use Rattle.kcr_older.specs.Versions.{number_of};
-    ghost use Rattle.kcr_older.specs.declared.renewal.Older.{Older};
+    ghost use Rattle.kcr_older.specs.Standing.{IsStrange, IsTaken, no_schema};
     ghost use Rattle.kcr_store.specs.Register.{IsKept};
-    ghost use Rattle.kcr_store.specs.Opening.{IsFounded, IsMadeOf};
+    ghost use Rattle.kcr_store.specs.Opening.{IsFounded, IsMadeOf, RefusesAs};
 
     /// Takes a database that is empty or a register's. An empty one gets its tables, and a register of version 1 or 2
     /// is brought to this version, which is 3, each in one transaction: the stays are made of the sheet, and there are
     /// no withdrawals. The history that it begins with is the one that the caller's proof names, where it is true of
-    /// the database. A database with something else is refused as foreign, one whose number is another version's as
-    /// that; both are left as they are. Where memory is wanting or the device fails, a crash leaves the database as it
-    /// was or as it was to become.
+    /// the database. Any other database is refused: one with the number of another version for its version, whatever
+    /// else it has, and the rest as foreign. An opening that fails leaves the database as it was, but where the device
+    /// failed: then a crash leaves it as it was or as it was to become.
     pub fn adopt(
         alloc: Global,
         connection: Connection<S>,
@@ -91,24 +87,15 @@ impl<S: Alter + Drop> Register<S> {
         ensures kept { IfOk result (IsKept S.Store) }
         ensures taken { IfErr result (λ e. IsTrue past.0 → IsTrue (state S.Store connection).is_open
             → HasCleanDisk (state S.Store e.1) → (e.0 ≡ OpenFault.Memory) ⊎ (e.0 ≡ OpenFault.Disk)) }
-        ensures version { MatchResult result
-            (λ r. HasCleanDisk (state S.Store r.conn) → (t : Tables) → Holds (state S.Store connection).now t
-            → t.versions ≡ numbered 3)
-            (λ e. HasCleanDisk (state S.Store e.1) → (t : Tables) → Holds (state S.Store connection).now t
-            → e.0 ≡ OpenFault.Version → t.versions ≢ numbered 3) }
-        ensures older { MatchResult result
-            (λ r. HasCleanDisk (state S.Store r.conn) → (from : Older) → (t : Tables)
-            → HoldsUpTo (14 + number_of from) (state S.Store connection).now t
-            → t.versions ≡ numbered (number_of from))
-            (λ e. HasCleanDisk (state S.Store e.1) → (from : Older) → (t : Tables)
-            → HoldsUpTo (14 + number_of from) (state S.Store connection).now t
-            → e.0 ≡ OpenFault.Version → t.versions ≢ numbered (number_of from)) }
 
-        // What looks like no register is not taken, and nothing else is refused as foreign.
+        // What is taken is empty or a register's, and each refusal is what its name says: no database is two of these.
+        ensures answer { MatchResult result
+            (λ r. HasCleanDisk (state S.Store r.conn) → IsTaken (state S.Store connection).now)
+            (λ e. HasCleanDisk (state S.Store e.1) → RefusesAs (state S.Store connection).now e.0) }
         ensures known { IfOk result (λ _. ¬ IsStrange (state S.Store connection).now.schema) }
-        ensures foreign { IfErr result (λ e. e.0 ≡ OpenFault.Foreign
-            → IsStrange (state S.Store connection).now.schema) }
-        ensures left { IfErr result (λ e. (e.0 ≡ OpenFault.Foreign) ⊎ (e.0 ≡ OpenFault.Version)
+
+        // An opening that fails changes nothing, but after a fault of the device it may have.
+        ensures left { IfErr result (λ e. e.0 ≢ OpenFault.Disk
             → Survives (state S.Store connection) (state S.Store e.1) (λ _. ⊥)) }
 
         // A crash leaves what was there, or what the opening makes of it.
@@ -119,20 +106,17 @@ impl<S: Alter + Drop> Register<S> {
         let past = Past::of();
         let mut conn = connection;
         match settle(alloc, &mut conn) {
-            Ok(()) => match ask(alloc, &mut conn, &LastNumber) {
-                Ok(count) => {
-                    let tried = Past::same(&past);
-                    Ok(Register {
-                        conn,
-                        broken: false,
-                        past,
-                        count,
-                        tried,
-                        alloc,
-                    })
-                }
-                Err(refusal) => Err((fault_of(refusal), conn)),
-            },
+            Ok(count) => {
+                let tried = Past::same(&past);
+                Ok(Register {
+                    conn,
+                    broken: false,
+                    past,
+                    count,
+                    tried,
+                    alloc,
+                })
+            }
             Err(fault) => Err((fault, conn)),
         }
     }
@@ -159,8 +143,8 @@ impl Register<MemStore> {
     ghost use Rattle.sqlite.specs.Steps.{over_memory};
     ghost use Rattle.kcr_store.specs.Register.{IsKept};
 
-    /// A new register in memory, with no command. It is lost with the process. Where memory is wanting there is none:
-    /// the fault is `Memory`, or `Disk` as the store tells it, and never `Foreign` or `Version`.
+    /// A new register in memory, with no command. It is lost with the process. When out of memory there is none: the
+    /// fault is `Memory`, or `Disk` as the store tells it, and never `Foreign` or `Version`.
     pub fn in_memory(alloc: Global) -> Result<Register<MemStore>, OpenFault>
         ensures new { IfOk result (λ r. (r.is_founded ≡ true) × (r.accepted ≡ []) × (r.torn ≡ None)
             × IsKept over_memory r) }

@@ -1,5 +1,6 @@
 -- What a task leaves on the output.
-use Rattle.std.specs.Prelude.{◌≡◌, ⊤, ℕ, List, Option, None, Result, IfErr, IsTrue, OnErr, OnOk}
+use Rattle.std.specs.Prelude.{◌≡◌, ◌≤◌, ⊤, ℕ, List, length, Option, None, Result, MatchResult, IfErr, IsTrue, OnErr}
+use Rattle.std.specs.Prelude.{OnOk}
 use Rattle.std.specs.Io.KnownBytes.{Appends}
 use Rattle.sqlite.specs.Held.{Held, state}
 use Rattle.sqlite.specs.State.{HasCleanDisk}
@@ -12,9 +13,10 @@ use Rattle.kcr_history.specs.Prints.{annotated, attendance, custody}
 use Rattle.kcr_store.specs.Register.{Seen}
 use Rattle.kcr_desk.specs.Run.{IsServed, IsBroken}
 use Rattle.kcr_desk.specs.Answers.{Standing, IsAnswer, IsReply}
+use Rattle.kcr_desk.specs.Connections.{Connects}
 use Rattle.kcr_print.specs.Written.{WritesFront}
-use Rattle.kcr_tool.specs.Faults.{StopsReport}
-use Rattle.kcr_tool.specs.Lines.{clean_line, listening_line}
+use Rattle.kcr_tool.specs.Faults.{MayMeet, MeetsOver, StopsReport}
+use Rattle.kcr_tool.specs.Lines.{clean_line, listening_line, whole_line}
 use Rattle.kcr_tool.specs.Audits.{TellsFinding, TellsFront}
 use Rattle.kcr_tool.specs.Verifications.{TellsWhole, TellsDifference, TellsVerifiedFront, verified_head, rebuilt_head}
 use Rattle.kcr_tool.specs.declared.fault.Fault.{Fault}
@@ -35,7 +37,7 @@ abbrev pub AnswersInPart : History → Option (List ℕ) → Option (List ℕ) �
 AnswersInPart A input old new = (after : Standing) × IsBroken IsAnswer input old new (whole A) after
 
 -- a task over a register with this history went well: a run has answered all of its input, a report is written whole,
--- an audit found nothing, and a verification or a rebuild no difference
+-- an audit found nothing, a verification no difference, of as many commands as the history has, nor did a rebuild
 abbrev pub Does : Task → History → Option (List ℕ) → Option (List ℕ) → Option (List ℕ) → Type 0
 Does Run A input old new = AnswersAll A input old new
 Does (Serve port connections) A input old new = Appends old new (listening_line port)
@@ -43,7 +45,7 @@ Does (Print ceremony) A input old new = IsTrue (is_ceremony A ceremony) × Appen
 Does (Attendance ceremony) A input old new = IsTrue (is_ceremony A ceremony) × Appends old new (attendance A ceremony)
 Does Custody A input old new = Appends old new (custody A)
 Does Audit A input old new = Appends old new clean_line
-Does Verify A input old new = TellsWhole verified_head old new
+Does Verify A input old new = Appends old new (whole_line verified_head (length A))
 Does Rebuild A input old new = TellsWhole rebuilt_head old new
 
 -- it stopped before its end: what was written is a beginning of that
@@ -54,24 +56,24 @@ DoesInPart (Print ceremony) A input old new = WritesFront old new (annotated A c
 DoesInPart (Attendance ceremony) A input old new = WritesFront old new (attendance A ceremony)
 DoesInPart Custody A input old new = WritesFront old new (custody A)
 DoesInPart Audit A input old new = TellsFront old new
-DoesInPart Verify A input old new = TellsVerifiedFront verified_head old new
+DoesInPart Verify A input old new = WritesFront old new (whole_line verified_head (length A))
 DoesInPart Rebuild A input old new = TellsVerifiedFront rebuilt_head old new
 
 -- WHATEVER THE DATABASE HELD
 
--- each message of the input got a reply, in their order
-abbrev pub RepliesToAll : Option (List ℕ) → Option (List ℕ) → Option (List ℕ) → Type 0
-RepliesToAll input old new =
-    (before : Standing) × (after : Standing) × (count : ℕ) × IsServed IsReply input old new before after count
+-- each message of the input got a reply, in their order, by a register that was like this before
+abbrev pub RepliesToAll : Standing → Option (List ℕ) → Option (List ℕ) → Option (List ℕ) → Type 0
+RepliesToAll before input old new = (after : Standing) × (count : ℕ) × IsServed IsReply input old new before after count
 
 -- a beginning of its messages got one, the last of them a beginning of one
-abbrev pub RepliesInPart : Option (List ℕ) → Option (List ℕ) → Option (List ℕ) → Type 0
-RepliesInPart input old new = (before : Standing) × (after : Standing) × IsBroken IsReply input old new before after
+abbrev pub RepliesInPart : Standing → Option (List ℕ) → Option (List ℕ) → Option (List ℕ) → Type 0
+RepliesInPart before input old new = (after : Standing) × IsBroken IsReply input old new before after
 
--- a task went well over a register of which nothing is known: each message got a reply, and the lines of a port, of an
--- audit, of a verification and of a rebuild are written. Of a report nothing is said
+-- a task went well over a register of whose history nothing is known: each message got a reply, by a register that
+-- nothing had broken before, and the lines of a port, of an audit, of a verification and of a rebuild are written. Of a
+-- report nothing is said
 abbrev pub Leaves : Task → Option (List ℕ) → Option (List ℕ) → Option (List ℕ) → Type 0
-Leaves Run input old new = RepliesToAll input old new
+Leaves Run input old new = (A : History) × RepliesToAll (whole A) input old new
 Leaves (Serve port connections) input old new = Appends old new (listening_line port)
 Leaves Audit input old new = Appends old new clean_line
 Leaves Verify input old new = TellsWhole verified_head old new
@@ -80,7 +82,7 @@ Leaves report input old new = Unit {0}
 
 -- it stopped before its end
 abbrev pub LeavesInPart : Task → Option (List ℕ) → Option (List ℕ) → Option (List ℕ) → Type 0
-LeavesInPart Run input old new = RepliesInPart input old new
+LeavesInPart Run input old new = (A : History) × RepliesInPart (whole A) input old new
 LeavesInPart (Serve port connections) input old new = WritesFront old new (listening_line port)
 LeavesInPart Audit input old new = TellsFront old new
 LeavesInPart Verify input old new = TellsVerifiedFront verified_head old new
@@ -109,4 +111,12 @@ pub record Reports {S W : Type 0} (g : Ghosts S) (contents : W → Option (List 
       (λ A. OnOk result (Does task A None (contents (inner_of old)) (contents (inner_of new))))
   pub part : OfHistory g register
       (λ A. OnErr result (DoesInPart task A None (contents (inner_of old)) (contents (inner_of new))))
-  pub cause : IfErr result (StopsReport old new)
+  pub cause : IfErr result (StopsReport (MeetsOver register (MayMeet task)) old new)
+
+-- CONNECTIONS
+
+-- all connections were served, one after the other, or as many as came before a fault
+abbrev pub ConnectsUpTo : {S T : Type 0} → Ghosts S → ℕ → Seen S → Seen S → Result T Fault → Type 0
+ConnectsUpTo g connections before after result =
+    MatchResult result (λ _. Connects g before after connections)
+    (λ _. (count : ℕ) × (count ≤ connections) × Connects g before after count)

@@ -15,9 +15,9 @@ abbrev pub rebuilt_head : List ℕ
 rebuilt_head = codes "rebuilt: "
 
 -- the line of what it came to
-abbrev pub IsLineFor : List ℕ → Verified → List ℕ → Type 0
-IsLineFor head (Whole count) line = line ≡ whole_line head count
-IsLineFor head (Differs difference) line = line ≡ difference_line difference
+abbrev pub verified_line : List ℕ → Verified → List ℕ
+verified_line head (Whole count) = whole_line head count
+verified_line head (Differs difference) = difference_line difference
 
 -- what it came to is told in a line: with status 0 where the register is that of its commands, and 1 where it differs
 abbrev pub TellsVerified : List ℕ → Verified → Option (List ℕ) → Option (List ℕ) → ℕ → Type 0

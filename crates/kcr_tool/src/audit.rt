@@ -8,7 +8,8 @@ ghost use Rattle.kcr_history.specs.declared.views.Finding.{Finding as Found};
 ghost use Rattle.kcr_store.specs.Whole.{FindsIn};
 ghost use Rattle.kcr_tables.specs.Joint.{HoldsTables};
 ghost use Rattle.kcr_tool.specs.Audits.{TellsFound, TellsFront};
-ghost use Rattle.kcr_tool.specs.Faults.{StopsReport};
+ghost use Rattle.kcr_tables.specs.Refusals.{IsFault};
+ghost use Rattle.kcr_tool.specs.Faults.{MeetsOver, StopsReport};
 ghost use Rattle.kcr_tool.specs.Lines.{clean_line, finding_line, found_line};
 ghost use Rattle.kcr_tool.specs.Runs.{OfHistory};
 
@@ -56,7 +57,7 @@ fn tell_found<W: Write>(
         (TellsFound found.now (W.contents (inner_of output.old)) (W.contents (inner_of output.new))) }
     ensures part { OnErr result ((output.new ≡ output.old)
         ⊎ TellsFront (W.contents (inner_of output.old)) (W.contents (inner_of output.new))) }
-    ensures cause { IfErr result (StopsReport output.old output.new) }
+    ensures cause { IfErr result (StopsReport IsFault output.old output.new) }
 {
     match found {
         None => match put(output, b"audit: nothing found\n") {
@@ -98,7 +99,7 @@ pub fn audit<S: Alter, W: Write>(
     ensures nothing { OfHistory S.Store register.old (λ A. IfOk result (λ status. status ≡ 0)) }
     ensures part { OnErr result ((output.new ≡ output.old)
         ⊎ TellsFront (W.contents (inner_of output.old)) (W.contents (inner_of output.new))) }
-    ensures cause { IfErr result (StopsReport output.old output.new) }
+    ensures cause { IfErr result (StopsReport (MeetsOver register.old IsFault) output.old output.new) }
 {
     match register.audit() {
         Ok(found) => tell_found(alloc, &found, output),

@@ -1,7 +1,8 @@
 //! The tasks over a register that end by themselves.
 ghost use Rattle.std.specs.Prelude.{IfErr, OnOk, OnErr};
 ghost use Rattle.kcr_base.specs.Counted.{inner_of};
-ghost use Rattle.kcr_tool.specs.Faults.{HasCause};
+ghost use Rattle.kcr_desk.specs.Answers.{standing};
+ghost use Rattle.kcr_tool.specs.Faults.{StopsStream};
 ghost use Rattle.kcr_tool.specs.Runs.{AnswersAll, AnswersInPart, RepliesToAll, RepliesInPart, Reports, OfHistory};
 ghost use Rattle.kcr_tool.specs.declared.words.Task.TheVariants as task;
 
@@ -25,11 +26,11 @@ pub fn run<S: Alter, R: Read, W: Write>(
         (R.remaining (inner_of input.old)) (W.contents (inner_of output.old)) (W.contents (inner_of output.new)))) }
     ensures part { OfHistory S.Store register.old (λ A. OnErr result (AnswersInPart A
         (R.remaining (inner_of input.old)) (W.contents (inner_of output.old)) (W.contents (inner_of output.new)))) }
-    ensures answered { OnOk result (RepliesToAll
+    ensures answered { OnOk result (RepliesToAll (standing register.old)
         (R.remaining (inner_of input.old)) (W.contents (inner_of output.old)) (W.contents (inner_of output.new))) }
-    ensures answered_in_part { OnErr result (RepliesInPart
+    ensures answered_in_part { OnErr result (RepliesInPart (standing register.old)
         (R.remaining (inner_of input.old)) (W.contents (inner_of output.old)) (W.contents (inner_of output.new))) }
-    ensures cause { IfErr result (λ why. HasCause why input.old input.new output.old output.new) }
+    ensures cause { IfErr result (StopsStream input.old input.new output.old output.new) }
 {
     match serve(alloc, input, output, register) {
         Ok(_) => Ok(()),

@@ -1,15 +1,20 @@
 //! The verification of a register and its rebuilding, as lines.
-ghost use Rattle.std.specs.Prelude.{◌≡◌, ◌≤◌, ◌⊎◌, [], None, IfOk, IfErr, OnErr, string_bytes};
+ghost use Rattle.std.specs.Prelude.{◌≡◌, ◌≤◌, ◌⊎◌, [], length, option_map, None, IfOk, IfErr, OnErr, string_bytes};
+ghost use Rattle.sqlite.specs.Held.{state};
+ghost use Rattle.sqlite.specs.State.{HasCleanDisk};
 ghost use Rattle.kcr_base.specs.Counted.{inner_of};
 ghost use Rattle.kcr_history.specs.History.{History};
-ghost use Rattle.kcr_history.specs.Machine.{IsRegister};
+ghost use Rattle.kcr_history.specs.Machine.{IsOfMachine};
 ghost use Rattle.kcr_history.specs.Tables.{Tables, tables};
+ghost use Rattle.kcr_print.specs.Written.{WritesFront};
 ghost use Rattle.kcr_store.specs.Whole.{IsListed};
+ghost use Rattle.kcr_tables.specs.Refusals.{IsFault};
 ghost use Rattle.kcr_tool.specs.Faults.{StopsReading, StopsReport, StopsRebuild};
 ghost use Rattle.kcr_tool.specs.Lines.{difference_line, found_line, whole_line};
-ghost use Rattle.kcr_tool.specs.Verifications.{IsLineFor, TellsVerified, TellsVerifiedFront, verified_head};
-ghost use Rattle.kcr_tool.specs.Verifications.{rebuilt_head};
-ghost use Rattle.kcr_verify.specs.Verified.{AreValues, IsTold};
+ghost use Rattle.kcr_tool.specs.Verifications.{TellsVerified, TellsVerifiedFront, rebuilt_head, verified_head};
+ghost use Rattle.kcr_tool.specs.Verifications.{verified_line};
+ghost use Rattle.kcr_forms.specs.Values.{AreValues};
+ghost use Rattle.kcr_verify.specs.Verified.{IsIntact, IsTold};
 ghost use Rattle.kcr_verify.specs.declared.verification.Verified.{Verified as Told};
 
 use crate::fault::Fault;
@@ -18,9 +23,9 @@ use itoa::Buffer;
 use kcr_base::{Counted, Refusal};
 use kcr_history::WholeView;
 use kcr_print::put;
-use kcr_store::{OpenFault, connect, tables_of};
+use kcr_store::{OpenFault, Register, connect, tables_of};
 use kcr_verify::{Difference, Verified, create};
-use sqlite::{Connection, Unknown};
+use sqlite::{Alter, Connection, Unknown};
 use std::alloc::{AllocError, Global};
 use std::io::Write;
 
@@ -48,7 +53,7 @@ fn line_of(alloc: Global, difference: &Difference) -> Result<String, AllocError>
 
 /// The line of what a verification came to; `head` begins that of a good end. The error is out of memory.
 fn line_of_verified(alloc: Global, head: &str, verified: &Verified) -> Result<String, AllocError>
-    ensures { IfOk result (λ line. IsLineFor head.now verified.now (string_bytes line)) }
+    ensures { IfOk result (λ line. string_bytes line ≡ verified_line head.now verified.now) }
 {
     match verified {
         Verified::Whole(count) => {
@@ -67,9 +72,9 @@ fn tell_verified<W: Write>(
 ) -> Result<u8, Fault>
     ensures told { IfOk result
         (TellsVerified head.now verified.now (W.contents (inner_of output.old)) (W.contents (inner_of output.new))) }
-    ensures part { OnErr result ((output.new ≡ output.old)
-        ⊎ TellsVerifiedFront head.now (W.contents (inner_of output.old)) (W.contents (inner_of output.new))) }
-    ensures cause { IfErr result (StopsReport output.old output.new) }
+    ensures part { OnErr result ((output.new ≡ output.old) ⊎ WritesFront (W.contents (inner_of output.old))
+        (W.contents (inner_of output.new)) (verified_line head.now verified.now)) }
+    ensures cause { IfErr result (StopsReport IsFault output.old output.new) }
 {
     let Ok(line) = line_of_verified(alloc, head, verified) else {
         return Err(Fault::Refused(Refusal::Memory));
@@ -87,7 +92,7 @@ fn tell_verified<W: Write>(
 /// version its register is of; one that is not there is made, with nothing in it.
 pub fn rows_named(rt: &HostRuntime, file: Option<&str>) -> Result<WholeView, Fault>
     ensures new { file.entry ≡ None → IfOk result (IsListed (tables [])) }
-    ensures cause { IfErr result StopsReading }
+    ensures cause { IfErr result (StopsReading (option_map (λ path. path.now) file.entry)) }
 {
     let Some(path) = file else {
         return rows_of_none(rt.alloc());
@@ -102,24 +107,24 @@ pub fn rows_named(rt: &HostRuntime, file: Option<&str>) -> Result<WholeView, Fau
     }
 }
 
-/// All rows of a new register in memory.
+/// All rows of a new register in memory. Memory has no device: each fault is out of memory.
 fn rows_of_none(alloc: Global) -> Result<WholeView, Fault>
     ensures new { IfOk result (IsListed (tables [])) }
-    ensures cause { IfErr result StopsReading }
+    ensures cause { IfErr result (λ why. why ≡ Fault.Open OpenFault.Memory) }
 {
     let Ok(mut connection) = Connection::open_in_memory(alloc) else {
         return Err(Fault::Open(OpenFault::Memory));
     };
     match tables_of(alloc, &mut connection) {
         Ok(rows) => Ok(rows),
-        Err(fault) => Err(Fault::Open(fault)),
+        Err(_) => Err(Fault::Open(OpenFault::Memory)),
     }
 }
 
 /// Verifies the rows of a register: a line that says of how many commands it is the register, or the first thing that
 /// differs from what its commands lead to, and the exit status, 1 where something differs. Out of memory is refused
 /// (33), which the store in memory may tell as a fault of a device (34), and nothing is written then.
-#[tactic(auto, using(crate::proofs::Verifications::status_told, crate::proofs::Verifications::nothing_told))]
+#[tactic(auto, using(crate::proofs::Verifications::status_told))]
 pub fn verify<W: Write>(
     alloc: Global,
     rows: WholeView,
@@ -130,21 +135,60 @@ pub fn verify<W: Write>(
         × TellsVerified verified_head told (W.contents (inner_of output.old))
         (W.contents (inner_of output.new)) status) }
 
-    // That the register is the one of its commands is told where it is true of the tables, whoever wrote them.
-    ensures found { (m : Tables) → IsListed m rows
-        → IfOk result (λ status. (told : Told) × ((A : History) × IsTold m A told)
+    // What is told of the rows is so, whoever wrote them.
+    ensures found { IfOk result (λ status. (told : Told) × ((A : History) × IsTold rows A told)
         × TellsVerified verified_head told (W.contents (inner_of output.old))
         (W.contents (inner_of output.new)) status) }
 
-    // In the tables of a history nothing differs.
-    ensures nothing { (A : History) → IsRegister A → AreValues A → IsListed (tables A) rows
-        → IfOk result (λ status. status ≡ 0) }
+    // In the tables of a history that the machine leads to nothing differs, and the line has the number of its commands.
+    ensures own { (A : History) → IsOfMachine A → AreValues A → IsListed (tables A) rows
+        → IfOk result (λ status. TellsVerified verified_head (Verified.Whole (length A))
+        (W.contents (inner_of output.old)) (W.contents (inner_of output.new)) status) }
+    ensures own_in_part { (A : History) → IsOfMachine A → AreValues A → IsListed (tables A) rows
+        → OnErr result ((output.new ≡ output.old) ⊎ WritesFront (W.contents (inner_of output.old))
+        (W.contents (inner_of output.new)) (whole_line verified_head (length A))) }
     ensures part { OnErr result ((output.new ≡ output.old)
         ⊎ TellsVerifiedFront verified_head (W.contents (inner_of output.old)) (W.contents (inner_of output.new))) }
-    ensures cause { IfErr result (StopsReport output.old output.new) }
+    ensures cause { IfErr result (StopsReport IsFault output.old output.new) }
 {
     match kcr_verify::verify(alloc, rows) {
         Ok(verified) => tell_verified(alloc, "verified: ", &verified, output),
+        Err(refusal) => Err(Fault::Refused(refusal)),
+    }
+}
+
+/// Gives the commands among these rows of a register to a new one, and writes the line of what it came to. The errors
+/// are those of `rebuild`.
+#[tactic(auto, using(crate::proofs::Verifications::status_told))]
+fn rebuild_in<S: Alter, W: Write>(
+    alloc: Global,
+    rows: WholeView,
+    fresh: &mut Register<S>,
+    output: &mut Counted<W>,
+) -> Result<u8, Fault>
+    requires intact { IsIntact S.Store fresh.old }
+    requires empty { fresh.old.accepted ≡ [] }
+    ensures status { IfOk result (λ status. status ≤ 1) }
+    ensures told { IfOk result (λ status. (told : Told)
+        × TellsVerified rebuilt_head told (W.contents (inner_of output.old))
+        (W.contents (inner_of output.new)) status) }
+
+    // What is told of the rows is so, whoever wrote them.
+    ensures found { HasCleanDisk (state S.Store fresh.new.conn)
+        → IfOk result (λ status. (told : Told) × IsTold rows fresh.new.accepted told
+        × TellsVerified rebuilt_head told (W.contents (inner_of output.old))
+        (W.contents (inner_of output.new)) status) }
+
+    // In the tables of a history that the machine leads to nothing differs, and the line has the number of its commands.
+    ensures own { HasCleanDisk (state S.Store fresh.new.conn) → (A : History) → IsOfMachine A → AreValues A
+        → IsListed (tables A) rows → IfOk result (λ status. TellsVerified rebuilt_head (Verified.Whole (length A))
+        (W.contents (inner_of output.old)) (W.contents (inner_of output.new)) status) }
+    ensures part { OnErr result ((output.new ≡ output.old)
+        ⊎ TellsVerifiedFront rebuilt_head (W.contents (inner_of output.old)) (W.contents (inner_of output.new))) }
+    ensures cause { IfErr result (StopsReport IsFault output.old output.new) }
+{
+    match kcr_verify::rebuild(alloc, rows, fresh) {
+        Ok(verified) => tell_verified(alloc, "rebuilt: ", &verified, output),
         Err(refusal) => Err(Fault::Refused(refusal)),
     }
 }
@@ -174,8 +218,5 @@ pub fn rebuild<W: Write>(
         Ok(fresh) => fresh,
         Err(fault) => return Err(Fault::Into(fault)),
     };
-    match kcr_verify::rebuild(rt.alloc(), rows, &mut fresh) {
-        Ok(verified) => tell_verified(rt.alloc(), "rebuilt: ", &verified, output),
-        Err(refusal) => Err(Fault::Refused(refusal)),
-    }
+    rebuild_in(rt.alloc(), rows, &mut fresh, output)
 }

@@ -8,8 +8,8 @@ use Rattle.kcr_store.proofs.OpenLemmas.{apart}
 
 pub has_something : (schema : Schema) (standing : Standing) → StandsAs schema standing → standing ≢ Empty → schema ≢ no_schema
 has_something schema Empty stands other is = other refl
-has_something schema Current stands other is = let e : 0 ≡ 17 = apart 3 schema no_schema stands is in omega (arith, e)
-has_something schema Second stands other is = let e : 0 ≡ 16 = apart 2 schema no_schema stands is in omega (arith, e)
-has_something schema First stands other is = let e : 0 ≡ 15 = apart 1 schema no_schema stands is in omega (arith, e)
+has_something schema Current stands other is = let e : 17 ≡ 0 = apart stands is in omega (arith, e)
+has_something schema Second stands other is = let e : 16 ≡ 0 = apart stands is in omega (arith, e)
+has_something schema First stands other is = let e : 15 ≡ 0 = apart stands is in omega (arith, e)
 has_something schema Numbered stands other is = stands.0.something is
 has_something schema Foreign stands other is = stands.0.something is

@@ -13,7 +13,6 @@ use Rattle.kcr_history.specs.Machine.{IsRegister}
 use Rattle.kcr_history.specs.Tables.{key_row}
 use Rattle.kcr_history.specs.declared.commands.Entry.{Entry}
 use Rattle.kcr_history.specs.declared.rows.KeyRow.{KeyRow}
-use Rattle.kcr_forms.specs.Acts.{IsAct}
 use Rattle.kcr_verify.specs.Verified.{AreValues, by_number, rows_by_number}
 
 number_total : IsTotalOrder by_number
@@ -105,14 +104,14 @@ IsGiven A rows index accepted =
 pub record IsNextRow (A : History) (rows : List KeyRow) (index : ℕ) (accepted : History) (row : KeyRow) : Type 0 where
   pub entry : Entry
   pub grown : IsRegister (entry ∷ accepted)
-  pub values : IsAct entry.command.act
+  pub values : AreValues (entry ∷ accepted)
   pub row_is : row ≡ key_row entry
   pub number : row.accepted ≡ index + 1
   pub then : IsGiven A rows (index + 1) (entry ∷ accepted)
 
-append_one : (before A : History) (entry : Entry) → (before ++ entry ∷ []) ++ A ≡ before ++ (entry ∷ A)
-append_one [] A entry = refl
-append_one (x ∷ xs) A entry = ap (λ l. x ∷ l) (append_one xs A entry)
+pub append_one : {X : Type 0} (before after : List X) (x : X) → (before ++ x ∷ []) ++ after ≡ before ++ x ∷ after
+append_one [] after x = refl
+append_one (y ∷ before) after x = ap (λ l. y ∷ l) (append_one before after x)
 
 pub next_row : NumbersCount → (A : History) → IsRegister A → AreValues A → (rows : List KeyRow) (index : ℕ) (accepted : History) (row : KeyRow)
     → IsGiven A rows index accepted → index < length rows → get_or rows index row ≡ row → IsNextRow A rows index accepted row
@@ -127,7 +126,7 @@ next_row count A h values rows index accepted row given low at =
     record {
       entry = next.1;
       grown = grown;
-      values = (values_of next.0 (next.1 ∷ accepted) (subst AreValues whole values)).0;
+      values = values_of next.0 (next.1 ∷ accepted) (subst AreValues whole values);
       row_is = next.3;
       number = omega (arith, row_number, numbered, given.3);
       then = (next.0, whole, next.4, omega (arith, given.3));

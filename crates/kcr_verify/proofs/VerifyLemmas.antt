@@ -1,13 +1,13 @@
 -- What a verification shows of the tables that it compares.
-use Rattle.std.proofs.Common.{◌≡◌, ◌+◌, ◌<◌, ◌∷◌, ◌++◌, [], ℕ, List, map, length, take, get_or, refl, sym, ap, ◌∙◌, subst, IsPermutation}
+use Rattle.std.proofs.Common.{◌≡◌, ◌+◌, ◌<◌, ◌∷◌, ◌++◌, [], ℕ, List, map, length, take, drop, get_or, refl, sym, ap, ◌∙◌, subst, IsPermutation, IsSorted}
 use Rattle.std.specs.List.{AllByRecursion}
 use Rattle.std.specs.Prelude.{Option, Some, None, IfSome}
-use Rattle.std.proofs.lemmas.List.{length-map, take_more}
+use Rattle.std.proofs.lemmas.List.{length-map, take_more, drop_more, take-append-drop}
 use Rattle.std.proofs.lemmas.List.Sorted.{IsPermutation-sym, IsPermutation-trans, length_permutation}
-use Rattle.kcr_audit.specs.Whole.{tables_of}
+use Rattle.kcr_base.proofs.Members.{in-order}
 use Rattle.kcr_history.specs.History.{History}
-use Rattle.kcr_history.specs.Machine.{IsRegister}
-use Rattle.kcr_history.specs.Tables.{Tables, SameTables, tables, key_row}
+use Rattle.kcr_history.specs.Tables.{Tables, tables, key_row}
+use Rattle.kcr_history.specs.declared.rows.KeyRow.{KeyRow}
 use Rattle.kcr_history.specs.declared.views.WholeView.{WholeView}
 use Rattle.kcr_store.specs.Whole.{AreRows, IsListed}
 use Rattle.kcr_tables.specs.PeopleLaws as people
@@ -26,7 +26,10 @@ use Rattle.kcr_tables.specs.SheetLaws as sheet
 use Rattle.kcr_tables.specs.StaysLaws as stays
 use Rattle.kcr_tables.specs.ExceptionsLaws as exceptions
 use Rattle.kcr_tables.specs.Table as held
-use Rattle.kcr_verify.specs.Verified.{AreOf, HasRows}
+use Rattle.kcr_verify.specs.Verified.{AreInOrder, HasRows, HaveOwnKeys, IsDifference, IsFirstTable, Says, StopsFor, StopsIn, by_number, compared, rows_by_number}
+use Rattle.kcr_verify.specs.declared.verification.Difference.{Difference}
+use Rattle.kcr_verify.specs.declared.verification.Difference.TheVariants as Differences
+use Rattle.kcr_verify.specs.declared.verification.Verified.TheVariants.{Whole, Differs}
 use Rattle.kcr_verify.specs.declared.compare.Table.{Table}
 use Rattle.kcr_verify.specs.declared.compare.Table.TheVariants.{People, Trainings, Withdrawals, Appointments, Boxes, Safes, Bags, Items, Ceremonies, Marks}
 use Rattle.kcr_verify.specs.declared.compare.Table.TheVariants.{Steps, Seatings, Sheet, Stays, Exceptions, Keys}
@@ -35,41 +38,104 @@ use Rattle.kcr_verify.proofs.NumberLemmas.{all_end}
 through : {X : Type 0} (xs ys zs : List X) → IsPermutation xs zs → IsPermutation ys zs → IsPermutation xs ys
 through xs ys zs p q = IsPermutation-trans xs zs ys p (IsPermutation-sym ys zs q)
 
+-- rows that have keys of their own have them in any order
+own_along : (rows sorted : List KeyRow) → IsPermutation rows sorted → HaveOwnKeys rows → HaveOwnKeys sorted
+own_along rows sorted p own a b i j same = own a b (in-order a rows sorted p i) (in-order b rows sorted p j) same
+
 -- the rows of a view, with those of the accepted commands in another order
 pub record IsInOrder (view rows : WholeView) : Type 0 where
   pub others : rows ≡ record view { keys = rows.keys }
   pub keys : IsPermutation view.keys.items rows.keys.items
 
--- tables that a view has are the same as those of which it has the rows
-rows_same : (m a : Tables) (view rows : WholeView) → IsPermutation view.keys.items rows.keys.items → SameTables m (tables_of view)
-    → ((table : Table) → HasRows table a (record view { keys = rows.keys })) → SameTables m a
-rows_same m a view rows order same has = record {
-  people = through m.people a.people view.asked.people.items same.people (has People).same;
-  trainings = through m.trainings a.trainings view.asked.trainings.items same.trainings (has Trainings).same;
-  withdrawals = through m.withdrawals a.withdrawals view.asked.withdrawals.items same.withdrawals (has Withdrawals).same;
-  appointments = through m.appointments a.appointments view.asked.appointments.items same.appointments (has Appointments).same;
-  boxes = through m.boxes a.boxes view.asked.boxes.items same.boxes (has Boxes).same;
-  safes = through m.safes a.safes view.asked.safes.items same.safes (has Safes).same;
-  bags = through m.bags a.bags view.asked.bags.items same.bags (has Bags).same;
-  items = through m.items a.items view.asked.items.items same.items (has Items).same;
-  ceremonies = through m.ceremonies a.ceremonies view.asked.ceremonies.items same.ceremonies (has Ceremonies).same;
-  marks = through m.marks a.marks view.asked.marks.items same.marks (has Marks).same;
-  steps = through m.steps a.steps view.asked.steps.items same.steps (has Steps).same;
-  seatings = through m.seatings a.seatings view.asked.seatings.items same.seatings (has Seatings).same;
-  sheet = through m.sheet a.sheet view.sheet.items same.sheet (has Sheet).same;
-  stays = through m.stays a.stays view.asked.stays.items same.stays (has Stays).same;
-  exceptions = through m.exceptions a.exceptions view.asked.exceptions.items same.exceptions (has Exceptions).same;
-  keys = through m.keys a.keys rows.keys.items (IsPermutation-trans m.keys view.keys.items rows.keys.items same.keys order) (has Keys);
+-- the rows of each table are the same
+pub to_view : (m : Tables) (view rows : WholeView) → IsInOrder view rows → (table : Table) → HasRows table m rows → HasRows table m view
+to_view m view rows o table h = by table (subst (HasRows table m) o.others h)
+  where
+    by : (table : Table) → HasRows table m (record view { keys = rows.keys }) → HasRows table m view
+    by People h = h
+    by Trainings h = h
+    by Withdrawals h = h
+    by Appointments h = h
+    by Boxes h = h
+    by Safes h = h
+    by Bags h = h
+    by Items h = h
+    by Ceremonies h = h
+    by Marks h = h
+    by Steps h = h
+    by Seatings h = h
+    by Sheet h = h
+    by Stays h = h
+    by Exceptions h = h
+    by Keys h = through m.keys view.keys.items rows.keys.items h o.keys
+
+pub of_view : (m : Tables) (view rows : WholeView) → IsInOrder view rows → (table : Table) → HasRows table m view → HasRows table m rows
+of_view m view rows o table h = subst (HasRows table m) (sym o.others) (by table h)
+  where
+    by : (table : Table) → HasRows table m view → HasRows table m (record view { keys = rows.keys })
+    by People h = h
+    by Trainings h = h
+    by Withdrawals h = h
+    by Appointments h = h
+    by Boxes h = h
+    by Safes h = h
+    by Bags h = h
+    by Items h = h
+    by Ceremonies h = h
+    by Marks h = h
+    by Steps h = h
+    by Seatings h = h
+    by Sheet h = h
+    by Stays h = h
+    by Exceptions h = h
+    by Keys h = IsPermutation-trans m.keys view.keys.items rows.keys.items h o.keys
+
+all_weaker : {X : Type 0} (P Q : X → Type 0) → ((x : X) → P x → Q x) → (xs : List X) → AllByRecursion P xs → AllByRecursion Q xs
+all_weaker P Q weaker [] all = tt
+all_weaker P Q weaker (x ∷ xs) all = (weaker x all.0, all_weaker P Q weaker xs all.1)
+
+-- and so is the first table that differs
+pub first_in_view : (tables_in : List Table) (A : History) (view rows : WholeView) → IsInOrder view rows → (table : Table)
+    → IsFirstTable tables_in A rows table → IsFirstTable tables_in A view table
+first_in_view tables_in A view rows o table f = record {
+  before = f.before;
+  behind = f.behind;
+  listed = f.listed;
+  same = all_weaker (λ one. HasRows one (tables A) rows) (λ one. HasRows one (tables A) view) (to_view (tables A) view rows o) f.before f.same;
+  other = λ h. f.other (of_view (tables A) view rows o table h);
 }
 
 -- where the rows are those of a history that was made again, they are the tables of that history
-pub own_of : (A : History) → IsRegister A → (m : Tables) (view rows : WholeView) → IsInOrder view rows → SameTables m (tables_of view)
-    → ((table : Table) → HasRows table (tables A) rows) → AreOf A (length rows.keys.items) m
-own_of A h m view rows o same has = record {
-  register = h;
-  same = rows_same m (tables A) view rows o.keys same (λ table. subst (HasRows table (tables A)) o.others (has table));
-  counted = sym (length_permutation (map key_row A) rows.keys.items (has Keys) ∙ length-map A key_row);
-}
+pub whole_of : (A : History) (view rows : WholeView) → IsInOrder view rows → ((table : Table) → HasRows table (tables A) rows)
+    → Says view A (Whole (length rows.keys.items))
+whole_of A view rows o has = (
+  λ table. to_view (tables A) view rows o table (has table),
+  sym (length_permutation (map key_row A) rows.keys.items (has Keys) ∙ length-map A key_row),
+)
+
+-- where a table differs, after all commands were taken
+pub differs_of : (A : History) (view rows : WholeView) → IsInOrder view rows → IsSorted by_number rows.keys.items → (table : Table)
+    → IsFirstTable compared A rows table → (HaveOwnKeys rows.keys.items → rows.keys.items ≡ rows_by_number A) → Says view A (Differs (Differences.Rows table))
+differs_of A view rows o order table f all = (
+  first_in_view compared A view rows o table f,
+  λ own. subst (AreInOrder view.keys.items) (all (own_along view.keys.items rows.keys.items o.keys own)) (record { same = o.keys; order = order }),
+)
+
+-- where the commands stopped before the tables were compared
+pub stopped_of : (view : WholeView) (sorted : List KeyRow) (A : History) (difference : Difference) → AreInOrder view.keys.items sorted
+    → StopsFor difference sorted A → Says view A (Differs difference)
+stopped_of view sorted A difference order stops = by difference stops
+  where
+    given : (d : Difference) → (HaveOwnKeys sorted → StopsIn d sorted A) → HaveOwnKeys view.keys.items
+        → (rows : List KeyRow) × AreInOrder view.keys.items rows × StopsIn d rows A
+    given d stops own = (sorted, order, stops (own_along view.keys.items sorted order.same own))
+
+    by : (d : Difference) → StopsFor d sorted A → IsDifference view A d
+    by (Differences.Number place) h = given (Differences.Number place) h
+    by (Differences.Command number) h = given (Differences.Command number) h
+    by (Differences.Refused number) h = given (Differences.Refused number) h
+    by (Differences.Reply number) h = given (Differences.Reply number) h
+    by (Differences.Rows table) h = absurd h
 
 in_view : {X : Type 0} (table : held.Table X) (m : Tables) (view : WholeView) (v : IsListed m view) (rows : List X)
     → IsPermutation (held.machine_rows table m) rows → rows ≡ table.rows_in v.t → AreRows table m rows
@@ -98,15 +164,12 @@ listed_table A view v keys order Exceptions =
     in_view exceptions.table (tables A) view v view.asked.exceptions.items v.same.exceptions (λ i. (v.lists i).exceptions)
 listed_table A view v keys order Keys = IsPermutation-trans (map key_row A) view.keys.items keys.keys.items v.same.keys order
 
-no_difference : (P : Table → Type 0) → ((table : Table) → P table) → (found : Option Table) → IfSome found (λ table. ¬ P table) → found ≡ None
-no_difference P all None e = refl
-no_difference P all (Some table) not = absurd (not (all table))
-
 -- of a history's own tables none differs
 pub none_differs : (A : History) (view rows : WholeView) → IsInOrder view rows → IsListed (tables A) view
-    → (found : Option Table) → IfSome found (λ table. ¬ HasRows table (tables A) rows) → found ≡ None
-none_differs A view rows o v =
-    no_difference (λ table. HasRows table (tables A) rows) (λ table. subst (HasRows table (tables A)) (sym o.others) (listed_table A view v rows o.keys table))
+    → (found : Option Table) → IfSome found (IsFirstTable compared A rows) → found ≡ None
+none_differs A view rows o v None f = refl
+none_differs A view rows o v (Some table) f =
+    absurd (f.other (subst (HasRows table (tables A)) (sym o.others) (listed_table A view v rows o.keys table)))
 
 -- one more table was looked at
 pub one_more_table : (P : Table → Type 0) (tables : List Table) (i : ℕ) (table : Table) → i < length tables → get_or tables i table ≡ table
@@ -114,11 +177,42 @@ pub one_more_table : (P : Table → Type 0) (tables : List Table) (i : ℕ) (tab
 one_more_table P tables i table low at all h =
     subst (AllByRecursion P) (sym (take_more tables i table low ∙ ap (λ (t : Table). take i tables ++ t ∷ []) at)) (all_end P (take i tables) table all h)
 
--- what holds of the accepted commands and of each table in the list of the others holds of every table
+-- every table but that of the accepted commands
 abbrev pub other_tables : List Table
 other_tables = People ∷ Trainings ∷ Withdrawals ∷ Appointments ∷ Boxes ∷ Safes ∷ Bags ∷ Items ∷ Ceremonies ∷ Marks ∷ Steps ∷ Seatings ∷ Sheet ∷ Stays
     ∷ Exceptions ∷ []
 
+-- a table that differs, behind those that were looked at
+pub first_at : (A : History) (view : WholeView) (tables_in : List Table) (i : ℕ) (table : Table) → i < length tables_in → get_or tables_in i table ≡ table
+    → AllByRecursion (λ one. HasRows one (tables A) view) (take i tables_in) → ¬ HasRows table (tables A) view → IsFirstTable tables_in A view table
+first_at A view tables_in i table low at all not = record {
+  before = take i tables_in;
+  behind = drop (i + 1) tables_in;
+  listed = sym (take-append-drop i tables_in) ∙ ap (λ l. take i tables_in ++ l)
+      (drop_more tables_in i table low ∙ ap (λ (t : Table). t ∷ drop (i + 1) tables_in) at);
+  same = all;
+  other = not;
+}
+
+pub some_weaker : {X : Type 0} (P Q : X → Type 0) → ((x : X) → P x → Q x) → (found : Option X) → IfSome found P → IfSome found Q
+some_weaker P Q weaker None h = tt
+some_weaker P Q weaker (Some x) h = weaker x h
+
+-- the accepted commands are compared before the others
+pub first_with_keys : (A : History) (view : WholeView) (table : Table) → HasRows Keys (tables A) view → IsFirstTable other_tables A view table
+    → IsFirstTable compared A view table
+first_with_keys A view table keys f = record {
+  before = Keys ∷ f.before;
+  behind = f.behind;
+  listed = ap (λ l. Keys ∷ l) f.listed;
+  same = (keys, f.same);
+  other = f.other;
+}
+
+pub first_is_keys : (A : History) (view : WholeView) → ¬ HasRows Keys (tables A) view → IsFirstTable compared A view Keys
+first_is_keys A view not = record { before = []; behind = other_tables; listed = refl; same = tt; other = not }
+
+-- what holds of the accepted commands and of each table in the list of the others holds of every table
 -- in each name below are the facts of that table and of those behind it
 pub at_each : (P : Table → Type 0) → P Keys → AllByRecursion P other_tables → (table : Table) → P table
 at_each P keys people table =

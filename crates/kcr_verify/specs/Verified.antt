@@ -1,16 +1,26 @@
 -- What a verification of a register's tables says.
-use Rattle.std.specs.Prelude.{◌≡◌, ℕ, List, Result, true, None, IfOk, IfErr, IsPermutation, length, map, reverse, codes}
+use Rattle.std.specs.Prelude.{◌≡◌, ◌≢◌, ◌⊎◌, ℕ, ◌+◌, List, [], ◌∷◌, ◌++◌, Result, true, Option, None, Some, IfOk, IfErr}
+use Rattle.std.specs.Prelude.{IsPermutation, length, map, reverse, codes}
 use Rattle.std.specs.declared.cmp.Ordering.{Ordering}
 use Rattle.std.specs.Ordering.{nat_cmp}
 use Rattle.std.specs.List.{AllByRecursion}
+use Rattle.std.specs.List.Sorted.{IsSorted}
 use Rattle.sqlite.specs.Held.{state}
 use Rattle.sqlite.specs.State.{HasCleanDisk}
 use Rattle.sqlite.specs.Store.{Ghosts}
 use Rattle.kcr_forms.specs.Acts.{IsAct}
+pub use Rattle.kcr_forms.specs.Values.{AreValues}
+use Rattle.kcr_base.specs.Rows.{IsIn}
 use Rattle.kcr_base.specs.declared.refusal.Refusal.{Refusal}
 use Rattle.kcr_history.specs.History.{History}
-use Rattle.kcr_history.specs.Machine.{IsRegister}
-use Rattle.kcr_history.specs.Tables.{Tables, SameTables, tables, key_row}
+use Rattle.kcr_history.specs.Laws.{IsSeatedFirst, HasFirstSeatings}
+use Rattle.kcr_history.specs.Machine.{machine, Accepts, Refuses, IsOfMachine, sitting}
+use Rattle.kcr_history.specs.Tables.{Tables, tables, key_row}
+use Rattle.kcr_history.specs.Texts.{answer_text, command_text}
+use Rattle.kcr_history.specs.declared.commands.Act.{Act}
+use Rattle.kcr_history.specs.declared.commands.Answer.{Answer}
+use Rattle.kcr_history.specs.declared.commands.Command.{Command}
+use Rattle.kcr_history.specs.declared.commands.Entry.{Entry}
 use Rattle.kcr_history.specs.declared.rows.KeyRow.{KeyRow}
 use Rattle.kcr_history.specs.declared.views.WholeView.{WholeView}
 use Rattle.kcr_store.specs.Register.{Seen, IsKept}
@@ -35,6 +45,8 @@ use Rattle.kcr_verify.specs.declared.compare.Table.{Table}
 use Rattle.kcr_verify.specs.declared.compare.Table.TheVariants.{People, Trainings, Withdrawals, Appointments, Boxes}
 use Rattle.kcr_verify.specs.declared.compare.Table.TheVariants.{Safes, Bags, Items, Ceremonies, Marks, Steps, Seatings}
 use Rattle.kcr_verify.specs.declared.compare.Table.TheVariants.{Sheet, Stays, Exceptions, Keys}
+use Rattle.kcr_verify.specs.declared.verification.Difference.{Difference}
+use Rattle.kcr_verify.specs.declared.verification.Difference.TheVariants as Differences
 use Rattle.kcr_verify.specs.declared.verification.Verified.{Verified}
 use Rattle.kcr_verify.specs.declared.verification.Verified.TheVariants.{Whole, Differs}
 
@@ -92,6 +104,8 @@ pub record OnlyLooks {A S : Type 0} (g : Ghosts S) (old new : Seen S) (result : 
   pub clean : HasCleanDisk (state g new.conn) → HasCleanDisk (state g old.conn)
   pub kept : IsKept g new
 
+-- COMMANDS IN ORDER
+
 -- the order of accepted commands by their numbers
 abbrev pub by_number : KeyRow → KeyRow → Ordering
 by_number a b = nat_cmp a.accepted b.accepted
@@ -100,18 +114,143 @@ by_number a b = nat_cmp a.accepted b.accepted
 abbrev pub rows_by_number : History → List KeyRow
 rows_by_number A = reverse (map key_row A)
 
--- the parts of each accepted command are values of their types
-abbrev pub AreValues : History → Type 0
-AreValues A = AllByRecursion (λ entry. IsAct entry.command.act) A
+-- the same rows, in that order
+pub record AreInOrder (rows sorted : List KeyRow) : Type 0 where
+  pub same : IsPermutation rows sorted
+  pub order : IsSorted by_number sorted
 
--- the tables are those of this history, which the machine leads to, of so many commands
-pub record AreOf (history : History) (count : ℕ) (m : Tables) : Type 0 where
-  pub register : IsRegister history
-  pub same : SameTables m (tables history)
-  pub counted : length history ≡ count
+-- each row has a key of its own, as it has in every database
+abbrev pub HaveOwnKeys : List KeyRow → Type 0
+HaveOwnKeys rows = (a b : KeyRow) → IsIn a rows → IsIn b rows → a.key ≡ b.key → a ≡ b
 
--- what is said of these tables, whoever wrote them, where their commands led to this history: that they are a
--- register's of its own commands is true
-abbrev pub IsTold : Tables → History → Verified → Type 0
-IsTold m A (Whole count) = AreOf A count m
-IsTold m A (Differs difference) = Unit {0}
+-- WHAT BECOMES OF A ROW'S COMMAND
+
+-- the command has the key and the text of the row
+pub record IsToldBy (row : KeyRow) (command : Command) : Type 0 where
+  pub key : command.key ≡ row.key
+  pub text : command_text command.act ≡ row.command
+
+-- the text of the row is no command's
+abbrev pub TellsNothing : KeyRow → Type 0
+TellsNothing row = (act : Act) → IsAct act → command_text act ≢ row.command
+
+-- the machine accepts the row's command and goes from A to B; this is so of the text of its answer
+pub record TakesWith (Is : List ℕ → Type 0) (row : KeyRow) (A B : History) : Type 0 where
+  pub command : Command
+  pub told : IsToldBy row command
+  pub answer : Answer
+  pub step : machine A command (Accepts answer) B
+  pub reply : Is (answer_text answer)
+
+-- and answers as the row says, or otherwise
+abbrev pub Takes : KeyRow → History → History → Type 0
+Takes row A B = TakesWith (λ text. text ≡ row.reply) row A B
+
+abbrev pub AnswersElse : KeyRow → History → History → Type 0
+AnswersElse row A B = TakesWith (λ text. text ≢ row.reply) row A B
+
+-- the machine refuses the row's command
+pub record RefusesRow (row : KeyRow) (A : History) : Type 0 where
+  pub command : Command
+  pub told : IsToldBy row command
+  pub refusal : Refusal
+  pub step : machine A command (Refuses refusal) A
+
+-- the row's command is not taken as the row says, for this reason; the history was A and is B
+abbrev pub Declines : Difference → KeyRow → History → History → Type 0
+Declines (Differences.Command number) row A B = (number ≡ row.accepted) × TellsNothing row × (B ≡ A)
+Declines (Differences.Refused number) row A B = (number ≡ row.accepted) × RefusesRow row A × (B ≡ A)
+Declines (Differences.Reply number) row A B = (number ≡ row.accepted) × AnswersElse row A B
+Declines difference row A B = ⊥
+
+-- after A the row is not the next: its number is not, or it is and the row's command is not taken as the row says
+abbrev pub IsNotNext : Difference → KeyRow → History → History → Type 0
+IsNotNext (Differences.Number place) row A B = (place ≡ length A + 1) × (row.accepted ≢ place) × (B ≡ A)
+IsNotNext difference row A B = (row.accepted ≡ length A + 1) × Declines difference row A B
+
+-- rows in the order of their numbers: first those of the commands that were taken, then one that is not the next, and
+-- others
+pub record StopsIn (difference : Difference) (sorted : List KeyRow) (B : History) : Type 0 where
+  pub taken : History
+  pub row : KeyRow
+  pub later : List KeyRow
+  pub rows : sorted ≡ rows_by_number taken ++ row ∷ later
+  pub why : IsNotNext difference row taken B
+
+-- no table is such a row; and of rows that have keys of their own it stops at one
+abbrev pub StopsFor : Difference → List KeyRow → History → Type 0
+StopsFor (Differences.Rows table) sorted B = ⊥
+StopsFor difference sorted B = HaveOwnKeys sorted → StopsIn difference sorted B
+
+-- WHAT IS SAID
+
+-- the order in which tables are compared
+abbrev pub compared : List Table
+compared =
+    Keys ∷ People ∷ Trainings ∷ Withdrawals ∷ Appointments ∷ Boxes ∷ Safes ∷ Bags ∷ Items ∷ Ceremonies ∷ Marks ∷ Steps
+    ∷ Seatings ∷ Sheet ∷ Stays ∷ Exceptions ∷ []
+
+-- in this list the table is the first whose rows are not those of the history
+pub record IsFirstTable (tables_in : List Table) (A : History) (view : WholeView) (table : Table) : Type 0 where
+  pub before : List Table
+  pub behind : List Table
+  pub listed : tables_in ≡ before ++ table ∷ behind
+  pub same : AllByRecursion (λ one. HasRows one (tables A) view) before
+  pub other : ¬ HasRows table (tables A) view
+
+-- the history has all commands of the view
+abbrev pub HasCommands : History → WholeView → Type 0
+HasCommands A view = AreInOrder view.keys.items (rows_by_number A)
+
+-- the first thing that is not as the commands of the view say, where they led to the history B
+abbrev pub IsDifference : WholeView → History → Difference → Type 0
+IsDifference view B (Differences.Rows table) =
+    IsFirstTable compared B view table × (HaveOwnKeys view.keys.items → HasCommands B view)
+IsDifference view B difference =
+    HaveOwnKeys view.keys.items
+    → (sorted : List KeyRow) × AreInOrder view.keys.items sorted × StopsIn difference sorted B
+
+-- what a verification says of the rows of the view, where their commands led to the history A: that they are its
+-- tables, or what the first difference is
+abbrev pub Says : WholeView → History → Verified → Type 0
+Says view A (Whole count) = ((table : Table) → HasRows table (tables A) view) × (length A ≡ count)
+Says view A (Differs difference) = IsDifference view A difference
+
+-- it is so, whoever wrote the rows, and the machine leads to the history
+pub record IsTold (view : WholeView) (A : History) (told : Verified) : Type 0 where
+  pub of_machine : IsOfMachine A
+  pub says : Says view A told
+
+-- OTHER SEATINGS
+
+-- the entry was accepted after A with people who are not the first seating
+abbrev pub IsOther : History → Entry → Type 0
+IsOther A entry = ¬ IsSeatedFirst A (sitting A entry.command.act) entry.answer.seating
+
+-- of the commands of A whose recorded seating is not the first one, the first has this number
+pub record IsFirstOther (A : History) (number : ℕ) : Type 0 where
+  pub later : History
+  pub entry : Entry
+  pub before : History
+  pub whole : A ≡ later ++ entry ∷ before
+  pub counted : number ≡ length (entry ∷ before)
+  pub first : HasFirstSeatings before
+  pub other : IsOther before entry
+
+-- the entry's command was given to a register of A: it has the entry now, or the reply differs, since another seating
+-- comes before the recorded one
+abbrev pub HasNext : History → Entry → History → Option Difference → Type 0
+HasNext A entry A' None = A' ≡ entry ∷ A
+HasNext A entry A' (Some difference) = (difference ≡ Differences.Reply entry.answer.accepted) × IsOther A entry
+
+-- so with all commands of A, which were given to an empty register
+abbrev pub HasAll : History → History → Option Difference → Type 0
+HasAll A A' None = A' ≡ A
+HasAll A A' (Some difference) = (number : ℕ) × (difference ≡ Differences.Reply number) × IsFirstOther A number
+
+-- what is said of a register's tables: that they are those of its own commands, which is so where the machine leads to
+-- its history; or that the reply of the first command with another seating differs
+abbrev pub IsToldOf : History → Verified → Type 0
+IsToldOf A told =
+    ((told ≡ Whole (length A)) × IsOfMachine A)
+    ⊎ ((number : ℕ) × (told ≡ Differs (Differences.Reply number)) × IsFirstOther A number)

@@ -9,7 +9,7 @@ ghost use Rattle.kcr_history.specs.Tables as machine;
 ghost use Rattle.kcr_history.specs.Tables.{key_row};
 ghost use Rattle.kcr_store.specs.Whole.{AreRows};
 ghost use Rattle.kcr_verify.specs.declared.compare.Table.{Table as Named};
-ghost use Rattle.kcr_verify.specs.Verified.{HasRows, IsIntact, OnlyLooks, by_number, name_of};
+ghost use Rattle.kcr_verify.specs.Verified.{HasRows, IsFirstTable, IsIntact, OnlyLooks, by_number, compared, name_of};
 
 use crate::order::put_in_order;
 use kcr_base::Refusal;
@@ -305,8 +305,7 @@ fn first_of<S: Alter>(
     ensures none { HasCleanDisk (state S.Store register.new.conn) → IfOk result (λ found. found ≡ None
         → AllByRecursion (λ table. HasRows table (machine.tables register.new.accepted) rows.now) tables.now) }
     ensures some { HasCleanDisk (state S.Store register.new.conn)
-        → IfOk result (λ found. IfSome found (λ table. ¬ HasRows table
-        (machine.tables register.new.accepted) rows.now)) }
+        → IfOk result (λ found. IfSome found (IsFirstTable tables.now register.new.accepted rows.now)) }
     ensures frame { OnlyLooks S.Store register.old register.new result }
 {
     for table in tables {
@@ -329,8 +328,7 @@ pub(crate) fn first_difference<S: Alter>(
     ensures none { HasCleanDisk (state S.Store register.new.conn) → IfOk result (λ found. found ≡ None
         → (table : Named) → HasRows table (machine.tables register.new.accepted) rows.now) }
     ensures some { HasCleanDisk (state S.Store register.new.conn)
-        → IfOk result (λ found. IfSome found (λ table. ¬ HasRows table
-        (machine.tables register.new.accepted) rows.now)) }
+        → IfOk result (λ found. IfSome found (IsFirstTable compared register.new.accepted rows.now)) }
     ensures register { HasCleanDisk (state S.Store register.new.conn)
         → IfOk result (λ _. IsRegister register.new.accepted) }
     ensures frame { OnlyLooks S.Store register.old register.new result }

@@ -1,21 +1,20 @@
 //! The commands of a register, given to another.
-ghost use Rattle.std.specs.Prelude.{◌≡◌, ◌∷◌, [], true, None, IfOk, IfErr};
+ghost use Rattle.std.specs.Prelude.{◌≡◌, ◌∷◌, [], true, None, IfOk, IfErr, MatchOption};
 ghost use Rattle.sqlite.specs.State.{HasCleanDisk};
 ghost use Rattle.sqlite.specs.Held.{state};
 ghost use Rattle.kcr_history.specs.History.{History};
-ghost use Rattle.kcr_history.specs.Machine.{IsRegister};
+ghost use Rattle.kcr_history.specs.Machine.{IsOfMachine, IsRegister};
 ghost use Rattle.kcr_history.specs.Tables.{key_row};
 ghost use Rattle.kcr_history.specs.declared.commands.Entry.{Entry as Accepted};
 ghost use Rattle.kcr_store.specs.Register.{IsKept};
 ghost use Rattle.kcr_tables.specs.Refusals.{IsFault};
-ghost use Rattle.kcr_forms.specs.Acts.{IsAct};
-ghost use Rattle.kcr_verify.specs.Verified.{AreValues, IsIntact, rows_by_number};
+ghost use Rattle.kcr_verify.specs.Verified.{AreValues, HasAll, HasNext, IsIntact, rows_by_number};
+ghost use Rattle.kcr_verify.specs.Verified.{Declines, HaveOwnKeys, StopsFor, Takes};
 
 use crate::verification::Difference;
 use kcr_base::Refusal;
 use kcr_forms::read_act;
 use kcr_history::{Command, KeyRow, numbers_count_commands};
-use kcr_laws::laws::answers_are_fixed;
 use kcr_store::Register;
 use sqlite::Alter;
 use std::alloc::Global;
@@ -33,13 +32,22 @@ fn give<S: Alter>(
     ensures clean { HasCleanDisk (state S.Store register.new.conn) → HasCleanDisk (state S.Store register.old.conn) }
     ensures kept { IsKept S.Store register.new }
 
-    // Where it is the row of the entry that the machine goes to next, nothing differs, and the register has the entry.
+    // Whatever the row says, the machine leads to the register's history.
+    ensures of_machine { HasCleanDisk (state S.Store register.new.conn) → IsOfMachine register.old.accepted
+        → IsOfMachine register.new.accepted }
+
+    // The machine takes the command as the row says, or does not for the reason that is told.
+    ensures told { HasCleanDisk (state S.Store register.new.conn) → IfOk result (λ difference. MatchOption difference
+        (Takes row.now register.old.accepted register.new.accepted)
+        (λ why. Declines why row.now register.old.accepted register.new.accepted)) }
+
+    // Where it is the row of the next entry of a history, the register then has the entry, or its reply differs since
+    // its recorded seating is not the first one.
     ensures own { HasCleanDisk (state S.Store register.new.conn) → (entry : Accepted)
-        → IsRegister (entry ∷ register.old.accepted) → IsAct entry.command.act
+        → IsRegister (entry ∷ register.old.accepted) → AreValues (entry ∷ register.old.accepted)
         → row.now ≡ key_row entry
-        → IfOk result (λ difference. (difference ≡ None) × (register.new.accepted ≡ entry ∷ register.old.accepted)) }
+        → IfOk result (HasNext register.old.accepted entry register.new.accepted) }
 {
-    answers_are_fixed();
     let Some(act) = read_act(alloc, row.command.as_bytes())? else {
         return Ok(Some(Difference::Command(row.accepted)));
     };
@@ -72,9 +80,14 @@ pub(crate) fn replay<S: Alter>(
     ensures cause { IfErr result IsFault }
     ensures clean { HasCleanDisk (state S.Store register.new.conn) → HasCleanDisk (state S.Store register.old.conn) }
     ensures kept { IsKept S.Store register.new }
+    ensures of_machine { HasCleanDisk (state S.Store register.new.conn) → IsOfMachine register.new.accepted }
+
+    // The register has the commands of all rows, or of those before the one that is not the next, as told.
+    ensures told { HasCleanDisk (state S.Store register.new.conn) → IfOk result (λ difference. MatchOption difference
+        (HaveOwnKeys rows.now → rows.now ≡ rows_by_number register.new.accepted)
+        (λ why. StopsFor why rows.now register.new.accepted)) }
     ensures own { HasCleanDisk (state S.Store register.new.conn) → (A : History) → IsRegister A → AreValues A
-        → rows.now ≡ rows_by_number A
-        → IfOk result (λ difference. (difference ≡ None) × (register.new.accepted ≡ A)) }
+        → rows.now ≡ rows_by_number A → IfOk result (HasAll A register.new.accepted) }
 {
     numbers_count_commands();
     for (index, row) in rows.iter().enumerate() {

@@ -4,12 +4,13 @@ ghost use Rattle.sqlite.specs.State.{HasCleanDisk};
 ghost use Rattle.sqlite.specs.Held.{state};
 ghost use Rattle.sqlite.specs.Steps.{over_memory};
 ghost use Rattle.kcr_history.specs.History.{History};
-ghost use Rattle.kcr_history.specs.Machine.{IsRegister};
+ghost use Rattle.kcr_history.specs.Machine.{IsOfMachine, IsRegister};
 ghost use Rattle.kcr_history.specs.Tables.{Tables, tables};
+ghost use Rattle.kcr_history.specs.declared.views.WholeView.{WholeView as View};
 ghost use Rattle.kcr_store.specs.Register.{IsKept};
 ghost use Rattle.kcr_store.specs.Whole.{IsListed};
 ghost use Rattle.kcr_tables.specs.Refusals.{IsFault};
-ghost use Rattle.kcr_verify.specs.Verified.{AreValues, IsIntact, IsTold};
+ghost use Rattle.kcr_verify.specs.Verified.{AreValues, HaveOwnKeys, IsIntact, IsTold, IsToldOf};
 
 use crate::compare::{Table, first_difference};
 use crate::order::put_in_order;
@@ -74,14 +75,22 @@ pub fn rebuild<S: Alter>(
     requires intact { IsIntact S.Store fresh.old }
     requires empty { fresh.old.accepted ≡ [] }
 
-    // The fresh register has the history whose tables these are, whoever wrote them.
-    ensures told { HasCleanDisk (state S.Store fresh.new.conn) → (m : Tables) → IsListed m rows
-        → IfOk result (IsTold m fresh.new.accepted) }
+    // Whatever the rows say, the machine leads to the fresh register's history.
+    ensures of_machine { HasCleanDisk (state S.Store fresh.new.conn) → IsOfMachine fresh.new.accepted }
 
-    // Of a history nothing differs.
-    ensures own { HasCleanDisk (state S.Store fresh.new.conn) → (A : History) → IsRegister A → AreValues A
+    // What is told of the rows is so, whoever wrote them, and the fresh register has the commands that it says.
+    ensures told { HasCleanDisk (state S.Store fresh.new.conn)
+        → IfOk result (λ told. IsTold rows fresh.new.accepted told) }
+
+    // Of a history that the machine leads to nothing differs.
+    ensures own { HasCleanDisk (state S.Store fresh.new.conn) → (A : History) → IsOfMachine A → AreValues A
         → IsListed (tables A) rows
         → IfOk result (λ told. (told ≡ Verified.Whole (length A)) × (fresh.new.accepted ≡ A)) }
+
+    // Of a register's history the reply of the first command differs whose recorded seating is not the first one; where
+    // there is none, nothing does.
+    ensures register { HasCleanDisk (state S.Store fresh.new.conn) → (A : History) → IsRegister A → AreValues A
+        → IsListed (tables A) rows → IfOk result (IsToldOf A) }
     ensures cause { IfErr result IsFault }
     ensures founded { fresh.new.is_founded ≡ true }
     ensures torn { IfOk result (λ _. fresh.new.torn ≡ None) }
@@ -108,13 +117,23 @@ pub fn rebuild<S: Alter>(
 /// it holds the register in memory, and of that one table's rows. It meets only out of memory (33), which the store in
 /// memory may tell as a fault of a device (34).
 pub fn verify(alloc: Global, rows: WholeView) -> Result<Verified, Refusal>
-    ensures told { (m : Tables) → IsListed m rows → IfOk result (λ told. (A : History) × IsTold m A told) }
+    ensures told { IfOk result (λ told. (A : History) × IsTold rows A told) }
 
-    // Of a history nothing differs.
-    ensures own { (A : History) → IsRegister A → AreValues A → IsListed (tables A) rows
+    // Of a history that the machine leads to nothing differs.
+    ensures own { (A : History) → IsOfMachine A → AreValues A → IsListed (tables A) rows
         → IfOk result (λ told. told ≡ Verified.Whole (length A)) }
+
+    // Of a register's history the reply of the first command differs whose recorded seating is not the first one; where
+    // there is none, nothing does.
+    ensures register { (A : History) → IsRegister A → AreValues A → IsListed (tables A) rows
+        → IfOk result (IsToldOf A) }
     ensures cause { IfErr result IsFault }
 {
     let mut fresh = empty(alloc)?;
     rebuild(alloc, rows, &mut fresh)
 }
+
+/// Each accepted command has a key of its own among all rows of a database.
+pub fn listed_commands_have_own_keys()
+    ensures { (m : Tables) (view : View) → IsListed m view → HaveOwnKeys view.keys.items }
+{}

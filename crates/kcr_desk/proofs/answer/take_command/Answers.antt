@@ -1,5 +1,5 @@
 use Rattle.std.proofs.Common.{inl, refl}
-use Rattle.std.specs.Prelude.{Ok, Err}
+use Rattle.std.specs.Prelude.{⊤, Ok, Err}
 use Rattle.kcr_desk.specs.Answers.{told_reply, Performs}
 use Rattle.kcr_desk.proofs.AnswerLemmas.{result_answered, refused_or_memory, text_is_not_memory}
 use Rattle.kcr_desk.proofs.answer.take_command.Goals as goal
@@ -8,8 +8,8 @@ pub returns-in-Ok : goal.returns-in-Ok
 returns-in-Ok g c =
     let e = c.in-Ok.ensures in
     result_answered g.S.Store _ _ _ _ (told_reply c.args.target.now) (λ r. refl) (Ok c.in-Ok.reply)
-    (λ old new r. Performs old.accepted c.args.command.now r new) e.broken e.breaks
-    (λ f none clean. record { step = e.step f none clean; breaks = e.breaks none; tried = e.tried f none clean })
+    (λ old new r. Performs old.accepted c.args.command.now r new) (λ _. ⊤) tt (λ none. tt) e.broken e.breaks
+    (λ f none clean. record { values = c.acts_are_values.ensures; step = e.step f none clean; breaks = e.breaks none; tried = e.tried f none clean })
     (λ memory does. absurd (text_is_not_memory c.args.target.now _ _ c.text_reply.ensures memory)) e.clean e.founded (inl c.text_reply.ensures)
 
 pub returns-in-Err : goal.returns-in-Err
@@ -17,6 +17,6 @@ returns-in-Err g c =
     let e = c.in-Err.ensures in
     let told_by = told_reply c.args.target.now in
     result_answered g.S.Store _ _ _ _ told_by (λ r. refl) (Err c.in-Err.refusal)
-    (λ old new r. Performs old.accepted c.args.command.now r new) e.broken e.breaks
-    (λ f none clean. record { step = e.step f none clean; breaks = e.breaks none; tried = e.tried f none clean })
+    (λ old new r. Performs old.accepted c.args.command.now r new) (λ _. ⊤) tt (λ none. tt) e.broken e.breaks
+    (λ f none clean. record { values = c.acts_are_values.ensures; step = e.step f none clean; breaks = e.breaks none; tried = e.tried f none clean })
     (λ memory does. does.step.0) e.clean e.founded (refused_or_memory told_by _ _ c.in-Err.refusal refl c.refused_reply.ensures)

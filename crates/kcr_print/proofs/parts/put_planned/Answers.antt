@@ -9,7 +9,7 @@ use Rattle.kcr_history.specs.Room.{sheet}
 use Rattle.kcr_history.specs.Tables.{ceremony_row, people, seatings}
 use Rattle.kcr_reading.specs.ToCome.{seated_steps, exceptions_of, named_stays}
 use Rattle.kcr_print.specs.Lines.{head_lines, foot_lines, seated_lines, header_line, named_line}
-use Rattle.kcr_print.proofs.PartLemmas.{keeps_refl, of_later, puts_then, puts_more, puts_line, puts_reading, stops_planned, ends_planned, no_planned, row_line}
+use Rattle.kcr_print.proofs.PartLemmas.{keeps_refl, of_later, puts_then, puts_more, puts_line, puts_reading, stops_planned, denied_planned, ends_planned, no_planned, row_line}
 use Rattle.kcr_print.proofs.ReportLemmas.{steps_text, register_attendance}
 use Rattle.kcr_print.proofs.parts.put_planned.Goals as goal
 
@@ -17,7 +17,7 @@ pub returns-in_err-row : goal.returns-in_err-row
 returns-in_err-row g c =
     let fault = c.from_residual.ensures in
     let said = c.in_err-row.ensures in
-    rw (← c.ceremony-ceremony.ensures) (stops_planned _ fault.0 fault.1 (no_planned said.peeks said.row c.requires.whole))
+    rw (← c.ceremony-ceremony.ensures) (denied_planned _ fault.0 fault.1 (no_planned said.peeks said.row c.requires.whole))
 
 -- THE SCRIPT
 
@@ -36,7 +36,7 @@ returns-in_err-put_row-in-Script g c =
     let fault = c.from_residual-in_err-put_row-in-Script.ensures in
     let row = c.in_ok-row.ensures in
     let said = c.in_err-put_row-in-Script.ensures in
-    rw (← c.ceremony-ceremony.ensures, c.in-Script.is) (stops_planned _ fault.0 fault.1
+    rw (← c.ceremony-ceremony.ensures, c.in-Script.is) (stops_planned _ fault.0 fault.1 said.cause
     (puts_more (foot n) (puts_more (exceptions n) (puts_more (steps n) (row_line head_lines row.peeks row.row said.written said.cause said.told)))))
 
 pub returns-in_err-put_all-in-Script : goal.returns-in_err-put_all-in-Script
@@ -46,7 +46,7 @@ returns-in_err-put_all-in-Script g c =
     let row = c.in_ok-row.ensures in
     let head = c.in_ok-put_row-in-Script.ensures in
     let A = c.ceremony_row.new.self.accepted in
-    rw (← c.ceremony-ceremony.ensures, c.in-Script.is) (stops_planned _ fault.0 fault.1
+    rw (← c.ceremony-ceremony.ensures, c.in-Script.is) (stops_planned _ fault.0 fault.1 c.in_err-put_all-in-Script.ensures.cause
     (puts_more (foot n) (puts_more (exceptions n) (puts_then (row_line head_lines row.peeks row.row head.written head.cause head.told)
     (puts_reading seated_lines seated_steps steps c.start.ensures c.get-number.ensures.value (λ _ _ _. steps_text A c.get-number.result)
     c.in_err-put_all-in-Script.ensures)))))
@@ -58,7 +58,7 @@ returns-in_err-put_all-in-Script-2 g c =
     let row = c.in_ok-row.ensures in
     let head = c.in_ok-put_row-in-Script.ensures in
     let A = c.ceremony_row.new.self.accepted in
-    rw (← c.ceremony-ceremony.ensures, c.in-Script.is) (stops_planned _ fault.0 fault.1
+    rw (← c.ceremony-ceremony.ensures, c.in-Script.is) (stops_planned _ fault.0 fault.1 c.in_err-put_all-in-Script-2.ensures.cause
     (puts_more (foot c.ceremony-ceremony.result) (puts_then (puts_then (row_line head_lines row.peeks row.row head.written head.cause head.told)
     (puts_reading seated_lines seated_steps steps c.start.ensures number (λ _ _ _. steps_text A c.get-number.result) c.in_ok-put_all-in-Script.ensures))
     (puts_reading report.exception_line exceptions_of exceptions c.start-in-Script.ensures number (λ _ _ _. refl) c.in_err-put_all-in-Script-2.ensures))))
@@ -80,7 +80,7 @@ returns-in_ok-put_all-in-Script-2 g c =
     let clean = λ (h : HasCleanDisk (state g.S.Store after.conn)). done.clean (more.clean h) in
     let Says : History → Type 0 = λ A. foot_lines c.in_ok-row.row ≡ foot c.ceremony-ceremony.result A in
     let is = of_later g.S.Store c.args.register.now read after Says most.keeps clean (λ founded torn now. ap foot_lines (row.row founded torn now).row_is) in
-    rw (← c.ceremony-ceremony.ensures, c.in-Script.is) (ends_planned read row.row clean
+    rw (← c.ceremony-ceremony.ensures, c.in-Script.is) (ends_planned read row.row clean end.cause
     (puts_then most (puts_line (foot_lines c.in_ok-row.row) is (keeps_refl after) (λ h. h) more.kept end.written end.cause end.told)))
 
 -- THE ATTENDANCE
@@ -93,7 +93,7 @@ returns-in_err-put_row-in-Attendance g c =
     let fault = c.from_residual-in_err-put_row-in-Attendance.ensures in
     let row = c.in_ok-row.ensures in
     let said = c.in_err-put_row-in-Attendance.ensures in
-    rw (← c.ceremony-ceremony.ensures, c.in-Attendance.is) (stops_planned _ fault.0 fault.1
+    rw (← c.ceremony-ceremony.ensures, c.in-Attendance.is) (stops_planned _ fault.0 fault.1 said.cause
     (puts_more (stays c.ceremony-ceremony.result) (row_line (λ _. header_line) row.peeks row.row said.written said.cause said.told)))
 
 pub returns-in_ok-put_row-in-Attendance : goal.returns-in_ok-put_row-in-Attendance
@@ -102,7 +102,7 @@ returns-in_ok-put_row-in-Attendance g c =
     let head = c.in_ok-put_row-in-Attendance.ensures in
     let read = c.ceremony_row.new.self in
     let rest = c.put_all-in-Attendance.ensures in
-    rw (← c.ceremony-ceremony.ensures, c.in-Attendance.is) (ends_planned read row.row rest.clean
+    rw (← c.ceremony-ceremony.ensures, c.in-Attendance.is) (ends_planned read row.row rest.clean rest.cause
     (puts_then (row_line (λ _. header_line) row.peeks row.row head.written head.cause head.told)
     (puts_reading named_line named_stays stays c.start-in-Attendance.ensures c.get-number.ensures.value
     (λ founded torn now.

@@ -1,4 +1,5 @@
 use Rattle.std.proofs.Common.{[]}
+use Rattle.std.proofs.lemmas.Result.{IfOk-weaker}
 use Rattle.kcr_history.specs.Tables.{tables}
 use Rattle.kcr_rows.proofs.InsideLemmas.{was_clean}
 use Rattle.kcr_store.proofs.StoreLemmas.{listed}
@@ -7,5 +8,6 @@ use Rattle.kcr_store.proofs.listing.new_rows.Goals as goal
 
 pub returns-clause-rows : goal.returns-clause-rows
 returns-clause-rows g c clean has =
-    let held = c.in_ok-make.ensures.made (was_clean _ _ _ c.in_ok-all_of.ensures.frame.within.survives clean) has in
-    listed held.tables.kept held.tables.stands (c.in_ok-all_of.ensures.rows clean _ (held_of (tables []) _ held))
+    let held = c.in_ok-make.ensures.made (was_clean _ _ _ c.all_of.ensures.frame.within.survives clean) has in
+    IfOk-weaker c.all_of.result _ _ (λ view lists. listed held.tables.kept held.tables.stands lists)
+    (c.all_of.ensures.rows clean _ (held_of (tables []) _ held))

@@ -1,9 +1,11 @@
-use Rattle.std.proofs.Common.{rules, IsTrue, inr, refl}
-use Rattle.std.proofs.lemmas.Result.{IfOk-weaker, IfErr-weaker}
+use Rattle.std.proofs.Common.{◌≢◌, rules, IsTrue}
+use Rattle.std.proofs.lemmas.Result.{IfOk-weaker}
 use Rattle.sqlite.specs.Held.{state}
+use Rattle.sqlite.specs.State.{HasCleanDisk}
 use Rattle.kcr_older.specs.Standing.{StandsAs}
-use Rattle.kcr_store.proofs.ListingLemmas.{is_given, own_by, rows_by, older_by, version_by, known_by, strange_by, taken_by, not_strange}
-use Rattle.kcr_store.proofs.OpenLemmas.{none_strange, of_strange}
+use Rattle.kcr_older.specs.declared.standing.Standing.TheVariants.{Numbered}
+use Rattle.kcr_store.proofs.ListingLemmas.{answer_by, own_by, rows_by, older_by, version_by, known_by, not_strange}
+use Rattle.kcr_store.proofs.OpenLemmas.{is_taken, known_3, none_strange, of_strange, stranger_answer}
 use Rattle.kcr_rows.proofs.InsideLemmas.{was_clean}
 use Rattle.kcr_store.proofs.WholeLemmas.{if_ok}
 use Rattle.kcr_store.proofs.listing.tables_of.Goals as goal
@@ -14,10 +16,15 @@ returns-in-Numbered-clause-taken g c clean live A founded =
     absurd (of_strange A (state g.S.Store c.args.conn.now) (search rules) c.inspect.ensures.live before live founded (search rules))
 
 pub returns-in-Numbered-clause-version : goal.returns-in-Numbered-clause-version
-returns-in-Numbered-clause-version g c clean t held = absurd (none_strange 3 _ (search rules) held.schema (inr (inr refl)))
+returns-in-Numbered-clause-version g c clean t held = absurd (none_strange 3 _ (search rules) held.schema known_3)
 
 pub returns-in-Numbered-clause-older : goal.returns-in-Numbered-clause-older
 returns-in-Numbered-clause-older g c clean from t held = absurd (not_strange from t (state g.S.Store c.args.conn.now).now (search rules) held)
+
+pub returns-in-Numbered-clause-answer : goal.returns-in-Numbered-clause-answer
+returns-in-Numbered-clause-answer g c clean =
+    stranger_answer (state g.S.Store c.args.conn.now).now c.stranger.result (search rules)
+    (c.stranger.ensures.answer clean c.inspect.ensures.live (search rules))
 
 pub returns-in_default : goal.returns-in_default
 returns-in_default g c =
@@ -25,22 +32,19 @@ returns-in_default g c =
     let standing = c.in_ok-standing.standing in
     let result = c.rows_back.result in
     let stands : StandsAs old.now.schema standing = search rules in
-    let gives = c.rows_back.ensures.gives in
+    let gives = λ (clean : HasCleanDisk (state g.S.Store c.rows_back.new.conn)). c.rows_back.ensures.gives clean c.inspect.ensures.live in
     let before = was_clean _ _ _ c.rows_back.ensures.frame.survives in
+    let other : standing ≢ Numbered = search rules in
+    let answer = λ (clean : HasCleanDisk (state g.S.Store c.rows_back.new.conn)). answer_by standing old.now result stands (gives clean) other in
     record {
       own = λ clean A founded.
           if_ok (IsTrue old.is_open) _ result (c.rows_back.ensures.opened clean)
-          (λ live. is_given _ _ result (own_by A old (search rules) c.inspect.ensures.live (before clean) live founded standing result stands (gives clean)));
-      taken = λ clean live A founded.
-          taken_by _ result (own_by A old (search rules) c.inspect.ensures.live (before clean) live founded standing result stands (gives clean))
-          (IfErr-weaker result _ _
-          (λ fault unread is. of_strange A old (search rules) c.inspect.ensures.live (before clean) live founded
-          (strange_by standing old.now.schema stands (unread is)))
-          c.rows_back.ensures.foreign);
+          (λ live. own_by A old (search rules) c.inspect.ensures.live (before clean) live founded standing result stands (gives clean));
+      taken = λ clean live A founded. is_taken A old (search rules) c.inspect.ensures.live (before clean) live founded result (answer clean);
       rows = λ clean. rows_by standing old.now result stands (gives clean);
       version = λ clean. version_by standing old.now result stands (gives clean);
       older = λ clean. older_by standing old.now result stands (gives clean);
+      answer = answer;
       known = IfOk-weaker result _ _ (λ view read. known_by standing old.now.schema stands read) c.rows_back.ensures.read;
-      foreign = search rules;
       frame = search rules;
     }

@@ -16,7 +16,9 @@ returns-in-Ok-put g c =
     record {
       served = IfOk-weaker c.serve_each.result _ _ (λ served all. (all, written)) c.serve_each.ensures.served;
       part = on_err c.serve_each.result (inr (whole_front old new (listening_line c.args.port) written));
+      connects = c.serve_each.ensures.connects;
       cause = IfErr-weaker c.serve_each.result _ _ (λ why stops. inl stops) c.serve_each.ensures.cause;
+      whole = c.serve_each.ensures.whole;
     }
 
 pub returns-clause-part : goal.returns-clause-part

@@ -1,8 +1,13 @@
-use Rattle.std.proofs.Common.{◌≤◌, ◌-◌}
+use Rattle.std.proofs.Common.{◌≡◌, ◌≤◌, ◌-◌, None}
+use Rattle.kcr_desk.specs.Connections.{Connects}
 use Rattle.kcr_tool.proofs.listen.serve_each.Given as goal
 
 abbrev pub invariant-loop-served : goal.invariant-loop-served
-invariant-loop-served g l = record { within : l.served ≤ l.connections }
+invariant-loop-served g l = record {
+  within : l.served ≤ l.connections;
+  connects : Connects g.S.Store l.initial.register l.register l.served;
+  whole : l.initial.register.torn ≡ None → l.register.torn ≡ None;
+}
 
 abbrev pub decreases-loop-served : goal.decreases-loop-served
 decreases-loop-served g l = l.connections - l.served

@@ -37,8 +37,8 @@ returns-in-Err-clause-cause g c = stream_cause c.in-Err.fault _ _ _ _ c.in-Err.e
 
 pub returns-in-Ok-clause-answered : goal.returns-in-Ok-clause-answered
 returns-in-Ok-clause-answered g c =
-    (standing c.args.register.now, standing c.serve.new.register, c.in-Ok.field-0.requests, c.in-Ok.ensures.answered)
+    (standing c.serve.new.register, c.in-Ok.field-0.requests, c.in-Ok.ensures.answered)
 
 pub returns-in-Err-clause-answered_in_part : goal.returns-in-Err-clause-answered_in_part
 returns-in-Err-clause-answered_in_part g c =
-    (standing c.args.register.now, standing c.serve.new.register, c.in-Err.ensures.answered_in_part)
+    (standing c.serve.new.register, c.in-Err.ensures.answered_in_part)

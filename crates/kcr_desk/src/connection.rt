@@ -1,0 +1,67 @@
+//! One connection.
+ghost use Rattle.std.specs.Prelude.{◌≡◌, ◌+◌, ◌<◌, ◌≤◌, ◌⊎◌, ◌↔◌, ℕ, IsErrOf, IsSome, IsTrue};
+ghost use Rattle.sqlite.specs.Held.{state};
+ghost use Rattle.sqlite.specs.State.{HasCleanDisk};
+ghost use Rattle.kcr_base.specs.Counted.{inner_of, failures_of, gifts_of};
+ghost use Rattle.kcr_store.specs.Register.{IsKept};
+ghost use Rattle.kcr_desk.specs.Answers.{Standing, AreOfMachine, AreRegisters, IsAnswer, IsReply, standing};
+ghost use Rattle.kcr_desk.specs.Connections.{Connects, Ends, Leads};
+
+use crate::desk::serve;
+use crate::fault::DeskFault;
+use crate::stream::Served;
+use kcr_base::Counted;
+use kcr_store::Register;
+use sqlite::Alter;
+use std::alloc::Global;
+use std::io::{Read, Write};
+
+/// How a connection ended.
+#[derive(Clone, Copy)]
+pub struct Ended {
+    /// Its stream was answered whole, or a fault ended it. A fault ends this connection only.
+    pub stream: Result<Served, DeskFault>,
+    /// The register is broken: it would answer 35 to each request of another connection.
+    pub is_broken: bool,
+}
+
+/// Serves one connection to its end: answers its stream of messages by a register, as `serve` does, and tests whether
+/// the register is broken afterwards.
+pub fn one<R: Read, W: Write, S: Alter>(
+    alloc: Global,
+    reader: &mut Counted<R>,
+    writer: &mut Counted<W>,
+    register: &mut Register<S>,
+) -> Ended
+    // The bytes written are the answers of the messages of the input, by a run of the machine, or a beginning of them
+    // after a fault. The register has the commands of this run and no other.
+    ensures answered { IsTrue register.old.is_founded → HasCleanDisk (state S.Store register.new.conn)
+        → Ends IsAnswer (R.remaining (inner_of reader.old)) (W.contents (inner_of writer.old))
+        (W.contents (inner_of writer.new)) (standing register.old) (standing register.new) result.stream }
+
+    // Whatever the database held, each message gets one reply, in their order.
+    ensures replied { Ends IsReply (R.remaining (inner_of reader.old)) (W.contents (inner_of writer.old))
+        (W.contents (inner_of writer.new)) (standing register.old) (standing register.new) result.stream }
+    ensures read_fault { IsErrOf result.stream DeskFault.Read
+        → (failures_of reader.old < failures_of reader.new) ⊎ (gifts_of reader.new ≡ gifts_of reader.old + 1000000) }
+    ensures write_fault { IsErrOf result.stream DeskFault.Write → failures_of writer.old < failures_of writer.new }
+    ensures bound { gifts_of reader.new ≤ gifts_of reader.old + 1000000 }
+    ensures broken { IsTrue result.is_broken ↔ IsSome register.new.torn }
+    ensures connects { Connects S.Store register.old register.new 1 }
+    ensures kept { IsKept S.Store register.new }
+{
+    let stream = serve(alloc, reader, writer, register);
+    Ended {
+        stream,
+        is_broken: register.is_broken(),
+    }
+}
+
+/// Connections that are served one after the other lead from registers to registers. If the machine leads to the
+/// histories before, it leads to those after.
+pub fn connections_keep_registers()
+    ensures kept { (before after : Standing) (count : ℕ) → AreRegisters before → Leads IsAnswer before after count
+        → AreRegisters after }
+    ensures led { (before after : Standing) (count : ℕ) → AreOfMachine before → Leads IsAnswer before after count
+        → AreOfMachine after }
+{}

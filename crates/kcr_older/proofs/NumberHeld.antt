@@ -1,0 +1,84 @@
+-- The number of a database that holds the tables of a register.
+use Rattle.std.proofs.Common.{◌≡◌, ◌⊎◌, inl, inr, ◌∙◌, ap, sym, subst, subst₂, refl, ℕ, ◌+◌, pos, ℤ, List, [], ◌∷◌, map, Option, Some, None, take}
+use Rattle.std.specs.List.Sorted.{IsPermutation}
+use Rattle.std.proofs.lemmas.List.Sorted.{IsPermutation-map}
+use Rattle.sqlite.specs.Effect.{Database}
+use Rattle.sqlite.specs.Order.{Row, column}
+use Rattle.sqlite.specs.Schema.{Schema}
+use Rattle.sqlite.specs.declared.types.Value.{Value}
+use Rattle.sqlite.specs.declared.types.Value.TheVariants.{Int}
+use Rattle.sqlite_schema.specs.Names.{same_name}
+use Rattle.sqlite_trees.proofs.ListLemmas.{map-map}
+use Rattle.sqlite.specs.Change.{KeepsRows}
+use Rattle.sqlite.specs.Tree.{Trees}
+use Rattle.sqlite_trees.specs.View.{IsShaped}
+use Rattle.sqlite_trees.specs.declared.store.Shape.TheVariants as shape
+use Rattle.kcr_rows.specs.Keyed.{Keeps, Place, cells}
+use Rattle.kcr_rows.specs.Rows.{version_row}
+use Rattle.kcr_rows.specs.declared.rows.Version.{Version}
+use Rattle.kcr_tables.specs.Held.{Tables, versions_place}
+use Rattle.kcr_tables.specs.Made.{first}
+use Rattle.kcr_tables.specs.Schema.{all_tables, versions}
+use Rattle.kcr_older.specs.Older.{HoldsUpTo, numbered}
+use Rattle.kcr_older.specs.Standing.{numbered_table, numbers_in, only_number, version_in}
+use Rattle.kcr_older.proofs.NumberLemmas.{same_number}
+
+abbrev pub IsKnown : ℕ → Type 0
+IsKnown version = (version ≡ 1) ⊎ ((version ≡ 2) ⊎ (version ≡ 3))
+
+-- every version has the table of its number
+pub has_versions : (version : ℕ) → IsKnown version → numbered_table (first (14 + version)) ≡ Some versions
+unfolding same_name
+has_versions version (inl one) = subst (λ v. numbered_table (first (14 + v)) ≡ Some versions) (sym one) refl
+has_versions version (inr (inl two)) = subst (λ v. numbered_table (first (14 + v)) ≡ Some versions) (sym two) refl
+has_versions version (inr (inr three)) = subst (λ v. numbered_table (first (14 + v)) ≡ Some versions) (sym three) refl
+
+-- the number in the one row
+abbrev pub only_version : List Version → Option ℤ
+only_version [] = None
+only_version (version ∷ []) = Some (pos version.number)
+only_version (version ∷ next ∷ more) = None
+
+by_number : (rows : List Version) → only_number (map (λ v. Int (pos v.number)) rows) ≡ only_version rows
+by_number [] = refl
+by_number (version ∷ []) = refl
+by_number (version ∷ next ∷ more) = refl
+
+pub held_version : (version : ℕ) → IsKnown version → (db : Database) (rows : List Version) → db.schema ≡ first (14 + version)
+    → Keeps versions_place db.trees (map version_row rows) → version_in db ≡ only_version rows
+held_version version known db rows schema keeps =
+    let head = λ (r : Row). column r 0 in
+    let number = λ (v : Version). Int (pos v.number) in
+    let same = IsPermutation-map head _ _ keeps.same in
+    let mine = map-map head version_row rows in
+    let theirs = map-map head (cells versions_place) (db.trees 28) in
+    let there : numbered_table db.schema ≡ Some versions = ap numbered_table schema ∙ has_versions version known in
+    (rw there refl) ∙ sym (same_number (map number rows) (numbers_in versions db.trees) (subst₂ IsPermutation mine theirs same)) ∙ by_number rows
+
+-- so a file of an older version that holds rows
+keeps_at : (place : Place) (old new : Trees) (rows : List Row) → new place.tree ≡ old place.tree → Keeps place old rows → Keeps place new rows
+keeps_at place old new rows is k = record {
+  same = subst (λ l. IsPermutation rows (map (cells place) l)) (sym is) k.same;
+  rising = k.rising;
+  full = k.full;
+  shaped = subst (IsShaped shape.Table) (sym is) k.shaped;
+}
+
+shares_versions : (version : ℕ) → IsKnown version → (old new : Trees) → KeepsRows (take (14 + version) all_tables) old new → new 28 ≡ old 28
+shares_versions version (inl one) old new s =
+    (subst (λ v. KeepsRows (take (14 + v) all_tables) old new) one s).1.1.1.1.1.1.1.1.1.1.1.1.1.0
+shares_versions version (inr (inl two)) old new s =
+    (subst (λ v. KeepsRows (take (14 + v) all_tables) old new) two s).1.1.1.1.1.1.1.1.1.1.1.1.1.0
+shares_versions version (inr (inr three)) old new s =
+    (subst (λ v. KeepsRows (take (14 + v) all_tables) old new) three s).1.1.1.1.1.1.1.1.1.1.1.1.1.0
+
+pub older_version : (version : ℕ) → IsKnown version → (db : Database) (t : Tables) → HoldsUpTo (14 + version) db t → version_in db ≡ only_version t.versions
+older_version version known db t h =
+    held_version version known db t.versions h.schema
+    (keeps_at versions_place h.kept.whole db.trees _ (shares_versions version known h.kept.whole db.trees h.kept.shared) h.kept.kept.versions)
+
+-- one number is one row
+pub is_numbered : (rows : List Version) (number : ℕ) → only_version rows ≡ Some (pos number) → rows ≡ numbered number
+is_numbered [] number h = absurd cc
+is_numbered (version ∷ []) number h = (let same : version.number ≡ number = cc in ap (λ n. record { number = n } ∷ []) same)
+is_numbered (version ∷ next ∷ more) number h = absurd cc

@@ -1,0 +1,73 @@
+//! The number of its version that a database has, whatever its schema is.
+
+ghost use Rattle.std.specs.Prelude.{◌≡◌, [], ◌∷◌, ⊤, IsTrue, is_some, map, IfOk, OnOk};
+ghost use Rattle.sqlite.specs.Held.{state};
+ghost use Rattle.sqlite.specs.State.{HasCleanDisk, IsLive, IsUnchanged};
+ghost use Rattle.kcr_rows.specs.Refusals.{IsFault};
+ghost use Rattle.kcr_rows.specs.Frame.{StaysWithin};
+ghost use Rattle.kcr_older.specs.Standing as spec;
+ghost use Rattle.kcr_older.specs.Standing.{numbered_table};
+
+use kcr_base::Refusal;
+use kcr_rows::statements::rows_of;
+use kcr_rows::stored::Stored;
+use sqlite::types::Value;
+use sqlite::{Alter, Row, Transaction};
+use std::alloc::Global;
+
+/// The value of a row of one column, whatever it is.
+#[derive(Drop)]
+struct Cell {
+    value: Value,
+}
+
+impl Stored for Cell {
+    ghost row_of = { λ cell. cell.value ∷ [] };
+
+    ghost is_read = { λ _. ⊤ };
+
+    fn decode(_alloc: Global, row: &Row) -> Result<Cell, Refusal> {
+        if row.column_count() != 1 {
+            return Err(Refusal::Disk);
+        }
+        match row.get::<Value>(0) {
+            Ok(value) => Ok(Cell { value }),
+            Err(_) => Err(Refusal::Memory),
+        }
+    }
+}
+
+/// The whole number of the one cell, where there is exactly one, and that is a whole number.
+fn only_number(cells: &[Cell]) -> Option<i64>
+    ensures { result ≡ spec.only_number (map (λ cell. cell.value) cells.now) }
+{
+    match cells {
+        [cell] => match cell.value {
+            Value::Int(number) => Some(number),
+            _ => None,
+        },
+        _ => None,
+    }
+}
+
+/// The number in the one row of the table `versions`, which has the one column `number`; None where that table has no
+/// row, or several, or the row has no whole number. Nothing is changed. The error is `Memory` when out of memory, and
+/// else `Disk`: the device failed, or there is no such table.
+pub fn version_in<S: Alter>(
+    alloc: Global,
+    tx: &mut Transaction<'_, S>,
+) -> Result<Option<i64>, Refusal>
+    ensures same_reference { tx.new.conn.ghost_name ≡ tx.old.conn.ghost_name }
+    ensures number { HasCleanDisk (state S.Store tx.new.conn.now) → IsLive (state S.Store tx.old.conn.now)
+        → IsTrue (is_some (numbered_table (state S.Store tx.old.conn.now).now.schema))
+        → IfOk result (λ number. number ≡ spec.version_in (state S.Store tx.old.conn.now).now) }
+    ensures same { HasCleanDisk (state S.Store tx.new.conn.now)
+        → IsTrue (is_some (numbered_table (state S.Store tx.old.conn.now).now.schema))
+        → OnOk result (IsUnchanged (state S.Store tx.old.conn.now) (state S.Store tx.new.conn.now)) }
+    ensures opened { HasCleanDisk (state S.Store tx.new.conn.now)
+        → OnOk result (IsTrue (state S.Store tx.old.conn.now).is_open) }
+    ensures frame { StaysWithin IsFault (state S.Store tx.old.conn.now) (state S.Store tx.new.conn.now) result }
+{
+    let cells = rows_of::<_, Cell>(alloc, tx, "SELECT number FROM versions", &[])?;
+    Ok(only_number(cells.as_slice()))
+}

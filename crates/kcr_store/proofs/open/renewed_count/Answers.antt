@@ -1,0 +1,27 @@
+use Rattle.std.proofs.Common.{◌≡◌, Some, pos, subst}
+use Rattle.sqlite.specs.Held.{state}
+use Rattle.kcr_rows.proofs.InsideLemmas.{was_clean}
+use Rattle.kcr_older.specs.Older.{StoresAs}
+use Rattle.kcr_older.specs.Standing.{version_in}
+use Rattle.kcr_older.specs.Versions.{number_of}
+use Rattle.kcr_store.specs.Opening.{RefusesBy}
+use Rattle.kcr_store.proofs.OpenLemmas.{is_known, still_has, there}
+use Rattle.kcr_store.proofs.open.renewed_count.Goals as goal
+
+pub returns-in-Err-clause-answer : goal.returns-in-Err-clause-answer
+returns-in-Err-clause-answer g c clean live is =
+    subst (λ n. RefusesBy (pos n) (state g.S.Store c.args.tx.now.conn.now).now c.in-Err.fault) c.number.ensures
+    (c.in-Err.ensures.answer clean live (there (number_of c.args.from) (is_known c.args.from) _ is))
+
+pub returns-in-Ok-clause-answer : goal.returns-in-Ok-clause-answer
+returns-in-Ok-clause-answer g c clean live is =
+    let before = was_clean _ _ _ c.brought_count.ensures.frame.survives clean in
+    subst (λ n. version_in (state g.S.Store c.args.tx.now.conn.now).now ≡ Some (pos n)) c.number.ensures
+    (c.in_default.ensures.answer before live (there (number_of c.args.from) (is_known c.args.from) _ is))
+
+pub returns-in-Ok-clause-brought : goal.returns-in-Ok-clause-brought
+returns-in-Ok-clause-brought g c clean A s =
+    let before = was_clean _ _ _ c.brought_count.ensures.frame.survives clean in
+    let same = c.in_default.ensures.same before (there (number_of c.args.from) (is_known c.args.from) _ s.schema) in
+    c.in-Ok.ensures.brought clean A
+    (still_has (StoresAs (number_of c.args.from) A) (state g.S.Store c.args.tx.now.conn.now) (state g.S.Store c.expect_number.new.tx.conn.now) same s)

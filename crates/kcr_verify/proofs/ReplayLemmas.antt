@@ -1,0 +1,193 @@
+-- Commands that the machine takes one after the other, as rows tell them.
+use Rattle.std.proofs.Common.{◌≡◌, ◌≢◌, ℕ, ◌+◌, ◌<◌, ◌≤◌, Bool, true, false, List, [], ◌∷◌, ◌++◌, length, drop, get_or, Option, Some, None, inl, inr, refl, sym}
+use Rattle.std.proofs.Common.{ap, ap₂, ◌∙◌, subst, arith, ◌⊎◌}
+use Rattle.std.specs.Prelude.{MatchOption}
+use Rattle.std.proofs.lemmas.List.{append-nil, drop_all, drop_more}
+use Rattle.kcr_base.specs.Rows.{IsIn}
+use Rattle.kcr_base.specs.Same.{same_text}
+use Rattle.kcr_base.specs.declared.refusal.Refusal.{Refusal}
+use Rattle.kcr_base.proofs.Members.{in-front, in-behind}
+use Rattle.kcr_base.proofs.SameLemmas.{same-is}
+use Rattle.kcr_history.specs.History.{History, entry_of}
+use Rattle.kcr_history.specs.Conditions.{fault}
+use Rattle.kcr_history.specs.Machine.{Accepts, Sitting, sitting, answer_to, with_command, accepts, seats, acts, repeats, machine, IsOfMachine}
+use Rattle.kcr_history.specs.Tables.{key_row}
+use Rattle.kcr_history.specs.declared.commands.Answer.{Answer}
+use Rattle.kcr_history.specs.declared.commands.Command.{Command}
+use Rattle.kcr_history.specs.declared.commands.Entry.{Entry}
+use Rattle.kcr_history.specs.declared.rows.KeyRow.{KeyRow}
+use Rattle.kcr_history.proofs.Steps.{of_machine}
+use Rattle.kcr_laws.proofs.Accepted.{same_answer, other_outcome}
+use Rattle.kcr_verify.specs.Verified.{Declines, HaveOwnKeys, IsNotNext, StopsFor, StopsIn, Takes, rows_by_number}
+use Rattle.kcr_verify.specs.declared.verification.Difference.{Difference}
+use Rattle.kcr_verify.specs.declared.verification.Difference.TheVariants as Differences
+use Rattle.kcr_verify.proofs.NumberLemmas.{NumbersCount, append_one, one_more}
+
+-- ONE COMMAND
+
+-- a command that is accepted is entered, or its key has an entry and the history stays
+pub entered_or_kept : (A : History) (x : Command) (a : Answer) (B : History) → machine A x (Accepts a) B
+    → (B ≡ with_command A x a) ⊎ ((kept : Entry) × (entry_of A x.key ≡ Some kept) × (B ≡ A))
+entered_or_kept A x a B h = by_entry (entry_of A x.key) refl (fault A x.act) h
+  where
+    with_answer : (b : Answer) → Accepts a ≡ Accepts b → B ≡ with_command A x b → B ≡ with_command A x a
+    with_answer b e is = is ∙ ap (λ (c : Answer). with_command A x c) (sym (same_answer a b e))
+
+    seated : (s : Option Sitting) → MatchOption s (accepts A x (answer_to A x.act None) (Accepts a) B) (λ q. seats A x q (Accepts a) B)
+        → B ≡ with_command A x a
+    seated None g = with_answer _ g.0 g.1
+    seated (Some s) (inl w) = with_answer _ w.2.0 w.2.1
+    seated (Some s) (inr w) = absurd (other_outcome a _ w.2.0)
+
+    by_entry : (k : Option Entry) → entry_of A x.key ≡ k → (f : Option Refusal)
+        → MatchOption k (acts A x f (Accepts a) B) (λ old. repeats A x old (Accepts a) B)
+        → (B ≡ with_command A x a) ⊎ ((kept : Entry) × (entry_of A x.key ≡ Some kept) × (B ≡ A))
+    by_entry (Some old) e f g = inr (old, e, g.1)
+    by_entry None e (Some refusal) g = absurd (other_outcome a refusal g.0)
+    by_entry None e None g = inl (seated (sitting A x.act) g)
+
+-- A KEY THAT HAS AN ENTRY
+
+-- its row is one of the history's, and has a number that was given
+pub record IsKeptRow (A : History) (key : List ℕ) (kept : Entry) : Type 0 where
+  pub key_is : kept.command.key ≡ key
+  pub among : IsIn (key_row kept) (rows_by_number A)
+  pub low : kept.answer.accepted ≤ length A
+
+pub kept_row : NumbersCount → (A : History) (key : List ℕ) (kept : Entry) → IsOfMachine A → entry_of A key ≡ Some kept → IsKeptRow A key kept
+kept_row count [] key kept made e = cc
+kept_row count (entry ∷ A) key kept made e = by (same_text entry.command.key key) refl (kept_row count A key kept made.1)
+  where
+    by : (b : Bool) → same_text entry.command.key key ≡ b → (entry_of A key ≡ Some kept → IsKeptRow A key kept) → IsKeptRow (entry ∷ A) key kept
+    by true t later =
+        let first : Some entry ≡ Some kept = rw t at e in
+        let same : entry ≡ kept = cc in
+        let numbered : entry.answer.accepted ≡ length (entry ∷ A) = count A entry (of_machine (entry ∷ A) made) in
+        let number : kept.answer.accepted ≡ entry.answer.accepted = ap (λ (x : Entry). x.answer.accepted) (sym same) in
+        record {
+          key_is = ap (λ (x : Entry). x.command.key) (sym same) ∙ same-is entry.command.key key t;
+          among = subst (λ (x : Entry). IsIn (key_row x) (rows_by_number (entry ∷ A))) same
+              (rw (one_more entry A) (in-behind (key_row entry) (rows_by_number A) (key_row entry ∷ []) (inl refl)));
+          low = omega (arith, numbered, number);
+        }
+    by false t later =
+        let r = later (rw t at e) in
+        record {
+          key_is = r.key_is;
+          among = rw (one_more entry A) (in-front (key_row kept) (rows_by_number A) (key_row entry ∷ []) r.among);
+          low = omega (arith, r.low);
+        }
+
+-- ONE ROW
+
+-- the rows up to this index are those of the commands that were taken
+pub record HasTaken (rows : List KeyRow) (index : ℕ) (A : History) : Type 0 where
+  pub rows_are : rows ≡ rows_by_number A ++ drop index rows
+  pub count : length A ≡ index
+
+row_by_parts : (row : KeyRow) (key : List ℕ) (number : ℕ) (command reply : List ℕ) → key ≡ row.key → number ≡ row.accepted → command ≡ row.command
+    → reply ≡ row.reply → record { key = key; accepted = number; command = command; reply = reply } ≡ row
+row_by_parts row key number command reply k n c r =
+    ap₂ (λ (k : List ℕ) (n : ℕ). let x : KeyRow = record { key = k; accepted = n; command = command; reply = reply } in x) k n
+    ∙ ap₂ (λ (c r : List ℕ). let x : KeyRow = record { key = row.key; accepted = row.accepted; command = c; reply = r } in x) c r
+
+-- the row at the index stands behind those of the commands that were taken
+pub row_behind : (rows : List KeyRow) (index : ℕ) (A : History) (row : KeyRow) → HasTaken rows index A → index < length rows → get_or rows index row ≡ row
+    → rows ≡ rows_by_number A ++ row ∷ drop (index + 1) rows
+row_behind rows index A row had low at =
+    had.rows_are ∙ ap (λ (l : List KeyRow). rows_by_number A ++ l)
+    (drop_more rows index row low ∙ ap (λ (r : KeyRow). r ∷ drop (index + 1) rows) at)
+
+module _ (count : NumbersCount) (rows : List KeyRow) (index : ℕ) (A : History) (row : KeyRow) (made : IsOfMachine A) (own : HaveOwnKeys rows)
+    (had : HasTaken rows index A) (low : index < length rows) (at : get_or rows index row ≡ row) (number : row.accepted ≡ index + 1) where
+  -- its key is new
+  new_key : (kept : Entry) → entry_of A row.key ≡ Some kept → ⊥
+  new_key kept e =
+      let k = kept_row count A row.key kept made e in
+      let whole = row_behind rows index A row had low at in
+      let among : IsIn (key_row kept) rows = rw whole (in-front (key_row kept) (rows_by_number A) (row ∷ drop (index + 1) rows) k.among) in
+      let here : IsIn row rows = rw whole (in-behind row (rows_by_number A) (row ∷ drop (index + 1) rows) (inl refl)) in
+      let same : kept.answer.accepted ≡ row.accepted = ap (λ (r : KeyRow). r.accepted) (own (key_row kept) row among here k.key_is) in
+      omega (arith, same, number, k.low, had.count)
+
+  -- and after its command one more row is taken
+  pub taken_on : (B : History) → Takes row A B → HasTaken rows (index + 1) B
+  taken_on B takes = by (entered_or_kept A takes.command takes.answer B takes.step)
+    where
+      by : (B ≡ with_command A takes.command takes.answer) ⊎ ((kept : Entry) × (entry_of A takes.command.key ≡ Some kept) × (B ≡ A))
+          → HasTaken rows (index + 1) B
+      by (inl new) =
+          let step : machine A takes.command (Accepts takes.answer) (with_command A takes.command takes.answer) =
+          subst (machine A takes.command (Accepts takes.answer)) new takes.step in
+          let numbered : takes.answer.accepted ≡ length (with_command A takes.command takes.answer) =
+          count A (record { command = takes.command; answer = takes.answer })
+          (of_machine (with_command A takes.command takes.answer) (step, made)) in
+          let same : key_row (record { command = takes.command; answer = takes.answer }) ≡ row =
+          row_by_parts row _ _ _ _ takes.told.key (omega (arith, numbered, number, had.count)) takes.told.text takes.reply in
+          let longer : rows_by_number (with_command A takes.command takes.answer) ≡ rows_by_number A ++ row ∷ [] =
+          one_more (record { command = takes.command; answer = takes.answer }) A ∙ ap (λ (r : KeyRow). rows_by_number A ++ r ∷ []) same in
+          let long : length B ≡ length (with_command A takes.command takes.answer) = ap length new in
+          record {
+            rows_are = row_behind rows index A row had low at ∙ sym (append_one (rows_by_number A) (drop (index + 1) rows) row)
+                ∙ ap (λ (l : List KeyRow). l ++ drop (index + 1) rows) (sym longer ∙ ap rows_by_number (sym new));
+            count = omega (arith, long, had.count);
+          }
+      by (inr kept) = absurd (new_key kept.0 (ap (entry_of A) (sym takes.told.key) ∙ kept.1))
+
+-- WHERE IT STOPS
+
+not_next : (difference : Difference) (row : KeyRow) (A B : History) → row.accepted ≡ length A + 1 → Declines difference row A B
+    → IsNotNext difference row A B
+not_next (Differences.Number place) row A B n h = absurd h
+not_next (Differences.Command number) row A B n h = (n, h)
+not_next (Differences.Refused number) row A B n h = (n, h)
+not_next (Differences.Reply number) row A B n h = (n, h)
+not_next (Differences.Rows table) row A B n h = absurd h
+
+-- at a row whose command is not taken
+pub stops_for : (difference : Difference) (rows : List KeyRow) (index : ℕ) (A : History) (row : KeyRow) (B : History) → (HaveOwnKeys rows → HasTaken rows index A)
+    → index < length rows → get_or rows index row ≡ row → row.accepted ≡ index + 1 → Declines difference row A B → StopsFor difference rows B
+stops_for difference rows index A row B had low at number h = by difference h
+  where
+    stops : (d : Difference) → Declines d row A B → HaveOwnKeys rows → StopsIn d rows B
+    stops d h own =
+        let taken = had own in
+        record {
+          taken = A;
+          row = row;
+          later = drop (index + 1) rows;
+          rows = row_behind rows index A row taken low at;
+          why = not_next d row A B (omega (arith, number, taken.count)) h;
+        }
+
+    by : (d : Difference) → Declines d row A B → StopsFor d rows B
+    by (Differences.Number place) h = stops (Differences.Number place) h
+    by (Differences.Command number) h = stops (Differences.Command number) h
+    by (Differences.Refused number) h = stops (Differences.Refused number) h
+    by (Differences.Reply number) h = stops (Differences.Reply number) h
+    by (Differences.Rows table) h = absurd h
+
+-- at a row whose number is not the next
+pub stops_number : (rows : List KeyRow) (index : ℕ) (A : History) (row : KeyRow) → (HaveOwnKeys rows → HasTaken rows index A) → index < length rows
+    → get_or rows index row ≡ row → row.accepted ≢ index + 1 → StopsFor (Differences.Number (index + 1)) rows A
+stops_number rows index A row had low at number own =
+    let taken = had own in
+    record {
+      taken = A;
+      row = row;
+      later = drop (index + 1) rows;
+      rows = row_behind rows index A row taken low at;
+      why = (ap (λ n. n + 1) (sym taken.count), number, refl);
+    }
+
+-- at the end
+pub all_taken : (rows : List KeyRow) (index : ℕ) (A : History) → length rows ≤ index → HasTaken rows index A → rows ≡ rows_by_number A
+all_taken rows index A end had =
+    had.rows_are ∙ ap (λ (l : List KeyRow). rows_by_number A ++ l) (drop_all index rows end) ∙ append-nil (rows_by_number A)
+
+-- at the beginning
+pub none_taken : (rows : List KeyRow) (A : History) → A ≡ [] → HasTaken rows 0 A
+none_taken rows A new = record {
+  rows_are = ap (λ (B : History). rows_by_number B ++ rows) (sym new);
+  count = ap length new;
+}

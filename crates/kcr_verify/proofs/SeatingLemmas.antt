@@ -1,0 +1,238 @@
+-- What a register that has a history answers to the command that came next: the same reply, or another seating in it.
+use Rattle.std.proofs.Common.{◌≡◌, ◌≢◌, ◌⊎◌, inl, inr, ℕ, suc, ◌+◌, ◌≤◌, true, List, [], ◌∷◌, ◌++◌, map, filter, length, Option, Some, None, All}
+use Rattle.std.proofs.Common.{MatchOption, option_map, refl, sym, ap, ◌∙◌, subst, arith}
+use Rattle.std.specs.Prelude.{codes}
+use Rattle.std.specs.Fmt.{decimal}
+use Rattle.std.specs.List.{join_with_byte}
+use Rattle.std.proofs.lemmas.Bool.{false≢true, cases_Bool}
+use Rattle.std.proofs.lemmas.Cmp.{lists_equiv, nat_list_eq_equiv}
+use Rattle.std.proofs.lemmas.List.{append_assoc, append_cancel_left, append_cancel_right}
+use Rattle.std.proofs.lemmas.List.Elements.{All-nil, All-cons, All-head, All-tail, All-append, All-map, All-weaker}
+use Rattle.kcr_base.specs.Initials.{IsCapital, IsInitials}
+use Rattle.kcr_base.specs.Same.{same_text}
+use Rattle.kcr_base.specs.declared.refusal.Refusal.{Refusal}
+use Rattle.kcr_base.proofs.SameLemmas.{same-is}
+use Rattle.kcr_room.specs.declared.SheetRow.{SheetRow}
+use Rattle.kcr_room.specs.Room.{is_of, last_enters, last_row}
+use Rattle.kcr_room.specs.Adding.{new_row}
+use Rattle.kcr_base.specs.declared.place.Role.TheVariants.{Ca, Iw}
+use Rattle.kcr_script.specs.declared.seat.Seat.{Seat}
+use Rattle.kcr_script.specs.declared.seat.Seat.TheVariants.{Staff}
+use Rattle.kcr_history.specs.declared.commands.Act.{Act}
+use Rattle.kcr_history.specs.declared.commands.Act.TheVariants.{Sheet, Sign, Except}
+use Rattle.kcr_history.specs.declared.commands.Answer.{Answer}
+use Rattle.kcr_history.specs.declared.commands.Command.{Command}
+use Rattle.kcr_history.specs.Ceremonies.{steps_of, next_step, exceptions_of}
+use Rattle.kcr_history.specs.Conditions.{fault}
+use Rattle.kcr_history.specs.History.{History, entry_of}
+use Rattle.kcr_history.specs.Json.{quoted, member}
+use Rattle.kcr_history.specs.Laws.{IsSeatedFirst}
+use Rattle.kcr_history.specs.Machine.{Accepts, Refuses, Sitting, sitting, answer_to, with_command, accepts, seats, machine, IsAnswerTo}
+use Rattle.kcr_history.specs.Room.{sheet, sheet_after, is_in}
+use Rattle.kcr_history.specs.Seating.{is_seating, IsFirst}
+use Rattle.kcr_history.specs.Tables.{seats_at}
+use Rattle.kcr_history.specs.Texts.{answer_text, member_if, people_array}
+use Rattle.kcr_forms.specs.Acts.{IsAct}
+use Rattle.kcr_forms.specs.Cuts.{cut_at}
+use Rattle.kcr_forms.proofs.Cutting.{Lacks, cut-again}
+use Rattle.kcr_forms.proofs.Readers.{lacks-below}
+use Rattle.kcr_laws.proofs.Accepted.{same_answer, other_outcome}
+use Rattle.kcr_laws.proofs.Fixed.{accepted_fixed}
+use Rattle.kcr_laws.proofs.Halves.{one_half}
+use Rattle.kcr_laws.proofs.Trials.{same_people, people-are, rest_seated}
+use Rattle.kcr_verify.specs.Verified.{AreValues}
+
+-- NO QUOTE IS IN INITIALS
+
+abbrev Bare : List ℕ → Type 0
+Bare text = Lacks 34 text
+
+bare : (text : List ℕ) → IsInitials text → Bare text
+bare text is = lacks-below 34 65 text (omega arith) (All-weaker IsCapital (λ b. 65 ≤ b) (λ b h. h.0) text is.capitals)
+
+abbrev IsBareRow : SheetRow → Type 0
+IsBareRow row = Bare row.who
+
+rows_bare : (act : Act) (rows : List SheetRow) → IsAct act → All IsBareRow rows → All IsBareRow (sheet_after act rows)
+rows_bare (Sheet c way people at) rows is h =
+    All-append IsBareRow rows (map (new_row c way at) people) h
+    (All-map IsBareRow (new_row c way at) people (All-weaker IsInitials Bare bare people is.1.each))
+rows_bare act rows is h = h
+
+sheet_bare : (A : History) → AreValues A → All IsBareRow (sheet A)
+sheet_bare [] v = All-nil IsBareRow
+sheet_bare (entry ∷ A) v = rows_bare entry.command.act (sheet A) v.0 (sheet_bare A v.1)
+
+-- nobody else has a row
+none_or_bare : (rows : List SheetRow) (who : List ℕ) (t : ℕ) → All IsBareRow rows → (filter (is_of who t) rows ≡ []) ⊎ Bare who
+none_or_bare [] who t h = inl refl
+none_or_bare (row ∷ rows) who t h = elim (cases_Bool (same_text row.who who)) [
+  | inl e ↦ inr (subst Bare (same-is row.who who e) (All-head IsBareRow row rows h))
+  | inr e ↦ elim (none_or_bare rows who t (All-tail IsBareRow row rows h)) [
+    | inl n ↦ inl (grind (arith, e, n))
+    | inr b ↦ inr b
+  ]
+]
+
+in_bare : (A : History) → AreValues A → (who : List ℕ) (c t : ℕ) → is_in A who c t ≡ true → Bare who
+in_bare A v who c t h = elim (none_or_bare (sheet A) who t (sheet_bare A v)) [
+  | inl n ↦ absurd (let z : last_enters c (last_row []) ≡ true = rw n at h in false≢true z)
+  | inr b ↦ b
+]
+
+-- so it is with people who fill seats, who are as many as the seats
+seated_bare : (A : History) → AreValues A → (c t : ℕ) (ss : List Seat) (people : List (List ℕ)) → is_seating A c t ss people ≡ true
+    → All Bare people × (length people ≡ length ss)
+seated_bare A v c t [] [] h = (All-nil Bare, refl)
+seated_bare A v c t [] (who ∷ people) h = absurd (false≢true h)
+seated_bare A v c t (seat ∷ ss) [] h = absurd (false≢true h)
+seated_bare A v c t (seat ∷ ss) (who ∷ people) h =
+    let rest = seated_bare A v c t ss people (rest_seated A c t seat ss who people h) in
+    let here : is_in A who c t ≡ true = grind arith in
+    (All-cons Bare who people (in_bare A v who c t here) rest.0, ap suc rest.1)
+
+-- THE TEXT OF AN ANSWER TELLS WHO IS SEATED
+
+-- where two texts without a quote end is told by the quote behind each
+parted : (x y r s : List ℕ) → Bare x → Bare y → x ++ 34 ∷ r ≡ y ++ 34 ∷ s → (x ≡ y) × (r ≡ s)
+parted x y r s a b e =
+    let both : Some (x, r) ≡ Some (y, s) = sym (cut-again 34 x r a) ∙ ap (cut_at 34) e ∙ cut-again 34 y s b in
+    let pair : (x, r) ≡ (y, s) = cc in
+    (ap (λ (z : List ℕ × List ℕ). z.0) pair, ap (λ (z : List ℕ × List ℕ). z.1) pair)
+
+quoted_parted : (x y r s : List ℕ) → Bare x → Bare y → quoted x ++ r ≡ quoted y ++ s → (x ≡ y) × (r ≡ s)
+quoted_parted x y r s a b e =
+    let behind : (x ++ codes "\"") ++ r ≡ (y ++ codes "\"") ++ s = append_cancel_left (codes "\"") _ _ e in
+    parted x y r s a b (sym (append_assoc x (codes "\"") r) ∙ behind ∙ append_assoc y (codes "\"") s)
+
+people_told : (p q : List (List ℕ)) → length p ≡ length q → All Bare p → All Bare q
+    → join_with_byte 44 (map quoted p) ≡ join_with_byte 44 (map quoted q) → p ≡ q
+people_told [] [] l a b e = refl
+people_told [] (y ∷ ys) l a b e = absurd (omega (arith, l))
+people_told (x ∷ xs) [] l a b e = absurd (omega (arith, l))
+people_told (x ∷ []) (y ∷ []) l a b e =
+    let ends : quoted x ++ [] ≡ quoted y ++ [] = ap (λ t. t ++ []) e in
+    ap (λ z. z ∷ []) (quoted_parted x y [] [] (All-head Bare x [] a) (All-head Bare y [] b) ends).0
+people_told (x ∷ []) (y ∷ z ∷ zs) l a b e = absurd (omega (arith, l))
+people_told (x ∷ w ∷ ws) (y ∷ []) l a b e = absurd (omega (arith, l))
+people_told (x ∷ w ∷ ws) (y ∷ z ∷ zs) l a b e =
+    let first = quoted_parted x y (44 ∷ join_with_byte 44 (map quoted (w ∷ ws))) (44 ∷ join_with_byte 44 (map quoted (z ∷ zs)))
+    (All-head Bare x (w ∷ ws) a) (All-head Bare y (z ∷ zs) b) e in
+    let rest = people_told (w ∷ ws) (z ∷ zs) (omega (arith, l)) (All-tail Bare x (w ∷ ws) a) (All-tail Bare y (z ∷ zs) b)
+    (append_cancel_left (44 ∷ []) _ _ first.1) in
+    λ i. first.0 i ∷ rest i
+
+-- of texts with commas between them that differ in one place alone
+one_told : (before after : List (List ℕ)) (x y : List ℕ) → join_with_byte 44 (before ++ x ∷ after) ≡ join_with_byte 44 (before ++ y ∷ after) → x ≡ y
+one_told [] [] x y e = e
+one_told [] (a ∷ after) x y e = append_cancel_right x y (44 ∷ join_with_byte 44 (a ∷ after)) e
+one_told (b ∷ []) after x y e = one_told [] after x y (append_cancel_left (44 ∷ []) _ _ (append_cancel_left b _ _ e))
+one_told (b ∷ c ∷ before) after x y e = one_told (c ∷ before) after x y (append_cancel_left (44 ∷ []) _ _ (append_cancel_left b _ _ e))
+
+module _ (n : ℕ) (exception step : Option ℕ) where
+  -- an answer with these people
+  abbrev pub seated : List (List ℕ) → Answer
+  seated people = record { accepted = n; exception = exception; seating = Some people; step = step }
+
+  seating_told : (p q : List (List ℕ)) → length p ≡ length q → All Bare p → All Bare q → answer_text (seated p) ≡ answer_text (seated q) → p ≡ q
+  seating_told p q l a b e =
+      let before = member (codes "accepted") (decimal n) ∷ member_if (codes "exception") (option_map decimal exception) in
+      let after = member_if (codes "step") (option_map decimal step) in
+      let named = λ (people : List (List ℕ)). member (codes "seating") (people_array people) in
+      let inner : join_with_byte 44 (before ++ named p ∷ after) ≡ join_with_byte 44 (before ++ named q ∷ after) =
+      append_cancel_right _ _ (codes "}") (append_cancel_left (codes "{") _ _ e) in
+      let lists : people_array p ≡ people_array q =
+      append_cancel_left (codes ":") _ _ (append_cancel_left (quoted (codes "seating")) _ _ (one_told before after (named p) (named q) inner)) in
+      people_told p q l a b (append_cancel_right _ _ (codes "]") (append_cancel_left (codes "[") _ _ lists))
+
+-- THE NEXT COMMAND OF A REGISTER
+
+-- of a step that accepts a command with an answer: it is this answer, and the history is with it; or its text is another, and
+-- this answer's seating is not the first one
+abbrev pub IsThisOrOther : History → Command → Answer → Answer → History → Type 0
+IsThisOrOther A x this answer A' =
+    ((answer ≡ this) × (A' ≡ with_command A x this))
+    ⊎ ((answer_text answer ≢ answer_text this) × (IsSeatedFirst A (sitting A x.act) this.seating → ⊥))
+
+-- of one of two lists of people who fill the same seats
+module _ (A : History) (v : AreValues A) (s : Sitting) (n : ℕ) (exception step : Option ℕ) (x : Command) (p q : List (List ℕ))
+    (p_fill : is_seating A s.ceremony s.at s.seats p ≡ true) (q_fill : is_seating A s.ceremony s.at s.seats q ≡ true) where
+  abbrev with : List (List ℕ) → Answer
+  with people = seated n exception step people
+
+  these_or_others : (a : Answer) (A' : History) → a ≡ with p → A' ≡ with_command A x (with p)
+      → (IsFirst A s.ceremony s.at s.seats q → a ≡ with q)
+      → ((a ≡ with q) × (A' ≡ with_command A x (with q))) ⊎ ((answer_text a ≢ answer_text (with q)) × (IsFirst A s.ceremony s.at s.seats q → ⊥))
+  these_or_others a A' is to fixed = elim (cases_Bool (same_people p q)) [
+    | inl e ↦ let same : with p ≡ with q = ap with (people-are p q e) in inl (is ∙ same, to ∙ ap (with_command A x) same)
+    | inr e ↦
+        let apart : p ≢ q = λ k. false≢true (sym e ∙ ap (same_people p) (sym k) ∙ (lists_equiv nat_list_eq_equiv).refl p) in
+        let ps = seated_bare A v s.ceremony s.at s.seats p p_fill in
+        let qs = seated_bare A v s.ceremony s.at s.seats q q_fill in
+        inr (
+          λ t. apart (seating_told n exception step p q (ps.1 ∙ sym qs.1) ps.0 qs.0 (ap answer_text (sym is) ∙ t)),
+          λ first. apart (let both : with p ≡ with q = sym is ∙ fixed first in let some : Some p ≡ Some q = ap (λ (a : Answer). a.seating) both in cc),
+        )
+  ]
+
+module _ (A : History) (key : List ℕ) where
+  abbrev of : Act → Command
+  of act = record { key = key; act = act }
+
+  -- the key is new, and nothing refuses the act
+  abbrev IsFree : Act → Type 0
+  IsFree act = (entry_of A key ≡ None) × (fault A act ≡ None)
+
+  pub accepted_step : AreValues A → (act : Act) (this answer : Answer) (A' : History) → IsFree act → IsAnswerTo A act this (sitting A act)
+      → machine A (of act) (Accepts answer) A' → IsThisOrOther A (of act) this answer A'
+  accepted_step v (Sign c k at) this answer A' free (q, fill, is) m = by_seats (rw (free.0, free.1) at m)
+    where
+      s : Sitting
+      s = record { ceremony = c; at = at; seats = seats_at (steps_of A c) k }
+
+      x : Command
+      x = of (Sign c k at)
+
+      with : Answer
+      with = seated (length A + 1) None (Some k) q
+
+      again : IsFirst A c at s.seats q → machine A x (Accepts with) (with_command A x with)
+      again first = rw (free.0, free.1) (inl (q, first, (refl, refl)))
+
+      by_seats : seats A x s (Accepts answer) A' → IsThisOrOther A x this answer A'
+      by_seats (inl w) = subst (λ (z : Answer). IsThisOrOther A x z answer A') (sym is)
+          (these_or_others A v s (length A + 1) None (Some k) x w.0 q w.1.seating fill answer A' (same_answer _ _ w.2.0) w.2.1
+          (λ first. (accepted_fixed A x answer with A' (with_command A x with) m (again first)).0))
+      by_seats (inr w) = absurd (other_outcome _ _ w.2.0)
+  accepted_step v (Except c text true at) this answer A' free (q, fill, is) m = by_seats (rw (free.0, free.1) at m)
+    where
+      s : Sitting
+      s = record { ceremony = c; at = at; seats = Staff Ca ∷ Staff Iw ∷ [] }
+
+      x : Command
+      x = of (Except c text true at)
+
+      with : Answer
+      with = seated (length A + 1) (Some (suc (exceptions_of A c))) (Some (next_step A c)) q
+
+      again : IsFirst A c at s.seats q → machine A x (Accepts with) (with_command A x with)
+      again first = rw (free.0, free.1) (inl (q, first, (refl, refl)))
+
+      by_seats : seats A x s (Accepts answer) A' → IsThisOrOther A x this answer A'
+      by_seats (inl w) = subst (λ (z : Answer). IsThisOrOther A x z answer A') (sym is)
+          (these_or_others A v s (length A + 1) (Some (suc (exceptions_of A c))) (Some (next_step A c)) x w.0 q w.1.seating fill answer A'
+          (same_answer _ _ w.2.0) w.2.1 (λ first. (accepted_fixed A x answer with A' (with_command A x with) m (again first)).0))
+      by_seats (inr w) = absurd (other_outcome _ _ w.2.0)
+  accepted_step v act this answer A' free is m =
+      let step : accepts A (of act) (answer_to A act None) (Accepts answer) A' = rw (free.0, free.1) at m in
+      inl (same_answer _ _ step.0 ∙ sym is, step.1 ∙ ap (with_command A (of act)) (sym is))
+
+  never_refused : (act : Act) (this : Answer) (refusal : Refusal) (A' : History) (o : Option Sitting) → IsAnswerTo A act this o
+      → MatchOption o (accepts A (of act) (answer_to A act None) (Refuses refusal) A') (λ s. seats A (of act) s (Refuses refusal) A') → ⊥
+  never_refused act this refusal A' None is step = other_outcome _ _ (sym step.0)
+  never_refused act this refusal A' (Some s) is (inl w) = other_outcome _ _ (sym w.2.0)
+  never_refused act this refusal A' (Some s) is (inr w) = one_half A s.ceremony s.at s.seats is.0 w.0 is.1 w.1.short
+
+  pub refused_step : (act : Act) (this : Answer) (refusal : Refusal) (A' : History) → IsFree act → IsAnswerTo A act this (sitting A act)
+      → machine A (of act) (Refuses refusal) A' → ⊥
+  refused_step act this refusal A' free is m = never_refused act this refusal A' (sitting A act) is (rw (free.0, free.1) at m)
