@@ -44,9 +44,9 @@ one_column (c ∷ d ∷ more) h = absurd cc
 picked : (found : Option Table) (table : Table) → option_and_then if_number found ≡ Some table → (found ≡ Some table) × (is_number table.columns ≡ true)
 picked None table h = absurd cc
 picked (Some t) table h = elim (cases_Bool (is_number t.columns)) [
-    | inl one ↦ (let same : t ≡ table = (let e = rw one at h in cc) in (ap Some same, subst (λ (u : Table). is_number u.columns ≡ true) same one))
-    | inr other ↦ absurd (let e = rw other at h in cc)
-  ]
+  | inl one ↦ (let same : t ≡ table = (let e = rw one at h in cc) in (ap Some same, subst (λ (u : Table). is_number u.columns ≡ true) same one))
+  | inr other ↦ absurd (let e = rw other at h in cc)
+]
 
 -- where the table stands in the schema, and its column
 pub record Stands (schema : Schema) (table : Table) : Type 0 where

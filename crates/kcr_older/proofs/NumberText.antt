@@ -86,8 +86,21 @@ pub record Read : Type 0 where
 pub read_it : Read
 unfolding everything
 read_it = record {
-  parsed = _; select = _; core = _; source = _; item = _; expr = _;
-  parsed_is = refl; statement_is = refl; names_are = refl; formats_are = refl; select_is = refl; core_is = refl; source_is = refl; item_is = refl; expr_is = refl;
+  parsed = _;
+  select = _;
+  core = _;
+  source = _;
+  item = _;
+  expr = _;
+  parsed_is = refl;
+  statement_is = refl;
+  names_are = refl;
+  formats_are = refl;
+  select_is = refl;
+  core_is = refl;
+  source_is = refl;
+  item_is = refl;
+  expr_is = refl;
 }
 
 then_if : {A B : Type 0} (a : Bool) (x : A) (f : A → Checked B) → and_then (if a then Ok x else Err Mismatch) f ≡ (if a then f x else Err Mismatch)
@@ -97,7 +110,6 @@ then_if false x f = refl
 -- what the text means, whatever else the schema has
 module _ (schema : Schema) (at : ℕ) (table : Table) (c : Column) (finds : table_named schema versions ≡ Some at) (is : slice_get schema.tables at ≡ Some table)
     (columns : table.columns ≡ record c { name = number_name } ∷ []) (r : Read) where
-
   abbrev b : Bound
   b = record { name = versions; table = at; slot = 1; shared = [] }
 

@@ -197,9 +197,9 @@ module _ {S : Type 0} (g : Ghosts S) (old begun : Held S) (is : begun ≡ record
               subst (λ (h : Held S). KeepsCommit (state g h) mid) is (keeps (was_clean mid end _ then mine) inside) in
               elim (failed mine) [
                 | inl f ↦ inl (
-                  let open_still = f.3.was_open u.0.was_open in
-                  let same_commit : (state g last).committed ≡ (state g old).committed = u.0.committed_is ∙ (f.3.undone u.0.was_open).1 ∙ kept.committed open_still in
-                  stays db (kept.was_open open_still) (settled db u.0.is_open may ∙ ap (λ (d : Database). d.trees) same_commit))
+                    let open_still = f.3.was_open u.0.was_open in
+                    let same_commit : (state g last).committed ≡ (state g old).committed = u.0.committed_is ∙ (f.3.undone u.0.was_open).1 ∙ kept.committed open_still in
+                    stays db (kept.was_open open_still) (settled db u.0.is_open may ∙ ap (λ (d : Database). d.trees) same_commit))
                 | inr other ↦ absurd (let apart = sym memory ∙ other.0 in cc)
               ];
         }

@@ -1,5 +1,6 @@
 //! Taking a database over.
-ghost use Rattle.std.specs.Prelude.{◌≡◌, ◌≢◌, ◌↔◌, ◌⊎◌, ◌+◌, false, length, [], pos, IsTrue, is_some, IfOk, IfErr, OnOk};
+ghost use Rattle.std.specs.Prelude.{◌≡◌, ◌≢◌, ◌↔◌, ◌⊎◌, ◌+◌, false, length, [], pos, IsTrue, is_some, IfOk, IfErr};
+ghost use Rattle.std.specs.Prelude.{OnOk};
 ghost use Rattle.sqlite.specs.State.{HasCleanDisk, IsLive, IsUnchanged, Survives};
 ghost use Rattle.sqlite.specs.Files.{file_state};
 ghost use Rattle.sqlite.specs.Held.{state};
@@ -11,7 +12,8 @@ ghost use Rattle.kcr_tables.specs.Frame.{Reads};
 ghost use Rattle.kcr_tables.specs.Joint.{HoldsTables};
 ghost use Rattle.kcr_tables.specs.Made.{first};
 ghost use Rattle.kcr_older.specs.Older.{StoresAs};
-ghost use Rattle.kcr_older.specs.Standing.{StandsAs, IsStrange, IsOtherNumber, IsOfOtherVersion, no_schema, numbered_table};
+ghost use Rattle.kcr_older.specs.Standing.{IsOfOtherVersion, IsOtherNumber, IsStrange, StandsAs, no_schema};
+ghost use Rattle.kcr_older.specs.Standing.{numbered_table};
 ghost use Rattle.kcr_older.specs.Versions.{number_of};
 ghost use Rattle.kcr_tables.specs.Refusals.{IsFault};
 ghost use Rattle.kcr_store.specs.Frame.{StaysOutside};
@@ -293,11 +295,7 @@ fn renewed_count<S: Alter>(
 
 /// Brings a register of an older version to this one, in a transaction of its own: the number of its last command. A
 /// crash leaves it as it was, or brought.
-fn renew<S: Alter>(
-    alloc: Global,
-    conn: &mut Connection<S>,
-    from: Older,
-) -> Result<u32, OpenFault>
+fn renew<S: Alter>(alloc: Global, conn: &mut Connection<S>, from: Older) -> Result<u32, OpenFault>
     requires autocommit { conn.old.in_transaction ≡ false }
     ensures shows { HasCleanDisk (state S.Store conn.new) → (A : History)
         → StoresAs (number_of from) A (state S.Store conn.old).now

@@ -1,5 +1,5 @@
 -- A command that is given again is a step of the register.
-use Rattle.std.proofs.Common.{◌≡◌, Option, Some, None, Result, sym, ◌≢◌, ◌⊎◌, inl, inr, ◌∷◌, [], ◌++◌, List, ℕ, Ok, Err, refl, ap, ap₂, ◌∙◌, subst}
+use Rattle.std.proofs.Common.{◌≡◌, Option, Some, Result, sym, ◌≢◌, ◌⊎◌, inl, inr, ◌∷◌, [], ◌++◌, List, ℕ, Ok, Err, refl, ap, ap₂, ◌∙◌, subst}
 use Rattle.sqlite.specs.Held.{Held, state}
 use Rattle.sqlite.specs.State.{HasCleanDisk}
 use Rattle.sqlite.specs.Steps.{over_memory}
@@ -41,10 +41,6 @@ read_again {found} {text} {act} row entry values is bytes only read =
     let told : found ≡ Some entry.command.act = only entry.command.act values (sym (ap (λ (r : KeyRow). r.command) is) ∙ sym bytes) in
     let same : act ≡ entry.command.act = cc in
     by_parts row.key act entry.command (ap (λ (r : KeyRow). r.key) is) same
-
--- what is there is not absent
-pub there : {X : Type 0} (o : Option X) (x : X) → o ≡ Some x → o ≡ None → ⊥
-there o x is none = let both : Some x ≡ None = sym is ∙ none in cc
 
 -- the command that was read of a row is told by it
 pub told_by : (row : KeyRow) (act : Act) → command_text act ≡ row.command → IsToldBy row (record { key = row.key; act = act })

@@ -62,13 +62,13 @@ returns-clause-told g c clean =
           let is : Differs (Differences.Rows w.in-Some-2.table) ≡ c.match-branch-4.result = search rules in
           subst (IsTold c.args.rows A) is
           (record { of_machine = made; says = differs_of A c.args.rows rows o c.put_in_order.ensures.order w.in-Some-2.table first all })
-        )
+          )
       | in-None w ↦ (
           let none : c.in_ok-table.field-0 ≡ None = search rules in
           let is : Whole (length c.put_in_order.new.rows.items) ≡ c.match-branch-4.result = search rules in
           subst (IsTold c.args.rows A) is
           (record { of_machine = made; says = whole_of A c.args.rows rows o (c.in_ok-table.ensures.none clean none) })
-        )
+          )
     ]
 
 pub returns-clause-register : goal.returns-clause-register
