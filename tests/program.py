@@ -164,16 +164,82 @@ def older_from_nothing(program, room):
 
 
 def half_older(program, room):
-    """A register of version 2 or 3 by its tables, but with another number, is refused for its version."""
+    """A register of version 2 or 3 by its tables is refused for its version where its number is that of none, and as
+    foreign where it is that of another of the three."""
     file = filled(program, room, "006")
-    for number in (0, 1, 2, 4, 9):
+    for number, told in ((0, VERSION), (4, VERSION), (9, VERSION), (1, FOREIGN), (2, FOREIGN)):
         other = copy(file, room / f"three-{number}")
         change(other, f"UPDATE versions SET number = {number}")
-        refused(program, other, VERSION)
+        refused(program, other, told)
     older = copy(file, room / "two")
     made_older(older, 2)
-    change(older, "UPDATE versions SET number = 3")
-    refused(program, older, VERSION)
+    for number, told in ((0, VERSION), (1, FOREIGN), (3, FOREIGN)):
+        change(older, f"UPDATE versions SET number = {number}")
+        refused(program, older, told)
+
+
+def officers_and_staff():
+    """Requests of a ceremony whose three steps each want a Crypto Officer, with three of them and two people of staff in
+    the room: the first step is signed, and the second passed over, which are commands 16 and 17."""
+    year = b'"from":"2025-01-01","until":"2025-12-31"'
+    roles = [(b"AA", b"CA"), (b"AA", b"IW"), (b"BB", b"CA"), (b"BB", b"IW")]
+    places = [(1, b"EA"), (2, b"EB"), (5, b"EE")]
+    steps = b"".join(b"%d,Act,CO\\n" % step for step in (1, 2, 3))
+    return [
+        *(kcr.person(b"p" + who, who, b"N") for who in (b"AA", b"BB", b"EA", b"EB", b"EE")),
+        *(kcr.post(b"/people/%s/roles" % who, b"r" + who + role, b'"role":"%s",%s' % (role, year)) for who, role in roles),
+        *(kcr.post(b"/custodians", b"c" + who, b'"place":"CO-EAST-%d","who":"%s","day":"2025-01-01"' % (number, who))
+          for number, who in places),
+        kcr.post(b"/ceremonies", b"plan", b'"number":61,"facility":"EAST","day":"2025-02-13",'
+                                          b'"script":"step,activity,seats\\n%s"' % steps),
+        kcr.post(b"/ceremonies/61/opening", b"open", b'"at":"2025-02-13T20:00:00Z"'),
+        kcr.post(b"/ceremonies/61/sheet", b"come", b'"way":"in","who":["AA","BB","EA","EB","EE"],'
+                                                   b'"at":"2025-02-13T20:05:00Z"'),
+        kcr.post(b"/ceremonies/61/steps/1/signature", b"sign", b'"at":"2025-02-13T20:10:00Z"'),
+        kcr.post(b"/ceremonies/61/exceptions", b"pass", b'"text":"Broken","pass":true,"at":"2025-02-13T20:12:00Z"'),
+    ]
+
+
+def seated(number, people, step, more=b""):
+    """The answer to an accepted command that seats people."""
+    named = b",".join(b'"%s"' % who for who in people)
+    return kcr.answer(b"200 OK", b'{"accepted":%d,%s"seating":[%s],"step":%d}' % (number, more, named, step))
+
+
+def other_seatings(program, room):
+    """A register of any version whose recorded people fill the seats, but are not the first who do, is taken as it is:
+    they are printed, audited and told again, and a new signature records the first ones. Only a verification tells it."""
+    requests, file = officers_and_staff(), room / "first"
+    first = [kcr.accepted(number + 1) for number in range(15)]
+    first += [seated(16, [b"EA"], 1), seated(17, [b"AA", b"BB"], 2, b'"exception":1,')]
+    expect("the answers", (b"".join(first), b"", 0), call(program, "run", "--file", file, stream=b"".join(requests)))
+    other = [*first[:15], seated(16, [b"EE"], 1), seated(17, [b"BB", b"AA"], 2, b'"exception":1,')]
+    printed = (b"Ceremony 61 EAST 2025-02-13 open\nOpened 2025-02-13T20:00:00Z\n"
+               b"1 signed 2025-02-13T20:10:00Z Act\n  CO EE\n2 passed 2025-02-13T20:12:00Z Act\n  CA BB\n  IW AA\n")
+    for version in (1, 2, 3):
+        older = copy(file, room / f"version-{version}")
+        change(older, "UPDATE seatings SET who = 'EE' WHERE step = 1",
+               "UPDATE seatings SET who = CASE seat WHEN 1 THEN 'BB' ELSE 'AA' END WHERE step = 2",
+               "UPDATE keys SET reply = replace(reply, '\"EA\"', '\"EE\"') WHERE accepted = 16",
+               "UPDATE keys SET reply = replace(reply, '\"AA\",\"BB\"', '\"BB\",\"AA\"') WHERE accepted = 17")
+        if version < 3:
+            made_older(older, version)
+        differed(program, older, "reply 16")
+        fresh = room / f"rebuilt-{version}"
+        expect("rebuild", (b"finding: reply 16\n", b"", 1), call(program, "rebuild", "--file", older, "--into", fresh))
+        verified(program, fresh, 16)
+        output, *ended = call(program, "print", "--ceremony", "61", "--file", older)
+        expect("print", (printed, [b"", 0]), (output[:len(printed)], ended))
+        expect("audit", NOTHING_FOUND, call(program, "audit", "--file", older))
+        expect("the commands again", (b"".join(other), b"", 0),
+               call(program, "run", "--file", older, stream=b"".join(requests)))
+        again = kcr.post(b"/ceremonies/61/steps/3/signature", b"last", b'"at":"2025-02-13T20:20:00Z"')
+        expect("a new signature", (seated(18, [b"EA"], 3), b"", 0), call(program, "run", "--file", older, stream=again))
+        expect("the audit after it", NOTHING_FOUND, call(program, "audit", "--file", older))
+        with opened(older) as database:
+            expect("the seatings", [(61, 1, 1, "EE"), (61, 2, 1, "BB"), (61, 2, 2, "AA"), (61, 3, 1, "EA")],
+                   sorted(kcr.rows_in(database)["seatings"]))
+            expect("the version", [(3,)], kcr.rows_in(database)["versions"])
 
 
 def officers_and_staff():
@@ -304,22 +370,37 @@ def no_database(program, room):
     expect("what is not made", (False, False), ((room / "no folder").exists(), (room / ":memory:").exists()))
 
 
-def foreign_databases(program, room):
-    """A database of somebody else is refused as foreign, or for its version where it has one number of a version."""
-    strangers = [
-        ("other", FOREIGN, ["CREATE TABLE t (a INT, b TEXT)", "INSERT INTO t VALUES (1, 'x')"]),
-        ("view", FOREIGN, ["CREATE VIEW people AS SELECT 1 AS who"]),
-        ("some", FOREIGN, kcr.schema()[:5]),
-        ("columns", FOREIGN, ["CREATE TABLE versions (number INT, name TEXT)", "INSERT INTO versions VALUES (3, 'x')"]),
-        ("none", FOREIGN, ["CREATE TABLE versions (number INT NOT NULL, PRIMARY KEY (number)) STRICT"]),
-        ("word", FOREIGN, ["CREATE TABLE versions (number TEXT)", "INSERT INTO versions VALUES ('x')"]),
-        ("two", FOREIGN, ["CREATE TABLE versions (number INT)", "INSERT INTO versions VALUES (3), (9)"]),
-        ("nine", VERSION, ["CREATE TABLE versions (number INT NOT NULL, PRIMARY KEY (number)) STRICT",
-                           "INSERT INTO versions VALUES (9)"]),
-        ("nine-more", VERSION, ["CREATE TABLE t (a INT)", "CREATE TABLE versions (number INT)",
-                                "INSERT INTO versions VALUES (9)"]),
+# One number alone, in a table that is read whatever else there is
+NUMBER = "CREATE TABLE versions (number INT)"
+
+
+def other_databases(program, room):
+    """A database of somebody else is refused for its version where its table of versions, of the one column `number`,
+    has exactly one row, with a whole number that is none of 1, 2 and 3; and as foreign where it is not so."""
+    others = [
+        ("no table of versions", FOREIGN, ["CREATE TABLE t (a INT, b TEXT)", "INSERT INTO t VALUES (1, 'x')"]),
+        ("a view alone", FOREIGN, ["CREATE VIEW people AS SELECT 1 AS who"]),
+        ("some of the tables", FOREIGN, kcr.schema()[:5]),
+        ("another column", FOREIGN, ["CREATE TABLE versions (other INT)", "INSERT INTO versions VALUES (9)"]),
+        ("two columns", FOREIGN, ["CREATE TABLE versions (number INT, name TEXT)",
+                                  "INSERT INTO versions VALUES (9, 'x')"]),
+        ("no row", FOREIGN, [NUMBER]),
+        ("two rows", FOREIGN, [NUMBER, "INSERT INTO versions VALUES (9), (10)"]),
+        ("NULL", FOREIGN, [NUMBER, "INSERT INTO versions VALUES (NULL)"]),
+        ("a text", FOREIGN, ["CREATE TABLE versions (number TEXT)", "INSERT INTO versions VALUES ('9')"]),
+        ("a real number", FOREIGN, ["CREATE TABLE versions (number REAL)", "INSERT INTO versions VALUES (9)"]),
+        ("past 64 bits", FOREIGN, [NUMBER, "INSERT INTO versions VALUES (9223372036854775808)"]),
+        ("another version", VERSION, [NUMBER, "INSERT INTO versions VALUES (9)"]),
+        ("more beside it", VERSION, ["CREATE TABLE t (a INT)", "CREATE VIEW v AS SELECT a FROM t", NUMBER,
+                                     "CREATE INDEX i ON t (a) WHERE a > 1", "INSERT INTO versions VALUES (9)"]),
+        ("a row id", VERSION, ["CREATE TABLE versions (number INTEGER PRIMARY KEY)",
+                               "INSERT INTO versions VALUES (9)"]),
     ]
-    for name, told, statements in strangers:
+    others += [(f"the number {number}", VERSION, [NUMBER, f"INSERT INTO versions VALUES ({number})"])
+               for number in (-9223372036854775808, -1, 0, 4, 4294967295, 4294967296, 4294967299, 9223372036854775807)]
+    others += [(f"nothing but the number {number}", FOREIGN, [NUMBER, f"INSERT INTO versions VALUES ({number})"])
+               for number in (1, 2, 3)]
+    for name, told, statements in others:
         change(room / name, *statements)
         refused(program, room / name, told)
     change(room / "wal", "CREATE TABLE t (a INT)")
@@ -328,13 +409,54 @@ def foreign_databases(program, room):
     refused(program, room / "wal", FOREIGN)
 
 
+def another_schema(program, room):
+    """A register of any version that has a table, an index, a view or a trigger more, or a column or a key less, is
+    refused as foreign, and for its version where its number is that of none."""
+    file = filled(program, room, "006")
+    changes = [
+        ["CREATE TABLE more (a INT)"],
+        ["CREATE INDEX more ON people (name)"],
+        ["CREATE INDEX more ON people (name) WHERE name > 'A'"],
+        ["CREATE INDEX more ON people (lower(name))"],
+        ["CREATE VIEW more AS SELECT who FROM people"],
+        ["CREATE TRIGGER more AFTER INSERT ON people BEGIN DELETE FROM people; END"],
+        ["ALTER TABLE people ADD COLUMN more INT"],
+        ["ALTER TABLE people DROP COLUMN name"],
+        ["ALTER TABLE people RENAME COLUMN name TO word"],
+        ["DROP TABLE people"],
+        ["DROP TABLE people", kcr.schema()[0].replace("TEXT NOT NULL, PRIMARY", "TEXT, PRIMARY")],
+        ["DROP TABLE people", kcr.schema()[0].replace(" STRICT", "")],
+    ]
+    for version in (1, 2, 3):
+        own = copy(file, room / f"version-{version}")
+        if version < 3:
+            made_older(own, version)
+        for place, statements in enumerate(changes):
+            other = copy(own, room / f"version-{version}-{place}")
+            change(other, *statements)
+            refused(program, other, FOREIGN)
+            change(other, "UPDATE versions SET number = 9")
+            refused(program, other, VERSION)
+
+
 def no_one_number(program, room):
-    """A register's tables whose table of versions has no row, or two, are refused for their version."""
+    """A register's tables whose table of versions has no row, or two, are nobody's register."""
     file = filled(program, room, "006")
     for name, statement in (("none", "DELETE FROM versions"), ("two", "INSERT INTO versions VALUES (9)")):
         other = copy(file, room / name)
         change(other, statement)
-        refused(program, other, VERSION)
+        refused(program, other, FOREIGN)
+
+
+def each_its_own(program, room):
+    """Of two files each has its own register: what one is told the other does not know."""
+    files = {name: room / name for name in ("006", "009")}
+    for name, file in files.items():
+        told = call(program, "run", "--file", file, stream=kcr.kept(stream(name), "requests"))
+        expect(f"the answers of {name}", (kcr.kept(stream(name), "answers"), b"", 0), told)
+    for name, file in files.items():
+        kcr.stored(file, kcr.kept_tables(stream(name)))
+        reported(program, file, stream(name))
 
 
 # Two who have one file open
@@ -454,12 +576,12 @@ def findings(program, room):
 
 
 def doubled_key(program, room):
-    """A key in two rows, in a table that sqlite3 makes without a unique key, is found."""
+    """A key in two rows, in a table that sqlite3 makes without a unique key, is in nobody's register."""
     file = filled(program, room, "003")
     keys = kcr.kept_tables(stream("003"))["keys"]
     key, _, command, reply = keys[20]
-    audited(program, made_anew(file, room / "doubled", unsaid=" NOT NULL UNIQUE",
-                               keys=[*keys, (key, 1_000, command, reply)]), f"key {key}")
+    refused(program, made_anew(file, room / "doubled", unsaid=" NOT NULL UNIQUE",
+                               keys=[*keys, (key, 1_000, command, reply)]), FOREIGN)
 
 
 def crowd(program, room):
@@ -611,7 +733,8 @@ def report_stops(program, room):
 
 
 TESTS = [opened_anew, older_from_its_file, older_from_nothing, half_older, other_seatings, no_file_yet,
-         relative_and_linked, no_database, foreign_databases, no_one_number, held_by_serve, held_by_sqlite, hot_journal,
+         relative_and_linked, no_database, other_databases, another_schema, no_one_number,
+         each_its_own, held_by_serve, held_by_sqlite, hot_journal,
          unknown_ceremony, over_memory, numbers_out_of_range, output_is_full, findings, doubled_key, crowd, differences,
          changed_commands, rows_of_no_register, broken_in_a_stream, report_stops]
 
