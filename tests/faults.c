@@ -2,18 +2,20 @@
  * before the C library (LD_PRELOAD), and is told by the environment what is to fail:
  *
  * REFUSE=N   Of the calls of malloc, calloc and realloc the Nth fails, counting from 1.
+ * AGAIN=N    Of the calls after that one the Nth fails too.
  * REGISTER=F The register's file is F, its log F-wal. Whenever one of them says that it is safe (fsync, fdatasync),
  *            what it then holds is kept beside it, as F-safe or F-safe-wal.
  * CALLS=N    Of the file of that register, or with LOG=1 of its log, N calls are passed on (to read, write, cut or sync
  *            it or to ask for its length), and from then on each fails.
+ * OUTPUT=N   N calls to write to standard output are passed on, and from then on each fails.
  * FAILED=F   The file F is made as soon as something failed, so that a test can tell a fault from an end before it.
  *
  * It needs no header, so that any C compiler makes it, and calls the system by its numbers on x86-64. */
 
 typedef unsigned long size;
 
-enum { PREAD = 17, PWRITE = 18, SENDFILE = 40, FSYNC = 74, FDATASYNC = 75, FTRUNCATE = 77, STATX = 332 };
-enum { HERE = -100, IO_FAULT = 5, LONGEST_PATH = 4096, MOST_AT_ONCE = 1 << 20 };
+enum { WRITE = 1, PREAD = 17, PWRITE = 18, SENDFILE = 40, FSYNC = 74, FDATASYNC = 75, FTRUNCATE = 77, STATX = 332 };
+enum { HERE = -100, STANDARD_OUTPUT = 1, IO_FAULT = 5, LONGEST_PATH = 4096, MOST_AT_ONCE = 1 << 20 };
 enum { DATABASE, LOG, FILES, NEITHER = -1 };
 
 extern void *__libc_malloc(size length);
@@ -32,14 +34,21 @@ extern long syscall(long number, ...);
 extern int *__errno_location(void);
 
 static size requests_left; /* requests for memory up to the refused one, that included; 0 where none is to be refused */
+static size requests_after; /* those after it up to the second refused one, included; 0 if there is none */
+static int is_output_failing;
+static size writes_left; /* calls to write to standard output that are passed on, if others are to fail */
 static int stopping = NEITHER;
 static size calls_left;
 static char paths[FILES][LONGEST_PATH];
 static int opened[FILES] = {NEITHER, NEITHER};
 
 __attribute__((constructor)) static void begin(void) {
-    const char *refuse = getenv("REFUSE"), *file = getenv("REGISTER"), *calls = getenv("CALLS");
+    const char *refuse = getenv("REFUSE"), *again = getenv("AGAIN"), *output = getenv("OUTPUT");
+    const char *file = getenv("REGISTER"), *calls = getenv("CALLS");
     requests_left = refuse ? strtoul(refuse, 0, 10) : 0;
+    requests_after = again ? strtoul(again, 0, 10) : 0;
+    is_output_failing = output != 0;
+    writes_left = output ? strtoul(output, 0, 10) : 0;
     if (file && strlen(file) + 16 < LONGEST_PATH) {
         strcpy(paths[DATABASE], file);
         strcat(strcpy(paths[LOG], file), "-wal");
@@ -64,6 +73,8 @@ static int is_refused(void) {
     if (requests_left == 0 || --requests_left > 0) {
         return 0;
     }
+    requests_left = requests_after;
+    requests_after = 0;
     fail();
     return 1;
 }
@@ -78,6 +89,20 @@ void *calloc(size count, size length) {
 
 void *realloc(void *block, size length) {
     return is_refused() ? 0 : __libc_realloc(block, length);
+}
+
+/* Standard output */
+
+long write(int file, const void *bytes, size length) {
+    if (file == STANDARD_OUTPUT && is_output_failing) {
+        if (writes_left == 0) {
+            *__errno_location() = IO_FAULT;
+            fail();
+            return -1;
+        }
+        writes_left--;
+    }
+    return syscall(WRITE, file, bytes, length);
 }
 
 /* Files */

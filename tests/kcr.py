@@ -1,8 +1,8 @@
 """What the tests of the program `kcr` share: to start it and end it, to cut streams into requests and answers, and to
 read and change a register's file with C's sqlite, by Python's module sqlite3.
 
-It tests nothing by itself: `program.py`, `server.py`, `kills.py`, `healthy.py`, `memory.py` and `stops.py` stand on it
-and on the kept streams of `files`, and `streams.py` makes its requests by it.
+It tests nothing by itself: `program.py`, `worked.py`, `server.py`, `kills.py`, `healthy.py`, `memory.py` and `stops.py`
+use it, the kept streams of `files` and the cases, and `streams.py` makes its requests by it.
 """
 import ast
 import contextlib
@@ -72,14 +72,15 @@ def free_port():
 
 
 class Server:
-    """`kcr serve` on a free port, over a file or over memory, from when it listens. It is killed where it is left."""
+    """`kcr serve` on a free port, over a file or over memory, from when it listens, in this environment or in its own.
+    It is killed where it is left."""
 
-    def __init__(self, program, connections, file=None, seconds=SECONDS):
+    def __init__(self, program, connections, file=None, seconds=SECONDS, environment=None):
         words = ["serve", "--connections", str(connections)] + (["--file", str(file)] if file else [])
         for _ in range(5):  # somebody may take the port before the program does
             self.port = free_port()
             self.run = subprocess.Popen([program, *words, "--port", str(self.port)], stdin=subprocess.DEVNULL,
-                                        stdout=subprocess.PIPE, stderr=subprocess.PIPE)
+                                        stdout=subprocess.PIPE, stderr=subprocess.PIPE, env=environment)
             self.guard = threading.Timer(seconds, self.run.kill)
             self.guard.start()
             self.line = self.run.stdout.readline()
@@ -230,6 +231,16 @@ def answers(stream, requests):
     return found
 
 
+def case(name):
+    """The requests of a case of `cases`."""
+    return messages((HERE / "cases" / name).read_bytes())
+
+
+def case_answers(name):
+    """The answers that a case wants, each by itself."""
+    return answers((HERE / "cases" / f"{name}.stdout").read_bytes(), case(name))
+
+
 # The kept streams
 
 def folders():
@@ -337,6 +348,12 @@ def rows_in(database):
     return {name: sorted(database.execute(f"SELECT * FROM {name}")) for name in TABLES}
 
 
+def rows_of(file):
+    """The rows of each table of a register's file, as sqlite3 reads it."""
+    with opened(file) as database:
+        return rows_in(database)
+
+
 def stored(file, tables):
     """Sees that a file is a sound register with these rows, as sqlite3 reads it."""
     with opened(file) as database:
@@ -375,6 +392,14 @@ def faulty(program, library, what, *words, stream=b""):
         mark = pathlib.Path(room) / "failed"
         told = call(program, *words, stream=stream, env={"LD_PRELOAD": str(library), "FAILED": str(mark), **what})
         return told, mark.exists()
+
+
+def with_last(test, value):
+    """A test that is always given this value last."""
+    @functools.wraps(test)
+    def given(*values):
+        return test(*values, value)
+    return given
 
 
 def judge_faults(tests, names, program):

@@ -6,13 +6,15 @@
 A library that stands before the C library (`faults.c`) passes so many calls of one file on (to read, write, cut or sync
 it or to ask for its length) and has each one behind them fail, for every number from 0 on until a run meets no stop,
 and for the database and its log in turn. That goes on while the tables of a new file are made, while registers of the
-versions 1 and 2 are brought to version 3, and while the ten commands of a ceremony are taken. Shown are: where the
-opening is stopped the program says `open: disk`; a command that is stopped is told that the device failed (34), and all
-behind it that the register is broken (35). What is then left is opened twice: all that was written, as when the program
-alone ends, and only what each file had said to be safe, as when the machine stops. Either has, as sqlite3 reads it, the
-tables as they were before the step that was stopped or as they are after it, and so all commands that were answered;
-and the commands from the last answered one on, sent again, get the answers that they would have had. With names only
-the tests with these names run.
+versions 1 and 2 are brought to version 3 and take a command, while the ten commands of a ceremony are taken, and while
+three cases are played. Shown are: where the opening is stopped the program says `open: disk`; a command that is stopped
+is told that the device failed (34), and all behind it that the register is broken (35). What is then left is opened
+twice: all that was written, as when the program alone ends, and only what each file had said to be safe, as when the
+machine stops. Either has, as sqlite3 reads it, the tables as they were before the step that was stopped or as they are
+after it, and so all commands that were answered; and the commands from the stopped one on, and the accepted one before
+it, sent again, get the answers that they would have had. Of a port: the program ends with a line after a connection in
+which the file stopped. Of reports: where a write fails a beginning was printed, and the next report is whole. With
+names only the tests with these names run.
 
 The last line is `N passed, M failed`, and the status is 0 where none failed. Where there is no C compiler nothing is
 tested, and it says so.
@@ -33,6 +35,8 @@ from program import NEWER, made_older
 DISK = kcr.answer(b"500 Internal Server Error", b'{"number":34,"refusal":"disk"}')
 BROKEN = kcr.answer(b"500 Internal Server Error", b'{"number":35,"refusal":"broken"}')
 UNOPENED = (b"", b"open: disk\n", 1)
+UNWRITTEN = (b"fault: write\n", 1)
+EXAMPLES = ["entered-and-listed", "step-out-of-order", "serial-used-once"]
 
 
 def held(file):
@@ -91,7 +95,8 @@ class Trial:
         self.looked_at.add(found)
         if held(left) not in self.tables[steps:steps + 2]:
             raise Wrong(f"{steps} steps were done, and {left.name} holds {held(left)!r:.3000}")
-        again = max(steps - 2, 0)
+        again = max(steps - 1, 0)  # the command that was stopped, or the one before it where that was accepted
+        again -= again > 0 and b'{"accepted":' in self.answers[again - 1]
         expect("what is sent again", (b"".join(self.answers[again:]), b"", 0),
                call(self.program, "run", "--file", left, stream=b"".join(self.commands[again:])))
         expect("the tables in the end", self.tables[-1], held(left))
@@ -128,13 +133,14 @@ def tables_are_made(program, library, room):
 
 
 def older_registers_are_brought(program, library, room):
-    """A register of version 1 or 2 stops while it is brought to version 3."""
+    """A register of version 1 or 2 stops while it is brought to version 3, or while it then takes a command."""
     filled = room / "filled"
     call(program, "run", "--file", filled, stream=b"".join(kcr.short_ceremony()))
+    item = kcr.post(b"/items", b"k11", b'"ceremony":61,"item":"HSM5","at":"2025-02-13T20:14:00Z"')
     for version in NEWER:
         file = put(filled, room / "register")
         made_older(file, version)
-        Trial(program, library, file, []).swept(f"version {version}")
+        Trial(program, library, file, [item]).swept(f"version {version}")
 
 
 def commands_are_taken(program, library, room):
@@ -151,7 +157,54 @@ def a_signature_is_taken(program, library, room):
     Trial(program, library, file, commands[7:]).swept("three commands over a register's file")
 
 
-TESTS = [tables_are_made, older_registers_are_brought, commands_are_taken, a_signature_is_taken]
+def examples_are_played(program, library, room):
+    """A new file stops while a person is entered and listed, while an exception passes over a step, or while a bag is
+    sealed and cut."""
+    for name in EXAMPLES:
+        (room / name).mkdir()
+        Trial(program, library, room / name / "register", kcr.case(name)).swept(name)
+
+
+def a_connection_breaks_it(program, library, room):
+    """A file stops in a connection, which is told so; then the program says that the register is broken and ends, with
+    two more connections to serve."""
+    file, commands = room / "register", kcr.short_ceremony()
+    question = kcr.request(b"GET", b"/people")
+    for calls in itertools.count():
+        what = {"REGISTER": str(put(file, room / "tried")), "CALLS": str(calls), "LOG": "1"}
+        told = kcr.faulty(program, library, what, "run", "--file", room / "tried", stream=commands[0])[0]
+        if told != UNOPENED:
+            break
+    expect("the first command", (DISK, b"", 0), told)
+    put(file, room / "tried")
+    with kcr.Server(program, 4, room / "tried", environment={"LD_PRELOAD": str(library), **what}) as server:
+        expect("a connection without a request", b"", kcr.exchange(server.port, []))
+        expect("the connection in which the file stops", DISK + BROKEN + BROKEN,
+               kcr.exchange(server.port, [commands[0] + question + commands[0]]))
+        expect("the end", (b"", b"refused: 35 broken\n", 1), server.end())
+
+
+def reports_are_cut(program, library, room):
+    """A report whose writes fail, at its third line too, leaves its lines before, and the next one is whole."""
+    file = room / "register"
+    call(program, "run", "--file", file, stream=b"".join(kcr.case("script-of-400-steps")))
+    held = kcr.contents(file)
+    for words in (("print", "--ceremony", "61"), ("custody",)):
+        text = call(program, *words, "--file", file)[0]
+        lines, counts = text.splitlines(keepends=True), []
+        for writes in (0, 1, 2, 3):
+            (output, *end), is_stopped = kcr.faulty(program, library, {"OUTPUT": str(writes)}, *words, "--file", file)
+            counts.append(len(output.splitlines()))
+            expect(f"{words[0]}, {writes} writes", (b"".join(lines[:counts[-1]]), UNWRITTEN, True),
+                   (output, tuple(end), is_stopped))
+            expect(f"{words[0]} after {writes} writes", (text, b"", 0), call(program, *words, "--file", file))
+        expect(f"{words[0]}: no line, two lines, and more each time", (0, True, sorted(set(counts))),
+               (counts[0], 2 in counts, counts))
+    expect("the files", held, kcr.contents(file))
+
+
+TESTS = [tables_are_made, older_registers_are_brought, commands_are_taken, a_signature_is_taken,
+         examples_are_played, a_connection_breaks_it, reports_are_cut]
 
 
 def main():

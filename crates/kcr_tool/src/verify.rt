@@ -140,7 +140,8 @@ pub fn verify<W: Write>(
         × TellsVerified verified_head told (W.contents (inner_of output.old))
         (W.contents (inner_of output.new)) status) }
 
-    // In the tables of a history that the machine leads to nothing differs, and the line has the number of its commands.
+    // In the tables of a history that the machine leads to nothing differs, and the line has the number of its
+    // commands.
     ensures own { (A : History) → IsOfMachine A → AreValues A → IsListed (tables A) rows
         → IfOk result (λ status. TellsVerified verified_head (Verified.Whole (length A))
         (W.contents (inner_of output.old)) (W.contents (inner_of output.new)) status) }
@@ -179,7 +180,8 @@ fn rebuild_in<S: Alter, W: Write>(
         × TellsVerified rebuilt_head told (W.contents (inner_of output.old))
         (W.contents (inner_of output.new)) status) }
 
-    // In the tables of a history that the machine leads to nothing differs, and the line has the number of its commands.
+    // In the tables of a history that the machine leads to nothing differs, and the line has the number of its
+    // commands.
     ensures own { HasCleanDisk (state S.Store fresh.new.conn) → (A : History) → IsOfMachine A → AreValues A
         → IsListed (tables A) rows → IfOk result (λ status. TellsVerified rebuilt_head (Verified.Whole (length A))
         (W.contents (inner_of output.old)) (W.contents (inner_of output.new)) status) }
