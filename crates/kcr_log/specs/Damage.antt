@@ -1,0 +1,73 @@
+-- When a log was damaged after it was safe.
+use Rattle.std.specs.Prelude.{◌≡◌, ℕ, ◌+◌, ◌-◌, ◌*◌, ◌/◌, ◌<◌, ◌≤◌, ◌==◌, ◌&&◌, ◌||◌, nat_lt, Bool, true, false, if◌then◌else◌, List, length, slice_index}
+use Rattle.sqlite_wal.specs.Format.{be32}
+use Rattle.kcr_log.specs.declared.frames.Header.{Header}
+use Rattle.kcr_log.specs.declared.judgement.Log.{Log}
+use Rattle.kcr_log.specs.declared.judgement.Log.TheVariants.{Sound, WrongHead, WrongFrame, NoFile}
+use Rattle.kcr_log.specs.Frames.{header_of, is_signed, frame_count, frame_of, carries, checks, commits, commits_from}
+
+-- The byte that a writer puts first among the salts of a frame that is not to be read yet. It is not the log's own.
+abbrev pub shut_byte : Header → ℕ
+shut_byte header = if header.salt / 0x100_0000 == 0 then 1 else 0
+
+-- frame i is not to be read yet, whatever lies behind it
+unfoldable pub is_shut : Header → List ℕ → ℕ → Bool
+is_shut header log i = (frame_of header log i).salt / 0x100_0000 == shut_byte header
+
+-- how many frames end a transaction in frame i and those behind it, up to the first of these without the salts
+unfoldable pub commits_behind : Header → List ℕ → ℕ → ℕ
+commits_behind header log i =
+    (if commits header log i then 1 else 0) + commits_from header log (i + 1) (frame_count header log - (i + 1))
+
+-- Each frame before this one checks, and this one, counted from 1, does not, though it was to be read. With it and
+-- behind it this many transactions end, and a stop leaves one at most.
+pub record IsWrongFrame (log : List ℕ) (first behind : ℕ) : Type 0 where
+  pub signed : is_signed log ≡ true
+  pub counted : 1 ≤ first
+  pub before : (i : ℕ) → i + 1 < first → checks (header_of log) log i ≡ true
+  pub wrong : checks (header_of log) log (first - 1) ≡ false
+  pub to_read : is_shut (header_of log) log (first - 1) ≡ false
+  pub behind_is : behind ≡ commits_behind (header_of log) log (first - 1)
+  pub many : 2 ≤ behind
+
+-- the log has transactions that are ended, and the file not one byte
+pub record IsWithoutFile (file log : List ℕ) (ended : ℕ) : Type 0 where
+  pub empty : length file ≡ 0
+  pub signed : is_signed log ≡ true
+  pub first : checks (header_of log) log 0 ≡ true
+  pub ended_is : ended ≡ commits_from (header_of log) log 0 (frame_count (header_of log) log - 0)
+  pub some : 0 < ended
+
+-- the size of a page by the head of the file, or by the log's where the file is too short
+abbrev pub page_size_of : List ℕ → List ℕ → ℕ
+page_size_of file log =
+    let named = slice_index file 16 * 256 + slice_index file 17 in
+    if nat_lt (length file) 18 then be32 log 8 else (if named == 1 then 65536 else named)
+
+-- a head as the first frame tells it
+abbrev pub header_by : Bool → ℕ → List ℕ → Header
+header_by big size log = record { big = big; page_size = size; salt = be32 log 40; second_salt = be32 log 44 }
+
+-- The head does not check and is not being written anew, since its first byte is not 0, and yet the second frame goes on from the first. This many
+-- transactions end in the frames with the salts of the first.
+pub record IsWrongHead (file log : List ℕ) (ended : ℕ) : Type 0 where
+  pub wrong : is_signed log ≡ false
+  pub not_begun : 0x100_0000 ≤ be32 log 0
+  pub agree : (checks (header_by false (page_size_of file log) log) log 1 || checks (header_by true (page_size_of file log) log) log 1) ≡ true
+  pub ended_is : let header = header_by false (page_size_of file log) log in
+      ended ≡ commits_from header log 0 (frame_count header log - 0)
+  pub some : 0 < ended
+
+-- what the answer says of a damaged log; that it is sound says no such thing
+abbrev pub IsDamage : List ℕ → List ℕ → Log → Type 0
+IsDamage file log Sound = ⊥
+IsDamage file log (WrongHead ended) = IsWrongHead file log ended
+IsDamage file log (WrongFrame first behind) = IsWrongFrame log first behind
+IsDamage file log (NoFile ended) = IsWithoutFile file log ended
+
+-- the answer is right: it names a damage that is there, or there is none
+abbrev pub IsJudged : List ℕ → List ℕ → Log → Type 0
+IsJudged file log Sound = (damage : Log) → ¬ IsDamage file log damage
+IsJudged file log (WrongHead ended) = IsWrongHead file log ended
+IsJudged file log (WrongFrame first behind) = IsWrongFrame log first behind
+IsJudged file log (NoFile ended) = IsWithoutFile file log ended

@@ -1,0 +1,4 @@
+pub mod Frames
+pub mod Damage
+pub mod Stop
+pub mod Written
