@@ -4,6 +4,8 @@
 KIT = [
     ("std", "ℤ", "A signed number without a bound."),
     ("std", "IsSorted", "The list is in the order of this comparison."),
+    ("sqlite", "FindsIn", "The database shows what the files of this image held."),
+    ("sqlite", "IsOpened", "The connection is new: its database is open, and nothing is under way."),
     ("sqlite_schema", "table_named", "The place of the table of this name in the schema, or none."),
     ("sqlite_schema", "place_of", "The place of a column of the table in its rows."),
     ("std", "ℕ zero suc pos",

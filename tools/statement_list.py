@@ -31,7 +31,7 @@ SENTENCES = {
     },
     "kcr_store::connect": {
         "autocommit": "The connection is outside of a transaction.",
-        "founded": "If the files held a history, or nothing, the connection may be adopted with that history.",
+        "found": "The connection finds what the files held.",
         "kind": "The fault is `Memory` or `Disk`.",
     },
     "kcr_store::Register::adopt": {

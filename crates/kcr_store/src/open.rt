@@ -3,7 +3,9 @@ ghost use Rattle.std.specs.Prelude.{◌≡◌, ◌≢◌, ◌↔◌, ◌⊎◌, 
 ghost use Rattle.std.specs.Prelude.{OnOk};
 ghost use Rattle.sqlite.specs.State.{HasCleanDisk, IsLive, IsUnchanged, Survives};
 ghost use Rattle.sqlite.specs.Files.{file_state};
+ghost use Rattle.sqlite.specs.Files.{IsOpened as IsNewlyOpened};
 ghost use Rattle.sqlite.specs.Held.{state};
+ghost use Rattle.sqlite.specs.Start.{FindsIn};
 ghost use Rattle.sqlite.specs.WalFiles.{image_at};
 ghost use Rattle.kcr_history.specs.History.{History};
 ghost use Rattle.kcr_history.specs.Tables.{tables};
@@ -74,6 +76,13 @@ pub fn connect<S: Start>(
     start: S,
 ) -> Result<Connection<FileStore<FileFrom<S>>>, OpenFault>
     ensures autocommit { IfOk result (λ connection. connection.in_transaction ≡ false) }
+
+    // The connection is a new one and shows what the two held.
+    ensures opened { IfOk result (λ connection. HasCleanDisk (file_state connection) → IsNewlyOpened connection) }
+    ensures found { IfOk result (λ connection. HasCleanDisk (file_state connection)
+        → FindsIn (image_at S.Start) (file_state connection)) }
+
+    // Where that was a history's tables, or nothing, so is what it finds.
     ensures founded { IfOk result (λ connection. (A : History) → IsHeldIn A (image_at S.Start)
         → IsFounded A (file_state connection)) }
     ensures kind { IfErr result (λ e. (e ≡ OpenFault.Memory) ⊎ (e ≡ OpenFault.Disk)) }

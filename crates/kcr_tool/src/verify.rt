@@ -216,9 +216,9 @@ pub fn rebuild<W: Write>(
         ⊎ TellsVerifiedFront rebuilt_head (W.contents (inner_of output.old)) (W.contents (inner_of output.new))) }
     ensures cause { IfErr result (StopsRebuild output.old output.new) }
 {
-    let mut fresh = match create(rt, path) {
+    let mut fresh = match create(rt, path, Unknown) {
         Ok(fresh) => fresh,
-        Err(fault) => return Err(Fault::Into(fault)),
+        Err((fault, _)) => return Err(Fault::Into(fault)),
     };
     rebuild_in(rt.alloc(), rows, &mut fresh, output)
 }

@@ -1,10 +1,19 @@
--- A database of any other standing has something.
-use Rattle.std.proofs.Common.{◌≡◌, ◌≢◌, refl, arith}
+-- A database of any other standing has something, and an opening makes of an empty one an empty register.
+use Rattle.std.proofs.Common.{◌≡◌, ◌≢◌, ◌⊎◌, inl, inr, refl, sym, subst, arith}
+use Rattle.sqlite.specs.Held.{Held, state}
+use Rattle.sqlite.specs.Recovery.{Image}
 use Rattle.sqlite.specs.Schema.{Schema}
+use Rattle.sqlite.specs.State.{State, Survives}
+use Rattle.sqlite.specs.Store.{Ghosts}
+use Rattle.sqlite.specs.Tree.{Trees}
 use Rattle.kcr_older.specs.Standing.{StandsAs, no_schema}
 use Rattle.kcr_older.specs.declared.standing.Standing.{Standing}
 use Rattle.kcr_older.specs.declared.standing.Standing.TheVariants.{Empty, Current, Second, First, Numbered, Foreign}
 use Rattle.kcr_store.proofs.OpenLemmas.{apart}
+use Rattle.kcr_store.specs.Opening.{IsMadeOf}
+use Rattle.kcr_verify.specs.Fresh.{IsGivenBack, IsNewOf, IsOpenedOn}
+use Rattle.kcr_verify.specs.declared.fresh.FreshFault.{FreshFault}
+use Rattle.kcr_verify.specs.declared.fresh.FreshFault.TheVariants.{Memory, Disk, Filled}
 
 pub has_something : (schema : Schema) (standing : Standing) → StandsAs schema standing → standing ≢ Empty → schema ≢ no_schema
 has_something schema Empty stands other is = other refl
@@ -13,3 +22,31 @@ has_something schema Second stands other is = let e : 16 ≡ 0 = apart stands is
 has_something schema First stands other is = let e : 15 ≡ 0 = apart stands is in omega (arith, e)
 has_something schema Numbered stands other is = stands.0.something is
 has_something schema Foreign stands other is = stands.0.something is
+
+made_of : (old : State) (db : Trees) → old.now.schema ≡ no_schema → old.may_leave db ⊎ IsMadeOf old.now db
+    → old.may_leave db ⊎ IsNewOf old.now db
+made_of old db empty (inl was) = inl was
+made_of old db empty (inr (inl made)) = inr made
+made_of old db empty (inr (inr (inl first))) = absurd (let e : 15 ≡ 0 = apart first.0 empty in omega (arith, e))
+made_of old db empty (inr (inr (inr second))) = absurd (let e : 16 ≡ 0 = apart second.0 empty in omega (arith, e))
+
+pub makes_new : (old new : State) → old.now.schema ≡ no_schema → Survives old new (IsMadeOf old.now) → Survives old new (IsNewOf old.now)
+makes_new old new empty out = record {
+  clean = out.clean;
+  shield = out.shield;
+  counts = out.counts;
+  limit = out.limit;
+  closes = out.closes;
+  crash = λ clean db left. made_of old db empty (out.crash clean db left);
+}
+
+-- the connection that is given back, by the fault
+module _ {S : Type 0} (g : Ghosts S) (image : Image) (was c : Held S) where
+  pub given_back : (fault : FreshFault) → IsOpenedOn g image was → (fault ≡ Filled → ((state g was).now.schema ≢ no_schema) × (c ≡ was))
+      → (fault ≢ Disk → Survives (state g was) (state g c) (λ _. ⊥)) → Survives (state g was) (state g c) (IsNewOf (state g was).now)
+      → IsGivenBack g image fault c
+  given_back Memory opened filled left crash = record { was = was; opened = opened; survives = left (λ e. cc) }
+  given_back Disk opened filled left crash = record { was = was; opened = opened; survives = crash }
+  given_back Filled opened filled left crash =
+      let full = filled refl in
+      subst (λ d. IsOpenedOn g image d × ((state g d).now.schema ≢ no_schema)) (sym full.1) (opened, full.0)

@@ -1,29 +1,33 @@
 //! A new register, to rebuild another in.
-ghost use Rattle.std.specs.Prelude.{◌≡◌, ◌≢◌, [], true, false, None, IfOk, IfErr};
+ghost use Rattle.std.specs.Prelude.{◌≡◌, ◌≢◌, [], true, false, None, IsSome, IfOk, IfErr, IfSome, MatchResult};
 ghost use Rattle.sqlite.specs.Files.{over_files};
 ghost use Rattle.sqlite.specs.Held.{state};
+ghost use Rattle.sqlite.specs.State.{Survives};
+ghost use Rattle.sqlite.specs.WalFiles.{image_at};
 ghost use Rattle.kcr_older.specs.Standing.{no_schema};
 ghost use Rattle.kcr_store.specs.Register.{IsKept};
+ghost use Rattle.kcr_verify.specs.Fresh.{IsGivenBack, IsMadeOn, IsNewOf};
 
 use kcr_base::Refusal;
 use kcr_older::{Standing, standing_of};
-use kcr_store::{FileRegister, OpenFault, Register, connect};
-use sqlite::{Alter, Connection, Unknown};
+use kcr_store::{OpenFault, Register, connect};
+use sqlite::{Alter, Connection, FileFrom, FileStore, Start};
 use std::alloc::Global;
 
 /// Why no new register is made.
 #[derive(Clone, Copy, PartialEq, Eq, Drop)]
 pub enum FreshFault {
-    /// Memory was refused.
+    /// Out of memory. What was there is as it was.
     Memory,
     /// The device failed, another process has the file open, or it is no database.
     Disk,
-    /// The file holds something.
+    /// The file holds something, and is as it was.
     Filled,
 }
 
 fn fault_of(fault: OpenFault) -> FreshFault
-    ensures { result ≢ FreshFault.Filled }
+    ensures empty { result ≢ FreshFault.Filled }
+    ensures disk { fault ≡ OpenFault.Disk → result ≡ FreshFault.Disk }
 {
     match fault {
         OpenFault::Memory => FreshFault::Memory,
@@ -32,8 +36,8 @@ fn fault_of(fault: OpenFault) -> FreshFault
 }
 
 /// Makes the tables of an empty register in a database that has nothing, so that its history is known from the first. A
-/// database with anything in it is refused as filled, and given back as it was. Where memory is wanting or the device
-/// fails, it is empty still, or has the tables of an empty register.
+/// database with anything in it is refused as filled, and given back as it was. After out of memory it is as it was
+/// too. After a fault of the device it is as it was, or, when it was empty, has the tables of an empty register.
 #[tactic(auto, using(crate::proofs::FreshLemmas::has_something))]
 pub fn found<S: Alter + Drop>(
     alloc: Global,
@@ -44,6 +48,13 @@ pub fn found<S: Alter + Drop>(
     ensures nothing { IfOk result (λ _. (state S.Store connection).now.schema ≡ no_schema) }
     ensures filled { IfErr result (λ e. e.0 ≡ FreshFault.Filled
         → ((state S.Store connection).now.schema ≢ no_schema) × (e.1 ≡ connection)) }
+
+    // A fault changes nothing, but a fault of the device may leave an empty database with the tables.
+    ensures left { IfErr result (λ e. e.0 ≢ FreshFault.Disk
+        → Survives (state S.Store connection) (state S.Store e.1) (λ _. ⊥)) }
+    ensures crash { MatchResult result
+        (λ r. Survives (state S.Store connection) (state S.Store r.conn) (IsNewOf (state S.Store connection).now))
+        (λ e. Survives (state S.Store connection) (state S.Store e.1) (IsNewOf (state S.Store connection).now)) }
     ensures kept { IfOk result (IsKept S.Store) }
 {
     match standing_of(alloc, connection.schema()) {
@@ -57,17 +68,30 @@ pub fn found<S: Alter + Drop>(
     }
 }
 
-/// As `found`, in the file at the path and its log beside it, which is made where it is not there. What `connect`
-/// refuses as the disk's fault is that here.
-pub fn create(rt: &HostRuntime, path: &str) -> Result<FileRegister, FreshFault>
+/// As `found`, in the file at the path and its log beside it; a file that is not there is made. `start` stands for what
+/// the two held. A fault comes with the connection, when the file was opened. What `connect` refuses as a fault of the
+/// disk is one here.
+pub fn create<S: Start>(
+    rt: &HostRuntime,
+    path: &str,
+    start: S,
+) -> Result<
+    Register<FileStore<FileFrom<S>>>,
+    (FreshFault, Option<Connection<FileStore<FileFrom<S>>>>),
+>
     ensures new { IfOk result (λ r. (r.is_founded ≡ true) × (r.accepted ≡ []) × (r.torn ≡ None)) }
+
+    // The file held nothing. One that holds something is refused as filled, and after each fault it is as it was.
+    ensures made { IfOk result (λ r. IsMadeOn over_files (image_at S.Start) r.conn) }
+    ensures filled { IfErr result (λ e. e.0 ≡ FreshFault.Filled → IsSome e.1) }
+    ensures left { IfErr result (λ e. IfSome e.1 (IsGivenBack over_files (image_at S.Start) e.0)) }
     ensures kept { IfOk result (IsKept over_files) }
 {
-    match connect(rt, path, Unknown) {
+    match connect(rt, path, start) {
         Ok(connection) => match found(rt.alloc(), connection) {
             Ok(register) => Ok(register),
-            Err((fault, _)) => Err(fault),
+            Err((fault, connection)) => Err((fault, Some(connection))),
         },
-        Err(fault) => Err(fault_of(fault)),
+        Err(fault) => Err((fault_of(fault), None)),
     }
 }
