@@ -138,8 +138,8 @@ PARTS = [
      kcr_verify/src/verification kcr_verify/Verified"""),
     ("The program",
      "Which arguments are which task, and what each task writes.",
-     """kcr_verify/src/fresh kcr_tool/src/words kcr_tool/src/fault kcr_tool/Commands kcr_tool/Tasks kcr_tool/Lines
-     kcr_tool/Faults kcr_tool/Audits kcr_tool/Verifications kcr_tool/Runs"""),
+     """kcr_verify/src/fresh kcr_log/src/judgement kcr_tool/src/words kcr_tool/src/fault kcr_tool/Commands
+     kcr_tool/Tasks kcr_tool/Lines kcr_tool/Faults kcr_tool/Audits kcr_tool/Verifications kcr_tool/Runs"""),
 ]
 
 # The last part of what is answered and kept. The parts behind it say how that is written as bytes, and what the program

@@ -17,10 +17,10 @@ use Rattle.kcr_print.specs.declared.fault.PrintFault.{PrintFault}
 use Rattle.kcr_print.specs.declared.fault.PrintFault.TheVariants as print
 use Rattle.kcr_store.specs.Register.{Seen}
 use Rattle.kcr_tables.specs.Refusals.{IsFault}
-use Rattle.kcr_tool.specs.Faults.{BreaksStream, HasCause, MayMeet, MeetsOver, StopsListening, StopsReading, StopsRebuild, StopsReport, StopsServing, StopsStream, StopsTask, fault_of_print}
+use Rattle.kcr_tool.specs.Faults.{BreaksStream, HasCause, MayMeet, MeetsOver, StopsListening, StopsLooking, StopsReading, StopsRebuild, StopsReport, StopsServing, StopsStream, StopsTask, fault_of_print}
 use Rattle.kcr_tool.specs.Runs.{Leaves, LeavesInPart, RepliesInPart, RepliesToAll}
 use Rattle.kcr_tool.specs.declared.fault.Fault.{Fault}
-use Rattle.kcr_tool.specs.declared.fault.Fault.TheVariants.{Open, Into, Stream, Refused, Unwritten, Net, Words}
+use Rattle.kcr_tool.specs.declared.fault.Fault.TheVariants.{Open, Log, Into, Stream, Refused, Unwritten, Net, Words}
 use Rattle.kcr_tool.specs.declared.words.Task.{Task}
 use Rattle.kcr_tool.specs.declared.words.Task.TheVariants.{Run, Serve, Verify, Rebuild}
 
@@ -59,6 +59,7 @@ pub stops_weaker : {W : Type 0} (May Other : Refusal → Type 0) (o p : Counted 
 stops_weaker May Other o p (Refused met) weaker stops = weaker met stops
 stops_weaker May Other o p Unwritten weaker stops = stops
 stops_weaker May Other o p (Open fault) weaker stops = absurd stops
+stops_weaker May Other o p (Log log) weaker stops = absurd stops
 stops_weaker May Other o p (Into fault) weaker stops = absurd stops
 stops_weaker May Other o p (Stream fault) weaker stops = absurd stops
 stops_weaker May Other o p Net weaker stops = absurd stops
@@ -80,6 +81,7 @@ run_cause (Stream fault) i j o p stops = (refl, stops)
 run_cause (Refused met) i j o p stops = absurd stops
 run_cause Unwritten i j o p stops = absurd stops
 run_cause (Open fault) i j o p stops = absurd stops
+run_cause (Log log) i j o p stops = absurd stops
 run_cause (Into fault) i j o p stops = absurd stops
 run_cause Net i j o p stops = absurd stops
 run_cause Words i j o p stops = absurd stops
@@ -88,6 +90,7 @@ pub met_cause : {R W : Type 0} (task : Task) (why : Fault) (i j : Counted R) (o 
 met_cause task (Refused met) i j o p stops = stops
 met_cause task Unwritten i j o p stops = stops
 met_cause task (Open fault) i j o p stops = absurd stops
+met_cause task (Log log) i j o p stops = absurd stops
 met_cause task (Into fault) i j o p stops = absurd stops
 met_cause task (Stream fault) i j o p stops = absurd stops
 met_cause task Net i j o p stops = absurd stops
@@ -119,6 +122,7 @@ task_cause task (Refused met) file i j o p stops = (task, refl, stops)
 task_cause task Unwritten file i j o p stops = (task, refl, stops)
 task_cause task Net file i j o p stops = (task, refl, stops)
 task_cause task (Open fault) file i j o p stops = absurd stops
+task_cause task (Log log) file i j o p stops = absurd stops
 task_cause task (Into fault) file i j o p stops = absurd stops
 task_cause task Words file i j o p stops = absurd stops
 
@@ -133,6 +137,7 @@ rebuild_cause (Into fault) file input o p same = (refl, (refl, same))
 rebuild_cause (Refused met) file input o p stops = (Rebuild, refl, stops)
 rebuild_cause Unwritten file input o p stops = (Rebuild, refl, stops)
 rebuild_cause (Open fault) file input o p stops = absurd stops
+rebuild_cause (Log log) file input o p stops = absurd stops
 rebuild_cause (Stream fault) file input o p stops = absurd stops
 rebuild_cause Net file input o p stops = absurd stops
 rebuild_cause Words file input o p stops = absurd stops
@@ -143,10 +148,23 @@ pub reading_cause : {R W : Type 0} (task : Option Task) (why : Fault) (file : Op
 reading_cause task (Open fault) file input output stops = (stops, (refl, refl))
 reading_cause task (Refused met) file input output stops = absurd stops
 reading_cause task Unwritten file input output stops = absurd stops
+reading_cause task (Log log) file input output stops = absurd stops
 reading_cause task (Into fault) file input output stops = absurd stops
 reading_cause task (Stream fault) file input output stops = absurd stops
 reading_cause task Net file input output stops = absurd stops
 reading_cause task Words file input output stops = absurd stops
+
+-- why no file was opened after a look at the log beside it
+pub looking_cause : {R W : Type 0} (task : Option Task) (why : Fault) (file : Option (List ℕ)) (input : Counted R) (output : Counted W)
+    → StopsLooking file why → HasCause task file why input input output output
+looking_cause task (Open fault) file input output stops = ((λ none. stops), (refl, refl))
+looking_cause task (Log log) file input output stops = (stops.0, stops.1, (refl, refl))
+looking_cause task (Refused met) file input output stops = absurd stops
+looking_cause task Unwritten file input output stops = absurd stops
+looking_cause task (Into fault) file input output stops = absurd stops
+looking_cause task (Stream fault) file input output stops = absurd stops
+looking_cause task Net file input output stops = absurd stops
+looking_cause task Words file input output stops = absurd stops
 
 -- REPLIES BY A REGISTER THAT NOTHING BROKE BEFORE
 

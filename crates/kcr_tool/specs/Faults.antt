@@ -1,5 +1,5 @@
 -- Why a task was not done to its end, and what is told of it.
-use Rattle.std.specs.Prelude.{◌≡◌, ◌+◌, ◌<◌, ◌⊎◌, ℕ, List, ◌++◌, codes, Option, Some, None, IsSome}
+use Rattle.std.specs.Prelude.{◌≡◌, ◌≢◌, ◌+◌, ◌<◌, ◌⊎◌, ℕ, List, ◌++◌, codes, Option, Some, None, IsSome}
 use Rattle.kcr_base.specs.Counted.{failures_of, gifts_of}
 use Rattle.kcr_base.specs.Refusal.{number_of, word_of, thing_text}
 use Rattle.kcr_base.specs.declared.counted.Counted.{Counted}
@@ -12,11 +12,12 @@ use Rattle.kcr_print.specs.declared.fault.PrintFault.TheVariants as print
 use Rattle.kcr_store.specs.Register.{Seen}
 use Rattle.kcr_store.specs.Rows.{MayHaveNoRow}
 use Rattle.kcr_store.specs.declared.«open».OpenFault.TheVariants as opening
+use Rattle.kcr_log.specs.declared.judgement.Log.TheVariants as logs
 use Rattle.kcr_tables.specs.Refusals.{IsFault}
 use Rattle.kcr_verify.specs.declared.fresh.FreshFault.TheVariants as fresh
-use Rattle.kcr_tool.specs.Lines.{ended, numbered}
+use Rattle.kcr_tool.specs.Lines.{ended, numbered, damage_lines}
 use Rattle.kcr_tool.specs.declared.fault.Fault.{Fault}
-use Rattle.kcr_tool.specs.declared.fault.Fault.TheVariants.{Open, Into, Stream, Refused, Unwritten, Net, Words}
+use Rattle.kcr_tool.specs.declared.fault.Fault.TheVariants.{Open, Log, Into, Stream, Refused, Unwritten, Net, Words}
 use Rattle.kcr_tool.specs.declared.words.Task.{Task}
 use Rattle.kcr_tool.specs.declared.words.Task.TheVariants.{Run, Serve, Print, Attendance, Custody, Audit, Verify}
 use Rattle.kcr_tool.specs.declared.words.Task.TheVariants.{Rebuild}
@@ -30,12 +31,14 @@ named other = codes "\n"
 abbrev pub refusal_line : Refusal → List ℕ
 refusal_line r = codes "refused: " ++ (numbered (number_of r) (word_of r) ++ named r)
 
--- the line of a fault that is no refusal; a refusal for whose line no memory is found is told so
+-- the line of a fault that is no refusal; a refusal for whose line no memory is found is told so, and so is a damaged
+-- log with the first of its two lines
 abbrev pub reason_of : Fault → List ℕ
 reason_of (Open opening.Memory) = ended (codes "open: memory")
 reason_of (Open opening.Disk) = ended (codes "open: disk")
 reason_of (Open opening.Foreign) = ended (codes "open: foreign")
 reason_of (Open opening.Version) = ended (codes "open: version")
+reason_of (Log log) = ended (codes "open: disk")
 reason_of (Into fresh.Memory) = ended (codes "into: memory")
 reason_of (Into fresh.Disk) = ended (codes "into: disk")
 reason_of (Into fresh.Filled) = ended (codes "into: filled")
@@ -47,12 +50,13 @@ reason_of Unwritten = ended (codes "fault: write")
 reason_of Net = ended (codes "fault: net")
 reason_of Words = ended (codes "fault: memory")
 
--- the line that tells it
+-- the line that tells it, or the two of a damaged log
 abbrev pub line_of : Fault → List ℕ
 line_of (Refused r) = refusal_line r
+line_of (Log log) = damage_lines log
 line_of other = reason_of other
 
--- the line of a fault, or, of a refusal, that no memory was found for its line
+-- the line of a fault, or, of a refusal and of a damaged log, the one for which no memory is needed
 abbrev pub IsLineOf : Fault → List ℕ → Type 0
 IsLineOf fault line = (line ≡ line_of fault) ⊎ (line ≡ reason_of fault)
 
@@ -109,13 +113,15 @@ abbrev pub StopsKnown : {R W : Type 0} → Option Task → Counted R → Counted
 StopsKnown task old_input new_input old_output new_output why =
     (known : Task) × (task ≡ Some known) × StopsTask known old_input new_input old_output new_output why
 
--- what caused the fault of a task over the file, if one is named. A register that is not opened, a new one that cannot
--- be made, and words for which there is no memory: then nothing was read or written. Without a file an opening fails
--- only for memory
+-- what caused the fault of a task over the file, if one is named. A register that is not opened, a damaged log, a new
+-- register that cannot be made, and words for which there is no memory: then nothing was read or written. Without a
+-- file an opening fails only for memory, and no log is damaged
 abbrev pub HasCause
     : {R W : Type 0} → Option Task → Option (List ℕ) → Fault → Counted R → Counted R → Counted W → Counted W → Type 0
 HasCause task file (Open fault) old_input new_input old_output new_output =
     (file ≡ None → fault ≡ opening.Memory) × IsUntouched old_input new_input old_output new_output
+HasCause task file (Log log) old_input new_input old_output new_output =
+    (log ≢ logs.Sound) × IsSome file × IsUntouched old_input new_input old_output new_output
 HasCause task file (Into fault) old_input new_input old_output new_output =
     (task ≡ Some Rebuild) × IsUntouched old_input new_input old_output new_output
 HasCause task file Words old_input new_input old_output new_output =
@@ -141,6 +147,13 @@ StopsReport May old_output new_output other = ⊥
 abbrev pub StopsReading : Option (List ℕ) → Fault → Type 0
 StopsReading file (Open fault) = file ≡ None → fault ≡ opening.Memory
 StopsReading file other = ⊥
+
+-- why no file was opened after a look at the log beside it: there was no memory for the log, or a file is named, and
+-- its log is damaged
+abbrev pub StopsLooking : Option (List ℕ) → Fault → Type 0
+StopsLooking file (Open fault) = fault ≡ opening.Memory
+StopsLooking file (Log log) = (log ≢ logs.Sound) × IsSome file
+StopsLooking file other = ⊥
 
 -- why a rebuild stopped: as a report does, or no new register could be made, and then nothing was written
 abbrev pub StopsRebuild : {W : Type 0} → Counted W → Counted W → Fault → Type 0

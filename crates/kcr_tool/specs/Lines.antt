@@ -4,6 +4,8 @@ use Rattle.std.specs.Fmt.{decimal}
 use Rattle.kcr_base.specs.Moment.{moment_text}
 use Rattle.kcr_history.specs.declared.views.Finding.{Finding}
 use Rattle.kcr_history.specs.declared.views.Finding.TheVariants as Findings
+use Rattle.kcr_log.specs.declared.judgement.Log.{Log}
+use Rattle.kcr_log.specs.declared.judgement.Log.TheVariants as Logs
 use Rattle.kcr_verify.specs.Verified.{name_of}
 use Rattle.kcr_verify.specs.declared.verification.Difference.{Difference}
 use Rattle.kcr_verify.specs.declared.verification.Difference.TheVariants as Differences
@@ -50,3 +52,15 @@ difference_line (Differences.Command number) = found_line (codes "finding: comma
 difference_line (Differences.Refused number) = found_line (codes "finding: refused ") (decimal number)
 difference_line (Differences.Reply number) = found_line (codes "finding: reply ") (decimal number)
 difference_line (Differences.Rows table) = found_line (codes "finding: table ") (name_of table)
+
+-- what is wrong with a log, and how many transactions end in the damage or behind it
+abbrev pub log_line : Log → List ℕ
+log_line Logs.Sound = []
+log_line (Logs.WrongHead count) = codes "log: wrong head, commits " ++ (decimal count ++ codes "\n")
+log_line (Logs.WrongFrame first count) =
+    (codes "log: wrong from frame " ++ (decimal first ++ codes ", commits ")) ++ (decimal count ++ codes "\n")
+log_line (Logs.NoFile count) = codes "log: no file, commits " ++ (decimal count ++ codes "\n")
+
+-- a file is not opened, for its log is damaged
+abbrev pub damage_lines : Log → List ℕ
+damage_lines log = ended (codes "open: disk") ++ log_line log

@@ -12,6 +12,7 @@ ghost use Rattle.kcr_tool.specs.Tasks.{task_of, file_of, faults_of};
 use crate::audit::audit;
 use crate::fault::{Fault, tell, tell_fault};
 use crate::listen::listen;
+use crate::look::look;
 use crate::tasks::{attendance, print, run, whereabouts};
 use crate::verify::{rebuild, rows_named, verify};
 use crate::words::{Order, Task, WordsFault, read_words};
@@ -125,6 +126,40 @@ fn obey<R: Read, W: Write>(
     }
 }
 
+/// Looks at the log beside the file of an order, if it names one, and then does its task.
+#[tactic(auto, using(crate::proofs::Causes::looking_cause))]
+fn carry_out<R: Read, W: Write>(
+    rt: &HostRuntime,
+    order: Order<'_>,
+    input: &mut Counted<R>,
+    output: &mut Counted<W>,
+) -> Result<u8, Fault>
+    requires into { order.task ≡ Task.Rebuild → IsSome order.into }
+    ensures status { IfOk result (λ status. status ≤ 1) }
+    ensures finding { IfOk result (λ status. status ≡ 1
+        → TellsWrong order.entry.task (W.contents (inner_of output.old)) (W.contents (inner_of output.new))) }
+    ensures nothing { order.entry.file ≡ None
+        → IfOk result (λ status. status ≡ 1 → order.entry.task ≡ Task.Rebuild) }
+    ensures answered { IfOk result (λ status. status ≡ 0 → Leaves order.entry.task
+        (R.remaining (inner_of input.old)) (W.contents (inner_of output.old)) (W.contents (inner_of output.new))) }
+    ensures answered_in_part { OnErr result ((output.new ≡ output.old) ⊎ LeavesInPart order.entry.task
+        (R.remaining (inner_of input.old)) (W.contents (inner_of output.old)) (W.contents (inner_of output.new))) }
+    ensures cause { IfErr result (λ why. HasCause (Some order.entry.task)
+        (option_map (λ path. path.now) order.entry.file) why input.old input.new output.old output.new) }
+    ensures part { order.entry.file ≡ None → OnErr result ((output.new ≡ output.old) ⊎ DoesInPart order.entry.task []
+        (R.remaining (inner_of input.old)) (W.contents (inner_of output.old)) (W.contents (inner_of output.new))) }
+    ensures done { order.entry.file ≡ None → IfOk result (λ status. status ≡ 0 → Does order.entry.task []
+        (R.remaining (inner_of input.old)) (W.contents (inner_of output.old)) (W.contents (inner_of output.new))) }
+{
+    look(rt, order.file)?;
+    let looked = Order {
+        task: order.task,
+        file: order.file,
+        into: order.into,
+    };
+    obey(rt, looked, input, output)
+}
+
 /// Does what the words say, the first of which is the program's name, and answers the exit status: 0 where all went
 /// well (refusals within a stream are answers), 1 after a finding, or after a line on `faults` that says why the task
 /// was not done to its end, 2 where the words are refused or ask for help or the version, with what `clap` says on
@@ -181,7 +216,7 @@ pub fn act<R: Read, W: Write, F: Write>(
         × (output.new ≡ output.old) }
 {
     match read_words(rt.alloc(), words) {
-        Ok(order) => match obey(rt, order, input, output) {
+        Ok(order) => match carry_out(rt, order, input, output) {
             Ok(status) => status,
             Err(fault) => {
                 tell_fault(rt.alloc(), faults, &fault);

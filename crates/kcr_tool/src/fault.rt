@@ -2,10 +2,13 @@
 ghost use Rattle.std.specs.Prelude.{◌≡◌, ℕ, List, IfOk, string_bytes};
 ghost use Rattle.kcr_print.specs.Written.{WritesFront};
 ghost use Rattle.kcr_tool.specs.Faults.{IsLineOf, refusal_line, reason_of};
+ghost use Rattle.kcr_tool.specs.Lines.{damage_lines, log_line};
 
 use crate::lines::{around, numbered};
+use itoa::Buffer;
 use kcr_base::Refusal;
 use kcr_desk::DeskFault;
+use kcr_log::Log;
 use kcr_print::{PrintFault, Unwritten};
 use kcr_store::OpenFault;
 use kcr_verify::FreshFault;
@@ -17,6 +20,8 @@ use std::io::Write;
 pub enum Fault {
     /// The register could not be opened.
     Open(OpenFault),
+    /// The log beside the register's file is damaged, so that the file was not opened.
+    Log(Log),
     /// No new register could be made.
     Into(FreshFault),
     /// The stream could not be answered to its end.
@@ -94,13 +99,53 @@ fn refused(alloc: Global, refusal: &Refusal) -> Result<String, AllocError>
     }
 }
 
-/// The line of any other fault; of a refusal, that no memory was found for its own.
+/// What is wrong with a log, and the number of transactions that end in the damage or behind it. The error is out of
+/// memory.
+fn wrong(alloc: Global, log: &Log) -> Result<String, AllocError>
+    ensures { IfOk result (λ line. string_bytes line ≡ log_line log.now) }
+{
+    let mut buffer = Buffer::new();
+    match log {
+        Log::Sound => Ok(String::new(alloc)),
+        Log::WrongHead { ended } => around(
+            alloc,
+            "log: wrong head, commits ",
+            buffer.format(*ended),
+            "\n",
+        ),
+        Log::WrongFrame { first, behind } => {
+            let head = around(
+                alloc,
+                "log: wrong from frame ",
+                buffer.format(*first),
+                ", commits ",
+            )?;
+            around(alloc, head.as_str(), Buffer::new().format(*behind), "\n")
+        }
+        Log::NoFile { ended } => around(
+            alloc,
+            "log: no file, commits ",
+            buffer.format(*ended),
+            "\n",
+        ),
+    }
+}
+
+/// The two lines of a damaged log: that the file is not opened, and what is wrong. The error is out of memory.
+fn damaged(alloc: Global, log: &Log) -> Result<String, AllocError>
+    ensures { IfOk result (λ lines. string_bytes lines ≡ damage_lines log.now) }
+{
+    let line = wrong(alloc, log)?;
+    around(alloc, "", "open: disk\n", line.as_str())
+}
+
+/// The line of any other fault; of a refusal and of a damaged log, the one that needs no memory.
 fn reason(fault: Fault) -> &'static str
     ensures { result.now ≡ reason_of fault }
 {
     match fault {
         Fault::Open(OpenFault::Memory) => "open: memory\n",
-        Fault::Open(OpenFault::Disk) => "open: disk\n",
+        Fault::Open(OpenFault::Disk) | Fault::Log(_) => "open: disk\n",
         Fault::Open(OpenFault::Foreign) => "open: foreign\n",
         Fault::Open(OpenFault::Version) => "open: version\n",
         Fault::Into(FreshFault::Memory) => "into: memory\n",
@@ -139,14 +184,18 @@ fn tell_refusal<F: Write>(alloc: Global, faults: &mut F, refusal: &Refusal)
     }
 }
 
-/// Writes the line of a fault, as far as it can be written; where no memory is found for the line of a refusal, it says
-/// that.
+/// Writes the line of a fault, as far as it can be written. If no memory is found for the line of a refusal, it says
+/// that; if none is found for those of a damaged log, only the first of them is written.
 pub fn tell_fault<F: Write>(alloc: Global, faults: &mut F, fault: &Fault)
     ensures { (line : List ℕ) × IsLineOf fault.now line
         × WritesFront (F.contents faults.old) (F.contents faults.new) line }
 {
     match fault {
         Fault::Refused(refusal) => tell_refusal(alloc, faults, refusal),
+        Fault::Log(log) => match damaged(alloc, log) {
+            Ok(lines) => tell(faults, lines.as_str()),
+            Err(_) => tell(faults, "open: disk\n"),
+        },
         other => tell(faults, reason(*other)),
     }
 }

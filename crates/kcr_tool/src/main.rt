@@ -13,6 +13,7 @@ mod commands;
 mod fault;
 mod lines;
 mod listen;
+mod look;
 mod tasks;
 mod verify;
 mod words;
