@@ -23,7 +23,6 @@ import io
 import json
 import pathlib
 import re
-import shutil
 import subprocess
 import tempfile
 
@@ -460,16 +459,7 @@ NEEDS = {by_curl: "curl", first_page: "curl", queried: "sqlite3", manual: "mando
 def main():
     if len(sys.argv) < 2:
         sys.exit(__doc__)
-    program, names = str(pathlib.Path(sys.argv[1]).resolve()), sys.argv[2:]
-    tests = []
-    for test in TESTS:
-        if names and test.__name__ not in names:
-            continue
-        if test in NEEDS and not shutil.which(NEEDS[test]):
-            print(f"no {NEEDS[test]} here, so {test.__name__} is left out")
-            continue
-        tests.append((test.__name__, test.__doc__, functools.partial(test, program)))
-    kcr.judge(tests)
+    kcr.judge_installed(TESTS, NEEDS, sys.argv[1:])
 
 
 if __name__ == "__main__":

@@ -414,6 +414,21 @@ def judge_faults(tests, names, program):
 
 # Running tests
 
+def judge_installed(tests, needs, words):
+    """Runs tests that take the program, by the words of the command line: the program, and names of tests. `needs` has
+    the commands of a test that needs some; if one is not installed the test is left out, and a line says so."""
+    program, names, found = str(pathlib.Path(words[0]).resolve()), words[1:], []
+    for test in tests:
+        missing = [command for command in needs.get(test, "").split() if not shutil.which(command)]
+        if names and test.__name__ not in names:
+            continue
+        if missing:
+            print(f"no {missing[0]} here, so {test.__name__} is left out")
+            continue
+        found.append((test.__name__, test.__doc__, functools.partial(test, program)))
+    judge(found)
+
+
 def judge(tests):
     """Runs tests, each a name, what it shows and a call that takes an empty folder; prints what is wrong and the
     numbers, and ends with the status."""

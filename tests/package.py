@@ -17,7 +17,6 @@ sys.dont_write_bytecode = True  # no files beside these
 import functools
 import pathlib
 import re
-import shutil
 import subprocess
 import tempfile
 
@@ -151,23 +150,14 @@ def listed(program, _room):
 
 
 TESTS = [same_bytes, runs, clean, unit, in_bash, in_zsh, in_fish, listed]
-NEEDS = {same_bytes: "dpkg-deb", runs: "dpkg-deb", clean: "lintian", unit: "systemd-analyze", in_bash: "bash",
-         in_zsh: "zsh", in_fish: "fish"}
+NEEDS = {same_bytes: "dpkg-deb", runs: "dpkg-deb", clean: "dpkg-deb lintian", unit: "dpkg-deb systemd-analyze",
+         in_bash: "dpkg-deb bash", in_zsh: "dpkg-deb zsh", in_fish: "dpkg-deb fish"}
 
 
 def main():
     if len(sys.argv) < 2:
         sys.exit(__doc__)
-    program, names = str(pathlib.Path(sys.argv[1]).resolve()), sys.argv[2:]
-    tests = []
-    for test in TESTS:
-        if names and test.__name__ not in names:
-            continue
-        if not all(map(shutil.which, {NEEDS.get(test, "python3"), "dpkg-deb"})):
-            print(f"no {NEEDS.get(test, 'dpkg-deb')} here, so {test.__name__} is left out")
-            continue
-        tests.append((test.__name__, test.__doc__, functools.partial(test, program)))
-    kcr.judge(tests)
+    kcr.judge_installed(TESTS, NEEDS, sys.argv[1:])
 
 
 if __name__ == "__main__":
